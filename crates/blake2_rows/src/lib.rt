@@ -1,0 +1,2 @@
+//! Rows.
+#![tactic(auto)]

@@ -1,0 +1,184 @@
+-- What parameter words, blocks and counters tell of their input.
+use Rattle.std.proofs.Common.{◌≡◌, ℕ, zero, suc, ◌+◌, ◌-◌, ◌*◌, ◌<◌, ◌≤◌, inl, inr, List, [], ◌∷◌, ◌++◌, length, take, drop, replicate, bit_xor, refl, sym, ap, ◌∙◌, arith, get_or, length-drop, Option, Some, None}
+use Rattle.std.proofs.lemmas.List.{take_at, drop_at, take_all, drop_all, append_assoc, append-nil, take-append-drop, length-take-le, replicate-append-replicate}
+use Rattle.std.proofs.lemmas.Nat.{le_bytes_4, le_bytes_8}
+use Rattle.std.proofs.lemmas.Bool.{cases_lt}
+use Rattle.std.specs.Int.Bits.{xor_assoc, xor_self, xor_zero_l}
+use Rattle.std.specs.Int.{from_le_bytes, to_le_bytes}
+use Rattle.std.specs.List.{concat}
+use Rattle.blake2_rows.specs.Family.{Family, blake2b, blake2s, word, word_bytes, block_bytes, key_bytes, salt_bytes, output_bytes, start_words}
+use Rattle.blake2_words.specs.Hash.{inner, Parameters, input_parameters, AreBytes, words_of, xor_words, padded, parameter_block, parameter_words, start, key_block, key_size, cut, block_count, Input, input_data}
+use Rattle.blake2_words.specs.Witness.{Accepts, KeyFits, Entry, IsTranscript, Same}
+use Rattle.blake2_words.proofs.Sizes.{AreParameters, length-padded, length-parameter_block, length-parameter_words, start_words-length, AreBytes-take, AreBytes-drop, AreBytes-parameter_block}
+
+-- ---- xor
+
+xor_cancel : (a x y : ℕ) → bit_xor a x ≡ bit_xor a y → x ≡ y
+xor_cancel a x y h = sym (undone x) ∙ ap (bit_xor a) h ∙ undone y
+  where
+    undone : (z : ℕ) → bit_xor a (bit_xor a z) ≡ z
+    undone z = sym (xor_assoc a a z) ∙ ap (λ (n : ℕ). bit_xor n z) (xor_self a) ∙ xor_zero_l z
+
+pub xor_words_cancel : (vs xs ys : List ℕ) → length xs ≡ length vs → length ys ≡ length vs → xor_words vs xs ≡ xor_words vs ys → xs ≡ ys
+unfolding xor_words
+xor_words_cancel [] [] [] a b h = refl
+xor_words_cancel [] (x ∷ xs) ys a b h = absurd (omega arith)
+xor_words_cancel [] [] (y ∷ ys) a b h = absurd (omega arith)
+xor_words_cancel (v ∷ vs) [] ys a b h = absurd (omega arith)
+xor_words_cancel (v ∷ vs) (x ∷ xs) [] a b h = absurd (omega arith)
+xor_words_cancel (v ∷ vs) (x ∷ xs) (y ∷ ys) a b h =
+    let head : bit_xor v x ≡ bit_xor v y = ap (λ (l : List ℕ). get_or l 0 0) h in
+    let rest : xor_words vs xs ≡ xor_words vs ys = ap (drop 1) h in
+    let one : x ≡ y = xor_cancel v x y head in
+    let more : xs ≡ ys = xor_words_cancel vs xs ys (omega arith) (omega arith) rest in
+    λ i. one i ∷ more i
+
+-- ---- words
+
+le_word : (f : Family) (xs : List ℕ) → length xs ≡ word_bytes f → AreBytes xs → to_le_bytes (word f) (from_le_bytes (word f) xs) ≡ xs
+le_word blake2b xs l a = le_bytes_8 xs _ l a refl
+le_word blake2s xs l a = le_bytes_4 xs _ l a refl
+
+pub words_of_cancel : (f : Family) (n : ℕ) (xs ys : List ℕ) → length xs ≡ n * word_bytes f → length ys ≡ n * word_bytes f → AreBytes xs → AreBytes ys
+    → words_of f n xs ≡ words_of f n ys → xs ≡ ys
+unfolding words_of
+words_of_cancel f zero [] [] lx ly ax ay h = refl
+words_of_cancel f zero (x ∷ xs) ys lx ly ax ay h = absurd (omega arith)
+words_of_cancel f zero [] (y ∷ ys) lx ly ax ay h = absurd (omega arith)
+words_of_cancel f (suc n) xs ys lx ly ax ay h =
+    let k : ℕ = word_bytes f in
+    let more : suc n * k ≡ k + n * k = omega arith in
+    let head : from_le_bytes (word f) (take k xs) ≡ from_le_bytes (word f) (take k ys) = ap (λ (l : List ℕ). get_or l 0 0) h in
+    let rest : words_of f n (drop k xs) ≡ words_of f n (drop k ys) = ap (drop 1) h in
+    let front : take k xs ≡ take k ys =
+    sym (le_word f (take k xs) (length-take-le k xs (omega arith)) (AreBytes-take k xs ax)) ∙ ap (to_le_bytes (word f)) head
+    ∙ le_word f (take k ys) (length-take-le k ys (omega arith)) (AreBytes-take k ys ay) in
+    let back : drop k xs ≡ drop k ys =
+    words_of_cancel f n (drop k xs) (drop k ys) (omega (arith, length-drop k xs)) (omega (arith, length-drop k ys)) (AreBytes-drop k xs ax) (AreBytes-drop k ys ay) rest in
+    sym (take-append-drop k xs) ∙ (λ i. front i ++ back i) ∙ take-append-drop k ys
+
+-- ---- padding
+
+pub padded_cancel : (n : ℕ) (xs ys : List ℕ) → length xs ≡ length ys → padded n xs ≡ padded n ys → xs ≡ ys
+unfolding padded
+padded_cancel n xs ys l h =
+    sym (take_at xs (replicate (n - length xs) 0) (length xs) refl) ∙ ap (take (length xs)) h ∙ take_at ys (replicate (n - length ys) 0) (length xs) (sym l)
+
+append_parts : (n : ℕ) (a b c d : List ℕ) → length a ≡ n → length c ≡ n → a ++ b ≡ c ++ d → (a ≡ c) × (b ≡ d)
+append_parts n a b c d la lc h =
+    (sym (take_at a b n la) ∙ ap (take n) h ∙ take_at c d n lc, sym (drop_at a b n la) ∙ ap (drop n) h ∙ drop_at c d n lc)
+
+-- the blocks joined are the data, padded
+pub concat-cut : (f : Family) (n : ℕ) (z : List ℕ) → length z ≤ n * block_bytes f → concat (cut f n z) ≡ padded (n * block_bytes f) z
+unfolding cut padded
+concat-cut f zero [] h =
+    let none : 0 * block_bytes f - 0 ≡ 0 = omega arith in
+    ap (λ (k : ℕ). replicate k 0) (sym none)
+concat-cut f zero (x ∷ z) h = absurd (omega arith)
+concat-cut f (suc n) z h =
+    let b : ℕ = block_bytes f in
+    let more : suc n * b ≡ b + n * b = omega arith in
+    let rest : concat (cut f n (drop b z)) ≡ drop b z ++ replicate (n * b - length (drop b z)) 0 =
+    concat-cut f n (drop b z) (omega (arith, length-drop b z)) in
+    elim (cases_lt (length z) b) [
+      | inl short ↦
+          (let all : take b z ≡ z = take_all b z (omega arith) in
+          let none : drop b z ≡ [] = drop_all b z (omega arith) in
+          let zeros : replicate (b - length z) 0 ++ replicate (n * b - 0) 0 ≡ replicate (suc n * b - length z) 0 =
+          replicate-append-replicate (b - length z) (n * b - 0) 0 ∙ ap (λ (k : ℕ). replicate k 0) (omega arith) in
+          (λ i. (all i ++ replicate (b - length (all i)) 0) ++ rest i) ∙ (λ i. (z ++ replicate (b - length z) 0) ++ (none i ++ replicate (n * b - length (none i)) 0))
+          ∙ append_assoc z _ _ ∙ ap (λ (k : List ℕ). z ++ k) zeros)
+      | inr whole ↦
+          (let len : length (take b z) ≡ b = length-take-le b z whole in
+          let full : b - length (take b z) ≡ 0 = omega arith in
+          let left : n * b - length (drop b z) ≡ suc n * b - length z = omega (arith, length-drop b z) in
+          (λ i. (take b z ++ replicate (full i) 0) ++ rest i) ∙ (λ i. append-nil (take b z) i ++ (drop b z ++ replicate (left i) 0))
+          ∙ sym (append_assoc (take b z) (drop b z) _) ∙ ap (λ (k : List ℕ). k ++ replicate (suc n * b - length z) 0) (take-append-drop b z))
+    ]
+
+pub block_count-fits : (f : Family) (m : ℕ) → m ≤ block_count f m * block_bytes f
+block_count-fits blake2b m = omega arith
+block_count-fits blake2s m = omega arith
+
+-- ---- the parameters
+
+pub record SameParameters (f : Family) (p q : Parameters) : Type 0 where
+  pub sizes : p.size ≡ q.size
+  pub keys : p.key_size ≡ q.key_size
+  pub salts : padded (salt_bytes f) p.salt ≡ padded (salt_bytes f) q.salt
+  pub personas : padded (salt_bytes f) p.persona ≡ padded (salt_bytes f) q.persona
+
+parameter_block_cancel : (f : Family) (p q : Parameters) → AreParameters f p → AreParameters f q
+    → parameter_block f p ≡ parameter_block f q → SameParameters f p q
+unfolding parameter_block
+parameter_block_cancel blake2b p q hp hq h =
+    let texts : padded 16 p.salt ++ padded 16 p.persona ≡ padded 16 q.salt ++ padded 16 q.persona = ap (drop 32) h in
+    let parts = append_parts 16 (padded 16 p.salt) (padded 16 p.persona) (padded 16 q.salt) (padded 16 q.persona) (length-padded 16 p.salt hp.salt_fits) (length-padded 16 q.salt hq.salt_fits) texts in
+    record { sizes = ap (λ (l : List ℕ). get_or l 0 0) h; keys = ap (λ (l : List ℕ). get_or l 1 0) h; salts = parts.0; personas = parts.1 }
+parameter_block_cancel blake2s p q hp hq h =
+    let texts : padded 8 p.salt ++ padded 8 p.persona ≡ padded 8 q.salt ++ padded 8 q.persona = ap (drop 16) h in
+    let parts = append_parts 8 (padded 8 p.salt) (padded 8 p.persona) (padded 8 q.salt) (padded 8 q.persona) (length-padded 8 p.salt hp.salt_fits) (length-padded 8 q.salt hq.salt_fits) texts in
+    record { sizes = ap (λ (l : List ℕ). get_or l 0 0) h; keys = ap (λ (l : List ℕ). get_or l 1 0) h; salts = parts.0; personas = parts.1 }
+
+pub parameter_words_cancel : (f : Family) (p q : Parameters) → AreParameters f p → AreParameters f q
+    → parameter_words f p ≡ parameter_words f q → SameParameters f p q
+unfolding parameter_words
+parameter_words_cancel f p q hp hq h =
+    parameter_block_cancel f p q hp hq
+    (words_of_cancel f 8 _ _ (length-parameter_block f p hp) (length-parameter_block f q hq) (AreBytes-parameter_block f p hp) (AreBytes-parameter_block f q hq) h)
+
+pub start_cancel : (f : Family) (p q : Parameters) → start f p ≡ start f q → parameter_words f p ≡ parameter_words f q
+unfolding start
+start_cancel f p q h =
+    xor_words_cancel (start_words f) _ _ (length-parameter_words f p ∙ sym (start_words-length f)) (length-parameter_words f q ∙ sym (start_words-length f)) h
+
+-- ---- key and message
+
+key_bytes_fit : (f : Family) → (key_bytes f ≤ block_bytes f) × (key_bytes f < 256) × (output_bytes f < 256)
+key_bytes_fit blake2b = (omega arith, omega arith, omega arith)
+key_bytes_fit blake2s = (omega arith, omega arith, omega arith)
+
+same_key : (f : Family) (k k' : Option (List ℕ)) (m m' : List ℕ) → KeyFits f k → KeyFits f k' → key_size k ≡ key_size k'
+    → key_block f k ++ m ≡ key_block f k' ++ m' → (k ≡ k') × (m ≡ m')
+unfolding key_block
+same_key f None None m m' p q e h = (refl, h)
+same_key f None (Some k') m m' p q e h = absurd (omega arith)
+same_key f (Some k) None m m' p q e h = absurd (omega arith)
+same_key f (Some k) (Some k') m m' p q e h =
+    let b : ℕ = block_bytes f in
+    let fits = key_bytes_fit f in
+    let parts = append_parts b (padded b k) m (padded b k') m' (length-padded b k (omega arith)) (length-padded b k' (omega arith)) h in
+    let keys : k ≡ k' = padded_cancel b k k' e parts.0 in
+    (ap (λ (x : List ℕ). Some x) keys, parts.1)
+
+key_size-lt : (f : Family) (k : Option (List ℕ)) → KeyFits f k → key_size k < 256
+key_size-lt f None p = omega arith
+key_size-lt f (Some k) p = let fits = key_bytes_fit f in omega arith
+
+accepted-parameters : (f : Family) (size : ℕ) (a : Input) → Accepts f a → size ≤ output_bytes f → AreParameters f (input_parameters size a)
+accepted-parameters f size a p h = let fits = key_bytes_fit f in record {
+  size_fits = omega arith;
+  key_fits = key_size-lt f a.key p.key_fits;
+  salt_fits = p.salt_fits;
+  persona_fits = p.persona_fits;
+  salt_are = p.salt_bytes;
+  persona_are = p.persona_bytes;
+}
+
+-- parameter words and data determine the input
+pub determined : (f : Family) (size size' : ℕ) (a b : Input) → Accepts f a → Accepts f b → size ≤ output_bytes f → size' ≤ output_bytes f
+    → parameter_words f (input_parameters size a) ≡ parameter_words f (input_parameters size' b)
+    → input_data f a ≡ input_data f b → (size ≡ size') × Same f a b
+determined f size size' a b p q h h' words joined =
+    let same = parameter_words_cancel f (input_parameters size a) (input_parameters size' b) (accepted-parameters f size a p h) (accepted-parameters f size' b q h') words in
+    let both = same_key f a.key b.key a.message b.message p.key_fits q.key_fits same.keys joined in
+    (same.sizes, record { salt = same.salts; persona = same.personas; key = both.0; message = both.1 })
+
+-- THE LAW: a transcript determines its input
+pub transcript_determines : (f : Family) (words : List ℕ) (entries : List Entry) (size size' : ℕ) (a b : Input) → Accepts f a → Accepts f b
+    → size ≤ output_bytes f → size' ≤ output_bytes f → IsTranscript f words entries size a → IsTranscript f words entries size' b → (size ≡ size') × Same f a b
+transcript_determines f words entries size size' a b p q h h' s t =
+    let none : Entry = record { block = []; counter = 0; flags = inner } in
+    let counted : length (input_data f a) ≡ length (input_data f b) = sym (s.ends none).0 ∙ (t.ends none).0 in
+    let joined : input_data f a ≡ input_data f b = padded_cancel (length entries * block_bytes f) _ _ counted (sym s.blocks ∙ t.blocks) in
+    determined f size size' a b p q h h' (sym s.parameters ∙ t.parameters) joined

@@ -1,0 +1,176 @@
+-- How the run over the blocks splits: what is compressed already and what is still to come.
+use Rattle.std.proofs.Common.{◌≡◌, ℕ, zero, suc, ◌+◌, ◌-◌, ◌*◌, ◌<◌, ◌≤◌, ◌⊎◌, inl, inr, List, [], ◌++◌, length, take, drop, refl, sym, ap, ◌∙◌, arith, length-append, length-drop, get_or}
+use Rattle.std.specs.List.{concat}
+use Rattle.std.proofs.lemmas.List.{length-take-le, take-append-drop, take-take, drop-take, append-nil, take-append-le, drop-append-le, drop-drop, append_assoc, get_or_append_left, get_or-append-add}
+use Rattle.blake2_rows.specs.Family.{Family, blake2b, blake2s, block_bytes}
+use Rattle.blake2_words.specs.Hash.{padded, Flags, final, bytes_of, cut, chain, compress, last_chain, block_count}
+use Rattle.blake2_words.specs.Stream.{tail, State, future, count, handed, handed_count, kept}
+
+pub length-cut : (f : Family) (n : ℕ) (y : List ℕ) → length (cut f n y) ≡ n
+unfolding cut
+length-cut f zero y = refl
+length-cut f (suc n) y = ap suc (length-cut f n (drop (block_bytes f) y))
+
+-- k blocks and then n more
+pub cut-add : (f : Family) (k n : ℕ) (y : List ℕ) → cut f (k + n) y ≡ cut f k y ++ cut f n (drop (k * block_bytes f) y)
+unfolding cut
+cut-add f zero n y =
+    let e : 0 + n ≡ n = omega arith in
+    let none : 0 * block_bytes f ≡ 0 = omega arith in
+    rw (e, none) refl
+cut-add f (suc k) n y =
+    let e : suc k + n ≡ suc (k + n) = omega arith in
+    let more : suc k * block_bytes f ≡ block_bytes f + k * block_bytes f = omega arith in
+    let rest = cut-add f k n (drop (block_bytes f) y) in
+    rw (e, more, ← drop-drop (k * block_bytes f) (block_bytes f) y, rest) refl
+
+-- blocks that y fills are not changed by what follows
+pub cut-prefix : (f : Family) (k : ℕ) (y z : List ℕ) → k * block_bytes f ≤ length y → cut f k (y ++ z) ≡ cut f k y
+unfolding cut
+cut-prefix f zero y z h = refl
+cut-prefix f (suc k) y z h =
+    let whole : block_bytes f ≤ length y = omega arith in
+    let rest = cut-prefix f k (drop (block_bytes f) y) z (omega (arith, length-drop (block_bytes f) y)) in
+    rw (take-append-le (block_bytes f) y z whole, drop-append-le (block_bytes f) y z whole, rest) refl
+
+-- chain reads only the blocks that it counts
+pub chain-prefix : (f : Family) (h : List ℕ) (c : ℕ) (d e : List (List ℕ)) (i : ℕ) → i ≤ length d → chain f h c (d ++ e) i ≡ chain f h c d i
+unfolding chain
+chain-prefix f h c d e zero fits = refl
+chain-prefix f h c d e (suc i) fits =
+    rw (chain-prefix f h c d e i (omega arith), get_or_append_left d e [] i fits) refl
+
+-- the blocks d, and then i of e
+pub chain-append : (f : Family) (h : List ℕ) (c k : ℕ) (d e : List (List ℕ)) (i : ℕ) → length d ≡ k
+    → chain f h c (d ++ e) (k + i) ≡ chain f (chain f h c d k) (c + k * block_bytes f) e i
+unfolding chain
+chain-append f h c k d e zero len =
+    let s : k + 0 ≡ k = omega arith in
+    rw s (chain-prefix f h c d e k (omega arith))
+chain-append f h c k d e (suc i) len =
+    let s : k + suc i ≡ suc (k + i) = omega arith in
+    let n : c + (k + i + 1) * block_bytes f ≡ c + k * block_bytes f + (i + 1) * block_bytes f = omega arith in
+    let at : get_or (d ++ e) (k + i) [] ≡ get_or e i [] = rw (← len) (get_or-append-add d e i []) in
+    rw (s, chain-append f h c k d e i len, at, n) refl
+
+-- k whole blocks before m bytes
+pub block_count-add : (f : Family) (k m : ℕ) → (k ≡ 0) ⊎ (0 < m) → block_count f (k * block_bytes f + m) ≡ k + block_count f m
+block_count-add blake2b k m h = omega arith
+block_count-add blake2s k m h = omega arith
+
+pub block_count-pos : (f : Family) (m : ℕ) → 0 < block_count f m
+block_count-pos blake2b m = omega arith
+block_count-pos blake2s m = omega arith
+
+-- the last block's chaining words, where y has n blocks
+abbrev ending : Family → Flags → List ℕ → ℕ → List ℕ → ℕ → List ℕ
+ending f flags h c y n = compress f (chain f h c (cut f n y) (n - 1)) (get_or (cut f n y) (n - 1) []) (c + length y) flags
+
+last_chain-ending : (f : Family) (flags : Flags) (h : List ℕ) (c : ℕ) (y : List ℕ) → last_chain f h c y flags ≡ ending f flags h c y (block_count f (length y))
+unfolding last_chain
+last_chain-ending f flags h c y = refl
+
+ending_from : (f : Family) (flags : Flags) (h : List ℕ) (c k : ℕ) (y : List ℕ) (n : ℕ) → k * block_bytes f ≤ length y → 0 < n
+    → ending f flags h c y (k + n) ≡ ending f flags (chain f h c (cut f k y) k) (c + k * block_bytes f) (drop (k * block_bytes f) y) n
+ending_from f flags h c k y n fits some =
+    let rest : List ℕ = drop (k * block_bytes f) y in
+    let place : k + n - 1 ≡ k + (n - 1) = omega arith in
+    let size : c + length y ≡ c + k * block_bytes f + length rest = omega (arith, length-drop (k * block_bytes f) y) in
+    let len : length (cut f k y) ≡ k = length-cut f k y in
+    let at : get_or (cut f k y ++ cut f n rest) (k + (n - 1)) [] ≡ get_or (cut f n rest) (n - 1) [] =
+    rw (ap (λ (i : ℕ). get_or (cut f k y ++ cut f n rest) (i + (n - 1)) []) (sym len)) (get_or-append-add (cut f k y) (cut f n rest) (n - 1) []) in
+    rw (place, cut-add f k n y, chain-append f h c k (cut f k y) (cut f n rest) (n - 1) len, at, size) refl
+
+-- the run over y, from where its first k blocks are compressed
+pub last_chain_from : (f : Family) (flags : Flags) (h : List ℕ) (c k : ℕ) (y : List ℕ) → k * block_bytes f ≤ length y → (k ≡ 0) ⊎ (0 < length (drop (k * block_bytes f) y))
+    → last_chain f h c y flags ≡ last_chain f (chain f h c (cut f k y) k) (c + k * block_bytes f) (drop (k * block_bytes f) y) flags
+last_chain_from f flags h c k y whole more =
+    let rest : List ℕ = drop (k * block_bytes f) y in
+    let n : ℕ = block_count f (length rest) in
+    let size : length y ≡ k * block_bytes f + length rest = omega (arith, length-drop (k * block_bytes f) y) in
+    let blocks : block_count f (length y) ≡ k + n = ap (block_count f) size ∙ block_count-add f k (length rest) more in
+    last_chain-ending f flags h c y ∙ ap (ending f flags h c y) blocks
+    ∙ ending_from f flags h c k y n whole (block_count-pos f (length rest)) ∙ sym (last_chain-ending f flags _ _ rest)
+
+-- ---- the lazy buffer
+
+-- what is handed on is there
+pub handed_fits : (f : Family) (y : List ℕ) → handed_count f y * block_bytes f ≤ length y
+handed_fits blake2b y = omega arith
+handed_fits blake2s y = omega arith
+
+zero_or_pos : (n : ℕ) → (n ≡ 0) ⊎ (0 < n)
+zero_or_pos zero = inl refl
+zero_or_pos (suc n) = inr (omega arith)
+
+-- where something is handed on, something is kept
+handed_fits_short : (f : Family) (y : List ℕ) → 0 < handed_count f y → handed_count f y * block_bytes f < length y
+handed_fits_short blake2b y h = omega arith
+handed_fits_short blake2s y h = omega arith
+
+pub kept_some : (f : Family) (y : List ℕ) → (handed_count f y ≡ 0) ⊎ (0 < length (kept f y))
+kept_some f y = elim (zero_or_pos (handed_count f y)) [
+  | inl e ↦ inl e
+  | inr h ↦ inr (omega (arith, length-drop (handed_count f y * block_bytes f) y, handed_fits_short f y h))
+]
+
+-- at most one block is kept, and with no key and no bytes none
+pub kept_le : (f : Family) (y : List ℕ) → length (kept f y) ≤ block_bytes f
+kept_le blake2b y = omega (arith, length-drop (handed_count blake2b y * 128) y)
+kept_le blake2s y = omega (arith, length-drop (handed_count blake2s y * 64) y)
+
+-- THE LAW: with the handed blocks compressed and the rest pending, the tail is as before
+pub tail_handed : (f : Family) (flags : Flags) (h : List ℕ) (c : ℕ) (y z : List ℕ)
+    → tail f (chain f h c (handed f y) (handed_count f y)) (c + handed_count f y * block_bytes f) (kept f y ++ z) flags ≡ tail f h c (y ++ z) flags
+tail_handed f flags h c y z =
+    let k : ℕ = handed_count f y in
+    let whole : k * block_bytes f ≤ length y = handed_fits f y in
+    let rest : drop (k * block_bytes f) (y ++ z) ≡ kept f y ++ z = drop-append-le (k * block_bytes f) y z whole in
+    let same : cut f k (y ++ z) ≡ handed f y = cut-prefix f k y z whole in
+    let more : (k ≡ 0) ⊎ (0 < length (drop (k * block_bytes f) (y ++ z))) = elim (kept_some f y) [
+      | inl e ↦ inl e
+      | inr h ↦ inr (omega (arith, ap length rest, length-append (kept f y) z))
+    ] in
+    let from = last_chain_from f flags h c k (y ++ z) (omega (arith, length-append y z)) more in
+    sym (ap (bytes_of f) (rw (same, rest) at from))
+
+-- the state after more input x
+abbrev pub updated : Family → State → List ℕ → State
+updated f s x = record {
+  h = chain f s.h s.c (handed f (s.p ++ x)) (handed_count f (s.p ++ x));
+  c = s.c + handed_count f (s.p ++ x) * block_bytes f;
+  p = kept f (s.p ++ x);
+  h0 = s.h0;
+  k = s.k;
+}
+
+pub future_updated : (f : Family) (n : ℕ) (s : State) (x y : List ℕ) → future f n (updated f s x) y ≡ future f n s (x ++ y)
+unfolding future
+future_updated f n s x y = ap (take n) (tail_handed f final s.h s.c (s.p ++ x) y ∙ ap (λ (z : List ℕ). tail f s.h s.c z final) (append_assoc s.p x y))
+
+pub count_updated : (f : Family) (s : State) (x : List ℕ) → count (updated f s x) ≡ count s + length x
+count_updated f s x =
+    omega (arith, length-drop (handed_count f (s.p ++ x) * block_bytes f) (s.p ++ x), handed_fits f (s.p ++ x), length-append s.p x)
+
+-- ---- what is handed on
+
+-- whole blocks joined are the bytes that they were cut from
+pub concat-cut_whole : (f : Family) (k : ℕ) (y : List ℕ) → k * block_bytes f ≤ length y → concat (cut f k y) ≡ take (k * block_bytes f) y
+unfolding cut padded
+concat-cut_whole f zero y h =
+    let none : 0 * block_bytes f ≡ 0 = omega arith in
+    rw none refl
+concat-cut_whole f (suc k) y h =
+    let b : ℕ = block_bytes f in
+    let more : suc k * b ≡ b + k * b = omega arith in
+    let len : length (take b y) ≡ b = length-take-le b y (omega arith) in
+    let full : b - length (take b y) ≡ 0 = omega arith in
+    let rest : concat (cut f k (drop b y)) ≡ take (k * b) (drop b y) = concat-cut_whole f k (drop b y) (omega (arith, length-drop b y)) in
+    let whole : take b (take (b + k * b) y) ++ drop b (take (b + k * b) y) ≡ take (b + k * b) y = take-append-drop b (take (b + k * b) y) in
+    let split : take b y ++ take (k * b) (drop b y) ≡ take (b + k * b) y = rw (take-take b (b + k * b) y (omega arith), drop-take b (k * b) y) at whole in
+    rw (full, append-nil (take b y), rest, more) split
+
+-- nothing is lost: the handed blocks and then what is kept
+pub handed_kept : (f : Family) (y : List ℕ) → concat (handed f y) ++ kept f y ≡ y
+handed_kept f y =
+    rw (concat-cut_whole f (handed_count f y) y (handed_fits f y)) (take-append-drop (handed_count f y * block_bytes f) y)
