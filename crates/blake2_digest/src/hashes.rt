@@ -1,0 +1,93 @@
+//! Hash functions.
+ghost use Rattle.std.specs.Prelude.{◌≡◌, ℕ, ◌+◌, ◌^◌, ◌<◌, List, length};
+ghost use Rattle.blake2_digest.specs.States.{digest_now, Updated, Fresh};
+
+use crate::state::{FixedOutput, FixedOutputReset, Reset, Update};
+
+/// Marks a hash function that needs no key.
+pub trait HashMarker {}
+
+/// States that are made with a customization.
+pub trait CustomizedInit: Update {
+    // The customization and the output size are within the type's limits.
+    ghost can_customize: { List ℕ → Type 0 };
+
+    // The digest of a message under a customization.
+    ghost customized: { List ℕ → List ℕ → List ℕ };
+
+    /// A state that has taken nothing, with this customization.
+    fn new_customized(customization: &[u8]) -> Self
+        requires { can_customize customization.now }
+        ensures { Fresh Self.meaning (customized customization.now) 0 result };
+}
+
+/// Hash functions with a digest of `N` bytes.
+pub trait Digest<const N: usize>: FixedOutputReset<N> {
+    // The output size is within the type's limit.
+    ghost is_supported: { Type 0 };
+
+    // The digest of a message.
+    ghost digest_of: { List ℕ → List ℕ };
+
+    /// A hasher that has taken nothing.
+    fn new() -> Self
+        requires { is_supported }
+        ensures { Fresh Self.meaning digest_of 0 result };
+
+    /// Takes the input after all that was taken before.
+    fn update(&mut self, input: &[u8])
+        requires { Self.meaning.count self.old + length input.now < 2 ^ 64 }
+        ensures { Updated Self.meaning self.old input.now self.new }
+    {
+        Update::update(self, input);
+    }
+
+    /// This hasher, once it has taken the input too.
+    fn chain_update(mut self, input: &[u8]) -> Self
+        requires { Self.meaning.count self + length input.now < 2 ^ 64 }
+        ensures { Updated Self.meaning self input.now result }
+    {
+        Update::update(&mut self, input);
+        self
+    }
+
+    /// The digest of what was taken since the last start.
+    fn finalize(self) -> [u8; N]
+        ensures { result ≡ digest_now Self.meaning self }
+    {
+        self.finalize_fixed()
+    }
+
+    /// Writes the digest of what was taken since the last start.
+    fn finalize_into(self, out: &mut [u8; N])
+        ensures { out.new ≡ digest_now Self.meaning self }
+    {
+        FixedOutput::finalize_into(self, out);
+    }
+
+    /// The digest of what was taken since the last start; the hasher is then reset.
+    fn finalize_reset(&mut self) -> [u8; N]
+        ensures output { result ≡ digest_now Self.meaning self.old }
+        ensures reset { Self.is_reset self.old self.new }
+    {
+        self.finalize_fixed_reset()
+    }
+
+    /// Goes back to the hasher as it was made.
+    fn reset(&mut self)
+        ensures { Self.is_reset self.old self.new }
+    {
+        Reset::reset(self);
+    }
+
+    /// The digest of the input.
+    fn digest(input: &[u8]) -> [u8; N]
+        requires supported { is_supported }
+        requires fits { length input.now < 2 ^ 64 }
+        ensures { result ≡ digest_of input.now }
+    {
+        let mut state = Self::new();
+        Update::update(&mut state, input);
+        state.finalize_fixed()
+    }
+}

@@ -1,0 +1,104 @@
+//! Message authentication codes.
+ghost use Rattle.std.specs.Prelude.{◌≡◌, ℕ, ◌+◌, ◌^◌, ◌<◌, ◌↔◌, ◌⊎◌, List, length, IfOk, IsErr, IsOk};
+ghost use Rattle.blake2_digest.specs.States.{digest_now, Updated, Fresh};
+
+use crate::faults::{InvalidLength, MacError};
+use crate::state::{FixedOutput, Update};
+use std::marker::Model;
+
+/// Marks a message authentication code.
+pub trait MacMarker {}
+
+/// Types with keys.
+pub trait KeySizeUser {
+    /// The bytes of the longest key.
+    const KEY_SIZE: usize;
+}
+
+/// States that are made from a key of up to `K` bytes.
+pub trait KeyInit<const K: usize>: Update {
+    // The output size is within the type's limit.
+    ghost is_supported: { Type 0 };
+
+    // The digest of a message under a key.
+    ghost keyed: { List ℕ → List ℕ → List ℕ };
+
+    // The bytes that a key counts for.
+    ghost key_count: { ℕ };
+
+    /// A state under a key of `K` bytes.
+    fn new(key: &[u8; K]) -> Self
+        requires { is_supported }
+        ensures { Fresh Self.meaning (keyed key.now) key_count result };
+
+    /// A state under this key, refused exactly for no bytes and for more than `K`.
+    fn new_from_slice(key: &[u8]) -> Result<Self, InvalidLength>
+        requires { is_supported }
+        ensures refused { IsErr result ↔ ((length key.now ≡ 0) ⊎ (K < length key.now)) }
+        ensures made { IfOk result (λ state. Fresh Self.meaning (keyed key.now) key_count state) };
+}
+
+/// The output of a MAC: `N` bytes that are not to be compared but by `Mac::verify_slice`.
+#[derive(Drop)]
+pub struct CtOutput<const N: usize> {
+    bytes: [u8; N],
+}
+
+impl<const N: usize> Model for CtOutput<N> {
+    ghost use Rattle.std.specs.Prelude.{ℕ, List};
+
+    ghost Value = { List ℕ };
+
+    ghost view = { λ output. output.bytes };
+}
+
+impl<const N: usize> CtOutput<N> {
+    /// The bytes of the output.
+    pub fn into_bytes(self) -> [u8; N]
+        ensures { result ≡ self.entry }
+    {
+        let CtOutput { bytes } = self;
+        bytes
+    }
+}
+
+/// Message authentication codes with an output of `N` bytes.
+pub trait Mac<const N: usize>: FixedOutput<N> {
+    /// Takes the input after all that was taken before.
+    fn update(&mut self, input: &[u8])
+        requires { Self.meaning.count self.old + length input.now < 2 ^ 64 }
+        ensures { Updated Self.meaning self.old input.now self.new }
+    {
+        Update::update(self, input);
+    }
+
+    /// This MAC, once it has taken the input too.
+    fn chain_update(mut self, input: &[u8]) -> Self
+        requires { Self.meaning.count self + length input.now < 2 ^ 64 }
+        ensures { Updated Self.meaning self input.now result }
+    {
+        Update::update(&mut self, input);
+        self
+    }
+
+    /// The output for what was taken since the last start.
+    fn finalize(self) -> CtOutput<N>
+        ensures { result ≡ digest_now Self.meaning self }
+    {
+        CtOutput {
+            bytes: self.finalize_fixed(),
+        }
+    }
+
+    /// Ok exactly where the tag is the whole output.
+    fn verify_slice(self, tag: &[u8]) -> Result<(), MacError>
+        ensures { IsOk result ↔ (tag.now ≡ digest_now Self.meaning self) }
+    {
+        let output = self.finalize_fixed();
+        if output.as_slice() == tag {
+            Ok(())
+        } else {
+            Err(MacError)
+        }
+    }
+}
