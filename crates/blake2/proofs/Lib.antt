@@ -1,0 +1,3 @@
+pub mod CoreLaws
+pub mod StateLaws
+pub mod Streaming

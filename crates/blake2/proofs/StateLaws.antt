@@ -1,0 +1,145 @@
+-- The promises of constructors, updates, resets and finalising calls, from the states that they leave.
+use Rattle.std.proofs.Common.{◌≡◌, ℕ, ◌+◌, ◌-◌, ◌*◌, ◌<◌, ◌≤◌, List, [], ◌++◌, length, take, Option, Some, None, refl, sym, ap, ◌∙◌, arith, zero-add, append-nil, append_assoc, length-append, length-drop}
+use Rattle.std.proofs.lemmas.List.{take_all}
+use Rattle.blake2_rows.specs.Family.{Family, blake2b, blake2s, block_bytes, key_bytes}
+use Rattle.blake2_words.specs.Hash.{final, padded, bytes_of, cut, chain, last_chain, block_count, key_size, key_block, digest}
+use Rattle.blake2_words.proofs.Sizes.{length-padded}
+use Rattle.blake2_digest.specs.Blocks.{handed_on, held_back}
+use Rattle.blake2_digest.specs.States.{Meaning, Updated, StartedAgain, Fresh}
+use Rattle.blake2_digest.proofs.Cutting.{handed_and_held, length-handed_on, length-held_back}
+use Rattle.blake2.specs.Cores.{CoreState, parameters, absorbed, last_output}
+use Rattle.blake2.specs.States.{tail, State, future, started, count, start_count, meaning_by, fresh, restarted, IsRestarted, digest_of}
+use Rattle.blake2.proofs.CoreLaws.{count-absorbed}
+use Rattle.blake2.proofs.Streaming.{tail_handed}
+
+-- the core of a state
+abbrev pub core_of : State → CoreState
+core_of s = record { h = s.h; start = s.h0; count = s.c }
+
+-- a state once it has taken x: the core has taken what the buffer hands on
+abbrev pub updated : Family → State → List ℕ → State
+updated f s x =
+    let core = absorbed f (core_of s) (handed_on (block_bytes f) (s.p ++ x)) in record {
+      h = core.h;
+      c = core.count;
+      p = held_back (block_bytes f) (s.p ++ x);
+      h0 = s.h0;
+      k = s.k;
+    }
+
+-- ---- updates
+
+pub block_positive : (f : Family) → 0 < block_bytes f
+block_positive blake2b = omega arith
+block_positive blake2s = omega arith
+
+future-updated : (f : Family) (n : ℕ) (s : State) (x y : List ℕ) → future f n (updated f s x) y ≡ future f n s (x ++ y)
+unfolding future
+future-updated f n s x y =
+    ap (take n) (tail_handed f final (core_of s) (s.p ++ x) y ∙ ap (λ (z : List ℕ). tail f s.h s.c z final) (append_assoc s.p x y))
+
+started-updated : (f : Family) (n : ℕ) (s : State) (x y : List ℕ) → started f n (updated f s x) y ≡ started f n s y
+unfolding started
+started-updated f n s x y = refl
+
+pub count-updated : (f : Family) (s : State) (x : List ℕ) → count (updated f s x) ≡ count s + length x
+count-updated f s x =
+    omega (arith, count-absorbed f (core_of s) (handed_on (block_bytes f) (s.p ++ x)), handed_and_held (block_bytes f) (s.p ++ x) (block_positive f), length-append s.p x)
+
+-- an update keeps its promise
+pub Updated_by : {S : Type 0} (f : Family) (n : ℕ) (state_of : S → State) (old : S) (x : List ℕ) (new : S)
+    → state_of new ≡ updated f (state_of old) x → Updated (meaning_by f n state_of) old x new
+Updated_by f n state_of old x new e = record {
+  future = λ y. ap (λ s. future f n s y) e ∙ future-updated f n (state_of old) x y;
+  started = λ y. ap (λ s. started f n s y) e ∙ started-updated f n (state_of old) x y;
+  count = ap count e ∙ count-updated f (state_of old) x;
+  start_count = ap start_count e;
+}
+
+-- ---- one block is left for the finalising call
+
+-- all blocks of the counted bytes but one are compressed
+abbrev pub IsLazy : Family → State → Type 0
+IsLazy f s = s.c ≡ block_bytes f * (block_count f (count s) - 1)
+
+pub within-updated : (f : Family) (s : State) (x : List ℕ) → length (updated f s x).p ≤ block_bytes f
+within-updated f s x = length-held_back (block_bytes f) (s.p ++ x) (block_positive f)
+
+pub IsLazy-updated : (f : Family) (s : State) (x : List ℕ) → IsLazy f s → IsLazy f (updated f s x)
+IsLazy-updated blake2b s x h =
+    omega (arith, count-absorbed blake2b (core_of s) (handed_on 128 (s.p ++ x)), handed_and_held 128 (s.p ++ x) (omega arith), length-append s.p x, length-held_back 128 (s.p ++ x) (omega arith), length-handed_on 128 (s.p ++ x))
+IsLazy-updated blake2s s x h =
+    omega (arith, count-absorbed blake2s (core_of s) (handed_on 64 (s.p ++ x)), handed_and_held 64 (s.p ++ x) (omega arith), length-append s.p x, length-held_back 64 (s.p ++ x) (omega arith), length-handed_on 64 (s.p ++ x))
+
+-- ---- constructors
+
+future-fresh : (f : Family) (n : ℕ) (salt persona : List ℕ) (key : Option (List ℕ)) (y : List ℕ)
+    → future f n (fresh f (parameters n (key_size key) salt persona) key) y ≡ digest_of f n salt persona key y
+unfolding future digest
+future-fresh f n salt persona key y = refl
+
+started-fresh : (f : Family) (n : ℕ) (salt persona : List ℕ) (key : Option (List ℕ)) (y : List ℕ)
+    → started f n (fresh f (parameters n (key_size key) salt persona) key) y ≡ digest_of f n salt persona key y
+unfolding started digest
+started-fresh f n salt persona key y = refl
+
+-- a constructor keeps its promise: the digests are BLAKE2
+pub Fresh_by : {S : Type 0} (f : Family) (n : ℕ) (state_of : S → State) (salt persona : List ℕ) (key : Option (List ℕ)) (new : S)
+    → state_of new ≡ fresh f (parameters n (key_size key) salt persona) key
+    → Fresh (meaning_by f n state_of) (digest_of f n salt persona key) (length (key_block f key)) new
+Fresh_by f n state_of salt persona key new e = record {
+  future = λ y. ap (λ s. future f n s y) e ∙ future-fresh f n salt persona key y;
+  started = λ y. ap (λ s. started f n s y) e ∙ started-fresh f n salt persona key y;
+  count = ap count e ∙ zero-add (length (key_block f key));
+  start_count = ap start_count e;
+}
+
+-- no key counts for nothing, and a key for a block
+pub length-key_block_none : (f : Family) → length (key_block f None) ≡ 0
+unfolding key_block
+length-key_block_none f = refl
+
+key_fits_block : (f : Family) → key_bytes f ≤ block_bytes f
+key_fits_block blake2b = omega arith
+key_fits_block blake2s = omega arith
+
+pub length-key_block_some : (f : Family) (key : List ℕ) → length key ≤ key_bytes f → length (key_block f (Some key)) ≡ block_bytes f
+unfolding key_block
+length-key_block_some f key fits = length-padded (block_bytes f) key (omega (arith, key_fits_block f))
+
+-- ---- resets and finalising calls
+
+future-restarted : (f : Family) (n : ℕ) (s : State) (y : List ℕ) → future f n (restarted s) y ≡ started f n s y
+unfolding future started
+future-restarted f n s y = refl
+
+started-restarted : (f : Family) (n : ℕ) (s : State) (y : List ℕ) → started f n (restarted s) y ≡ started f n s y
+unfolding started
+started-restarted f n s y = refl
+
+-- a reset keeps its promise
+pub StartedAgain_by : {S : Type 0} (f : Family) (n : ℕ) (state_of : S → State) (old new : S)
+    → IsRestarted state_of old new → StartedAgain (meaning_by f n state_of) old new
+StartedAgain_by f n state_of old new e = record {
+  future = λ y. ap (λ s. future f n s y) e ∙ future-restarted f n (state_of old) y;
+  started = λ y. ap (λ s. started f n s y) e ∙ started-restarted f n (state_of old) y;
+  count = ap count e ∙ zero-add (length (state_of old).k);
+  start_count = ap start_count e;
+}
+
+one_block : (f : Family) (n : ℕ) → n ≤ block_bytes f → block_count f n ≡ 1
+one_block blake2b n fits = omega arith
+one_block blake2s n fits = omega arith
+
+-- the pending bytes alone are the last block
+pub last_chain-pending : (f : Family) (core : CoreState) (p : List ℕ) → length p ≤ block_bytes f → tail f core.h core.count (p ++ []) final ≡ last_output f core p
+unfolding last_chain cut chain
+last_chain-pending f core p fits =
+    let one : block_count f (length p) ≡ 1 = one_block f (length p) fits in
+    let whole : take (block_bytes f) p ≡ p = take_all (block_bytes f) p fits in
+    rw (append-nil p, one, whole) refl
+
+-- a finalising call keeps its promise
+pub future-nothing : (f : Family) (n : ℕ) (s : State) → length s.p ≤ block_bytes f → take n (last_output f (core_of s) s.p) ≡ future f n s []
+unfolding future
+future-nothing f n s fits = ap (take n) (sym (last_chain-pending f (core_of s) s.p fits))

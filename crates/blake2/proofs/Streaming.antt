@@ -1,0 +1,78 @@
+-- What an update moves from the pending bytes to the chaining words changes no digest.
+use Rattle.std.proofs.Common.{◌≡◌, ℕ, zero, suc, ◌+◌, ◌-◌, ◌*◌, ◌<◌, ◌≤◌, ◌⊎◌, inl, inr, List, [], ◌++◌, length, take, drop, refl, sym, ap, ◌∙◌, arith, append-nil, length-append, length-drop}
+use Rattle.std.proofs.lemmas.List.{length-take-le, drop-append-le}
+use Rattle.std.specs.Simd.{first_chunks}
+use Rattle.blake2_rows.specs.Family.{Family, blake2b, blake2s, block_bytes}
+use Rattle.blake2_words.specs.Hash.{Flags, padded, bytes_of, cut, chain, last_chain, block_count, compress}
+use Rattle.blake2_words.proofs.Streaming.{cut-prefix, chain-append, last_chain_from}
+use Rattle.blake2_digest.specs.Blocks.{handed_on, held_back}
+use Rattle.blake2_digest.proofs.Cutting.{length-handed_on}
+use Rattle.blake2.specs.Cores.{CoreState, absorbed, completed}
+use Rattle.blake2.specs.States.{tail}
+
+-- how many blocks of y are handed on
+abbrev pub handed_count : Family → List ℕ → ℕ
+handed_count f y = block_count f (length y) - 1
+
+-- chunks that a text fills are its blocks
+first_chunks-cut : (f : Family) (k : ℕ) (y : List ℕ) → k * block_bytes f ≤ length y → first_chunks (block_bytes f) k y ≡ cut f k y
+unfolding cut padded
+first_chunks-cut f zero y h = refl
+first_chunks-cut f (suc k) y h =
+    let b : ℕ = block_bytes f in
+    let len : length (take b y) ≡ b = length-take-le b y (omega arith) in
+    let full : b - length (take b y) ≡ 0 = omega arith in
+    let rest : first_chunks b k (drop b y) ≡ cut f k (drop b y) = first_chunks-cut f k (drop b y) (omega (arith, length-drop b y)) in
+    rw (full, append-nil (take b y), rest) refl
+
+-- what is handed on is there
+handed_fits : (f : Family) (y : List ℕ) → handed_count f y * block_bytes f ≤ length y
+handed_fits blake2b y = omega arith
+handed_fits blake2s y = omega arith
+
+-- the blocks that are handed on are the first of those that the text is cut into
+handed_on-cut : (f : Family) (y : List ℕ) → handed_on (block_bytes f) y ≡ cut f (handed_count f y) y
+unfolding handed_on
+handed_on-cut f y = first_chunks-cut f (handed_count f y) y (handed_fits f y)
+
+zero_or_positive : (n : ℕ) → (n ≡ 0) ⊎ (0 < n)
+zero_or_positive zero = inl refl
+zero_or_positive (suc n) = inr (omega arith)
+
+-- where something is handed on, something is held back
+handed_less : (f : Family) (y : List ℕ) → 0 < handed_count f y → handed_count f y * block_bytes f < length y
+handed_less blake2b y h = omega arith
+handed_less blake2s y h = omega arith
+
+held_some : (f : Family) (y : List ℕ) → (handed_count f y ≡ 0) ⊎ (0 < length (held_back (block_bytes f) y))
+unfolding held_back
+held_some f y = elim (zero_or_positive (handed_count f y)) [
+  | inl e ↦ inl e
+  | inr h ↦ inr (omega (arith, length-drop (handed_count f y * block_bytes f) y, handed_less f y h))
+]
+
+-- with the first k blocks of y compressed and the rest pending, the tail is as before
+tail_cut : (f : Family) (flags : Flags) (h : List ℕ) (c k : ℕ) (y z : List ℕ) → k * block_bytes f ≤ length y
+    → (k ≡ 0) ⊎ (0 < length (drop (k * block_bytes f) y))
+    → tail f (chain f h c (cut f k y) k) (c + k * block_bytes f) (drop (k * block_bytes f) y ++ z) flags ≡ tail f h c (y ++ z) flags
+tail_cut f flags h c k y z whole some =
+    let rest : drop (k * block_bytes f) (y ++ z) ≡ drop (k * block_bytes f) y ++ z = drop-append-le (k * block_bytes f) y z whole in
+    let same : cut f k (y ++ z) ≡ cut f k y = cut-prefix f k y z whole in
+    let more : (k ≡ 0) ⊎ (0 < length (drop (k * block_bytes f) (y ++ z))) = elim some [
+      | inl e ↦ inl e
+      | inr h ↦ inr (omega (arith, ap length rest, length-append (drop (k * block_bytes f) y) z))
+    ] in
+    let from = last_chain_from f flags h c k (y ++ z) (omega (arith, length-append y z)) more in
+    sym (ap (bytes_of f) (rw (same, rest) at from))
+
+-- with the blocks that the buffer hands on compressed and the rest pending, the tail is as before
+pub tail_handed : (f : Family) (flags : Flags) (core : CoreState) (y z : List ℕ)
+    → tail f (absorbed f core (handed_on (block_bytes f) y)).h (absorbed f core (handed_on (block_bytes f) y)).count (held_back (block_bytes f) y ++ z) flags
+    ≡ tail f core.h core.count (y ++ z) flags
+unfolding absorbed held_back
+tail_handed f flags core y z =
+    let k : ℕ = handed_count f y in
+    let number : length (handed_on (block_bytes f) y) ≡ k = length-handed_on (block_bytes f) y in
+    let order : block_bytes f * k ≡ k * block_bytes f = omega arith in
+    let cut_off = tail_cut f flags core.h core.count k y z (handed_fits f y) (unfold held_back in held_some f y) in
+    rw (number, handed_on-cut f y, order) cut_off

@@ -1,0 +1,41 @@
+-- What a block core holds, and how it changes. Section numbers are those of RFC 7693.
+use Rattle.std.specs.Prelude.{ℕ, ◌+◌, ◌*◌, List, [], length}
+use Rattle.blake2_rows.specs.Family.{Family, block_bytes}
+use Rattle.blake2_words.specs.Hash.{Parameters, final, padded, bytes_of, compress, chain, start}
+
+-- a core: the chaining words h, the words h that it started from (eight words each), and the bytes
+-- that it has counted since
+pub record CoreState : Type 0 where
+  pub h : List ℕ
+  pub start : List ℕ
+  pub count : ℕ
+
+-- the parameters of a sequential use (2.5)
+abbrev pub parameters : ℕ → ℕ → List ℕ → List ℕ → Parameters
+parameters size key_size salt persona = record { size = size; key_size = key_size; salt = salt; persona = persona }
+
+-- a core as it is made: h is the parameter block xored into the IV, and nothing is counted (3.3)
+abbrev pub core_made : Family → Parameters → CoreState
+core_made f p = record { h = start f p; start = start f p; count = 0 }
+
+-- a core at its start again
+abbrev pub core_restarted : CoreState → CoreState
+core_restarted core = record { h = core.start; start = core.start; count = 0 }
+
+-- a core once it has taken these blocks, none of them the last: the loop of 3.3
+unfoldable pub absorbed : Family → CoreState → List (List ℕ) → CoreState
+absorbed f core blocks = record core {
+  h = chain f core.h core.count blocks (length blocks);
+  count = core.count + block_bytes f * length blocks;
+}
+
+-- a core once it has taken p, padded with zeros, as the last block: the last call of 3.3
+abbrev pub completed : Family → CoreState → List ℕ → CoreState
+completed f core p = record core {
+  h = compress f core.h (padded (block_bytes f) p) (core.count + length p) final;
+  count = core.count + length p;
+}
+
+-- the bytes of the last h, of which a digest is the first
+abbrev pub last_output : Family → CoreState → List ℕ → List ℕ
+last_output f core p = bytes_of f (completed f core p).h

@@ -1,0 +1,2 @@
+//! BLAKE2.
+#![tactic(auto)]
