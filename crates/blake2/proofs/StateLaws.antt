@@ -2,12 +2,12 @@
 use Rattle.std.proofs.Common.{◌≡◌, ℕ, ◌+◌, ◌-◌, ◌*◌, ◌<◌, ◌≤◌, List, [], ◌++◌, length, take, Option, Some, None, refl, sym, ap, ◌∙◌, arith, zero-add, append-nil, append_assoc, length-append, length-drop}
 use Rattle.std.proofs.lemmas.List.{take_all}
 use Rattle.blake2_rows.specs.Family.{Family, blake2b, blake2s, block_bytes, key_bytes}
-use Rattle.blake2_words.specs.Hash.{final, padded, bytes_of, cut, chain, last_chain, block_count, key_size, key_block, digest}
+use Rattle.blake2_words.specs.Hash.{parameters_of, final, padded, bytes_of, cut, chain, last_chain, block_count, key_size, key_block, digest}
 use Rattle.blake2_words.proofs.Sizes.{length-padded}
 use Rattle.blake2_digest.specs.Blocks.{handed_on, held_back}
 use Rattle.blake2_digest.specs.States.{Meaning, Updated, StartedAgain, Fresh}
 use Rattle.blake2_digest.proofs.Cutting.{handed_and_held, length-handed_on, length-held_back}
-use Rattle.blake2.specs.Cores.{CoreState, parameters, absorbed, last_output}
+use Rattle.blake2.specs.Cores.{CoreState, absorbed, last_output}
 use Rattle.blake2.specs.States.{tail, State, future, started, count, start_count, meaning_by, fresh, restarted, IsRestarted, digest_of}
 use Rattle.blake2.proofs.CoreLaws.{count-absorbed}
 use Rattle.blake2.proofs.Streaming.{tail_handed}
@@ -74,18 +74,18 @@ IsLazy-updated blake2s s x h =
 -- ---- constructors
 
 future-fresh : (f : Family) (n : ℕ) (salt persona : List ℕ) (key : Option (List ℕ)) (y : List ℕ)
-    → future f n (fresh f (parameters n (key_size key) salt persona) key) y ≡ digest_of f n salt persona key y
+    → future f n (fresh f (parameters_of n (key_size key) salt persona) key) y ≡ digest_of f n salt persona key y
 unfolding future digest
 future-fresh f n salt persona key y = refl
 
 started-fresh : (f : Family) (n : ℕ) (salt persona : List ℕ) (key : Option (List ℕ)) (y : List ℕ)
-    → started f n (fresh f (parameters n (key_size key) salt persona) key) y ≡ digest_of f n salt persona key y
+    → started f n (fresh f (parameters_of n (key_size key) salt persona) key) y ≡ digest_of f n salt persona key y
 unfolding started digest
 started-fresh f n salt persona key y = refl
 
 -- a constructor keeps its promise: the digests are BLAKE2
 pub Fresh_by : {S : Type 0} (f : Family) (n : ℕ) (state_of : S → State) (salt persona : List ℕ) (key : Option (List ℕ)) (new : S)
-    → state_of new ≡ fresh f (parameters n (key_size key) salt persona) key
+    → state_of new ≡ fresh f (parameters_of n (key_size key) salt persona) key
     → Fresh (meaning_by f n state_of) (digest_of f n salt persona key) (length (key_block f key)) new
 Fresh_by f n state_of salt persona key new e = record {
   future = λ y. ap (λ s. future f n s y) e ∙ future-fresh f n salt persona key y;

@@ -1,5 +1,5 @@
 -- What a block core holds, and how it changes. Section numbers are those of RFC 7693.
-use Rattle.std.specs.Prelude.{ℕ, ◌+◌, ◌*◌, List, [], length}
+use Rattle.std.specs.Prelude.{ℕ, ◌+◌, ◌*◌, List, length, replicate}
 use Rattle.blake2_rows.specs.Family.{Family, block_bytes}
 use Rattle.blake2_words.specs.Hash.{Parameters, final, padded, bytes_of, compress, chain, start}
 
@@ -9,10 +9,6 @@ pub record CoreState : Type 0 where
   pub h : List ℕ
   pub start : List ℕ
   pub count : ℕ
-
--- the parameters of a sequential use (2.5)
-abbrev pub parameters : ℕ → ℕ → List ℕ → List ℕ → Parameters
-parameters size key_size salt persona = record { size = size; key_size = key_size; salt = salt; persona = persona }
 
 -- a core as it is made: h is the parameter block xored into the IV, and nothing is counted (3.3)
 abbrev pub core_made : Family → Parameters → CoreState
@@ -39,3 +35,7 @@ completed f core p = record core {
 -- the bytes of the last h, of which a digest is the first
 abbrev pub last_output : Family → CoreState → List ℕ → List ℕ
 last_output f core p = bytes_of f (completed f core p).h
+
+-- a core whose words and count are zero
+abbrev pub core_wiped : CoreState
+core_wiped = record { h = replicate 8 0; start = replicate 8 0; count = 0 }

@@ -1,2 +1,4 @@
 pub mod Cores
+pub mod Keys
 pub mod States
+pub mod Views

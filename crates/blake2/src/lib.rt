@@ -1,2 +1,47 @@
-//! BLAKE2.
+//! BLAKE2b and BLAKE2s (RFC 7693), after the crate `blake2` 0.11: hashers and MACs of every output
+//! size, with salt and persona.
+//!
+//! ```rust
+//! use blake2::{Blake2b512, Digest};
+//!
+//! let mut hasher = Blake2b512::new();
+//! hasher.update(b"hello ");
+//! hasher.update(b"world");
+//! let digest: [u8; 64] = hasher.finalize();
+//! ```
 #![tactic(auto)]
+
+mod cores;
+mod hashers;
+mod macs;
+
+pub use blake2_digest as digest;
+pub use blake2_digest::Digest;
+pub use blake2_rows::rows;
+pub use cores::blake2b::Blake2bVarCore;
+pub use cores::blake2s::Blake2sVarCore;
+pub use hashers::blake2b::Blake2b;
+pub use hashers::blake2s::Blake2s;
+pub use macs::blake2b::Blake2bMac;
+pub use macs::blake2s::Blake2sMac;
+
+/// BLAKE2b with digests of 16 bytes.
+pub type Blake2b128 = Blake2b<16>;
+
+/// BLAKE2b with digests of 32 bytes.
+pub type Blake2b256 = Blake2b<32>;
+
+/// BLAKE2b with digests of 64 bytes.
+pub type Blake2b512 = Blake2b<64>;
+
+/// BLAKE2s with digests of 16 bytes.
+pub type Blake2s128 = Blake2s<16>;
+
+/// BLAKE2s with digests of 32 bytes.
+pub type Blake2s256 = Blake2s<32>;
+
+/// BLAKE2b as a MAC with outputs of 64 bytes.
+pub type Blake2bMac512 = Blake2bMac<64>;
+
+/// BLAKE2s as a MAC with outputs of 32 bytes.
+pub type Blake2sMac256 = Blake2sMac<32>;

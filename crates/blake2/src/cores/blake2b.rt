@@ -1,0 +1,210 @@
+//! The block core of BLAKE2b.
+ghost use Rattle.std.specs.Prelude.{◌≡◌, ⊤, ℕ, ◌+◌, ◌^◌, ◌<◌, ◌≤◌, List, [], ◌∷◌, length, replicate};
+ghost use Rattle.blake2_rows.specs.Family.{blake2b};
+ghost use Rattle.blake2_words.specs.Hash.{parameters_of};
+ghost use Rattle.blake2.specs.Cores.{CoreState, absorbed, completed, last_output, core_made, core_restarted, core_wiped};
+ghost use Rattle.blake2.proofs.CoreLaws.{absorbed-append, absorbed-nil, count-absorbed};
+
+use blake2_digest::{
+    AlgorithmName, BlockSizeUser, BufferKindUser, Duplicate, HashMarker, InvalidOutputSize, Lazy,
+    LazyBuffer, OutputSizeUser, Reset, TruncSide, UpdateCore, VariableOutputCore,
+    VariableOutputCoreCustomized, Wipe, ZeroizeOnDrop,
+};
+use blake2_rows::rows::u64x4;
+use blake2_words::params::blake2b as params;
+use blake2_words::words::blake2b as words;
+use std::alloc::AllocError;
+use std::fmt;
+use std::fmt::Write;
+use std::marker::Model;
+
+/// The core of BLAKE2b: it compresses blocks of 128 bytes, and its outputs have up to 64 bytes.
+pub struct Blake2bVarCore {
+    // The chaining words, and those that the run started from: two rows of four each.
+    h: [u64x4; 2],
+    start: [u64x4; 2],
+    // The bytes of the blocks that were compressed.
+    counter: u64,
+}
+
+impl Model for Blake2bVarCore {
+    ghost use Rattle.blake2_rows.specs.Rows.{eight};
+    ghost use Rattle.blake2.specs.Cores.{CoreState};
+
+    ghost Value = { CoreState };
+
+    ghost view = { λ core. record { h = eight core.h; start = eight core.start; count = core.counter } };
+}
+
+impl Blake2bVarCore {
+    /// A core under these parameters: a salt and a persona of up to 16 bytes each, the length in
+    /// bytes of a key of up to 64, and that of outputs of up to 64. The key's block is the caller's
+    /// to give.
+    pub fn new_with_params(
+        salt: &[u8],
+        persona: &[u8],
+        key_size: usize,
+        output_size: usize,
+    ) -> Self
+        requires salt { length salt.now ≤ 16 }
+        requires persona { length persona.now ≤ 16 }
+        requires key_size { key_size ≤ 64 }
+        requires output_size { output_size ≤ 64 }
+        ensures { result ≡ core_made blake2b (parameters_of output_size key_size salt.now persona.now) }
+    {
+        let start = params::start_rows(salt, persona, key_size, output_size);
+        Blake2bVarCore {
+            h: start,
+            start,
+            counter: 0,
+        }
+    }
+
+    // Compresses a block that is not the last.
+    #[inline]
+    fn absorb_block(&mut self, block: &[u8; 128])
+        requires { self.old.count + 128 < 2 ^ 64 }
+        ensures { self.new ≡ absorbed blake2b self.old (block.now ∷ []) }
+    {
+        self.counter += 128;
+        let counter = self.counter;
+        words::compress(&mut self.h, block, counter, false);
+    }
+}
+
+impl BlockSizeUser for Blake2bVarCore {
+    const BLOCK_SIZE: usize = 128;
+}
+
+impl OutputSizeUser for Blake2bVarCore {
+    const OUTPUT_SIZE: usize = 64;
+}
+
+impl BufferKindUser for Blake2bVarCore {
+    type BufferKind = Lazy;
+}
+
+impl HashMarker for Blake2bVarCore {}
+
+impl UpdateCore<128> for Blake2bVarCore {
+    ghost absorb = { absorbed blake2b };
+
+    ghost count = { λ core. core.count };
+
+    #[inline]
+    fn update_blocks(&mut self, blocks: &[[u8; 128]]) {
+        'each: for block in blocks {
+            self.absorb_block(block);
+        }
+    }
+
+    fn counted(&self) -> u64 {
+        self.counter
+    }
+
+    ghost absorb_join = { absorbed-append blake2b };
+
+    ghost absorb_nothing = { absorbed-nil blake2b };
+
+    ghost count_grows = { count-absorbed blake2b };
+}
+
+impl VariableOutputCore<128, 64> for Blake2bVarCore {
+    const TRUNC_SIDE: TruncSide = TruncSide::Left;
+
+    ghost made = { λ n core. core ≡ core_made blake2b (parameters_of n 0 [] []) };
+
+    ghost last_output = { λ core p. last_output blake2b core p };
+
+    ghost after_last = { λ old p new. new ≡ completed blake2b old p };
+
+    fn new(output_size: usize) -> Result<Self, InvalidOutputSize> {
+        if output_size > 64 {
+            return Err(InvalidOutputSize);
+        }
+        Ok(Self::new_with_params(&[], &[], 0, output_size))
+    }
+
+    fn finalize_variable_core(&mut self, buffer: &mut LazyBuffer<128>, out: &mut [u8; 64]) {
+        self.counter += buffer.get_pos() as u64;
+        let counter = self.counter;
+        let block = buffer.pad_with_zeros();
+        words::compress(&mut self.h, &block, counter, true);
+        *out = words::to_bytes(&self.h);
+    }
+}
+
+impl VariableOutputCoreCustomized for Blake2bVarCore {
+    ghost can_customize = { λ persona n. (length persona ≤ 16) × (n ≤ 64) };
+
+    ghost customized = { λ persona n core. core ≡ core_made blake2b (parameters_of n 0 [] persona) };
+
+    fn new_customized(customization: &[u8], output_size: usize) -> Self {
+        Self::new_with_params(&[], customization, 0, output_size)
+    }
+}
+
+impl Reset for Blake2bVarCore {
+    ghost is_reset = { λ old new. new ≡ core_restarted old };
+
+    fn reset(&mut self) {
+        self.h = self.start;
+        self.counter = 0;
+    }
+}
+
+impl Duplicate for Blake2bVarCore {
+    fn duplicate(&self) -> Self {
+        Blake2bVarCore {
+            h: self.h,
+            start: self.start,
+            counter: self.counter,
+        }
+    }
+}
+
+impl Clone for Blake2bVarCore {
+    ghost is_clone = { λ x y. y ≡ x };
+
+    ghost is_infallible = { λ _. ⊤ };
+
+    fn clone(&self) -> Result<Self, AllocError> {
+        Ok(self.duplicate())
+    }
+}
+
+impl Wipe for Blake2bVarCore {
+    ghost is_wiped = { λ core. core ≡ core_wiped };
+
+    fn wipe(&mut self) {
+        let zeros = u64x4::new(0, 0, 0, 0);
+        self.h = [zeros, zeros];
+        self.start = [zeros, zeros];
+        self.counter = 0;
+    }
+}
+
+impl Drop for Blake2bVarCore {
+    fn drop(mut self) {
+        self.wipe();
+        let Blake2bVarCore {
+            h: _,
+            start: _,
+            counter: _,
+        } = self;
+    }
+}
+
+impl ZeroizeOnDrop for Blake2bVarCore {}
+
+impl AlgorithmName for Blake2bVarCore {
+    fn write_alg_name<W: fmt::Write>(f: &mut fmt::Formatter<W>) -> fmt::Result {
+        f.write_str("Blake2b")
+    }
+}
+
+impl fmt::Debug for Blake2bVarCore {
+    fn fmt<W: fmt::Write>(&self, f: &mut fmt::Formatter<W>) -> fmt::Result {
+        f.write_str("Blake2bVarCore { ... }")
+    }
+}

@@ -1,0 +1,235 @@
+//! The MAC of BLAKE2b.
+ghost use Rattle.std.specs.Prelude.{◌≡◌, ⊤, ℕ, ◌+◌, ◌-◌, ◌*◌, ◌^◌, ◌<◌, ◌≤◌, ◌↔◌, List, [], length, None, Some, IfOk, IsErr, EachIndex, slice_index};
+ghost use Rattle.std.proofs.Common.{arith};
+ghost use Rattle.blake2_rows.specs.Family.{blake2b};
+ghost use Rattle.blake2_digest.specs.Blocks.{block_count};
+ghost use Rattle.blake2.specs.Cores.{core_wiped};
+ghost use Rattle.blake2.specs.Keys.{key_of, key_count, IsRefused};
+ghost use Rattle.blake2.specs.States.{digest_of as blake2_of};
+
+use crate::cores::blake2b::Blake2bVarCore;
+use blake2_digest::{
+    Duplicate, FixedOutput, FixedOutputReset, InvalidLength, KeyInit, KeySizeUser, LazyBuffer, Mac,
+    MacMarker, OutputSizeUser, Reset, Update, UpdateCore, VariableOutputCore, Wipe, ZeroizeOnDrop,
+};
+use std::alloc::AllocError;
+use std::fmt;
+use std::fmt::Write;
+
+/// BLAKE2b with outputs of `N` bytes, at most 64, as a message authentication code.
+pub struct Blake2bMac<const N: usize> {
+    core: Blake2bVarCore,
+    buffer: LazyBuffer<128>,
+    // What a start leaves pending: the key, padded with zeros to a block, or nothing.
+    key_block: LazyBuffer<128>,
+    ghost supported: { N ≤ 64 },
+    ghost within_a_block: { length buffer ≤ 128 },
+    ghost key_within_a_block: { length key_block ≤ 128 },
+    ghost counted: { core.count + length buffer < 2 ^ 64 },
+    // All blocks of the counted bytes but one are compressed.
+    ghost one_block_left: { core.count ≡ 128 * (block_count 128 (core.count + length buffer) - 1) },
+}
+
+impl<const N: usize> Blake2bMac<N> {
+    ghost use Rattle.blake2.specs.States.{IsRestarted};
+    ghost use Rattle.blake2.specs.Views.{blake2b_mac_state, blake2b_mac_meaning};
+    ghost use Rattle.blake2_digest.specs.States.{Fresh, digest_now};
+
+    /// A MAC under a key of 1 to 64 bytes or none, with a salt and a persona of up to 16 bytes each;
+    /// `None` is no key, and no block of one. Refused exactly for a given key of no bytes or of more
+    /// than 64, and for a salt or a persona of more than 16.
+    pub fn new_with_salt_and_personal(
+        key: Option<&[u8]>,
+        salt: &[u8],
+        persona: &[u8],
+    ) -> Result<Self, InvalidLength>
+        requires { N ≤ 64 }
+        ensures refused { IsErr result ↔ IsRefused blake2b (key_of key.entry) salt.now persona.now }
+        ensures made { IfOk result (λ mac. Fresh (blake2b_mac_meaning N)
+            (blake2_of blake2b N salt.now persona.now (key_of key.entry)) (key_count blake2b (key_of key.entry)) mac) }
+    {
+        if salt.len() > 16 || persona.len() > 16 {
+            return Err(InvalidLength);
+        }
+        match key {
+            None => Ok(Self::unkeyed(salt, persona)),
+            Some(key) => {
+                if key.is_empty() || key.len() > 64 {
+                    return Err(InvalidLength);
+                }
+                Ok(Self::under_key(key, salt, persona))
+            }
+        }
+    }
+
+    // A MAC under this key that has taken nothing else.
+    fn under_key(key: &[u8], salt: &[u8], persona: &[u8]) -> Self
+        requires supported { N ≤ 64 }
+        requires key { length key.now ≤ 64 }
+        requires salt { length salt.now ≤ 16 }
+        requires persona { length persona.now ≤ 16 }
+        ensures { Fresh (blake2b_mac_meaning N) (blake2_of blake2b N salt.now persona.now (Some key.now)) 128 result }
+    {
+        let mut block = [0; 128];
+        block[..key.len()].copy_from_slice(key);
+        Blake2bMac {
+            core: Blake2bVarCore::new_with_params(salt, persona, key.len(), N),
+            buffer: LazyBuffer::new(&block),
+            key_block: LazyBuffer::new(&block),
+        }
+    }
+
+    // A MAC under no key that has taken nothing.
+    fn unkeyed(salt: &[u8], persona: &[u8]) -> Self
+        requires supported { N ≤ 64 }
+        requires salt { length salt.now ≤ 16 }
+        requires persona { length persona.now ≤ 16 }
+        ensures { Fresh (blake2b_mac_meaning N) (blake2_of blake2b N salt.now persona.now None) 0 result }
+    {
+        Blake2bMac {
+            core: Blake2bVarCore::new_with_params(salt, persona, 0, N),
+            buffer: LazyBuffer::default(),
+            key_block: LazyBuffer::default(),
+        }
+    }
+
+    // Writes the output, and goes back to the start.
+    fn finish(&mut self, out: &mut [u8; N])
+        ensures output { out.new ≡ digest_now (blake2b_mac_meaning N) self.old }
+        ensures restarted { IsRestarted blake2b_mac_state self.old self.new }
+    {
+        let mut whole = [0; 64];
+        self.core
+            .finalize_variable_core(&mut self.buffer, &mut whole);
+        let out = &mut out[..];
+        out.copy_from_slice(&whole[..N]);
+        self.core.reset();
+        self.buffer = self.key_block.duplicate();
+    }
+}
+
+impl<const N: usize> KeySizeUser for Blake2bMac<N> {
+    const KEY_SIZE: usize = 64;
+}
+
+impl<const N: usize> OutputSizeUser for Blake2bMac<N> {
+    const OUTPUT_SIZE: usize = N;
+}
+
+impl<const N: usize> MacMarker for Blake2bMac<N> {}
+
+impl<const N: usize> KeyInit<64> for Blake2bMac<N> {
+    ghost is_supported = { N ≤ 64 };
+
+    ghost keyed = { λ key. blake2_of blake2b N [] [] (Some key) };
+
+    ghost key_count = { 128 };
+
+    fn new(key: &[u8; 64]) -> Self {
+        Self::under_key(key, &[], &[])
+    }
+
+    fn new_from_slice(key: &[u8]) -> Result<Self, InvalidLength> {
+        if key.is_empty() || key.len() > 64 {
+            return Err(InvalidLength);
+        }
+        Ok(Self::under_key(key, &[], &[]))
+    }
+}
+
+impl<const N: usize> Update for Blake2bMac<N> {
+    ghost use Rattle.blake2.specs.Views.{blake2b_mac_meaning};
+
+    ghost meaning = { blake2b_mac_meaning N };
+
+    fn update(&mut self, input: &[u8]) {
+        self.buffer.digest_blocks(input, &mut self.core);
+    }
+
+    fn counted(&self) -> u64 {
+        self.core.counted() + self.buffer.get_pos() as u64
+    }
+}
+
+impl<const N: usize> FixedOutput<N> for Blake2bMac<N> {
+    fn finalize_into(mut self, out: &mut [u8; N]) {
+        self.finish(out);
+    }
+
+    ghost output_fits = { λ s. Prim.omega (arith, s.supported) };
+}
+
+impl<const N: usize> Reset for Blake2bMac<N> {
+    ghost use Rattle.blake2.specs.States.{IsRestarted};
+    ghost use Rattle.blake2.specs.Views.{blake2b_mac_state};
+
+    ghost is_reset = { IsRestarted blake2b_mac_state };
+
+    fn reset(&mut self) {
+        self.core.reset();
+        self.buffer = self.key_block.duplicate();
+    }
+}
+
+impl<const N: usize> FixedOutputReset<N> for Blake2bMac<N> {
+    ghost use Rattle.blake2.specs.Views.{blake2b_mac_state};
+    ghost use Rattle.blake2.proofs.StateLaws.{StartedAgain_by};
+
+    fn finalize_into_reset(&mut self, out: &mut [u8; N]) {
+        self.finish(out);
+    }
+
+    ghost reset_starts_again = { StartedAgain_by blake2b N blake2b_mac_state };
+}
+
+impl<const N: usize> Mac<N> for Blake2bMac<N> {}
+
+impl<const N: usize> Duplicate for Blake2bMac<N> {
+    fn duplicate(&self) -> Self {
+        Blake2bMac {
+            core: self.core.duplicate(),
+            buffer: self.buffer.duplicate(),
+            key_block: self.key_block.duplicate(),
+        }
+    }
+}
+
+impl<const N: usize> Clone for Blake2bMac<N> {
+    ghost is_clone = { λ x y. y ≡ x };
+
+    ghost is_infallible = { λ _. ⊤ };
+
+    fn clone(&self) -> Result<Self, AllocError> {
+        Ok(self.duplicate())
+    }
+}
+
+impl<const N: usize> Wipe for Blake2bMac<N> {
+    ghost is_wiped = { λ s. (s.core ≡ core_wiped) × EachIndex s.buffer (λ k. slice_index s.buffer k ≡ 0)
+        × EachIndex s.key_block (λ k. slice_index s.key_block k ≡ 0) };
+
+    fn wipe(&mut self) {
+        self.core.wipe();
+        self.buffer.wipe();
+        self.key_block.wipe();
+    }
+}
+
+impl<const N: usize> Drop for Blake2bMac<N> {
+    fn drop(mut self) {
+        self.wipe();
+        let Blake2bMac {
+            core: _,
+            buffer: _,
+            key_block: _,
+        } = self;
+    }
+}
+
+impl<const N: usize> ZeroizeOnDrop for Blake2bMac<N> {}
+
+impl<const N: usize> fmt::Debug for Blake2bMac<N> {
+    fn fmt<W: fmt::Write>(&self, f: &mut fmt::Formatter<W>) -> fmt::Result {
+        write!(f, "Blake2bMac{N} {{ ... }}")
+    }
+}
