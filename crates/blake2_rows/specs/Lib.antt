@@ -1,2 +1,3 @@
 pub mod Family
 pub mod Round
+pub mod Rows

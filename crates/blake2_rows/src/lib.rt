@@ -1,2 +1,6 @@
-//! Rows.
+//! The rows of BLAKE2: sixteen words as four rows of four lanes, held in vectors, and the round
+//! that mixes them. The definitions of the two families, of the mixing function G and of the
+//! round (RFC 7693, sections 2.1 and 3) stand in `specs/`; the crates above go on from there.
 #![tactic(auto)]
+
+pub mod rows;

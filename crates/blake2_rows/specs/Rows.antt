@@ -1,0 +1,76 @@
+-- Sixteen words as four rows of four lanes, row r being words 4r to 4r + 3, and what the lanes
+-- compute. Section numbers are those of RFC 7693.
+use Rattle.std.specs.Prelude.{ℕ, ◌+◌, ◌-◌, ◌*◌, ◌%◌, ◌^◌, List, [], ◌∷◌, ◌++◌, take, drop, bit_xor, slice_index, slice_index_or}
+use Rattle.std.specs.Int.{rotate_right, from_le_bytes, to_le_bytes}
+use Rattle.std.specs.List.{flat_map}
+use mir.Val.{bits}
+use Rattle.blake2_rows.specs.Family.{Family, word, word_bytes}
+use Rattle.blake2_rows.specs.Round.{mix}
+
+-- ---- one row
+
+-- a row whose lane j is f j
+abbrev pub four : (ℕ → ℕ) → List ℕ
+four f = f 0 ∷ f 1 ∷ f 2 ∷ f 3 ∷ []
+
+-- the sums of the lanes, modulo 2 ^ w
+abbrev pub lane_sums : Family → List ℕ → List ℕ → List ℕ
+lane_sums f a b = four (λ j. (slice_index a j + slice_index b j) % 2 ^ bits (word f))
+
+-- the exclusive or of the lanes
+abbrev pub lane_xors : List ℕ → List ℕ → List ℕ
+lane_xors a b = four (λ j. bit_xor (slice_index a j) (slice_index b j))
+
+-- each lane rotated to the right by n mod w bits (2.3)
+abbrev pub lane_rotations : Family → List ℕ → ℕ → List ℕ
+lane_rotations f a n = four (λ j. rotate_right (word f) (slice_index a j) n)
+
+-- the row moved to the left by k lanes: lane j of it is lane j + k of a, modulo 4
+abbrev pub shuffle_left : ℕ → List ℕ → List ℕ
+shuffle_left k a = four (λ j. slice_index a ((j + k) % 4))
+
+-- the row moved to the right by k lanes, for k up to 4: lane j of it is lane j - k of a, modulo 4
+abbrev pub shuffle_right : ℕ → List ℕ → List ℕ
+shuffle_right k a = four (λ j. slice_index a ((j + 4 - k) % 4))
+
+-- word j of the bytes xs, low byte first (2.4)
+abbrev pub word_at : Family → List ℕ → ℕ → ℕ
+word_at f xs j = from_le_bytes (word f) (take (word_bytes f) (drop (word_bytes f * j) xs))
+
+-- the bytes of the lanes, lane 0 and low byte first (2.4)
+abbrev pub lane_bytes : Family → List ℕ → List ℕ
+lane_bytes f a = flat_map (to_le_bytes (word f)) a
+
+-- ---- several rows
+
+-- lane j of row r
+abbrev pub lane : List (List ℕ) → ℕ → ℕ → ℕ
+lane v r j = slice_index (slice_index_or v r []) j
+
+-- the eight words of two rows
+abbrev pub eight : List (List ℕ) → List ℕ
+eight h = lane h 0 0 ∷ lane h 0 1 ∷ lane h 0 2 ∷ lane h 0 3 ∷ lane h 1 0 ∷ lane h 1 1 ∷ lane h 1 2 ∷ lane h 1 3 ∷ []
+
+-- the sixteen words of four rows
+abbrev pub sixteen : List (List ℕ) → List ℕ
+sixteen v =
+    lane v 0 0 ∷ lane v 0 1 ∷ lane v 0 2 ∷ lane v 0 3 ∷
+    lane v 1 0 ∷ lane v 1 1 ∷ lane v 1 2 ∷ lane v 1 3 ∷
+    lane v 2 0 ∷ lane v 2 1 ∷ lane v 2 2 ∷ lane v 2 3 ∷
+    lane v 3 0 ∷ lane v 3 1 ∷ lane v 3 2 ∷ lane v 3 3 ∷ []
+
+-- ---- the two halves of a round
+
+-- the mixings of the four columns of sixteen words, column j with words j of x and y (3.2)
+unfoldable pub columns : Family → List ℕ → List ℕ → List ℕ → List ℕ
+columns f v x y =
+    let v1 = mix f v 0 4 8 12 (slice_index x 0) (slice_index y 0) in
+    let v2 = mix f v1 1 5 9 13 (slice_index x 1) (slice_index y 1) in
+    let v3 = mix f v2 2 6 10 14 (slice_index x 2) (slice_index y 2) in
+    mix f v3 3 7 11 15 (slice_index x 3) (slice_index y 3)
+
+-- sixteen words with rows 0 to 3 moved to the left by k0, k1, k2 and k3 lanes
+abbrev pub shuffled_rows : ℕ → ℕ → ℕ → ℕ → List ℕ → List ℕ
+shuffled_rows k0 k1 k2 k3 v =
+    let row : ℕ → ℕ → List ℕ = λ r k. four (λ j. slice_index v (4 * r + (j + k) % 4)) in
+    row 0 k0 ++ row 1 k1 ++ row 2 k2 ++ row 3 k3

@@ -1,0 +1,11 @@
+//! Four lanes in a vector: [`u64x4`] for BLAKE2b and [`u32x4`] for BLAKE2s, after the items of
+//! these names in the crate `blake2`.
+//!
+//! Four rows hold the sixteen words of a compression, row r being words 4r to 4r + 3 (RFC 7693,
+//! section 3.2). `round` mixes the columns at once, moves the diagonals to the columns, mixes
+//! these, and moves them back.
+mod u32_lanes;
+mod u64_lanes;
+
+pub use u32_lanes::u32x4;
+pub use u64_lanes::u64x4;

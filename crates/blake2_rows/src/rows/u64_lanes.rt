@@ -1,0 +1,298 @@
+//! Rows of BLAKE2b: four words of 64 bits.
+ghost use Rattle.std.specs.Prelude.{◌≡◌, ℕ, ◌+◌, ◌%◌, ◌^◌, ◌<◌, List, [], ◌∷◌, length, slice_index};
+ghost use mir.Val.{bits};
+ghost use Rattle.blake2_rows.specs.Family.{blake2b, word};
+ghost use Rattle.blake2_rows.specs.Round.{round};
+ghost use Rattle.blake2_rows.specs.Rows.{four, lane_sums, lane_xors, lane_rotations, shuffle_left, shuffle_right, word_at, lane_bytes, sixteen, columns, shuffled_rows};
+
+use blake2_digest::Wipe;
+use std::marker::Model;
+use std::ops::{Add, BitXor};
+use std::simd::Simd;
+use std::simd::prelude::*;
+
+/// By how many bits G rotates a word to the right (RFC 7693, section 2.1).
+const R1: u32 = 32;
+
+const R2: u32 = 24;
+
+const R3: u32 = 16;
+
+const R4: u32 = 63;
+
+/// Four words of 64 bits, one a lane, in a vector. A contract sees the list of the four words,
+/// lane 0 first.
+#[allow(non_camel_case_types)]
+#[derive(Clone, Copy)]
+pub struct u64x4 {
+    lanes: Simd<u64, 4>,
+}
+
+impl Model for u64x4 {
+    ghost Value = { List ℕ };
+
+    ghost view = { λ row. row.lanes };
+
+    ghost inverse = { λ words. record { lanes = words } };
+}
+
+impl u64x4 {
+    /// The row of these four words.
+    #[inline(always)]
+    pub fn new(e0: u64, e1: u64, e2: u64, e3: u64) -> Self
+        ensures { result ≡ e0 ∷ e1 ∷ e2 ∷ e3 ∷ [] }
+    {
+        Self {
+            lanes: Simd::from_array([e0, e1, e2, e3]),
+        }
+    }
+
+    /// The row of the words of `src` at four places, each below the length of `src`.
+    #[inline(always)]
+    pub fn gather(src: &[u64], i0: usize, i1: usize, i2: usize, i3: usize) -> Self
+        requires i0_in { i0 < length src.now }
+        requires i1_in { i1 < length src.now }
+        requires i2_in { i2 < length src.now }
+        requires i3_in { i3 < length src.now }
+        ensures { result ≡ slice_index src.now i0 ∷ slice_index src.now i1 ∷ slice_index src.now i2 ∷ slice_index src.now i3 ∷ [] }
+    {
+        Self::new(src[i0], src[i1], src[i2], src[i3])
+    }
+
+    /// The sum, lane by lane, modulo 2^64.
+    #[inline(always)]
+    pub fn wrapping_add(self, rhs: Self) -> Self
+        ensures { result ≡ lane_sums blake2b self rhs }
+    {
+        Self {
+            lanes: self.lanes + rhs.lanes,
+        }
+    }
+
+    /// Each lane rotated to the right by `n` modulo 64 bits, for every `n`.
+    #[inline(always)]
+    pub fn rotate_right_const(self, n: u32) -> Self
+        ensures { result ≡ lane_rotations blake2b self n }
+    {
+        let right = u64::from(n % u64::BITS);
+        let left = (64 - right) % 64;
+        Self {
+            lanes: (self.lanes >> Simd::splat(right)) | (self.lanes << Simd::splat(left)),
+        }
+    }
+
+    /// The lanes moved one place to the left: lanes 1, 2, 3, 0.
+    #[inline(always)]
+    pub fn shuffle_left_1(self) -> Self
+        ensures lanes { result ≡ shuffle_left 1 self }
+        ensures back { shuffle_right 1 result ≡ self }
+    {
+        Self {
+            lanes: self.lanes.rotate_elements_left::<1>(),
+        }
+    }
+
+    /// The lanes moved two places to the left: lanes 2, 3, 0, 1.
+    #[inline(always)]
+    pub fn shuffle_left_2(self) -> Self
+        ensures lanes { result ≡ shuffle_left 2 self }
+        ensures back { shuffle_right 2 result ≡ self }
+    {
+        Self {
+            lanes: self.lanes.rotate_elements_left::<2>(),
+        }
+    }
+
+    /// The lanes moved three places to the left: lanes 3, 0, 1, 2.
+    #[inline(always)]
+    pub fn shuffle_left_3(self) -> Self
+        ensures lanes { result ≡ shuffle_left 3 self }
+        ensures back { shuffle_right 3 result ≡ self }
+    {
+        Self {
+            lanes: self.lanes.rotate_elements_left::<3>(),
+        }
+    }
+
+    /// The lanes moved one place to the right: lanes 3, 0, 1, 2.
+    #[inline(always)]
+    pub fn shuffle_right_1(self) -> Self
+        ensures { result ≡ shuffle_right 1 self }
+    {
+        Self {
+            lanes: self.lanes.rotate_elements_right::<1>(),
+        }
+    }
+
+    /// The lanes moved two places to the right: lanes 2, 3, 0, 1.
+    #[inline(always)]
+    pub fn shuffle_right_2(self) -> Self
+        ensures { result ≡ shuffle_right 2 self }
+    {
+        Self {
+            lanes: self.lanes.rotate_elements_right::<2>(),
+        }
+    }
+
+    /// The lanes moved three places to the right: lanes 1, 2, 3, 0.
+    #[inline(always)]
+    pub fn shuffle_right_3(self) -> Self
+        ensures { result ≡ shuffle_right 3 self }
+    {
+        Self {
+            lanes: self.lanes.rotate_elements_right::<3>(),
+        }
+    }
+
+    /// The row of four words read from 32 bytes, each in little-endian order (RFC 7693,
+    /// section 2.4).
+    #[inline(always)]
+    pub fn from_le_bytes(bytes: &[u8]) -> Self
+        requires { length bytes.now ≡ 32 }
+        ensures { result ≡ four (λ j. word_at blake2b bytes.now j) }
+    {
+        Self {
+            lanes: Simd::<u64, 4>::from_le_bytes(u8x32::from_slice(bytes)),
+        }
+    }
+
+    /// The 32 bytes of the lanes, lane 0 first, each in little-endian order (RFC 7693,
+    /// section 2.4).
+    #[inline(always)]
+    pub fn to_bytes(self) -> [u8; 32]
+        ensures { result ≡ lane_bytes blake2b self }
+    {
+        let words = self.lanes.to_array();
+        Simd::<u64, 4>::from_array(words).to_le_bytes().to_array()
+    }
+
+    /// The four words, lane 0 first.
+    #[inline(always)]
+    pub fn to_array(self) -> [u64; 4]
+        ensures { result ≡ four (λ j. slice_index self j) }
+    {
+        self.lanes.to_array()
+    }
+
+    // The sum of three rows, lane by lane, modulo 2^64.
+    #[inline(always)]
+    fn sum_of(a: Self, b: Self, x: Self) -> Self
+        ensures { result ≡ four (λ j. (slice_index a j + slice_index b j + slice_index x j) % 2 ^ bits (word blake2b)) }
+    {
+        Self {
+            // `b` comes last: it is the row computed last.
+            lanes: a.lanes + x.lanes + b.lanes,
+        }
+    }
+
+    // Four mixings at once: lane j of the six rows has the words of the j-th.
+    #[inline(always)]
+    fn mix(a: Self, b: Self, c: Self, d: Self, x: Self, y: Self) -> (Self, Self, Self, Self)
+        ensures { sixteen (result.0 ∷ result.1 ∷ result.2 ∷ result.3 ∷ []) ≡ columns blake2b (sixteen (a ∷ b ∷ c ∷ d ∷ [])) x y }
+    {
+        let a1 = Self::sum_of(a, b, x);
+        let d1 = (d ^ a1).rotate_right_const(R1);
+        let c1 = c + d1;
+        let b1 = (b ^ c1).rotate_right_const(R2);
+        let a2 = Self::sum_of(a1, b1, y);
+        let d2 = (d1 ^ a2).rotate_right_const(R3);
+        let c2 = c1 + d2;
+        let b2 = (b1 ^ c2).rotate_right_const(R4);
+        (a2, b2, c2, d2)
+    }
+
+    /// Half a round: the mixings of the four columns of `v` at once, column j with lane j of `x`
+    /// and of `y` (RFC 7693, section 3.2).
+    #[inline(always)]
+    pub fn half_round(v: [Self; 4], x: Self, y: Self) -> [Self; 4]
+        ensures { sixteen result ≡ columns blake2b (sixteen v) x y }
+    {
+        let [a, b, c, d] = v;
+        let (a, b, c, d) = Self::mix(a, b, c, d, x, y);
+        [a, b, c, d]
+    }
+
+    // The diagonals become columns. Row 1, which `mix` computes last, stays in place.
+    #[inline(always)]
+    fn diagonals_to_columns(v: [Self; 4]) -> [Self; 4]
+        ensures { sixteen result ≡ shuffled_rows 3 0 1 2 (sixteen v) }
+    {
+        let [a, b, c, d] = v;
+        [
+            a.shuffle_left_3(),
+            b,
+            c.shuffle_left_1(),
+            d.shuffle_left_2(),
+        ]
+    }
+
+    // The columns become diagonals again.
+    #[inline(always)]
+    fn columns_to_diagonals(v: [Self; 4]) -> [Self; 4]
+        ensures { sixteen result ≡ shuffled_rows 1 0 3 2 (sixteen v) }
+    {
+        let [a, b, c, d] = v;
+        [
+            a.shuffle_left_1(),
+            b,
+            c.shuffle_left_3(),
+            d.shuffle_left_2(),
+        ]
+    }
+
+    /// One round on the sixteen words of the rows `v`, with the block's sixteen words `m` in the
+    /// order `s`, sixteen numbers below 16 (RFC 7693, section 3.2).
+    #[inline(always)]
+    pub fn round(v: &mut [Self; 4], m: &[u64; 16], s: &[usize; 16])
+        requires { (j : ℕ) → j < 16 → slice_index s.now j < 16 }
+        ensures { sixteen v.new ≡ round blake2b (sixteen v.old) m.now s.now }
+    {
+        let columns = Self::half_round(
+            *v,
+            Self::gather(m, s[0], s[2], s[4], s[6]),
+            Self::gather(m, s[1], s[3], s[5], s[7]),
+        );
+        let diagonals = Self::half_round(
+            Self::diagonals_to_columns(columns),
+            Self::gather(m, s[14], s[8], s[10], s[12]),
+            Self::gather(m, s[15], s[9], s[11], s[13]),
+        );
+        *v = Self::columns_to_diagonals(diagonals);
+    }
+}
+
+/// The sum, lane by lane, modulo 2^64.
+impl Add for u64x4 {
+    type Output = u64x4;
+
+    ghost add_gives = { λ a b sum. sum ≡ lane_sums blake2b a b };
+
+    #[inline(always)]
+    fn add(self, rhs: u64x4) -> u64x4 {
+        self.wrapping_add(rhs)
+    }
+}
+
+/// The exclusive or, lane by lane.
+impl BitXor for u64x4 {
+    type Output = u64x4;
+
+    ghost bitxor_gives = { λ a b xor. xor ≡ lane_xors a b };
+
+    #[inline(always)]
+    fn bitxor(self, rhs: u64x4) -> u64x4 {
+        Self {
+            lanes: self.lanes ^ rhs.lanes,
+        }
+    }
+}
+
+/// Sets the four lanes to zero.
+impl Wipe for u64x4 {
+    ghost is_wiped = { λ row. row ≡ 0 ∷ 0 ∷ 0 ∷ 0 ∷ [] };
+
+    #[inline(always)]
+    fn wipe(&mut self) {
+        self.lanes = Simd::splat(0);
+    }
+}
