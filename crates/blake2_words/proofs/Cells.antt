@@ -10,6 +10,7 @@ abbrev pub cells : List ℕ → ℕ → ℕ → List ℕ
 cells l i zero = []
 cells l i (suc n) = get_or l i 0 ∷ cells l (suc i) n
 
+-- all elements from place i on
 pub cells-drop : (l : List ℕ) (i n : ℕ) → length l ≡ i + n → cells l i n ≡ drop i l
 cells-drop l i zero h = sym (drop_all i l (omega arith))
 cells-drop l i (suc n) h =
@@ -18,6 +19,7 @@ cells-drop l i (suc n) h =
     let next : i + 1 ≡ suc i = omega arith in
     rw (rest, at, next) refl
 
+-- the last step of F on lists that are written out
 pub xor_ends : (h v : List ℕ) → length h ≡ 8 → length v ≡ 16
     → xor_words (xor_words (cells h 0 8) (take 8 (cells v 0 16))) (drop 8 (cells v 0 16)) ≡ xor_words (xor_words h (take 8 v)) (drop 8 v)
 xor_ends h v lh lv = λ i. xor_words (xor_words (cells-drop h 0 8 lh i) (take 8 (cells-drop v 0 16 lv i))) (drop 8 (cells-drop v 0 16 lv i))

@@ -13,6 +13,7 @@ use Rattle.blake2_words.specs.Hash.{input_flags, Flags, inner, Parameters, input
 
 -- ---- words
 
+-- writing a word keeps a list of words
 AreWords-set : (f : Family) (v : List ℕ) (i x : ℕ) → AreWords f v → x < 2 ^ bits (word f) → AreWords f (set v i x)
 AreWords-set f v i x a lt k = elim (cases_lt i (length v)) [
   | inr past ↦ rw (set_past v i x past) (a k)
@@ -22,40 +23,49 @@ AreWords-set f v i x a lt k = elim (cases_lt i (length v)) [
   ]
 ]
 
+-- a word turned to the right is a word
 rotate_right-lt : (f : Family) (n r : ℕ) → n < 2 ^ bits (word f) → rotate_right (word f) n r < 2 ^ bits (word f)
 rotate_right-lt f n r lt = or_lt (bits (word f)) _ _ (omega (arith, shr_le n (r % bits (word f)))) (mod-lt _ (pow_pos (bits (word f))))
 
+-- G keeps the length
 length-mix : (f : Family) (v : List ℕ) (a b c d x y : ℕ) → length (mix f v a b c d x y) ≡ length v
 unfolding mix
 length-mix f v a b c d x y = simp length-set
 
+-- an addition of G keeps words
 AreWords-plus : (f : Family) (v : List ℕ) (a b x : ℕ) → AreWords f v → AreWords f (plus f v a b x)
 AreWords-plus f v a b x h = AreWords-set f v a _ h (mod-lt _ (pow_pos (bits (word f))))
 
+-- a turn of G keeps words
 AreWords-turn : (f : Family) (v : List ℕ) (d a r : ℕ) → AreWords f v → AreWords f (turn f v d a r)
 AreWords-turn f v d a r h = AreWords-set f v d _ h (rotate_right-lt f _ r (xor_lt (bits (word f)) _ _ (h d) (h a)))
 
+-- G keeps words
 AreWords-mix : (f : Family) (v : List ℕ) (a b c d x y : ℕ) → AreWords f v → AreWords f (mix f v a b c d x y)
 unfolding mix
 AreWords-mix f v a b c d x y h =
     AreWords-turn f _ b c _ (AreWords-plus f _ c d 0 (AreWords-turn f _ d a _ (AreWords-plus f _ a b y
     (AreWords-turn f _ b c _ (AreWords-plus f _ c d 0 (AreWords-turn f _ d a _ (AreWords-plus f v a b x h)))))))
 
+-- a round keeps the length
 length-round : (f : Family) (v m s : List ℕ) → length (round f v m s) ≡ length v
 unfolding round
 length-round f v m s = simp length-mix
 
+-- a round keeps words
 AreWords-round : (f : Family) (v m s : List ℕ) → AreWords f v → AreWords f (round f v m s)
 unfolding round
 AreWords-round f v m s h =
     AreWords-mix f _ 3 4 9 14 _ _ (AreWords-mix f _ 2 7 8 13 _ _ (AreWords-mix f _ 1 6 11 12 _ _ (AreWords-mix f _ 0 5 10 15 _ _
     (AreWords-mix f _ 3 7 11 15 _ _ (AreWords-mix f _ 2 6 10 14 _ _ (AreWords-mix f _ 1 5 9 13 _ _ (AreWords-mix f v 0 4 8 12 _ _ h)))))))
 
+-- the rounds keep the length
 length-after_rounds : (f : Family) (v m : List ℕ) (n : ℕ) → length (after_rounds f v m n) ≡ length v
 unfolding after_rounds
 length-after_rounds f v m zero = refl
 length-after_rounds f v m (suc n) = length-round f _ m _ ∙ length-after_rounds f v m n
 
+-- the rounds keep words
 AreWords-after_rounds : (f : Family) (v m : List ℕ) (n : ℕ) → AreWords f v → AreWords f (after_rounds f v m n)
 unfolding after_rounds
 AreWords-after_rounds f v m zero h = h
@@ -63,6 +73,7 @@ AreWords-after_rounds f v m (suc n) h = AreWords-round f _ m _ (AreWords-after_r
 
 -- ---- lists of words
 
+-- of lists of one length, the length of their exclusive or
 pub length-xor_words : (xs ys : List ℕ) → length xs ≡ length ys → length (xor_words xs ys) ≡ length xs
 unfolding xor_words
 length-xor_words [] [] h = refl
@@ -70,6 +81,7 @@ length-xor_words [] (y ∷ ys) h = refl
 length-xor_words (x ∷ xs) [] h = sym h
 length-xor_words (x ∷ xs) (y ∷ ys) h = ap suc (length-xor_words xs ys (omega arith))
 
+-- the exclusive or of words is words
 pub AreWords-xor_words : (f : Family) (xs ys : List ℕ) → AreWords f xs → AreWords f ys → AreWords f (xor_words xs ys)
 unfolding xor_words
 AreWords-xor_words f [] ys a b i = pow_pos (bits (word f))
@@ -77,31 +89,38 @@ AreWords-xor_words f (x ∷ xs) [] a b i = pow_pos (bits (word f))
 AreWords-xor_words f (x ∷ xs) (y ∷ ys) a b zero = xor_lt (bits (word f)) x y (a 0) (b 0)
 AreWords-xor_words f (x ∷ xs) (y ∷ ys) a b (suc i) = AreWords-xor_words f xs ys (λ j. a (suc j)) (λ j. b (suc j)) i
 
+-- words and then words are words
 AreWords-append : (f : Family) (xs ys : List ℕ) → AreWords f xs → AreWords f ys → AreWords f (xs ++ ys)
 AreWords-append f [] ys a b i = b i
 AreWords-append f (x ∷ xs) ys a b zero = a 0
 AreWords-append f (x ∷ xs) ys a b (suc i) = AreWords-append f xs ys (λ j. a (suc j)) b i
 
+-- what is left of words is words
 AreWords-drop : (f : Family) (n : ℕ) (xs : List ℕ) → AreWords f xs → AreWords f (drop n xs)
 AreWords-drop f n xs a i = rw (get_or-drop n xs i 0) (a (n + i))
 
+-- the first of some words are words
 AreWords-take : (f : Family) (n : ℕ) (xs : List ℕ) → AreWords f xs → AreWords f (take n xs)
 AreWords-take f zero xs a i = pow_pos (bits (word f))
 AreWords-take f (suc n) [] a i = pow_pos (bits (word f))
 AreWords-take f (suc n) (x ∷ xs) a zero = a 0
 AreWords-take f (suc n) (x ∷ xs) a (suc i) = AreWords-take f n xs (λ j. a (suc j)) i
 
+-- a word before words
 AreWords-cons : (f : Family) (x : ℕ) (xs : List ℕ) → x < 2 ^ bits (word f) → AreWords f xs → AreWords f (x ∷ xs)
 AreWords-cons f x xs lt a zero = lt
 AreWords-cons f x xs lt a (suc i) = a i
 
+-- no words are words
 AreWords-nil : (f : Family) → AreWords f []
 AreWords-nil f i = pow_pos (bits (word f))
 
+-- IV is eight words long
 pub start_words-length : (f : Family) → length (start_words f) ≡ 8
 start_words-length blake2b = refl
 start_words-length blake2s = refl
 
+-- eight words make a list of words
 AreWords-eight : (f : Family) (a b c d e g h k : ℕ) → a < 2 ^ bits (word f) → b < 2 ^ bits (word f) → c < 2 ^ bits (word f) → d < 2 ^ bits (word f)
     → e < 2 ^ bits (word f) → g < 2 ^ bits (word f) → h < 2 ^ bits (word f) → k < 2 ^ bits (word f)
     → AreWords f (a ∷ b ∷ c ∷ d ∷ e ∷ g ∷ h ∷ k ∷ [])
@@ -115,6 +134,7 @@ AreWords-eight f a b c d e g h k la lb lc ld le lg lh lk =
     let n1 = AreWords-cons f b (c ∷ d ∷ e ∷ g ∷ h ∷ k ∷ []) lb n2 in
     AreWords-cons f a (b ∷ c ∷ d ∷ e ∷ g ∷ h ∷ k ∷ []) la n1
 
+-- IV is made of words
 pub start_words-words : (f : Family) → AreWords f (start_words f)
 start_words-words blake2b =
     AreWords-eight blake2b 0x6a09e667f3bcc908 0xbb67ae8584caa73b 0x3c6ef372fe94f82b 0xa54ff53a5f1d36f1
@@ -126,6 +146,7 @@ start_words-words blake2s =
 
 -- ---- F
 
+-- F works on sixteen numbers
 length-before_rounds : (f : Family) (h : List ℕ) (t : ℕ) (flags : Flags) → length h ≡ 8 → length (before_rounds f h t flags) ≡ 16
 unfolding before_rounds
 length-before_rounds f h t flags e =
@@ -135,14 +156,17 @@ length-before_rounds f h t flags e =
     let iv : length (start_words f) ≡ 8 = start_words-length f in
     omega (arith, length-append h (xor_words (start_words f) marks), length-xor_words (start_words f) marks iv)
 
+-- the mark of the final flag is a word
 ones-lt : (f : Family) (last : Bool) → (if last then 2 ^ bits (word f) - 1 else 0) < 2 ^ bits (word f)
 ones-lt f true = omega (arith, pow_pos (bits (word f)))
 ones-lt f false = pow_pos (bits (word f))
 
+-- the high part of a counter below 2 ^ 64 is a word
 high-lt : (f : Family) (t : ℕ) → t < 2 ^ 64 → t / 2 ^ bits (word f) < 2 ^ bits (word f)
 high-lt blake2b t h = omega arith
 high-lt blake2s t h = omega arith
 
+-- F works on words
 AreWords-before_rounds : (f : Family) (h : List ℕ) (t : ℕ) (flags : Flags) → t < 2 ^ 64 → AreWords f h → AreWords f (before_rounds f h t flags)
 unfolding before_rounds
 AreWords-before_rounds f h t flags lt a =
@@ -160,6 +184,7 @@ length-compress f h b t flags e =
     let inner : length (xor_words h (take 8 v)) ≡ 8 = length-xor_words h (take 8 v) (omega arith) ∙ e in
     length-xor_words (xor_words h (take 8 v)) (drop 8 v) (omega (arith, length-drop 8 v)) ∙ inner
 
+-- F gives words
 pub AreWords-compress : (f : Family) (h b : List ℕ) (t : ℕ) (flags : Flags) → t < 2 ^ 64 → AreWords f h → AreWords f (compress f h b t flags)
 unfolding compress
 AreWords-compress f h b t flags lt a =
@@ -169,50 +194,60 @@ AreWords-compress f h b t flags lt a =
 
 -- ---- words read from bytes
 
+-- n words are read
 pub length-words_of : (f : Family) (n : ℕ) (xs : List ℕ) → length (words_of f n xs) ≡ n
 unfolding words_of
 length-words_of f zero xs = refl
 length-words_of f (suc n) xs = ap suc (length-words_of f n (drop (word_bytes f) xs))
 
+-- bytes make a word
 from_le_bytes-lt : (f : Family) (xs : List ℕ) → AreBytes xs → from_le_bytes (word f) xs < 2 ^ bits (word f)
 from_le_bytes-lt blake2b xs a = omega (arith, a 0, a 1, a 2, a 3, a 4, a 5, a 6, a 7)
 from_le_bytes-lt blake2s xs a = omega (arith, a 0, a 1, a 2, a 3)
 
+-- what is left of bytes is bytes
 pub AreBytes-drop : (n : ℕ) (xs : List ℕ) → AreBytes xs → AreBytes (drop n xs)
 AreBytes-drop n xs a i = rw (get_or-drop n xs i 0) (a (n + i))
 
+-- the first of some bytes are bytes
 pub AreBytes-take : (n : ℕ) (xs : List ℕ) → AreBytes xs → AreBytes (take n xs)
 AreBytes-take zero xs a i = omega arith
 AreBytes-take (suc n) [] a i = omega arith
 AreBytes-take (suc n) (x ∷ xs) a zero = a 0
 AreBytes-take (suc n) (x ∷ xs) a (suc i) = AreBytes-take n xs (λ j. a (suc j)) i
 
+-- bytes and then bytes are bytes
 pub AreBytes-append : (xs ys : List ℕ) → AreBytes xs → AreBytes ys → AreBytes (xs ++ ys)
 AreBytes-append [] ys a b i = b i
 AreBytes-append (x ∷ xs) ys a b zero = a 0
 AreBytes-append (x ∷ xs) ys a b (suc i) = AreBytes-append xs ys (λ j. a (suc j)) b i
 
+-- zeros are bytes
 pub AreBytes-zeros : (n : ℕ) → AreBytes (replicate n 0)
 AreBytes-zeros zero i = omega arith
 AreBytes-zeros (suc n) zero = omega arith
 AreBytes-zeros (suc n) (suc i) = AreBytes-zeros n i
 
+-- what is read from bytes is words
 pub AreWords-words_of : (f : Family) (n : ℕ) (xs : List ℕ) → AreBytes xs → AreWords f (words_of f n xs)
 unfolding words_of
 AreWords-words_of f zero xs a i = pow_pos (bits (word f))
 AreWords-words_of f (suc n) xs a zero = from_le_bytes-lt f _ (AreBytes-take (word_bytes f) xs a)
 AreWords-words_of f (suc n) xs a (suc i) = AreWords-words_of f n (drop (word_bytes f) xs) (AreBytes-drop (word_bytes f) xs a) i
 
+-- a text that fits is padded to n bytes
 pub length-padded : (n : ℕ) (xs : List ℕ) → length xs ≤ n → length (padded n xs) ≡ n
 unfolding padded
 length-padded n xs h = omega (arith, length-append xs (replicate (n - length xs) 0), length-replicate {A = ℕ} (n - length xs) 0)
 
+-- padded bytes are bytes
 pub AreBytes-padded : (n : ℕ) (xs : List ℕ) → AreBytes xs → AreBytes (padded n xs)
 unfolding padded
 AreBytes-padded n xs a = AreBytes-append xs _ a (AreBytes-zeros (n - length xs))
 
 -- ---- the parameter block and the start words
 
+-- a byte before bytes
 AreBytes-cons : (x : ℕ) (xs : List ℕ) → x < 256 → AreBytes xs → AreBytes (x ∷ xs)
 AreBytes-cons x xs lt a zero = lt
 AreBytes-cons x xs lt a (suc i) = a i
@@ -226,6 +261,7 @@ pub record AreParameters (f : Family) (p : Parameters) : Type 0 where
   pub salt_are : AreBytes p.salt
   pub persona_are : AreBytes p.persona
 
+-- the parameter block is made of bytes
 pub AreBytes-parameter_block : (f : Family) (p : Parameters) → AreParameters f p → AreBytes (parameter_block f p)
 unfolding parameter_block
 AreBytes-parameter_block f p h =
@@ -239,6 +275,7 @@ AreBytes-parameter_block f p h =
     let persona : AreBytes p.persona = h.persona_are in
     search (AreBytes-append, AreBytes-zeros, AreBytes-padded, front, two, leaf, salt, persona) depth 12
 
+-- the parameter block fills eight words
 pub length-parameter_block : (f : Family) (p : Parameters) → AreParameters f p → length (parameter_block f p) ≡ 8 * word_bytes f
 unfolding parameter_block
 length-parameter_block blake2b p h =
@@ -251,25 +288,30 @@ pub length-parameter_words : (f : Family) (p : Parameters) → length (parameter
 unfolding parameter_words
 length-parameter_words f p = length-words_of f 8 _
 
+-- the parameter words are words
 pub AreWords-parameter_words : (f : Family) (p : Parameters) → AreParameters f p → AreWords f (parameter_words f p)
 unfolding parameter_words
 AreWords-parameter_words f p h = AreWords-words_of f 8 (parameter_block f p) (AreBytes-parameter_block f p h)
 
+-- the start words are eight
 pub length-start : (f : Family) (p : Parameters) → length (start f p) ≡ 8
 unfolding start
 length-start f p = length-xor_words (start_words f) _ (start_words-length f ∙ sym (length-parameter_words f p)) ∙ start_words-length f
 
+-- the start words are words
 pub AreWords-start : (f : Family) (p : Parameters) → AreParameters f p → AreWords f (start f p)
 unfolding start
 AreWords-start f p h = AreWords-xor_words f (start_words f) (parameter_words f p) (start_words-words f) (AreWords-parameter_words f p h)
 
 -- ---- the run
 
+-- the chaining words are eight
 pub length-chain : (f : Family) (h : List ℕ) (c : ℕ) (d : List (List ℕ)) (i : ℕ) → length h ≡ 8 → length (chain f h c d i) ≡ 8
 unfolding chain
 length-chain f h c d zero e = e
 length-chain f h c d (suc i) e = length-compress f _ _ _ inner (length-chain f h c d i e)
 
+-- the chaining words are words
 pub AreWords-chain : (f : Family) (h : List ℕ) (c : ℕ) (d : List (List ℕ)) (i : ℕ) → c + i * block_bytes f < 2 ^ 64 → AreWords f h → AreWords f (chain f h c d i)
 unfolding chain
 AreWords-chain f h c d zero t a = a
@@ -277,14 +319,17 @@ AreWords-chain f h c d (suc i) t a =
     let here : suc i * block_bytes f ≡ (i + 1) * block_bytes f = omega arith in
     AreWords-compress f _ _ _ inner (omega arith) (AreWords-chain f h c d i (omega arith) a)
 
+-- and so are the last ones
 pub length-last_chain : (f : Family) (h : List ℕ) (c : ℕ) (z : List ℕ) (flags : Flags) → length h ≡ 8 → length (last_chain f h c z flags) ≡ 8
 unfolding last_chain
 length-last_chain f h c z flags e = length-compress f _ _ _ flags (length-chain f h c _ _ e)
 
+-- the bytes of a word
 length-le_bytes : (f : Family) (x : ℕ) → length (to_le_bytes (word f) x) ≡ word_bytes f
 length-le_bytes blake2b x = refl
 length-le_bytes blake2s x = refl
 
+-- the bytes of a list of words
 pub length-bytes_of : (f : Family) (ws : List ℕ) → length (bytes_of f ws) ≡ length ws * word_bytes f
 unfolding bytes_of
 length-bytes_of f [] = omega arith
@@ -307,16 +352,19 @@ length-digest f size a fits =
 
 -- ---- the digest's bytes
 
+-- the digits of a number in base 256 are bytes
 AreBytes-low : (i n x : ℕ) → AreBytes (bytes_low_first i n x)
 AreBytes-low i zero x k = omega arith
 AreBytes-low zero (suc n) x zero = omega arith
 AreBytes-low (suc i) (suc n) x zero = mod-lt (x / 256 ^ suc i) (omega arith)
 AreBytes-low i (suc n) x (suc k) = AreBytes-low (suc i) n x k
 
+-- the bytes of a word are bytes
 AreBytes-le_bytes : (f : Family) (x : ℕ) → AreBytes (to_le_bytes (word f) x)
 AreBytes-le_bytes blake2b x = AreBytes-low 0 8 x
 AreBytes-le_bytes blake2s x = AreBytes-low 0 4 x
 
+-- the bytes of words are bytes
 pub AreBytes-bytes_of : (f : Family) (ws : List ℕ) → AreBytes (bytes_of f ws)
 unfolding bytes_of
 AreBytes-bytes_of f [] = λ i. omega arith

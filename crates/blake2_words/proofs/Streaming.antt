@@ -6,6 +6,7 @@ use Rattle.blake2_rows.specs.Family.{Family, blake2b, blake2s, block_bytes}
 use Rattle.blake2_words.specs.Hash.{padded, Flags, final, bytes_of, cut, chain, compress, last_chain, block_count}
 use Rattle.blake2_words.specs.Stream.{tail, State, future, count, handed, handed_count, kept}
 
+-- n blocks are cut
 pub length-cut : (f : Family) (n : ℕ) (y : List ℕ) → length (cut f n y) ≡ n
 unfolding cut
 length-cut f zero y = refl
@@ -58,6 +59,7 @@ pub block_count-add : (f : Family) (k m : ℕ) → (k ≡ 0) ⊎ (0 < m) → blo
 block_count-add blake2b k m h = omega arith
 block_count-add blake2s k m h = omega arith
 
+-- there is a block
 pub block_count-pos : (f : Family) (m : ℕ) → 0 < block_count f m
 block_count-pos blake2b m = omega arith
 block_count-pos blake2s m = omega arith
@@ -66,10 +68,12 @@ block_count-pos blake2s m = omega arith
 abbrev ending : Family → Flags → List ℕ → ℕ → List ℕ → ℕ → List ℕ
 ending f flags h c y n = compress f (chain f h c (cut f n y) (n - 1)) (get_or (cut f n y) (n - 1) []) (c + length y) flags
 
+-- the run over y ends with its last block
 last_chain-ending : (f : Family) (flags : Flags) (h : List ℕ) (c : ℕ) (y : List ℕ) → last_chain f h c y flags ≡ ending f flags h c y (block_count f (length y))
 unfolding last_chain
 last_chain-ending f flags h c y = refl
 
+-- the same from where the first k blocks are compressed
 ending_from : (f : Family) (flags : Flags) (h : List ℕ) (c k : ℕ) (y : List ℕ) (n : ℕ) → k * block_bytes f ≤ length y → 0 < n
     → ending f flags h c y (k + n) ≡ ending f flags (chain f h c (cut f k y) k) (c + k * block_bytes f) (drop (k * block_bytes f) y) n
 ending_from f flags h c k y n fits some =
@@ -99,6 +103,7 @@ pub handed_fits : (f : Family) (y : List ℕ) → handed_count f y * block_bytes
 handed_fits blake2b y = omega arith
 handed_fits blake2s y = omega arith
 
+-- a number is 0 or more
 zero_or_pos : (n : ℕ) → (n ≡ 0) ⊎ (0 < n)
 zero_or_pos zero = inl refl
 zero_or_pos (suc n) = inr (omega arith)
@@ -108,6 +113,7 @@ handed_fits_short : (f : Family) (y : List ℕ) → 0 < handed_count f y → han
 handed_fits_short blake2b y h = omega arith
 handed_fits_short blake2s y h = omega arith
 
+-- where something is handed on, what is kept is not empty
 pub kept_some : (f : Family) (y : List ℕ) → (handed_count f y ≡ 0) ⊎ (0 < length (kept f y))
 kept_some f y = elim (zero_or_pos (handed_count f y)) [
   | inl e ↦ inl e
@@ -144,10 +150,12 @@ updated f s x = record {
   k = s.k;
 }
 
+-- an update only moves input into the state
 pub future_updated : (f : Family) (n : ℕ) (s : State) (x y : List ℕ) → future f n (updated f s x) y ≡ future f n s (x ++ y)
 unfolding future
 future_updated f n s x y = ap (take n) (tail_handed f final s.h s.c (s.p ++ x) y ∙ ap (λ (z : List ℕ). tail f s.h s.c z final) (append_assoc s.p x y))
 
+-- an update counts its bytes
 pub count_updated : (f : Family) (s : State) (x : List ℕ) → count (updated f s x) ≡ count s + length x
 count_updated f s x =
     omega (arith, length-drop (handed_count f (s.p ++ x) * block_bytes f) (s.p ++ x), handed_fits f (s.p ++ x), length-append s.p x)

@@ -1,8 +1,9 @@
 -- BLAKE2b and BLAKE2s as functions on lists of numbers. Section numbers are those of RFC 7693.
-use Rattle.std.specs.Prelude.{ℕ, zero, suc, ◌+◌, ◌-◌, ◌*◌, ◌/◌, ◌%◌, ◌^◌, ◌<◌, min, max, nat_eq, Bool, true, false, if◌then◌else◌, List, [], ◌∷◌, ◌++◌, length, map, take, drop, set, replicate, bit_xor, slice_index, slice_index_or, Option, Some, None}
+use Rattle.std.specs.Prelude.{ℕ, zero, suc, ◌+◌, ◌-◌, ◌*◌, ◌/◌, ◌%◌, ◌^◌, ◌<◌, min, nat_eq, Bool, true, false, if◌then◌else◌, List, [], ◌∷◌, ◌++◌, length, map, take, drop, replicate, bit_xor, slice_index, slice_index_or, Option, Some, None}
 use Rattle.std.specs.Int.{from_le_bytes, to_le_bytes}
 use Rattle.std.specs.List.{flat_map, range_with_len}
 use mir.Val.{bits}
+use Rattle.blake2_rows.specs.Blocks
 use Rattle.blake2_rows.specs.Family.{Family, word, word_bytes, block_bytes, rounds, salt_bytes, offset_bytes, reserved_bytes, start_words, sigma}
 use Rattle.blake2_rows.specs.Round.{round}
 
@@ -44,10 +45,11 @@ pub record Flags : Type 0 where
 abbrev pub flags : Bool → Flags
 flags last = record { last = last }
 
--- of a block that others follow, and of the last
+-- of a block that others follow
 abbrev pub inner : Flags
 inner = flags false
 
+-- of the last block
 abbrev pub final : Flags
 final = flags true
 
@@ -66,13 +68,18 @@ compress f h block t flags =
 
 -- ---- the parameter block, of one sequential use (2.5; the BLAKE2 document, 2.8)
 
--- what the parameter block names
+-- what the parameter block names: the bytes of the digest and of the key, the salt and the persona
 pub record Parameters : Type 0 where
   pub size : ℕ
   pub key_size : ℕ
   pub salt : List ℕ
   pub persona : List ℕ
 
+-- a record of them
+abbrev pub parameters_of : ℕ → ℕ → List ℕ → List ℕ → Parameters
+parameters_of size key_size salt persona = record { size = size; key_size = key_size; salt = salt; persona = persona }
+
+-- its bytes, 64 for BLAKE2b and 32 for BLAKE2s, with salt and persona padded by zeros
 unfoldable pub parameter_block : Family → Parameters → List ℕ
 parameter_block f p =
     p.size ∷ p.key_size ∷ 1 ∷ 1 ∷ []  -- digest length, key length, fanout, depth
@@ -82,6 +89,7 @@ parameter_block f p =
     ++ replicate (reserved_bytes f) 0
     ++ padded (salt_bytes f) p.salt ++ padded (salt_bytes f) p.persona
 
+-- p[0..7], its eight words
 unfoldable pub parameter_words : Family → Parameters → List ℕ
 parameter_words f p = words_of f 8 (parameter_block f p)
 
@@ -91,21 +99,23 @@ start f p = xor_words (start_words f) (parameter_words f p)
 
 -- ---- the data and its blocks
 
--- kk, and the bytes that stand before the message
+-- kk, the bytes of the key, 0 without one
 abbrev pub key_size : Option (List ℕ) → ℕ
 key_size None = 0
 key_size (Some key) = length key
 
+-- the bytes that stand before the message: the key with zeros up to a block, or none
 unfoldable pub key_block : Family → Option (List ℕ) → List ℕ
 key_block f None = []
 key_block f (Some key) = padded (block_bytes f) key
 
+-- what is cut into blocks
 abbrev pub data_bytes : Family → Option (List ℕ) → List ℕ → List ℕ
 data_bytes f key message = key_block f key ++ message
 
 -- dd, how many blocks n bytes fill: one at least
 abbrev pub block_count : Family → ℕ → ℕ
-block_count f n = max 1 ((n + (block_bytes f - 1)) / block_bytes f)
+block_count f n = Blocks.block_count (block_bytes f) n
 
 -- the first n blocks of z, each the next B bytes, with zeros where z has ended
 unfoldable pub cut : Family → ℕ → List ℕ → List (List ℕ)
@@ -136,20 +146,23 @@ pub record Input : Type 0 where
   pub key : Option (List ℕ)
   pub message : List ℕ
 
+-- the bytes that are cut into its blocks
 abbrev pub input_data : Family → Input → List ℕ
 input_data f a = data_bytes f a.key a.message
 
+-- its parameters, with that many bytes of digest
 abbrev pub input_parameters : ℕ → Input → Parameters
-input_parameters size a = record { size = size; key_size = key_size a.key; salt = a.salt; persona = a.persona }
+input_parameters size a = parameters_of size (key_size a.key) a.salt a.persona
 
 -- the flags of its last compression
 abbrev pub input_flags : Input → Flags
 input_flags a = final
 
+-- h[0..7] before its first block
 abbrev pub input_start : Family → ℕ → Input → List ℕ
 input_start f size a = start f (input_parameters size a)
 
--- BLAKE2: the first bytes of the last h (3.3)
+-- BLAKE2: the first `size` bytes of the last h (3.3)
 unfoldable pub digest : Family → ℕ → Input → List ℕ
 digest f size a = take size (bytes_of f (last_chain f (input_start f size a) 0 (input_data f a) (input_flags a)))
 
@@ -162,6 +175,7 @@ pub record Step : Type 0 where
   pub counter : ℕ
   pub flags : Flags
 
+-- what F gives of it
 abbrev pub output : Family → Step → List ℕ
 output f s = compress f s.chain s.block s.counter s.flags
 
@@ -174,5 +188,6 @@ step f h z flags i = record {
   flags = if nat_eq (i + 1) (block_count f (length z)) then flags else inner;
 }
 
+-- all steps of an input's run, in order
 unfoldable pub steps : Family → ℕ → Input → List Step
 steps f size a = map (step f (input_start f size a) (input_data f a) (input_flags a)) (range_with_len 0 (block_count f (length (input_data f a))))

@@ -1,3 +1,6 @@
+pub use Rattle.blake2_rows.specs.Family
+pub use Rattle.blake2_rows.specs.Round
 pub mod Hash
 pub mod Stream
 pub mod Witness
+pub mod Laws

@@ -1,2 +1,5 @@
-//! BLAKE2.
+//! BLAKE2b and BLAKE2s over plain words and rows of words (RFC 7693): the tables, the compression, the
+//! parameter words, and laws.
 #![tactic(auto)]
+
+pub mod consts;

@@ -1,0 +1,62 @@
+-- Texts padded with zeros: as they are written into zeros, and that zeros after them change nothing.
+use Rattle.std.proofs.Common.{◌≡◌, ℕ, ◌+◌, ◌-◌, ◌≤◌, List, ◌++◌, length, take, drop, replicate, refl, sym, ap, ◌∙◌, arith, length-append}
+use Rattle.std.proofs.lemmas.List.{take_at, drop_at, append_assoc, length-replicate, replicate-append-replicate, drop-replicate}
+use borrow.Rule.Slice.PartMut.{put_mid}
+use Rattle.blake2_rows.specs.Family.{Family, salt_bytes, start_words}
+use Rattle.blake2_words.specs.Hash.{padded, Parameters, parameter_block, parameter_words, start, words_of, bytes_of, xor_words, last_chain, Input, input_data, input_flags, input_parameters, digest}
+use Rattle.blake2_words.specs.Laws.{ZerosLeaveDigests}
+use Rattle.blake2_words.proofs.Sizes.{length-padded}
+
+-- a text written over the front of 2s zeros
+padded-zeros : (s : ℕ) (x : List ℕ) → length x ≤ s → x ++ drop (length x) (replicate (s + s) 0) ≡ padded s x ++ replicate s 0
+unfolding padded
+padded-zeros s x fits =
+    let left : s + s - length x ≡ s - length x + s = omega arith in
+    ap (λ (z : List ℕ). x ++ z) (drop-replicate (length x) (s + s) 0 ∙ ap (λ (n : ℕ). replicate n 0) left ∙ sym (replicate-append-replicate (s - length x) s 0))
+    ∙ sym (append_assoc x (replicate (s - length x) 0) (replicate s 0))
+
+-- a text written over zeros
+text-zeros : (s : ℕ) (y : List ℕ) → y ++ drop (length y) (replicate s 0) ≡ padded s y
+unfolding padded
+text-zeros s y = ap (λ (z : List ℕ). y ++ z) (drop-replicate (length y) s 0)
+
+-- a text at the front of 2s zeros, and then another one at place s
+pub texts_padded : (s : ℕ) (x y : List ℕ) → length x ≤ s → length y ≤ s
+    → put_mid s (s + length y - s) (x ++ drop (length x) (replicate (s + s) 0)) y ≡ padded s x ++ padded s y
+texts_padded s x y fits_x fits_y =
+    let k : s + length y - s ≡ length y = omega arith in
+    let zeros : List ℕ = replicate s 0 in
+    let front : length (padded s x) ≡ s = length-padded s x fits_x in
+    ap (λ (z : List ℕ). put_mid s (s + length y - s) z y) (padded-zeros s x fits_x)
+    ∙ ap (λ (n : ℕ). put_mid s n (padded s x ++ zeros) y) k
+    ∙ (λ i. take_at (padded s x) zeros s front i ++ (y ++ drop (length y) (drop_at (padded s x) zeros s front i)))
+    ∙ ap (λ (z : List ℕ). padded s x ++ z) (text-zeros s y)
+
+-- zeros after a text, within n bytes, are padding
+padded-append_zeros : (n : ℕ) (x : List ℕ) (m : ℕ) → length x + m ≤ n → padded n (x ++ replicate m 0) ≡ padded n x
+unfolding padded
+padded-append_zeros n x m fits =
+    let zeros : List ℕ = replicate m 0 in
+    let size : length (x ++ zeros) ≡ length x + m = omega (arith, length-append x zeros, length-replicate {A = ℕ} m 0) in
+    let left : m + (n - length (x ++ zeros)) ≡ n - length x = omega arith in
+    append_assoc x zeros (replicate (n - length (x ++ zeros)) 0)
+    ∙ ap (λ (z : List ℕ). x ++ z) (replicate-append-replicate m (n - length (x ++ zeros)) 0 ∙ ap (λ (k : ℕ). replicate k 0) left)
+
+-- salt and persona go into the parameter block padded
+parameter_block-texts : (f : Family) (p : Parameters) (salt persona : List ℕ) → padded (salt_bytes f) salt ≡ padded (salt_bytes f) p.salt
+    → padded (salt_bytes f) persona ≡ padded (salt_bytes f) p.persona → parameter_block f (record p { salt = salt; persona = persona }) ≡ parameter_block f p
+unfolding parameter_block
+parameter_block-texts f p salt persona salts personas = rw (salts, personas) refl
+
+-- and into the digest only so
+digest-texts : (f : Family) (size : ℕ) (a : Input) (salt persona : List ℕ) → padded (salt_bytes f) salt ≡ padded (salt_bytes f) a.salt
+    → padded (salt_bytes f) persona ≡ padded (salt_bytes f) a.persona → digest f size (record a { salt = salt; persona = persona }) ≡ digest f size a
+unfolding digest start parameter_words
+digest-texts f size a salt persona salts personas =
+    ap (λ (block : List ℕ). take size (bytes_of f (last_chain f (xor_words (start_words f) (words_of f 8 block)) 0 (input_data f a) (input_flags a))))
+    (parameter_block-texts f (input_parameters size a) salt persona salts personas)
+
+-- THE LAW: zeros after salt and persona change no digest
+pub zeros_leave_digests : (f : Family) → ZerosLeaveDigests f
+zeros_leave_digests f size a m n fits_salt fits_persona =
+    digest-texts f size a _ _ (padded-append_zeros (salt_bytes f) a.salt m fits_salt) (padded-append_zeros (salt_bytes f) a.persona n fits_persona)
