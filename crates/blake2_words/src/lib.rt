@@ -3,3 +3,5 @@
 #![tactic(auto)]
 
 pub mod consts;
+pub mod params;
+pub mod words;

@@ -1,0 +1,46 @@
+-- The words of a block, as rows are loaded from its quarters.
+use Rattle.std.proofs.Common.{◌≡◌, ℕ, ◌+◌, ◌-◌, ◌*◌, ◌<◌, ◌≤◌, List, [], ◌∷◌, ◌++◌, get_or, take, drop, sym, ap, ◌∙◌, arith}
+use Rattle.std.proofs.lemmas.List.{drop-take, take-take, drop-drop}
+use Rattle.std.specs.Int.{from_le_bytes}
+use Rattle.blake2_rows.specs.Family.{Family, blake2b, blake2s, word, word_bytes}
+use Rattle.blake2_rows.specs.Rows.{four, word_at}
+use Rattle.blake2_words.specs.Hash.{words_of}
+use Rattle.blake2_words.proofs.Cells.{cells-drop, words_of-at}
+use Rattle.blake2_words.proofs.Sizes.{length-words_of}
+
+-- a part of a part
+part-part : (a i n m : ℕ) (xs : List ℕ) → i + n ≤ m → take n (drop i (take m (drop a xs))) ≡ take n (drop (a + i) xs)
+part-part a i n m xs fits =
+    let more : m ≡ i + (m - i) = omega arith in
+    ap (λ (k : ℕ). take n (drop i (take k (drop a xs)))) more
+    ∙ ap (take n) (drop-take i (m - i) (drop a xs)) ∙ take-take n (m - i) (drop i (drop a xs)) (omega arith) ∙ ap (take n) (drop-drop i a xs)
+
+-- quarter q of the bytes of sixteen words
+abbrev quarter : Family → ℕ → List ℕ → List ℕ
+quarter f q xs = take (4 * word_bytes f) (drop (4 * word_bytes f * q) xs)
+
+-- word j of a quarter
+quarter_word : (f : Family) (q j : ℕ) (xs : List ℕ) → q < 4 → j < 4 → word_at f (quarter f q xs) j ≡ get_or (words_of f 16 xs) (4 * q + j) 0
+quarter_word f q j xs lq lj =
+    let b : ℕ = word_bytes f in
+    let fits : b * j + b ≤ 4 * b = within f in
+    let place : 4 * b * q + b * j ≡ b * (4 * q + j) = omega arith in
+    ap (from_le_bytes (word f)) (part-part (4 * b * q) (b * j) b (4 * b) xs fits ∙ ap (λ (k : ℕ). take b (drop k xs)) place)
+    ∙ sym (words_of-at f 16 (4 * q + j) xs (omega arith))
+  where
+    within : (f : Family) → word_bytes f * j + word_bytes f ≤ 4 * word_bytes f
+    within blake2b = omega arith
+    within blake2s = omega arith
+
+-- the words of a quarter
+quarter_words : (f : Family) (q : ℕ) (xs : List ℕ) → q < 4 → four (word_at f (quarter f q xs)) ≡ four (λ j. get_or (words_of f 16 xs) (4 * q + j) 0)
+quarter_words f q xs lt = λ i.
+    quarter_word f q 0 xs lt (omega arith) i ∷ quarter_word f q 1 xs lt (omega arith) i ∷
+    quarter_word f q 2 xs lt (omega arith) i ∷ quarter_word f q 3 xs lt (omega arith) i ∷ []
+
+-- the words of four quarters are those of the whole
+pub quarters_read : (f : Family) (xs : List ℕ)
+    → four (word_at f (quarter f 0 xs)) ++ four (word_at f (quarter f 1 xs)) ++ four (word_at f (quarter f 2 xs)) ++ four (word_at f (quarter f 3 xs)) ≡ words_of f 16 xs
+quarters_read f xs =
+    (λ i. quarter_words f 0 xs (omega arith) i ++ quarter_words f 1 xs (omega arith) i ++ quarter_words f 2 xs (omega arith) i ++ quarter_words f 3 xs (omega arith) i)
+    ∙ cells-drop (words_of f 16 xs) 0 16 (length-words_of f 16 xs)

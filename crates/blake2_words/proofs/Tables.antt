@@ -1,0 +1,16 @@
+-- The code's tables are those of the definitions.
+use Rattle.std.proofs.Common.{◌≡◌, refl}
+use Rattle.blake2_rows.specs.Family.{blake2b, blake2s, start_words, sigma}
+use Rattle.blake2_words.specs.declared.consts.TheConstants.{BLAKE2B_IV, BLAKE2S_IV, SIGMA}
+
+-- IV of BLAKE2b
+pub iv_b : BLAKE2B_IV ≡ start_words blake2b
+iv_b = refl
+
+-- IV of BLAKE2s
+pub iv_s : BLAKE2S_IV ≡ start_words blake2s
+iv_s = refl
+
+-- SIGMA
+pub sigma_rows : SIGMA ≡ sigma
+sigma_rows = refl

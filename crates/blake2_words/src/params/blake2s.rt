@@ -1,0 +1,77 @@
+//! BLAKE2s: a parameter block of 32 bytes, eight words of 32 bits.
+
+ghost use Rattle.std.specs.Prelude.{◌≡◌, ◌≤◌, ◌++◌, length};
+ghost use Rattle.blake2_rows.specs.Family.{blake2s};
+ghost use Rattle.blake2_rows.specs.Rows.{eight};
+ghost use Rattle.blake2_words.specs.Hash;
+ghost use Rattle.blake2_words.specs.Hash.{padded, parameters_of, start};
+
+use crate::consts::BLAKE2S_IV;
+use crate::words::blake2s::{to_rows, to_words, xor_rows};
+use blake2_rows::rows::u32x4;
+
+// Salt and persona, each with zeros up to 8 bytes: the second half of the parameter block.
+fn texts(salt: &[u8], persona: &[u8]) -> [u8; 16]
+    requires salt { length salt.now ≤ 8 }
+    requires persona { length persona.now ≤ 8 }
+    ensures { result ≡ padded 8 salt.now ++ padded 8 persona.now }
+{
+    let mut texts = [0; 16];
+    texts[..salt.len()].copy_from_slice(salt);
+    texts[8..8 + persona.len()].copy_from_slice(persona);
+    texts
+}
+
+// The parameter words as two rows.
+fn parameter_rows(salt: &[u8], persona: &[u8], key_size: usize, output_size: usize) -> [u32x4; 2]
+    requires salt { length salt.now ≤ 8 }
+    requires persona { length persona.now ≤ 8 }
+    requires key_size { key_size ≤ 32 }
+    requires output_size { output_size ≤ 32 }
+    ensures { eight result ≡ Hash.parameter_words blake2s (parameters_of output_size key_size salt.now persona.now) }
+{
+    let first = 0x0101_0000 + 256 * key_size as u32 + output_size as u32;
+    [
+        u32x4::new(first, 0, 0, 0),
+        u32x4::from_le_bytes(&texts(salt, persona)),
+    ]
+}
+
+/// The eight parameter words of one sequential use (RFC 7693, 2.5; the BLAKE2 document, 2.8): salt and
+/// persona of at most 8 bytes each, padded with zeros, a key of `key_size` bytes, 0 without one, and
+/// a digest of `output_size` bytes, both at most 32.
+pub fn parameter_words(salt: &[u8], persona: &[u8], key_size: usize, output_size: usize) -> [u32; 8]
+    requires salt { length salt.now ≤ 8 }
+    requires persona { length persona.now ≤ 8 }
+    requires key_size { key_size ≤ 32 }
+    requires output_size { output_size ≤ 32 }
+    ensures { result ≡ Hash.parameter_words blake2s (parameters_of output_size key_size salt.now persona.now) }
+{
+    to_words(&parameter_rows(salt, persona, key_size, output_size))
+}
+
+/// The chaining words before the first block (RFC 7693, 3.3), as two rows: IV xored with the
+/// parameter words of these arguments.
+pub fn start_rows(salt: &[u8], persona: &[u8], key_size: usize, output_size: usize) -> [u32x4; 2]
+    requires salt { length salt.now ≤ 8 }
+    requires persona { length persona.now ≤ 8 }
+    requires key_size { key_size ≤ 32 }
+    requires output_size { output_size ≤ 32 }
+    ensures { eight result ≡ start blake2s (parameters_of output_size key_size salt.now persona.now) }
+{
+    xor_rows(
+        to_rows(&BLAKE2S_IV),
+        parameter_rows(salt, persona, key_size, output_size),
+    )
+}
+
+/// The same chaining words, as words.
+pub fn start_words(salt: &[u8], persona: &[u8], key_size: usize, output_size: usize) -> [u32; 8]
+    requires salt { length salt.now ≤ 8 }
+    requires persona { length persona.now ≤ 8 }
+    requires key_size { key_size ≤ 32 }
+    requires output_size { output_size ≤ 32 }
+    ensures { result ≡ start blake2s (parameters_of output_size key_size salt.now persona.now) }
+{
+    to_words(&start_rows(salt, persona, key_size, output_size))
+}

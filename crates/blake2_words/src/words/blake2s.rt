@@ -1,0 +1,112 @@
+//! BLAKE2s: words of 32 bits, blocks of 64 bytes, ten rounds.
+
+ghost use Rattle.std.specs.Prelude.{◌≡◌, take, drop};
+ghost use Rattle.blake2_rows.specs.Family.{blake2s};
+ghost use Rattle.blake2_rows.specs.Rows.{eight, sixteen};
+ghost use Rattle.blake2_words.specs.Hash;
+ghost use Rattle.blake2_words.specs.Hash.{before_rounds, bytes_of, flags, words_of, xor_words};
+
+use crate::consts::{BLAKE2S_IV, SIGMA};
+use blake2_rows::rows::u32x4;
+
+// The sixteen words of a block.
+#[inline(always)]
+fn block_words(block: &[u8; 64]) -> [u32; 16]
+    ensures { result ≡ words_of blake2s 16 block.now }
+{
+    let [m0, m1, m2, m3] = u32x4::from_le_bytes(&block[..16]).to_array();
+    let [m4, m5, m6, m7] = u32x4::from_le_bytes(&block[16..32]).to_array();
+    let [m8, m9, m10, m11] = u32x4::from_le_bytes(&block[32..48]).to_array();
+    let [m12, m13, m14, m15] = u32x4::from_le_bytes(&block[48..64]).to_array();
+    [
+        m0, m1, m2, m3, m4, m5, m6, m7, m8, m9, m10, m11, m12, m13, m14, m15,
+    ]
+}
+
+// The rows before the first round: the chaining words, and IV with the counter xored into its fifth
+// and sixth word, the low 32 bits and the high ones, and all ones into its seventh in the last block.
+#[tactic(auto, unfolding(crate::specs::Hash::before_rounds, crate::specs::Hash::xor_words))]
+#[inline(always)]
+fn begin(h: [u32x4; 2], counter: u64, last: bool) -> [u32x4; 4]
+    ensures { sixteen result ≡ before_rounds blake2s (eight h) counter (flags last) }
+{
+    let [low, high] = to_rows(&BLAKE2S_IV);
+    let ones = if last { u32::MAX } else { 0 };
+    let low_count = (counter % (1 << 32)) as u32;
+    let high_count = (counter >> 32) as u32;
+    let marks = u32x4::new(low_count, high_count, ones, 0);
+    [h[0], h[1], low, high ^ marks]
+}
+
+// The chaining words with both halves of the rows xored into them.
+#[tactic(auto, unfolding(crate::specs::Hash::xor_words))]
+#[inline(always)]
+fn finish(h: [u32x4; 2], v: [u32x4; 4]) -> [u32x4; 2]
+    ensures { eight result ≡ xor_words (xor_words (eight h) (take 8 (sixteen v))) (drop 8 (sixteen v)) }
+{
+    [h[0] ^ v[0] ^ v[2], h[1] ^ v[1] ^ v[3]]
+}
+
+/// F, the compression (RFC 7693, 3.2). `h` holds the eight chaining words, `block` the next 64 bytes
+/// of the data, `counter` the number of bytes counted up to and with this block, padding aside; `last`
+/// is the final flag.
+#[inline]
+pub fn compress(h: &mut [u32x4; 2], block: &[u8; 64], counter: u64, last: bool)
+    ensures { eight h.new ≡ Hash.compress blake2s (eight h.old) block.now counter (flags last) }
+{
+    let m = block_words(block);
+    let mut v = begin(*h, counter, last);
+    for i in 0..10 {
+        u32x4::round(&mut v, &m, &SIGMA[i % 10]);
+    }
+    *h = finish(*h, v);
+}
+
+/// The same where the eight chaining words are an array.
+pub fn compress_words(h: &mut [u32; 8], block: &[u8; 64], counter: u64, last: bool)
+    ensures { h.new ≡ Hash.compress blake2s h.old block.now counter (flags last) }
+{
+    let mut rows = to_rows(h);
+    compress(&mut rows, block, counter, last);
+    *h = to_words(&rows);
+}
+
+/// Eight words as two rows of four.
+#[inline(always)]
+pub fn to_rows(words: &[u32; 8]) -> [u32x4; 2]
+    ensures { eight result ≡ words.now }
+{
+    [
+        u32x4::new(words[0], words[1], words[2], words[3]),
+        u32x4::new(words[4], words[5], words[6], words[7]),
+    ]
+}
+
+/// The eight words of two rows.
+pub fn to_words(rows: &[u32x4; 2]) -> [u32; 8]
+    ensures { result ≡ eight rows.now }
+{
+    let [h0, h1, h2, h3] = rows[0].to_array();
+    let [h4, h5, h6, h7] = rows[1].to_array();
+    [h0, h1, h2, h3, h4, h5, h6, h7]
+}
+
+/// The 32 bytes of the eight words of two rows, each word's low byte first (RFC 7693, 2.4). Those of the
+/// last chaining words begin with the digest (3.3).
+pub fn to_bytes(rows: &[u32x4; 2]) -> [u8; 32]
+    ensures { result ≡ bytes_of blake2s (eight rows.now) }
+{
+    let mut bytes = [0; 32];
+    bytes[..16].copy_from_slice(&rows[0].to_bytes());
+    bytes[16..].copy_from_slice(&rows[1].to_bytes());
+    bytes
+}
+
+/// Each of eight words xored with that of `b`.
+#[tactic(auto, unfolding(crate::specs::Hash::xor_words))]
+#[inline(always)]
+pub fn xor_rows(a: [u32x4; 2], b: [u32x4; 2]) -> [u32x4; 2]
+    ensures { eight result ≡ xor_words (eight a) (eight b) }
+{
+    [a[0] ^ b[0], a[1] ^ b[1]]
+}
