@@ -1,3 +1,3 @@
-pub mod CoreLaws
+pub mod CoreSteps
 pub mod StateLaws
 pub mod Streaming

@@ -1,15 +1,15 @@
 -- The promises of constructors, updates, resets and finalising calls, from the states that they leave.
-use Rattle.std.proofs.Common.{◌≡◌, ℕ, ◌+◌, ◌-◌, ◌*◌, ◌<◌, ◌≤◌, List, [], ◌++◌, length, take, Option, Some, None, refl, sym, ap, ◌∙◌, arith, zero-add, append-nil, append_assoc, length-append, length-drop}
+use Rattle.std.proofs.Common.{◌≡◌, ℕ, ◌+◌, ◌-◌, ◌*◌, ◌^◌, ◌<◌, ◌≤◌, List, [], ◌++◌, length, take, Option, Some, None, refl, sym, ap, ◌∙◌, arith, zero-add, append-nil, append_assoc, length-append}
 use Rattle.std.proofs.lemmas.List.{take_all}
 use Rattle.blake2_rows.specs.Family.{Family, blake2b, blake2s, block_bytes, key_bytes}
-use Rattle.blake2_words.specs.Hash.{parameters_of, final, padded, bytes_of, cut, chain, last_chain, block_count, key_size, key_block, digest}
+use Rattle.blake2_words.specs.Hash.{Parameters, parameters_of, final, cut, chain, last_chain, block_count, key_size, key_block, digest}
 use Rattle.blake2_words.proofs.Sizes.{length-padded}
 use Rattle.blake2_digest.specs.Blocks.{handed_on, held_back}
-use Rattle.blake2_digest.specs.States.{Meaning, Updated, StartedAgain, Fresh}
+use Rattle.blake2_digest.specs.States.{Updated, Fresh}
 use Rattle.blake2_digest.proofs.Cutting.{handed_and_held, length-handed_on, length-held_back}
-use Rattle.blake2.specs.Cores.{CoreState, absorbed, last_output}
-use Rattle.blake2.specs.States.{tail, State, future, started, count, start_count, meaning_by, fresh, restarted, IsRestarted, digest_of}
-use Rattle.blake2.proofs.CoreLaws.{count-absorbed}
+use Rattle.blake2.specs.Cores.{CoreState, core_made, absorbed, last_output}
+use Rattle.blake2.specs.States.{tail, State, future, started, count, start_count, meaning_by, fresh, digest_of}
+use Rattle.blake2.specs.CoreLaws.{count-absorbed, start-absorbed}
 use Rattle.blake2.proofs.Streaming.{tail_handed}
 
 -- the core of a state
@@ -71,7 +71,27 @@ IsLazy-updated blake2b s x h =
 IsLazy-updated blake2s s x h =
     omega (arith, count-absorbed blake2s (core_of s) (handed_on 64 (s.p ++ x)), handed_and_held 64 (s.p ++ x) (omega arith), length-append s.p x, length-held_back 64 (s.p ++ x) (omega arith), length-handed_on 64 (s.p ++ x))
 
+-- what the core and the buffer hold after an update is the updated state
+pub state-updated : (f : Family) (s : State) (x : List ℕ) (core : CoreState) (p : List ℕ) → core ≡ absorbed f (core_of s) (handed_on (block_bytes f) (s.p ++ x))
+    → p ≡ held_back (block_bytes f) (s.p ++ x) → record { h = core.h; c = core.count; p = p; h0 = core.start; k = s.k } ≡ updated f s x
+state-updated f s x core p taken pending =
+    let started_from = ap (λ (c : CoreState). c.start) taken ∙ start-absorbed f (core_of s) (handed_on (block_bytes f) (s.p ++ x)) in
+    λ i. record { h = (taken i).h; c = (taken i).count; p = pending i; h0 = started_from i; k = s.k }
+
+-- what holds of every hasher and MAC holds after an update
+pub kept-updated : (f : Family) (s new : State) (x : List ℕ) → new ≡ updated f s x → IsLazy f s → count s + length x < 2 ^ 64
+    → (length new.p ≤ block_bytes f) × (count new < 2 ^ 64) × IsLazy f new
+kept-updated f s new x e one_left fits =
+    rw e (within-updated f s x, omega (arith, count-updated f s x), IsLazy-updated f s x one_left)
+
 -- ---- constructors
+
+-- what the core and the buffers hold as they are made is a fresh state
+pub state-fresh : (f : Family) (parameters : Parameters) (key : Option (List ℕ)) (core : CoreState) (p k : List ℕ) → core ≡ core_made f parameters
+    → p ≡ key_block f key → k ≡ key_block f key
+    → record { h = core.h; c = core.count; p = p; h0 = core.start; k = k } ≡ fresh f parameters key
+state-fresh f parameters key core p k made pending start_pending =
+    λ i. record { h = (made i).h; c = (made i).count; p = pending i; h0 = (made i).start; k = start_pending i }
 
 future-fresh : (f : Family) (n : ℕ) (salt persona : List ℕ) (key : Option (List ℕ)) (y : List ℕ)
     → future f n (fresh f (parameters_of n (key_size key) salt persona) key) y ≡ digest_of f n salt persona key y
@@ -84,14 +104,14 @@ unfolding started digest
 started-fresh f n salt persona key y = refl
 
 -- a constructor keeps its promise: the digests are BLAKE2
-pub Fresh_by : {S : Type 0} (f : Family) (n : ℕ) (state_of : S → State) (salt persona : List ℕ) (key : Option (List ℕ)) (new : S)
-    → state_of new ≡ fresh f (parameters_of n (key_size key) salt persona) key
-    → Fresh (meaning_by f n state_of) (digest_of f n salt persona key) (length (key_block f key)) new
-Fresh_by f n state_of salt persona key new e = record {
+pub Fresh_by : {S : Type 0} (f : Family) (n : ℕ) (state_of : S → State) (salt persona : List ℕ) (key : Option (List ℕ)) (counted : ℕ) (new : S)
+    → length (key_block f key) ≡ counted → state_of new ≡ fresh f (parameters_of n (key_size key) salt persona) key
+    → Fresh (meaning_by f n state_of) (digest_of f n salt persona key) counted new
+Fresh_by f n state_of salt persona key counted new counts e = record {
   future = λ y. ap (λ s. future f n s y) e ∙ future-fresh f n salt persona key y;
   started = λ y. ap (λ s. started f n s y) e ∙ started-fresh f n salt persona key y;
-  count = ap count e ∙ zero-add (length (key_block f key));
-  start_count = ap start_count e;
+  count = ap count e ∙ zero-add (length (key_block f key)) ∙ counts;
+  start_count = ap start_count e ∙ counts;
 }
 
 -- no key counts for nothing, and a key for a block
@@ -107,25 +127,7 @@ pub length-key_block_some : (f : Family) (key : List ℕ) → length key ≤ key
 unfolding key_block
 length-key_block_some f key fits = length-padded (block_bytes f) key (omega (arith, key_fits_block f))
 
--- ---- resets and finalising calls
-
-future-restarted : (f : Family) (n : ℕ) (s : State) (y : List ℕ) → future f n (restarted s) y ≡ started f n s y
-unfolding future started
-future-restarted f n s y = refl
-
-started-restarted : (f : Family) (n : ℕ) (s : State) (y : List ℕ) → started f n (restarted s) y ≡ started f n s y
-unfolding started
-started-restarted f n s y = refl
-
--- a reset keeps its promise
-pub StartedAgain_by : {S : Type 0} (f : Family) (n : ℕ) (state_of : S → State) (old new : S)
-    → IsRestarted state_of old new → StartedAgain (meaning_by f n state_of) old new
-StartedAgain_by f n state_of old new e = record {
-  future = λ y. ap (λ s. future f n s y) e ∙ future-restarted f n (state_of old) y;
-  started = λ y. ap (λ s. started f n s y) e ∙ started-restarted f n (state_of old) y;
-  count = ap count e ∙ zero-add (length (state_of old).k);
-  start_count = ap start_count e;
-}
+-- ---- finalising calls
 
 one_block : (f : Family) (n : ℕ) → n ≤ block_bytes f → block_count f n ≡ 1
 one_block blake2b n fits = omega arith

@@ -1,13 +1,13 @@
 -- What an update moves from the pending bytes to the chaining words changes no digest.
-use Rattle.std.proofs.Common.{◌≡◌, ℕ, zero, suc, ◌+◌, ◌-◌, ◌*◌, ◌<◌, ◌≤◌, ◌⊎◌, inl, inr, List, [], ◌++◌, length, take, drop, refl, sym, ap, ◌∙◌, arith, append-nil, length-append, length-drop}
+use Rattle.std.proofs.Common.{◌≡◌, ℕ, zero, suc, ◌+◌, ◌-◌, ◌*◌, ◌<◌, ◌≤◌, ◌⊎◌, inl, inr, List, ◌++◌, length, take, drop, refl, sym, ap, arith, append-nil, length-append, length-drop}
 use Rattle.std.proofs.lemmas.List.{length-take-le, drop-append-le}
 use Rattle.std.specs.Simd.{first_chunks}
 use Rattle.blake2_rows.specs.Family.{Family, blake2b, blake2s, block_bytes}
-use Rattle.blake2_words.specs.Hash.{Flags, padded, bytes_of, cut, chain, last_chain, block_count, compress}
-use Rattle.blake2_words.proofs.Streaming.{cut-prefix, chain-append, last_chain_from}
+use Rattle.blake2_words.specs.Hash.{Flags, padded, bytes_of, cut, chain, block_count}
+use Rattle.blake2_words.proofs.Streaming.{cut-prefix, last_chain_from}
 use Rattle.blake2_digest.specs.Blocks.{handed_on, held_back}
 use Rattle.blake2_digest.proofs.Cutting.{length-handed_on}
-use Rattle.blake2.specs.Cores.{CoreState, absorbed, completed}
+use Rattle.blake2.specs.Cores.{CoreState, absorbed}
 use Rattle.blake2.specs.States.{tail}
 
 -- how many blocks of y are handed on

@@ -1,7 +1,7 @@
 -- What the state of a hasher or MAC means: the digests that it will give.
-use Rattle.std.specs.Prelude.{◌≡◌, ℕ, ◌+◌, List, [], ◌++◌, length, take, Option, Some, None}
+use Rattle.std.specs.Prelude.{◌≡◌, ℕ, ◌+◌, List, ◌++◌, length, take, Option}
 use Rattle.blake2_rows.specs.Family.{Family}
-use Rattle.blake2_words.specs.Hash.{Flags, final, bytes_of, last_chain, Parameters, start, key_block, key_size, Input, input_parameters, digest}
+use Rattle.blake2_words.specs.Hash.{Flags, final, bytes_of, last_chain, Parameters, start, key_block, Input, digest}
 use Rattle.blake2_digest.specs.States.{Meaning}
 
 -- chaining words h, counter c, pending bytes p, start words h0, and the start block k: the padded key

@@ -3,7 +3,7 @@ ghost use Rattle.std.specs.Prelude.{◌≡◌, ⊤, ℕ, ◌+◌, ◌^◌, ◌<�
 ghost use Rattle.blake2_rows.specs.Family.{blake2s};
 ghost use Rattle.blake2_words.specs.Hash.{parameters_of};
 ghost use Rattle.blake2.specs.Cores.{CoreState, absorbed, completed, last_output, core_made, core_restarted, core_wiped};
-ghost use Rattle.blake2.proofs.CoreLaws.{absorbed-append, absorbed-nil, count-absorbed};
+ghost use Rattle.blake2.specs.CoreLaws.{absorbed-append, absorbed-nil, count-absorbed};
 
 use blake2_digest::{
     AlgorithmName, BlockSizeUser, BufferKindUser, Duplicate, HashMarker, InvalidOutputSize, Lazy,
@@ -40,12 +40,7 @@ impl Blake2sVarCore {
     /// A core under these parameters: a salt and a persona of up to 8 bytes each, the length in
     /// bytes of a key of up to 32, and that of outputs of up to 32. The key's block is the caller's
     /// to give.
-    pub fn new_with_params(
-        salt: &[u8],
-        persona: &[u8],
-        key_size: usize,
-        output_size: usize,
-    ) -> Self
+    pub fn new_with_params(salt: &[u8], persona: &[u8], key_size: usize, output_size: usize) -> Self
         requires salt { length salt.now ≤ 8 }
         requires persona { length persona.now ≤ 8 }
         requires key_size { key_size ≤ 32 }
@@ -178,8 +173,9 @@ impl Wipe for Blake2sVarCore {
 
     fn wipe(&mut self) {
         let zeros = u32x4::new(0, 0, 0, 0);
-        self.h = [zeros, zeros];
-        self.start = [zeros, zeros];
+        let wiped = [zeros, zeros];
+        self.h = wiped;
+        self.start = wiped;
         self.counter = 0;
     }
 }

@@ -102,7 +102,7 @@ impl<const N: usize> Reset for Blake2s<N> {
 
 impl<const N: usize> FixedOutputReset<N> for Blake2s<N> {
     ghost use Rattle.blake2.specs.Views.{blake2s_state};
-    ghost use Rattle.blake2.proofs.StateLaws.{StartedAgain_by};
+    ghost use Rattle.blake2.specs.Restarts.{StartedAgain_by};
 
     fn finalize_into_reset(&mut self, out: &mut [u8; N]) {
         self.finish(out);

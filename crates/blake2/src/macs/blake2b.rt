@@ -70,8 +70,7 @@ impl<const N: usize> Blake2bMac<N> {
         requires persona { length persona.now ≤ 16 }
         ensures { Fresh (blake2b_mac_meaning N) (blake2_of blake2b N salt.now persona.now (Some key.now)) 128 result }
     {
-        let mut block = [0; 128];
-        block[..key.len()].copy_from_slice(key);
+        let block = LazyBuffer::<128>::new(key).pad_with_zeros();
         Blake2bMac {
             core: Blake2bVarCore::new_with_params(salt, persona, key.len(), N),
             buffer: LazyBuffer::new(&block),
@@ -173,7 +172,7 @@ impl<const N: usize> Reset for Blake2bMac<N> {
 
 impl<const N: usize> FixedOutputReset<N> for Blake2bMac<N> {
     ghost use Rattle.blake2.specs.Views.{blake2b_mac_state};
-    ghost use Rattle.blake2.proofs.StateLaws.{StartedAgain_by};
+    ghost use Rattle.blake2.specs.Restarts.{StartedAgain_by};
 
     fn finalize_into_reset(&mut self, out: &mut [u8; N]) {
         self.finish(out);

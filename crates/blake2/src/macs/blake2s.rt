@@ -70,8 +70,7 @@ impl<const N: usize> Blake2sMac<N> {
         requires persona { length persona.now ≤ 8 }
         ensures { Fresh (blake2s_mac_meaning N) (blake2_of blake2s N salt.now persona.now (Some key.now)) 64 result }
     {
-        let mut block = [0; 64];
-        block[..key.len()].copy_from_slice(key);
+        let block = LazyBuffer::<64>::new(key).pad_with_zeros();
         Blake2sMac {
             core: Blake2sVarCore::new_with_params(salt, persona, key.len(), N),
             buffer: LazyBuffer::new(&block),
@@ -173,7 +172,7 @@ impl<const N: usize> Reset for Blake2sMac<N> {
 
 impl<const N: usize> FixedOutputReset<N> for Blake2sMac<N> {
     ghost use Rattle.blake2.specs.Views.{blake2s_mac_state};
-    ghost use Rattle.blake2.proofs.StateLaws.{StartedAgain_by};
+    ghost use Rattle.blake2.specs.Restarts.{StartedAgain_by};
 
     fn finalize_into_reset(&mut self, out: &mut [u8; N]) {
         self.finish(out);

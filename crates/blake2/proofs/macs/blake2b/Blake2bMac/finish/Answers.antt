@@ -1,0 +1,11 @@
+use Rattle.std.proofs.Common.{take, ap, ◌∙◌}
+use Rattle.blake2_rows.specs.Family.{blake2b}
+use Rattle.blake2.specs.Views.{blake2b_mac_state}
+use Rattle.blake2.proofs.StateLaws.{future-nothing}
+use Rattle.blake2.proofs.macs.blake2b.Blake2bMac.finish.Goals as goal
+
+pub returns-clause-output : goal.returns-clause-output
+returns-clause-output g c =
+    let old = c.args.self.now in
+    c.copy_from_slice.ensures.after ∙ ap (take g.row.N) c.finalize_variable_core.ensures.output
+    ∙ future-nothing blake2b g.row.N (blake2b_mac_state old) old.within_a_block

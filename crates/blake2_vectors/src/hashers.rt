@@ -1,0 +1,114 @@
+//! Digests of the hashers.
+ghost use Rattle.std.specs.Prelude.{◌≡◌, ◌+◌, ◌^◌, ◌<◌, ◌≤◌, length};
+
+use blake2::{Blake2b, Blake2b512, Blake2s, Blake2s256, Digest};
+use std::alloc::{AllocError, Global};
+use std::test::Fail;
+
+// The digest of a message that comes in two pieces, cut after `at` bytes, in hexadecimal.
+fn digest_of_two<H: Digest<N> + Drop, const N: usize>(
+    alloc: Global,
+    message: &[u8],
+    at: usize,
+) -> Result<String, AllocError>
+    requires supported { H.is_supported }
+    requires within { at ≤ length message.now }
+{
+    let mut hasher = H::new();
+    hasher.update(&message[..at]);
+    hasher.update(&message[at..]);
+    let digest = hasher.finalize();
+    hex::encode(alloc, &digest[..])
+}
+
+// Whether each digest of the message, whole and cut after each byte, is the one wanted.
+fn digests_are<H: Digest<N> + Drop, const N: usize>(
+    alloc: Global,
+    message: &[u8],
+    wanted: &str,
+) -> Result<bool, AllocError>
+    requires { H.is_supported }
+{
+    for at in 0..message.len() {
+        if digest_of_two::<H, N>(alloc, message, at)?.as_str() != wanted {
+            return Ok(false);
+        }
+    }
+    let whole = hex::encode(alloc, &H::digest(message)[..])?;
+    Ok(whole.as_str() == wanted)
+}
+
+#[test]
+fn hash_whole_and_cut_after_each_byte(rt: HostRuntime) -> Result<(), Fail> {
+    let alloc = rt.alloc();
+    for (message, wanted) in [
+        (
+            "",
+            "786a02f742015903c6c6fd852552d272912f4740e15847618a86e217f71f5419\
+             d25e1031afee585313896444934eb04b903a685b1448b755d56f701afe9be2ce",
+        ),
+        (
+            "abc",
+            "ba80a53f981c4d0d6a2797b69f12f6e94c212f14685ac4b74b12bb6fdbffa2d1\
+             7d87c5392aab792dc252d5de4533cc9518d38aa8dbf1925ab92386edd4009923",
+        ),
+        (
+            "hello world",
+            "021ced8799296ceca557832ab941a50b4a11f83478cf141f51f933f653ab9fbc\
+             c05a037cddbed06e309bf334942c4e58cdf1a46e237911ccd7fcf9787cbc7fd0",
+        ),
+    ] {
+        let agrees = digests_are::<Blake2b512, 64>(alloc, message.as_bytes(), wanted)?;
+        assert!(rt; agrees, "BLAKE2b-512 of {message:?}");
+    }
+    for (message, wanted) in [
+        (
+            "",
+            "69217a3079908094e11121d042354a7c1f55b6482ca1a51e1b250dfd1ed0eef9",
+        ),
+        (
+            "abc",
+            "508c5e8c327c14e2e1a72ba34eeb452f37458b209ed63a294d999b4c86675982",
+        ),
+        (
+            "hello world",
+            "9aec6806794561107e594b1f6a8a6b0c92a0cba9acf5e5e93cca06f781813b0b",
+        ),
+    ] {
+        let agrees = digests_are::<Blake2s256, 32>(alloc, message.as_bytes(), wanted)?;
+        assert!(rt; agrees, "BLAKE2s-256 of {message:?}");
+    }
+    Ok(())
+}
+
+#[test]
+fn hash_over_block_boundaries(rt: HostRuntime) -> Result<(), Fail> {
+    let alloc = rt.alloc();
+    let message = [42u8; 300];
+    let agrees = digests_are::<Blake2b512, 64>(
+        alloc,
+        &message,
+        "77ecafa11c24fe1fe99b68cee2ea44cfcb48de579aec5e6e6ea6704409b0756b\
+         1be69c7358b8d2fa601f64ffe43e9fed90f6f0b0ccb357fbea4e5660b9f735a0",
+    )?;
+    assert!(rt; agrees);
+    let agrees = digests_are::<Blake2s256, 32>(
+        alloc,
+        &message,
+        "b18c5abf3e48843fb7efce3826710aa625d60ced6102849ffb07a6ee293e7a12",
+    )?;
+    assert!(rt; agrees);
+    Ok(())
+}
+
+#[test]
+fn hash_to_other_sizes(rt: HostRuntime) -> Result<(), Fail> {
+    let alloc = rt.alloc();
+    let ten = hex::encode(alloc, &Blake2b::<10>::digest(b"my_input")[..])?;
+    assert_eq!(rt; ten.as_str(), "2cc55c84e416924e6400");
+    let none = Blake2b::<0>::digest(b"my_input");
+    assert_eq!(rt; none.len(), 0);
+    let none = Blake2s::<0>::digest(b"my_input");
+    assert_eq!(rt; none.len(), 0);
+    Ok(())
+}

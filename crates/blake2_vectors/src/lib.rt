@@ -1,0 +1,10 @@
+//! Worked values of the public calls of `blake2`, as tests. They come from RFC 7693 and from Python's
+//! `hashlib.blake2b` and `hashlib.blake2s`, and not from this project's own code.
+#![tactic(auto)]
+
+#[cfg(test)]
+mod hashers;
+#[cfg(test)]
+mod lanes;
+#[cfg(test)]
+mod streams;
