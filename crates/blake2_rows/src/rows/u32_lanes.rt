@@ -2,7 +2,7 @@
 ghost use Rattle.std.specs.Prelude.{◌≡◌, ℕ, ◌+◌, ◌%◌, ◌^◌, ◌<◌, List, [], ◌∷◌, length, slice_index};
 ghost use mir.Val.{bits};
 ghost use Rattle.blake2_rows.specs.Family.{blake2s, word};
-ghost use Rattle.blake2_rows.specs.Round.{round};
+ghost use Rattle.blake2_rows.specs.Round.{AreWords, mix, round};
 ghost use Rattle.blake2_rows.specs.Rows.{four, lane_sums, lane_xors, lane_rotations, shuffle_left, shuffle_right, word_at, lane_bytes, sixteen, columns, shuffled_rows};
 
 use blake2_digest::Wipe;
@@ -11,7 +11,7 @@ use std::ops::{Add, BitXor};
 use std::simd::Simd;
 use std::simd::prelude::*;
 
-/// By how many bits G rotates a word to the right (RFC 7693, section 2.1).
+// R1 to R4: by how many bits G rotates a word to the right, in its order (RFC 7693, section 2.1).
 const R1: u32 = 16;
 
 const R2: u32 = 12;
@@ -54,7 +54,9 @@ impl u32x4 {
         requires i1_in { i1 < length src.now }
         requires i2_in { i2 < length src.now }
         requires i3_in { i3 < length src.now }
-        ensures { result ≡ slice_index src.now i0 ∷ slice_index src.now i1 ∷ slice_index src.now i2 ∷ slice_index src.now i3 ∷ [] }
+        ensures { result
+            ≡ slice_index src.now i0 ∷ slice_index src.now i1
+            ∷ slice_index src.now i2 ∷ slice_index src.now i3 ∷ [] }
     {
         Self::new(src[i0], src[i1], src[i2], src[i3])
     }
@@ -177,7 +179,8 @@ impl u32x4 {
     // The sum of three rows, lane by lane, modulo 2^32.
     #[inline(always)]
     fn sum_of(a: Self, b: Self, x: Self) -> Self
-        ensures { result ≡ four (λ j. (slice_index a j + slice_index b j + slice_index x j) % 2 ^ bits (word blake2s)) }
+        ensures { result ≡ four (λ j.
+            (slice_index a j + slice_index b j + slice_index x j) % 2 ^ bits (word blake2s)) }
     {
         Self {
             // `b` comes last: it is the row computed last.
@@ -188,7 +191,8 @@ impl u32x4 {
     // Four mixings at once: lane j of the six rows has the words of the j-th.
     #[inline(always)]
     fn mix(a: Self, b: Self, c: Self, d: Self, x: Self, y: Self) -> (Self, Self, Self, Self)
-        ensures { sixteen (result.0 ∷ result.1 ∷ result.2 ∷ result.3 ∷ []) ≡ columns blake2s (sixteen (a ∷ b ∷ c ∷ d ∷ [])) x y }
+        ensures { sixteen (result.0 ∷ result.1 ∷ result.2 ∷ result.3 ∷ [])
+            ≡ columns blake2s (sixteen (a ∷ b ∷ c ∷ d ∷ [])) x y }
     {
         let a1 = Self::sum_of(a, b, x);
         let d1 = (d ^ a1).rotate_right_const(R1);
@@ -259,6 +263,70 @@ impl u32x4 {
         );
         *v = Self::columns_to_diagonals(diagonals);
     }
+
+    /// The sixteen words of the rows `v`, those of row 0 first.
+    #[inline(always)]
+    pub fn words(v: &[Self; 4]) -> [u32; 16]
+        ensures { result ≡ sixteen v.now }
+    {
+        let [a, b, c, d] = *v;
+        let [w0, w1, w2, w3] = a.to_array();
+        let [w4, w5, w6, w7] = b.to_array();
+        let [w8, w9, w10, w11] = c.to_array();
+        let [w12, w13, w14, w15] = d.to_array();
+        [
+            w0, w1, w2, w3, w4, w5, w6, w7, w8, w9, w10, w11, w12, w13, w14, w15,
+        ]
+    }
+
+    // The four rows of sixteen words, row 0 having the first.
+    fn rows_of(words: &[u32; 16]) -> [Self; 4]
+        ensures rows { sixteen result ≡ words.now }
+        ensures are_words { AreWords blake2s (sixteen result) }
+    {
+        [
+            Self::gather(words, 0, 1, 2, 3),
+            Self::gather(words, 4, 5, 6, 7),
+            Self::gather(words, 8, 9, 10, 11),
+            Self::gather(words, 12, 13, 14, 15),
+        ]
+    }
+
+    /// One round undone: `v` is left with the only rows that `round` takes, with the same `m` and
+    /// `s`, to those that were given. The arguments are those of `round`.
+    pub fn unround(v: &mut [Self; 4], m: &[u32; 16], s: &[usize; 16])
+        requires { (j : ℕ) → j < 16 → slice_index s.now j < 16 }
+        ensures undoes { round blake2s (sixteen v.new) m.now s.now ≡ sixteen v.old }
+        ensures only { (u : List ℕ) → AreWords blake2s u → length u ≡ 16
+            → round blake2s u m.now s.now ≡ sixteen v.old → u ≡ sixteen v.new }
+    {
+        let mut w = Self::words(v);
+        unmix(&mut w, 3, 4, 9, 14, m[s[14]], m[s[15]]);
+        unmix(&mut w, 2, 7, 8, 13, m[s[12]], m[s[13]]);
+        unmix(&mut w, 1, 6, 11, 12, m[s[10]], m[s[11]]);
+        unmix(&mut w, 0, 5, 10, 15, m[s[8]], m[s[9]]);
+        unmix(&mut w, 3, 7, 11, 15, m[s[6]], m[s[7]]);
+        unmix(&mut w, 2, 6, 10, 14, m[s[4]], m[s[5]]);
+        unmix(&mut w, 1, 5, 9, 13, m[s[2]], m[s[3]]);
+        unmix(&mut w, 0, 4, 8, 12, m[s[0]], m[s[1]]);
+        *v = Self::rows_of(&w);
+    }
+}
+
+// G undone: what is left of `w` at the places `a`, `b`, `c` and `d` is what G, with `x` and `y`,
+// takes to what was there.
+fn unmix(w: &mut [u32; 16], a: usize, b: usize, c: usize, d: usize, x: u32, y: u32)
+    requires { (a < b) × (b < c) × (c < d) × (d < 16) }
+    ensures { mix blake2s w.new a b c d x y ≡ w.old }
+{
+    w[b] = w[b].rotate_left(R4) ^ w[c];
+    w[c] = w[c].wrapping_sub(w[d]);
+    w[d] = w[d].rotate_left(R3) ^ w[a];
+    w[a] = w[a].wrapping_sub(w[b]).wrapping_sub(y);
+    w[b] = w[b].rotate_left(R2) ^ w[c];
+    w[c] = w[c].wrapping_sub(w[d]);
+    w[d] = w[d].rotate_left(R1) ^ w[a];
+    w[a] = w[a].wrapping_sub(w[b]).wrapping_sub(x);
 }
 
 /// The sum, lane by lane, modulo 2^32.
