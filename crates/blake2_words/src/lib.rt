@@ -3,5 +3,6 @@
 #![tactic(auto)]
 
 pub mod consts;
+pub mod laws;
 pub mod params;
 pub mod words;

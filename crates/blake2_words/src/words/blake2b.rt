@@ -101,10 +101,10 @@ pub fn to_bytes(rows: &[u64x4; 2]) -> [u8; 64]
     bytes
 }
 
-/// Each of eight words xored with that of `b`.
+// Each of eight words xored with that of the others.
 #[tactic(auto, unfolding(crate::specs::Hash::xor_words))]
 #[inline(always)]
-pub fn xor_rows(a: [u64x4; 2], b: [u64x4; 2]) -> [u64x4; 2]
+pub(crate) fn xor_rows(a: [u64x4; 2], b: [u64x4; 2]) -> [u64x4; 2]
     ensures { eight result ≡ xor_words (eight a) (eight b) }
 {
     [a[0] ^ b[0], a[1] ^ b[1]]

@@ -102,10 +102,10 @@ pub fn to_bytes(rows: &[u32x4; 2]) -> [u8; 32]
     bytes
 }
 
-/// Each of eight words xored with that of `b`.
+// Each of eight words xored with that of the others.
 #[tactic(auto, unfolding(crate::specs::Hash::xor_words))]
 #[inline(always)]
-pub fn xor_rows(a: [u32x4; 2], b: [u32x4; 2]) -> [u32x4; 2]
+pub(crate) fn xor_rows(a: [u32x4; 2], b: [u32x4; 2]) -> [u32x4; 2]
     ensures { eight result ≡ xor_words (eight a) (eight b) }
 {
     [a[0] ^ b[0], a[1] ^ b[1]]

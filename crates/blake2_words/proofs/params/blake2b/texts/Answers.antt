@@ -1,4 +1,4 @@
-use Rattle.blake2_words.proofs.Padding.{texts_padded}
+use Rattle.blake2_words.proofs.ParameterTexts.{texts_padded}
 use Rattle.blake2_words.proofs.params.blake2b.texts.Goals as goal
 
 pub returns : goal.returns

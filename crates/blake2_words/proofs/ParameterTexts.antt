@@ -16,7 +16,7 @@ padded-zeros s x fits =
     ∙ sym (append_assoc x (replicate (s - length x) 0) (replicate s 0))
 
 -- a text written over zeros
-text-zeros : (s : ℕ) (y : List ℕ) → y ++ drop (length y) (replicate s 0) ≡ padded s y
+pub text-zeros : (s : ℕ) (y : List ℕ) → y ++ drop (length y) (replicate s 0) ≡ padded s y
 unfolding padded
 text-zeros s y = ap (λ (z : List ℕ). y ++ z) (drop-replicate (length y) s 0)
 
