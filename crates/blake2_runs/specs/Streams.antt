@@ -1,0 +1,23 @@
+-- What a run of the engine reads and writes.
+use Rattle.std.specs.Prelude.{◌≡◌, ℕ, ◌<◌, List, [], ◌∷◌, ◌++◌, length, All, Option}
+use Rattle.std.specs.Io.KnownBytes.{Consumes, IsAtEnd, Appends}
+use Rattle.hex.specs.Hex.{encode_lower}
+
+-- each number is a byte
+abbrev pub AreBytes : List ℕ → Type 0
+AreBytes xs = All (λ x. x < 256) xs
+
+-- a digest as a line: two lower-case hexadecimal digits for each byte, and a newline
+abbrev pub line_of : List ℕ → List ℕ
+line_of digest = encode_lower digest ++ (10 ∷ [])
+
+-- a source gave these bytes, and is at its end
+pub record GivesAll (old new : Option (List ℕ)) (bytes : List ℕ) : Type 0 where
+  pub are_bytes : AreBytes bytes
+  pub given : Consumes old new bytes
+  pub at_end : IsAtEnd new
+
+-- a sink took a beginning of the text, and not the whole
+abbrev pub TakesPart : Option (List ℕ) → Option (List ℕ) → List ℕ → Type 0
+TakesPart old new text =
+    (part : List ℕ) × (rest : List ℕ) × (text ≡ part ++ rest) × (0 < length rest) × Appends old new part

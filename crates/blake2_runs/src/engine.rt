@@ -1,0 +1,19 @@
+//! Hashing what a device gives: sources and sinks of bytes, and the engine that reads the one to
+//! its end and writes the digest to the other.
+
+mod device;
+mod io_sink;
+mod io_source;
+mod slice_sink;
+mod slice_source;
+mod stream;
+
+pub use device::{DeviceError, Sink, Source};
+pub use io_sink::IoSink;
+pub use io_source::IoSource;
+pub use slice_sink::SliceSink;
+pub use slice_source::SliceSource;
+pub use stream::{StreamFault, hash_stream, write_whole};
+
+#[cfg(test)]
+mod tests;
