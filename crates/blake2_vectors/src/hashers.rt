@@ -12,11 +12,12 @@ fn digest_of_two<H: Digest<N> + Drop, const N: usize>(
     at: usize,
 ) -> Result<String, AllocError>
     requires supported { H.is_supported }
+    requires size { N ≤ 64 }
     requires within { at ≤ length message.now }
 {
     let mut hasher = H::new();
-    hasher.update(&message[..at]);
-    hasher.update(&message[at..]);
+    Digest::update(&mut hasher, &message[..at]);
+    Digest::update(&mut hasher, &message[at..]);
     let digest = hasher.finalize();
     hex::encode(alloc, &digest[..])
 }
@@ -27,7 +28,8 @@ fn digests_are<H: Digest<N> + Drop, const N: usize>(
     message: &[u8],
     wanted: &str,
 ) -> Result<bool, AllocError>
-    requires { H.is_supported }
+    requires supported { H.is_supported }
+    requires size { N ≤ 64 }
 {
     for at in 0..message.len() {
         if digest_of_two::<H, N>(alloc, message, at)?.as_str() != wanted {

@@ -5,23 +5,53 @@ use std::test::Fail;
 #[test]
 fn turn_lanes(rt: HostRuntime) {
     let row = u32x4::new(1, 2, 3, 4);
-    assert_eq!(rt; row.shuffle_left_1().to_bytes(), u32x4::new(2, 3, 4, 1).to_bytes());
-    assert_eq!(rt; row.shuffle_left_2().to_bytes(), u32x4::new(3, 4, 1, 2).to_bytes());
-    assert_eq!(rt; row.shuffle_left_3().to_bytes(), u32x4::new(4, 1, 2, 3).to_bytes());
-    assert_eq!(rt; row.shuffle_right_1().to_bytes(), u32x4::new(4, 1, 2, 3).to_bytes());
-    assert_eq!(rt; row.shuffle_right_2().to_bytes(), u32x4::new(3, 4, 1, 2).to_bytes());
-    assert_eq!(rt; row.shuffle_right_3().to_bytes(), u32x4::new(2, 3, 4, 1).to_bytes());
+    assert_eq!(rt;
+        row.shuffle_left_1().to_bytes(),
+        u32x4::new(2, 3, 4, 1).to_bytes()
+    );
+    assert_eq!(rt;
+        row.shuffle_left_2().to_bytes(),
+        u32x4::new(3, 4, 1, 2).to_bytes()
+    );
+    assert_eq!(rt;
+        row.shuffle_left_3().to_bytes(),
+        u32x4::new(4, 1, 2, 3).to_bytes()
+    );
+    assert_eq!(rt;
+        row.shuffle_right_1().to_bytes(),
+        u32x4::new(4, 1, 2, 3).to_bytes()
+    );
+    assert_eq!(rt;
+        row.shuffle_right_2().to_bytes(),
+        u32x4::new(3, 4, 1, 2).to_bytes()
+    );
+    assert_eq!(rt;
+        row.shuffle_right_3().to_bytes(),
+        u32x4::new(2, 3, 4, 1).to_bytes()
+    );
     let row = u64x4::new(1, 2, 3, 4);
-    assert_eq!(rt; row.shuffle_left_1().to_bytes(), u64x4::new(2, 3, 4, 1).to_bytes());
-    assert_eq!(rt; row.shuffle_right_1().to_bytes(), u64x4::new(4, 1, 2, 3).to_bytes());
+    assert_eq!(rt;
+        row.shuffle_left_1().to_bytes(),
+        u64x4::new(2, 3, 4, 1).to_bytes()
+    );
+    assert_eq!(rt;
+        row.shuffle_right_1().to_bytes(),
+        u64x4::new(4, 1, 2, 3).to_bytes()
+    );
 }
 
 #[test]
 fn rotate_lanes(rt: HostRuntime) {
     let rotated = u32x4::new(1, 2, 3, 4).rotate_right_const(1);
-    assert_eq!(rt; rotated.to_bytes(), u32x4::new(2147483648, 1, 2147483649, 2).to_bytes());
+    assert_eq!(rt;
+        rotated.to_bytes(),
+        u32x4::new(2147483648, 1, 2147483649, 2).to_bytes()
+    );
     let row = u64x4::new(1, 2, 3, 4);
-    assert_eq!(rt; row.rotate_right_const(63).to_bytes(), u64x4::new(2, 4, 6, 8).to_bytes());
+    assert_eq!(rt;
+        row.rotate_right_const(63).to_bytes(),
+        u64x4::new(2, 4, 6, 8).to_bytes()
+    );
     assert_eq!(rt; row.rotate_right_const(64).to_bytes(), row.to_bytes());
 }
 

@@ -6,5 +6,3 @@
 mod hashers;
 #[cfg(test)]
 mod lanes;
-#[cfg(test)]
-mod streams;
