@@ -1,9 +1,51 @@
 //! Laws of BLAKE2b.
 
-ghost use Rattle.std.specs.Prelude.{◌≡◌, ◌≤◌, length};
+ghost use Rattle.std.specs.Prelude.{◌≡◌, ◌≢◌, ℕ, ◌<◌, ◌≤◌, length, slice_index};
 ghost use Rattle.blake2_rows.specs.Family.{blake2b};
+ghost use Rattle.blake2_rows.specs.Round.{round};
+ghost use Rattle.blake2_rows.specs.Rows.{sixteen};
 ghost use Rattle.blake2_words.specs.Hash.{padded};
 ghost use Rattle.blake2_words.specs.Laws.{ZerosLeaveDigests};
+
+use blake2_rows::rows::u64x4;
+
+/// `unround` undoes `round`: the sixteen words of `v` are afterwards as they were, for any sixteen words
+/// of a block `m` and any row `s` of numbers below 16.
+pub fn unround_undoes_round(v: &mut [u64x4; 4], m: &[u64; 16], s: &[usize; 16])
+    requires { (j : ℕ) → j < 16 → slice_index s.now j < 16 }
+    ensures { sixteen v.new ≡ sixteen v.old }
+{
+    // Their type says that they are words.
+    let _words = u64x4::words(v);
+    u64x4::round(v, m, s);
+    u64x4::unround(v, m, s);
+}
+
+/// `round` undoes `unround`, in the same sense.
+pub fn round_undoes_unround(w: &mut [u64x4; 4], m: &[u64; 16], s: &[usize; 16])
+    requires { (j : ℕ) → j < 16 → slice_index s.now j < 16 }
+    ensures { sixteen w.new ≡ sixteen w.old }
+{
+    u64x4::unround(w, m, s);
+    u64x4::round(w, m, s);
+}
+
+/// A round, under one `m` and one `s`, takes different lists of sixteen words to different lists. It
+/// is what becomes of `a` and of `b`.
+pub fn round_keeps_apart(a: &mut [u64x4; 4], b: &mut [u64x4; 4], m: &[u64; 16], s: &[usize; 16])
+    requires { (j : ℕ) → j < 16 → slice_index s.now j < 16 }
+    ensures first { sixteen a.new ≡ round blake2b (sixteen a.old) m.now s.now }
+    ensures second { sixteen b.new ≡ round blake2b (sixteen b.old) m.now s.now }
+    ensures apart { sixteen a.old ≢ sixteen b.old → sixteen a.new ≢ sixteen b.new }
+{
+    // Their type says that they are words.
+    let _words = (u64x4::words(a), u64x4::words(b));
+    u64x4::round(a, m, s);
+    u64x4::round(b, m, s);
+    // Only one list of words has the round that is now in `a`.
+    let mut before = *a;
+    u64x4::unround(&mut before, m, s);
+}
 
 /// A salt or persona of at most 16 bytes with zeros up to 16. Zeros after a salt or a persona, within
 /// its 16 bytes, leave each digest as it is (the BLAKE2 document, 2.8).

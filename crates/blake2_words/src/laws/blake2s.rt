@@ -1,9 +1,51 @@
 //! Laws of BLAKE2s.
 
-ghost use Rattle.std.specs.Prelude.{◌≡◌, ◌≤◌, length};
+ghost use Rattle.std.specs.Prelude.{◌≡◌, ◌≢◌, ℕ, ◌<◌, ◌≤◌, length, slice_index};
 ghost use Rattle.blake2_rows.specs.Family.{blake2s};
+ghost use Rattle.blake2_rows.specs.Round.{round};
+ghost use Rattle.blake2_rows.specs.Rows.{sixteen};
 ghost use Rattle.blake2_words.specs.Hash.{padded};
 ghost use Rattle.blake2_words.specs.Laws.{ZerosLeaveDigests};
+
+use blake2_rows::rows::u32x4;
+
+/// `unround` undoes `round`: the sixteen words of `v` are afterwards as they were, for any sixteen words
+/// of a block `m` and any row `s` of numbers below 16.
+pub fn unround_undoes_round(v: &mut [u32x4; 4], m: &[u32; 16], s: &[usize; 16])
+    requires { (j : ℕ) → j < 16 → slice_index s.now j < 16 }
+    ensures { sixteen v.new ≡ sixteen v.old }
+{
+    // Their type says that they are words.
+    let _words = u32x4::words(v);
+    u32x4::round(v, m, s);
+    u32x4::unround(v, m, s);
+}
+
+/// `round` undoes `unround`, in the same sense.
+pub fn round_undoes_unround(w: &mut [u32x4; 4], m: &[u32; 16], s: &[usize; 16])
+    requires { (j : ℕ) → j < 16 → slice_index s.now j < 16 }
+    ensures { sixteen w.new ≡ sixteen w.old }
+{
+    u32x4::unround(w, m, s);
+    u32x4::round(w, m, s);
+}
+
+/// A round, under one `m` and one `s`, takes different lists of sixteen words to different lists. It
+/// is what becomes of `a` and of `b`.
+pub fn round_keeps_apart(a: &mut [u32x4; 4], b: &mut [u32x4; 4], m: &[u32; 16], s: &[usize; 16])
+    requires { (j : ℕ) → j < 16 → slice_index s.now j < 16 }
+    ensures first { sixteen a.new ≡ round blake2s (sixteen a.old) m.now s.now }
+    ensures second { sixteen b.new ≡ round blake2s (sixteen b.old) m.now s.now }
+    ensures apart { sixteen a.old ≢ sixteen b.old → sixteen a.new ≢ sixteen b.new }
+{
+    // Their type says that they are words.
+    let _words = (u32x4::words(a), u32x4::words(b));
+    u32x4::round(a, m, s);
+    u32x4::round(b, m, s);
+    // Only one list of words has the round that is now in `a`.
+    let mut before = *a;
+    u32x4::unround(&mut before, m, s);
+}
 
 /// A salt or persona of at most 8 bytes with zeros up to 8. Zeros after a salt or a persona, within
 /// its 8 bytes, leave each digest as it is (the BLAKE2 document, 2.8).
