@@ -6,3 +6,5 @@
 mod hashers;
 #[cfg(test)]
 mod lanes;
+#[cfg(test)]
+mod macs;

@@ -1,0 +1,202 @@
+//! Outputs of the MACs, personas of the hashers, and what constructors refuse.
+ghost use Rattle.std.specs.Prelude.{◌≤◌};
+
+use blake2::digest::{
+    AlgorithmName, CustomizedInit, FixedOutput, InvalidLength, InvalidOutputSize, KeyInit, Mac,
+    Update, VariableOutputCore,
+};
+use blake2::{
+    Blake2b128, Blake2bMac, Blake2bMac512, Blake2bVarCore, Blake2sMac256, Blake2sVarCore,
+};
+use std::alloc::{AllocError, Global};
+use std::fmt;
+use std::test::Fail;
+
+const KEY: [u8; 32] = [
+    0, 1, 2, 3, 4, 5, 6, 7, 8, 9, 10, 11, 12, 13, 14, 15, 16, 17, 18, 19, 20, 21, 22, 23, 24, 25,
+    26, 27, 28, 29, 30, 31,
+];
+
+// The output of BLAKE2b's MAC for a message, in hexadecimal.
+fn blake2b_of(
+    alloc: Global,
+    key: Option<&[u8]>,
+    salt: &[u8],
+    persona: &[u8],
+    message: &[u8],
+) -> Result<String, Fail> {
+    let mut mac = Blake2bMac512::new_with_salt_and_personal(key, salt, persona)?;
+    Mac::update(&mut mac, message);
+    Ok(hex::encode(alloc, &mac.finalize_fixed()[..])?)
+}
+
+// The output of BLAKE2s's MAC for a message, in hexadecimal.
+fn blake2s_of(
+    alloc: Global,
+    key: Option<&[u8]>,
+    salt: &[u8],
+    persona: &[u8],
+    message: &[u8],
+) -> Result<String, Fail> {
+    let mut mac = Blake2sMac256::new_with_salt_and_personal(key, salt, persona)?;
+    Mac::update(&mut mac, message);
+    Ok(hex::encode(alloc, &mac.finalize_fixed()[..])?)
+}
+
+#[test]
+fn authenticate_with_salt_and_persona(rt: HostRuntime) -> Result<(), Fail> {
+    let alloc = rt.alloc();
+    let keyed = blake2s_of(alloc, Some(&KEY), b"", b"personal", b"")?;
+    assert_eq!(rt;
+        keyed.as_str(),
+        "25a4ee63b594aed3f88a971e1877ef7099534f9097291f88fb86c79b5e70d022"
+    );
+    let keyed = blake2b_of(alloc, Some(&KEY), b"", b"personal", b"")?;
+    assert_eq!(rt;
+        keyed.as_str(),
+        "03de3b295dcfc3b25b05abb09bc95fe3e9ff3073638badc68101d1e42019d077\
+         1dd07525a3aae8318e92c5e5d967ba92e4810d0021d7bf3b49da0b4b4a8a4e1f"
+    );
+    let unkeyed = blake2s_of(alloc, None, b"salt", b"persona", b"")?;
+    assert_eq!(rt;
+        unkeyed.as_str(),
+        "d7de83e2b1fedd9755db747235b7ba4bf9773a16b91c6b241e4b1d926160d9eb"
+    );
+    let unkeyed = blake2b_of(alloc, None, b"salt", b"persona", b"")?;
+    assert_eq!(rt;
+        unkeyed.as_str(),
+        "fa3cd38902ae0602d8f0066f18c579fae8068074fbe91f9f5774f841f5ab51fe\
+         39140ad78d6576f8a0b9f8f4c264221111c9911d8ba1dbefcd034acdbedb8cde"
+    );
+    Ok(())
+}
+
+#[test]
+fn personalize_a_hasher(rt: HostRuntime) -> Result<(), Fail> {
+    let alloc = rt.alloc();
+    let mut hasher = Blake2b128::new_customized(b"personal");
+    hasher.update(b"hello");
+    let digest = hex::encode(alloc, &hasher.finalize_fixed()[..])?;
+    assert_eq!(rt; digest.as_str(), "5a5eb0aecc053af1ce6de25354c1c761");
+    let mut mac = Blake2bMac::<16>::new_with_salt_and_personal(None, b"", b"personal")?;
+    Mac::update(&mut mac, b"hello");
+    let output = hex::encode(alloc, &mac.finalize_fixed()[..])?;
+    assert_eq!(rt; output.as_str(), "5a5eb0aecc053af1ce6de25354c1c761");
+    Ok(())
+}
+
+#[test]
+fn refuse_lengths(rt: HostRuntime) {
+    let bytes = [7u8; 65];
+    for (key, salt, persona) in [(0, 4, 7), (65, 0, 0), (1, 17, 0), (1, 0, 17)] {
+        let mac = Blake2bMac512::new_with_salt_and_personal(
+            Some(&bytes[..key]),
+            &bytes[..salt],
+            &bytes[..persona],
+        );
+        assert!(rt; matches!(mac, Err(InvalidLength)), "{key} {salt} {persona}");
+    }
+    for (key, salt, persona) in [(0, 4, 7), (33, 0, 0), (1, 9, 0), (1, 0, 9)] {
+        let mac = Blake2sMac256::new_with_salt_and_personal(
+            Some(&bytes[..key]),
+            &bytes[..salt],
+            &bytes[..persona],
+        );
+        assert!(rt; matches!(mac, Err(InvalidLength)), "{key} {salt} {persona}");
+    }
+    assert!(rt; Blake2bMac512::new_from_slice(&[]).is_err());
+    assert!(rt; Blake2bMac512::new_from_slice(&bytes[..64]).is_ok());
+    assert!(rt; Blake2bMac512::new_from_slice(&bytes[..65]).is_err());
+    assert!(rt; Blake2sMac256::new_from_slice(&[]).is_err());
+    assert!(rt; Blake2sMac256::new_from_slice(&bytes[..32]).is_ok());
+    assert!(rt; Blake2sMac256::new_from_slice(&bytes[..33]).is_err());
+    assert!(rt; matches!(Blake2bVarCore::new(65), Err(InvalidOutputSize)));
+    assert!(rt; matches!(Blake2sVarCore::new(33), Err(InvalidOutputSize)));
+    assert!(rt; Blake2bVarCore::new(0).is_ok());
+}
+
+// Whether BLAKE2b's MAC of 300 bytes accepts the tag.
+fn blake2b_accepts(tag: &[u8]) -> Result<bool, InvalidLength> {
+    let mac = Blake2bMac512::new_from_slice(&[0x42; 64])?.chain_update(&[42; 300]);
+    Ok(mac.verify_slice(tag).is_ok())
+}
+
+#[test]
+fn verify_a_tag_of_blake2b(rt: HostRuntime) -> Result<(), Fail> {
+    let mac = Blake2bMac512::new(&[0x42; 64]).chain_update(&[42; 300]);
+    let tag = mac.finalize().into_bytes();
+    let tag = tag.as_slice();
+    assert!(rt; blake2b_accepts(tag)?);
+    if let Some((_, beginning)) = tag.split_last() {
+        assert!(rt; !blake2b_accepts(beginning)?);
+    }
+    let text = hex::encode(rt.alloc(), tag)?;
+    assert_eq!(rt;
+        text.as_str(),
+        "226ed748d3ada97130b047f75ebb308a12d0d534b4d58cef2114de79cea0f1af\
+         8ec36affb9ca8acb3af055879919d895002242ac45113d605d18bd76ad6251ab"
+    );
+    Ok(())
+}
+
+// Whether BLAKE2s's MAC of 300 bytes accepts the tag.
+fn blake2s_accepts(tag: &[u8]) -> Result<bool, InvalidLength> {
+    let mac = Blake2sMac256::new_from_slice(&[0x42; 32])?.chain_update(&[42; 300]);
+    Ok(mac.verify_slice(tag).is_ok())
+}
+
+#[test]
+fn verify_a_tag_of_blake2s(rt: HostRuntime) -> Result<(), Fail> {
+    let mac = Blake2sMac256::new(&[0x42; 32]).chain_update(&[42; 300]);
+    let tag = mac.finalize().into_bytes();
+    let tag = tag.as_slice();
+    assert!(rt; blake2s_accepts(tag)?);
+    if let Some((_, beginning)) = tag.split_last() {
+        assert!(rt; !blake2s_accepts(beginning)?);
+    }
+    let text = hex::encode(rt.alloc(), tag)?;
+    assert_eq!(rt;
+        text.as_str(),
+        "529f4f5488fba36a6e6b6ed17a0303e9a0732d86e769eb23523f5eabbb23cfa6"
+    );
+    Ok(())
+}
+
+// The name of an algorithm, by its `Display`.
+struct Name;
+
+impl fmt::Display for Name {
+    fn fmt<W: fmt::Write>(&self, f: &mut fmt::Formatter<W>) -> fmt::Result {
+        Blake2bVarCore::write_alg_name(f)?;
+        f.write_str(" ")?;
+        Blake2sVarCore::write_alg_name(f)
+    }
+}
+
+#[test]
+fn print_names(rt: HostRuntime) -> Result<(), AllocError> {
+    let alloc = rt.alloc();
+    let names = format!(in alloc; "{Name}")?;
+    assert_eq!(rt; names.as_str(), "Blake2b Blake2s");
+    let core = Blake2bVarCore::new_with_params(b"", b"", 0, 64);
+    assert_eq!(rt;
+        format!(in alloc; "{core:?}")?.as_str(),
+        "Blake2bVarCore { ... }"
+    );
+    let core = Blake2sVarCore::new_with_params(b"", b"", 0, 32);
+    assert_eq!(rt;
+        format!(in alloc; "{core:?}")?.as_str(),
+        "Blake2sVarCore { ... }"
+    );
+    let mac = Blake2bMac512::new(&[1; 64]);
+    assert_eq!(rt;
+        format!(in alloc; "{mac:?}")?.as_str(),
+        "Blake2bMac64 { ... }"
+    );
+    let mac = Blake2sMac256::new(&[1; 32]);
+    assert_eq!(rt;
+        format!(in alloc; "{mac:?}")?.as_str(),
+        "Blake2sMac32 { ... }"
+    );
+    Ok(())
+}
