@@ -46,18 +46,21 @@ bits_pos : (f : Family) → 0 < bits (word f)
 bits_pos blake2b = lit< tt
 bits_pos blake2s = lit< tt
 
--- what `rotate_right` and `rotate_left` compute of a number of w bits, for k below w
+-- what `rotate_right` computes of a number n of w bits, for k below w
 abbrev right_by : ℕ → ℕ → ℕ → ℕ
 right_by w n k = bit_or (n / 2 ^ k) (n * 2 ^ ((w - k) % w) % 2 ^ w)
 
+-- what `rotate_left` computes of it
 abbrev left_by : ℕ → ℕ → ℕ → ℕ
 left_by w n k = bit_or (n * 2 ^ k % 2 ^ w) (n / 2 ^ ((w - k) % w))
 
+-- a rotation to the right by some bits
 right_by-turned : (w n k : ℕ) → k ≢ 0 → k < w → right_by w n k ≡ turned w n k
 right_by-turned w n k some low =
     let rest : (w - k) % w ≡ w - k = mod-eq_of_lt (omega arith) in
     ap (λ (i : ℕ). bit_or (n / 2 ^ k) (n * 2 ^ i % 2 ^ w)) rest
 
+-- a rotation to the left by k bits is one to the right by the others
 left_by-turned : (w n k : ℕ) → k ≢ 0 → k < w → left_by w n k ≡ turned w n (w - k)
 left_by-turned w n k some low =
     let rest : (w - k) % w ≡ w - k = mod-eq_of_lt (omega arith) in
@@ -66,23 +69,26 @@ left_by-turned w n k some low =
     ∙ or_comm (n * 2 ^ k % 2 ^ w) (n / 2 ^ (w - k))
     ∙ ap (λ (i : ℕ). bit_or (n / 2 ^ (w - k)) (n * 2 ^ i % 2 ^ w)) whole
 
--- a rotation by no bits
+-- a rotation to the right by no bits
 right_by-zero : (w n : ℕ) → n < 2 ^ w → right_by w n 0 ≡ n
 right_by-zero w n fits =
     let none : (w - 0) % w ≡ 0 = rw sub-zero (mod_self w) in
     rw (none, div-one, mul-one) (rw (mod-eq_of_lt fits) (or_self n))
 
+-- a rotation to the left by no bits
 left_by-zero : (w n : ℕ) → n < 2 ^ w → left_by w n 0 ≡ n
 left_by-zero w n fits =
     let none : (w - 0) % w ≡ 0 = rw sub-zero (mod_self w) in
     rw (none, div-one, mul-one) (rw (mod-eq_of_lt fits) (or_self n))
 
+-- first to the right, then to the left
 left_by-right_by : (w n k : ℕ) → k < w → n < 2 ^ w → left_by w (right_by w n k) k ≡ n
 left_by-right_by w n k low fits = elim (cases_eq k 0) [
   | inl none ↦ rw (none, right_by-zero w n fits) (left_by-zero w n fits)
   | inr some ↦ left_by-turned w (right_by w n k) k some low ∙ rw (right_by-turned w n k some low) (turned_back w n k (omega arith) fits)
 ]
 
+-- first to the left, then to the right
 right_by-left_by : (w n k : ℕ) → k < w → n < 2 ^ w → right_by w (left_by w n k) k ≡ n
 right_by-left_by w n k low fits = elim (cases_eq k 0) [
   | inl none ↦ rw (none, left_by-zero w n fits) (right_by-zero w n fits)
@@ -94,8 +100,10 @@ right_by-left_by w n k low fits = elim (cases_eq k 0) [
       ∙ turned_back w n (w - k) (omega arith) fits
 ]
 
+-- a word rotated to the right by r bits and then to the left by as many is itself again
 pub rotate_left-rotate_right : (f : Family) (n r : ℕ) → n < 2 ^ bits (word f) → rotate_left (word f) (rotate_right (word f) n r) r ≡ n
 rotate_left-rotate_right f n r fits = left_by-right_by (bits (word f)) n (r % bits (word f)) (mod-lt r (bits_pos f)) fits
 
+-- and in the other order
 pub rotate_right-rotate_left : (f : Family) (n r : ℕ) → n < 2 ^ bits (word f) → rotate_right (word f) (rotate_left (word f) n r) r ≡ n
 rotate_right-rotate_left f n r fits = right_by-left_by (bits (word f)) n (r % bits (word f)) (mod-lt r (bits_pos f)) fits

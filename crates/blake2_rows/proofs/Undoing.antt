@@ -38,26 +38,31 @@ set-set [] i x y = refl
 set-set (z ∷ l) zero x y = refl
 set-set (z ∷ l) (suc i) x y = ap (λ t. z ∷ t) (set-set l i x y)
 
+-- a sum of three words, less the second and the third
 sum_undone : (f : Family) (a b x : ℕ) → a < 2 ^ bits (word f) → b < 2 ^ bits (word f) → x < 2 ^ bits (word f)
     → (((a + b + x) % 2 ^ bits (word f) + (2 ^ bits (word f) - b)) % 2 ^ bits (word f) + (2 ^ bits (word f) - x)) % 2 ^ bits (word f) ≡ a
 sum_undone blake2b a b x ha hb hx = omega arith
 sum_undone blake2s a b x ha hb hx = omega arith
 
+-- what is left of a word less two others, and those two
 difference_undone : (f : Family) (a b x : ℕ) → a < 2 ^ bits (word f) → b < 2 ^ bits (word f) → x < 2 ^ bits (word f)
     → (((a + (2 ^ bits (word f) - b)) % 2 ^ bits (word f) + (2 ^ bits (word f) - x)) % 2 ^ bits (word f) + b + x) % 2 ^ bits (word f) ≡ a
 difference_undone blake2b a b x ha hb hx = omega arith
 difference_undone blake2s a b x ha hb hx = omega arith
 
+-- a sum of two words, less the second
 single_sum_undone : (f : Family) (a b : ℕ) → a < 2 ^ bits (word f) → b < 2 ^ bits (word f)
     → ((a + b + 0) % 2 ^ bits (word f) + (2 ^ bits (word f) - b)) % 2 ^ bits (word f) ≡ a
 single_sum_undone blake2b a b ha hb = omega arith
 single_sum_undone blake2s a b ha hb = omega arith
 
+-- what is left of a word less another, and that other
 single_difference_undone : (f : Family) (a b : ℕ) → a < 2 ^ bits (word f) → b < 2 ^ bits (word f)
     → ((a + (2 ^ bits (word f) - b)) % 2 ^ bits (word f) + b + 0) % 2 ^ bits (word f) ≡ a
 single_difference_undone blake2b a b ha hb = omega arith
 single_difference_undone blake2s a b ha hb = omega arith
 
+-- an exclusive or with one number twice
 xor_twice : (a b : ℕ) → bit_xor (bit_xor a b) b ≡ a
 xor_twice a b = xor_assoc a b b ∙ ap (bit_xor a) (xor_self b) ∙ xor_zero_r a
 
@@ -72,6 +77,7 @@ restored : (f : Family) (v : List ℕ) (a b p : ℕ) (g : ℕ → ℕ → ℕ) �
     → set (set v a p) a (g (slice_index (set v a p) a) (slice_index (set v a p) b)) ≡ v
 restored f v a b p g fits other same = rewritten f v a b p g fits other ∙ ap (set v a) same ∙ set-get_or v a 0
 
+-- v[a] := v[a] + v[b] + x is undone by `minus`
 plus_step : (f : Family) (v : List ℕ) (a b x : ℕ) → AreWords f v → x < 2 ^ bits (word f) → a < length v → b ≢ a
     → Step f v (plus f v a b x) (λ w. minus f w a b x)
 plus_step f v a b x words low fits other =
@@ -82,6 +88,7 @@ plus_step f v a b x words low fits other =
       undone = restored f v a b _ (λ p q. ((p + (m - q)) % m + (m - x)) % m) fits other (sum_undone f _ _ x (words a) (words b) low);
     }
 
+-- `minus` is undone by v[a] := v[a] + v[b] + x
 minus_step : (f : Family) (v : List ℕ) (a b x : ℕ) → AreWords f v → x < 2 ^ bits (word f) → a < length v → b ≢ a
     → Step f v (minus f v a b x) (λ w. plus f w a b x)
 minus_step f v a b x words low fits other =
@@ -92,6 +99,7 @@ minus_step f v a b x words low fits other =
       undone = restored f v a b _ (λ p q. (p + q + x) % m) fits other (difference_undone f _ _ x (words a) (words b) low);
     }
 
+-- v[c] := v[c] + v[d] is undone by `less`
 single_plus_step : (f : Family) (v : List ℕ) (c d : ℕ) → AreWords f v → c < length v → d ≢ c
     → Step f v (plus f v c d 0) (λ w. less f w c d)
 single_plus_step f v c d words fits other =
@@ -102,6 +110,7 @@ single_plus_step f v c d words fits other =
       undone = restored f v c d _ (λ p q. (p + (m - q)) % m) fits other (single_sum_undone f _ _ (words c) (words d));
     }
 
+-- `less` is undone by v[c] := v[c] + v[d]
 less_step : (f : Family) (v : List ℕ) (c d : ℕ) → AreWords f v → c < length v → d ≢ c
     → Step f v (less f v c d) (λ w. plus f w c d 0)
 less_step f v c d words fits other =
@@ -112,6 +121,7 @@ less_step f v c d words fits other =
       undone = restored f v c d _ (λ p q. (p + q + 0) % m) fits other (single_difference_undone f _ _ (words c) (words d));
     }
 
+-- v[d] := (v[d] ^ v[a]) >>> r is undone by `unturn`
 turn_step : (f : Family) (v : List ℕ) (d a r : ℕ) → AreWords f v → d < length v → a ≢ d
     → Step f v (turn f v d a r) (λ w. unturn f w d a r)
 turn_step f v d a r words fits other =
@@ -124,6 +134,7 @@ turn_step f v d a r words fits other =
           (ap (λ p. bit_xor p y) (rotate_left-rotate_right f (bit_xor x y) r (xor_lt (bits (word f)) x y (words d) (words a))) ∙ xor_twice x y);
     }
 
+-- `unturn` is undone by v[d] := (v[d] ^ v[a]) >>> r
 unturn_step : (f : Family) (v : List ℕ) (d a r : ℕ) → AreWords f v → d < length v → a ≢ d
     → Step f v (unturn f v d a r) (λ w. turn f w d a r)
 unturn_step f v d a r words fits other =
@@ -154,6 +165,7 @@ unmix f v a b c d x y =
     let v1 = unturn f v2 d a (slice_index (turns f) 0) in
     minus f v1 a b x
 
+-- G is undone by `unmix`
 mix_step : (f : Family) (v : List ℕ) (a b c d x y : ℕ) → AreWords f v → x < 2 ^ bits (word f) → y < 2 ^ bits (word f)
     → a < b → b < c → c < d → d < length v → Step f v (mix f v a b c d x y) (λ w. unmix f w a b c d x y)
 unfolding mix unmix
@@ -177,6 +189,7 @@ mix_step f v a b c d x y words lx ly ab bc cd fits =
     let s8 = turn_step f v7 b c (r 3) s7.words (omega (arith, t4.long, s5.long, s6.long, s7.long)) (omega arith) in
     and_then f t4 (and_then f s5 (and_then f s6 (and_then f s7 s8)))
 
+-- `unmix` is undone by G
 unmix_step : (f : Family) (v : List ℕ) (a b c d x y : ℕ) → AreWords f v → x < 2 ^ bits (word f) → y < 2 ^ bits (word f)
     → a < b → b < c → c < d → d < length v → Step f v (unmix f v a b c d x y) (λ w. mix f w a b c d x y)
 unfolding mix unmix
@@ -225,6 +238,7 @@ drawn_step : (f : Family) (v m s : List ℕ) (a b c d i j : ℕ) → AreWords f 
     → Step f v (mix f v a b c d (slice_index m (slice_index s i)) (slice_index m (slice_index s j))) (λ w. unmix f w a b c d (slice_index m (slice_index s i)) (slice_index m (slice_index s j)))
 drawn_step f v m s a b c d i j words from_m ab bc cd low long = mix_step f v a b c d _ _ words (from_m _) (from_m _) ab bc cd (omega arith)
 
+-- a round is undone by `unround`
 round_step : (f : Family) (v m s : List ℕ) → AreWords f v → AreWords f m → length v ≡ 16 → Step f v (round f v m s) (unround f m s)
 unfolding round unround
 round_step f v m s words from_m long =

@@ -43,15 +43,15 @@ lane_bytes f a = flat_map (to_le_bytes (word f)) a
 
 -- ---- several rows
 
--- lane j of row r
+-- lane j of row r, rows and lanes counted from 0
 abbrev pub lane : List (List ℕ) → ℕ → ℕ → ℕ
 lane v r j = slice_index (slice_index_or v r []) j
 
--- the eight words of two rows
+-- the eight words of two rows, as of the state vector h (3.2)
 abbrev pub eight : List (List ℕ) → List ℕ
 eight h = lane h 0 0 ∷ lane h 0 1 ∷ lane h 0 2 ∷ lane h 0 3 ∷ lane h 1 0 ∷ lane h 1 1 ∷ lane h 1 2 ∷ lane h 1 3 ∷ []
 
--- the sixteen words of four rows
+-- the sixteen words of four rows, as of the local vector v (3.2)
 abbrev pub sixteen : List (List ℕ) → List ℕ
 sixteen v =
     lane v 0 0 ∷ lane v 0 1 ∷ lane v 0 2 ∷ lane v 0 3 ∷
