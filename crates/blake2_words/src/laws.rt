@@ -15,9 +15,9 @@ mod tests {
         let m = [5; 16];
         let mut v = [row, row, row, row];
         let mut w = v;
-        blake2b::unround_undoes_round(&mut v, &m, &SIGMA[0]);
+        let _between = blake2b::unround_undoes_round(&mut v, &m, &SIGMA[0]);
         assert_eq!(rt; u64x4::words(&v), u64x4::words(&w));
-        blake2b::round_undoes_unround(&mut v, &m, &SIGMA[0]);
+        let _before = blake2b::round_undoes_unround(&mut v, &m, &SIGMA[0]);
         assert_eq!(rt; u64x4::words(&v), u64x4::words(&w));
         v[3] = u64x4::new(1, 2, 3, 5);
         blake2b::round_keeps_apart(&mut v, &mut w, &m, &SIGMA[0]);
@@ -34,9 +34,9 @@ mod tests {
         let m = [5; 16];
         let mut v = [row, row, row, row];
         let mut w = v;
-        blake2s::unround_undoes_round(&mut v, &m, &SIGMA[0]);
+        let _between = blake2s::unround_undoes_round(&mut v, &m, &SIGMA[0]);
         assert_eq!(rt; u32x4::words(&v), u32x4::words(&w));
-        blake2s::round_undoes_unround(&mut v, &m, &SIGMA[0]);
+        let _before = blake2s::round_undoes_unround(&mut v, &m, &SIGMA[0]);
         assert_eq!(rt; u32x4::words(&v), u32x4::words(&w));
         v[3] = u32x4::new(1, 2, 3, 5);
         blake2s::round_keeps_apart(&mut v, &mut w, &m, &SIGMA[0]);

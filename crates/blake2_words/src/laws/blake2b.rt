@@ -10,24 +10,30 @@ ghost use Rattle.blake2_words.specs.Laws.{ZerosLeaveDigests};
 use blake2_rows::rows::u64x4;
 
 /// `unround` undoes `round`: the sixteen words of `v` are afterwards as they were, for any sixteen words
-/// of a block `m` and any row `s` of numbers below 16.
-pub fn unround_undoes_round(v: &mut [u64x4; 4], m: &[u64; 16], s: &[usize; 16])
+/// of a block `m` and any row `s` of numbers below 16. The answer is what the round made of them.
+pub fn unround_undoes_round(v: &mut [u64x4; 4], m: &[u64; 16], s: &[usize; 16]) -> [u64x4; 4]
     requires { (j : ℕ) → j < 16 → slice_index s.now j < 16 }
-    ensures { sixteen v.new ≡ sixteen v.old }
+    ensures between { sixteen result ≡ round blake2b (sixteen v.old) m.now s.now }
+    ensures undone { sixteen v.new ≡ sixteen v.old }
 {
     // Their type says that they are words.
     let _words = u64x4::words(v);
     u64x4::round(v, m, s);
+    let between = *v;
     u64x4::unround(v, m, s);
+    between
 }
 
-/// `round` undoes `unround`, in the same sense.
-pub fn round_undoes_unround(w: &mut [u64x4; 4], m: &[u64; 16], s: &[usize; 16])
+/// `round` undoes `unround`, in the same sense: the answer is the words whose round `w` is.
+pub fn round_undoes_unround(w: &mut [u64x4; 4], m: &[u64; 16], s: &[usize; 16]) -> [u64x4; 4]
     requires { (j : ℕ) → j < 16 → slice_index s.now j < 16 }
-    ensures { sixteen w.new ≡ sixteen w.old }
+    ensures between { round blake2b (sixteen result) m.now s.now ≡ sixteen w.old }
+    ensures undone { sixteen w.new ≡ sixteen w.old }
 {
     u64x4::unround(w, m, s);
+    let between = *w;
     u64x4::round(w, m, s);
+    between
 }
 
 /// A round, under one `m` and one `s`, takes different lists of sixteen words to different lists. It
