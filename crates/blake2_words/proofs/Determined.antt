@@ -8,7 +8,8 @@ use Rattle.std.specs.Int.{from_le_bytes, to_le_bytes}
 use Rattle.std.specs.List.{concat}
 use Rattle.blake2_rows.specs.Family.{Family, blake2b, blake2s, word, word_bytes, block_bytes, key_bytes, salt_bytes, output_bytes, start_words}
 use Rattle.blake2_words.specs.Hash.{inner, Parameters, input_parameters, AreBytes, words_of, xor_words, padded, parameter_block, parameter_words, start, key_block, key_size, cut, block_count, Input, input_data}
-use Rattle.blake2_words.specs.Witness.{Accepts, KeyFits, Entry, IsTranscript, Same}
+use Rattle.blake2_words.specs.Inputs.{Accepts, KeyFits, Same}
+use Rattle.blake2_words.specs.Transcript.{Entry, IsTranscript}
 use Rattle.blake2_words.proofs.Sizes.{AreParameters, length-padded, length-parameter_block, length-parameter_words, start_words-length, AreBytes-take, AreBytes-drop, AreBytes-parameter_block}
 
 -- ---- xor
@@ -134,7 +135,8 @@ start_cancel f p q h =
 
 -- ---- key and message
 
-key_bytes_fit : (f : Family) → (key_bytes f ≤ block_bytes f) × (key_bytes f < 256) × (output_bytes f < 256)
+-- a key is shorter than a block, and it and an output have fewer bytes than a byte can tell
+pub key_bytes_fit : (f : Family) → (key_bytes f ≤ block_bytes f) × (key_bytes f < 256) × (output_bytes f < 256)
 key_bytes_fit blake2b = (omega arith, omega arith, omega arith)
 key_bytes_fit blake2s = (omega arith, omega arith, omega arith)
 

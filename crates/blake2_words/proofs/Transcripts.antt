@@ -8,19 +8,19 @@ use Rattle.std.specs.Prelude.{if◌then◌else◌}
 use Rattle.std.specs.List.{concat}
 use Rattle.blake2_rows.specs.Family.{Family, blake2b, blake2s, block_bytes, output_bytes, salt_bytes, word_bytes}
 use Rattle.blake2_words.specs.Hash.{input_flags, inner, Parameters, input_parameters, padded, words_of, parameter_block, parameter_words, blocks, block_count, Input, input_data, input_start, digest, Step, step, steps}
-use Rattle.blake2_words.specs.Witness.{Accepts, Entry, IsTranscript, Same, from_end, IsWitness}
+use Rattle.blake2_words.specs.Inputs.{Accepts, Same}
+use Rattle.blake2_words.specs.Transcript.{Entry, entry, IsTranscript}
+use Rattle.blake2_words.specs.Witness.{from_end, IsWitness}
 use Rattle.blake2_words.proofs.Streaming.{length-cut, block_count-pos}
 use Rattle.blake2_words.proofs.Sizes.{AreParameters, length-padded}
 use Rattle.blake2_words.proofs.Runs.{length-steps, get_or-steps, whole_blocks}
 use Rattle.blake2_words.proofs.Determined.{concat-cut, block_count-fits}
 use Rattle.blake2_words.proofs.Pairs.{witness_at, same_from_pairs}
 
-abbrev pub entry : Step → Entry
-entry s = record { block = s.block; counter = s.counter; flags = s.flags }
-
 -- ---- the run's entries are a transcript
 
-entry-at : (f : Family) (size : ℕ) (a : Input) (i : ℕ) (d : Entry) → i < length (steps f size a)
+-- entry i of a run is that of its step i
+pub entry-at : (f : Family) (size : ℕ) (a : Input) (i : ℕ) (d : Entry) → i < length (steps f size a)
     → get_or (map entry (steps f size a)) i d ≡ entry (step f (input_start f size a) (input_data f a) (input_flags a) i)
 entry-at f size a i d h =
     let none : Step = record { chain = []; block = []; counter = 0; flags = inner } in

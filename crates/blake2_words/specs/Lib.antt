@@ -3,5 +3,10 @@ pub use Rattle.blake2_rows.specs.Round
 pub use Rattle.blake2_rows.specs.Rows
 pub mod Hash
 pub mod Stream
+pub mod Inputs
+pub mod Transcript
 pub mod Witness
+pub mod Views
+pub mod Run
+pub mod Reader
 pub mod Laws

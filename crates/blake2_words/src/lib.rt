@@ -5,4 +5,5 @@
 pub mod consts;
 pub mod laws;
 pub mod params;
+pub mod steps;
 pub mod words;

@@ -1,0 +1,30 @@
+use Rattle.std.proofs.Common.{◌≡◌, ◌++◌, ◌∷◌, [], ℕ, List, length, map, sym, ap, ◌∙◌, arith, get_or}
+use Rattle.std.proofs.lemmas.List.{take_all, take_more, map-append, length-map}
+use Rattle.blake2_words.specs.Hash.{Input, Step, steps}
+use Rattle.blake2_words.specs.Transcript.{Entry, entry}
+use Rattle.blake2_words.specs.Views.{input_of, entry_of}
+use Rattle.blake2_words.specs.Run.{number, no_entry}
+use Rattle.blake2_words.proofs.Runs.{length-steps}
+use Rattle.blake2_words.proofs.Transcripts.{entry-at}
+use Rattle.blake2_words.proofs.steps.blocks.entries.Goals as goal
+
+pub loop-i-preserved : goal.loop-i-preserved
+loop-i-preserved g c size =
+    let a : Input = input_of c.args.input.now in
+    let i : ℕ = c.loop-i.i in
+    let es : List Entry = map entry (steps g.f size a) in
+    let count : length (steps g.f size a) ≡ number g.f a = length-steps g.f size a in
+    let many : length es ≡ length (steps g.f size a) = length-map (steps g.f size a) entry in
+    let counts : c.block_count-count.result ≡ number g.f a = c.block_count-count.ensures ∙ ap (Rattle.blake2_words.specs.Hash.block_count g.f) c.counted.ensures in
+    let here : entry_of c.entry_at.result ≡ get_or es i no_entry = c.entry_at.ensures ∙ sym (entry-at g.f size a i no_entry (omega arith)) in
+    ap (map entry_of) c.in_ok-push.ensures.items ∙ map-append entry_of c.loop-i.entries.items _
+    ∙ (λ k. c.loop-i.invariant size k ++ here k ∷ []) ∙ sym (take_more es i no_entry (omega arith))
+
+pub returns : goal.returns
+returns g c size =
+    let a : Input = input_of c.args.input.now in
+    let es : List Entry = map entry (steps g.f size a) in
+    let count : length (steps g.f size a) ≡ number g.f a = length-steps g.f size a in
+    let many : length es ≡ length (steps g.f size a) = length-map (steps g.f size a) entry in
+    let counts : c.block_count-count.result ≡ number g.f a = c.block_count-count.ensures ∙ ap (Rattle.blake2_words.specs.Hash.block_count g.f) c.counted.ensures in
+    c.loop-i.invariant size ∙ take_all c.loop-i.i es (omega arith)

@@ -1,0 +1,17 @@
+use Rattle.std.proofs.Common.{◌≡◌, ℕ, map, take}
+use Rattle.blake2_words.specs.Hash.{steps}
+use Rattle.blake2_words.specs.Transcript.{entry}
+use Rattle.blake2_words.specs.Views.{input_of, entry_of}
+use Rattle.blake2_words.proofs.steps.blocks.entries.Given as goal
+
+abbrev pub ghost-counted : goal.ghost-counted
+ghost-counted g a = g.f
+
+abbrev pub ghost-block_count : goal.ghost-block_count
+ghost-block_count g a = g.f
+
+abbrev pub ghost-entry_at : goal.ghost-entry_at
+ghost-entry_at g a = g.f
+
+abbrev pub invariant-loop-i : goal.invariant-loop-i
+invariant-loop-i g l = (size : ℕ) → map entry_of l.entries.items ≡ take l.i (map entry (steps g.f size (input_of l.input)))

@@ -1,0 +1,27 @@
+-- Which inputs are hashed, and when two of them are the same.
+use Rattle.std.specs.Prelude.{◌≡◌, ℕ, ◌<◌, ◌≤◌, ◌^◌, List, length, Option, Some, None, ⊤}
+use Rattle.blake2_rows.specs.Family.{Family, salt_bytes, key_bytes}
+use Rattle.blake2_words.specs.Hash.{AreBytes, Input, input_data, padded}
+
+-- the key is absent, or has 1 to K bytes (2.1)
+abbrev pub KeyFits : Family → Option (List ℕ) → Type 0
+KeyFits f None = ⊤
+KeyFits f (Some key) = (1 ≤ length key) × (length key ≤ key_bytes f) × AreBytes key
+
+-- salt, persona and key are as long as they may be, and the counted bytes, those of the data, are
+-- below 2^64 (2.1; the BLAKE2 document, 2.8)
+pub record Accepts (f : Family) (a : Input) : Type 0 where
+  pub salt_fits : length a.salt ≤ salt_bytes f
+  pub persona_fits : length a.persona ≤ salt_bytes f
+  pub key_fits : KeyFits f a.key
+  pub counted : length (input_data f a) < 2 ^ 64
+  pub salt_bytes : AreBytes a.salt
+  pub persona_bytes : AreBytes a.persona
+  pub message_bytes : AreBytes a.message
+
+-- two inputs are the same but for zeros at the end of a salt or a persona
+pub record Same (f : Family) (a b : Input) : Type 0 where
+  pub salt : padded (salt_bytes f) a.salt ≡ padded (salt_bytes f) b.salt
+  pub persona : padded (salt_bytes f) a.persona ≡ padded (salt_bytes f) b.persona
+  pub key : a.key ≡ b.key
+  pub message : a.message ≡ b.message

@@ -1,0 +1,52 @@
+-- The transcript of a run: its parameter words, and its steps without their chaining words.
+use Rattle.std.specs.Prelude.{◌≡◌, ℕ, ◌+◌, ◌-◌, ◌*◌, ◌<◌, ◌≤◌, List, length, map, slice_index_or}
+use Rattle.std.specs.List.{concat}
+use Rattle.blake2_rows.specs.Family.{Family, block_bytes, output_bytes}
+use Rattle.blake2_words.specs.Hash.{Flags, inner, Input, input_flags, input_parameters, input_data, padded, block_count, parameter_words, Step}
+use Rattle.blake2_words.specs.Inputs.{Accepts, Same}
+
+-- one compression, without its chaining words
+pub record Entry : Type 0 where
+  pub block : List ℕ
+  pub counter : ℕ
+  pub flags : Flags
+
+-- the entry of a step
+abbrev pub entry : Step → Entry
+entry s = record { block = s.block; counter = s.counter; flags = s.flags }
+
+-- the bytes of the blocks, one after the other
+abbrev pub joined : List Entry → List ℕ
+joined entries = concat (map (λ (e : Entry). e.block) entries)
+
+-- words and entries are those of the input at this output size: by their places, without F (3.3)
+pub record IsTranscript (f : Family) (words : List ℕ) (entries : List Entry) (size : ℕ) (a : Input) : Type 0 where
+  pub parameters : words ≡ parameter_words f (input_parameters size a)
+  pub number : length entries ≡ block_count f (length (input_data f a))
+  pub below : (i : ℕ) (d : Entry) → i + 1 < length entries
+      → ((slice_index_or entries i d).counter ≡ (i + 1) * block_bytes f) × ((slice_index_or entries i d).flags ≡ inner)
+  pub ends : (d : Entry)
+      → ((slice_index_or entries (length entries - 1) d).counter ≡ length (input_data f a)) × ((slice_index_or entries (length entries - 1) d).flags ≡ input_flags a)
+  pub blocks : joined entries ≡ padded (length entries * block_bytes f) (input_data f a)
+
+-- ---- what a transcript is read as
+
+-- words and entries are the transcript of this accepted input, at this output size
+pub record Reads (f : Family) (words : List ℕ) (entries : List Entry) (size : ℕ) (a : Input) : Type 0 where
+  pub fits : size ≤ output_bytes f
+  pub accepted : Accepts f a
+  pub is : IsTranscript f words entries size a
+
+-- they are the transcript of some accepted input, at some output size
+abbrev pub IsOfSomeInput : Family → List ℕ → List Entry → Type 0
+IsOfSomeInput f words entries = (size : ℕ) × (a : Input) × Reads f words entries size a
+
+-- they are the transcript of this input at this size, and of no other input or size
+pub record ReadsOnly (f : Family) (words : List ℕ) (entries : List Entry) (size : ℕ) (a : Input) : Type 0 where
+  pub reads : Reads f words entries size a
+  pub only : (other : ℕ) (b : Input) → Reads f words entries other b → (size ≡ other) × Same f a b
+
+-- the law: a transcript is of one size and, but for zeros behind salt and persona, of one input
+abbrev pub TranscriptsDetermine : Family → Type 0
+TranscriptsDetermine f = (words : List ℕ) (entries : List Entry) (size other : ℕ) (a b : Input)
+    → Reads f words entries size a → Reads f words entries other b → (size ≡ other) × Same f a b

@@ -1,0 +1,45 @@
+-- How the values of the code are seen as those of the definitions.
+use Rattle.std.specs.Prelude.{ℕ, List, map, Option, Some, None}
+use Rattle.std.specs.Global.{Vec}
+use Rattle.std.specs.Borrow.{Bor}
+use Rattle.blake2_words.specs.declared.steps.Input as GivenInput
+use Rattle.blake2_words.specs.declared.steps.Entry as GivenEntry
+use Rattle.blake2_words.specs.declared.steps.Step as GivenStep
+use Rattle.blake2_words.specs.declared.steps.Transcript as GivenTranscript
+use Rattle.blake2_words.specs.declared.steps.Reading as GivenReading
+use Rattle.blake2_words.specs.Hash.{flags, Input, Step}
+use Rattle.blake2_words.specs.Transcript.{Entry}
+
+-- a key, if there is one
+abbrev pub key_of : Option (Bor (List ℕ)) → Option (List ℕ)
+key_of None = None
+key_of (Some key) = Some key.now
+
+abbrev pub input_of : GivenInput.Input → Input
+input_of a = record {
+  salt = a.salt.now;
+  persona = a.persona.now;
+  key = key_of a.key;
+  message = a.message.now;
+}
+
+abbrev pub entry_of : {B : ℕ} → GivenEntry.Entry B → Entry
+entry_of e = record { block = e.block; counter = e.counter; flags = flags e.last }
+
+abbrev pub step_of : {B : ℕ} → GivenStep.Step ℕ B → Step
+step_of s = record { chain = s.chain; block = s.block; counter = s.counter; flags = flags s.last }
+
+abbrev pub entries_of : {B : ℕ} → GivenTranscript.Transcript ℕ B → List Entry
+entries_of t = map entry_of t.entries.items
+
+abbrev pub items_of : Option (Vec ℕ) → Option (List ℕ)
+items_of None = None
+items_of (Some v) = Some v.items
+
+abbrev pub reading_of : {S : ℕ} → GivenReading.Reading S → Input
+reading_of r = record {
+  salt = r.salt;
+  persona = r.persona;
+  key = items_of r.key;
+  message = r.message.items;
+}

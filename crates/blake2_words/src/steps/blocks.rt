@@ -1,0 +1,109 @@
+//! The blocks of an input's data, and the entries of its transcript.
+
+ghost use Rattle.std.specs.Prelude.{◌≡◌, ◌+◌, ◌<◌, ◌≤◌, ◌*◌, ◌-◌, ◌^◌, ℕ, length, take, drop, map, slice_index_or, [], IfOk};
+ghost use Rattle.blake2_rows.specs.Family.{Family, block_bytes};
+ghost use Rattle.blake2_words.specs.Hash.{padded, input_data, blocks, steps};
+ghost use Rattle.blake2_words.specs.Inputs.{Accepts};
+ghost use Rattle.blake2_words.specs.Transcript.{entry};
+ghost use Rattle.blake2_words.specs.Views.{input_of, entry_of};
+ghost use Rattle.blake2_words.specs.Run.{number};
+
+use super::{Entry, Input};
+use std::alloc::{AllocError, Global};
+
+// The bytes, with zeros up to N.
+pub(crate) fn with_zeros<const N: usize>(bytes: &[u8]) -> [u8; N]
+    requires { length bytes.now ≤ N }
+    ensures { result ≡ padded N bytes.now }
+{
+    let mut all = [0; N];
+    all[..bytes.len()].copy_from_slice(bytes);
+    all
+}
+
+// The counted length: the key's block, if there is one, and the message.
+pub(crate) fn counted<const B: usize>(input: &Input<'_>) -> u64
+    ghost f: { Family }
+    requires family { block_bytes f ≡ B }
+    requires accepted { Accepts f (input_of input.now) }
+    ensures { result ≡ length (input_data f (input_of input.now)) }
+{
+    let message = input.message.len() as u64;
+    match input.key {
+        None => message,
+        Some(_) => B as u64 + message,
+    }
+}
+
+// How many blocks so many bytes fill.
+pub(crate) fn block_count<const B: usize>(counted: u64) -> u64
+    ghost f: { Family }
+    requires family { block_bytes f ≡ B }
+    ensures { result ≡ Rattle.blake2_words.specs.Hash.block_count f counted }
+{
+    counted.saturating_sub(1) / B as u64 + 1
+}
+
+// The block of the message at place `from`.
+fn message_block<const B: usize>(message: &[u8], from: usize) -> [u8; B]
+    requires { from ≤ length message.now }
+    ensures { result ≡ padded B (take B (drop from message.now)) }
+{
+    let rest = &message[from..];
+    with_zeros(&rest[..rest.len().min(B)])
+}
+
+// Block i of an input.
+fn block_at<const B: usize>(input: &Input<'_>, i: usize) -> [u8; B]
+    ghost f: { Family }
+    requires family { block_bytes f ≡ B }
+    requires accepted { Accepts f (input_of input.now) }
+    requires within { i < number f (input_of input.now) }
+    ensures { result ≡ slice_index_or (blocks f (input_data f (input_of input.now))) i [] }
+{
+    match input.key {
+        None => message_block(input.message, i * B),
+        Some(key) => {
+            if i == 0 {
+                with_zeros(key)
+            } else {
+                message_block(input.message, (i - 1) * B)
+            }
+        },
+    }
+}
+
+// Entry i of an input's transcript.
+pub(crate) fn entry_at<const B: usize>(input: &Input<'_>, i: u64) -> Entry<B>
+    ghost f: { Family }
+    requires family { block_bytes f ≡ B }
+    requires accepted { Accepts f (input_of input.now) }
+    requires within { i < number f (input_of input.now) }
+    ensures { entry_of result ≡ Rattle.blake2_words.specs.Run.entry_at f (input_of input.now) i }
+{
+    let counted = counted::<B>(input);
+    let last = i + 1 == block_count::<B>(counted);
+    Entry {
+        block: block_at(input, i as usize),
+        counter: if last { counted } else { (i + 1) * B as u64 },
+        last,
+    }
+}
+
+// The entries of an input's transcript.
+pub(crate) fn entries<const B: usize>(
+    alloc: Global,
+    input: &Input<'_>,
+) -> Result<Vec<Entry<B>>, AllocError>
+    ghost f: { Family }
+    requires family { block_bytes f ≡ B }
+    requires accepted { Accepts f (input_of input.now) }
+    ensures { IfOk result (λ v. (size : ℕ) → map entry_of v.items ≡ map entry (steps f size (input_of input.now))) }
+{
+    let count = block_count::<B>(counted::<B>(input));
+    let mut entries = Vec::with_capacity(alloc, count as usize)?;
+    for i in 0..count {
+        entries.push(entry_at(input, i))?;
+    }
+    Ok(entries)
+}

@@ -1,0 +1,142 @@
+//! Whether entries are those of a run, and the key and the message of one, for blocks of any length.
+
+ghost use Rattle.std.specs.Prelude.{◌≡◌, ◌+◌, ◌<◌, ◌≤◌, ◌*◌, ◌-◌, ◌^◌, ◌↔◌, ℕ, length, map, take, IsTrue, IfOk, slice_index, EachIndex};
+ghost use Rattle.blake2_rows.specs.Family.{Family, block_bytes};
+ghost use Rattle.blake2_words.specs.Hash.{AreBytes};
+ghost use Rattle.blake2_words.specs.Views.{entry_of, items_of};
+ghost use Rattle.blake2_words.specs.Reader.{AreInner, AreWhole, EndsRun, HasKey, IsInner, IsRun, IsWhole, IsZeroFrom, told_count, told_data, told_key, told_message};
+ghost use Rattle.blake2_words.specs.Transcript.{joined};
+
+use super::Entry;
+use std::alloc::{AllocError, Global};
+
+// Whether each byte is zero.
+fn is_zero(bytes: &[u8]) -> bool
+    ensures { IsTrue result ↔ EachIndex bytes.now (λ i. slice_index bytes.now i ≡ 0) }
+{
+    bytes.iter().all(|byte| *byte == 0)
+}
+
+// The block is zero from place `from` on.
+fn is_zero_from<const B: usize>(block: &[u8; B], from: usize) -> bool
+    requires { from ≤ B }
+    ensures zero { IsTrue result ↔ IsZeroFrom from block.now }
+    ensures whole { length block.now ≡ B }
+{
+    let bytes = &block[..];
+    is_zero(&bytes[from..])
+}
+
+// What the type of a slice says of its elements.
+fn are_bytes(_bytes: &[u8])
+    ensures { AreBytes _bytes.now }
+{}
+
+// The entry is one that others follow, at place i.
+fn is_inner<const B: usize>(entry: &Entry<B>, i: u64) -> bool
+    ghost f: { Family }
+    requires family { block_bytes f ≡ B }
+    requires fits { (i + 1) * B < 2 ^ 64 }
+    ensures inner { IsTrue result ↔ IsInner f i (entry_of entry.now) }
+    ensures whole { IsTrue result → IsWhole f (entry_of entry.now) }
+{
+    are_bytes(&entry.block);
+    !entry.last && entry.counter == (i + 1) * B as u64
+}
+
+// Each entry is one that others follow.
+fn are_inner<const B: usize>(entries: &[Entry<B>]) -> bool
+    ghost f: { Family }
+    requires family { block_bytes f ≡ B }
+    ensures inner { IsTrue result ↔ AreInner f (map entry_of entries.now) }
+    ensures whole { IsTrue result → AreWhole f (map entry_of entries.now) }
+{
+    for (i, entry) in entries.iter().enumerate() {
+        if !is_inner(entry, i as u64) {
+            return false;
+        }
+    }
+    true
+}
+
+// The entry is the last, after `before` others.
+fn ends_run<const B: usize>(entry: &Entry<B>, before: usize) -> bool
+    ghost f: { Family }
+    requires family { block_bytes f ≡ B }
+    ensures { IsTrue result ↔ EndsRun f before (entry_of entry.now) }
+{
+    entry.last && (entry.counter.saturating_sub(1) / B as u64) as usize == before
+}
+
+// The entries are those of a run over some data.
+pub(crate) fn is_run<const B: usize>(entries: &[Entry<B>]) -> bool
+    ghost f: { Family }
+    requires family { block_bytes f ≡ B }
+    ensures run { IsTrue result ↔ IsRun f (map entry_of entries.now) }
+    ensures whole { IsTrue result → AreWhole f (map entry_of entries.now) }
+    ensures counter { IsTrue result → told_count (map entry_of entries.now) < 2 ^ 64 }
+{
+    let Some((last, before)) = entries.split_last() else {
+        return false;
+    };
+    are_bytes(&last.block);
+    if !ends_run(last, before.len()) {
+        return false;
+    }
+    let counted_before = before.len() as u64 * B as u64;
+    are_inner(before) && is_zero_from(&last.block, (last.counter - counted_before) as usize)
+}
+
+// The data begins with the block of a key of that many bytes.
+pub(crate) fn has_key<const B: usize>(entries: &[Entry<B>], key_size: usize) -> bool
+    ghost f: { Family }
+    requires family { block_bytes f ≡ B }
+    requires some { 0 < length entries.now }
+    requires size { key_size ≤ B }
+    ensures { IsTrue result ↔ HasKey f key_size (map entry_of entries.now) }
+{
+    let first = &entries[0];
+    let last = &entries[entries.len() - 1];
+    last.counter >= B as u64 && is_zero_from(&first.block, key_size)
+}
+
+// The bytes of the blocks, up to that length.
+fn bytes_of_blocks<const B: usize>(
+    alloc: Global,
+    entries: &[Entry<B>],
+    length: usize,
+) -> Result<Vec<u8>, AllocError>
+    ensures { IfOk result (λ v. v.items ≡ take length (joined (map entry_of entries.now))) }
+{
+    let mut bytes = Vec::with_capacity(alloc, length)?;
+    for entry in entries {
+        let block = &entry.block[..];
+        let count = block.len().min(length - bytes.len());
+        bytes.extend_from_slice(&block[..count])?;
+    }
+    Ok(bytes)
+}
+
+// The key, where its size is not 0, and the message.
+pub(crate) fn key_and_message<const B: usize>(
+    alloc: Global,
+    entries: &[Entry<B>],
+    key_size: usize,
+) -> Result<(Option<Vec<u8>>, Vec<u8>), AllocError>
+    ghost f: { Family }
+    requires family { block_bytes f ≡ B }
+    requires size { key_size ≤ B }
+    requires run { IsRun f (map entry_of entries.now) }
+    requires whole { AreWhole f (map entry_of entries.now) }
+    requires key { 0 < key_size → HasKey f key_size (map entry_of entries.now) }
+    ensures key { IfOk result (λ p. items_of p.0 ≡ told_key key_size (told_data (map entry_of entries.now))) }
+    ensures message { IfOk result (λ p. p.1.items ≡ told_message f key_size (told_data (map entry_of entries.now))) }
+{
+    let counted = entries[entries.len() - 1].counter as usize;
+    if key_size == 0 {
+        return Ok((None, bytes_of_blocks(alloc, entries, counted)?));
+    }
+    let key = entries[0].block[..key_size].to_vec(alloc)?;
+    let message = bytes_of_blocks(alloc, &entries[1..], counted - B)?;
+    Ok((Some(key), message))
+}
