@@ -1,13 +1,13 @@
 -- The run of an input is its transcript, the words of its parameter block, and the witness of two
 -- different inputs with one digest.
-use Rattle.std.proofs.Common.{ne_eqb, eq-eqb, ◌≡◌, ◌≢◌, ℕ, zero, suc, ◌+◌, ◌-◌, ◌*◌, ◌<◌, ◌≤◌, ◌⊎◌, inl, inr, Bool, true, false, List, [], ◌∷◌, ◌++◌, map, length, drop, min, refl, sym, ap, ◌∙◌, arith, get_or, length-drop, nat_eq}
+use Rattle.std.proofs.Common.{ne_eqb, eq-eqb, ◌≡◌, ◌≢◌, ℕ, zero, suc, ◌+◌, ◌-◌, ◌*◌, ◌<◌, ◌≤◌, ◌⊎◌, inl, inr, Bool, true, false, List, [], ◌∷◌, ◌++◌, map, length, drop, min, refl, sym, ap, subst, ◌∙◌, arith, get_or, length-drop, nat_eq}
 use Rattle.std.proofs.lemmas.List.{length-map, same_lists, get_or_default, get_or-map, take-append-le, drop-append-le}
 use Rattle.std.proofs.lemmas.Bool.{cases_lt, cases_eq}
 use Rattle.std.proofs.Math.Nat.{min-eq_left, min-eq_right}
 use Rattle.std.specs.Prelude.{if◌then◌else◌}
 use Rattle.std.specs.List.{concat}
 use Rattle.blake2_rows.specs.Family.{Family, blake2b, blake2s, block_bytes, output_bytes, salt_bytes, word_bytes}
-use Rattle.blake2_words.specs.Hash.{input_flags, inner, Parameters, input_parameters, padded, words_of, parameter_block, parameter_words, blocks, block_count, Input, input_data, input_start, digest, Step, step, steps}
+use Rattle.blake2_words.specs.Hash.{input_flags, inner, key_size, Parameters, parameters_of, input_parameters, padded, words_of, parameter_block, parameter_words, blocks, block_count, Input, input_data, input_start, digest, Step, step, steps}
 use Rattle.blake2_words.specs.Inputs.{Accepts, Same}
 use Rattle.blake2_words.specs.Transcript.{Entry, entry, IsTranscript}
 use Rattle.blake2_words.specs.Witness.{from_end, IsWitness}
@@ -62,6 +62,14 @@ steps_transcript f size a =
           );
       blocks = ap concat bs ∙ concat-cut f n z (block_count-fits f (length z)) ∙ ap (λ (k : ℕ). padded (k * block_bytes f) z) (sym le);
     }
+
+-- words and entries that are those of a run are a transcript
+pub transcript_from : (f : Family) (size key_bytes : ℕ) (a : Input) (words : List ℕ) (es : List Entry) → key_bytes ≡ key_size a.key
+    → words ≡ parameter_words f (parameters_of size key_bytes a.salt a.persona) → es ≡ map entry (steps f size a) → IsTranscript f words es size a
+transcript_from f size key_bytes a words es key w e =
+    let named : words ≡ parameter_words f (input_parameters size a) = w ∙ ap (λ (n : ℕ). parameter_words f (parameters_of size n a.salt a.persona)) key in
+    subst (λ (x : List ℕ). IsTranscript f x es size a) (sym named)
+    (subst (λ (x : List Entry). IsTranscript f (parameter_words f (input_parameters size a)) x size a) (sym e) (steps_transcript f size a))
 
 -- ---- a witness there is
 

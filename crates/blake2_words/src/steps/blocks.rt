@@ -5,7 +5,7 @@ ghost use Rattle.blake2_rows.specs.Family.{Family, block_bytes};
 ghost use Rattle.blake2_words.specs.Hash.{padded, input_data, blocks, steps};
 ghost use Rattle.blake2_words.specs.Inputs.{Accepts};
 ghost use Rattle.blake2_words.specs.Transcript.{entry};
-ghost use Rattle.blake2_words.specs.Views.{input_of, entry_of};
+ghost use Rattle.blake2_words.specs.Views.{input_of, entry_of, key_of};
 ghost use Rattle.blake2_words.specs.Run.{number};
 
 use super::{Entry, Input};
@@ -32,6 +32,16 @@ pub(crate) fn counted<const B: usize>(input: &Input<'_>) -> u64
     match input.key {
         None => message,
         Some(_) => B as u64 + message,
+    }
+}
+
+// The length of the key, 0 without one.
+pub(crate) fn key_size(key: &Option<&[u8]>) -> usize
+    ensures { result ≡ Rattle.blake2_words.specs.Hash.key_size (key_of key.now) }
+{
+    match *key {
+        None => 0,
+        Some(key) => key.len(),
     }
 }
 
