@@ -9,7 +9,7 @@ use Rattle.std.specs.List.{concat}
 use Rattle.blake2_rows.specs.Family.{Family, blake2b, blake2s, word, word_bytes, block_bytes, key_bytes, salt_bytes, output_bytes, start_words}
 use Rattle.blake2_words.specs.Hash.{inner, Parameters, input_parameters, AreBytes, words_of, xor_words, padded, parameter_block, parameter_words, start, key_block, key_size, cut, block_count, Input, input_data}
 use Rattle.blake2_words.specs.Inputs.{Accepts, KeyFits, Same}
-use Rattle.blake2_words.specs.Transcript.{Entry, IsTranscript}
+use Rattle.blake2_words.specs.Transcript.{Entry, TranscriptsDetermine}
 use Rattle.blake2_words.proofs.Sizes.{AreParameters, length-padded, length-parameter_block, length-parameter_words, start_words-length, AreBytes-take, AreBytes-drop, AreBytes-parameter_block}
 
 -- ---- xor
@@ -157,7 +157,8 @@ key_size-lt : (f : Family) (k : Option (List ℕ)) → KeyFits f k → key_size 
 key_size-lt f None p = omega arith
 key_size-lt f (Some k) p = let fits = key_bytes_fit f in omega arith
 
-accepted-parameters : (f : Family) (size : ℕ) (a : Input) → Accepts f a → size ≤ output_bytes f → AreParameters f (input_parameters size a)
+-- the parameters of an accepted input are ones that a parameter block has room for
+pub accepted-parameters : (f : Family) (size : ℕ) (a : Input) → Accepts f a → size ≤ output_bytes f → AreParameters f (input_parameters size a)
 accepted-parameters f size a p h = let fits = key_bytes_fit f in record {
   size_fits = omega arith;
   key_fits = key_size-lt f a.key p.key_fits;
@@ -176,11 +177,10 @@ determined f size size' a b p q h h' words joined =
     let both = same_key f a.key b.key a.message b.message p.key_fits q.key_fits same.keys joined in
     (same.sizes, record { salt = same.salts; persona = same.personas; key = both.0; message = both.1 })
 
--- THE LAW: a transcript determines its input
-pub transcript_determines : (f : Family) (words : List ℕ) (entries : List Entry) (size size' : ℕ) (a b : Input) → Accepts f a → Accepts f b
-    → size ≤ output_bytes f → size' ≤ output_bytes f → IsTranscript f words entries size a → IsTranscript f words entries size' b → (size ≡ size') × Same f a b
-transcript_determines f words entries size size' a b p q h h' s t =
+-- THE LAW: a transcript determines its size and input
+pub transcripts_determine : (f : Family) → TranscriptsDetermine f
+transcripts_determine f words entries size other a b r s =
     let none : Entry = record { block = []; counter = 0; flags = inner } in
-    let counted : length (input_data f a) ≡ length (input_data f b) = sym (s.ends none).0 ∙ (t.ends none).0 in
-    let joined : input_data f a ≡ input_data f b = padded_cancel (length entries * block_bytes f) _ _ counted (sym s.blocks ∙ t.blocks) in
-    determined f size size' a b p q h h' (sym s.parameters ∙ t.parameters) joined
+    let counted : length (input_data f a) ≡ length (input_data f b) = sym (r.is.ends none).0 ∙ (s.is.ends none).0 in
+    let same : input_data f a ≡ input_data f b = padded_cancel (length entries * block_bytes f) _ _ counted (sym r.is.blocks ∙ s.is.blocks) in
+    determined f size other a b r.accepted s.accepted r.fits s.fits (sym r.is.parameters ∙ s.is.parameters) same

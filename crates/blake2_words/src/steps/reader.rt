@@ -91,12 +91,12 @@ pub(crate) fn is_run<const B: usize>(entries: &[Entry<B>]) -> bool
 pub(crate) fn has_key<const B: usize>(entries: &[Entry<B>], key_size: usize) -> bool
     ghost f: { Family }
     requires family { block_bytes f ≡ B }
-    requires some { 0 < length entries.now }
     requires size { key_size ≤ B }
     ensures { IsTrue result ↔ HasKey f key_size (map entry_of entries.now) }
 {
-    let first = &entries[0];
-    let last = &entries[entries.len() - 1];
+    let (Some(first), Some(last)) = (entries.first(), entries.last()) else {
+        return false;
+    };
     last.counter >= B as u64 && is_zero_from(&first.block, key_size)
 }
 
