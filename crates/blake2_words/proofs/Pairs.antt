@@ -9,29 +9,24 @@ use Rattle.blake2_rows.specs.Family.{Family, block_bytes, output_bytes}
 use Rattle.blake2_words.specs.Hash.{inner, input_flags, input_parameters, padded, blocks, block_count, chain, bytes_of, Input, input_data, input_start, digest, Step, output, step, steps}
 use Rattle.blake2_words.specs.Inputs.{Accepts, Same}
 use Rattle.blake2_words.specs.Witness.{from_end, IsWitnessAt}
+use Rattle.blake2_words.specs.Run.{number, run_step, last_step}
 use Rattle.blake2_words.proofs.Streaming.{length-cut, block_count-pos}
 use Rattle.blake2_words.proofs.Runs.{length-steps, get_or-steps, output-step, output-step_last}
 use Rattle.blake2_words.proofs.Determined.{concat-cut, block_count-fits, padded_cancel, start_cancel, determined}
 
--- step i of an input's run
-abbrev at : Family → ℕ → Input → ℕ → Step
-at f size a i = step f (input_start f size a) (input_data f a) (input_flags a) i
-
--- how many steps it has
-abbrev number : Family → Input → ℕ
-number f a = block_count f (length (input_data f a))
-
-from_end_is : (f : Family) (size : ℕ) (a : Input) (j : ℕ) (d : Step) → j < number f a → from_end (steps f size a) j d ≡ at f size a (number f a - 1 - j)
+-- the step at distance j from the end
+from_end_is : (f : Family) (size : ℕ) (a : Input) (j : ℕ) (d : Step) → j < number f a → from_end (steps f size a) j d ≡ run_step f size a (number f a - 1 - j)
 from_end_is f size a j d h =
     ap (λ (n : ℕ). get_or (steps f size a) (n - 1 - j) d) (length-steps f size a) ∙ get_or-steps f size a (number f a - 1 - j) d (omega arith)
 
-chain_zero : (f : Family) (h : List ℕ) (c : ℕ) (d : List (List ℕ)) → chain f h c d 0 ≡ h
+-- the chaining words before the first block
+pub chain_zero : (f : Family) (h : List ℕ) (c : ℕ) (d : List (List ℕ)) → chain f h c d 0 ≡ h
 unfolding chain
 chain_zero f h c d = refl
 
 -- equal steps at every place come from the same input
 pub same_steps : (f : Family) (size : ℕ) (a b : Input) → Accepts f a → Accepts f b → size ≤ output_bytes f
-    → length (input_data f a) ≡ length (input_data f b) → ((i : ℕ) → i < number f a → at f size a i ≡ at f size b i) → Same f a b
+    → length (input_data f a) ≡ length (input_data f b) → ((i : ℕ) → i < number f a → run_step f size a i ≡ run_step f size b i) → Same f a b
 same_steps f size a b p q h counted each =
     let za : List ℕ = input_data f a in
     let zb : List ℕ = input_data f b in
@@ -50,7 +45,8 @@ same_steps f size a b p q h counted each =
     let joined : za ≡ zb = padded_cancel (n * block_bytes f) za zb counted padded_same in
     (determined f size size a b p q h h (start_cancel f (input_parameters size a) (input_parameters size b) starts) joined).1
 
-last_counter : (f : Family) (size : ℕ) (a : Input) → (at f size a (number f a - 1)).counter ≡ length (input_data f a)
+-- the last step's counter is the counted length
+pub last_counter : (f : Family) (size : ℕ) (a : Input) → (run_step f size a (number f a - 1)).counter ≡ length (input_data f a)
 last_counter f size a =
     let n : ℕ = number f a in
     let all : n - 1 + 1 ≡ n = omega (arith, block_count-pos f (length (input_data f a))) in
@@ -68,33 +64,34 @@ same_from_pairs f size a b p q h each =
     let la : length (steps f size a) ≡ na = length-steps f size a in
     let lb : length (steps f size b) ≡ nb = length-steps f size b in
     let none : Step = record { chain = []; block = []; counter = 0; flags = inner } in
-    let pair : (j : ℕ) → j < na → j < nb → at f size a (na - 1 - j) ≡ at f size b (nb - 1 - j) =
+    let pair : (j : ℕ) → j < na → j < nb → run_step f size a (na - 1 - j) ≡ run_step f size b (nb - 1 - j) =
     λ j ja jb. sym (from_end_is f size a j none ja) ∙ each j none (omega arith) (omega arith) ∙ from_end_is f size b j none jb in
     let end_a : na - 1 - 0 ≡ na - 1 = omega arith in
     let end_b : nb - 1 - 0 ≡ nb - 1 = omega arith in
-    let ends : (at f size a (na - 1)).counter ≡ (at f size b (nb - 1)).counter =
-    ap (λ (i : ℕ). (at f size a i).counter) (sym end_a) ∙ ap (λ (s : Step). s.counter) (pair 0 pa pb) ∙ ap (λ (i : ℕ). (at f size b i).counter) end_b in
+    let ends : (run_step f size a (na - 1)).counter ≡ (run_step f size b (nb - 1)).counter =
+    ap (λ (i : ℕ). (run_step f size a i).counter) (sym end_a) ∙ ap (λ (s : Step). s.counter) (pair 0 pa pb) ∙ ap (λ (i : ℕ). (run_step f size b i).counter) end_b in
     let counted : length (input_data f a) ≡ length (input_data f b) = sym (last_counter f size a) ∙ ends ∙ last_counter f size b in
     let numbers : na ≡ nb = ap (block_count f) counted in
     same_steps f size a b p q h counted (λ i l.
     let left : na - 1 - (na - 1 - i) ≡ i = omega arith in
     let right : nb - 1 - (na - 1 - i) ≡ i = omega arith in
-    ap (at f size a) (sym left) ∙ pair (na - 1 - i) (omega arith) (omega arith) ∙ ap (at f size b) right)
+    ap (run_step f size a) (sym left) ∙ pair (na - 1 - i) (omega arith) (omega arith) ∙ ap (run_step f size b) right)
 
 -- the outputs at distance j from the ends, where all nearer pairs are equal
 outputs_agree : (f : Family) (size : ℕ) (a b : Input) (j : ℕ) → j < number f a → j < number f b → 0 < j
-    → at f size a (number f a - 1 - (j - 1)) ≡ at f size b (number f b - 1 - (j - 1))
-    → output f (at f size a (number f a - 1 - j)) ≡ output f (at f size b (number f b - 1 - j))
+    → run_step f size a (number f a - 1 - (j - 1)) ≡ run_step f size b (number f b - 1 - (j - 1))
+    → output f (run_step f size a (number f a - 1 - j)) ≡ output f (run_step f size b (number f b - 1 - j))
 outputs_agree f size a b j ja jb some nearer =
     let na : ℕ = number f a in
     let nb : ℕ = number f b in
     let ia : na - 1 - j + 1 ≡ na - 1 - (j - 1) = omega arith in
     let ib : nb - 1 - j + 1 ≡ nb - 1 - (j - 1) = omega arith in
     output-step f (input_start f size a) (input_data f a) (input_flags a) (na - 1 - j) (omega arith)
-    ∙ ap (λ (i : ℕ). (at f size a i).chain) ia ∙ ap (λ (s : Step). s.chain) nearer ∙ ap (λ (i : ℕ). (at f size b i).chain) (sym ib)
+    ∙ ap (λ (i : ℕ). (run_step f size a i).chain) ia ∙ ap (λ (s : Step). s.chain) nearer ∙ ap (λ (i : ℕ). (run_step f size b i).chain) (sym ib)
     ∙ sym (output-step f (input_start f size b) (input_data f b) (input_flags b) (nb - 1 - j) (omega arith))
 
-last_output : (f : Family) (size : ℕ) (a : Input) → take size (bytes_of f (output f (at f size a (number f a - 1)))) ≡ digest f size a
+-- the digest is of the last step's output
+pub last_output : (f : Family) (size : ℕ) (a : Input) → take size (bytes_of f (output f (run_step f size a (number f a - 1)))) ≡ digest f size a
 unfolding digest
 last_output f size a = ap (λ (h : List ℕ). take size (bytes_of f h)) (output-step_last f (input_start f size a) (input_data f a) (input_flags a))
 
@@ -109,8 +106,8 @@ witness_at f size a b j x y ja jb of_a of_b nearer differ digests =
     let lb : length (steps f size b) ≡ number f b = length-steps f size b in
     let ka : j < number f a = omega arith in
     let kb : j < number f b = omega arith in
-    let xa : x ≡ at f size a (number f a - 1 - j) = of_a x ∙ from_end_is f size a j x ka in
-    let yb : y ≡ at f size b (number f b - 1 - j) = of_b y ∙ from_end_is f size b j y kb in
+    let xa : x ≡ run_step f size a (number f a - 1 - j) = of_a x ∙ from_end_is f size a j x ka in
+    let yb : y ≡ run_step f size b (number f b - 1 - j) = of_b y ∙ from_end_is f size b j y kb in
     let whole : 0 < j → output f x ≡ output f y =
     λ some. ap (output f) xa
     ∙ outputs_agree f size a b j ka kb some (sym (from_end_is f size a (j - 1) x (omega arith)) ∙ nearer (j - 1) x (omega arith) ∙ from_end_is f size b (j - 1) x (omega arith))
@@ -120,7 +117,7 @@ witness_at f size a b j x y ja jb of_a of_b nearer differ digests =
       | inr zero_j ↦
           (let ea : number f a - 1 - j ≡ number f a - 1 = omega arith in
           let eb : number f b - 1 - j ≡ number f b - 1 = omega arith in
-          ap (λ (s : Step). take size (bytes_of f (output f s))) (xa ∙ ap (at f size a) ea) ∙ last_output f size a ∙ digests
-          ∙ sym (last_output f size b) ∙ ap (λ (s : Step). take size (bytes_of f (output f s))) (sym (yb ∙ ap (at f size b) eb)))
+          ap (λ (s : Step). take size (bytes_of f (output f s))) (xa ∙ ap (run_step f size a) ea) ∙ last_output f size a ∙ digests
+          ∙ sym (last_output f size b) ∙ ap (λ (s : Step). take size (bytes_of f (output f s))) (sym (yb ∙ ap (run_step f size b) eb)))
     ] in
     record { in_a = ja; in_b = jb; of_a = of_a; of_b = of_b; nearer = nearer; differ = differ; agree = agree; wholly = whole }

@@ -2,6 +2,7 @@
 //! parameter words, and laws.
 #![tactic(auto)]
 
+pub mod compare;
 pub mod consts;
 pub mod laws;
 pub mod params;

@@ -2,7 +2,7 @@
 
 pub mod blake2b;
 pub mod blake2s;
-mod blocks;
+pub(crate) mod blocks;
 mod limits;
 mod reader;
 

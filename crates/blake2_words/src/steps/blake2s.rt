@@ -85,11 +85,7 @@ fn text(low: u32, high: u32) -> [u8; 8]
 }
 
 // What the words and entries of some input are read as.
-fn reading(
-    alloc: Global,
-    words: &[u32; 8],
-    entries: &[Entry<64>],
-) -> Result<Reading<8>, AllocError>
+fn reading(alloc: Global, words: &[u32; 8], entries: &[Entry<64>]) -> Result<Reading<8>, AllocError>
     requires readable { IsReadable blake2s words.now (map entry_of entries.now) }
     requires typed { AreTyped blake2s words.now (map entry_of entries.now) }
     ensures { IfOk result (λ x. ReadsOnly blake2s words.now (map entry_of entries.now) x.output_size (reading_of x)) }

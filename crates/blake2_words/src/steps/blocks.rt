@@ -45,13 +45,14 @@ pub(crate) fn key_size(key: &Option<&[u8]>) -> usize
     }
 }
 
-// How many blocks so many bytes fill.
-pub(crate) fn block_count<const B: usize>(counted: u64) -> u64
+// How many steps an input's run has: one for each block.
+pub(crate) fn step_count<const B: usize>(input: &Input<'_>) -> u64
     ghost f: { Family }
     requires family { block_bytes f ≡ B }
-    ensures { result ≡ Rattle.blake2_words.specs.Hash.block_count f counted }
+    requires accepted { Accepts f (input_of input.now) }
+    ensures { result ≡ number f (input_of input.now) }
 {
-    counted.saturating_sub(1) / B as u64 + 1
+    counted::<B>(input).saturating_sub(1) / B as u64 + 1
 }
 
 // The block of the message at place `from`.
@@ -91,11 +92,14 @@ pub(crate) fn entry_at<const B: usize>(input: &Input<'_>, i: u64) -> Entry<B>
     requires within { i < number f (input_of input.now) }
     ensures { entry_of result ≡ Rattle.blake2_words.specs.Run.entry_at f (input_of input.now) i }
 {
-    let counted = counted::<B>(input);
-    let last = i + 1 == block_count::<B>(counted);
+    let last = i + 1 == step_count::<B>(input);
     Entry {
         block: block_at(input, i as usize),
-        counter: if last { counted } else { (i + 1) * B as u64 },
+        counter: if last {
+            counted::<B>(input)
+        } else {
+            (i + 1) * B as u64
+        },
         last,
     }
 }
@@ -110,7 +114,7 @@ pub(crate) fn entries<const B: usize>(
     requires accepted { Accepts f (input_of input.now) }
     ensures { IfOk result (λ v. (size : ℕ) → map entry_of v.items ≡ map entry (steps f size (input_of input.now))) }
 {
-    let count = block_count::<B>(counted::<B>(input));
+    let count = step_count::<B>(input);
     let mut entries = Vec::with_capacity(alloc, count as usize)?;
     for i in 0..count {
         entries.push(entry_at(input, i))?;

@@ -14,8 +14,8 @@ loop-i-preserved g c size =
     let i : ℕ = c.loop-i.i in
     let es : List Entry = map entry (steps g.f size a) in
     let count : length (steps g.f size a) ≡ number g.f a = length-steps g.f size a in
+    let counts = c.step_count-count.ensures in
     let many : length es ≡ length (steps g.f size a) = length-map (steps g.f size a) entry in
-    let counts : c.block_count-count.result ≡ number g.f a = c.block_count-count.ensures ∙ ap (Rattle.blake2_words.specs.Hash.block_count g.f) c.counted.ensures in
     let here : entry_of c.entry_at.result ≡ get_or es i no_entry = c.entry_at.ensures ∙ sym (entry-at g.f size a i no_entry (omega arith)) in
     ap (map entry_of) c.in_ok-push.ensures.items ∙ map-append entry_of c.loop-i.entries.items _
     ∙ (λ k. c.loop-i.invariant size k ++ here k ∷ []) ∙ sym (take_more es i no_entry (omega arith))
@@ -25,6 +25,6 @@ returns g c size =
     let a : Input = input_of c.args.input.now in
     let es : List Entry = map entry (steps g.f size a) in
     let count : length (steps g.f size a) ≡ number g.f a = length-steps g.f size a in
+    let counts = c.step_count-count.ensures in
     let many : length es ≡ length (steps g.f size a) = length-map (steps g.f size a) entry in
-    let counts : c.block_count-count.result ≡ number g.f a = c.block_count-count.ensures ∙ ap (Rattle.blake2_words.specs.Hash.block_count g.f) c.counted.ensures in
     c.loop-i.invariant size ∙ take_all c.loop-i.i es (omega arith)

@@ -4,11 +4,8 @@ use Rattle.blake2_words.specs.Transcript.{entry}
 use Rattle.blake2_words.specs.Views.{input_of, entry_of}
 use Rattle.blake2_words.proofs.steps.blocks.entries.Given as goal
 
-abbrev pub ghost-counted : goal.ghost-counted
-ghost-counted g a = g.f
-
-abbrev pub ghost-block_count : goal.ghost-block_count
-ghost-block_count g a = g.f
+abbrev pub ghost-step_count : goal.ghost-step_count
+ghost-step_count g a = g.f
 
 abbrev pub ghost-entry_at : goal.ghost-entry_at
 ghost-entry_at g a = g.f

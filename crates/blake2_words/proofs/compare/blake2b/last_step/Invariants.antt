@@ -1,0 +1,12 @@
+use Rattle.std.proofs.Common.{◌≡◌}
+use Rattle.blake2_rows.specs.Family.{blake2b}
+use Rattle.blake2_rows.specs.Rows.{eight}
+use Rattle.blake2_words.specs.Views.{input_of}
+use Rattle.blake2_words.specs.Run.{run_step}
+use Rattle.blake2_words.proofs.compare.blake2b.last_step.Given as goal
+
+abbrev pub ghost-step_count : goal.ghost-step_count
+ghost-step_count a = blake2b
+
+abbrev pub invariant-loop-i : goal.invariant-loop-i
+invariant-loop-i l = eight l.chain ≡ (run_step blake2b l.output_size (input_of l.input) l.i).chain

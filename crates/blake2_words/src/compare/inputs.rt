@@ -1,0 +1,24 @@
+//! Whether two inputs are the same, for salts of any length.
+
+ghost use Rattle.std.specs.Prelude.{◌≡◌, ◌↔◌, IsTrue};
+ghost use Rattle.blake2_rows.specs.Family.{Family, salt_bytes};
+ghost use Rattle.blake2_words.specs.Inputs.{Accepts, Same};
+ghost use Rattle.blake2_words.specs.Views.{input_of};
+
+use crate::steps::Input;
+use crate::steps::blocks::with_zeros;
+
+// Salts and personas, with zeros up to S bytes, keys and messages are equal.
+pub(crate) fn same<const S: usize>(a: &Input<'_>, b: &Input<'_>) -> bool
+    ghost f: { Family }
+    requires salt { salt_bytes f ≡ S }
+    requires a { Accepts f (input_of a.now) }
+    requires b { Accepts f (input_of b.now) }
+    ensures { IsTrue result ↔ Same f (input_of a.now) (input_of b.now) }
+{
+    let salts = with_zeros::<S>(a.salt) == with_zeros::<S>(b.salt);
+    let personas = with_zeros::<S>(a.persona) == with_zeros::<S>(b.persona);
+    let keys = a.key == b.key;
+    let messages = a.message == b.message;
+    salts && personas && keys && messages
+}
