@@ -1,12 +1,6 @@
 -- Which keys, salts and personas a MAC takes, and what a key counts for.
 use Rattle.std.specs.Prelude.{◌≡◌, ℕ, ◌<◌, ◌⊎◌, List, length, Option, Some, None}
-use Rattle.std.specs.Borrow.{Bor}
 use Rattle.blake2_rows.specs.Family.{Family, block_bytes, key_bytes, salt_bytes}
-
--- the bytes of a key that is lent, or none
-abbrev pub key_of : Option (Bor (List ℕ)) → Option (List ℕ)
-key_of None = None
-key_of (Some key) = Some key.now
 
 -- the bytes that a key counts for: a block (RFC 7693, 3.3)
 abbrev pub key_count : Family → Option (List ℕ) → ℕ

@@ -14,6 +14,7 @@
 mod cores;
 mod hashers;
 mod macs;
+pub mod steps;
 
 pub use blake2_digest as digest;
 pub use blake2_digest::Digest;

@@ -2,9 +2,10 @@
 ghost use Rattle.std.specs.Prelude.{◌≡◌, ⊤, ℕ, ◌+◌, ◌-◌, ◌*◌, ◌^◌, ◌<◌, ◌≤◌, ◌↔◌, List, [], length, None, Some, IfOk, IsErr, EachIndex, slice_index};
 ghost use Rattle.std.proofs.Common.{arith};
 ghost use Rattle.blake2_rows.specs.Family.{blake2b};
+ghost use Rattle.blake2_words.specs.Views.{key_of};
 ghost use Rattle.blake2_digest.specs.Blocks.{block_count};
 ghost use Rattle.blake2.specs.Cores.{core_wiped};
-ghost use Rattle.blake2.specs.Keys.{key_of, key_count, IsRefused};
+ghost use Rattle.blake2.specs.Keys.{key_count, IsRefused};
 ghost use Rattle.blake2.specs.States.{digest_of as blake2_of};
 
 use crate::cores::blake2b::Blake2bVarCore;

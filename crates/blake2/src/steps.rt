@@ -1,0 +1,7 @@
+//! The steps of a hash as values: inputs, transcripts and their readings, and the pair of steps that
+//! two inputs with equal digests come to. The calls are associated functions of the cores.
+
+mod blake2b;
+mod blake2s;
+
+pub use blake2_words::steps::{Entry, Input, Reading, Step, Transcript};

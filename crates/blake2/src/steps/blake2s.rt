@@ -1,0 +1,73 @@
+//! The steps of BLAKE2s.
+ghost use Rattle.std.specs.Prelude.{◌≡◌, ◌≤◌, ◌↔◌, map, IsTrue, IsOk, IsSome, IfOk, IfErr, IfSome};
+ghost use Rattle.blake2_rows.specs.Family.{blake2s};
+ghost use Rattle.blake2_words.specs.Hash.{steps};
+ghost use Rattle.blake2_words.specs.Inputs.{Accepts};
+ghost use Rattle.blake2_words.specs.Transcript.{entry, IsOfSomeInput, IsTranscript, ReadsOnly};
+ghost use Rattle.blake2_words.specs.Views.{input_of, entries_of, reading_of, step_of};
+ghost use Rattle.blake2_words.specs.Witness.{Collide, IsWitness};
+
+use super::{Input, Reading, Step, Transcript};
+use crate::cores::blake2s::Blake2sVarCore;
+use blake2_words::compare::blake2s as compare;
+use blake2_words::steps::blake2s as run;
+use std::alloc::{AllocError, Global};
+
+impl Blake2sVarCore {
+    /// Whether BLAKE2s takes the input: salt and persona have at most 8 bytes each, the key is
+    /// absent or has 1 to 32, and fewer than 2^64 bytes are counted.
+    pub fn accepts(input: &Input<'_>) -> bool
+        ensures { IsTrue result ↔ Accepts blake2s (input_of input.now) }
+    {
+        run::accepts(input)
+    }
+
+    /// The transcript of an accepted input, for a digest of `output_size` bytes, at most 32: the
+    /// parameter words, and each block with its counter and flag. Fails only for want of memory.
+    pub fn transcript(
+        alloc: Global,
+        input: &Input<'_>,
+        output_size: usize,
+    ) -> Result<Transcript<u32, 64>, AllocError>
+        requires accepted { Accepts blake2s (input_of input.now) }
+        requires output_size { output_size ≤ 32 }
+        ensures transcript { IfOk result (λ t. IsTranscript blake2s t.words (entries_of t) output_size (input_of input.now)) }
+        ensures steps { IfOk result (λ t. entries_of t ≡ map entry (steps blake2s output_size (input_of input.now))) }
+    {
+        run::transcript(alloc, input, output_size)
+    }
+
+    /// The input and the output size that have this transcript, with salt and persona padded to 8
+    /// bytes; `None` exactly where no accepted input has it. Fails only for want of memory, and only
+    /// where an input has it.
+    pub fn read_transcript(
+        alloc: Global,
+        transcript: &Transcript<u32, 64>,
+    ) -> Result<Option<Reading<8>>, AllocError>
+        ensures some { IfOk result (λ r. IsSome r ↔ IsOfSomeInput blake2s transcript.now.words (entries_of transcript.now)) }
+        ensures reading { IfOk result (λ r. IfSome r (λ x. ReadsOnly blake2s transcript.now.words (entries_of transcript.now) x.output_size (reading_of x))) }
+        ensures memory { IfErr result (λ _. IsOfSomeInput blake2s transcript.now.words (entries_of transcript.now)) }
+    {
+        run::read_transcript(alloc, transcript)
+    }
+
+    /// Of two different accepted inputs with equal digests of `output_size` bytes, at most 32, one
+    /// step of each run: they stand at one distance from the ends, all nearer pairs are equal, they
+    /// differ, and their outputs agree in the digest's bytes, and wholly but at the ends. `None`
+    /// where the inputs are the same or the digests differ. Takes no memory and never fails.
+    pub fn witness(
+        alloc: Global,
+        a: &Input<'_>,
+        b: &Input<'_>,
+        output_size: usize,
+    ) -> Result<Option<(Step<u32, 64>, Step<u32, 64>)>, AllocError>
+        requires a { Accepts blake2s (input_of a.now) }
+        requires b { Accepts blake2s (input_of b.now) }
+        requires output_size { output_size ≤ 32 }
+        ensures ok { IsOk result }
+        ensures some { IfOk result (λ pair. IsSome pair ↔ Collide blake2s output_size (input_of a.now) (input_of b.now)) }
+        ensures pair { IfOk result (λ pair. IfSome pair (λ p. IsWitness blake2s (input_of a.now) (input_of b.now) output_size (step_of p.0) (step_of p.1))) }
+    {
+        compare::witness(alloc, a, b, output_size)
+    }
+}
