@@ -1,6 +1,13 @@
+pub use Rattle.blake2_rows.specs.Family
+pub use Rattle.blake2_words.specs.Hash
+pub use Rattle.blake2_words.specs.Inputs
+pub use Rattle.blake2_words.specs.Transcript
+pub use Rattle.blake2_words.specs.Views
+pub use Rattle.blake2_words.specs.Witness
+pub use Rattle.blake2_runs.specs.Streams
 pub mod CoreLaws
 pub mod Cores
+pub mod Hashers
 pub mod Keys
 pub mod Restarts
 pub mod States
-pub mod Views

@@ -26,7 +26,7 @@ pub struct Blake2b<const N: usize> {
 
 impl<const N: usize> Blake2b<N> {
     ghost use Rattle.blake2.specs.States.{IsRestarted};
-    ghost use Rattle.blake2.specs.Views.{blake2b_state, blake2b_meaning};
+    ghost use Rattle.blake2.specs.Hashers.{blake2b_state, blake2b_meaning};
     ghost use Rattle.blake2_digest.specs.States.{Fresh, digest_now};
 
     // A hasher with this persona that has taken nothing.
@@ -67,7 +67,7 @@ impl<const N: usize> OutputSizeUser for Blake2b<N> {
 impl<const N: usize> HashMarker for Blake2b<N> {}
 
 impl<const N: usize> Update for Blake2b<N> {
-    ghost use Rattle.blake2.specs.Views.{blake2b_meaning};
+    ghost use Rattle.blake2.specs.Hashers.{blake2b_meaning};
 
     ghost meaning = { blake2b_meaning N };
 
@@ -90,7 +90,7 @@ impl<const N: usize> FixedOutput<N> for Blake2b<N> {
 
 impl<const N: usize> Reset for Blake2b<N> {
     ghost use Rattle.blake2.specs.States.{IsRestarted};
-    ghost use Rattle.blake2.specs.Views.{blake2b_state};
+    ghost use Rattle.blake2.specs.Hashers.{blake2b_state};
 
     ghost is_reset = { IsRestarted blake2b_state };
 
@@ -101,7 +101,7 @@ impl<const N: usize> Reset for Blake2b<N> {
 }
 
 impl<const N: usize> FixedOutputReset<N> for Blake2b<N> {
-    ghost use Rattle.blake2.specs.Views.{blake2b_state};
+    ghost use Rattle.blake2.specs.Hashers.{blake2b_state};
     ghost use Rattle.blake2.specs.Restarts.{StartedAgain_by};
 
     fn finalize_into_reset(&mut self, out: &mut [u8; N]) {

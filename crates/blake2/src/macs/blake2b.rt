@@ -33,7 +33,7 @@ pub struct Blake2bMac<const N: usize> {
 
 impl<const N: usize> Blake2bMac<N> {
     ghost use Rattle.blake2.specs.States.{IsRestarted};
-    ghost use Rattle.blake2.specs.Views.{blake2b_mac_state, blake2b_mac_meaning};
+    ghost use Rattle.blake2.specs.Hashers.{blake2b_mac_state, blake2b_mac_meaning};
     ghost use Rattle.blake2_digest.specs.States.{Fresh, digest_now};
 
     /// A MAC under a key of 1 to 64 bytes or none, with a salt and a persona of up to 16 bytes each;
@@ -138,7 +138,7 @@ impl<const N: usize> KeyInit<64> for Blake2bMac<N> {
 }
 
 impl<const N: usize> Update for Blake2bMac<N> {
-    ghost use Rattle.blake2.specs.Views.{blake2b_mac_meaning};
+    ghost use Rattle.blake2.specs.Hashers.{blake2b_mac_meaning};
 
     ghost meaning = { blake2b_mac_meaning N };
 
@@ -161,7 +161,7 @@ impl<const N: usize> FixedOutput<N> for Blake2bMac<N> {
 
 impl<const N: usize> Reset for Blake2bMac<N> {
     ghost use Rattle.blake2.specs.States.{IsRestarted};
-    ghost use Rattle.blake2.specs.Views.{blake2b_mac_state};
+    ghost use Rattle.blake2.specs.Hashers.{blake2b_mac_state};
 
     ghost is_reset = { IsRestarted blake2b_mac_state };
 
@@ -172,7 +172,7 @@ impl<const N: usize> Reset for Blake2bMac<N> {
 }
 
 impl<const N: usize> FixedOutputReset<N> for Blake2bMac<N> {
-    ghost use Rattle.blake2.specs.Views.{blake2b_mac_state};
+    ghost use Rattle.blake2.specs.Hashers.{blake2b_mac_state};
     ghost use Rattle.blake2.specs.Restarts.{StartedAgain_by};
 
     fn finalize_into_reset(&mut self, out: &mut [u8; N]) {

@@ -33,7 +33,7 @@ pub struct Blake2sMac<const N: usize> {
 
 impl<const N: usize> Blake2sMac<N> {
     ghost use Rattle.blake2.specs.States.{IsRestarted};
-    ghost use Rattle.blake2.specs.Views.{blake2s_mac_state, blake2s_mac_meaning};
+    ghost use Rattle.blake2.specs.Hashers.{blake2s_mac_state, blake2s_mac_meaning};
     ghost use Rattle.blake2_digest.specs.States.{Fresh, digest_now};
 
     /// A MAC under a key of 1 to 32 bytes or none, with a salt and a persona of up to 8 bytes each;
@@ -138,7 +138,7 @@ impl<const N: usize> KeyInit<32> for Blake2sMac<N> {
 }
 
 impl<const N: usize> Update for Blake2sMac<N> {
-    ghost use Rattle.blake2.specs.Views.{blake2s_mac_meaning};
+    ghost use Rattle.blake2.specs.Hashers.{blake2s_mac_meaning};
 
     ghost meaning = { blake2s_mac_meaning N };
 
@@ -161,7 +161,7 @@ impl<const N: usize> FixedOutput<N> for Blake2sMac<N> {
 
 impl<const N: usize> Reset for Blake2sMac<N> {
     ghost use Rattle.blake2.specs.States.{IsRestarted};
-    ghost use Rattle.blake2.specs.Views.{blake2s_mac_state};
+    ghost use Rattle.blake2.specs.Hashers.{blake2s_mac_state};
 
     ghost is_reset = { IsRestarted blake2s_mac_state };
 
@@ -172,7 +172,7 @@ impl<const N: usize> Reset for Blake2sMac<N> {
 }
 
 impl<const N: usize> FixedOutputReset<N> for Blake2sMac<N> {
-    ghost use Rattle.blake2.specs.Views.{blake2s_mac_state};
+    ghost use Rattle.blake2.specs.Hashers.{blake2s_mac_state};
     ghost use Rattle.blake2.specs.Restarts.{StartedAgain_by};
 
     fn finalize_into_reset(&mut self, out: &mut [u8; N]) {

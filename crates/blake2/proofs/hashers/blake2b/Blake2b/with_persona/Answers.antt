@@ -1,7 +1,7 @@
 use Rattle.std.proofs.Common.{[], None, refl}
 use Rattle.blake2_rows.specs.Family.{blake2b}
 use Rattle.blake2_words.specs.Hash.{parameters_of, key_block}
-use Rattle.blake2.specs.Views.{blake2b_state}
+use Rattle.blake2.specs.Hashers.{blake2b_state}
 use Rattle.blake2.proofs.StateLaws.{state-fresh, Fresh_by}
 use Rattle.blake2.proofs.hashers.blake2b.Blake2b.with_persona.Goals as goal
 

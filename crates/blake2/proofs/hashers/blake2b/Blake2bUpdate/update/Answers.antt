@@ -1,5 +1,5 @@
 use Rattle.blake2_rows.specs.Family.{blake2b}
-use Rattle.blake2.specs.Views.{blake2b_state}
+use Rattle.blake2.specs.Hashers.{blake2b_state}
 use Rattle.blake2.proofs.StateLaws.{state-updated, kept-updated, Updated_by}
 use Rattle.blake2.proofs.hashers.blake2b.Blake2bUpdate.update.Goals as goal
 

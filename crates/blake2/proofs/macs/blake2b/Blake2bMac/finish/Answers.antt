@@ -1,6 +1,6 @@
 use Rattle.std.proofs.Common.{take, ap, ◌∙◌}
 use Rattle.blake2_rows.specs.Family.{blake2b}
-use Rattle.blake2.specs.Views.{blake2b_mac_state}
+use Rattle.blake2.specs.Hashers.{blake2b_mac_state}
 use Rattle.blake2.proofs.StateLaws.{future-nothing}
 use Rattle.blake2.proofs.macs.blake2b.Blake2bMac.finish.Goals as goal
 

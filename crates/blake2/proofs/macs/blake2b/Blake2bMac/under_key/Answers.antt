@@ -1,7 +1,7 @@
 use Rattle.std.proofs.Common.{◌≡◌, length, Some, ap, ◌∙◌}
 use Rattle.blake2_rows.specs.Family.{blake2b}
 use Rattle.blake2_words.specs.Hash.{padded, parameters_of, key_block}
-use Rattle.blake2.specs.Views.{blake2b_mac_state}
+use Rattle.blake2.specs.Hashers.{blake2b_mac_state}
 use Rattle.blake2.proofs.StateLaws.{state-fresh, Fresh_by, length-key_block_some}
 use Rattle.blake2.proofs.macs.blake2b.Blake2bMac.under_key.Goals as goal
 

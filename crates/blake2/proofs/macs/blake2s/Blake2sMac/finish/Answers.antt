@@ -1,6 +1,6 @@
 use Rattle.std.proofs.Common.{take, ap, ◌∙◌}
 use Rattle.blake2_rows.specs.Family.{blake2s}
-use Rattle.blake2.specs.Views.{blake2s_mac_state}
+use Rattle.blake2.specs.Hashers.{blake2s_mac_state}
 use Rattle.blake2.proofs.StateLaws.{future-nothing}
 use Rattle.blake2.proofs.macs.blake2s.Blake2sMac.finish.Goals as goal
 

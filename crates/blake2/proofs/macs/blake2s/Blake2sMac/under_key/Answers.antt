@@ -1,7 +1,7 @@
 use Rattle.std.proofs.Common.{◌≡◌, length, Some, ap, ◌∙◌}
 use Rattle.blake2_rows.specs.Family.{blake2s}
 use Rattle.blake2_words.specs.Hash.{padded, parameters_of, key_block}
-use Rattle.blake2.specs.Views.{blake2s_mac_state}
+use Rattle.blake2.specs.Hashers.{blake2s_mac_state}
 use Rattle.blake2.proofs.StateLaws.{state-fresh, Fresh_by, length-key_block_some}
 use Rattle.blake2.proofs.macs.blake2s.Blake2sMac.under_key.Goals as goal
 

@@ -1,7 +1,7 @@
 use Rattle.std.proofs.Common.{None, refl}
 use Rattle.blake2_rows.specs.Family.{blake2s}
 use Rattle.blake2_words.specs.Hash.{parameters_of, key_block}
-use Rattle.blake2.specs.Views.{blake2s_mac_state}
+use Rattle.blake2.specs.Hashers.{blake2s_mac_state}
 use Rattle.blake2.proofs.StateLaws.{state-fresh, Fresh_by}
 use Rattle.blake2.proofs.macs.blake2s.Blake2sMac.unkeyed.Goals as goal
 

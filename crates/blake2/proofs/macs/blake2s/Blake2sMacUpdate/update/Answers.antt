@@ -1,5 +1,5 @@
 use Rattle.blake2_rows.specs.Family.{blake2s}
-use Rattle.blake2.specs.Views.{blake2s_mac_state}
+use Rattle.blake2.specs.Hashers.{blake2s_mac_state}
 use Rattle.blake2.proofs.StateLaws.{state-updated, kept-updated, Updated_by}
 use Rattle.blake2.proofs.macs.blake2s.Blake2sMacUpdate.update.Goals as goal
 
