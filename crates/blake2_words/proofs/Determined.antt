@@ -14,12 +14,14 @@ use Rattle.blake2_words.proofs.Sizes.{AreParameters, length-padded, length-param
 
 -- ---- xor
 
+-- xor with one number keeps numbers apart
 xor_cancel : (a x y : ℕ) → bit_xor a x ≡ bit_xor a y → x ≡ y
 xor_cancel a x y h = sym (undone x) ∙ ap (bit_xor a) h ∙ undone y
   where
     undone : (z : ℕ) → bit_xor a (bit_xor a z) ≡ z
     undone z = sym (xor_assoc a a z) ∙ ap (λ (n : ℕ). bit_xor n z) (xor_self a) ∙ xor_zero_l z
 
+-- and with one list of words keeps lists of words apart
 pub xor_words_cancel : (vs xs ys : List ℕ) → length xs ≡ length vs → length ys ≡ length vs → xor_words vs xs ≡ xor_words vs ys → xs ≡ ys
 unfolding xor_words
 xor_words_cancel [] [] [] a b h = refl
@@ -36,10 +38,12 @@ xor_words_cancel (v ∷ vs) (x ∷ xs) (y ∷ ys) a b h =
 
 -- ---- words
 
+-- a word's bytes are those that it was read from
 le_word : (f : Family) (xs : List ℕ) → length xs ≡ word_bytes f → AreBytes xs → to_le_bytes (word f) (from_le_bytes (word f) xs) ≡ xs
 le_word blake2b xs l a = le_bytes_8 xs _ l a refl
 le_word blake2s xs l a = le_bytes_4 xs _ l a refl
 
+-- words determine the bytes that they were read from
 pub words_of_cancel : (f : Family) (n : ℕ) (xs ys : List ℕ) → length xs ≡ n * word_bytes f → length ys ≡ n * word_bytes f → AreBytes xs → AreBytes ys
     → words_of f n xs ≡ words_of f n ys → xs ≡ ys
 unfolding words_of
@@ -60,11 +64,13 @@ words_of_cancel f (suc n) xs ys lx ly ax ay h =
 
 -- ---- padding
 
+-- lists of one length with zeros behind them are equal only if the lists are
 pub padded_cancel : (n : ℕ) (xs ys : List ℕ) → length xs ≡ length ys → padded n xs ≡ padded n ys → xs ≡ ys
 unfolding padded
 padded_cancel n xs ys l h =
     sym (take_at xs (replicate (n - length xs) 0) (length xs) refl) ∙ ap (take (length xs)) h ∙ take_at ys (replicate (n - length ys) 0) (length xs) (sym l)
 
+-- two joined lists are equal only if their parts are, where the first parts have one length
 append_parts : (n : ℕ) (a b c d : List ℕ) → length a ≡ n → length c ≡ n → a ++ b ≡ c ++ d → (a ≡ c) × (b ≡ d)
 append_parts n a b c d la lc h =
     (sym (take_at a b n la) ∙ ap (take n) h ∙ take_at c d n lc, sym (drop_at a b n la) ∙ ap (drop n) h ∙ drop_at c d n lc)
@@ -97,18 +103,21 @@ concat-cut f (suc n) z h =
           ∙ sym (append_assoc (take b z) (drop b z) _) ∙ ap (λ (k : List ℕ). k ++ replicate (suc n * b - length z) 0) (take-append-drop b z))
     ]
 
+-- the blocks hold all counted bytes
 pub block_count-fits : (f : Family) (m : ℕ) → m ≤ block_count f m * block_bytes f
 block_count-fits blake2b m = omega arith
 block_count-fits blake2s m = omega arith
 
 -- ---- the parameters
 
+-- two parameter blocks name the same
 pub record SameParameters (f : Family) (p q : Parameters) : Type 0 where
   pub sizes : p.size ≡ q.size
   pub keys : p.key_size ≡ q.key_size
   pub salts : padded (salt_bytes f) p.salt ≡ padded (salt_bytes f) q.salt
   pub personas : padded (salt_bytes f) p.persona ≡ padded (salt_bytes f) q.persona
 
+-- equal parameter blocks do
 parameter_block_cancel : (f : Family) (p q : Parameters) → AreParameters f p → AreParameters f q
     → parameter_block f p ≡ parameter_block f q → SameParameters f p q
 unfolding parameter_block
@@ -121,6 +130,7 @@ parameter_block_cancel blake2s p q hp hq h =
     let parts = append_parts 8 (padded 8 p.salt) (padded 8 p.persona) (padded 8 q.salt) (padded 8 q.persona) (length-padded 8 p.salt hp.salt_fits) (length-padded 8 q.salt hq.salt_fits) texts in
     record { sizes = ap (λ (l : List ℕ). get_or l 0 0) h; keys = ap (λ (l : List ℕ). get_or l 1 0) h; salts = parts.0; personas = parts.1 }
 
+-- and so do equal parameter words
 pub parameter_words_cancel : (f : Family) (p q : Parameters) → AreParameters f p → AreParameters f q
     → parameter_words f p ≡ parameter_words f q → SameParameters f p q
 unfolding parameter_words
@@ -128,6 +138,7 @@ parameter_words_cancel f p q hp hq h =
     parameter_block_cancel f p q hp hq
     (words_of_cancel f 8 _ _ (length-parameter_block f p hp) (length-parameter_block f q hq) (AreBytes-parameter_block f p hp) (AreBytes-parameter_block f q hq) h)
 
+-- equal start words come from equal parameter words
 pub start_cancel : (f : Family) (p q : Parameters) → start f p ≡ start f q → parameter_words f p ≡ parameter_words f q
 unfolding start
 start_cancel f p q h =
@@ -140,6 +151,7 @@ pub key_bytes_fit : (f : Family) → (key_bytes f ≤ block_bytes f) × (key_byt
 key_bytes_fit blake2b = (omega arith, omega arith, omega arith)
 key_bytes_fit blake2s = (omega arith, omega arith, omega arith)
 
+-- a key's length and the data determine key and message
 same_key : (f : Family) (k k' : Option (List ℕ)) (m m' : List ℕ) → KeyFits f k → KeyFits f k' → key_size k ≡ key_size k'
     → key_block f k ++ m ≡ key_block f k' ++ m' → (k ≡ k') × (m ≡ m')
 unfolding key_block
@@ -153,6 +165,7 @@ same_key f (Some k) (Some k') m m' p q e h =
     let keys : k ≡ k' = padded_cancel b k k' e parts.0 in
     (ap (λ (x : List ℕ). Some x) keys, parts.1)
 
+-- a key's length fits a byte
 key_size-lt : (f : Family) (k : Option (List ℕ)) → KeyFits f k → key_size k < 256
 key_size-lt f None p = omega arith
 key_size-lt f (Some k) p = let fits = key_bytes_fit f in omega arith

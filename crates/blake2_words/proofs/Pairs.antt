@@ -6,10 +6,10 @@ use Rattle.std.proofs.lemmas.Bool.{cases_lt}
 use Rattle.std.proofs.Math.Nat.{min-eq_right}
 use Rattle.std.specs.List.{concat}
 use Rattle.blake2_rows.specs.Family.{Family, block_bytes, output_bytes}
-use Rattle.blake2_words.specs.Hash.{inner, input_flags, input_parameters, padded, blocks, block_count, chain, bytes_of, Input, input_data, input_start, digest, Step, output, step, steps}
+use Rattle.blake2_words.specs.Hash.{inner, input_flags, input_parameters, padded, blocks, block_count, chain, bytes_of, Input, input_data, input_start, digest, Step, output, steps}
 use Rattle.blake2_words.specs.Inputs.{Accepts, Same}
 use Rattle.blake2_words.specs.Witness.{from_end, IsWitnessAt}
-use Rattle.blake2_words.specs.Run.{number, run_step, last_step}
+use Rattle.blake2_words.specs.Run.{number, run_step}
 use Rattle.blake2_words.proofs.Streaming.{length-cut, block_count-pos}
 use Rattle.blake2_words.proofs.Runs.{length-steps, get_or-steps, output-step, output-step_last}
 use Rattle.blake2_words.proofs.Determined.{concat-cut, block_count-fits, padded_cancel, start_cancel, determined}

@@ -6,13 +6,13 @@ use Rattle.std.proofs.lemmas.Bool.{cases_lt}
 use Rattle.std.proofs.lemmas.Nat.{from_le_bytes-to_le_bytes_4, from_le_bytes-to_le_bytes_8}
 use Rattle.std.specs.Int.{from_le_bytes, to_le_bytes}
 use mir.Val.{bits}
-use Rattle.blake2_rows.specs.Family.{Family, blake2b, blake2s, word, word_bytes, block_bytes, key_bytes, salt_bytes, output_bytes}
+use Rattle.blake2_rows.specs.Family.{Family, blake2b, blake2s, word, block_bytes, key_bytes, salt_bytes}
 use Rattle.blake2_rows.specs.Round.{AreWords}
 use Rattle.blake2_words.specs.Hash.{AreBytes, Input, Parameters, bytes_of, words_of, block_count, padded, parameter_words, input_parameters, input_data, data_bytes, key_block, key_size}
-use Rattle.blake2_words.specs.Inputs.{Accepts, KeyFits, Same}
+use Rattle.blake2_words.specs.Inputs.{Accepts, KeyFits}
 use Rattle.blake2_words.specs.Transcript.{Entry, joined, Reads, ReadsOnly, IsOfSomeInput}
 use Rattle.blake2_words.specs.Run.{no_entry}
-use Rattle.blake2_words.specs.Reader.{told_count, told_size, told_key_size, IsRun, HasKey, IsReadable, told_data, told_key, told_message, told_input, AreTyped}
+use Rattle.blake2_words.specs.Reader.{told_count, told_size, told_key_size, IsReadable, told_data, told_key, told_message, told_input, AreTyped}
 use Rattle.blake2_words.proofs.Sizes.{AreParameters, length-padded, AreBytes-take, AreBytes-drop, AreBytes-bytes_of, length-bytes_of}
 use Rattle.blake2_words.proofs.Cells.{cells, cells-drop}
 use Rattle.blake2_words.proofs.Determined.{block_count-fits, transcripts_determine, accepted-parameters, key_bytes_fit}
@@ -217,10 +217,11 @@ reads_readable f words entries size a r =
     key_size-le f None p = omega arith
     key_size-le f (Some k) p = omega arith
 
--- THE LAW: where the tests hold, and only there, some input has this transcript
+-- THE LAW: where the tests hold some input has this transcript
 pub some_input : (f : Family) (words : List ℕ) (entries : List Entry) → AreTyped f words entries → IsReadable f words entries → IsOfSomeInput f words entries
 some_input f words entries typed test = (told_size words, told_input f words entries, readable_reads f words entries typed test)
 
+-- and only there
 pub input_readable : (f : Family) (words : List ℕ) (entries : List Entry) → IsOfSomeInput f words entries → IsReadable f words entries
 input_readable f words entries (size, a, r) = reads_readable f words entries size a r
 

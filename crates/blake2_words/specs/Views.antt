@@ -10,11 +10,12 @@ use Rattle.blake2_words.specs.declared.steps.Reading as GivenReading
 use Rattle.blake2_words.specs.Hash.{flags, Input, Step}
 use Rattle.blake2_words.specs.Transcript.{Entry}
 
--- a key, if there is one
+-- the bytes behind a key, if there is one
 abbrev pub key_of : Option (Bor (List ℕ)) → Option (List ℕ)
 key_of None = None
 key_of (Some key) = Some key.now
 
+-- an input
 abbrev pub input_of : GivenInput.Input → Input
 input_of a = record {
   salt = a.salt.now;
@@ -23,19 +24,24 @@ input_of a = record {
   message = a.message.now;
 }
 
+-- an entry
 abbrev pub entry_of : {B : ℕ} → GivenEntry.Entry B → Entry
 entry_of e = record { block = e.block; counter = e.counter; flags = flags e.last }
 
+-- a step
 abbrev pub step_of : {B : ℕ} → GivenStep.Step ℕ B → Step
 step_of s = record { chain = s.chain; block = s.block; counter = s.counter; flags = flags s.last }
 
+-- the entries of a transcript
 abbrev pub entries_of : {B : ℕ} → GivenTranscript.Transcript ℕ B → List Entry
 entries_of t = map entry_of t.entries.items
 
+-- the bytes of a key, if there is one
 abbrev pub items_of : Option (Vec ℕ) → Option (List ℕ)
 items_of None = None
 items_of (Some v) = Some v.items
 
+-- what a reading says of the input
 abbrev pub reading_of : {S : ℕ} → GivenReading.Reading S → Input
 reading_of r = record {
   salt = r.salt;

@@ -1,4 +1,4 @@
-//! The witness of BLAKE2s.
+//! The witness of BLAKE2s: steps of eight words of 32 bits and blocks of 64 bytes.
 
 ghost use Rattle.std.specs.Prelude.{◌≡◌, ◌+◌, ◌<◌, ◌≤◌, ◌↔◌, IsTrue, IsOk, IsSome, IfOk, IfSome, MatchOption};
 ghost use Rattle.blake2_rows.specs.Family.{blake2s, output_bytes};
@@ -116,7 +116,11 @@ fn last_pair(
     kept
 }
 
-/// The witness of two inputs.
+/// For two inputs that are not the same and whose digests of `output_size` bytes, at most 32, are equal, a
+/// step of the first run and a step of the second that are not equal though their outputs are: in the
+/// first `output_size` bytes, and wholly where they are not the last. They stand at one distance from the
+/// ends of their runs, and all steps nearer to the ends are equal in pairs. `None` for all other inputs.
+/// Takes no memory and makes no error.
 pub fn witness(
     _alloc: Global,
     a: &Input<'_>,

@@ -1,4 +1,4 @@
-//! The steps of BLAKE2b.
+//! The steps of BLAKE2b: blocks of 128 bytes, words of 64 bits, salts and personas of 16 bytes.
 
 ghost use Rattle.std.specs.Prelude.{◌≡◌, ◌≤◌, ◌↔◌, [], ◌∷◌, length, map, IsTrue, IsSome, IfOk, IfErr, IfSome};
 ghost use Rattle.blake2_rows.specs.Family.{blake2b, output_bytes};
@@ -12,14 +12,17 @@ use super::{Entry, Input, Reading, Transcript, blocks, limits, reader};
 use crate::params::blake2b as params;
 use std::alloc::{AllocError, Global};
 
-/// Whether the input is one that BLAKE2b hashes.
+/// Whether BLAKE2b takes the input: salt and persona have at most 16 bytes, the key is absent or has 1 to
+/// 64 bytes, and the bytes of the message, with 128 for a key, are less than 2^64 (RFC 7693, 2.1).
 pub fn accepts(input: &Input<'_>) -> bool
     ensures { IsTrue result ↔ Accepts blake2b (input_of input.now) }
 {
     limits::accepts::<128, 64, 16>(input)
 }
 
-/// The transcript of an input.
+/// The transcript of an input at a digest of `output_size` bytes, at most 64: the parameter words, and an
+/// entry for each block. The key, if there is one, is the first block (RFC 7693, 3.3). The error is want
+/// of memory, for a vector that has just the room for the entries.
 pub fn transcript(
     alloc: Global,
     input: &Input<'_>,
@@ -104,7 +107,9 @@ fn reading(
     })
 }
 
-/// The input and the output size of a transcript.
+/// The input and the size of the digest that a transcript is of, salt and persona with their zeros; `None`
+/// where no accepted input at a size of at most 64 bytes has this transcript. The error is want of memory,
+/// and comes only where some input has it: all tests come before the first request for memory.
 pub fn read_transcript(
     alloc: Global,
     transcript: &Transcript<u64, 128>,

@@ -1,4 +1,4 @@
-//! The steps of BLAKE2s.
+//! The steps of BLAKE2s: blocks of 64 bytes, words of 32 bits, salts and personas of 8 bytes.
 
 ghost use Rattle.std.specs.Prelude.{◌≡◌, ◌≤◌, ◌↔◌, [], ◌∷◌, length, map, IsTrue, IsSome, IfOk, IfErr, IfSome};
 ghost use Rattle.blake2_rows.specs.Family.{blake2s, output_bytes};
@@ -12,14 +12,17 @@ use super::{Entry, Input, Reading, Transcript, blocks, limits, reader};
 use crate::params::blake2s as params;
 use std::alloc::{AllocError, Global};
 
-/// Whether the input is one that BLAKE2s hashes.
+/// Whether BLAKE2s takes the input: salt and persona have at most 8 bytes, the key is absent or has 1 to
+/// 32 bytes, and the bytes of the message, with 64 for a key, are less than 2^64 (RFC 7693, 2.1).
 pub fn accepts(input: &Input<'_>) -> bool
     ensures { IsTrue result ↔ Accepts blake2s (input_of input.now) }
 {
     limits::accepts::<64, 32, 8>(input)
 }
 
-/// The transcript of an input.
+/// The transcript of an input at a digest of `output_size` bytes, at most 32: the parameter words, and an
+/// entry for each block. The key, if there is one, is the first block (RFC 7693, 3.3). The error is want
+/// of memory, for a vector that has just the room for the entries.
 pub fn transcript(
     alloc: Global,
     input: &Input<'_>,
@@ -100,7 +103,9 @@ fn reading(alloc: Global, words: &[u32; 8], entries: &[Entry<64>]) -> Result<Rea
     })
 }
 
-/// The input and the output size of a transcript.
+/// The input and the size of the digest that a transcript is of, salt and persona with their zeros; `None`
+/// where no accepted input at a size of at most 32 bytes has this transcript. The error is want of memory,
+/// and comes only where some input has it: all tests come before the first request for memory.
 pub fn read_transcript(
     alloc: Global,
     transcript: &Transcript<u32, 64>,

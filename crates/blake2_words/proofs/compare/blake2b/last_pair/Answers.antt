@@ -1,5 +1,4 @@
-use Rattle.std.proofs.Common.{◌≡◌, ◌≢◌, ◌<◌, ◌+◌, ℕ, sym, ap, ◌∙◌, arith, rules, true, false, IsTrue}
-use Rattle.std.proofs.lemmas.Grind.{common_steps}
+use Rattle.std.proofs.Common.{◌≡◌, ◌<◌, ℕ, arith, true}
 use Rattle.blake2_rows.specs.Family.{blake2b}
 use Rattle.blake2_words.specs.Hash.{Input, Step}
 use Rattle.blake2_words.specs.Views.{input_of, step_of}

@@ -1,4 +1,4 @@
-use Rattle.std.proofs.Common.{◌≡◌, ◌≢◌, sym, ◌∙◌, refl}
+use Rattle.std.proofs.Common.{sym, ◌∙◌}
 use Rattle.blake2_rows.specs.Family.{blake2b}
 use Rattle.blake2_words.proofs.Front.{last_witness}
 use Rattle.blake2_words.proofs.compare.blake2b.witness.Goals as goal

@@ -2,7 +2,7 @@ use Rattle.std.proofs.Common.{List, map, refl, rules, subst, sym}
 use Rattle.blake2_rows.specs.Family.{blake2b}
 use Rattle.blake2_words.specs.declared.steps.Entry.{Entry}
 use Rattle.blake2_words.specs.Transcript.{IsOfSomeInput}
-use Rattle.blake2_words.specs.Views.{entries_of, entry_of}
+use Rattle.blake2_words.specs.Views.{entry_of}
 use Rattle.blake2_words.proofs.Readable.{some_input, input_readable}
 use Rattle.blake2_words.proofs.steps.blake2b.read_transcript.Goals as goal
 

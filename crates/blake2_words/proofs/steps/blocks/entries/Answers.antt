@@ -1,6 +1,6 @@
 use Rattle.std.proofs.Common.{◌≡◌, ◌++◌, ◌∷◌, [], ℕ, List, length, map, sym, ap, ◌∙◌, arith, get_or}
 use Rattle.std.proofs.lemmas.List.{take_all, take_more, map-append, length-map}
-use Rattle.blake2_words.specs.Hash.{Input, Step, steps}
+use Rattle.blake2_words.specs.Hash.{Input, steps}
 use Rattle.blake2_words.specs.Transcript.{Entry, entry}
 use Rattle.blake2_words.specs.Views.{input_of, entry_of}
 use Rattle.blake2_words.specs.Run.{number, no_entry}

@@ -1,0 +1,56 @@
+//! Each call once. The expected first words are IV's xored with the parameter block's (RFC 7693, 2.5).
+
+use super::{blake2b, blake2s};
+use crate::steps::{self, Input};
+use std::process::Abort;
+use std::test::Fail;
+
+fn unkeyed<'a>(message: &'a [u8]) -> Input<'a> {
+    Input {
+        salt: b"",
+        persona: b"",
+        key: None,
+        message,
+    }
+}
+
+#[test]
+fn witnesses_of_blake2b(rt: HostRuntime) -> Result<(), Fail> {
+    let a = unkeyed(b"a");
+    let b = unkeyed(b"b");
+    assert!(rt; steps::blake2b::accepts(&a) && steps::blake2b::accepts(&b));
+    let Some((x, y)) = blake2b::witness(rt.alloc(), &a, &b, 0)? else {
+        return Err(Fail::from("no witness"));
+    };
+    assert_eq!(rt; x.chain[0], 0x6a09e667f2bdc908);
+    assert_eq!(rt; x.chain, y.chain);
+    assert_eq!(rt; (x.block[0], y.block[0]), (0x61, 0x62));
+    assert!(rt; blake2b::witness(rt.alloc(), &a, &b, 64)?.is_none());
+    assert!(rt; blake2b::witness(rt.alloc(), &a, &a, 0)?.is_none());
+    let c = unkeyed(&[0x2a; 128]);
+    let d = unkeyed(&[0x2a; 129]);
+    assert!(rt; steps::blake2b::accepts(&c) && steps::blake2b::accepts(&d));
+    let Some((x, y)) = blake2b::witness(rt.alloc(), &c, &d, 0)? else {
+        return Err(Fail::from("no witness"));
+    };
+    assert_eq!(rt; (x.counter, y.counter), (128, 129));
+    assert_eq!(rt; (x.last, y.last), (true, true));
+    assert_eq!(rt; (y.block[0], y.block[1]), (0x2a, 0));
+    Ok(())
+}
+
+#[test]
+fn witnesses_of_blake2s(rt: HostRuntime) -> Result<(), Fail> {
+    let a = unkeyed(b"a");
+    let b = unkeyed(b"b");
+    assert!(rt; steps::blake2s::accepts(&a) && steps::blake2s::accepts(&b));
+    let Some((x, y)) = blake2s::witness(rt.alloc(), &a, &b, 0)? else {
+        return Err(Fail::from("no witness"));
+    };
+    assert_eq!(rt; x.chain[0], 0x6b08e667);
+    assert_eq!(rt; x.chain, y.chain);
+    assert_eq!(rt; (x.block[0], y.block[0]), (0x61, 0x62));
+    assert!(rt; blake2s::witness(rt.alloc(), &a, &b, 32)?.is_none());
+    assert!(rt; blake2s::witness(rt.alloc(), &a, &a, 0)?.is_none());
+    Ok(())
+}
