@@ -1,0 +1,112 @@
+//! `b2 sum`: the digest of the input.
+ghost use Rattle.std.specs.Prelude.{◌≡◌, ◌≤◌, ◌↔◌, false, IsTrue, IfSome, OnOk};
+ghost use Rattle.std.specs.Result.{IsErrOf};
+ghost use Rattle.std.specs.Io.KnownBytes.{Appends};
+ghost use Rattle.blake2.specs.Family.{blake2b, blake2s};
+ghost use Rattle.blake2.specs.Streams.{line_of};
+ghost use Rattle.b2.specs.Sums.{family_of, size_of, digest_under};
+
+use crate::fault::Fault;
+use crate::words::{Kind, Options};
+use blake2::digest::FixedOutput;
+use blake2::engine::{Sink, Source, StreamFault, hash_stream};
+use blake2::{Blake2b, Blake2bMac, Blake2s, Blake2sMac, Digest};
+
+/// Prints the digest of what the source gives: of the hash function where no option is given, and
+/// of the MAC where one is.
+pub(crate) fn sum<S: Source, K: Sink>(
+    kind: Kind,
+    options: &Options,
+    source: &mut S,
+    sink: &mut K,
+) -> Result<(), Fault>
+    requires source { S.failed source.old ≡ false }
+    requires sink { K.failed sink.old ≡ false }
+    ensures read { IsErrOf result Fault.ReadFailed ↔ IsTrue (S.failed source.new) }
+    ensures write { IsErrOf result Fault.WriteFailed ↔ IsTrue (K.failed sink.new) }
+    ensures line { OnOk result (IfSome (S.left source.old) (λ bytes.
+        Appends (K.held sink.old) (K.held sink.new) (line_of (digest_under (family_of kind) (size_of kind) options.now bytes)))) }
+{
+    match kind {
+        Kind::Blake2b128 => sum_blake2b::<S, K, 16>(options, source, sink),
+        Kind::Blake2b256 => sum_blake2b::<S, K, 32>(options, source, sink),
+        Kind::Blake2b512 => sum_blake2b::<S, K, 64>(options, source, sink),
+        Kind::Blake2s128 => sum_blake2s::<S, K, 16>(options, source, sink),
+        Kind::Blake2s256 => sum_blake2s::<S, K, 32>(options, source, sink),
+    }
+}
+
+fn sum_blake2b<S: Source, K: Sink, const N: usize>(
+    options: &Options,
+    source: &mut S,
+    sink: &mut K,
+) -> Result<(), Fault>
+    requires size { N ≤ 64 }
+    requires source { S.failed source.old ≡ false }
+    requires sink { K.failed sink.old ≡ false }
+    ensures read { IsErrOf result Fault.ReadFailed ↔ IsTrue (S.failed source.new) }
+    ensures write { IsErrOf result Fault.WriteFailed ↔ IsTrue (K.failed sink.new) }
+    ensures line { OnOk result (IfSome (S.left source.old) (λ bytes.
+        Appends (K.held sink.old) (K.held sink.new) (line_of (digest_under blake2b N options.now bytes)))) }
+{
+    if options.are_empty() {
+        print_digest(Blake2b::<N>::new(), source, sink)
+    } else {
+        let mac = Blake2bMac::<N>::new_with_salt_and_personal(
+            options.key(),
+            options.salt(),
+            options.persona(),
+        )?;
+        print_digest(mac, source, sink)
+    }
+}
+
+fn sum_blake2s<S: Source, K: Sink, const N: usize>(
+    options: &Options,
+    source: &mut S,
+    sink: &mut K,
+) -> Result<(), Fault>
+    requires size { N ≤ 32 }
+    requires source { S.failed source.old ≡ false }
+    requires sink { K.failed sink.old ≡ false }
+    ensures read { IsErrOf result Fault.ReadFailed ↔ IsTrue (S.failed source.new) }
+    ensures write { IsErrOf result Fault.WriteFailed ↔ IsTrue (K.failed sink.new) }
+    ensures line { OnOk result (IfSome (S.left source.old) (λ bytes.
+        Appends (K.held sink.old) (K.held sink.new) (line_of (digest_under blake2s N options.now bytes)))) }
+{
+    if options.are_empty() {
+        print_digest(Blake2s::<N>::new(), source, sink)
+    } else {
+        let mac = Blake2sMac::<N>::new_with_salt_and_personal(
+            options.key(),
+            options.salt(),
+            options.persona(),
+        )?;
+        print_digest(mac, source, sink)
+    }
+}
+
+fn print_digest<H, S, K, const N: usize>(
+    hasher: H,
+    source: &mut S,
+    sink: &mut K,
+) -> Result<(), Fault>
+where
+    H: FixedOutput<N> + Drop,
+    S: Source,
+    K: Sink,
+    requires size { N ≤ 64 }
+    requires source { S.failed source.old ≡ false }
+    requires sink { K.failed sink.old ≡ false }
+    ensures read { IsErrOf result Fault.ReadFailed ↔ IsTrue (S.failed source.new) }
+    ensures write { IsErrOf result Fault.WriteFailed ↔ IsTrue (K.failed sink.new) }
+    ensures line { OnOk result (IfSome (S.left source.old) (λ bytes.
+        Appends (K.held sink.old) (K.held sink.new) (line_of (H.meaning.future hasher bytes)))) }
+{
+    match hash_stream(source, sink, hasher) {
+        Ok(_) => Ok(()),
+        Err(StreamFault::Read) => Err(Fault::ReadFailed),
+        Err(StreamFault::TooLong) => Err(Fault::TooLong),
+        Err(StreamFault::Write) => Err(Fault::WriteFailed),
+    }
+}

@@ -1,0 +1,166 @@
+//! `b2 sum`.
+use super::memory::run_with_memory;
+use super::{run_over, stops_at_each_byte, words_of};
+use std::test::Fail;
+
+#[test]
+fn prints_digests(rt: HostRuntime) -> Result<(), Fail> {
+    for (words, input, line) in [
+        (
+            "sum b512",
+            "abc",
+            "ba80a53f981c4d0d6a2797b69f12f6e94c212f14685ac4b74b12bb6fdbffa2d17d87c5392aab792dc252d5de4533cc9518d38aa8dbf1925ab92386edd4009923\n",
+        ),
+        (
+            "sum b512",
+            "",
+            "786a02f742015903c6c6fd852552d272912f4740e15847618a86e217f71f5419d25e1031afee585313896444934eb04b903a685b1448b755d56f701afe9be2ce\n",
+        ),
+        ("sum b128", "abc", "cf4ab791c62b8d2b2109c90275287816\n"),
+        (
+            "sum b256",
+            "abc",
+            "bddd813c634239723171ef3fee98579b94964e3bb1cb3e427262c8c068d52319\n",
+        ),
+        ("sum s128", "abc", "aa4938119b1dc7b87cbad0ffd200d0ae\n"),
+        (
+            "sum s256",
+            "abc",
+            "508c5e8c327c14e2e1a72ba34eeb452f37458b209ed63a294d999b4c86675982\n",
+        ),
+        (
+            "sum b512 salt=",
+            "abc",
+            "ba80a53f981c4d0d6a2797b69f12f6e94c212f14685ac4b74b12bb6fdbffa2d17d87c5392aab792dc252d5de4533cc9518d38aa8dbf1925ab92386edd4009923\n",
+        ),
+        (
+            "sum b128 persona=706572736f6e616c",
+            "hello",
+            "5a5eb0aecc053af1ce6de25354c1c761\n",
+        ),
+        (
+            "sum s256 key=000102030405060708090A0B0C0D0E0F101112131415161718191a1b1c1d1e1f persona=706572736f6e616c",
+            "",
+            "25a4ee63b594aed3f88a971e1877ef7099534f9097291f88fb86c79b5e70d022\n",
+        ),
+        (
+            "sum b128 key=0102 salt=73616c74 persona=706572736f6e61",
+            "abc",
+            "64e477c9f5c0ba5bd0d2d41455c1fb48\n",
+        ),
+        (
+            "sum b256 persona=706572736f6e61 key=0102 salt=73616c74",
+            "abc",
+            "f0afa01f36b181b53c07856c2b29209abb07235e064d58e2c8591189cf70b808\n",
+        ),
+        (
+            "sum b512 salt=73616c74 persona=706572736f6e61 key=0102",
+            "abc",
+            "8c19fe11f5256e230d9ec4157525ba0bec4d1964b519e03ee9cde9359702e09d9dc8a66d4233d379015791f4b8235f700d4489c0ed0801ea1cdbd492d3517e40\n",
+        ),
+        (
+            "sum s128 salt=73616c74 key=0102 persona=706572736f6e61",
+            "abc",
+            "df2073bf0c36d88648839c9d43cefb07\n",
+        ),
+        (
+            "sum s256 key=0102 persona=706572736f6e61 salt=73616c74",
+            "abc",
+            "305503b3fd96fc116777b5540ba5a752f7990bed41eb996fecf5cd6179a8d38c\n",
+        ),
+    ] {
+        let (status, output) = run_over(rt.alloc(), words, input.as_bytes(), None)?;
+        assert_eq!(rt; output.as_slice(), line.as_bytes(), "{words}");
+        assert_eq!(rt; status, 0, "{words}");
+    }
+    Ok(())
+}
+
+#[test]
+fn refuses_words(rt: HostRuntime) -> Result<(), Fail> {
+    for (words, line) in [
+        ("", "b2: wrong words\n"),
+        ("sum", "b2: wrong words\n"),
+        ("add b512", "b2: wrong words\n"),
+        ("sum foo", "b2: wrong words\n"),
+        ("sum b0", "b2: wrong words\n"),
+        ("sum b999", "b2: wrong words\n"),
+        ("sum B512", "b2: wrong words\n"),
+        ("sum b512 foo", "b2: wrong words\n"),
+        ("sum b512 key", "b2: wrong words\n"),
+        ("sum b512 Key=01", "b2: wrong words\n"),
+        ("sum b512 =01", "b2: wrong words\n"),
+        ("sum b512 key=01 key=02", "b2: wrong words\n"),
+        ("sum b512 key=01 key=0", "b2: wrong words\n"),
+        ("sum b512 key= foo", "b2: wrong words\n"),
+        ("sum b512 salt=1", "b2: wrong hex\n"),
+        ("sum b512 salt=1 foo", "b2: wrong hex\n"),
+        ("sum b512 salt=0g", "b2: wrong hex\n"),
+        ("sum b512 persona=01=2", "b2: wrong hex\n"),
+        ("sum b512 key=", "b2: wrong length\n"),
+        ("sum s256 salt=000000000000000000", "b2: wrong length\n"),
+        ("sum s256 persona=000000000000000000", "b2: wrong length\n"),
+        (
+            "sum s256 key=000102030405060708090a0b0c0d0e0f101112131415161718191a1b1c1d1e1f20",
+            "b2: wrong length\n",
+        ),
+        (
+            "sum b512 salt=0000000000000000000000000000000000",
+            "b2: wrong length\n",
+        ),
+    ] {
+        // An input that fails at once shows that it is not read.
+        let (status, output) = run_over(rt.alloc(), words, b"", Some(0))?;
+        assert_eq!(rt; output.as_slice(), line.as_bytes(), "{words}");
+        assert_eq!(rt; status, 2, "{words}");
+    }
+    Ok(())
+}
+
+#[test]
+fn input_fails(rt: HostRuntime) -> Result<(), Fail> {
+    let (status, output) = run_over(rt.alloc(), "sum b512", &[b'a'; 200], Some(100))?;
+    assert_eq!(rt; output.as_slice(), "b2: read failed\n".as_bytes());
+    assert_eq!(rt; status, 1);
+    Ok(())
+}
+
+#[test]
+fn output_fails(rt: HostRuntime) -> Result<(), Fail> {
+    assert!(rt; stops_at_each_byte(rt.alloc(), "sum b512", b"abc")?);
+    assert!(rt; stops_at_each_byte(rt.alloc(), "sum s128 key=01", b"abc")?);
+    assert!(rt; stops_at_each_byte(rt.alloc(), "sum b999", b"abc")?);
+    Ok(())
+}
+
+#[test]
+fn each_request_for_memory_refused(rt: HostRuntime) -> Result<(), Fail> {
+    let words = words_of(
+        rt.alloc(),
+        "sum b128 key=0102 salt=73616c74 persona=706572736f6e61",
+    )?;
+    let mut refused = 0u32;
+    for step in 0..16usize {
+        let mut room = [0u8; 64];
+        let (status, written) = run_with_memory(
+            rt.alloc(),
+            words.as_slice(),
+            b"abc",
+            &mut room,
+            16 * step,
+        )?;
+        let printed = room.get(..written);
+        if status == 1 {
+            assert_eq!(rt; printed, Some("b2: no memory\n".as_bytes()));
+            refused = refused.saturating_add(1);
+        } else {
+            assert_eq!(rt; status, 0);
+            assert_eq!(rt;
+                printed,
+                Some("64e477c9f5c0ba5bd0d2d41455c1fb48\n".as_bytes())
+            );
+        }
+    }
+    assert!(rt; 0 < refused && refused < 16, "{refused} refused");
+    Ok(())
+}
