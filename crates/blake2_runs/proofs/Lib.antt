@@ -1,1 +1,5 @@
+mod Beginning
+mod Keeping
+mod Placing
+mod Playing
 mod StreamLemmas

@@ -2,4 +2,5 @@
 //! MAC that meets them.
 #![tactic(auto)]
 
+pub mod calls;
 pub mod engine;

@@ -1,0 +1,45 @@
+-- How states stand for slots, and what one call does to them.
+use Rattle.std.specs.Prelude.{◌≡◌, ⊤, ℕ, List, [], ◌∷◌, ◌++◌, ◌⊎◌, Option, Some, None, Result, Ok, Err}
+use Rattle.blake2_digest.specs.States.{Meaning}
+use Rattle.blake2_runs.specs.Play.{Taken, Slots, Left, digest_of, count_of, and_more, play_call}
+use Rattle.blake2_runs.specs.declared.calls.Call.{Call}
+use Rattle.blake2_runs.specs.declared.calls.ReplayFault.{ReplayFault}
+use Rattle.blake2_runs.specs.declared.calls.ReplayFault.TheVariants.{Memory}
+
+-- the state h is that of a slot that has taken this, where the first slot began as `first`
+pub record StandsFor {S : Type 0} (m : Meaning S) (first : S) (taken : Taken) (h : S) : Type 0 where
+  pub future : (y : List ℕ) → m.future h y ≡ digest_of m first (and_more taken y)
+  pub started : (y : List ℕ) → m.started h y ≡ m.started first y
+  pub count : m.count h ≡ count_of m first taken
+  pub start_count : m.start_count h ≡ m.start_count first
+
+-- a slot has its state, and one that has ended has none
+abbrev pub SlotHolds : {S : Type 0} → Meaning S → S → Option Taken → Option S → Type 0
+SlotHolds m first None None = ⊤
+SlotHolds m first None (Some h) = ⊥
+SlotHolds m first (Some taken) None = ⊥
+SlotHolds m first (Some taken) (Some h) = StandsFor m first taken h
+
+-- so have all slots, in their order
+abbrev pub AllHold : {S : Type 0} → Meaning S → S → Slots → List (Option S) → Type 0
+AllHold m first [] [] = ⊤
+AllHold m first [] (h ∷ hs) = ⊥
+AllHold m first (slot ∷ slots) [] = ⊥
+AllHold m first (slot ∷ slots) (h ∷ hs) = SlotHolds m first slot h × AllHold m first slots hs
+
+-- a call went on as the definition says: the states stand for the slots that it leaves, and its digests came behind the earlier ones
+pub record WentOn {S : Type 0} (m : Meaning S) (first : S) (played : Result Left ReplayFault) (earlier : List (List ℕ)) (states : List (Option S)) (digests : List (List ℕ)) : Type 0 where
+  pub left : Left
+  pub played_is : played ≡ Ok left
+  pub held : AllHold m first left.slots states
+  pub digests_are : digests ≡ earlier ++ left.digests
+
+-- a call went on as the definition says, or gave its fault, or wanted memory
+abbrev pub Answers : {S : Type 0} → Meaning S → S → Result Left ReplayFault → List (List ℕ) → List (Option S) → List (List ℕ) → Result (Unit {0}) ReplayFault → Type 0
+Answers m first played earlier states digests (Ok _) = WentOn m first played earlier states digests
+Answers m first played earlier states digests (Err fault) = (fault ≡ Memory) ⊎ (played ≡ Err fault)
+
+-- what a call at place i does to any states that stand for slots
+abbrev pub PlaysCall : {S : Type 0} → Meaning S → ℕ → Call → List (Option S) → List (List ℕ) → List (Option S) → List (List ℕ) → Result (Unit {0}) ReplayFault → Type 0
+PlaysCall {S} m i call before earlier states digests result =
+    (first : S) (slots : Slots) → AllHold m first slots before → Answers m first (play_call m first slots i call) earlier states digests result
