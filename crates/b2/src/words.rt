@@ -1,6 +1,6 @@
 //! The words of the command line, read from left to right.
 ghost use Rattle.std.specs.Prelude.{◌≡◌, ◌↔◌, [], None, IsTrue, IfErr};
-ghost use Rattle.blake2.specs.Keys.{key_of};
+ghost use Rattle.blake2.specs.Views.{key_of};
 ghost use Rattle.b2.specs.Faults.{IsOfWords};
 
 use crate::fault::Fault;

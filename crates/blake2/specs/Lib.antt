@@ -4,6 +4,7 @@ pub use Rattle.blake2_words.specs.Inputs
 pub use Rattle.blake2_words.specs.Transcript
 pub use Rattle.blake2_words.specs.Views
 pub use Rattle.blake2_words.specs.Witness
+pub use Rattle.blake2_runs.specs.Play
 pub use Rattle.blake2_runs.specs.Streams
 pub mod CoreLaws
 pub mod Cores

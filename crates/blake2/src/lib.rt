@@ -19,7 +19,7 @@ pub mod steps;
 pub use blake2_digest as digest;
 pub use blake2_digest::Digest;
 pub use blake2_rows::rows;
-pub use blake2_runs::engine;
+pub use blake2_runs::{calls, engine};
 pub use blake2_words::laws;
 pub use cores::blake2b::Blake2bVarCore;
 pub use cores::blake2s::Blake2sVarCore;
