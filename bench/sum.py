@@ -30,18 +30,26 @@ def built(cpu, folder):
     return program
 
 
+def peak_of(process):
+    """The peak of the process's resident memory so far in KiB."""
+    with open(f"/proc/{process.pid}/status") as status:
+        return next((int(line.split()[1]) for line in status if line.startswith("VmHWM")), 0)
+
+
 def timed(command, path, on_input):
-    """The wall time of one run in seconds, the digest, and the peak of its memory in KiB."""
+    """The wall time of one run in seconds, its digest, and the peak of its memory in KiB."""
     with open(path, "rb") as file:
         start = time.perf_counter()
         process = subprocess.Popen(command, stdin=file if on_input else subprocess.DEVNULL,
                                    stdout=subprocess.PIPE)
+        time.sleep(0.1)
+        peak = peak_of(process)
         out = process.stdout.read()
-        _, status, usage = os.wait4(process.pid, 0)
+        status = process.wait()
         seconds = time.perf_counter() - start
     if status != 0:
         sys.exit(f"{command[0]} failed")
-    return seconds, next(word for word in out.decode().split() if len(word) == 128), usage.ru_maxrss
+    return seconds, next(word for word in out.decode().split() if len(word) == 128), peak
 
 
 def main():

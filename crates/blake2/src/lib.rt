@@ -15,6 +15,8 @@ mod cores;
 mod hashers;
 mod macs;
 pub mod steps;
+#[cfg(test)]
+mod tests;
 
 pub use blake2_digest as digest;
 pub use blake2_digest::Digest;

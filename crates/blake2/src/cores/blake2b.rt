@@ -204,3 +204,20 @@ impl fmt::Debug for Blake2bVarCore {
         f.write_str("Blake2bVarCore { ... }")
     }
 }
+
+#[cfg(test)]
+impl Blake2bVarCore {
+    // A core that has counted so many bytes.
+    pub(crate) fn counting_from(counter: u64) -> Self
+        ensures { result.count ≡ counter }
+    {
+        let mut core = Self::new_with_params(&[], &[], 0, 64);
+        core.counter = counter;
+        core
+    }
+
+    // The words that the run starts from.
+    pub(crate) fn start_words(&self) -> [u64; 8] {
+        words::to_words(&self.start)
+    }
+}

@@ -204,3 +204,20 @@ impl fmt::Debug for Blake2sVarCore {
         f.write_str("Blake2sVarCore { ... }")
     }
 }
+
+#[cfg(test)]
+impl Blake2sVarCore {
+    // A core that has counted so many bytes.
+    pub(crate) fn counting_from(counter: u64) -> Self
+        ensures { result.count ≡ counter }
+    {
+        let mut core = Self::new_with_params(&[], &[], 0, 32);
+        core.counter = counter;
+        core
+    }
+
+    // The words that the run starts from.
+    pub(crate) fn start_words(&self) -> [u32; 8] {
+        words::to_words(&self.start)
+    }
+}
