@@ -7,7 +7,7 @@ use Rattle.blake2_words.proofs.Sigma.{sigma_below}
 use Rattle.blake2_words.proofs.words.blake2b.compress.Goals as goal
 
 pub round-requires : goal.round-requires
-round-requires c = λ j _. sigma_below (c.loop-i.i % 10) j
+round-requires c = λ j _. sigma_below _ j
 
 pub loop-i-init : goal.loop-i-init
 unfolding after_rounds
