@@ -6,7 +6,7 @@ use Rattle.blake2_runs.specs.declared.calls.Call.{Call}
 use Rattle.blake2_runs.specs.declared.calls.Call.TheVariants.{Update, Clone, Reset, Finalize, FinalizeReset}
 use Rattle.blake2_runs.specs.declared.calls.ReplayFault.{ReplayFault}
 use Rattle.blake2_runs.specs.declared.calls.ReplayFault.TheVariants.{TooLong}
-use Rattle.blake2_runs.specs.Play.{Taken, since_beginning, since_reset, Slots, Left, at_slot, and_more, digest_of, count_of, play_call, and_then, after, play, play_from, fresh_meaning, play_fresh}
+use Rattle.blake2_runs.specs.Play.{Taken, since_beginning, since_reset, Slots, Left, at_slot, and_more, digest_of, count_of, leaves, play_call, and_then, after, play, play_from, fresh_meaning, play_fresh}
 
 -- what is done to a slot may be told in another way
 at_slot_same : (i : ℕ) (slot : Option Taken) (f g : Taken → Result Left ReplayFault) → ((taken : Taken) → f taken ≡ g taken) → at_slot i slot f ≡ at_slot i slot g
@@ -33,12 +33,12 @@ module _ {S : Type 0} (m : Meaning S) (first : S) (digest : List ℕ → List �
   call_same : (slots : Slots) (i : ℕ) (call : Call) → play_call m first slots i call ≡ play_call (fresh_meaning digest n) tt slots i call
   call_same slots i (Update k x) =
       at_slot_same i (get_or slots k None) _ _
-      (λ taken. ap (λ (l : ℕ). if nat_lt (l + length x.now) (2 ^ 64) then Ok (record { slots = set slots k (Some (and_more taken x.now)); digests = [] }) else Err (TooLong i)) (count_same taken))
+      (λ taken. ap (λ (l : ℕ). if nat_lt (l + length x.now) (2 ^ 64) then leaves (set slots k (Some (and_more taken x.now))) [] else Err (TooLong i)) (count_same taken))
   call_same slots i (Clone k) = refl
   call_same slots i (Reset k) = refl
-  call_same slots i (Finalize k) = at_slot_same i (get_or slots k None) _ _ (λ taken. ap (λ (d : List ℕ). Ok (record { slots = set slots k None; digests = d ∷ [] })) (digest_same taken))
+  call_same slots i (Finalize k) = at_slot_same i (get_or slots k None) _ _ (λ taken. ap (λ (d : List ℕ). leaves (set slots k None) (d ∷ [])) (digest_same taken))
   call_same slots i (FinalizeReset k) =
-      at_slot_same i (get_or slots k None) _ _ (λ taken. ap (λ (d : List ℕ). Ok (record { slots = set slots k (Some (since_reset [])); digests = d ∷ [] })) (digest_same taken))
+      at_slot_same i (get_or slots k None) _ _ (λ taken. ap (λ (d : List ℕ). leaves (set slots k (Some (since_reset []))) (d ∷ [])) (digest_same taken))
 
   -- a list of calls
   play_from_same : (calls : List Call) (slots : Slots) (i : ℕ) → play_from m first calls slots i ≡ play_from (fresh_meaning digest n) tt calls slots i

@@ -7,10 +7,10 @@ use Rattle.blake2_digest.specs.States.{Meaning, digest_now, Updated, StartedAgai
 use Rattle.blake2_runs.specs.declared.calls.Call.{Call}
 use Rattle.blake2_runs.specs.declared.calls.ReplayFault.{ReplayFault}
 use Rattle.blake2_runs.specs.declared.calls.ReplayFault.TheVariants.{NoSuchSlot, Memory}
-use Rattle.blake2_runs.specs.Play.{Taken, since_beginning, since_reset, Slots, Left, and_more, digest_of, count_of, slot_of, at_slot, play_live, play_call}
+use Rattle.blake2_runs.specs.Play.{Taken, since_beginning, since_reset, Slots, Left, and_more, digest_of, count_of, slot_of, leaves, at_slot, play_live, play_call}
 use Rattle.blake2_runs.specs.Holding.{StandsFor, SlotHolds, AllHold, WentOn, Answers}
 
--- the state at a place, put back there
+-- the state at a place, put back there, leaves the states as they were
 pub put_back : {S : Type 0} (states : List (Option S)) (k : ℕ) (o : Option S) (h : S) → o ≡ get_or states k o → o ≡ Some h → set states k (Some h) ≡ states
 put_back states k o h found some = ap (set states k) (sym some ∙ found) ∙ set-get_or states k o
 
@@ -87,6 +87,7 @@ module _ {S : Type 0} (m : Meaning S) (first : S) where
   absent slots states i k call all named beyond =
       rw (← named) (ap (λ (slot : Option Taken). at_slot i slot (play_live m first slots i call)) (slot_beyond slots states k all beyond))
 
+  -- a slot with no state has ended
   none_of : (slot : Option Taken) (o : Option S) → SlotHolds m first slot o → o ≡ None → slot ≡ None
   none_of None o holds e = refl
   none_of (Some taken) None holds e = absurd holds
@@ -99,6 +100,7 @@ module _ {S : Type 0} (m : Meaning S) (first : S) where
       let gone : get_or slots k None ≡ None = none_of (get_or slots k None) (get_or states k o) (slot_at slots states k o all within) (sym found ∙ none) in
       rw (← named) (ap (λ (slot : Option Taken). at_slot i slot (play_live m first slots i call)) gone)
 
+  -- a slot with a state has taken something that the state stands for
   some_of : (slot : Option Taken) (o : Option S) (h : S) → SlotHolds m first slot o → o ≡ Some h → (taken : Taken) × (slot ≡ Some taken) × StandsFor m first taken h
   some_of None None h holds e = cc
   some_of None (Some g) h holds e = absurd holds
@@ -111,6 +113,7 @@ module _ {S : Type 0} (m : Meaning S) (first : S) where
     pub plays : play_call m first slots i call ≡ play_live m first slots i call taken
     pub stands : StandsFor m first taken h
 
+  -- there is one where a state stands at the place of the slot
   pub live : (slots : Slots) (states : List (Option S)) (i k : ℕ) (o : Option S) (h : S) (call : Call) → AllHold m first slots states → k ≡ slot_of call → k < length states → o ≡ get_or states k o → o ≡ Some h
       → Live slots i call h
   live slots states i k o h call all named within found some =
@@ -121,13 +124,13 @@ module _ {S : Type 0} (m : Meaning S) (first : S) where
         stands = there.2;
       }
 
-  -- a call of that kind
+  -- so the call, of whatever kind it is, is played on what its slot has taken
   pub plays_as : (slots : Slots) (i : ℕ) (call kind : Call) (h : S) (live : Live slots i call h) → call ≡ kind → play_call m first slots i call ≡ play_live m first slots i kind live.taken
   plays_as slots i call kind h live is = live.plays ∙ ap (λ (c : Call). play_live m first slots i c live.taken) is
 
   -- the state at place k, which is that of slot j, gave way to another, and the digests xs came behind the earlier ones
   pub went_on : (slots : Slots) (states : List (Option S)) (k j : ℕ) (slot : Option Taken) (h : Option S) (played : Result Left ReplayFault) (xs earlier digests : List (List ℕ))
-      → AllHold m first slots states → k ≡ j → SlotHolds m first slot h → played ≡ Ok (record { slots = set slots j slot; digests = xs }) → digests ≡ earlier ++ xs
+      → AllHold m first slots states → k ≡ j → SlotHolds m first slot h → played ≡ leaves (set slots j slot) xs → digests ≡ earlier ++ xs
       → WentOn m first played earlier (set states k h) digests
   went_on slots states k j slot h played xs earlier digests all e one is added = record {
     left = record { slots = set slots j slot; digests = xs };
@@ -138,7 +141,7 @@ module _ {S : Type 0} (m : Meaning S) (first : S) where
 
   -- a state came as the next slot
   pub came_next : (slots : Slots) (states : List (Option S)) (slot : Option Taken) (h : Option S) (played : Result Left ReplayFault) (earlier : List (List ℕ))
-      → AllHold m first slots states → SlotHolds m first slot h → played ≡ Ok (record { slots = slots ++ slot ∷ []; digests = [] })
+      → AllHold m first slots states → SlotHolds m first slot h → played ≡ leaves (slots ++ slot ∷ []) []
       → WentOn m first played earlier (states ++ h ∷ []) earlier
   came_next slots states slot h played earlier all one is = record {
     left = record { slots = slots ++ slot ∷ []; digests = [] };

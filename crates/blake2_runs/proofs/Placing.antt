@@ -1,5 +1,5 @@
 -- The place that a fault names is that of the first bad call.
-use Rattle.std.proofs.Common.{◌≡◌, ℕ, zero, suc, ◌+◌, ◌^◌, List, [], ◌∷◌, ◌++◌, length, take, Bool, true, false, Option, Some, None, Result, Ok, Err, IsOk, IsErr, if◌then◌else◌, nat_lt, get_or, add-one, ◌⊎◌, inl, inr, refl, sym, ap, subst, ◌∙◌, arith}
+use Rattle.std.proofs.Common.{◌≡◌, ℕ, suc, ◌+◌, ◌^◌, List, [], ◌∷◌, length, take, Bool, true, false, Option, Some, None, Result, Ok, Err, IsOk, IsErr, if◌then◌else◌, nat_lt, get_or, add-one, ◌⊎◌, inl, inr, refl, ap, subst, ◌∙◌, arith}
 use Rattle.blake2_digest.specs.States.{Meaning}
 use Rattle.blake2_runs.specs.declared.calls.Call.{Call}
 use Rattle.blake2_runs.specs.declared.calls.Call.TheVariants.{Update, Clone, Reset, Finalize, FinalizeReset}
@@ -17,28 +17,33 @@ IsAt i (NoSuchSlot j) = j ≡ i
 IsAt i (TooLong j) = j ≡ i
 IsAt i Memory = ⊥
 
+-- an update's fault names its place
 if_fault : (b : Bool) (i : ℕ) (left : Left) (fault : ReplayFault) → if b then Ok left else Err (TooLong i) ≡ Err fault → IsAt i fault
 if_fault true i left fault e = cc
 if_fault false i left fault e = let same : TooLong i ≡ fault = cc in subst (IsAt i) same refl
 
+-- a fault of a call names its place, where it does so on each slot that is there
 at_fault : (i : ℕ) (slot : Option Taken) (f : Taken → Result Left ReplayFault) (fault : ReplayFault) → ((taken : Taken) → f taken ≡ Err fault → IsAt i fault) → at_slot i slot f ≡ Err fault → IsAt i fault
 at_fault i None f fault h e = let same : NoSuchSlot i ≡ fault = cc in subst (IsAt i) same refl
 at_fault i (Some taken) f fault h e = h taken e
 
--- digests before a fault do not hide it
+-- a fault behind earlier digests is the fault
 fault_after : (earlier : List (List ℕ)) (p : Played) (fault : ReplayFault) → after earlier p ≡ Err fault → p ≡ Err fault
 fault_after earlier (Ok later) fault e = cc
 fault_after earlier (Err other) fault e = e
 
+-- digests behind earlier digests are digests
 ok_after : (earlier : List (List ℕ)) (p : Played) → IsOk p → IsOk (after earlier p)
 ok_after earlier (Ok later) good = refl
 ok_after earlier (Err fault) good = cc
 
+-- and what is refused behind them is refused
 err_after : (earlier : List (List ℕ)) (p : Played) → IsErr p → IsErr (after earlier p)
 err_after earlier (Ok later) bad = cc
 err_after earlier (Err fault) bad = refl
 
 module _ {S : Type 0} (m : Meaning S) (first : S) where
+  -- a fault of a call whose slot is there names its place
   live_fault : (slots : Slots) (i : ℕ) (call : Call) (taken : Taken) (fault : ReplayFault) → play_live m first slots i call taken ≡ Err fault → IsAt i fault
   live_fault slots i (Update k x) taken fault e = if_fault (nat_lt (count_of m first taken + length x.now) (2 ^ 64)) i _ fault e
   live_fault slots i (Clone k) taken fault e = cc
@@ -76,6 +81,7 @@ module _ {S : Type 0} (m : Meaning S) (first : S) where
     place = let there : i + 1 + rest.count ≡ i + suc rest.count = omega arith in subst (λ (j : ℕ). IsAt j fault) there rest.place;
   }
 
+  -- so the list stops, whatever its first call does
   stops_by : (call : Call) (calls : List Call) (slots : Slots) (i : ℕ) (fault : ReplayFault) (r : Result Left ReplayFault) → play_call m first slots i call ≡ r
       → ((next : Slots) → play_from m first calls next (i + 1) ≡ Err fault → StopsAfter calls next (i + 1) fault) → and_then r (λ next. play_from m first calls next (i + 1)) ≡ Err fault
       → StopsAfter (call ∷ calls) slots i fault
@@ -87,11 +93,13 @@ module _ {S : Type 0} (m : Meaning S) (first : S) where
   stops [] slots i fault e = cc
   stops (call ∷ calls) slots i fault e = stops_by call calls slots i fault (play_call m first slots i call) refl (λ next. stops calls next (i + 1) fault) e
 
+  -- n calls from the first on are those before place n
   first_bad : (calls : List Call) (j n : ℕ) → j ≡ 0 + n → IsOk (play m first (take n calls)) → IsErr (play m first (take (suc n) calls)) → IsFirstBad m first calls j
   first_bad calls j n at before bad =
       let same : j ≡ n = omega arith in
       record { before = rw same before; bad = rw (same, add-one) bad }
 
+  -- the place that a fault names is where the list stops
   placed : (calls : List Call) (fault : ReplayFault) → StopsAfter calls (Some (since_beginning []) ∷ []) 0 fault → NamesFirstBad m first calls fault
   placed calls (NoSuchSlot j) s = first_bad calls j s.count s.place s.before s.bad
   placed calls (TooLong j) s = first_bad calls j s.count s.place s.before s.bad

@@ -47,14 +47,20 @@ slot_of (Reset k) = k
 slot_of (Finalize k) = k
 slot_of (FinalizeReset k) = k
 
+-- a call that is not bad leaves these slots, and answers these digests
+abbrev pub leaves : Slots → List (List ℕ) → Result Left ReplayFault
+leaves slots digests = Ok (record { slots = slots; digests = digests })
+
 -- the call at place i, whose slot has taken this; an update is bad where it would bring the count to 2^64 or more
 abbrev pub play_live : {S : Type 0} → Meaning S → S → Slots → ℕ → Call → Taken → Result Left ReplayFault
 play_live m first slots i (Update k x) taken =
-    if nat_lt (count_of m first taken + length x.now) (2 ^ 64) then Ok (record { slots = slice_set slots k (Some (and_more taken x.now)); digests = [] }) else Err (TooLong i)
-play_live m first slots i (Clone k) taken = Ok (record { slots = slots ++ Some taken ∷ []; digests = [] })
-play_live m first slots i (Reset k) taken = Ok (record { slots = slice_set slots k (Some (since_reset [])); digests = [] })
-play_live m first slots i (Finalize k) taken = Ok (record { slots = slice_set slots k None; digests = digest_of m first taken ∷ [] })
-play_live m first slots i (FinalizeReset k) taken = Ok (record { slots = slice_set slots k (Some (since_reset [])); digests = digest_of m first taken ∷ [] })
+    if nat_lt (count_of m first taken + length x.now) (2 ^ 64)
+    then leaves (slice_set slots k (Some (and_more taken x.now))) []
+    else Err (TooLong i)
+play_live m first slots i (Clone k) taken = leaves (slots ++ Some taken ∷ []) []
+play_live m first slots i (Reset k) taken = leaves (slice_set slots k (Some (since_reset []))) []
+play_live m first slots i (Finalize k) taken = leaves (slice_set slots k None) (digest_of m first taken ∷ [])
+play_live m first slots i (FinalizeReset k) taken = leaves (slice_set slots k (Some (since_reset []))) (digest_of m first taken ∷ [])
 
 -- the call at place i does this to what its slot has taken, and is bad where the slot is absent or has ended
 abbrev pub at_slot : ℕ → Option Taken → (Taken → Result Left ReplayFault) → Result Left ReplayFault

@@ -68,7 +68,8 @@ fn replay_call<H, const N: usize>(
 ) -> Result<(), ReplayFault>
 where
     H: FixedOutputReset<N> + Duplicate + Drop,
-    ensures { PlaysCall H.meaning place call.now states.old.items digests.old.items states.new.items digests.new.items result }
+    ensures { PlaysCall H.meaning place call.now
+        states.old.items digests.old.items states.new.items digests.new.items result }
 {
     let slot = call.slot();
     if slot >= states.len() {
@@ -120,12 +121,14 @@ where
     // The digests are those of the definition, which has some only where no call is bad.
     ensures digests { IfOk result (λ digests. play H.meaning first calls.now ≡ Ok digests.items) }
     // A fault but `Memory` is that of the definition, and names the first bad call.
-    ensures fault { IfErr result (λ fault. (fault ≡ ReplayFault.Memory) ⊎ (play H.meaning first calls.now ≡ Err fault)) }
+    ensures fault { IfErr result (λ fault.
+        (fault ≡ ReplayFault.Memory) ⊎ (play H.meaning first calls.now ≡ Err fault)) }
     ensures place { IfErr result (NamesFirstBad H.meaning first calls.now) }
 
     // So a list without a bad call is refused for want of memory alone, and one with a bad call is
     // always refused.
-    ensures no_bad_call { IsOk (play H.meaning first calls.now) → IsOkUnless result ReplayFault.Memory }
+    ensures no_bad_call { IsOk (play H.meaning first calls.now)
+        → IsOkUnless result ReplayFault.Memory }
     ensures bad_call { IsErr (play H.meaning first calls.now) → IsErr result }
 
     // Of a state that was just made each digest is the constructor's, of the bytes since the last

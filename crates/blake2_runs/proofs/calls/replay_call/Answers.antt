@@ -1,4 +1,4 @@
-use Rattle.std.proofs.Common.{[], Some, None, refl, inr, ap, sym, ◌∙◌, arith}
+use Rattle.std.proofs.Common.{[], Some, None, inr, ap, sym, ◌∙◌, arith}
 use Rattle.std.proofs.lemmas.List.{append-nil}
 use Rattle.blake2_runs.specs.Play.{since_reset, and_more, slot_of}
 use Rattle.blake2_runs.proofs.Keeping.{absent, ended, live, plays_as, put_back, went_on, came_next, update_fits, update_refused, StandsFor-updated, StandsFor-reset, digest_added, answers_by_push}
