@@ -1,2 +1,5 @@
+pub mod Commands
 pub mod Faults
-pub mod Sums
+pub mod Options
+pub mod Output
+pub mod Words

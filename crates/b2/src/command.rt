@@ -1,7 +1,11 @@
 //! The commands, and the run of one.
-ghost use Rattle.std.specs.Prelude.{◌≡◌, ◌≤◌, ◌↔◌, false, IsTrue, IfErr};
+ghost use Rattle.std.specs.Prelude.{◌≡◌, ◌≤◌, ◌↔◌, false, map, IsTrue, IfSome, IfOk, IfErr, OnOk};
+ghost use Rattle.std.specs.String.{string_bytes};
 ghost use Rattle.std.specs.Result.{IsErrOf};
 ghost use Rattle.b2.specs.Faults.{IsOfWords};
+ghost use Rattle.b2.specs.Output.{PrintsDigest};
+ghost use Rattle.b2.specs.Words.{sum_of};
+ghost use Rattle.b2.specs.Commands.{AskForOne};
 
 use crate::fault::Fault;
 use crate::sum::sum;
@@ -17,9 +21,12 @@ enum Command {
 }
 
 impl Command {
+    ghost use Rattle.b2.specs.Commands.{AskFor};
+
     // Reads the words from left to right: the command, its KIND and then the rest.
     fn from_words(alloc: Global, words: &[String]) -> Result<Command, Fault>
-        ensures { IfErr result IsOfWords }
+        ensures asked { IfOk result (AskFor (map string_bytes words.now)) }
+        ensures fault { IfErr result IsOfWords }
     {
         let (command, words) = words.split_first().ok_or(Fault::WrongWords)?;
         match command.as_str() {
@@ -42,6 +49,10 @@ pub fn run<S: Source, K: Sink>(alloc: Global, words: &[String], source: &mut S, 
     ensures status { result ≤ 2 }
     ensures read { IsTrue (S.failed source.new) → result ≡ 1 }
     ensures write { IsTrue (K.failed sink.new) → result ≡ 1 }
+    ensures asked { result ≡ 0 → AskForOne (map string_bytes words.now) }
+    // Where the words are those of `sum`, the digest is BLAKE2 of their KIND, salt, persona and key.
+    ensures sum { result ≡ 0 → IfSome (sum_of (map string_bytes words.now)) (λ digest.
+        PrintsDigest (S.left source.old) digest (K.held sink.old) (K.held sink.new)) }
 {
     match execute(alloc, words, source, sink) {
         Ok(()) => 0,
@@ -59,6 +70,9 @@ fn execute<S: Source, K: Sink>(
     requires sink { K.failed sink.old ≡ false }
     ensures read { IsErrOf result Fault.ReadFailed ↔ IsTrue (S.failed source.new) }
     ensures write { IsErrOf result Fault.WriteFailed ↔ IsTrue (K.failed sink.new) }
+    ensures asked { OnOk result (AskForOne (map string_bytes words.now)) }
+    ensures sum { OnOk result (IfSome (sum_of (map string_bytes words.now)) (λ digest.
+        PrintsDigest (S.left source.old) digest (K.held sink.old) (K.held sink.new))) }
 {
     match Command::from_words(alloc, words)? {
         Command::Sum(kind, options) => sum(kind, &options, source, sink),

@@ -1,10 +1,10 @@
 //! `b2 sum`: the digest of the input.
-ghost use Rattle.std.specs.Prelude.{◌≡◌, ◌≤◌, ◌↔◌, false, IsTrue, IfSome, OnOk};
+ghost use Rattle.std.specs.Prelude.{◌≡◌, ◌≤◌, ◌↔◌, false, IsTrue, OnOk};
 ghost use Rattle.std.specs.Result.{IsErrOf};
-ghost use Rattle.std.specs.Io.KnownBytes.{Appends};
 ghost use Rattle.blake2.specs.Family.{blake2b, blake2s};
-ghost use Rattle.blake2.specs.Streams.{line_of};
-ghost use Rattle.b2.specs.Sums.{family_of, size_of, digest_under};
+ghost use Rattle.b2.specs.Words.{family_of, size_of};
+ghost use Rattle.b2.specs.Options.{digest_with};
+ghost use Rattle.b2.specs.Output.{PrintsDigest};
 
 use crate::fault::Fault;
 use crate::words::{Kind, Options};
@@ -24,8 +24,9 @@ pub(crate) fn sum<S: Source, K: Sink>(
     requires sink { K.failed sink.old ≡ false }
     ensures read { IsErrOf result Fault.ReadFailed ↔ IsTrue (S.failed source.new) }
     ensures write { IsErrOf result Fault.WriteFailed ↔ IsTrue (K.failed sink.new) }
-    ensures line { OnOk result (IfSome (S.left source.old) (λ bytes.
-        Appends (K.held sink.old) (K.held sink.new) (line_of (digest_under (family_of kind) (size_of kind) options.now bytes)))) }
+    ensures line { OnOk result (PrintsDigest (S.left source.old)
+        (digest_with (family_of kind) (size_of kind) options.now)
+        (K.held sink.old) (K.held sink.new)) }
 {
     match kind {
         Kind::Blake2b128 => sum_blake2b::<S, K, 16>(options, source, sink),
@@ -46,8 +47,9 @@ fn sum_blake2b<S: Source, K: Sink, const N: usize>(
     requires sink { K.failed sink.old ≡ false }
     ensures read { IsErrOf result Fault.ReadFailed ↔ IsTrue (S.failed source.new) }
     ensures write { IsErrOf result Fault.WriteFailed ↔ IsTrue (K.failed sink.new) }
-    ensures line { OnOk result (IfSome (S.left source.old) (λ bytes.
-        Appends (K.held sink.old) (K.held sink.new) (line_of (digest_under blake2b N options.now bytes)))) }
+    ensures line { OnOk result (PrintsDigest (S.left source.old)
+        (digest_with blake2b N options.now)
+        (K.held sink.old) (K.held sink.new)) }
 {
     if options.are_empty() {
         print_digest(Blake2b::<N>::new(), source, sink)
@@ -71,8 +73,9 @@ fn sum_blake2s<S: Source, K: Sink, const N: usize>(
     requires sink { K.failed sink.old ≡ false }
     ensures read { IsErrOf result Fault.ReadFailed ↔ IsTrue (S.failed source.new) }
     ensures write { IsErrOf result Fault.WriteFailed ↔ IsTrue (K.failed sink.new) }
-    ensures line { OnOk result (IfSome (S.left source.old) (λ bytes.
-        Appends (K.held sink.old) (K.held sink.new) (line_of (digest_under blake2s N options.now bytes)))) }
+    ensures line { OnOk result (PrintsDigest (S.left source.old)
+        (digest_with blake2s N options.now)
+        (K.held sink.old) (K.held sink.new)) }
 {
     if options.are_empty() {
         print_digest(Blake2s::<N>::new(), source, sink)
@@ -100,8 +103,9 @@ where
     requires sink { K.failed sink.old ≡ false }
     ensures read { IsErrOf result Fault.ReadFailed ↔ IsTrue (S.failed source.new) }
     ensures write { IsErrOf result Fault.WriteFailed ↔ IsTrue (K.failed sink.new) }
-    ensures line { OnOk result (IfSome (S.left source.old) (λ bytes.
-        Appends (K.held sink.old) (K.held sink.new) (line_of (H.meaning.future hasher bytes)))) }
+    ensures line { OnOk result (PrintsDigest (S.left source.old)
+        (H.meaning.future hasher)
+        (K.held sink.old) (K.held sink.new)) }
 {
     match hash_stream(source, sink, hasher) {
         Ok(_) => Ok(()),

@@ -1,5 +1,7 @@
 //! The words of the command line, read from left to right.
-ghost use Rattle.std.specs.Prelude.{◌≡◌, ◌↔◌, [], None, IsTrue, IfErr};
+ghost use Rattle.std.specs.Prelude.{◌≡◌, ◌↔◌, [], None, map, IsTrue, IfOk, IfErr, OnOk};
+ghost use Rattle.std.specs.String.{string_bytes};
+ghost use Rattle.hex.specs.Hex.{decode_of};
 ghost use Rattle.blake2.specs.Views.{key_of};
 ghost use Rattle.b2.specs.Faults.{IsOfWords};
 
@@ -23,9 +25,12 @@ pub(crate) enum Kind {
 }
 
 impl Kind {
+    ghost use Rattle.b2.specs.Words.{name_of};
+
     /// The kind of this name.
     pub(crate) fn from_word(word: &str) -> Result<Kind, Fault>
-        ensures { IfErr result IsOfWords }
+        ensures kind { IfOk result (λ kind. word.now ≡ name_of kind) }
+        ensures fault { IfErr result IsOfWords }
     {
         match word {
             "b128" => Ok(Kind::Blake2b128),
@@ -47,11 +52,12 @@ pub(crate) struct Options {
 }
 
 impl Options {
-    ghost use Rattle.b2.specs.Sums.{given, given_or_empty};
+    ghost use Rattle.b2.specs.Options.{AreOf, Takes, given, given_or_empty};
 
     /// Reads the words in any order, each at most once: for each its name first and its HEX next.
     pub(crate) fn from_words(alloc: Global, words: &[String]) -> Result<Options, Fault>
-        ensures { IfErr result IsOfWords }
+        ensures options { IfOk result (AreOf (map string_bytes words.now)) }
+        ensures fault { IfErr result IsOfWords }
     {
         let mut options = Options {
             key: None,
@@ -59,17 +65,24 @@ impl Options {
             persona: None,
         };
         for word in words {
-            let (name, digits) = word.as_str().split_once('=').ok_or(Fault::WrongWords)?;
-            match name {
-                "key" if options.key.is_none() => options.key = Some(bytes_of(alloc, digits)?),
-                "salt" if options.salt.is_none() => options.salt = Some(bytes_of(alloc, digits)?),
-                "persona" if options.persona.is_none() => {
-                    options.persona = Some(bytes_of(alloc, digits)?);
-                }
-                _ => return Err(Fault::WrongWords),
-            }
+            options.take_word(alloc, word.as_str())?;
         }
         Ok(options)
+    }
+
+    // Takes the word NAME=HEX, whose name no word before it had.
+    fn take_word(&mut self, alloc: Global, word: &str) -> Result<(), Fault>
+        ensures taken { OnOk result (Takes self.old word.now self.new) }
+        ensures fault { IfErr result IsOfWords }
+    {
+        let (name, digits) = word.split_once('=').ok_or(Fault::WrongWords)?;
+        match name {
+            "key" if self.key.is_none() => self.key = Some(bytes_of(alloc, digits)?),
+            "salt" if self.salt.is_none() => self.salt = Some(bytes_of(alloc, digits)?),
+            "persona" if self.persona.is_none() => self.persona = Some(bytes_of(alloc, digits)?),
+            _ => return Err(Fault::WrongWords),
+        }
+        Ok(())
     }
 
     /// The key, where it is given.
@@ -109,7 +122,8 @@ impl Options {
 
 /// The bytes of an even number of hexadecimal digits of either case, perhaps none.
 pub(crate) fn bytes_of(alloc: Global, digits: &str) -> Result<Vec<u8>, Fault>
-    ensures { IfErr result IsOfWords }
+    ensures bytes { IfOk result (λ bytes. decode_of digits.now ≡ Ok bytes.items) }
+    ensures fault { IfErr result IsOfWords }
 {
     hex::decode(alloc, digits).map_err(|error| match error {
         FromHexError::OutOfMemory => Fault::NoMemory,
