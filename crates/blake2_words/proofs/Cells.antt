@@ -3,7 +3,7 @@ use Rattle.std.proofs.Common.{◌≡◌, ℕ, zero, suc, ◌+◌, ◌*◌, ◌<�
 use Rattle.std.proofs.lemmas.List.{drop_more, drop_all, drop-drop}
 use Rattle.std.specs.Int.{from_le_bytes}
 use Rattle.blake2_rows.specs.Family.{Family, word, word_bytes}
-use Rattle.blake2_words.specs.Hash.{xor_words, words_of}
+use Rattle.blake2_words.specs.Hash.{words_of}
 
 -- n elements of l, from place i on
 abbrev pub cells : List ℕ → ℕ → ℕ → List ℕ
@@ -18,11 +18,6 @@ cells-drop l i (suc n) h =
     let at : drop i l ≡ get_or l i 0 ∷ drop (i + 1) l = drop_more l i 0 (omega arith) in
     let next : i + 1 ≡ suc i = omega arith in
     rw (rest, at, next) refl
-
--- the last step of F on lists that are written out
-pub xor_ends : (h v : List ℕ) → length h ≡ 8 → length v ≡ 16
-    → xor_words (xor_words (cells h 0 8) (take 8 (cells v 0 16))) (drop 8 (cells v 0 16)) ≡ xor_words (xor_words h (take 8 v)) (drop 8 v)
-xor_ends h v lh lv = λ i. xor_words (xor_words (cells-drop h 0 8 lh i) (take 8 (cells-drop v 0 16 lv i))) (drop 8 (cells-drop v 0 16 lv i))
 
 -- word k of a list of bytes
 pub words_of-at : (f : Family) (n k : ℕ) (xs : List ℕ) → k < n
