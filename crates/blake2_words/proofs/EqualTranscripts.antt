@@ -1,6 +1,5 @@
 -- What `==` tells of two transcripts of the code.
-use Rattle.std.proofs.Common.{◌≡◌, ℕ, List, Bool, true, false, ◌&&◌, ◌↔◌, IsTrue, nat_eq, refl, sym, ap, subst, ◌∙◌, rules, arith}
-use Rattle.std.proofs.lemmas.Grind.{common_steps}
+use Rattle.std.proofs.Common.{◌≡◌, ℕ, List, Bool, true, false, ◌&&◌, ◌↔◌, IsTrue, nat_eq, refl, rules}
 use lib.Pointwise.{pointwise, pointwise_decides, bytes_decides}
 use mathlib.Core.Bool.{beq}
 use Rattle.blake2_words.specs.declared.steps.Entry as GivenEntry

@@ -1,64 +1,13 @@
--- A fresh state's future is BLAKE2, and the list of steps agrees with the digest.
-use Rattle.std.proofs.Common.{[], ◌≡◌, ℕ, suc, ◌+◌, ◌-◌, ◌*◌, ◌<◌, ◌≤◌, true, false, List, ◌++◌, length, min, refl, sym, ap, arith, get_or, length-append, length-drop, eq-eqb, Option, Some, None}
+-- The list of steps agrees with the digest: each step begins the next, and the last gives the digest.
+use Rattle.std.proofs.Common.{◌≡◌, ℕ, suc, ◌+◌, ◌-◌, ◌*◌, ◌<◌, ◌≤◌, true, false, List, length, min, refl, sym, ap, arith, get_or, eq-eqb}
 use Rattle.std.proofs.lemmas.List.FromFn.{get_or-map-range_with_len, length-map-range_with_len}
 use Rattle.std.proofs.lemmas.Bool.{ne_eqb}
 use Rattle.std.proofs.Math.Nat.{min-eq_left, min-eq_right}
 use Rattle.std.specs.Prelude.{nat_eq}
-use Rattle.blake2_rows.specs.Family.{Family, blake2b, blake2s, block_bytes, key_bytes}
-use Rattle.blake2_words.specs.Hash.{input_flags, Flags, Parameters, input_parameters, key_block, start, Input, input_start, input_data, digest, last_chain, chain, blocks, block_count, Step, output, step, steps}
-use Rattle.blake2_words.specs.Stream.{State, future, started, count, handed_count}
-use Rattle.blake2_words.proofs.Streaming.{updated, block_count-pos}
-use Rattle.blake2_words.proofs.Sizes.{length-padded}
-use Rattle.blake2_words.proofs.Determined.{block_count-fits, key_bytes_fit}
-
--- the state as a constructor leaves it
-abbrev pub fresh : Family → Parameters → Option (List ℕ) → State
-fresh f p key = record { h = start f p; c = 0; p = key_block f key; h0 = start f p; k = key_block f key }
-
--- an input by its parts
-abbrev pub input : List ℕ → List ℕ → Option (List ℕ) → List ℕ → Input
-input salt persona key message = record { salt = salt; persona = persona; key = key; message = message }
-
--- THE LAW: a fresh state's future is BLAKE2
-pub future_fresh : (f : Family) (size : ℕ) (salt persona : List ℕ) (key : Option (List ℕ)) (y : List ℕ)
-    → future f size (fresh f (input_parameters size (input salt persona key [])) key) y ≡ digest f size (input salt persona key y)
-unfolding future digest
-future_fresh f size salt persona key y = refl
-
--- THE LAW: and so is what it gives once it was started again
-pub started_fresh : (f : Family) (size : ℕ) (salt persona : List ℕ) (key : Option (List ℕ)) (y : List ℕ)
-    → started f size (fresh f (input_parameters size (input salt persona key [])) key) y ≡ digest f size (input salt persona key y)
-unfolding started digest
-started_fresh f size salt persona key y = refl
-
--- ---- how many blocks are compressed
-
--- all blocks but one of the counted bytes are compressed
-abbrev pub IsLazy : Family → State → Type 0
-IsLazy f s = s.c ≡ (block_count f (count s) - 1) * block_bytes f
-
--- a key's block has B bytes
-pub length-key_block : (f : Family) (key : List ℕ) → length key ≤ key_bytes f → length (key_block f (Some key)) ≡ block_bytes f
-unfolding key_block
-length-key_block f key h = length-padded (block_bytes f) key (omega (arith, key_bytes_fit f))
-
--- THE LAW: that stays so over updates
-pub IsLazy_updated : (f : Family) (s : State) (x : List ℕ) → IsLazy f s → IsLazy f (updated f s x)
-IsLazy_updated blake2b s x h = omega (arith, length-append s.p x, length-drop (handed_count blake2b (s.p ++ x) * 128) (s.p ++ x))
-IsLazy_updated blake2s s x h = omega (arith, length-append s.p x, length-drop (handed_count blake2s (s.p ++ x) * 64) (s.p ++ x))
-
--- and is so at first, with a key
-pub IsLazy_fresh : (f : Family) (p : Parameters) (key : List ℕ) → length key ≤ key_bytes f → IsLazy f (fresh f p (Some key))
-IsLazy_fresh blake2b p key h = omega (arith, length-key_block blake2b key h)
-IsLazy_fresh blake2s p key h = omega (arith, length-key_block blake2s key h)
-
--- and without one
-pub IsLazy_fresh_none : (f : Family) (p : Parameters) → IsLazy f (fresh f p None)
-unfolding key_block
-IsLazy_fresh_none blake2b p = omega arith
-IsLazy_fresh_none blake2s p = omega arith
-
--- ---- the list of steps
+use Rattle.blake2_rows.specs.Family.{Family, blake2b, blake2s, block_bytes}
+use Rattle.blake2_words.specs.Hash.{input_flags, Flags, Input, input_start, input_data, last_chain, chain, blocks, block_count, Step, output, step, steps}
+use Rattle.blake2_words.proofs.Streaming.{block_count-pos}
+use Rattle.blake2_words.proofs.Determined.{block_count-fits}
 
 -- there is a step for each block
 pub length-steps : (f : Family) (size : ℕ) (a : Input) → length (steps f size a) ≡ block_count f (length (input_data f a))

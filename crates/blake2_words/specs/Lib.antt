@@ -2,7 +2,6 @@ pub use Rattle.blake2_rows.specs.Family
 pub use Rattle.blake2_rows.specs.Round
 pub use Rattle.blake2_rows.specs.Rows
 pub mod Hash
-pub mod Stream
 pub mod Inputs
 pub mod Transcript
 pub mod Witness
