@@ -5,7 +5,8 @@ use Rattle.std.specs.Int.{from_le_bytes}
 use Rattle.blake2_rows.specs.Family.{Family, blake2b, blake2s, word, word_bytes}
 use Rattle.blake2_rows.specs.Rows.{four, word_at}
 use Rattle.blake2_words.specs.Hash.{words_of}
-use Rattle.blake2_words.proofs.Cells.{cells-drop, words_of-at}
+use Rattle.blake2_rows.proofs.Words.{cells-drop}
+use Rattle.blake2_words.proofs.Cells.{words_of-at}
 use Rattle.blake2_words.proofs.Sizes.{length-words_of}
 
 -- a part of a part

@@ -3,7 +3,8 @@ use Rattle.std.proofs.Common.{◌≡◌, ℕ, ◌+◌, ◌*◌, List, [], ◌∷
 use Rattle.blake2_rows.specs.Family.{Family, blake2b, blake2s, salt_bytes}
 use Rattle.blake2_rows.specs.Rows.{four, word_at}
 use Rattle.blake2_words.specs.Hash.{Parameters, padded, words_of, parameter_block, parameter_words}
-use Rattle.blake2_words.proofs.Cells.{cells-drop, words_of-at}
+use Rattle.blake2_rows.proofs.Words.{cells-drop}
+use Rattle.blake2_words.proofs.Cells.{words_of-at}
 use Rattle.blake2_words.proofs.Sizes.{length-words_of}
 
 -- the words of a row

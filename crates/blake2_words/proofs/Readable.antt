@@ -14,7 +14,7 @@ use Rattle.blake2_words.specs.Transcript.{Entry, joined, Reads, ReadsOnly, IsOfS
 use Rattle.blake2_words.specs.Run.{no_entry}
 use Rattle.blake2_words.specs.Reader.{told_count, told_size, told_key_size, IsReadable, told_data, told_key, told_message, told_input, AreTyped}
 use Rattle.blake2_words.proofs.Sizes.{AreParameters, length-padded, AreBytes-take, AreBytes-drop, AreBytes-bytes_of, length-bytes_of}
-use Rattle.blake2_words.proofs.Cells.{cells, cells-drop}
+use Rattle.blake2_rows.proofs.Words.{cells, cells-drop}
 use Rattle.blake2_words.proofs.Determined.{block_count-fits, transcripts_determine, accepted-parameters, key_bytes_fit}
 use Rattle.blake2_words.proofs.Streaming.{block_count-pos}
 use Rattle.blake2_words.proofs.Transcripts.{parameter_words_are}

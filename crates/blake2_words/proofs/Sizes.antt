@@ -1,63 +1,17 @@
 -- How long the lists of the definitions are, and that their numbers are words or bytes.
-use Rattle.std.proofs.Common.{◌≡◌, ℕ, zero, suc, ◌+◌, ◌-◌, ◌*◌, ◌/◌, ◌%◌, ◌^◌, ◌<◌, ◌≤◌, inl, inr, Bool, true, false, List, [], ◌∷◌, ◌++◌, length, take, drop, set, replicate, refl, sym, ap, ◌∙◌, arith, length-append, length-drop, pow_pos, mod-lt}
-use Rattle.std.proofs.lemmas.List.{length-set, length-take-le, length-replicate, get_or-set_same, get_or-set_other, set_past, get_or-drop}
-use Rattle.std.proofs.lemmas.Nat.{xor_lt, or_lt, shr_le}
-use Rattle.std.proofs.lemmas.Bool.{cases_eq, cases_lt}
-use Rattle.std.specs.Int.{from_le_bytes, to_le_bytes, rotate_right, bytes_low_first}
+use Rattle.std.proofs.Common.{◌≡◌, ℕ, zero, suc, ◌+◌, ◌-◌, ◌*◌, ◌/◌, ◌%◌, ◌^◌, ◌<◌, ◌≤◌, Bool, true, false, List, [], ◌∷◌, ◌++◌, length, take, drop, replicate, refl, sym, ap, ◌∙◌, arith, length-append, length-drop, pow_pos, mod-lt}
+use Rattle.std.proofs.lemmas.List.{length-take-le, length-replicate, get_or-drop}
+use Rattle.std.proofs.lemmas.Nat.{xor_lt}
+use Rattle.std.specs.Int.{from_le_bytes, to_le_bytes, bytes_low_first}
 use Rattle.std.specs.Prelude.{if◌then◌else◌}
 use Rattle.std.specs.List.{flat_map}
 use mir.Val.{bits}
 use Rattle.blake2_rows.specs.Family.{Family, blake2b, blake2s, word, word_bytes, block_bytes, output_bytes, salt_bytes, start_words, rounds}
-use Rattle.blake2_rows.specs.Round.{AreWords, plus, turn, mix, round}
+use Rattle.blake2_rows.specs.Round.{AreWords}
+use Rattle.blake2_rows.proofs.Words.{length-round, AreWords-round}
 use Rattle.blake2_words.specs.Hash.{input_flags, Flags, inner, Parameters, input_parameters, AreBytes, words_of, bytes_of, xor_words, padded, after_rounds, before_rounds, compress, parameter_block, parameter_words, start, chain, last_chain, Input, input_start, input_data, digest}
 
 -- ---- words
-
--- writing a word keeps a list of words
-AreWords-set : (f : Family) (v : List ℕ) (i x : ℕ) → AreWords f v → x < 2 ^ bits (word f) → AreWords f (set v i x)
-AreWords-set f v i x a lt k = elim (cases_lt i (length v)) [
-  | inr past ↦ rw (set_past v i x past) (a k)
-  | inl fits ↦ elim (cases_eq k i) [
-    | inl same ↦ rw (same, get_or-set_same v i x 0 fits) lt
-    | inr other ↦ rw (get_or-set_other v i k x 0 other) (a k)
-  ]
-]
-
--- a word turned to the right is a word
-rotate_right-lt : (f : Family) (n r : ℕ) → n < 2 ^ bits (word f) → rotate_right (word f) n r < 2 ^ bits (word f)
-rotate_right-lt f n r lt = or_lt (bits (word f)) _ _ (omega (arith, shr_le n (r % bits (word f)))) (mod-lt _ (pow_pos (bits (word f))))
-
--- G keeps the length
-length-mix : (f : Family) (v : List ℕ) (a b c d x y : ℕ) → length (mix f v a b c d x y) ≡ length v
-unfolding mix
-length-mix f v a b c d x y = simp length-set
-
--- an addition of G keeps words
-AreWords-plus : (f : Family) (v : List ℕ) (a b x : ℕ) → AreWords f v → AreWords f (plus f v a b x)
-AreWords-plus f v a b x h = AreWords-set f v a _ h (mod-lt _ (pow_pos (bits (word f))))
-
--- a turn of G keeps words
-AreWords-turn : (f : Family) (v : List ℕ) (d a r : ℕ) → AreWords f v → AreWords f (turn f v d a r)
-AreWords-turn f v d a r h = AreWords-set f v d _ h (rotate_right-lt f _ r (xor_lt (bits (word f)) _ _ (h d) (h a)))
-
--- G keeps words
-AreWords-mix : (f : Family) (v : List ℕ) (a b c d x y : ℕ) → AreWords f v → AreWords f (mix f v a b c d x y)
-unfolding mix
-AreWords-mix f v a b c d x y h =
-    AreWords-turn f _ b c _ (AreWords-plus f _ c d 0 (AreWords-turn f _ d a _ (AreWords-plus f _ a b y
-    (AreWords-turn f _ b c _ (AreWords-plus f _ c d 0 (AreWords-turn f _ d a _ (AreWords-plus f v a b x h)))))))
-
--- a round keeps the length
-length-round : (f : Family) (v m s : List ℕ) → length (round f v m s) ≡ length v
-unfolding round
-length-round f v m s = simp length-mix
-
--- a round keeps words
-AreWords-round : (f : Family) (v m s : List ℕ) → AreWords f v → AreWords f (round f v m s)
-unfolding round
-AreWords-round f v m s h =
-    AreWords-mix f _ 3 4 9 14 _ _ (AreWords-mix f _ 2 7 8 13 _ _ (AreWords-mix f _ 1 6 11 12 _ _ (AreWords-mix f _ 0 5 10 15 _ _
-    (AreWords-mix f _ 3 7 11 15 _ _ (AreWords-mix f _ 2 6 10 14 _ _ (AreWords-mix f _ 1 5 9 13 _ _ (AreWords-mix f v 0 4 8 12 _ _ h)))))))
 
 -- the rounds keep the length
 length-after_rounds : (f : Family) (v m : List ℕ) (n : ℕ) → length (after_rounds f v m n) ≡ length v
