@@ -75,33 +75,44 @@ append_parts : (n : ℕ) (a b c d : List ℕ) → length a ≡ n → length c �
 append_parts n a b c d la lc h =
     (sym (take_at a b n la) ∙ ap (take n) h ∙ take_at c d n lc, sym (drop_at a b n la) ∙ ap (drop n) h ∙ drop_at c d n lc)
 
+-- a first block that the data does not fill, and zeros up to n bytes behind it
+short_block : (b n : ℕ) (z : List ℕ) → length z ≤ b → padded b (take b z) ++ padded n (drop b z) ≡ padded (b + n) z
+unfolding padded
+short_block b n z short =
+    let all : take b z ≡ z = take_all b z short in
+    let none : drop b z ≡ [] = drop_all b z short in
+    let count : b - length z + (n - 0) ≡ b + n - length z = omega arith in
+    rw (all, none, append_assoc z (replicate (b - length z) 0) (replicate (n - 0) 0), replicate-append-replicate {A = ℕ} (b - length z) (n - 0) 0, count) refl
+
+-- a first block that it fills
+full_block : (b n : ℕ) (z : List ℕ) → b ≤ length z → padded b (take b z) ++ padded n (drop b z) ≡ padded (b + n) z
+unfolding padded
+full_block b n z whole =
+    let full : b - length (take b z) ≡ 0 = omega (arith, length-take-le b z whole) in
+    let left : n - length (drop b z) ≡ b + n - length z = omega (arith, length-drop b z) in
+    rw (full, left, append-nil (take b z), ← append_assoc (take b z) (drop b z) (replicate (b + n - length z) 0), take-append-drop b z) refl
+
+-- no bytes with no zeros behind them
+padded_nothing : (n : ℕ) → n ≡ 0 → [] ≡ padded n []
+unfolding padded
+padded_nothing n none =
+    let zeros : 0 ≡ n - 0 = omega arith in
+    ap (λ (k : ℕ). replicate k 0) zeros
+
 -- the blocks joined are the data, padded
 pub concat-cut : (f : Family) (n : ℕ) (z : List ℕ) → length z ≤ n * block_bytes f → concat (cut f n z) ≡ padded (n * block_bytes f) z
-unfolding cut padded
-concat-cut f zero [] h =
-    let none : 0 * block_bytes f - 0 ≡ 0 = omega arith in
-    ap (λ (k : ℕ). replicate k 0) (sym none)
+unfolding cut
+concat-cut f zero [] h = padded_nothing (0 * block_bytes f) (omega arith)
 concat-cut f zero (x ∷ z) h = absurd (omega arith)
 concat-cut f (suc n) z h =
     let b : ℕ = block_bytes f in
-    let more : suc n * b ≡ b + n * b = omega arith in
-    let rest : concat (cut f n (drop b z)) ≡ drop b z ++ replicate (n * b - length (drop b z)) 0 =
-    concat-cut f n (drop b z) (omega (arith, length-drop b z)) in
-    elim (cases_lt (length z) b) [
-      | inl short ↦
-          (let all : take b z ≡ z = take_all b z (omega arith) in
-          let none : drop b z ≡ [] = drop_all b z (omega arith) in
-          let zeros : replicate (b - length z) 0 ++ replicate (n * b - 0) 0 ≡ replicate (suc n * b - length z) 0 =
-          replicate-append-replicate (b - length z) (n * b - 0) 0 ∙ ap (λ (k : ℕ). replicate k 0) (omega arith) in
-          (λ i. (all i ++ replicate (b - length (all i)) 0) ++ rest i) ∙ (λ i. (z ++ replicate (b - length z) 0) ++ (none i ++ replicate (n * b - length (none i)) 0))
-          ∙ append_assoc z _ _ ∙ ap (λ (k : List ℕ). z ++ k) zeros)
-      | inr whole ↦
-          (let len : length (take b z) ≡ b = length-take-le b z whole in
-          let full : b - length (take b z) ≡ 0 = omega arith in
-          let left : n * b - length (drop b z) ≡ suc n * b - length z = omega (arith, length-drop b z) in
-          (λ i. (take b z ++ replicate (full i) 0) ++ rest i) ∙ (λ i. append-nil (take b z) i ++ (drop b z ++ replicate (left i) 0))
-          ∙ sym (append_assoc (take b z) (drop b z) _) ∙ ap (λ (k : List ℕ). k ++ replicate (suc n * b - length z) 0) (take-append-drop b z))
-    ]
+    let more : b + n * b ≡ suc n * b = omega arith in
+    let rest : concat (cut f n (drop b z)) ≡ padded (n * b) (drop b z) = concat-cut f n (drop b z) (omega (arith, length-drop b z)) in
+    let joined : padded b (take b z) ++ padded (n * b) (drop b z) ≡ padded (b + n * b) z = elim (cases_lt (length z) b) [
+      | inl short ↦ short_block b (n * b) z (omega arith)
+      | inr whole ↦ full_block b (n * b) z whole
+    ] in
+    ap (λ (k : List ℕ). padded b (take b z) ++ k) rest ∙ joined ∙ ap (λ (k : ℕ). padded k z) more
 
 -- the blocks hold all counted bytes
 pub block_count-fits : (f : Family) (m : ℕ) → m ≤ block_count f m * block_bytes f

@@ -36,6 +36,7 @@ pub struct Entry<const B: usize> {
 }
 
 /// All that a run compresses and starts from.
+// The bound on the vector leaves it to each B that its entries are small enough for a vector.
 #[derive(Drop)]
 #[derive_where(Debug, PartialEq, Eq; W, Vec<Entry<B>>)]
 pub struct Transcript<W, const B: usize> {

@@ -30,13 +30,15 @@ fn given_key_fits<const B: usize, const K: usize>(key: &[u8], message: &[u8]) ->
     fits(message, usize::MAX - B)
 }
 
-// The key is absent or has 1 to K bytes, and the data is counted in 64 bits.
+// The key is absent or has 1 to K bytes, and the data is counted in 64 bits. That the message has bytes
+// is what its type says.
 #[tactic(auto, unfolding(crate::specs::Hash::key_block))]
 fn key_fits<const B: usize, const K: usize>(key: &Option<&[u8]>, message: &[u8]) -> bool
     ghost f: { Family }
     requires block { block_bytes f ≡ B }
     requires key { key_bytes f ≡ K }
-    ensures { IsTrue result ↔ KeyFits f (key_of key.now) × (length (data_bytes f (key_of key.now) message.now) < 2 ^ 64) }
+    ensures within { IsTrue result ↔ KeyFits f (key_of key.now) × (length (data_bytes f (key_of key.now) message.now) < 2 ^ 64) }
+    ensures bytes { AreBytes message.now }
 {
     match *key {
         None => true,
@@ -54,7 +56,6 @@ pub(crate) fn accepts<const B: usize, const K: usize, const S: usize>(input: &In
 {
     let salt_fits = fits(input.salt, S);
     let persona_fits = fits(input.persona, S);
-    let message_fits = fits(input.message, usize::MAX);
     let key_fits = key_fits::<B, K>(&input.key, input.message);
-    salt_fits && persona_fits && message_fits && key_fits
+    salt_fits && persona_fits && key_fits
 }

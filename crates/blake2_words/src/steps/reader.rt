@@ -2,7 +2,6 @@
 
 ghost use Rattle.std.specs.Prelude.{◌≡◌, ◌+◌, ◌<◌, ◌≤◌, ◌*◌, ◌-◌, ◌^◌, ◌↔◌, ℕ, length, map, take, IsTrue, IfOk, slice_index, EachIndex};
 ghost use Rattle.blake2_rows.specs.Family.{Family, block_bytes};
-ghost use Rattle.blake2_words.specs.Hash.{AreBytes};
 ghost use Rattle.blake2_words.specs.Views.{entry_of, items_of};
 ghost use Rattle.blake2_words.specs.Reader.{AreInner, AreWhole, EndsRun, HasKey, IsInner, IsRun, IsWhole, IsZeroFrom, told_count, told_data, told_key, told_message};
 ghost use Rattle.blake2_words.specs.Transcript.{joined};
@@ -27,20 +26,14 @@ fn is_zero_from<const B: usize>(block: &[u8; B], from: usize) -> bool
     is_zero(&bytes[from..])
 }
 
-// What the type of a slice says of its elements.
-fn are_bytes(_bytes: &[u8])
-    ensures { AreBytes _bytes.now }
-{}
-
 // The entry is one that others follow, at place i.
-fn is_inner<const B: usize>(entry: &Entry<B>, i: u64) -> bool
+fn is_inner<const B: usize>(entry: Entry<B>, i: u64) -> bool
     ghost f: { Family }
     requires family { block_bytes f ≡ B }
     requires fits { (i + 1) * B < 2 ^ 64 }
-    ensures inner { IsTrue result ↔ IsInner f i (entry_of entry.now) }
-    ensures whole { IsTrue result → IsWhole f (entry_of entry.now) }
+    ensures inner { IsTrue result ↔ IsInner f i (entry_of entry.entry) }
+    ensures whole { IsWhole f (entry_of entry.entry) }
 {
-    are_bytes(&entry.block);
     !entry.last && entry.counter == (i + 1) * B as u64
 }
 
@@ -52,7 +45,7 @@ fn are_inner<const B: usize>(entries: &[Entry<B>]) -> bool
     ensures whole { IsTrue result → AreWhole f (map entry_of entries.now) }
 {
     for (i, entry) in entries.iter().enumerate() {
-        if !is_inner(entry, i as u64) {
+        if !is_inner(*entry, i as u64) {
             return false;
         }
     }
@@ -60,10 +53,11 @@ fn are_inner<const B: usize>(entries: &[Entry<B>]) -> bool
 }
 
 // The entry is the last, after `before` others.
-fn ends_run<const B: usize>(entry: &Entry<B>, before: usize) -> bool
+fn ends_run<const B: usize>(entry: Entry<B>, before: usize) -> bool
     ghost f: { Family }
     requires family { block_bytes f ≡ B }
-    ensures { IsTrue result ↔ EndsRun f before (entry_of entry.now) }
+    ensures ends { IsTrue result ↔ EndsRun f before (entry_of entry.entry) }
+    ensures whole { IsWhole f (entry_of entry.entry) }
 {
     entry.last && (entry.counter.saturating_sub(1) / B as u64) as usize == before
 }
@@ -79,8 +73,7 @@ pub(crate) fn is_run<const B: usize>(entries: &[Entry<B>]) -> bool
     let Some((last, before)) = entries.split_last() else {
         return false;
     };
-    are_bytes(&last.block);
-    if !ends_run(last, before.len()) {
+    if !ends_run(*last, before.len()) {
         return false;
     }
     let counted_before = before.len() as u64 * B as u64;

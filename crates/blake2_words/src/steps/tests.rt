@@ -2,6 +2,7 @@
 //! document, 2.8), byte by byte.
 
 use super::{Entry, Input, Reading, Transcript, blake2b, blake2s};
+use crate::laws;
 use std::process::Abort;
 use std::test::Fail;
 
@@ -29,6 +30,7 @@ fn keyed_blake2b_and_back(rt: HostRuntime) -> Result<(), Fail> {
             0x6665646362613938
         ]
     );
+    assert!(rt; laws::transcripts::blake2b::equal(&written, &written));
     assert_eq!(rt; written.entries.len(), 3);
     assert_eq!(rt; written.entries[0].block[0], 1);
     for (entry, counter) in written.entries.iter().zip([128, 256, 328]) {
@@ -74,6 +76,7 @@ fn keyed_blake2s_and_back(rt: HostRuntime) -> Result<(), Fail> {
         written.words,
         [0x01012020, 0, 0, 0, 0, 0, 0x73726570, 0x6c616e6f]
     );
+    assert!(rt; laws::transcripts::blake2s::equal(&written, &written));
     assert_eq!(rt; written.entries.len(), 1);
     let entry = written.entries[0];
     assert!(rt; entry.last);
