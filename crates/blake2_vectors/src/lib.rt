@@ -5,6 +5,10 @@
 #[cfg(test)]
 mod hashers;
 #[cfg(test)]
+mod inputs;
+#[cfg(test)]
 mod lanes;
 #[cfg(test)]
 mod macs;
+#[cfg(test)]
+mod steps;

@@ -1,6 +1,7 @@
 //! Outputs of the MACs, personas of the hashers, and what constructors refuse.
 ghost use Rattle.std.specs.Prelude.{◌≤◌};
 
+use crate::inputs::KEY;
 use blake2::digest::{
     AlgorithmName, CustomizedInit, FixedOutput, InvalidLength, InvalidOutputSize, KeyInit, Mac,
     Update, VariableOutputCore,
@@ -11,11 +12,6 @@ use blake2::{
 use std::alloc::{AllocError, Global};
 use std::fmt;
 use std::test::Fail;
-
-const KEY: [u8; 32] = [
-    0, 1, 2, 3, 4, 5, 6, 7, 8, 9, 10, 11, 12, 13, 14, 15, 16, 17, 18, 19, 20, 21, 22, 23, 24, 25,
-    26, 27, 28, 29, 30, 31,
-];
 
 // The output of BLAKE2b's MAC for a message, in hexadecimal.
 fn blake2b_of(

@@ -1,0 +1,396 @@
+//! Transcripts of inputs, and what transcripts are read as. Words are those of the parameter block
+//! (RFC 7693, 2.5), byte by byte; entries follow section 3.3.
+ghost use Rattle.std.specs.Prelude.{◌≤◌, length};
+
+use crate::inputs::{KEY, padded, unkeyed};
+use blake2::steps::{Entry, Input, Reading, Step, Transcript};
+use blake2::{Blake2bVarCore, Blake2sVarCore};
+use std::alloc::{AllocError, Global};
+use std::process::Abort;
+
+// An entry whose block goes on with zeros behind these bytes.
+fn entry<const B: usize>(beginning: &[u8], counter: u64, last: bool) -> Entry<B>
+    requires { length beginning.now ≤ B }
+{
+    Entry {
+        block: padded(beginning),
+        counter,
+        last,
+    }
+}
+
+// A transcript of these words and entries.
+fn transcript<W: Drop, const B: usize>(
+    alloc: Global,
+    words: [W; 8],
+    entries: &[Entry<B>],
+) -> Result<Transcript<W, B>, AllocError> {
+    let entries = entries.to_vec(alloc)?;
+    Ok(Transcript { words, entries })
+}
+
+// What a transcript of this input and output size is read as.
+fn reading<const S: usize>(
+    alloc: Global,
+    input: &Input<'_>,
+    output_size: usize,
+) -> Result<Reading<S>, AllocError>
+    requires salt { length input.now.salt.now ≤ S }
+    requires persona { length input.now.persona.now ≤ S }
+{
+    let key = match input.key {
+        Some(key) => Some(key.to_vec(alloc)?),
+        None => None,
+    };
+    Ok(Reading {
+        output_size,
+        salt: padded(input.salt),
+        persona: padded(input.persona),
+        key,
+        message: input.message.to_vec(alloc)?,
+    })
+}
+
+// BLAKE2b writes this transcript of the input, and reads it as the input.
+fn check_blake2b(
+    rt: &impl Abort,
+    alloc: Global,
+    input: &Input<'_>,
+    output_size: usize,
+    wanted: &Transcript<u64, 128>,
+) -> Result<(), AllocError>
+    requires { output_size ≤ 64 }
+{
+    assert!(rt; Blake2bVarCore::accepts(input));
+    let written = Blake2bVarCore::transcript(alloc, input, output_size)?;
+    assert!(rt; written == *wanted, "{written:?}");
+    let read = Blake2bVarCore::read_transcript(alloc, wanted)?;
+    assert_eq!(rt; read, Some(reading(alloc, input, output_size)?));
+    Ok(())
+}
+
+// BLAKE2s writes this transcript of the input, and reads it as the input.
+fn check_blake2s(
+    rt: &impl Abort,
+    alloc: Global,
+    input: &Input<'_>,
+    output_size: usize,
+    wanted: &Transcript<u32, 64>,
+) -> Result<(), AllocError>
+    requires { output_size ≤ 32 }
+{
+    assert!(rt; Blake2sVarCore::accepts(input));
+    let written = Blake2sVarCore::transcript(alloc, input, output_size)?;
+    assert!(rt; written == *wanted, "{written:?}");
+    let read = Blake2sVarCore::read_transcript(alloc, wanted)?;
+    assert_eq!(rt; read, Some(reading(alloc, input, output_size)?));
+    Ok(())
+}
+
+#[test]
+fn write_and_read_no_message(rt: HostRuntime) -> Result<(), AllocError> {
+    let alloc = rt.alloc();
+    let words = [0x01010040, 0, 0, 0, 0, 0, 0, 0];
+    let wanted = transcript(alloc, words, &[entry(b"", 0, true)])?;
+    check_blake2b(&rt, alloc, &unkeyed(b""), 64, &wanted)?;
+    let words = [0x01010020, 0, 0, 0, 0, 0, 0, 0];
+    let wanted = transcript(alloc, words, &[entry(b"", 0, true)])?;
+    check_blake2s(&rt, alloc, &unkeyed(b""), 32, &wanted)
+}
+
+#[test]
+fn write_and_read_messages_of_blake2b(rt: HostRuntime) -> Result<(), AllocError> {
+    let alloc = rt.alloc();
+    let message = [0x2a; 129];
+    let block = &message[..128];
+    let words = [0x01010040, 0, 0, 0, 0, 0, 0, 0];
+    let wanted = transcript(alloc, words, &[entry(block, 128, true)])?;
+    check_blake2b(&rt, alloc, &unkeyed(block), 64, &wanted)?;
+    let entries = [entry(block, 128, false), entry(&[0x2a], 129, true)];
+    let wanted = transcript(alloc, words, &entries)?;
+    check_blake2b(&rt, alloc, &unkeyed(&message), 64, &wanted)?;
+    let words = [0x01010010, 0, 0, 0, 0, 0, 0, 0];
+    let entries = [entry(b"", 128, false), entry(b"", 256, true)];
+    let wanted = transcript(alloc, words, &entries)?;
+    check_blake2b(&rt, alloc, &unkeyed(&[0; 256]), 16, &wanted)
+}
+
+#[test]
+fn write_and_read_messages_of_blake2s(rt: HostRuntime) -> Result<(), AllocError> {
+    let alloc = rt.alloc();
+    let message = [0x2a; 129];
+    let block = &message[..64];
+    let words = [0x01010020, 0, 0, 0, 0, 0, 0, 0];
+    let wanted = transcript(alloc, words, &[entry(block, 64, true)])?;
+    check_blake2s(&rt, alloc, &unkeyed(block), 32, &wanted)?;
+    let entries = [entry(block, 64, false), entry(block, 128, true)];
+    let wanted = transcript(alloc, words, &entries)?;
+    check_blake2s(&rt, alloc, &unkeyed(&message[..128]), 32, &wanted)?;
+    let entries = [
+        entry(block, 64, false),
+        entry(block, 128, false),
+        entry(&[0x2a], 129, true),
+    ];
+    let wanted = transcript(alloc, words, &entries)?;
+    check_blake2s(&rt, alloc, &unkeyed(&message), 32, &wanted)
+}
+
+#[test]
+fn write_and_read_a_key_and_a_persona(rt: HostRuntime) -> Result<(), AllocError> {
+    let alloc = rt.alloc();
+    let input = Input {
+        salt: b"",
+        persona: b"personal",
+        key: Some(&KEY),
+        message: b"",
+    };
+    let words = [0x01012040, 0, 0, 0, 0, 0, 0x6c616e6f73726570, 0];
+    let wanted = transcript(alloc, words, &[entry(&KEY, 128, true)])?;
+    check_blake2b(&rt, alloc, &input, 64, &wanted)?;
+    let words = [0x01012020, 0, 0, 0, 0, 0, 0x73726570, 0x6c616e6f];
+    let wanted = transcript(alloc, words, &[entry(&KEY, 64, true)])?;
+    check_blake2s(&rt, alloc, &input, 32, &wanted)
+}
+
+// The words of BLAKE2b for the output size 64, a key of one byte, the salt `abc` and the persona
+// `0123456789abcdef`.
+const WORDS: [u64; 8] = [
+    0x01010140,
+    0,
+    0,
+    0,
+    0x636261,
+    0,
+    0x3736353433323130,
+    0x6665646362613938,
+];
+
+#[test]
+fn write_and_read_all_parts_of_blake2b(rt: HostRuntime) -> Result<(), AllocError> {
+    let alloc = rt.alloc();
+    let message = [0x2a; 200];
+    let input = Input {
+        salt: b"abc",
+        persona: b"0123456789abcdef",
+        key: Some(&[1]),
+        message: &message,
+    };
+    let entries = [
+        entry(&[1], 128, false),
+        entry(&message[..128], 256, false),
+        entry(&message[..72], 328, true),
+    ];
+    let wanted = transcript(alloc, WORDS, &entries)?;
+    check_blake2b(&rt, alloc, &input, 64, &wanted)
+}
+
+#[test]
+fn write_and_read_all_parts_of_blake2s(rt: HostRuntime) -> Result<(), AllocError> {
+    let alloc = rt.alloc();
+    let message = [0x2a; 100];
+    let input = Input {
+        salt: b"abc",
+        persona: b"01234567",
+        key: Some(&[1]),
+        message: &message,
+    };
+    let words = [0x01010120, 0, 0, 0, 0x636261, 0, 0x33323130, 0x37363534];
+    let entries = [
+        entry(&[1], 64, false),
+        entry(&message[..64], 128, false),
+        entry(&message[..36], 164, true),
+    ];
+    let wanted = transcript(alloc, words, &entries)?;
+    check_blake2s(&rt, alloc, &input, 32, &wanted)
+}
+
+// Whether some input of BLAKE2b has a transcript of these words and entries.
+fn blake2b_reads(
+    alloc: Global,
+    words: [u64; 8],
+    entries: &[Entry<128>],
+) -> Result<bool, AllocError> {
+    let transcript = transcript(alloc, words, entries)?;
+    Ok(Blake2bVarCore::read_transcript(alloc, &transcript)?.is_some())
+}
+
+#[test]
+fn read_no_input_from_other_words(rt: HostRuntime) -> Result<(), AllocError> {
+    let entries = [entry(&[0x2a; 128], 128, true)];
+    for (first, second, is_read) in [
+        (0x01010040, 0, true),
+        (0x01010040, 1, false),
+        (0x01014140, 0, false),
+    ] {
+        let words = [first, second, 0, 0, 0, 0, 0, 0];
+        let read = blake2b_reads(rt.alloc(), words, &entries)?;
+        assert_eq!(rt; read, is_read, "{first:x} {second}");
+    }
+    Ok(())
+}
+
+#[test]
+fn read_no_input_from_other_entries(rt: HostRuntime) -> Result<(), AllocError> {
+    let alloc = rt.alloc();
+    let words = [0x01010040, 0, 0, 0, 0, 0, 0, 0];
+    assert!(rt; !blake2b_reads(alloc, words, &[])?);
+    let first = [0x2a; 128];
+    for (first_is_last, counter, is_read) in [
+        (false, 129, true),
+        (true, 129, false),
+        (false, 128, false),
+    ] {
+        let entries = [
+            entry(&first, 128, first_is_last),
+            entry(&[0x2a], counter, true),
+        ];
+        let read = blake2b_reads(alloc, words, &entries)?;
+        assert_eq!(rt; read, is_read, "{first_is_last} {counter}");
+    }
+    for place in 1..128usize {
+        let mut second = entry(&[0x2a], 129, true);
+        second.block[place] = 1;
+        let read = blake2b_reads(alloc, words, &[entry(&first, 128, false), second])?;
+        assert!(rt; !read, "{place}");
+    }
+    assert!(rt; blake2b_reads(alloc, WORDS, &[entry(&[1], 128, true)])?);
+    assert!(rt; !blake2b_reads(alloc, WORDS, &[entry(&[1], 127, true)])?);
+    Ok(())
+}
+
+// What BLAKE2s reads the transcript of these words and entries as.
+fn blake2s_reading(
+    alloc: Global,
+    first_word: u32,
+    entries: &[Entry<64>],
+) -> Result<Option<Reading<8>>, AllocError> {
+    let words = [first_word, 0, 0, 0, 0, 0, 0, 0];
+    let transcript = transcript(alloc, words, entries)?;
+    Blake2sVarCore::read_transcript(alloc, &transcript)
+}
+
+#[test]
+fn read_a_key_of_a_zero_byte(rt: HostRuntime) -> Result<(), AllocError> {
+    let alloc = rt.alloc();
+    let input = Input {
+        salt: b"",
+        persona: b"",
+        key: Some(&[0]),
+        message: b"",
+    };
+    let read = blake2s_reading(alloc, 0x01010120, &[entry(b"", 64, true)])?;
+    assert_eq!(rt; read, Some(reading(alloc, &input, 32)?));
+    let read = blake2s_reading(alloc, 0x01010120, &[entry(&[0, 1], 64, true)])?;
+    assert_eq!(rt; read, None);
+    Ok(())
+}
+
+#[test]
+fn read_zero_blocks(rt: HostRuntime) -> Result<(), AllocError> {
+    let alloc = rt.alloc();
+    let none = [entry(b"", 0, true)];
+    let read = blake2s_reading(alloc, 0x01010000, &none)?;
+    assert_eq!(rt; read, Some(reading(alloc, &unkeyed(b""), 0)?));
+    assert!(rt; blake2s_reading(alloc, 0x01010021, &none)?.is_none());
+    let entries = [entry(b"", 64, false), entry(b"", 64, true)];
+    assert!(rt; blake2s_reading(alloc, 0x01010020, &entries)?.is_none());
+    Ok(())
+}
+
+// Whether each of two values is equal to itself, and neither to the other.
+fn are_different<T: Eq>(a: &T, b: &T) -> bool {
+    a == a && b == b && a != b && b != a
+}
+
+// Whether a copy and a clone of the value are equal to it.
+fn is_copied<T: Copy + Eq>(value: &T) -> Result<bool, AllocError> {
+    let copy = *value;
+    Ok(copy == *value && value.clone()? == *value)
+}
+
+#[test]
+fn compare_and_copy_entries(rt: HostRuntime) -> Result<(), AllocError> {
+    let first: Entry<64> = entry(b"a", 1, true);
+    assert!(rt; is_copied(&first)?);
+    for other in [
+        entry(b"b", 1, true),
+        entry(b"a", 2, true),
+        entry(b"a", 1, false),
+    ] {
+        assert!(rt; are_different(&first, &other), "{other:?}");
+    }
+    Ok(())
+}
+
+#[test]
+fn compare_and_copy_steps(rt: HostRuntime) -> Result<(), AllocError> {
+    let step: Step<u64, 128> = Step {
+        chain: [1, 2, 3, 4, 5, 6, 7, 8],
+        block: [9; 128],
+        counter: 10,
+        last: false,
+    };
+    assert!(rt; is_copied(&step)?);
+    for other in [
+        Step {
+            chain: [1, 2, 3, 4, 5, 6, 7, 9],
+            ..step
+        },
+        Step {
+            block: padded(&[9; 127]),
+            ..step
+        },
+        Step {
+            counter: 11,
+            ..step
+        },
+        Step { last: true, ..step },
+    ] {
+        assert!(rt; are_different(&step, &other), "{other:?}");
+    }
+    Ok(())
+}
+
+#[test]
+fn compare_transcripts(rt: HostRuntime) -> Result<(), AllocError> {
+    let alloc = rt.alloc();
+    let words = [1u32, 2, 3, 4, 5, 6, 7, 8];
+    let entries: [Entry<64>; 2] = [entry(b"a", 64, false), entry(b"b", 65, true)];
+    let first = transcript(alloc, words, &entries)?;
+    assert!(rt; first == transcript(alloc, words, &entries)?);
+    let other = transcript(alloc, [1, 2, 3, 4, 5, 6, 7, 9], &entries)?;
+    assert!(rt; are_different(&first, &other));
+    let other = transcript(alloc, words, &entries[..1])?;
+    assert!(rt; are_different(&first, &other));
+    let other = transcript(alloc, words, &[entries[1], entries[0]])?;
+    assert!(rt; are_different(&first, &other));
+    Ok(())
+}
+
+#[test]
+fn compare_readings(rt: HostRuntime) -> Result<(), AllocError> {
+    let alloc = rt.alloc();
+    let input = unkeyed(b"message");
+    let first: Reading<8> = reading(alloc, &input, 32)?;
+    assert!(rt; first == reading(alloc, &input, 32)?);
+    assert!(rt; are_different(&first, &reading(alloc, &input, 31)?));
+    for other in [
+        Input {
+            salt: b"salt",
+            ..input
+        },
+        Input {
+            persona: b"persona",
+            ..input
+        },
+        Input {
+            key: Some(&[0]),
+            ..input
+        },
+        unkeyed(b"messages"),
+    ] {
+        assert!(rt; other.salt.len() <= 8 && other.persona.len() <= 8);
+        assert!(rt; are_different(&first, &reading(alloc, &other, 32)?));
+    }
+    Ok(())
+}
