@@ -12,3 +12,5 @@ mod lanes;
 mod macs;
 #[cfg(test)]
 mod steps;
+#[cfg(test)]
+mod witness;

@@ -1,0 +1,273 @@
+//! The pairs of steps that two inputs with one digest come to. Start words are IV's (RFC 7693, 2.6) xored
+//! with those of the parameter block (2.5). The chaining words behind a first block come from a plain
+//! program of the compression (3.2) in Python, whose digests are those of `hashlib`.
+ghost use Rattle.std.specs.Prelude.{◌≤◌, length};
+
+use crate::inputs::{padded, unkeyed};
+use blake2::steps::{Input, Step};
+use blake2::{Blake2b, Blake2bVarCore, Blake2s, Blake2sVarCore, Digest};
+use std::alloc::{AllocError, Global};
+use std::test::Fail;
+
+// A last step of BLAKE2b, whose chaining words are the start words after the first of them.
+fn blake2b_last(first_word: u64, beginning: &[u8], counter: u64) -> Step<u64, 128>
+    requires { length beginning.now ≤ 128 }
+{
+    Step {
+        chain: [
+            first_word,
+            0xbb67ae8584caa73b,
+            0x3c6ef372fe94f82b,
+            0xa54ff53a5f1d36f1,
+            0x510e527fade682d1,
+            0x9b05688c2b3e6c1f,
+            0x1f83d9abfb41bd6b,
+            0x5be0cd19137e2179,
+        ],
+        block: padded(beginning),
+        counter,
+        last: true,
+    }
+}
+
+// A last step of BLAKE2s, whose chaining words are the start words after the first of them.
+fn blake2s_last(first_word: u32, beginning: &[u8], counter: u64) -> Step<u32, 64>
+    requires { length beginning.now ≤ 64 }
+{
+    Step {
+        chain: [
+            first_word, 0xbb67ae85, 0x3c6ef372, 0xa54ff53a, 0x510e527f, 0x9b05688c, 0x1f83d9ab,
+            0x5be0cd19,
+        ],
+        block: padded(beginning),
+        counter,
+        last: true,
+    }
+}
+
+// The witness of two inputs that BLAKE2b accepts.
+fn blake2b_witness(
+    alloc: Global,
+    a: &Input<'_>,
+    b: &Input<'_>,
+    output_size: usize,
+) -> Result<Option<(Step<u64, 128>, Step<u64, 128>)>, Fail>
+    requires { output_size ≤ 64 }
+{
+    if !Blake2bVarCore::accepts(a) || !Blake2bVarCore::accepts(b) {
+        return Err(Fail::from("an input is not accepted"));
+    }
+    Ok(Blake2bVarCore::witness(alloc, a, b, output_size)?)
+}
+
+// The witness of two inputs that BLAKE2s accepts.
+fn blake2s_witness(
+    alloc: Global,
+    a: &Input<'_>,
+    b: &Input<'_>,
+    output_size: usize,
+) -> Result<Option<(Step<u32, 64>, Step<u32, 64>)>, Fail>
+    requires { output_size ≤ 32 }
+{
+    if !Blake2sVarCore::accepts(a) || !Blake2sVarCore::accepts(b) {
+        return Err(Fail::from("an input is not accepted"));
+    }
+    Ok(Blake2sVarCore::witness(alloc, a, b, output_size)?)
+}
+
+// An input that has a salt alone.
+fn salted<'a>(salt: &'a [u8]) -> Input<'a> {
+    Input {
+        salt,
+        ..unkeyed(b"")
+    }
+}
+
+// An input that has a key alone.
+fn keyed<'a>(key: &'a [u8]) -> Input<'a> {
+    Input {
+        key: Some(key),
+        ..unkeyed(b"")
+    }
+}
+
+#[test]
+fn witness_nothing(rt: HostRuntime) -> Result<(), Fail> {
+    let alloc = rt.alloc();
+    for (a, b) in [
+        (unkeyed(b""), unkeyed(b"")),
+        (unkeyed(b"a"), unkeyed(b"a")),
+        (salted(b"a"), salted(b"a\0")),
+    ] {
+        assert_eq!(rt; blake2b_witness(alloc, &a, &b, 0)?, None);
+        assert_eq!(rt; blake2b_witness(alloc, &a, &b, 64)?, None);
+        assert_eq!(rt; blake2s_witness(alloc, &a, &b, 0)?, None);
+        assert_eq!(rt; blake2s_witness(alloc, &a, &b, 32)?, None);
+    }
+    let (a, b) = (unkeyed(b"abc"), unkeyed(b""));
+    assert_eq!(rt; blake2b_witness(alloc, &a, &b, 64)?, None);
+    assert_eq!(rt; blake2s_witness(alloc, &a, &b, 32)?, None);
+    Ok(())
+}
+
+#[test]
+fn witness_messages_of_one_block(rt: HostRuntime) -> Result<(), Fail> {
+    let alloc = rt.alloc();
+    let word = 0x6a09e667f2bdc908;
+    let found = blake2b_witness(alloc, &unkeyed(b"a"), &unkeyed(b"b"), 0)?;
+    let wanted = (blake2b_last(word, b"a", 1), blake2b_last(word, b"b", 1));
+    assert_eq!(rt; found, Some(wanted));
+    let found = blake2b_witness(alloc, &unkeyed(b""), &unkeyed(b"\0"), 0)?;
+    let wanted = (blake2b_last(word, b"", 0), blake2b_last(word, b"", 1));
+    assert_eq!(rt; found, Some(wanted));
+    let word = 0x6b08e667;
+    let found = blake2s_witness(alloc, &unkeyed(b"a"), &unkeyed(b"b"), 0)?;
+    let wanted = (blake2s_last(word, b"a", 1), blake2s_last(word, b"b", 1));
+    assert_eq!(rt; found, Some(wanted));
+    let found = blake2s_witness(alloc, &unkeyed(b""), &unkeyed(b"\0"), 0)?;
+    let wanted = (blake2s_last(word, b"", 0), blake2s_last(word, b"", 1));
+    assert_eq!(rt; found, Some(wanted));
+    Ok(())
+}
+
+#[test]
+fn witness_a_key_and_a_message_like_its_block(rt: HostRuntime) -> Result<(), Fail> {
+    let alloc = rt.alloc();
+    let block: [u8; 128] = padded(b"a");
+    let found = blake2b_witness(alloc, &keyed(b"a"), &unkeyed(&block), 0)?;
+    let wanted = (
+        blake2b_last(0x6a09e667f2bdc808, b"a", 128),
+        blake2b_last(0x6a09e667f2bdc908, b"a", 128),
+    );
+    assert_eq!(rt; found, Some(wanted));
+    let block: [u8; 64] = padded(b"a");
+    let found = blake2s_witness(alloc, &keyed(b"a"), &unkeyed(&block), 0)?;
+    let wanted = (
+        blake2s_last(0x6b08e767, b"a", 64),
+        blake2s_last(0x6b08e667, b"a", 64),
+    );
+    assert_eq!(rt; found, Some(wanted));
+    Ok(())
+}
+
+#[test]
+fn witness_different_numbers_of_steps(rt: HostRuntime) -> Result<(), Fail> {
+    let alloc = rt.alloc();
+    let message = [0x2a; 129];
+    let found = blake2b_witness(alloc, &unkeyed(&message[..128]), &unkeyed(&message), 0)?;
+    let chain = [
+        0x13673313fdf2b8ad,
+        0xb2290069c00c8332,
+        0xf1c7ba3e554d5ede,
+        0x384f0de614d42172,
+        0x5bd0fb2a674f5189,
+        0xc4e5778b61ba5d4d,
+        0x2f2ba951b4342179,
+        0xa82e70ad2c8be8bd,
+    ];
+    let wanted = (
+        blake2b_last(0x6a09e667f2bdc908, &message[..128], 128),
+        Step {
+            chain,
+            ..blake2b_last(0, &message[..1], 129)
+        },
+    );
+    assert_eq!(rt; found, Some(wanted));
+    let found = blake2s_witness(alloc, &unkeyed(&message[..64]), &unkeyed(&message[..65]), 0)?;
+    let chain = [
+        0xca0e0a4b, 0xfef79605, 0xa2e4c3df, 0x62cb01ab, 0x45d5d3d6, 0x293c6464, 0x0719df00,
+        0xc6972108,
+    ];
+    let wanted = (
+        blake2s_last(0x6b08e667, &message[..64], 64),
+        Step {
+            chain,
+            ..blake2s_last(0, &message[..1], 65)
+        },
+    );
+    assert_eq!(rt; found, Some(wanted));
+    Ok(())
+}
+
+// Of the 257 messages of two bytes that are the numbers 0 to 256 two with equal digests of one byte.
+fn equal_digests<H: Digest<1> + Drop>() -> Option<(u16, u16)>
+    requires { H.is_supported }
+{
+    let mut seen = [None; 256];
+    for number in 0..257u16 {
+        let digest = H::digest(&number.to_be_bytes());
+        if let [byte] = digest.as_slice() {
+            let place = *byte as usize;
+            if let Some(other) = seen[place] {
+                return Some((other, number));
+            }
+            seen[place] = Some(number);
+        }
+    }
+    None
+}
+
+#[test]
+fn witness_equal_digests_of_one_byte(rt: HostRuntime) -> Result<(), Fail> {
+    let alloc = rt.alloc();
+    let Some((a, b)) = equal_digests::<Blake2b<1>>() else {
+        return Err(Fail::from("no equal digests of BLAKE2b"));
+    };
+    assert_ne!(rt; a, b);
+    let (a, b) = (a.to_be_bytes(), b.to_be_bytes());
+    let word = 0x6a09e667f2bdc909;
+    let wanted = (blake2b_last(word, &a, 2), blake2b_last(word, &b, 2));
+    let found = blake2b_witness(alloc, &unkeyed(&a), &unkeyed(&b), 1)?;
+    assert_eq!(rt; found, Some(wanted));
+    let Some((a, b)) = equal_digests::<Blake2s<1>>() else {
+        return Err(Fail::from("no equal digests of BLAKE2s"));
+    };
+    assert_ne!(rt; a, b);
+    let (a, b) = (a.to_be_bytes(), b.to_be_bytes());
+    let word = 0x6b08e666;
+    let wanted = (blake2s_last(word, &a, 2), blake2s_last(word, &b, 2));
+    let found = blake2s_witness(alloc, &unkeyed(&a), &unkeyed(&b), 1)?;
+    assert_eq!(rt; found, Some(wanted));
+    Ok(())
+}
+
+// Takes all the memory that there is, in blocks that halve, down to the smallest.
+fn hoard(alloc: Global, blocks: &mut Vec<Vec<u8>>) {
+    let mut size = 1usize << 46;
+    for _ in 0..4_000_000 {
+        match Vec::with_capacity(alloc, size) {
+            Ok(block) => {
+                if blocks.push(block).is_err() {
+                    return;
+                }
+            }
+            Err(_) => {
+                size /= 2;
+                if size < 16 {
+                    return;
+                }
+            }
+        }
+    }
+}
+
+#[test]
+fn witness_without_memory(rt: HostRuntime) -> Result<(), AllocError> {
+    let alloc = rt.alloc();
+    let (a, b) = (unkeyed(b"a"), unkeyed(b"b"));
+    assert!(rt; Blake2bVarCore::accepts(&a) && Blake2bVarCore::accepts(&b));
+    assert!(rt; Blake2sVarCore::accepts(&a) && Blake2sVarCore::accepts(&b));
+    let of_blake2b = Blake2bVarCore::witness(alloc, &a, &b, 0)?;
+    let of_blake2s = Blake2sVarCore::witness(alloc, &a, &b, 0)?;
+    let mut blocks = Vec::with_capacity(alloc, 300_000)?;
+    hoard(alloc, &mut blocks);
+    let one_byte: Result<Vec<u8>, AllocError> = Vec::with_capacity(alloc, 1);
+    let found_by_blake2b = Blake2bVarCore::witness(alloc, &a, &b, 0);
+    let found_by_blake2s = Blake2sVarCore::witness(alloc, &a, &b, 0);
+    drop(blocks);
+    assert!(rt; one_byte.is_err());
+    assert!(rt; of_blake2b.is_some() && of_blake2s.is_some());
+    assert_eq!(rt; found_by_blake2b, Ok(of_blake2b));
+    assert_eq!(rt; found_by_blake2s, Ok(of_blake2s));
+    Ok(())
+}
