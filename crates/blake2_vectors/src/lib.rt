@@ -13,4 +13,6 @@ mod macs;
 #[cfg(test)]
 mod steps;
 #[cfg(test)]
+mod streams;
+#[cfg(test)]
 mod witness;
