@@ -1,7 +1,9 @@
-//! A key, inputs and blocks that several tests share.
+//! A key, inputs, blocks and pieces that several tests share.
 ghost use Rattle.std.specs.Prelude.{◌≡◌, ◌≤◌, [], length};
 
+use blake2::digest::Update;
 use blake2::steps::Input;
+use std::process::Abort;
 
 /// The bytes 0 to 31.
 pub(crate) const KEY: [u8; 32] = [
@@ -30,4 +32,12 @@ pub(crate) fn padded<const B: usize>(beginning: &[u8]) -> [u8; B]
     let bytes = &mut block[..];
     bytes[..beginning.len()].copy_from_slice(beginning);
     block
+}
+
+/// Takes a short piece, where few bytes are counted so far, and checks the new count.
+pub(crate) fn take<S: Update>(rt: &impl Abort, state: &mut S, piece: &[u8]) {
+    let before = state.counted();
+    assert!(rt; before <= 0x10_0000 && piece.len() <= 0x1000);
+    state.update(piece);
+    assert_eq!(rt; state.counted(), before + piece.len() as u64);
 }

@@ -1,0 +1,245 @@
+//! Messages that come in two pieces, with copies, resets and digests between them.
+ghost use Rattle.std.specs.Prelude.{◌≤◌, length};
+
+use crate::inputs::take;
+use blake2::digest::{Duplicate, FixedOutput, FixedOutputReset, Reset};
+use blake2::{
+    Blake2b128, Blake2b256, Blake2b512, Blake2bMac512, Blake2s128, Blake2s256, Blake2sMac256,
+    Digest,
+};
+use std::alloc::{AllocError, Global};
+use std::process::Abort;
+use std::test::Fail;
+
+// Lengths of pieces, in bytes: those about the ends of blocks, and of two blocks.
+const LENGTHS: [usize; 11] = [0, 1, 63, 64, 65, 127, 128, 129, 255, 256, 257];
+
+// Checks that a state gives this output once it has taken the piece.
+fn check_output<S: FixedOutput<N> + Drop, const N: usize>(
+    rt: &impl Abort,
+    mut state: S,
+    piece: &[u8],
+    wanted: &[u8],
+) {
+    take(rt, &mut state, piece);
+    let output = state.finalize_fixed();
+    assert!(rt; output.as_slice() == wanted);
+}
+
+// The output for a whole message, from this start.
+fn output_of<S: FixedOutput<N> + Duplicate + Drop, const N: usize>(
+    rt: &impl Abort,
+    start: &S,
+    message: &[u8],
+) -> [u8; N] {
+    let mut state = start.duplicate();
+    take(rt, &mut state, message);
+    state.finalize_fixed()
+}
+
+// Checks copies, resets and digests between two pieces, and gives the output for both.
+fn check_pieces<S, const N: usize>(
+    rt: &impl Abort,
+    start: &S,
+    message: &[u8],
+    at: usize,
+) -> Result<[u8; N], AllocError>
+where
+    S: FixedOutputReset<N> + Duplicate + Clone + Drop,
+    requires { at ≤ length message.now }
+{
+    let (first, second) = message.split_at(at);
+    let of_first = output_of(rt, start, first);
+    let of_second = output_of(rt, start, second);
+    let of_both = output_of(rt, start, message);
+    let mut state = start.duplicate();
+    take(rt, &mut state, first);
+    check_output(rt, state.clone()?, second, of_both.as_slice());
+    check_output(rt, state.duplicate(), second, of_both.as_slice());
+    let mut reset = state.duplicate();
+    reset.reset();
+    check_output(rt, reset, second, of_second.as_slice());
+    let mut again = state.duplicate();
+    let output = again.finalize_fixed_reset();
+    assert!(rt; output.as_slice() == of_first.as_slice());
+    check_output(rt, again, second, of_second.as_slice());
+    check_output(rt, state, second, of_both.as_slice());
+    Ok(of_both)
+}
+
+// Checks each pair of lengths, and gives BLAKE2b-256 of all outputs for both pieces, in hexadecimal.
+fn digest_of_outputs<S, const N: usize>(
+    rt: &impl Abort,
+    alloc: Global,
+    start: &S,
+) -> Result<String, AllocError>
+where
+    S: FixedOutputReset<N> + Duplicate + Clone + Drop,
+{
+    let mut message = [0u8; 514];
+    for (i, byte) in message.iter_mut().enumerate() {
+        *byte = (i % 251) as u8;
+    }
+    let mut outputs = Blake2b256::new();
+    for first in LENGTHS {
+        for second in LENGTHS {
+            assert!(rt; first <= 257 && second <= 257);
+            let output: [u8; N] = check_pieces(rt, start, &message[..first + second], first)?;
+            take(rt, &mut outputs, output.as_slice());
+        }
+    }
+    hex::encode(alloc, &outputs.finalize()[..])
+}
+
+#[test]
+fn hash_two_pieces_by_blake2b(rt: HostRuntime) -> Result<(), Fail> {
+    let digest = digest_of_outputs(&rt, rt.alloc(), &Blake2b128::new())?;
+    assert_eq!(rt;
+        digest.as_str(),
+        "350ea43946262be65cbea82c6834f599e396f2b3bc19a82058e584b5ceff5298"
+    );
+    let digest = digest_of_outputs(&rt, rt.alloc(), &Blake2b256::new())?;
+    assert_eq!(rt;
+        digest.as_str(),
+        "9ef56fa22be8e82b255cef96b293856fbe401912660aaa2a86d53e76ac0badc2"
+    );
+    let digest = digest_of_outputs(&rt, rt.alloc(), &Blake2b512::new())?;
+    assert_eq!(rt;
+        digest.as_str(),
+        "e3daa74c613f0eb619f757374ee61d8caa318610cd6e3ffc8e14a812095aa278"
+    );
+    Ok(())
+}
+
+#[test]
+fn hash_two_pieces_by_blake2s(rt: HostRuntime) -> Result<(), Fail> {
+    let digest = digest_of_outputs(&rt, rt.alloc(), &Blake2s128::new())?;
+    assert_eq!(rt;
+        digest.as_str(),
+        "e15b12367b4746be0955f31902ab2a7574f2f81a9806bf26467ecbc2f7f99b5e"
+    );
+    let digest = digest_of_outputs(&rt, rt.alloc(), &Blake2s256::new())?;
+    assert_eq!(rt;
+        digest.as_str(),
+        "7b55b8396e3d36ec1a00e70509b7de72ee48b643d354128566218889bb906b43"
+    );
+    Ok(())
+}
+
+#[test]
+fn authenticate_two_pieces(rt: HostRuntime) -> Result<(), Fail> {
+    let start = Blake2bMac512::new_with_salt_and_personal(Some(&[42]), b"", b"")?;
+    let digest = digest_of_outputs(&rt, rt.alloc(), &start)?;
+    assert_eq!(rt;
+        digest.as_str(),
+        "f23c3e6e036e16dfc1a0f0b28ca81196436de0bd0ab659a349cb839c9e4fd3ea"
+    );
+    let start = Blake2sMac256::new_with_salt_and_personal(Some(&[42]), b"", b"")?;
+    let digest = digest_of_outputs(&rt, rt.alloc(), &start)?;
+    assert_eq!(rt;
+        digest.as_str(),
+        "5dcf7679b0de239a0d1326df502c2d8bfdbe69ee6e8343af6fbd13c04b9fa226"
+    );
+    Ok(())
+}
+
+#[test]
+fn authenticate_two_pieces_under_salt_and_persona(rt: HostRuntime) -> Result<(), Fail> {
+    for (key, wanted) in [
+        (
+            Some(&[42u8][..]),
+            "4bfda7e2578e6bba3c638b27d879477b7520016e5a9df98acf8be7367d5fb1a5",
+        ),
+        (
+            None,
+            "f63ba749914457e114385f39ab53f788e3e2f2412d19ec0986f3b82ac54dc6e9",
+        ),
+    ] {
+        let start = Blake2bMac512::new_with_salt_and_personal(key, b"salt", b"persona")?;
+        assert_eq!(rt;
+            digest_of_outputs(&rt, rt.alloc(), &start)?.as_str(),
+            wanted
+        );
+    }
+    for (key, wanted) in [
+        (
+            Some(&[42u8][..]),
+            "8fc5772e4fbb5348aa7cc5137208ecc7d48ef654d0253717db00215dd7242521",
+        ),
+        (
+            None,
+            "b8567a8c63227534d0f2f24350a2516f2545f3f2081ccded8591d47881f59a20",
+        ),
+    ] {
+        let start = Blake2sMac256::new_with_salt_and_personal(key, b"salt", b"persona")?;
+        assert_eq!(rt;
+            digest_of_outputs(&rt, rt.alloc(), &start)?.as_str(),
+            wanted
+        );
+    }
+    Ok(())
+}
+
+#[test]
+fn keep_key_salt_and_persona_over_resets(rt: HostRuntime) -> Result<(), Fail> {
+    let wanted = "09fa78046355a58ececd765baba1728f205a607b426735d29db84ac43afddf1c\
+                  7296b4541530caa9acc98df48f9e5ca355fae94ba05fd79b046c4025259aa4e1";
+    let mut mac = Blake2bMac512::new_with_salt_and_personal(Some(&[42]), b"salt", b"persona")?;
+    take(&rt, &mut mac, b"world");
+    mac.reset();
+    take(&rt, &mut mac, b"hello");
+    let output = hex::encode(rt.alloc(), &mac.finalize_fixed_reset()[..])?;
+    assert_eq!(rt; output.as_str(), wanted);
+    take(&rt, &mut mac, b"hello");
+    let output = hex::encode(rt.alloc(), &mac.finalize_fixed()[..])?;
+    assert_eq!(rt; output.as_str(), wanted);
+    let wanted = "30d8bff3d330fe5584722b37eeb1eb479b9a0090a956d88c4a672dfcc5a2d995";
+    let mut mac = Blake2sMac256::new_with_salt_and_personal(Some(&[42]), b"salt", b"persona")?;
+    take(&rt, &mut mac, b"world");
+    mac.reset();
+    take(&rt, &mut mac, b"hello");
+    let output = hex::encode(rt.alloc(), &mac.finalize_fixed_reset()[..])?;
+    assert_eq!(rt; output.as_str(), wanted);
+    take(&rt, &mut mac, b"hello");
+    let output = hex::encode(rt.alloc(), &mac.finalize_fixed()[..])?;
+    assert_eq!(rt; output.as_str(), wanted);
+    Ok(())
+}
+
+// Checks the calls of `Digest` between two pieces.
+fn check_digest_calls<H: Digest<N> + Drop, const N: usize>(
+    rt: &impl Abort,
+    message: &[u8],
+    at: usize,
+)
+    requires supported { H.is_supported }
+    requires within { at ≤ length message.now }
+    requires size { N ≤ 64 }
+{
+    let (first, second) = message.split_at(at);
+    let of_first = H::digest(first);
+    let of_second = H::digest(second);
+    let of_both = H::digest(message);
+    let mut hasher = H::new().chain_update(first);
+    let output = hasher.finalize_reset();
+    assert!(rt; output.as_slice() == of_first.as_slice());
+    check_output(rt, hasher, second, of_second.as_slice());
+    let mut hasher = H::new().chain_update(first);
+    Digest::reset(&mut hasher);
+    check_output(rt, hasher, second, of_second.as_slice());
+    let hasher = H::new().chain_update(first);
+    check_output(rt, hasher, second, of_both.as_slice());
+}
+
+#[test]
+fn reset_between_two_pieces(rt: HostRuntime) {
+    let message = [42; 514];
+    for first in LENGTHS {
+        for second in LENGTHS {
+            assert!(rt; first <= 257 && second <= 257);
+            let both = &message[..first + second];
+            check_digest_calls::<Blake2b512, 64>(&rt, both, first);
+            check_digest_calls::<Blake2s256, 32>(&rt, both, first);
+        }
+    }
+}
