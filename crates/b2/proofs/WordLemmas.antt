@@ -1,44 +1,69 @@
 -- The options of a list of words, a word at a time.
-use Rattle.std.proofs.Common.{◌≡◌, ℕ, ◌+◌, ◌<◌, List, [], ◌∷◌, ◌++◌, length, take, map, get_or, refl, sym, ap, ◌∙◌, Option, Some, None, Global}
-use Rattle.std.proofs.lemmas.List.{take_more, map-append}
-use Rattle.std.specs.Option.{option_or}
-use Rattle.std.specs.Prelude.{String}
+use Rattle.std.proofs.Common.{◌≡◌, ℕ, ◌+◌, ◌<◌, List, [], ◌∷◌, ◌++◌, length, take, drop, map, get_or, refl, sym, ap, ◌∙◌, Global, Ok, Err}
+use Rattle.std.proofs.lemmas.List.{take_more, take-append-drop, map-append}
+use Rattle.std.specs.Prelude.{Result, String}
 use Rattle.std.specs.String.{string_bytes}
-use Rattle.b2.specs.Words.{value_under, option_under}
+use Rattle.b2.specs.declared.fault.Fault.{Fault}
+use Rattle.b2.specs.declared.fault.Fault.TheVariants.{WrongWords, WrongHex, WrongLength, TooLong, ReadFailed, NoMemory, WriteFailed}
+use Rattle.b2.specs.Words.{and_then, Given, nothing_given, with_word, with_words, IsReadingFault}
 
-option_or-assoc : {A : Type 0} (x y z : Option A) → option_or x (option_or y z) ≡ option_or (option_or x y) z
-option_or-assoc None y z = refl
-option_or-assoc (Some a) y z = refl
+-- the first words, and then the others
+with_words-append : (given : Given) (xs ys : List (List ℕ)) → with_words given (xs ++ ys) ≡ and_then (with_words given xs) (λ more. with_words more ys)
+with_words-append given [] ys = refl
+with_words-append given (x ∷ xs) ys = go (with_word given x) (λ more. with_words-append more xs ys)
+  where
+    go : (r : Result Given Fault) → ((more : Given) → with_words more (xs ++ ys) ≡ and_then (with_words more xs) (λ most. with_words most ys))
+        → and_then r (λ more. with_words more (xs ++ ys)) ≡ and_then (and_then r (λ more. with_words more xs)) (λ more. with_words more ys)
+    go (Ok more) again = again more
+    go (Err fault) again = refl
 
-option_or-None : {A : Type 0} (x : Option A) → option_or x None ≡ x
-option_or-None None = refl
-option_or-None (Some a) = refl
+-- one word is the word
+with_words-one : (r : Result Given Fault) → and_then r (λ more. with_words more []) ≡ r
+with_words-one (Ok more) = refl
+with_words-one (Err fault) = refl
 
--- what two lists of words give: what the first gives, or else the second
-option_under-append : (name : List ℕ) (xs ys : List (List ℕ)) → option_under name (xs ++ ys) ≡ option_or (option_under name xs) (option_under name ys)
-option_under-append name [] ys = refl
-option_under-append name (x ∷ xs) ys =
-    ap (option_or (value_under name x)) (option_under-append name xs ys)
-    ∙ option_or-assoc (value_under name x) (option_under name xs) (option_under name ys)
+-- the word at i comes after what the words before it gave
+pub record ComesAfter (words : List (String Global)) (i : ℕ) (word : String Global) (text : List ℕ) (given : Given) : Type 0 where
+  pub below : i < length words
+  pub is_word : word ≡ get_or words i word
+  pub is_text : text ≡ string_bytes word
+  pub before : with_words nothing_given (map string_bytes (take i words)) ≡ Ok given
 
--- one more word
-option_under-more : (name : List ℕ) (words : List (String Global)) (i : ℕ) (word : String Global) → i < length words → word ≡ get_or words i word
-    → option_under name (map string_bytes (take (i + 1) words))
-    ≡ option_or (option_under name (map string_bytes (take i words))) (value_under name (string_bytes word))
-option_under-more name words i word below is_word =
-    let texts = map string_bytes (take i words) in
-    ap (λ (xs : List (String Global)). option_under name (map string_bytes xs)) (take_more words i word below)
-    ∙ ap (λ (w : String Global). option_under name (map string_bytes (take i words ++ w ∷ []))) (sym is_word)
-    ∙ ap (option_under name) (map-append string_bytes (take i words) (word ∷ []))
-    ∙ option_under-append name texts (string_bytes word ∷ [])
-    ∙ ap (option_or (option_under name texts)) (option_or-None (value_under name (string_bytes word)))
+texts-more : (words : List (String Global)) (i : ℕ) (word : String Global) (text : List ℕ) (given : Given) → ComesAfter words i word text given
+    → map string_bytes (take (i + 1) words) ≡ map string_bytes (take i words) ++ (text ∷ [])
+texts-more words i word text given at =
+    ap (map string_bytes) (take_more words i word at.below)
+    ∙ map-append string_bytes (take i words) (get_or words i word ∷ [])
+    ∙ ap (λ (w : String Global). map string_bytes (take i words) ++ (string_bytes w ∷ [])) (sym at.is_word)
+    ∙ ap (λ (t : List ℕ). map string_bytes (take i words) ++ (t ∷ [])) (sym at.is_text)
 
--- what was given before the word at i, and what the word gives
-pub option_under-taken : (name : List ℕ) (words : List (String Global)) (i : ℕ) (word : String Global) (text : List ℕ) (old new : Option (List ℕ))
-    → i < length words → word ≡ get_or words i word → text ≡ string_bytes word
-    → old ≡ option_under name (map string_bytes (take i words)) → new ≡ option_or old (value_under name text)
-    → new ≡ option_under name (map string_bytes (take (i + 1) words))
-option_under-taken name words i word text old new below is_word is_text before now =
-    now ∙ ap (λ (o : Option (List ℕ)). option_or o (value_under name text)) before
-    ∙ ap (λ (t : List ℕ). option_or (option_under name (map string_bytes (take i words))) (value_under name t)) is_text
-    ∙ sym (option_under-more name words i word below is_word)
+-- the words up to one give what it gives after those before it
+pub with_words-more : (words : List (String Global)) (i : ℕ) (word : String Global) (text : List ℕ) (given : Given) → ComesAfter words i word text given
+    → with_words nothing_given (map string_bytes (take (i + 1) words)) ≡ with_word given text
+with_words-more words i word text given at =
+    ap (with_words nothing_given) (texts-more words i word text given at)
+    ∙ with_words-append nothing_given (map string_bytes (take i words)) (text ∷ [])
+    ∙ ap (λ (r : Result Given Fault). and_then r (λ more. with_words more (text ∷ []))) at.before
+    ∙ with_words-one (with_word given text)
+
+-- a fault of one word is the fault of all
+pub with_words-fault : (words : List (String Global)) (i : ℕ) (word : String Global) (text : List ℕ) (given : Given) (fault : Fault) → ComesAfter words i word text given
+    → with_word given text ≡ Err fault → with_words nothing_given (map string_bytes words) ≡ Err fault
+with_words-fault words i word text given fault at is_fault =
+    let front = take (i + 1) words in
+    let rest = drop (i + 1) words in
+    ap (λ (ws : List (String Global)). with_words nothing_given (map string_bytes ws)) (sym (take-append-drop (i + 1) words))
+    ∙ ap (with_words nothing_given) (map-append string_bytes front rest)
+    ∙ with_words-append nothing_given (map string_bytes front) (map string_bytes rest)
+    ∙ ap (λ (r : Result Given Fault). and_then r (λ more. with_words more (map string_bytes rest)))
+    (with_words-more words i word text given at ∙ is_fault)
+
+-- a fault that comes of one reading comes of another, where the other has the fault of the first
+pub IsReadingFault-along : {A B : Type 0} (fault : Fault) (x : Result A Fault) (y : Result B Fault) → (x ≡ Err fault → y ≡ Err fault) → IsReadingFault fault x → IsReadingFault fault y
+IsReadingFault-along WrongWords x y along h = along h
+IsReadingFault-along WrongHex x y along h = along h
+IsReadingFault-along NoMemory x y along h = tt
+IsReadingFault-along WrongLength x y along h = h
+IsReadingFault-along TooLong x y along h = h
+IsReadingFault-along ReadFailed x y along h = h
+IsReadingFault-along WriteFailed x y along h = h

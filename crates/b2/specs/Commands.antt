@@ -1,15 +1,10 @@
--- What the commands of the program are.
-use Rattle.std.specs.Prelude.{◌≡◌, ℕ, List, ◌∷◌, codes}
+-- What the program has read of its words.
 use Rattle.b2.specs.declared.command.Command.{Command}
 use Rattle.b2.specs.declared.command.Command.TheVariants.{Sum}
-use Rattle.b2.specs.Options.{AreOf}
-use Rattle.b2.specs.Words.{name_of}
+use Rattle.b2.specs.Options.{given_of}
+use Rattle.b2.specs.Words.{Task}
+use Rattle.b2.specs.Words.Task.{to_sum}
 
--- the words ask for the command
-abbrev pub AskFor : List (List ℕ) → Command → Type 0
-AskFor words (Sum kind options) =
-    (rest : List (List ℕ)) × (words ≡ codes "sum" ∷ name_of kind ∷ rest) × AreOf rest options
-
--- the words ask for a command
-abbrev pub AskForOne : List (List ℕ) → Type 0
-AskForOne words = (command : Command) × AskFor words command
+-- the task of a command
+abbrev pub command_task : Command → Task
+command_task (Sum kind options) = to_sum kind (given_of options)

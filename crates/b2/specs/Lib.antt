@@ -1,5 +1,6 @@
 pub mod Commands
 pub mod Faults
 pub mod Options
-pub mod Output
+pub mod Sums
+pub mod Tasks
 pub mod Words

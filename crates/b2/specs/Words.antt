@@ -1,69 +1,84 @@
--- What the words of the command line ask for.
-use Rattle.std.specs.Prelude.{ℕ, ◌==◌, if◌then◌else◌, List, [], ◌∷◌, codes, Option, Some, None, unwrap_or}
-use Rattle.std.specs.Option.{option_map, option_or}
-use Rattle.std.specs.Result.{result_ok}
+-- What the words of the command line ask for. They are looked at from left to right, and the first
+-- fault is the answer.
+use Rattle.std.specs.Prelude.{◌≡◌, ⊤, ℕ, ◌==◌, if◌then◌else◌, List, [], ◌∷◌, codes, Option, Some, None, is_some, position, Result, Ok, Err}
 use Rattle.std.specs.List.{before_first, after_first}
+use Rattle.std.specs.Result.{result_map_both}
 use Rattle.std.specs.Str.{bytes_eq}
 use Rattle.hex.specs.Hex.{decode_of}
-use Rattle.blake2.specs.Family.{Family, blake2b, blake2s}
-use Rattle.blake2.specs.States.{digest_of}
 use Rattle.b2.specs.declared.words.Kind.{Kind}
 use Rattle.b2.specs.declared.words.Kind.TheVariants.{Blake2b128, Blake2b256, Blake2b512, Blake2s128, Blake2s256}
+use Rattle.b2.specs.declared.fault.Fault.{Fault}
+use Rattle.b2.specs.declared.fault.Fault.TheVariants.{WrongWords, WrongHex, NoMemory}
 
--- the word of a kind
-abbrev pub name_of : Kind → List ℕ
-name_of Blake2b128 = codes "b128"
-name_of Blake2b256 = codes "b256"
-name_of Blake2b512 = codes "b512"
-name_of Blake2s128 = codes "s128"
-name_of Blake2s256 = codes "s256"
+-- the second step, where the first has a value
+abbrev pub and_then : {A B : Type 0} → Result A Fault → (A → Result B Fault) → Result B Fault
+and_then (Ok value) next = next value
+and_then (Err fault) next = Err fault
+
+-- a fault that comes of reading words is the one expected, or memory was refused
+abbrev pub IsReadingFault : {A : Type 0} → Fault → Result A Fault → Type 0
+IsReadingFault WrongWords expected = expected ≡ Err WrongWords
+IsReadingFault WrongHex expected = expected ≡ Err WrongHex
+IsReadingFault NoMemory expected = ⊤
+IsReadingFault fault expected = ⊥
 
 -- the kind that a word names
-abbrev pub kind_of : List ℕ → Option Kind
+abbrev pub kind_of : List ℕ → Result Kind Fault
 kind_of word =
-    if bytes_eq word (codes "b128") then Some Blake2b128
-    else if bytes_eq word (codes "b256") then Some Blake2b256
-    else if bytes_eq word (codes "b512") then Some Blake2b512
-    else if bytes_eq word (codes "s128") then Some Blake2s128
-    else if bytes_eq word (codes "s256") then Some Blake2s256
-    else None
+    if bytes_eq word (codes "b128") then Ok Blake2b128
+    else if bytes_eq word (codes "b256") then Ok Blake2b256
+    else if bytes_eq word (codes "b512") then Ok Blake2b512
+    else if bytes_eq word (codes "s128") then Ok Blake2s128
+    else if bytes_eq word (codes "s256") then Ok Blake2s256
+    else Err WrongWords
 
--- the family of a kind
-abbrev pub family_of : Kind → Family
-family_of Blake2b128 = blake2b
-family_of Blake2b256 = blake2b
-family_of Blake2b512 = blake2b
-family_of Blake2s128 = blake2s
-family_of Blake2s256 = blake2s
+-- the bytes of HEX: an even number of hexadecimal digits of either case, perhaps none
+abbrev pub hex_value : List ℕ → Result (List ℕ) Fault
+hex_value digits = result_map_both (λ bytes. bytes) (λ _. WrongHex) (decode_of digits)
 
--- the bytes of a kind's digest
-abbrev pub size_of : Kind → ℕ
-size_of Blake2b128 = 16
-size_of Blake2b256 = 32
-size_of Blake2b512 = 64
-size_of Blake2s128 = 16
-size_of Blake2s256 = 32
+-- the bytes of `key=HEX`, `salt=HEX` and `persona=HEX`, where they are given
+pub record Given : Type 0 where
+  pub key : Option (List ℕ)
+  pub salt : Option (List ℕ)
+  pub persona : Option (List ℕ)
 
--- the bytes that a word gives under a name: those of HEX, where the word is NAME=HEX (61 is `=`)
-abbrev pub value_under : List ℕ → List ℕ → Option (List ℕ)
-value_under name word =
-    if bytes_eq (before_first (λ b. b == 61) word) name then result_ok (decode_of (after_first (λ b. b == 61) word)) else None
+-- none is given
+abbrev pub nothing_given : Given
+nothing_given = record { key = None; salt = None; persona = None }
 
--- the bytes that the first of the words which gives some gives under a name
-abbrev pub option_under : List ℕ → List (List ℕ) → Option (List ℕ)
-option_under name [] = None
-option_under name (word ∷ words) = option_or (value_under name word) (option_under name words)
+-- the bytes of HEX, as a value that was not given before
+abbrev pub first_value : Option (List ℕ) → List ℕ → Result (List ℕ) Fault
+first_value None digits = hex_value digits
+first_value (Some bytes) digits = Err WrongWords
 
--- BLAKE2 of a kind with the salt, the persona and the key of the words, as a function of the message
-abbrev pub digest_under : Kind → List (List ℕ) → List ℕ → List ℕ
-digest_under kind words message =
-    digest_of (family_of kind) (size_of kind)
-    (unwrap_or (option_under (codes "salt") words) []) (unwrap_or (option_under (codes "persona") words) [])
-    (option_under (codes "key") words) message
+-- what is given with one word NAME=HEX more: its name is looked at first, and its HEX next (61 is `=`)
+abbrev pub with_word : Given → List ℕ → Result Given Fault
+with_word given word =
+    let name = before_first (λ b. b == 61) word in
+    let digits = after_first (λ b. b == 61) word in
+    if is_some (position (λ b. b == 61) word) then (
+    if bytes_eq name (codes "key") then and_then (first_value given.key digits) (λ bytes. Ok (record given { key = Some bytes }))
+    else if bytes_eq name (codes "salt") then and_then (first_value given.salt digits) (λ bytes. Ok (record given { salt = Some bytes }))
+    else if bytes_eq name (codes "persona") then and_then (first_value given.persona digits) (λ bytes. Ok (record given { persona = Some bytes }))
+    else Err WrongWords
+    ) else Err WrongWords
 
--- the digest that the words `sum KIND ..` ask for
-abbrev pub sum_of : List (List ℕ) → Option (List ℕ → List ℕ)
-sum_of [] = None
-sum_of (command ∷ []) = None
-sum_of (command ∷ kind ∷ words) =
-    if bytes_eq command (codes "sum") then option_map (λ k. digest_under k words) (kind_of kind) else None
+-- what is given with all of the words more
+abbrev pub with_words : Given → List (List ℕ) → Result Given Fault
+with_words given [] = Ok given
+with_words given (word ∷ words) = and_then (with_word given word) (λ more. with_words more words)
+
+-- what a command line asks for
+pub data Task : Type 0 where
+  -- `sum KIND [key=HEX] [salt=HEX] [persona=HEX]`
+  to_sum : Kind → Given → Task
+
+-- the task of the words behind `sum`
+abbrev pub sum_task : List (List ℕ) → Result Task Fault
+sum_task [] = Err WrongWords
+sum_task (kind ∷ words) = and_then (kind_of kind) (λ k. and_then (with_words nothing_given words) (λ given. Ok (to_sum k given)))
+
+-- the task of a command line
+abbrev pub task_of : List (List ℕ) → Result Task Fault
+task_of [] = Err WrongWords
+task_of (command ∷ words) = if bytes_eq command (codes "sum") then sum_task words else Err WrongWords

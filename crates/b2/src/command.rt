@@ -1,11 +1,12 @@
 //! The commands, and the run of one.
-ghost use Rattle.std.specs.Prelude.{◌≡◌, ◌≤◌, ◌↔◌, false, map, IsTrue, IfSome, IfOk, IfErr, OnOk};
+ghost use Rattle.std.specs.Prelude.{◌≡◌, ◌≢◌, ◌≤◌, ◌↔◌, false, map, IsTrue, IfOk, IfErr, OnOk, IsOkAnd};
 ghost use Rattle.std.specs.String.{string_bytes};
 ghost use Rattle.std.specs.Result.{IsErrOf};
-ghost use Rattle.b2.specs.Faults.{IsOfWords};
-ghost use Rattle.b2.specs.Output.{PrintsDigest};
-ghost use Rattle.b2.specs.Words.{sum_of};
-ghost use Rattle.b2.specs.Commands.{AskForOne};
+ghost use Rattle.std.specs.Io.KnownBytes.{Keeps};
+ghost use Rattle.b2.specs.declared.fault.Fault.TheVariants.{WriteFailed};
+ghost use Rattle.b2.specs.Words.{task_of, IsReadingFault};
+ghost use Rattle.b2.specs.Tasks.{IsDone};
+ghost use Rattle.b2.specs.Faults.{IsDue, IsTold};
 
 use crate::fault::Fault;
 use crate::sum::sum;
@@ -21,12 +22,12 @@ enum Command {
 }
 
 impl Command {
-    ghost use Rattle.b2.specs.Commands.{AskFor};
+    ghost use Rattle.b2.specs.Commands.{command_task};
 
     // Reads the words from left to right: the command, its KIND and then the rest.
     fn from_words(alloc: Global, words: &[String]) -> Result<Command, Fault>
-        ensures asked { IfOk result (AskFor (map string_bytes words.now)) }
-        ensures fault { IfErr result IsOfWords }
+        ensures task { IfOk result (λ command. task_of (map string_bytes words.now) ≡ Ok (command_task command)) }
+        ensures fault { IfErr result (λ fault. IsReadingFault fault (task_of (map string_bytes words.now))) }
     {
         let (command, words) = words.split_first().ok_or(Fault::WrongWords)?;
         match command.as_str() {
@@ -49,10 +50,12 @@ pub fn run<S: Source, K: Sink>(alloc: Global, words: &[String], source: &mut S, 
     ensures status { result ≤ 2 }
     ensures read { IsTrue (S.failed source.new) → result ≡ 1 }
     ensures write { IsTrue (K.failed sink.new) → result ≡ 1 }
-    ensures asked { result ≡ 0 → AskForOne (map string_bytes words.now) }
-    // Where the words are those of `sum`, the digest is BLAKE2 of their KIND, salt, persona and key.
-    ensures sum { result ≡ 0 → IfSome (sum_of (map string_bytes words.now)) (λ digest.
-        PrintsDigest (S.left source.old) digest (K.held sink.old) (K.held sink.new)) }
+    // Status 0: the words ask for a task, and the sink took its whole output over the input.
+    ensures done { result ≡ 0 → IsOkAnd (task_of (map string_bytes words.now)) (λ task.
+        IsDone task (S.left source.old) (K.held sink.old) (K.held sink.new)) }
+    // Another status: the sink took the line of a fault that has its cause, unless a write failed.
+    ensures told { result ≢ 0 → K.failed sink.new ≡ false → IsTold (task_of (map string_bytes words.now))
+        (S.left source.old) (S.failed source.new) result (K.held sink.old) (K.held sink.new) }
 {
     match execute(alloc, words, source, sink) {
         Ok(()) => 0,
@@ -60,6 +63,7 @@ pub fn run<S: Source, K: Sink>(alloc: Global, words: &[String], source: &mut S, 
     }
 }
 
+// Does what the words say; a fault is still to be printed.
 fn execute<S: Source, K: Sink>(
     alloc: Global,
     words: &[String],
@@ -70,9 +74,11 @@ fn execute<S: Source, K: Sink>(
     requires sink { K.failed sink.old ≡ false }
     ensures read { IsErrOf result Fault.ReadFailed ↔ IsTrue (S.failed source.new) }
     ensures write { IsErrOf result Fault.WriteFailed ↔ IsTrue (K.failed sink.new) }
-    ensures asked { OnOk result (AskForOne (map string_bytes words.now)) }
-    ensures sum { OnOk result (IfSome (sum_of (map string_bytes words.now)) (λ digest.
-        PrintsDigest (S.left source.old) digest (K.held sink.old) (K.held sink.new))) }
+    ensures done { OnOk result (IsOkAnd (task_of (map string_bytes words.now)) (λ task.
+        IsDone task (S.left source.old) (K.held sink.old) (K.held sink.new))) }
+    ensures cause { IfErr result (λ fault. IsDue fault (task_of (map string_bytes words.now))
+        (S.left source.old) (S.failed source.new)) }
+    ensures unprinted { IfErr result (λ fault. fault ≢ WriteFailed → Keeps (K.held sink.old) (K.held sink.new)) }
 {
     match Command::from_words(alloc, words)? {
         Command::Sum(kind, options) => sum(kind, &options, source, sink),

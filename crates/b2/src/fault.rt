@@ -1,5 +1,6 @@
 //! Why the program ends without its output.
-ghost use Rattle.std.specs.Prelude.{◌≡◌, ◌≢◌, false, IsTrue};
+ghost use Rattle.std.specs.Prelude.{◌≡◌, ◌↔◌, false, IsTrue};
+ghost use Rattle.std.specs.Io.KnownBytes.{Appends};
 ghost use Rattle.b2.specs.declared.fault.Fault.TheVariants.{WrongLength, WriteFailed};
 
 use blake2::digest::InvalidLength;
@@ -25,10 +26,12 @@ pub(crate) enum Fault {
 }
 
 impl Fault {
-    ghost use Rattle.b2.specs.Faults.{status_of};
+    ghost use Rattle.b2.specs.Faults.{status_of, fault_line};
 
     // The line that the fault prints.
-    fn line(self) -> &'static str {
+    fn line(self) -> &'static str
+        ensures { result.now ≡ fault_line self }
+    {
         match self {
             Fault::WrongWords => "b2: wrong words\n",
             Fault::WrongHex => "b2: wrong hex\n",
@@ -52,8 +55,10 @@ impl Fault {
 
     /// Prints the fault's line, and answers its status; 1 where the output fails.
     pub(crate) fn report<K: Sink>(self, sink: &mut K) -> u8
-        requires { self ≢ WriteFailed → K.failed sink.old ≡ false }
-        ensures printed { K.failed sink.new ≡ false → result ≡ status_of self }
+        requires { (self ≡ WriteFailed) ↔ IsTrue (K.failed sink.old) }
+        ensures printed { K.failed sink.new ≡ false →
+            (result ≡ status_of self) × Appends (K.held sink.old) (K.held sink.new) (fault_line self) }
+        ensures failed { IsTrue (K.failed sink.old) → IsTrue (K.failed sink.new) }
         ensures unprinted { IsTrue (K.failed sink.new) → result ≡ 1 }
     {
         if self == Fault::WriteFailed {

@@ -1,10 +1,15 @@
 //! `b2 sum`: the digest of the input.
-ghost use Rattle.std.specs.Prelude.{◌≡◌, ◌≤◌, ◌↔◌, false, IsTrue, OnOk};
+ghost use Rattle.std.specs.Prelude.{◌≡◌, ◌≢◌, ◌≤◌, ◌↔◌, false, IsTrue, IfErr, OnOk};
 ghost use Rattle.std.specs.Result.{IsErrOf};
+ghost use Rattle.std.specs.Io.KnownBytes.{Keeps};
 ghost use Rattle.blake2.specs.Family.{blake2b, blake2s};
-ghost use Rattle.b2.specs.Words.{family_of, size_of};
-ghost use Rattle.b2.specs.Options.{digest_with};
-ghost use Rattle.b2.specs.Output.{PrintsDigest};
+ghost use Rattle.blake2.specs.Keys.{key_count};
+ghost use Rattle.b2.specs.declared.fault.Fault.TheVariants.{WriteFailed};
+ghost use Rattle.b2.specs.Words.Task.{to_sum};
+ghost use Rattle.b2.specs.Options.{given_of};
+ghost use Rattle.b2.specs.Tasks.{digest_with, IsRefusedBy, IsDone};
+ghost use Rattle.b2.specs.Faults.{IsDue};
+ghost use Rattle.b2.specs.Sums.{EndsBy};
 
 use crate::fault::Fault;
 use crate::words::{Kind, Options};
@@ -24,9 +29,11 @@ pub(crate) fn sum<S: Source, K: Sink>(
     requires sink { K.failed sink.old ≡ false }
     ensures read { IsErrOf result Fault.ReadFailed ↔ IsTrue (S.failed source.new) }
     ensures write { IsErrOf result Fault.WriteFailed ↔ IsTrue (K.failed sink.new) }
-    ensures line { OnOk result (PrintsDigest (S.left source.old)
-        (digest_with (family_of kind) (size_of kind) options.now)
+    ensures done { OnOk result (IsDone (to_sum kind (given_of options.now)) (S.left source.old)
         (K.held sink.old) (K.held sink.new)) }
+    ensures cause { IfErr result (λ fault. IsDue fault (Ok (to_sum kind (given_of options.now)))
+        (S.left source.old) (S.failed source.new)) }
+    ensures unprinted { IfErr result (λ fault. fault ≢ WriteFailed → Keeps (K.held sink.old) (K.held sink.new)) }
 {
     match kind {
         Kind::Blake2b128 => sum_blake2b::<S, K, 16>(options, source, sink),
@@ -45,11 +52,12 @@ fn sum_blake2b<S: Source, K: Sink, const N: usize>(
     requires size { N ≤ 64 }
     requires source { S.failed source.old ≡ false }
     requires sink { K.failed sink.old ≡ false }
+    ensures length { IsErrOf result Fault.WrongLength ↔ IsRefusedBy blake2b (given_of options.now) }
     ensures read { IsErrOf result Fault.ReadFailed ↔ IsTrue (S.failed source.new) }
     ensures write { IsErrOf result Fault.WriteFailed ↔ IsTrue (K.failed sink.new) }
-    ensures line { OnOk result (PrintsDigest (S.left source.old)
-        (digest_with blake2b N options.now)
-        (K.held sink.old) (K.held sink.new)) }
+    ensures ends { EndsBy (digest_with blake2b N (given_of options.now))
+        (key_count blake2b (given_of options.now).key) result (S.left source.old)
+        (K.held sink.old) (K.held sink.new) }
 {
     if options.are_empty() {
         print_digest(Blake2b::<N>::new(), source, sink)
@@ -71,11 +79,12 @@ fn sum_blake2s<S: Source, K: Sink, const N: usize>(
     requires size { N ≤ 32 }
     requires source { S.failed source.old ≡ false }
     requires sink { K.failed sink.old ≡ false }
+    ensures length { IsErrOf result Fault.WrongLength ↔ IsRefusedBy blake2s (given_of options.now) }
     ensures read { IsErrOf result Fault.ReadFailed ↔ IsTrue (S.failed source.new) }
     ensures write { IsErrOf result Fault.WriteFailed ↔ IsTrue (K.failed sink.new) }
-    ensures line { OnOk result (PrintsDigest (S.left source.old)
-        (digest_with blake2s N options.now)
-        (K.held sink.old) (K.held sink.new)) }
+    ensures ends { EndsBy (digest_with blake2s N (given_of options.now))
+        (key_count blake2s (given_of options.now).key) result (S.left source.old)
+        (K.held sink.old) (K.held sink.new) }
 {
     if options.are_empty() {
         print_digest(Blake2s::<N>::new(), source, sink)
@@ -89,6 +98,7 @@ fn sum_blake2s<S: Source, K: Sink, const N: usize>(
     }
 }
 
+// Prints the hasher's digest of what the source gives.
 fn print_digest<H, S, K, const N: usize>(
     hasher: H,
     source: &mut S,
@@ -101,11 +111,11 @@ where
     requires size { N ≤ 64 }
     requires source { S.failed source.old ≡ false }
     requires sink { K.failed sink.old ≡ false }
+    ensures length { result ≢ Err Fault.WrongLength }
     ensures read { IsErrOf result Fault.ReadFailed ↔ IsTrue (S.failed source.new) }
     ensures write { IsErrOf result Fault.WriteFailed ↔ IsTrue (K.failed sink.new) }
-    ensures line { OnOk result (PrintsDigest (S.left source.old)
-        (H.meaning.future hasher)
-        (K.held sink.old) (K.held sink.new)) }
+    ensures ends { EndsBy (H.meaning.future hasher) (H.meaning.count hasher) result
+        (S.left source.old) (K.held sink.old) (K.held sink.new) }
 {
     match hash_stream(source, sink, hasher) {
         Ok(_) => Ok(()),

@@ -1,9 +1,8 @@
 //! The words of the command line, read from left to right.
-ghost use Rattle.std.specs.Prelude.{◌≡◌, ◌↔◌, [], None, map, IsTrue, IfOk, IfErr, OnOk};
+ghost use Rattle.std.specs.Prelude.{◌≡◌, ◌↔◌, [], map, unwrap_or, IsTrue, IfOk, IfErr, OnOk};
 ghost use Rattle.std.specs.String.{string_bytes};
-ghost use Rattle.hex.specs.Hex.{decode_of};
 ghost use Rattle.blake2.specs.Views.{key_of};
-ghost use Rattle.b2.specs.Faults.{IsOfWords};
+ghost use Rattle.b2.specs.Words.{hex_value, IsReadingFault};
 
 use crate::fault::Fault;
 use hex::FromHexError;
@@ -25,12 +24,11 @@ pub(crate) enum Kind {
 }
 
 impl Kind {
-    ghost use Rattle.b2.specs.Words.{name_of};
+    ghost use Rattle.b2.specs.Words.{kind_of};
 
     /// The kind of this name.
     pub(crate) fn from_word(word: &str) -> Result<Kind, Fault>
-        ensures kind { IfOk result (λ kind. word.now ≡ name_of kind) }
-        ensures fault { IfErr result IsOfWords }
+        ensures { result ≡ kind_of word.now }
     {
         match word {
             "b128" => Ok(Kind::Blake2b128),
@@ -52,12 +50,15 @@ pub(crate) struct Options {
 }
 
 impl Options {
-    ghost use Rattle.b2.specs.Options.{AreOf, Takes, given, given_or_empty};
+    ghost use Rattle.b2.specs.Options.{given_of};
+    ghost use Rattle.b2.specs.Words.{nothing_given, with_word, with_words, IsReadingFault};
 
     /// Reads the words in any order, each at most once: for each its name first and its HEX next.
     pub(crate) fn from_words(alloc: Global, words: &[String]) -> Result<Options, Fault>
-        ensures options { IfOk result (AreOf (map string_bytes words.now)) }
-        ensures fault { IfErr result IsOfWords }
+        ensures read { IfOk result (λ options.
+            with_words nothing_given (map string_bytes words.now) ≡ Ok (given_of options)) }
+        ensures fault { IfErr result (λ fault.
+            IsReadingFault fault (with_words nothing_given (map string_bytes words.now))) }
     {
         let mut options = Options {
             key: None,
@@ -72,8 +73,8 @@ impl Options {
 
     // Takes the word NAME=HEX, whose name no word before it had.
     fn take_word(&mut self, alloc: Global, word: &str) -> Result<(), Fault>
-        ensures taken { OnOk result (Takes self.old word.now self.new) }
-        ensures fault { IfErr result IsOfWords }
+        ensures taken { OnOk result (with_word (given_of self.old) word.now ≡ Ok (given_of self.new)) }
+        ensures fault { IfErr result (λ fault. IsReadingFault fault (with_word (given_of self.old) word.now)) }
     {
         let (name, digits) = word.split_once('=').ok_or(Fault::WrongWords)?;
         match name {
@@ -87,14 +88,14 @@ impl Options {
 
     /// The key, where it is given.
     pub(crate) fn key(&self) -> Option<&[u8]>
-        ensures { key_of result ≡ given self.now.key }
+        ensures { key_of result ≡ (given_of self.now).key }
     {
         self.key.as_ref().map(|key| key.as_slice())
     }
 
     /// The salt, empty where it is not given.
     pub(crate) fn salt(&self) -> &[u8]
-        ensures { result.now ≡ given_or_empty self.now.salt }
+        ensures { result.now ≡ unwrap_or (given_of self.now).salt [] }
     {
         match &self.salt {
             Some(salt) => salt.as_slice(),
@@ -104,7 +105,7 @@ impl Options {
 
     /// The persona, empty where it is not given.
     pub(crate) fn persona(&self) -> &[u8]
-        ensures { result.now ≡ given_or_empty self.now.persona }
+        ensures { result.now ≡ unwrap_or (given_of self.now).persona [] }
     {
         match &self.persona {
             Some(persona) => persona.as_slice(),
@@ -114,7 +115,7 @@ impl Options {
 
     /// Whether none is given.
     pub(crate) fn are_empty(&self) -> bool
-        ensures { IsTrue result ↔ ((self.now.key ≡ None) × (self.now.salt ≡ None) × (self.now.persona ≡ None)) }
+        ensures { IsTrue result ↔ (given_of self.now ≡ nothing_given) }
     {
         self.key.is_none() && self.salt.is_none() && self.persona.is_none()
     }
@@ -122,8 +123,8 @@ impl Options {
 
 /// The bytes of an even number of hexadecimal digits of either case, perhaps none.
 pub(crate) fn bytes_of(alloc: Global, digits: &str) -> Result<Vec<u8>, Fault>
-    ensures bytes { IfOk result (λ bytes. decode_of digits.now ≡ Ok bytes.items) }
-    ensures fault { IfErr result IsOfWords }
+    ensures bytes { IfOk result (λ bytes. hex_value digits.now ≡ Ok bytes.items) }
+    ensures fault { IfErr result (λ fault. IsReadingFault fault (hex_value digits.now)) }
 {
     hex::decode(alloc, digits).map_err(|error| match error {
         FromHexError::OutOfMemory => Fault::NoMemory,

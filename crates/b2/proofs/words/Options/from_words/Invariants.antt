@@ -1,7 +1,8 @@
-use Rattle.std.proofs.Common.{take, map}
+use Rattle.std.proofs.Common.{◌≡◌, take, map, Ok}
 use Rattle.std.specs.String.{string_bytes}
-use Rattle.b2.specs.Options.{AreOf}
+use Rattle.b2.specs.Options.{given_of}
+use Rattle.b2.specs.Words.{nothing_given, with_words}
 use Rattle.b2.proofs.words.Options.from_words.Given as goal
 
 abbrev pub invariant-loop-word : goal.invariant-loop-word
-invariant-loop-word l = AreOf (map string_bytes (take l.word-index l.words)) l.options
+invariant-loop-word l = with_words nothing_given (map string_bytes (take l.word-index l.words)) ≡ Ok (given_of l.options)
