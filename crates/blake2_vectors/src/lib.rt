@@ -13,6 +13,8 @@ mod lanes;
 #[cfg(test)]
 mod macs;
 #[cfg(test)]
+mod selftest;
+#[cfg(test)]
 mod steps;
 #[cfg(test)]
 mod streams;

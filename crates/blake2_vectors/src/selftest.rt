@@ -1,0 +1,93 @@
+//! The self-tests of RFC 7693, appendix E: one digest of the digests of many sizes and lengths, with and
+//! without keys.
+ghost use Rattle.std.specs.Prelude.{◌≤◌};
+
+use crate::inputs::take;
+use blake2::digest::{FixedOutput, InvalidLength};
+use blake2::{Blake2b, Blake2b256, Blake2bMac, Blake2s, Blake2s256, Blake2sMac, Digest};
+use std::process::Abort;
+use std::test::Fail;
+
+// Fills the bytes with the appendix's sequence of this seed.
+fn fill(bytes: &mut [u8], seed: u32) {
+    let mut a = 0xdead4badu32.wrapping_mul(seed);
+    let mut b = 1u32;
+    for byte in bytes.iter_mut() {
+        let sum = a.wrapping_add(b);
+        a = b;
+        b = sum;
+        *byte = (sum >> 24) as u8;
+    }
+}
+
+// Takes BLAKE2b's digests of one size, for each of the appendix's lengths without and with a key.
+fn take_blake2b<const N: usize>(
+    rt: &impl Abort,
+    digests: &mut Blake2b256,
+) -> Result<(), InvalidLength>
+    requires { N ≤ 64 }
+{
+    let mut key = [0; N];
+    fill(&mut key, N as u32);
+    for length in [0u32, 3, 128, 129, 255, 1024] {
+        let mut room = [0; 1024];
+        let message = &mut room[..length as usize];
+        fill(message, length);
+        take(rt, digests, Blake2b::<N>::digest(message).as_slice());
+        let mut mac = Blake2bMac::<N>::new_with_salt_and_personal(Some(&key), b"", b"")?;
+        take(rt, &mut mac, message);
+        take(rt, digests, mac.finalize_fixed().as_slice());
+    }
+    Ok(())
+}
+
+// Takes BLAKE2s's digests of one size, for each of the appendix's lengths without and with a key.
+fn take_blake2s<const N: usize>(
+    rt: &impl Abort,
+    digests: &mut Blake2s256,
+) -> Result<(), InvalidLength>
+    requires { N ≤ 32 }
+{
+    let mut key = [0; N];
+    fill(&mut key, N as u32);
+    for length in [0u32, 3, 64, 65, 255, 1024] {
+        let mut room = [0; 1024];
+        let message = &mut room[..length as usize];
+        fill(message, length);
+        take(rt, digests, Blake2s::<N>::digest(message).as_slice());
+        let mut mac = Blake2sMac::<N>::new_with_salt_and_personal(Some(&key), b"", b"")?;
+        take(rt, &mut mac, message);
+        take(rt, digests, mac.finalize_fixed().as_slice());
+    }
+    Ok(())
+}
+
+#[test]
+fn pass_the_self_test_of_blake2b(rt: HostRuntime) -> Result<(), Fail> {
+    let mut digests = Blake2b256::new();
+    take_blake2b::<20>(&rt, &mut digests)?;
+    take_blake2b::<32>(&rt, &mut digests)?;
+    take_blake2b::<48>(&rt, &mut digests)?;
+    take_blake2b::<64>(&rt, &mut digests)?;
+    let digest = hex::encode(rt.alloc(), &digests.finalize()[..])?;
+    assert_eq!(rt;
+        digest.as_str(),
+        "c23a7800d98123bd10f506c61e29da5603d763b8bbad2e737f5e765a7bccd475"
+    );
+    Ok(())
+}
+
+#[test]
+fn pass_the_self_test_of_blake2s(rt: HostRuntime) -> Result<(), Fail> {
+    let mut digests = Blake2s256::new();
+    take_blake2s::<16>(&rt, &mut digests)?;
+    take_blake2s::<20>(&rt, &mut digests)?;
+    take_blake2s::<28>(&rt, &mut digests)?;
+    take_blake2s::<32>(&rt, &mut digests)?;
+    let digest = hex::encode(rt.alloc(), &digests.finalize()[..])?;
+    assert_eq!(rt;
+        digest.as_str(),
+        "6a411f08ce25adcdfb02aba641451cec53c598b24f4fc787fbdc88797f4c1dfe"
+    );
+    Ok(())
+}
