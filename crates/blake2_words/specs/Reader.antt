@@ -1,4 +1,5 @@
--- What shows that words and entries are the transcript of an input, and what they tell of it.
+-- What shows that words and entries are the transcript of an input, and what they tell of it. Section
+-- numbers are those of RFC 7693.
 use Rattle.std.specs.Prelude.{◌≡◌, ℕ, zero, suc, ◌+◌, ◌-◌, ◌*◌, ◌/◌, ◌%◌, ◌^◌, ◌<◌, ◌≤◌, List, [], ◌∷◌, length, take, drop, slice_index, slice_index_or, Option, Some, None}
 use Rattle.blake2_rows.specs.Family.{Family, block_bytes, key_bytes, output_bytes}
 use Rattle.blake2_rows.specs.Round.{AreWords}

@@ -1,11 +1,12 @@
--- The transcript of a run: its parameter words, and its steps without their chaining words.
+-- The transcript of a run: its parameter words, and its steps without their chaining words. Section
+-- numbers are those of RFC 7693.
 use Rattle.std.specs.Prelude.{◌≡◌, ℕ, ◌+◌, ◌-◌, ◌*◌, ◌<◌, ◌≤◌, List, length, map, slice_index_or}
 use Rattle.std.specs.List.{concat}
 use Rattle.blake2_rows.specs.Family.{Family, block_bytes, output_bytes}
 use Rattle.blake2_words.specs.Hash.{Flags, inner, Input, input_flags, input_parameters, input_data, padded, block_count, parameter_words, Step}
 use Rattle.blake2_words.specs.Inputs.{Accepts, Same}
 
--- one compression, without its chaining words
+-- what one compression is given, but for its chaining words (3.2)
 pub record Entry : Type 0 where
   pub block : List ℕ
   pub counter : ℕ
@@ -19,7 +20,9 @@ entry s = record { block = s.block; counter = s.counter; flags = s.flags }
 abbrev pub joined : List Entry → List ℕ
 joined entries = concat (map (λ (e : Entry). e.block) entries)
 
--- words and entries are those of the input at this output size: by their places, without F (3.3)
+-- words and entries are those of the input at this output size, place by place and without F (3.3): the
+-- parameter words; an entry for each block; before the last, counters (i+1)·B and no final flag; at the
+-- last, the counted length and the input's flags; and blocks that joined are the data and then zeros
 pub record IsTranscript (f : Family) (words : List ℕ) (entries : List Entry) (size : ℕ) (a : Input) : Type 0 where
   pub parameters : words ≡ parameter_words f (input_parameters size a)
   pub number : length entries ≡ block_count f (length (input_data f a))

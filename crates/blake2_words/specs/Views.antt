@@ -1,4 +1,4 @@
--- How the values of the code are seen as those of the definitions.
+-- How the values of the module steps are seen as those of the definitions.
 use Rattle.std.specs.Prelude.{ℕ, List, map, Option, Some, None}
 use Rattle.std.specs.Global.{Vec}
 use Rattle.std.specs.Borrow.{Bor}

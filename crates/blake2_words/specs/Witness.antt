@@ -1,4 +1,5 @@
--- The pair of steps that two different inputs with one digest come to.
+-- The pair of steps that two different inputs with one digest come to, each what one compression is
+-- given (RFC 7693, 3.2).
 use Rattle.std.specs.Prelude.{◌≡◌, ◌≢◌, ℕ, ◌-◌, ◌<◌, List, length, take, slice_index_or}
 use Rattle.blake2_rows.specs.Family.{Family}
 use Rattle.blake2_words.specs.Hash.{bytes_of, Input, digest, Step, output, steps}
