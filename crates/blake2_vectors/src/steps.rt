@@ -230,6 +230,34 @@ fn read_no_input_from_other_words(rt: HostRuntime) -> Result<(), AllocError> {
 }
 
 #[test]
+fn read_no_sizes_past_the_limits(rt: HostRuntime) -> Result<(), AllocError> {
+    let entries = [entry(b"", 128, true)];
+    for (first, is_read) in [
+        (0x01014040, true),
+        (0x01014140, false),
+        (0x01014041, false),
+        (0x01010040, true),
+        (0x01010041, false),
+    ] {
+        let words = [first, 0, 0, 0, 0, 0, 0, 0];
+        let read = blake2b_reads(rt.alloc(), words, &entries)?;
+        assert_eq!(rt; read, is_read, "BLAKE2b {first:x}");
+    }
+    let entries = [entry(b"", 64, true)];
+    for (first, is_read) in [
+        (0x01012020, true),
+        (0x01012120, false),
+        (0x01012021, false),
+        (0x01010020, true),
+        (0x01010021, false),
+    ] {
+        let read = blake2s_reading(rt.alloc(), first, &entries)?;
+        assert_eq!(rt; read.is_some(), is_read, "BLAKE2s {first:x}");
+    }
+    Ok(())
+}
+
+#[test]
 fn read_no_input_from_other_entries(rt: HostRuntime) -> Result<(), AllocError> {
     let alloc = rt.alloc();
     let words = [0x01010040, 0, 0, 0, 0, 0, 0, 0];

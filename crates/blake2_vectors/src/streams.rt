@@ -1,6 +1,4 @@
 //! Streams between devices in memory that give and take little, or fail.
-ghost use Rattle.std.specs.Prelude.{◌≡◌, ◌≤◌};
-
 use blake2::engine::{Sink, SliceSink, SliceSource, Source, StreamFault, hash_stream};
 use blake2::{Blake2b512, Digest};
 use std::test::Fail;
