@@ -1,1 +1,2 @@
+mod Accepting
 mod WordLemmas

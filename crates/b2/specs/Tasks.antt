@@ -2,13 +2,15 @@
 use Rattle.std.specs.Prelude.{ℕ, ◌+◌, ◌≤◌, ◌^◌, List, [], length, Option, unwrap_or, IfSome}
 use Rattle.std.specs.Io.KnownBytes.{Appends}
 use Rattle.blake2.specs.Family.{Family, blake2b, blake2s}
+use Rattle.blake2.specs.Hash.{Input}
 use Rattle.blake2.specs.Keys.{key_count, IsRefused}
-use Rattle.blake2.specs.States.{digest_of}
+use Rattle.blake2.specs.States.{digest_of, input as input_of_parts}
 use Rattle.blake2.specs.Streams.{line_of}
 use Rattle.b2.specs.declared.words.Kind.{Kind}
 use Rattle.b2.specs.declared.words.Kind.TheVariants.{Blake2b128, Blake2b256, Blake2b512, Blake2s128, Blake2s256}
 use Rattle.b2.specs.Words.{Given, Task}
-use Rattle.b2.specs.Words.Task.{to_sum}
+use Rattle.b2.specs.Words.Task.{to_sum, to_steps}
+use Rattle.b2.specs.Lines.{transcript_lines}
 
 -- the family of a kind
 abbrev pub family_of : Kind → Family
@@ -34,13 +36,19 @@ IsRefusedBy f given = IsRefused f given.key (unwrap_or given.salt []) (unwrap_or
 abbrev pub digest_with : Family → ℕ → Given → List ℕ → List ℕ
 digest_with f n given message = digest_of f n (unwrap_or given.salt []) (unwrap_or given.persona []) given.key message
 
+-- the input with the salt, the persona and the key that are given
+abbrev pub input_with : Given → List ℕ → Input
+input_with given message = input_of_parts (unwrap_or given.salt []) (unwrap_or given.persona []) given.key message
+
 -- a task has a key, a salt or a persona of a length that is not taken
 abbrev pub IsRefusedTask : Task → Type 0
 IsRefusedTask (to_sum kind given) = IsRefusedBy (family_of kind) given
+IsRefusedTask (to_steps kind given) = IsRefusedBy (family_of kind) given
 
 -- the bytes that a task counts before its input: those of a key's block
 abbrev pub start_count_of : Task → ℕ
 start_count_of (to_sum kind given) = key_count (family_of kind) given.key
+start_count_of (to_steps kind given) = key_count (family_of kind) given.key
 
 -- the bytes that a task counts with an input would be 2^64 or more
 abbrev pub IsTooLongFor : Task → List ℕ → Type 0
@@ -49,6 +57,7 @@ IsTooLongFor task input = 2 ^ 64 ≤ start_count_of task + length input
 -- the output of a task over an input
 abbrev pub output_of : Task → List ℕ → List ℕ
 output_of (to_sum kind given) input = line_of (digest_with (family_of kind) (size_of kind) given input)
+output_of (to_steps kind given) input = transcript_lines (family_of kind) (size_of kind) (input_with given input)
 
 -- a task was done: it is not refused, the input that a source had left is not too long for it, and a
 -- sink took the whole output

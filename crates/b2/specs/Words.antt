@@ -72,13 +72,18 @@ with_words given (word ∷ words) = and_then (with_word given word) (λ more. wi
 pub data Task : Type 0 where
   -- `sum KIND [key=HEX] [salt=HEX] [persona=HEX]`
   to_sum : Kind → Given → Task
+  -- `steps KIND [key=HEX] [salt=HEX] [persona=HEX]`
+  to_steps : Kind → Given → Task
 
--- the task of the words behind `sum`
-abbrev pub sum_task : List (List ℕ) → Result Task Fault
-sum_task [] = Err WrongWords
-sum_task (kind ∷ words) = and_then (kind_of kind) (λ k. and_then (with_words nothing_given words) (λ given. Ok (to_sum k given)))
+-- the task of the words behind a command's name, KIND and what is given
+abbrev pub given_task : (Kind → Given → Task) → List (List ℕ) → Result Task Fault
+given_task to [] = Err WrongWords
+given_task to (kind ∷ words) = and_then (kind_of kind) (λ k. and_then (with_words nothing_given words) (λ given. Ok (to k given)))
 
 -- the task of a command line
 abbrev pub task_of : List (List ℕ) → Result Task Fault
 task_of [] = Err WrongWords
-task_of (command ∷ words) = if bytes_eq command (codes "sum") then sum_task words else Err WrongWords
+task_of (command ∷ words) =
+    if bytes_eq command (codes "sum") then given_task to_sum words
+    else if bytes_eq command (codes "steps") then given_task to_steps words
+    else Err WrongWords

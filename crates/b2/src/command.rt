@@ -4,11 +4,14 @@ ghost use Rattle.std.specs.String.{string_bytes};
 ghost use Rattle.std.specs.Result.{IsErrOf};
 ghost use Rattle.std.specs.Io.KnownBytes.{Keeps};
 ghost use Rattle.b2.specs.declared.fault.Fault.TheVariants.{WriteFailed};
-ghost use Rattle.b2.specs.Words.{task_of, IsReadingFault};
+ghost use Rattle.b2.specs.declared.words.Kind.{Kind};
+ghost use Rattle.b2.specs.Words.{Given, Task, given_task, task_of, IsReadingFault};
+ghost use Rattle.b2.specs.Options.{given_of};
 ghost use Rattle.b2.specs.Tasks.{IsDone};
 ghost use Rattle.b2.specs.Faults.{IsDue, IsTold};
 
 use crate::fault::Fault;
+use crate::steps::steps;
 use crate::sum::sum;
 use crate::words::{Kind, Options};
 use blake2::engine::{Sink, Source};
@@ -19,6 +22,8 @@ use std::alloc::Global;
 enum Command {
     /// `sum KIND [key=HEX] [salt=HEX] [persona=HEX]`: the digest of the input.
     Sum(Kind, Options),
+    /// `steps KIND [key=HEX] [salt=HEX] [persona=HEX]`: the transcript of the input.
+    Steps(Kind, Options),
 }
 
 impl Command {
@@ -32,13 +37,28 @@ impl Command {
         let (command, words) = words.split_first().ok_or(Fault::WrongWords)?;
         match command.as_str() {
             "sum" => {
-                let (kind, words) = words.split_first().ok_or(Fault::WrongWords)?;
-                let kind = Kind::from_word(kind.as_str())?;
-                Ok(Command::Sum(kind, Options::from_words(alloc, words)?))
+                let (kind, options) = kind_and_options(alloc, words)?;
+                Ok(Command::Sum(kind, options))
+            }
+            "steps" => {
+                let (kind, options) = kind_and_options(alloc, words)?;
+                Ok(Command::Steps(kind, options))
             }
             _ => Err(Fault::WrongWords),
         }
     }
+}
+
+// The KIND that the words begin with, and the options behind it.
+fn kind_and_options(alloc: Global, words: &[String]) -> Result<(Kind, Options), Fault>
+    ensures read { IfOk result (λ read. (to : Kind → Given → Task)
+        → given_task to (map string_bytes words.now) ≡ Ok (to read.0 (given_of read.1))) }
+    ensures fault { IfErr result (λ fault. (to : Kind → Given → Task)
+        → IsReadingFault fault (given_task to (map string_bytes words.now))) }
+{
+    let (kind, words) = words.split_first().ok_or(Fault::WrongWords)?;
+    let kind = Kind::from_word(kind.as_str())?;
+    Ok((kind, Options::from_words(alloc, words)?))
 }
 
 /// Does what the words say, without the program's name, to the source and the sink, and answers the
@@ -82,5 +102,6 @@ fn execute<S: Source, K: Sink>(
 {
     match Command::from_words(alloc, words)? {
         Command::Sum(kind, options) => sum(kind, &options, source, sink),
+        Command::Steps(kind, options) => steps(alloc, kind, &options, source, sink),
     }
 }

@@ -1,10 +1,11 @@
 //! Why the program ends without its output.
 ghost use Rattle.std.specs.Prelude.{◌≡◌, ◌↔◌, false, IsTrue};
 ghost use Rattle.std.specs.Io.KnownBytes.{Appends};
-ghost use Rattle.b2.specs.declared.fault.Fault.TheVariants.{WrongLength, WriteFailed};
+ghost use Rattle.b2.specs.declared.fault.Fault.TheVariants.{WrongLength, NoMemory, WriteFailed};
 
 use blake2::digest::InvalidLength;
 use blake2::engine::{Sink, write_whole};
+use std::alloc::AllocError;
 
 /// A fault of the words, the devices or the memory. Each prints one line, but for the last.
 #[derive(Clone, Copy, Debug, PartialEq, Eq)]
@@ -76,5 +77,13 @@ impl From<InvalidLength> for Fault {
 
     fn from(_: InvalidLength) -> Fault {
         Fault::WrongLength
+    }
+}
+
+impl From<AllocError> for Fault {
+    ghost from_gives = { λ _ r. r ≡ NoMemory };
+
+    fn from(_: AllocError) -> Fault {
+        Fault::NoMemory
     }
 }

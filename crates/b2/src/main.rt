@@ -5,6 +5,9 @@ ghost use Rattle.std.specs.Prelude.{◌≡◌, false};
 
 mod command;
 mod fault;
+mod input;
+mod print;
+mod steps;
 mod sum;
 #[cfg(test)]
 mod tests;

@@ -4,12 +4,13 @@ ghost use Rattle.std.specs.Result.{IsErrOf};
 ghost use Rattle.std.specs.Io.KnownBytes.{Keeps};
 ghost use Rattle.blake2.specs.Family.{blake2b, blake2s};
 ghost use Rattle.blake2.specs.Keys.{key_count};
+ghost use Rattle.blake2.specs.Streams.{line_of};
 ghost use Rattle.b2.specs.declared.fault.Fault.TheVariants.{WriteFailed};
 ghost use Rattle.b2.specs.Words.Task.{to_sum};
 ghost use Rattle.b2.specs.Options.{given_of};
 ghost use Rattle.b2.specs.Tasks.{digest_with, IsRefusedBy, IsDone};
 ghost use Rattle.b2.specs.Faults.{IsDue};
-ghost use Rattle.b2.specs.Sums.{EndsBy};
+ghost use Rattle.b2.specs.Ends.{EndsBy};
 
 use crate::fault::Fault;
 use crate::words::{Kind, Options};
@@ -55,7 +56,7 @@ fn sum_blake2b<S: Source, K: Sink, const N: usize>(
     ensures length { IsErrOf result Fault.WrongLength ↔ IsRefusedBy blake2b (given_of options.now) }
     ensures read { IsErrOf result Fault.ReadFailed ↔ IsTrue (S.failed source.new) }
     ensures write { IsErrOf result Fault.WriteFailed ↔ IsTrue (K.failed sink.new) }
-    ensures ends { EndsBy (digest_with blake2b N (given_of options.now))
+    ensures ends { EndsBy (λ message. line_of (digest_with blake2b N (given_of options.now) message))
         (key_count blake2b (given_of options.now).key) result (S.left source.old)
         (K.held sink.old) (K.held sink.new) }
 {
@@ -82,7 +83,7 @@ fn sum_blake2s<S: Source, K: Sink, const N: usize>(
     ensures length { IsErrOf result Fault.WrongLength ↔ IsRefusedBy blake2s (given_of options.now) }
     ensures read { IsErrOf result Fault.ReadFailed ↔ IsTrue (S.failed source.new) }
     ensures write { IsErrOf result Fault.WriteFailed ↔ IsTrue (K.failed sink.new) }
-    ensures ends { EndsBy (digest_with blake2s N (given_of options.now))
+    ensures ends { EndsBy (λ message. line_of (digest_with blake2s N (given_of options.now) message))
         (key_count blake2s (given_of options.now).key) result (S.left source.old)
         (K.held sink.old) (K.held sink.new) }
 {
@@ -114,7 +115,7 @@ where
     ensures length { result ≢ Err Fault.WrongLength }
     ensures read { IsErrOf result Fault.ReadFailed ↔ IsTrue (S.failed source.new) }
     ensures write { IsErrOf result Fault.WriteFailed ↔ IsTrue (K.failed sink.new) }
-    ensures ends { EndsBy (H.meaning.future hasher) (H.meaning.count hasher) result
+    ensures ends { EndsBy (λ message. line_of (H.meaning.future hasher message)) (H.meaning.count hasher) result
         (S.left source.old) (K.held sink.old) (K.held sink.new) }
 {
     match hash_stream(source, sink, hasher) {

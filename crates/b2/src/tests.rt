@@ -1,6 +1,7 @@
 //! Runs of the program over memory.
 
 mod memory;
+mod steps;
 mod sum;
 
 use crate::run;
@@ -28,6 +29,36 @@ fn run_over(
     let mut sink = IoSink::new(Vec::new(alloc));
     let status = run(alloc, words.as_slice(), &mut source, &mut sink);
     Ok((status, sink.into_inner()))
+}
+
+// Pieces of text one after the other, each so many times.
+fn text_of(alloc: Global, pieces: &[(&str, usize)]) -> Result<Vec<u8>, AllocError> {
+    let mut text = Vec::new(alloc);
+    for (piece, times) in pieces {
+        for _ in 0..*times {
+            text.extend_from_slice(piece.as_bytes())?;
+        }
+    }
+    Ok(text)
+}
+
+// Whether a command over an input prints these pieces of text, and answers status 0.
+fn prints(
+    alloc: Global,
+    text: &str,
+    input: &[u8],
+    pieces: &[(&str, usize)],
+) -> Result<bool, AllocError> {
+    let (status, output) = run_over(alloc, text, input, None)?;
+    let expected = text_of(alloc, pieces)?;
+    Ok(status == 0 && output.as_slice() == expected.as_slice())
+}
+
+// Whether a command prints this line alone and answers status 2, over an input that fails at once,
+// which shows that it is not read.
+fn refuses(alloc: Global, text: &str, line: &str) -> Result<bool, AllocError> {
+    let (status, output) = run_over(alloc, text, b"", Some(0))?;
+    Ok(status == 2 && output.as_slice() == line.as_bytes())
 }
 
 // Whether the command, at an output that fails after each number of bytes below the whole output's,

@@ -1,0 +1,15 @@
+-- The inputs of the code.
+use Rattle.std.specs.Prelude.{List, ℕ, ⊤, Option, Some, None}
+use Rattle.blake2.specs.Hash.{AreBytes, Input}
+
+-- a key, where there is one, has bytes
+abbrev pub IsKeyOfBytes : Option (List ℕ) → Type 0
+IsKeyOfBytes None = ⊤
+IsKeyOfBytes (Some key) = AreBytes key
+
+-- the parts of an input are bytes, as their types say
+pub record IsOfBytes (a : Input) : Type 0 where
+  pub salt : AreBytes a.salt
+  pub persona : AreBytes a.persona
+  pub key : IsKeyOfBytes a.key
+  pub message : AreBytes a.message
