@@ -1,12 +1,13 @@
 -- Which inputs are accepted, in terms of what the options of a MAC refuse and of how much is counted.
-use Rattle.std.proofs.Common.{◌≡◌, ℕ, ◌+◌, ◌-◌, ◌≤◌, ◌^◌, List, ◌++◌, length, replicate, Option, None, Some, inl, inr, arith, length-append, subst, sym, IfSome}
+use Rattle.std.proofs.Common.{◌≡◌, ℕ, ◌+◌, ◌-◌, ◌<◌, ◌≤◌, ◌^◌, List, [], ◌++◌, length, replicate, Option, None, Some, inl, inr, arith, length-append, lit<, subst, sym, IfSome}
 use Rattle.std.proofs.lemmas.List.{length-replicate}
 use Rattle.std.specs.Prelude.{◌⊎◌}
 use Rattle.std.proofs.lemmas.Bool.{cases_lt}
 use Rattle.blake2.specs.Family.{Family, blake2b, blake2s, block_bytes, key_bytes, salt_bytes}
-use Rattle.blake2.specs.Hash.{Input, key_block, padded}
+use Rattle.blake2.specs.Hash.{AreBytes, Input, key_block, padded}
 use Rattle.blake2.specs.Inputs.{Accepts, KeyFits}
 use Rattle.blake2.specs.Keys.{key_count, IsRefused, IsRefusedKey}
+use Rattle.blake2.specs.States.{input}
 use Rattle.b2.specs.Inputs.{IsKeyOfBytes, IsOfBytes}
 
 -- a key that fits has room in a block
@@ -111,3 +112,19 @@ pub counts_all : (left : Option (List ℕ)) (message : List ℕ) (n : ℕ) → I
     → 2 ^ 64 ≤ n + length message → IfSome left (λ all. 2 ^ 64 ≤ n + length all)
 counts_all None message n is long = tt
 counts_all (Some all) message n is long = subst (λ (m : List ℕ). 2 ^ 64 ≤ n + length m) is long
+
+-- an unkeyed message without salt and persona is accepted
+pub unkeyed_accepted : (f : Family) (a : Input) (message : List ℕ) → a ≡ input [] [] None message → AreBytes message → length message < 2 ^ 64 → Accepts f a
+unkeyed_accepted f a message is bytes short =
+    subst (Accepts f) (sym is) (record {
+      salt_fits = omega arith;
+      persona_fits = omega arith;
+      key_fits = tt;
+      counted = omega (arith, counted f None message tt, short);
+      salt_bytes = no_bytes;
+      persona_bytes = no_bytes;
+      message_bytes = bytes;
+    })
+  where
+    no_bytes : AreBytes []
+    no_bytes i = lit< tt

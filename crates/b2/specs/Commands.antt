@@ -1,6 +1,7 @@
 -- What the program has read of its words.
 use Rattle.b2.specs.declared.command.Command.{Command}
-use Rattle.b2.specs.declared.command.Command.TheVariants.{Sum, Steps}
+use Rattle.b2.specs.declared.command.Command.TheVariants.{Sum, Steps, Witness}
+use Rattle.b2.specs.Comparisons.{comparison_task}
 use Rattle.b2.specs.Options.{given_of}
 use Rattle.b2.specs.Words.{Task}
 use Rattle.b2.specs.Words.Task.{to_sum, to_steps}
@@ -9,3 +10,4 @@ use Rattle.b2.specs.Words.Task.{to_sum, to_steps}
 abbrev pub command_task : Command → Task
 command_task (Sum kind options) = to_sum kind (given_of options)
 command_task (Steps kind options) = to_steps kind (given_of options)
+command_task (Witness comparison) = comparison_task comparison

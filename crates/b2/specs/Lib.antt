@@ -1,8 +1,10 @@
 pub mod Commands
+pub mod Comparisons
 pub mod Ends
 pub mod Faults
 pub mod Inputs
 pub mod Lines
 pub mod Options
 pub mod Tasks
+pub mod Witnesses
 pub mod Words

@@ -8,9 +8,12 @@ use Rattle.blake2.specs.States.{digest_of, input as input_of_parts}
 use Rattle.blake2.specs.Streams.{line_of}
 use Rattle.b2.specs.declared.words.Kind.{Kind}
 use Rattle.b2.specs.declared.words.Kind.TheVariants.{Blake2b128, Blake2b256, Blake2b512, Blake2s128, Blake2s256}
-use Rattle.b2.specs.Words.{Given, Task}
-use Rattle.b2.specs.Words.Task.{to_sum, to_steps}
+use Rattle.b2.specs.declared.witness.WitnessKind.{WitnessKind}
+use Rattle.b2.specs.declared.witness.WitnessKind.TheVariants.{Common, Blake2b0, Blake2b8, Blake2s0, Blake2s8}
+use Rattle.b2.specs.Words.{Given, nothing_given, Task}
+use Rattle.b2.specs.Words.Task.{to_sum, to_steps, to_witness}
 use Rattle.b2.specs.Lines.{transcript_lines}
+use Rattle.b2.specs.Witnesses.{PrintsWitness}
 
 -- the family of a kind
 abbrev pub family_of : Kind → Family
@@ -28,6 +31,22 @@ size_of Blake2b512 = 64
 size_of Blake2s128 = 16
 size_of Blake2s256 = 32
 
+-- the family of a kind of `witness`
+abbrev pub compared_family : WitnessKind → Family
+compared_family (Common kind) = family_of kind
+compared_family Blake2b0 = blake2b
+compared_family Blake2b8 = blake2b
+compared_family Blake2s0 = blake2s
+compared_family Blake2s8 = blake2s
+
+-- the bytes of its digests
+abbrev pub compared_size : WitnessKind → ℕ
+compared_size (Common kind) = size_of kind
+compared_size Blake2b0 = 0
+compared_size Blake2b8 = 1
+compared_size Blake2s0 = 0
+compared_size Blake2s8 = 1
+
 -- a key, a salt or a persona that is given has a length that the family does not take
 abbrev pub IsRefusedBy : Family → Given → Type 0
 IsRefusedBy f given = IsRefused f given.key (unwrap_or given.salt []) (unwrap_or given.persona [])
@@ -44,24 +63,28 @@ input_with given message = input_of_parts (unwrap_or given.salt []) (unwrap_or g
 abbrev pub IsRefusedTask : Task → Type 0
 IsRefusedTask (to_sum kind given) = IsRefusedBy (family_of kind) given
 IsRefusedTask (to_steps kind given) = IsRefusedBy (family_of kind) given
+IsRefusedTask (to_witness kind a b) = ⊥
 
--- the bytes that a task counts before its input: those of a key's block
-abbrev pub start_count_of : Task → ℕ
-start_count_of (to_sum kind given) = key_count (family_of kind) given.key
-start_count_of (to_steps kind given) = key_count (family_of kind) given.key
+-- the bytes of an input, with those of a key's block, would be 2^64 or more
+abbrev pub IsTooLongBy : Family → Given → List ℕ → Type 0
+IsTooLongBy f given input = 2 ^ 64 ≤ key_count f given.key + length input
 
--- the bytes that a task counts with an input would be 2^64 or more
+-- so they would be for a task; `witness` reads no input
 abbrev pub IsTooLongFor : Task → List ℕ → Type 0
-IsTooLongFor task input = 2 ^ 64 ≤ start_count_of task + length input
+IsTooLongFor (to_sum kind given) input = IsTooLongBy (family_of kind) given input
+IsTooLongFor (to_steps kind given) input = IsTooLongBy (family_of kind) given input
+IsTooLongFor (to_witness kind a b) input = ⊥
 
--- the output of a task over an input
-abbrev pub output_of : Task → List ℕ → List ℕ
-output_of (to_sum kind given) input = line_of (digest_with (family_of kind) (size_of kind) given input)
-output_of (to_steps kind given) input = transcript_lines (family_of kind) (size_of kind) (input_with given input)
+-- a sink took the output of a task over an input
+abbrev pub Outputs : Task → List ℕ → Option (List ℕ) → Option (List ℕ) → Type 0
+Outputs (to_sum kind given) input old new = Appends old new (line_of (digest_with (family_of kind) (size_of kind) given input))
+Outputs (to_steps kind given) input old new = Appends old new (transcript_lines (family_of kind) (size_of kind) (input_with given input))
+Outputs (to_witness kind a b) input old new =
+    PrintsWitness (compared_family kind) (compared_size kind) (input_with nothing_given a) (input_with nothing_given b) old new
 
 -- a task was done: it is not refused, the input that a source had left is not too long for it, and a
 -- sink took the whole output
 pub record IsDone (task : Task) (left old new : Option (List ℕ)) : Type 0 where
   pub not_refused : ¬ IsRefusedTask task
   pub fits : IfSome left (λ input. ¬ IsTooLongFor task input)
-  pub output : IfSome left (λ input. Appends old new (output_of task input))
+  pub output : IfSome left (λ input. Outputs task input old new)

@@ -7,6 +7,8 @@ use Rattle.std.specs.Str.{bytes_eq}
 use Rattle.hex.specs.Hex.{decode_of}
 use Rattle.b2.specs.declared.words.Kind.{Kind}
 use Rattle.b2.specs.declared.words.Kind.TheVariants.{Blake2b128, Blake2b256, Blake2b512, Blake2s128, Blake2s256}
+use Rattle.b2.specs.declared.witness.WitnessKind.{WitnessKind}
+use Rattle.b2.specs.declared.witness.WitnessKind.TheVariants.{Common, Blake2b0, Blake2b8, Blake2s0, Blake2s8}
 use Rattle.b2.specs.declared.fault.Fault.{Fault}
 use Rattle.b2.specs.declared.fault.Fault.TheVariants.{WrongWords, WrongHex, NoMemory}
 
@@ -35,6 +37,22 @@ kind_of word =
 -- the bytes of HEX: an even number of hexadecimal digits of either case, perhaps none
 abbrev pub hex_value : List ℕ → Result (List ℕ) Fault
 hex_value digits = result_map_both (λ bytes. bytes) (λ _. WrongHex) (decode_of digits)
+
+-- the kind of digests that `witness` compares, which a word names
+abbrev pub witness_kind_of : List ℕ → Result WitnessKind Fault
+witness_kind_of word =
+    if bytes_eq word (codes "b0") then Ok Blake2b0
+    else if bytes_eq word (codes "b8") then Ok Blake2b8
+    else if bytes_eq word (codes "s0") then Ok Blake2s0
+    else if bytes_eq word (codes "s8") then Ok Blake2s8
+    else and_then (kind_of word) (λ kind. Ok (Common kind))
+
+-- the bytes of a message's HEX: two or more hexadecimal digits, an even number, or `-` for none
+abbrev pub message_value : List ℕ → Result (List ℕ) Fault
+message_value word =
+    if bytes_eq word (codes "-") then Ok []
+    else if bytes_eq word [] then Err WrongHex
+    else hex_value word
 
 -- the bytes of `key=HEX`, `salt=HEX` and `persona=HEX`, where they are given
 pub record Given : Type 0 where
@@ -74,11 +92,30 @@ pub data Task : Type 0 where
   to_sum : Kind → Given → Task
   -- `steps KIND [key=HEX] [salt=HEX] [persona=HEX]`
   to_steps : Kind → Given → Task
+  -- `witness KIND HEX HEX`
+  to_witness : WitnessKind → List ℕ → List ℕ → Task
 
 -- the task of the words behind a command's name, KIND and what is given
 abbrev pub given_task : (Kind → Given → Task) → List (List ℕ) → Result Task Fault
 given_task to [] = Err WrongWords
 given_task to (kind ∷ words) = and_then (kind_of kind) (λ k. and_then (with_words nothing_given words) (λ given. Ok (to k given)))
+
+-- the task of the words behind `witness`, where the kind and the messages before them are told
+abbrev pub rest_task : WitnessKind → List ℕ → List ℕ → List (List ℕ) → Result Task Fault
+rest_task kind a b [] = Ok (to_witness kind a b)
+rest_task kind a b (word ∷ words) = Err WrongWords
+
+abbrev pub second_task : WitnessKind → List ℕ → List (List ℕ) → Result Task Fault
+second_task kind a [] = Err WrongWords
+second_task kind a (word ∷ words) = and_then (message_value word) (λ b. rest_task kind a b words)
+
+abbrev pub first_task : WitnessKind → List (List ℕ) → Result Task Fault
+first_task kind [] = Err WrongWords
+first_task kind (word ∷ words) = and_then (message_value word) (λ a. second_task kind a words)
+
+abbrev pub witness_task : List (List ℕ) → Result Task Fault
+witness_task [] = Err WrongWords
+witness_task (word ∷ words) = and_then (witness_kind_of word) (λ kind. first_task kind words)
 
 -- the task of a command line
 abbrev pub task_of : List (List ℕ) → Result Task Fault
@@ -86,4 +123,5 @@ task_of [] = Err WrongWords
 task_of (command ∷ words) =
     if bytes_eq command (codes "sum") then given_task to_sum words
     else if bytes_eq command (codes "steps") then given_task to_steps words
+    else if bytes_eq command (codes "witness") then witness_task words
     else Err WrongWords

@@ -13,6 +13,7 @@ ghost use Rattle.b2.specs.Faults.{IsDue, IsTold};
 use crate::fault::Fault;
 use crate::steps::steps;
 use crate::sum::sum;
+use crate::witness::{Comparison, witness};
 use crate::words::{Kind, Options};
 use blake2::engine::{Sink, Source};
 use std::alloc::Global;
@@ -24,6 +25,8 @@ enum Command {
     Sum(Kind, Options),
     /// `steps KIND [key=HEX] [salt=HEX] [persona=HEX]`: the transcript of the input.
     Steps(Kind, Options),
+    /// `witness KIND HEX HEX`: the pair of steps that two messages with one digest come to.
+    Witness(Comparison),
 }
 
 impl Command {
@@ -44,6 +47,7 @@ impl Command {
                 let (kind, options) = kind_and_options(alloc, words)?;
                 Ok(Command::Steps(kind, options))
             }
+            "witness" => Ok(Command::Witness(Comparison::from_words(alloc, words)?)),
             _ => Err(Fault::WrongWords),
         }
     }
@@ -103,5 +107,6 @@ fn execute<S: Source, K: Sink>(
     match Command::from_words(alloc, words)? {
         Command::Sum(kind, options) => sum(kind, &options, source, sink),
         Command::Steps(kind, options) => steps(alloc, kind, &options, source, sink),
+        Command::Witness(comparison) => witness(alloc, &comparison, sink),
     }
 }

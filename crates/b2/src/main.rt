@@ -11,6 +11,7 @@ mod steps;
 mod sum;
 #[cfg(test)]
 mod tests;
+mod witness;
 mod words;
 
 use blake2::engine::{IoSink, IoSource};

@@ -4,7 +4,6 @@ ghost use Rattle.std.specs.List.{flat_map};
 ghost use Rattle.std.specs.Result.{IsErrOf};
 ghost use Rattle.std.specs.Io.KnownBytes.{Appends, Keeps};
 ghost use Rattle.blake2.specs.Family.{blake2b, blake2s};
-ghost use Rattle.blake2.specs.Hash.{AreBytes};
 ghost use Rattle.blake2.specs.Keys.{key_count};
 ghost use Rattle.blake2.specs.Views.{entry_of, entries_of, input_of, key_of};
 ghost use Rattle.b2.specs.declared.fault.Fault.TheVariants.{WriteFailed};
@@ -17,7 +16,7 @@ ghost use Rattle.b2.specs.Inputs.{IsKeyOfBytes, IsOfBytes};
 ghost use Rattle.b2.specs.Lines.{entry_line, words_line, transcript_lines};
 
 use crate::fault::Fault;
-use crate::input::read_all;
+use crate::input::{read_all, tell_bytes};
 use crate::print::Line;
 use crate::words::{Kind, Options};
 use blake2::engine::{Sink, Source};
@@ -156,11 +155,6 @@ fn input_under<'a>(options: &'a Options, message: &'a [u8]) -> Input<'a>
     tell_bytes(input.message);
     input
 }
-
-// Does nothing. Proofs read from the type of the slice that each element is a byte.
-fn tell_bytes(slice: &[u8])
-    ensures { AreBytes slice.now }
-{}
 
 // Does nothing. Proofs read from the type of the key that each element is a byte.
 fn tell_key_bytes(key: &Option<&[u8]>)

@@ -3,6 +3,7 @@
 mod memory;
 mod steps;
 mod sum;
+mod witness;
 
 use crate::run;
 use blake2::engine::{IoSink, SliceSink, SliceSource};

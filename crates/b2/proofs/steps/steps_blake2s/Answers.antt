@@ -1,4 +1,4 @@
-use Rattle.std.proofs.Common.{[], refl, ap, ◌∙◌}
+use Rattle.std.proofs.Common.{[], refl}
 use Rattle.std.proofs.lemmas.Bool.{iff_false}
 use Rattle.std.proofs.KnownBytes.{Keeps-refl}
 use Rattle.blake2.specs.Family.{blake2s}
@@ -17,9 +17,7 @@ returns-then-not-accepts-clause-length g c =
 pub returns-then-not-accepts-2-clause-ends : goal.returns-then-not-accepts-2-clause-ends
 returns-then-not-accepts-2-clause-ends g c =
     let given = given_of c.args.options.now in
-    let message = c.in_ok-message.message.items in
-    let is = c.input_under-input.ensures.input ∙ ap (input_with given) c.as_slice.ensures.value in
     let allowed = not_refused blake2s _ (input_with given []) c.input_under.ensures.input (c.accepts.ensures.0 c.if-not-accepts.false) in
     let not_accepted = iff_false c.accepts-2.ensures c.if-not-accepts-2.true in
-    let long = too_long blake2s _ (input_with given message) is c.input_under-input.ensures.bytes allowed not_accepted in
-    (counts_all _ message (key_count blake2s given.key) c.in_ok-message.ensures.whole long, Keeps-refl _)
+    let long = too_long blake2s _ (input_with given c.as_slice.result.now) c.input_under-input.ensures.input c.input_under-input.ensures.bytes allowed not_accepted in
+    (counts_all _ c.in_ok-message.message.items (key_count blake2s given.key) c.in_ok-message.ensures.whole (rw c.as_slice.ensures.value at long), Keeps-refl _)
