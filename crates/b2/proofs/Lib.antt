@@ -1,3 +1,6 @@
 mod Accepting
+mod CutLemmas
+mod LineLemmas
 mod Printing
+mod ScriptLemmas
 mod WordLemmas

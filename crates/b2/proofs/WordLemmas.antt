@@ -4,7 +4,7 @@ use Rattle.std.proofs.lemmas.List.{take_more, take-append-drop, map-append}
 use Rattle.std.specs.Prelude.{Result, String}
 use Rattle.std.specs.String.{string_bytes}
 use Rattle.b2.specs.declared.fault.Fault.{Fault}
-use Rattle.b2.specs.declared.fault.Fault.TheVariants.{WrongWords, WrongHex, WrongLength, TooLong, ReadFailed, NoMemory, WriteFailed}
+use Rattle.b2.specs.declared.fault.Fault.TheVariants.{WrongWords, WrongHex, WrongLength, WrongLine, NoSuchSlot, LineTooLong, TooLong, ReadFailed, NoMemory, WriteFailed}
 use Rattle.b2.specs.Words.{and_then, Given, nothing_given, with_word, with_words, IsReadingFault}
 
 -- the first words, and then the others
@@ -64,6 +64,9 @@ IsReadingFault-along WrongWords x y along h = along h
 IsReadingFault-along WrongHex x y along h = along h
 IsReadingFault-along NoMemory x y along h = tt
 IsReadingFault-along WrongLength x y along h = h
+IsReadingFault-along (WrongLine number) x y along h = h
+IsReadingFault-along (NoSuchSlot number) x y along h = h
+IsReadingFault-along (LineTooLong number) x y along h = h
 IsReadingFault-along TooLong x y along h = h
 IsReadingFault-along ReadFailed x y along h = h
 IsReadingFault-along WriteFailed x y along h = h

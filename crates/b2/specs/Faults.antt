@@ -1,30 +1,57 @@
 -- The faults of the program: their statuses, texts and causes.
-use Rattle.std.specs.Prelude.{◌≡◌, ◌∷◌, ◌++◌, ℕ, Bool, ⊤, List, [], codes, Option, Result, Err, IfSome, IsOkAnd, IsTrue}
+use Rattle.std.specs.Prelude.{◌≡◌, ◌∷◌, ◌++◌, ℕ, Bool, ⊤, List, [], codes, decimal, Option, Some, None, Result, Err, IfSome, IsOkAnd, IsTrue}
 use Rattle.std.specs.Io.KnownBytes.{Appends}
 use Rattle.b2.specs.declared.fault.Fault.{Fault}
-use Rattle.b2.specs.declared.fault.Fault.TheVariants.{WrongWords, WrongHex, WrongLength, TooLong, ReadFailed, NoMemory, WriteFailed}
+use Rattle.b2.specs.declared.fault.Fault.TheVariants.{WrongWords, WrongHex, WrongLength, WrongLine, NoSuchSlot, LineTooLong, TooLong, ReadFailed, NoMemory, WriteFailed}
 use Rattle.b2.specs.Words.{Task}
-use Rattle.b2.specs.Tasks.{IsRefusedTask, IsTooLongFor}
+use Rattle.b2.specs.Tasks.{IsRefusedTask, IsTooLongFor, IsFaultOfScript}
 
 -- the status that a fault ends with: 2 for the words and the input, 1 for the devices and the memory
 abbrev pub status_of : Fault → ℕ
 status_of WrongWords = 2
 status_of WrongHex = 2
 status_of WrongLength = 2
+status_of (WrongLine number) = 2
+status_of (NoSuchSlot number) = 2
+status_of (LineTooLong number) = 2
 status_of TooLong = 2
 status_of ReadFailed = 1
 status_of NoMemory = 1
 status_of WriteFailed = 1
 
--- the line that a fault prints, with its newline (10)
+-- what a fault says
+abbrev pub fault_text : Fault → List ℕ
+fault_text WrongWords = codes "wrong words"
+fault_text WrongHex = codes "wrong hex"
+fault_text WrongLength = codes "wrong length"
+fault_text (WrongLine number) = codes "wrong line"
+fault_text (NoSuchSlot number) = codes "no such slot"
+fault_text (LineTooLong number) = codes "too long"
+fault_text TooLong = codes "too long"
+fault_text ReadFailed = codes "read failed"
+fault_text NoMemory = codes "no memory"
+fault_text WriteFailed = []
+
+-- the line of a script, from 1, that a fault names
+abbrev pub line_number : Fault → Option ℕ
+line_number (WrongLine number) = Some number
+line_number (NoSuchSlot number) = Some number
+line_number (LineTooLong number) = Some number
+line_number fault = None
+
+-- the place that it names, before its text
+abbrev pub place_text : Option ℕ → List ℕ
+place_text None = []
+place_text (Some number) = codes "line " ++ decimal number ++ codes ": "
+
+-- the line that a fault prints, with its newline (10); a failed output takes none
 abbrev pub fault_line : Fault → List ℕ
-fault_line WrongWords = codes "b2: wrong words" ++ (10 ∷ [])
-fault_line WrongHex = codes "b2: wrong hex" ++ (10 ∷ [])
-fault_line WrongLength = codes "b2: wrong length" ++ (10 ∷ [])
-fault_line TooLong = codes "b2: too long" ++ (10 ∷ [])
-fault_line ReadFailed = codes "b2: read failed" ++ (10 ∷ [])
-fault_line NoMemory = codes "b2: no memory" ++ (10 ∷ [])
 fault_line WriteFailed = []
+fault_line fault = codes "b2: " ++ place_text (line_number fault) ++ fault_text fault ++ 10 ∷ []
+
+-- a task that is not refused has a fault in its script
+abbrev pub IsScriptFault : Fault → Result Task Fault → Option (List ℕ) → Type 0
+IsScriptFault fault task left = IsOkAnd task (λ t. (¬ IsRefusedTask t) × IfSome left (IsFaultOfScript fault t))
 
 -- the cause of a fault: what the words ask for, then what the source had left, and whether a read has
 -- failed. Lengths are looked at once the words are right, and the input is read once the lengths are
@@ -32,6 +59,9 @@ abbrev pub IsDue : Fault → Result Task Fault → Option (List ℕ) → Bool �
 IsDue WrongWords task left failed = task ≡ Err WrongWords
 IsDue WrongHex task left failed = task ≡ Err WrongHex
 IsDue WrongLength task left failed = IsOkAnd task IsRefusedTask
+IsDue (WrongLine number) task left failed = IsScriptFault (WrongLine number) task left
+IsDue (NoSuchSlot number) task left failed = IsScriptFault (NoSuchSlot number) task left
+IsDue (LineTooLong number) task left failed = IsScriptFault (LineTooLong number) task left
 IsDue TooLong task left failed = IsOkAnd task (λ t. (¬ IsRefusedTask t) × IfSome left (IsTooLongFor t))
 IsDue ReadFailed task left failed = IsOkAnd task (λ t. (¬ IsRefusedTask t) × IsTrue failed)
 IsDue NoMemory task left failed = ⊤

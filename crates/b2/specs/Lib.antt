@@ -5,6 +5,8 @@ pub mod Faults
 pub mod Inputs
 pub mod Lines
 pub mod Options
+pub mod Reading
+pub mod Scripts
 pub mod Tasks
 pub mod Witnesses
 pub mod Words

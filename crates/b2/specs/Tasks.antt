@@ -1,18 +1,21 @@
 -- What the tasks of the program take and print.
-use Rattle.std.specs.Prelude.{ℕ, ◌+◌, ◌≤◌, ◌^◌, List, [], length, Option, unwrap_or, IfSome}
+use Rattle.std.specs.Prelude.{◌≡◌, ℕ, ◌+◌, ◌≤◌, ◌^◌, List, [], length, Option, unwrap_or, IfSome, Result, Err, IsOkAnd}
+use Rattle.std.specs.List.{flat_map}
 use Rattle.std.specs.Io.KnownBytes.{Appends}
 use Rattle.blake2.specs.Family.{Family, blake2b, blake2s}
 use Rattle.blake2.specs.Hash.{Input}
 use Rattle.blake2.specs.Keys.{key_count, IsRefused}
 use Rattle.blake2.specs.States.{digest_of, input as input_of_parts}
 use Rattle.blake2.specs.Streams.{line_of}
+use Rattle.b2.specs.declared.fault.Fault.{Fault}
 use Rattle.b2.specs.declared.words.Kind.{Kind}
 use Rattle.b2.specs.declared.words.Kind.TheVariants.{Blake2b128, Blake2b256, Blake2b512, Blake2s128, Blake2s256}
 use Rattle.b2.specs.declared.witness.WitnessKind.{WitnessKind}
 use Rattle.b2.specs.declared.witness.WitnessKind.TheVariants.{Common, Blake2b0, Blake2b8, Blake2s0, Blake2s8}
 use Rattle.b2.specs.Words.{Given, nothing_given, Task}
-use Rattle.b2.specs.Words.Task.{to_sum, to_steps, to_witness}
+use Rattle.b2.specs.Words.Task.{to_sum, to_script, to_steps, to_witness}
 use Rattle.b2.specs.Lines.{transcript_lines}
+use Rattle.b2.specs.Scripts.{script_digests}
 use Rattle.b2.specs.Witnesses.{PrintsWitness}
 
 -- the family of a kind
@@ -62,6 +65,7 @@ input_with given message = input_of_parts (unwrap_or given.salt []) (unwrap_or g
 -- a task has a key, a salt or a persona of a length that is not taken
 abbrev pub IsRefusedTask : Task → Type 0
 IsRefusedTask (to_sum kind given) = IsRefusedBy (family_of kind) given
+IsRefusedTask (to_script kind given) = IsRefusedBy (family_of kind) given
 IsRefusedTask (to_steps kind given) = IsRefusedBy (family_of kind) given
 IsRefusedTask (to_witness kind a b) = ⊥
 
@@ -69,15 +73,27 @@ IsRefusedTask (to_witness kind a b) = ⊥
 abbrev pub IsTooLongBy : Family → Given → List ℕ → Type 0
 IsTooLongBy f given input = 2 ^ 64 ≤ key_count f given.key + length input
 
--- so they would be for a task; `witness` reads no input
+-- so they would be for a task. A script counts the bytes of each slot, and `witness` reads no input
 abbrev pub IsTooLongFor : Task → List ℕ → Type 0
 IsTooLongFor (to_sum kind given) input = IsTooLongBy (family_of kind) given input
+IsTooLongFor (to_script kind given) input = ⊥
 IsTooLongFor (to_steps kind given) input = IsTooLongBy (family_of kind) given input
 IsTooLongFor (to_witness kind a b) input = ⊥
+
+-- the digests that a script answers with what is given
+abbrev pub script_answer : Family → ℕ → Given → List ℕ → Result (List (List ℕ)) Fault
+script_answer f n given script = script_digests (digest_with f n given) (key_count f given.key) script
+
+-- a script has this fault
+abbrev pub IsFaultOfScript : Fault → Task → List ℕ → Type 0
+IsFaultOfScript fault (to_script kind given) input = script_answer (family_of kind) (size_of kind) given input ≡ Err fault
+IsFaultOfScript fault task input = ⊥
 
 -- a sink took the output of a task over an input
 abbrev pub Outputs : Task → List ℕ → Option (List ℕ) → Option (List ℕ) → Type 0
 Outputs (to_sum kind given) input old new = Appends old new (line_of (digest_with (family_of kind) (size_of kind) given input))
+Outputs (to_script kind given) input old new =
+    IsOkAnd (script_answer (family_of kind) (size_of kind) given input) (λ digests. Appends old new (flat_map line_of digests))
 Outputs (to_steps kind given) input old new = Appends old new (transcript_lines (family_of kind) (size_of kind) (input_with given input))
 Outputs (to_witness kind a b) input old new =
     PrintsWitness (compared_family kind) (compared_size kind) (input_with nothing_given a) (input_with nothing_given b) old new

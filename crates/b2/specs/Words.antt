@@ -47,7 +47,7 @@ witness_kind_of word =
     else if bytes_eq word (codes "s8") then Ok Blake2s8
     else and_then (kind_of word) (λ kind. Ok (Common kind))
 
--- the bytes of a message's HEX: two or more hexadecimal digits, an even number, or `-` for none
+-- the bytes of HEX as a message: two or more hexadecimal digits, an even number, or `-` for none
 abbrev pub message_value : List ℕ → Result (List ℕ) Fault
 message_value word =
     if bytes_eq word (codes "-") then Ok []
@@ -90,6 +90,8 @@ with_words given (word ∷ words) = and_then (with_word given word) (λ more. wi
 pub data Task : Type 0 where
   -- `sum KIND [key=HEX] [salt=HEX] [persona=HEX]`
   to_sum : Kind → Given → Task
+  -- `script KIND [key=HEX] [salt=HEX] [persona=HEX]`
+  to_script : Kind → Given → Task
   -- `steps KIND [key=HEX] [salt=HEX] [persona=HEX]`
   to_steps : Kind → Given → Task
   -- `witness KIND HEX HEX`
@@ -122,6 +124,7 @@ abbrev pub task_of : List (List ℕ) → Result Task Fault
 task_of [] = Err WrongWords
 task_of (command ∷ words) =
     if bytes_eq command (codes "sum") then given_task to_sum words
+    else if bytes_eq command (codes "script") then given_task to_script words
     else if bytes_eq command (codes "steps") then given_task to_steps words
     else if bytes_eq command (codes "witness") then witness_task words
     else Err WrongWords

@@ -11,6 +11,7 @@ ghost use Rattle.b2.specs.Tasks.{IsDone};
 ghost use Rattle.b2.specs.Faults.{IsDue, IsTold};
 
 use crate::fault::Fault;
+use crate::script::script;
 use crate::steps::steps;
 use crate::sum::sum;
 use crate::witness::{Comparison, witness};
@@ -23,6 +24,8 @@ use std::alloc::Global;
 enum Command {
     /// `sum KIND [key=HEX] [salt=HEX] [persona=HEX]`: the digest of the input.
     Sum(Kind, Options),
+    /// `script KIND [key=HEX] [salt=HEX] [persona=HEX]`: the digests that the input's calls answer.
+    Script(Kind, Options),
     /// `steps KIND [key=HEX] [salt=HEX] [persona=HEX]`: the transcript of the input.
     Steps(Kind, Options),
     /// `witness KIND HEX HEX`: the pair of steps that two messages with one digest come to.
@@ -42,6 +45,10 @@ impl Command {
             "sum" => {
                 let (kind, options) = kind_and_options(alloc, words)?;
                 Ok(Command::Sum(kind, options))
+            }
+            "script" => {
+                let (kind, options) = kind_and_options(alloc, words)?;
+                Ok(Command::Script(kind, options))
             }
             "steps" => {
                 let (kind, options) = kind_and_options(alloc, words)?;
@@ -106,6 +113,7 @@ fn execute<S: Source, K: Sink>(
 {
     match Command::from_words(alloc, words)? {
         Command::Sum(kind, options) => sum(kind, &options, source, sink),
+        Command::Script(kind, options) => script(alloc, kind, &options, source, sink),
         Command::Steps(kind, options) => steps(alloc, kind, &options, source, sink),
         Command::Witness(comparison) => witness(alloc, &comparison, sink),
     }

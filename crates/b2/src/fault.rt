@@ -1,10 +1,11 @@
 //! Why the program ends without its output.
-ghost use Rattle.std.specs.Prelude.{◌≡◌, ◌↔◌, false, IsTrue};
+ghost use Rattle.std.specs.Prelude.{◌≡◌, ◌≢◌, ◌<◌, ◌↔◌, [], ◌∷◌, ◌++◌, length, false, IsTrue};
 ghost use Rattle.std.specs.Io.KnownBytes.{Appends};
 ghost use Rattle.b2.specs.declared.fault.Fault.TheVariants.{WrongLength, NoMemory, WriteFailed};
 
+use crate::print::Line;
 use blake2::digest::InvalidLength;
-use blake2::engine::{Sink, write_whole};
+use blake2::engine::Sink;
 use std::alloc::AllocError;
 
 /// A fault of the words, the devices or the memory. Each prints one line, but for the last.
@@ -16,6 +17,12 @@ pub(crate) enum Fault {
     WrongHex,
     /// A key, salt or persona of a length that the MAC refuses.
     WrongLength,
+    /// The script's line of this number, from 1, is none.
+    WrongLine(usize),
+    /// The call of this line names a slot that is absent or has ended.
+    NoSuchSlot(usize),
+    /// The update of this line would bring its slot's count to 2^64 bytes.
+    LineTooLong(usize),
     /// Input that would bring the count to 2^64 bytes.
     TooLong,
     /// Standard input answered an error.
@@ -27,19 +34,49 @@ pub(crate) enum Fault {
 }
 
 impl Fault {
-    ghost use Rattle.b2.specs.Faults.{status_of, fault_line};
+    ghost use Rattle.b2.specs.Faults.{status_of, line_number, fault_text, fault_line};
 
-    // The line that the fault prints.
-    fn line(self) -> &'static str
-        ensures { result.now ≡ fault_line self }
+    // The line that the fault prints, without its newline.
+    fn line(self) -> Line
+        requires { self ≢ WriteFailed }
+        ensures text { result ++ 10 ∷ [] ≡ fault_line self }
+        ensures room { length result < 418 }
+    {
+        let mut line = Line::starting(b"b2: ");
+        if let Some(number) = self.script_line() {
+            line.push(b"line ");
+            line.push_decimal(number as u64);
+            line.push(b": ");
+        }
+        line.push(self.cause().as_bytes());
+        line
+    }
+
+    // The line of the script that the fault names.
+    fn script_line(self) -> Option<usize>
+        ensures { result ≡ line_number self }
     {
         match self {
-            Fault::WrongWords => "b2: wrong words\n",
-            Fault::WrongHex => "b2: wrong hex\n",
-            Fault::WrongLength => "b2: wrong length\n",
-            Fault::TooLong => "b2: too long\n",
-            Fault::ReadFailed => "b2: read failed\n",
-            Fault::NoMemory => "b2: no memory\n",
+            Fault::WrongLine(number) | Fault::NoSuchSlot(number) | Fault::LineTooLong(number) => {
+                Some(number)
+            }
+            _ => None,
+        }
+    }
+
+    // What the fault says.
+    fn cause(self) -> &'static str
+        ensures { result.now ≡ fault_text self }
+    {
+        match self {
+            Fault::WrongWords => "wrong words",
+            Fault::WrongHex => "wrong hex",
+            Fault::WrongLength => "wrong length",
+            Fault::WrongLine(_) => "wrong line",
+            Fault::NoSuchSlot(_) => "no such slot",
+            Fault::LineTooLong(_) | Fault::TooLong => "too long",
+            Fault::ReadFailed => "read failed",
+            Fault::NoMemory => "no memory",
             Fault::WriteFailed => "",
         }
     }
@@ -49,7 +86,13 @@ impl Fault {
         ensures { result ≡ status_of self }
     {
         match self {
-            Fault::WrongWords | Fault::WrongHex | Fault::WrongLength | Fault::TooLong => 2,
+            Fault::WrongWords
+            | Fault::WrongHex
+            | Fault::WrongLength
+            | Fault::WrongLine(_)
+            | Fault::NoSuchSlot(_)
+            | Fault::LineTooLong(_)
+            | Fault::TooLong => 2,
             Fault::ReadFailed | Fault::NoMemory | Fault::WriteFailed => 1,
         }
     }
@@ -65,7 +108,7 @@ impl Fault {
         if self == Fault::WriteFailed {
             return 1;
         }
-        match write_whole(sink, self.line().as_bytes()) {
+        match self.line().print(sink) {
             Ok(()) => self.status(),
             Err(_) => 1,
         }

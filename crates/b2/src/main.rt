@@ -6,7 +6,9 @@ ghost use Rattle.std.specs.Prelude.{◌≡◌, false};
 mod command;
 mod fault;
 mod input;
+mod lines;
 mod print;
+mod script;
 mod steps;
 mod sum;
 #[cfg(test)]

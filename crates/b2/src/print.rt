@@ -33,17 +33,28 @@ impl Model for Line {
 }
 
 impl Line {
-    /// A line that begins with this letter.
-    pub(crate) fn starting(letter: u8) -> Line
-        ensures { result ≡ letter ∷ [] }
+    /// A line of no bytes yet.
+    pub(crate) fn new() -> Line
+        ensures { result ≡ [] }
     {
-        let mut bytes = [0; LINE_BYTES];
-        bytes[0] = letter;
-        Line { bytes, length: 1 }
+        Line {
+            bytes: [0; LINE_BYTES],
+            length: 0,
+        }
     }
 
-    // Puts text behind the line.
-    fn push(&mut self, text: &[u8])
+    /// A line that begins with this text.
+    pub(crate) fn starting(text: &[u8]) -> Line
+        requires { length text.now ≤ 418 }
+        ensures { result ≡ text.now }
+    {
+        let mut line = Line::new();
+        line.push(text);
+        line
+    }
+
+    /// Puts text behind the line.
+    pub(crate) fn push(&mut self, text: &[u8])
         requires { length self.old + length text.now ≤ 418 }
         ensures { self.new ≡ self.old ++ text.now }
     {
@@ -53,8 +64,8 @@ impl Line {
         self.length = end;
     }
 
-    // Puts bytes behind the line, two lower-case hexadecimal digits each.
-    fn push_hex(&mut self, bytes: &[u8])
+    /// Puts bytes behind the line, two lower-case hexadecimal digits each.
+    pub(crate) fn push_hex(&mut self, bytes: &[u8])
         requires { length self.old + 2 * length bytes.now ≤ 418 }
         ensures { self.new ≡ self.old ++ encode_lower bytes.now }
     {
@@ -96,8 +107,8 @@ impl Line {
         }
     }
 
-    // Puts a number behind the line, in decimal.
-    fn push_decimal(&mut self, n: u64)
+    /// Puts a number behind the line, in decimal.
+    pub(crate) fn push_decimal(&mut self, n: u64)
         requires { length self.old + length (decimal n) ≤ 418 }
         ensures { self.new ≡ self.old ++ decimal n }
     {

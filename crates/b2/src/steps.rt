@@ -89,7 +89,7 @@ fn print_blake2b<K: Sink>(transcript: &Transcript<u64, 128>, sink: &mut K) -> Re
     ensures lines { OnOk result (Appends (K.held sink.old) (K.held sink.new)
         (words_line blake2b transcript.now.words ++ flat_map entry_line (entries_of transcript.now))) }
 {
-    let mut line = Line::starting(b'w');
+    let mut line = Line::starting(b"w");
     line.add_words_of_64(&transcript.words);
     line.print(sink)?;
     print_entries(transcript.entries.as_slice(), sink)
@@ -132,7 +132,7 @@ fn print_blake2s<K: Sink>(transcript: &Transcript<u32, 64>, sink: &mut K) -> Res
     ensures lines { OnOk result (Appends (K.held sink.old) (K.held sink.new)
         (words_line blake2s transcript.now.words ++ flat_map entry_line (entries_of transcript.now))) }
 {
-    let mut line = Line::starting(b'w');
+    let mut line = Line::starting(b"w");
     line.add_words_of_32(&transcript.words);
     line.print(sink)?;
     print_entries(transcript.entries.as_slice(), sink)
@@ -187,7 +187,7 @@ fn print_entry<K: Sink, const B: usize>(entry: &Entry<B>, sink: &mut K) -> Resul
     ensures fault { IsOkUnless result Fault.WriteFailed }
     ensures line { OnOk result (Appends (K.held sink.old) (K.held sink.new) (entry_line (entry_of entry.now))) }
 {
-    let mut line = Line::starting(b'e');
+    let mut line = Line::starting(b"e");
     line.add_number(entry.counter);
     line.add_flag(entry.last);
     line.add_bytes(&entry.block);

@@ -15,7 +15,7 @@ ghost use Rattle.b2.specs.Witnesses.{PrintsWitness};
 use crate::fault::Fault;
 use crate::input::tell_bytes;
 use crate::print::Line;
-use crate::words::{Kind, bytes_of};
+use crate::words::{Kind, message_of};
 use blake2::engine::{Sink, write_whole};
 use blake2::steps::{Input, Step};
 use blake2::{Blake2bVarCore, Blake2sVarCore};
@@ -72,25 +72,13 @@ impl Comparison {
         let (kind, words) = words.split_first().ok_or(Fault::WrongWords)?;
         let kind = WitnessKind::from_word(kind.as_str())?;
         let (a, words) = words.split_first().ok_or(Fault::WrongWords)?;
-        let a = message_of(alloc, a.as_str())?;
+        let a = message_of(alloc, a.as_bytes())?;
         let (b, words) = words.split_first().ok_or(Fault::WrongWords)?;
-        let b = message_of(alloc, b.as_str())?;
+        let b = message_of(alloc, b.as_bytes())?;
         match words.split_first() {
             None => Ok(Comparison { kind, a, b }),
             Some(_) => Err(Fault::WrongWords),
         }
-    }
-}
-
-// The bytes of a message's HEX: two or more hexadecimal digits, an even number, or `-` for none.
-fn message_of(alloc: Global, word: &str) -> Result<Vec<u8>, Fault>
-    ensures bytes { IfOk result (λ bytes. message_value word.now ≡ Ok bytes.items) }
-    ensures fault { IfErr result (λ fault. IsReadingFault fault (message_value word.now)) }
-{
-    match word {
-        "-" => Ok(Vec::new(alloc)),
-        "" => Err(Fault::WrongHex),
-        digits => bytes_of(alloc, digits),
     }
 }
 
@@ -189,7 +177,7 @@ fn print_blake2b<K: Sink>(step: &Step<u64, 128>, sink: &mut K) -> Result<(), Fau
     ensures fault { IsOkUnless result Fault.WriteFailed }
     ensures line { OnOk result (Appends (K.held sink.old) (K.held sink.new) (step_line blake2b (step_of step.now))) }
 {
-    let mut line = Line::starting(b's');
+    let mut line = Line::starting(b"s");
     line.add_words_of_64(&step.chain);
     line.add_number(step.counter);
     line.add_flag(step.last);
@@ -204,7 +192,7 @@ fn print_blake2s<K: Sink>(step: &Step<u32, 64>, sink: &mut K) -> Result<(), Faul
     ensures fault { IsOkUnless result Fault.WriteFailed }
     ensures line { OnOk result (Appends (K.held sink.old) (K.held sink.new) (step_line blake2s (step_of step.now))) }
 {
-    let mut line = Line::starting(b's');
+    let mut line = Line::starting(b"s");
     line.add_words_of_32(&step.chain);
     line.add_number(step.counter);
     line.add_flag(step.last);

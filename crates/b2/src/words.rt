@@ -2,7 +2,7 @@
 ghost use Rattle.std.specs.Prelude.{◌≡◌, ◌↔◌, [], map, unwrap_or, IsTrue, IfOk, IfErr, OnOk};
 ghost use Rattle.std.specs.String.{string_bytes};
 ghost use Rattle.blake2.specs.Views.{key_of};
-ghost use Rattle.b2.specs.Words.{hex_value, IsReadingFault};
+ghost use Rattle.b2.specs.Words.{hex_value, message_value, IsReadingFault};
 
 use crate::fault::Fault;
 use hex::FromHexError;
@@ -78,9 +78,12 @@ impl Options {
     {
         let (name, digits) = word.split_once('=').ok_or(Fault::WrongWords)?;
         match name {
-            "key" if self.key.is_none() => self.key = Some(bytes_of(alloc, digits)?),
-            "salt" if self.salt.is_none() => self.salt = Some(bytes_of(alloc, digits)?),
-            "persona" if self.persona.is_none() => self.persona = Some(bytes_of(alloc, digits)?),
+            "key" if self.key.is_none() => self.key = Some(bytes_of(alloc, digits.as_bytes())?),
+            "salt" if self.salt.is_none() => self.salt = Some(bytes_of(alloc, digits.as_bytes())?),
+            "persona" if self.persona.is_none() => self.persona = Some(bytes_of(
+                alloc,
+                digits.as_bytes(),
+            )?),
             _ => return Err(Fault::WrongWords),
         }
         Ok(())
@@ -121,8 +124,20 @@ impl Options {
     }
 }
 
+/// The bytes of HEX as a message: two or more hexadecimal digits, an even number, or `-` for none.
+pub(crate) fn message_of(alloc: Global, digits: &[u8]) -> Result<Vec<u8>, Fault>
+    ensures bytes { IfOk result (λ bytes. message_value digits.now ≡ Ok bytes.items) }
+    ensures fault { IfErr result (λ fault. IsReadingFault fault (message_value digits.now)) }
+{
+    match digits {
+        b"-" => Ok(Vec::new(alloc)),
+        b"" => Err(Fault::WrongHex),
+        _ => bytes_of(alloc, digits),
+    }
+}
+
 /// The bytes of an even number of hexadecimal digits of either case, perhaps none.
-pub(crate) fn bytes_of(alloc: Global, digits: &str) -> Result<Vec<u8>, Fault>
+pub(crate) fn bytes_of(alloc: Global, digits: &[u8]) -> Result<Vec<u8>, Fault>
     ensures bytes { IfOk result (λ bytes. hex_value digits.now ≡ Ok bytes.items) }
     ensures fault { IfErr result (λ fault. IsReadingFault fault (hex_value digits.now)) }
 {

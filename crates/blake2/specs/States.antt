@@ -2,7 +2,7 @@
 use Rattle.std.specs.Prelude.{◌≡◌, ℕ, ◌+◌, List, ◌++◌, length, take, Option}
 use Rattle.blake2_rows.specs.Family.{Family}
 use Rattle.blake2_words.specs.Hash.{Flags, final, bytes_of, last_chain, Parameters, start, key_block, Input, digest}
-use Rattle.blake2_digest.specs.States.{Meaning}
+pub use Rattle.blake2_digest.specs.States.{Fresh, Meaning}
 
 -- chaining words h, counter c, pending bytes p, start words h0, and the start block k: the padded key
 -- block, or nothing

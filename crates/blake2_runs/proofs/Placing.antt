@@ -1,5 +1,5 @@
 -- The place that a fault names is that of the first bad call.
-use Rattle.std.proofs.Common.{◌≡◌, ℕ, suc, ◌+◌, ◌^◌, List, [], ◌∷◌, length, take, Bool, true, false, Option, Some, None, Result, Ok, Err, IsOk, IsErr, if◌then◌else◌, nat_lt, get_or, add-one, ◌⊎◌, inl, inr, refl, ap, subst, ◌∙◌, arith}
+use Rattle.std.proofs.Common.{◌≡◌, ℕ, suc, ◌+◌, ◌^◌, ◌<◌, List, [], ◌∷◌, length, take, Bool, true, false, Option, Some, None, Result, Ok, Err, IsOk, IsErr, if◌then◌else◌, nat_lt, get_or, add-one, ◌⊎◌, inl, inr, refl, ap, subst, ◌∙◌, arith}
 use Rattle.blake2_digest.specs.States.{Meaning}
 use Rattle.blake2_runs.specs.declared.calls.Call.{Call}
 use Rattle.blake2_runs.specs.declared.calls.Call.TheVariants.{Update, Clone, Reset, Finalize, FinalizeReset}
@@ -58,6 +58,7 @@ module _ {S : Type 0} (m : Meaning S) (first : S) where
   -- n calls from place i on answer digests, and one more does not
   record StopsAfter (calls : List Call) (slots : Slots) (i : ℕ) (fault : ReplayFault) : Type 0 where
     count : ℕ
+    within : count < length calls
     before : IsOk (play_from m first (take count calls) slots i)
     bad : IsErr (play_from m first (take (suc count) calls) slots i)
     place : IsAt (i + count) fault
@@ -66,6 +67,7 @@ module _ {S : Type 0} (m : Meaning S) (first : S) where
   stops_here : (call : Call) (calls : List Call) (slots : Slots) (i : ℕ) (fault : ReplayFault) → play_call m first slots i call ≡ Err fault → StopsAfter (call ∷ calls) slots i fault
   stops_here call calls slots i fault is = record {
     count = 0;
+    within = omega arith;
     before = refl;
     bad = rw is refl;
     place = let here : i ≡ i + 0 = omega arith in subst (λ (j : ℕ). IsAt j fault) here (call_fault slots i call fault is);
@@ -76,6 +78,7 @@ module _ {S : Type 0} (m : Meaning S) (first : S) where
       → StopsAfter (call ∷ calls) slots i fault
   stops_later call calls slots i fault left is rest = record {
     count = suc rest.count;
+    within = omega (arith, rest.within);
     before = rw is (ok_after left.digests _ rest.before);
     bad = rw is (err_after left.digests _ rest.bad);
     place = let there : i + 1 + rest.count ≡ i + suc rest.count = omega arith in subst (λ (j : ℕ). IsAt j fault) there rest.place;
@@ -94,15 +97,15 @@ module _ {S : Type 0} (m : Meaning S) (first : S) where
   stops (call ∷ calls) slots i fault e = stops_by call calls slots i fault (play_call m first slots i call) refl (λ next. stops calls next (i + 1) fault) e
 
   -- n calls from the first on are those before place n
-  first_bad : (calls : List Call) (j n : ℕ) → j ≡ 0 + n → IsOk (play m first (take n calls)) → IsErr (play m first (take (suc n) calls)) → IsFirstBad m first calls j
-  first_bad calls j n at before bad =
+  first_bad : (calls : List Call) (j n : ℕ) → j ≡ 0 + n → n < length calls → IsOk (play m first (take n calls)) → IsErr (play m first (take (suc n) calls)) → IsFirstBad m first calls j
+  first_bad calls j n at within before bad =
       let same : j ≡ n = omega arith in
-      record { before = rw same before; bad = rw (same, add-one) bad }
+      record { within = rw same within; before = rw same before; bad = rw (same, add-one) bad }
 
   -- the place that a fault names is where the list stops
   placed : (calls : List Call) (fault : ReplayFault) → StopsAfter calls (Some (since_beginning []) ∷ []) 0 fault → NamesFirstBad m first calls fault
-  placed calls (NoSuchSlot j) s = first_bad calls j s.count s.place s.before s.bad
-  placed calls (TooLong j) s = first_bad calls j s.count s.place s.before s.bad
+  placed calls (NoSuchSlot j) s = first_bad calls j s.count s.place s.within s.before s.bad
+  placed calls (TooLong j) s = first_bad calls j s.count s.place s.within s.before s.bad
   placed calls Memory s = tt
 
   -- a fault that is not want of memory names the place of the first bad call

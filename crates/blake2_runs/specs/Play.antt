@@ -3,7 +3,7 @@
 -- The definition knows the first slot's state by its meaning alone. A slot is what it has taken: its digest is the one that the
 -- first state gives after those bytes, or, once the slot was reset, the one that the first state gives after a reset and those
 -- bytes. No slot holds a state.
-use Rattle.std.specs.Prelude.{⊤, ℕ, ◌+◌, ◌^◌, List, [], ◌∷◌, ◌++◌, length, nat_lt, if◌then◌else◌, Option, Some, None, Result, Ok, Err, IsOk, IsErr, take, slice_index_or, slice_set}
+use Rattle.std.specs.Prelude.{⊤, ℕ, ◌+◌, ◌^◌, ◌<◌, List, [], ◌∷◌, ◌++◌, length, nat_lt, if◌then◌else◌, Option, Some, None, Result, Ok, Err, IsOk, IsErr, take, slice_index_or, slice_set}
 use Rattle.blake2_digest.specs.States.{Meaning}
 use Rattle.blake2_runs.specs.declared.calls.Call.{Call}
 use Rattle.blake2_runs.specs.declared.calls.Call.TheVariants.{Update, Clone, Reset, Finalize, FinalizeReset}
@@ -91,8 +91,10 @@ play_from m first (call ∷ calls) slots i = and_then (play_call m first slots i
 abbrev pub play : {S : Type 0} → Meaning S → S → List Call → Result (List (List ℕ)) ReplayFault
 play m first calls = play_from m first calls (Some (since_beginning []) ∷ []) 0
 
--- the call at place i is the first bad one: the calls before it answer digests, and together with it they do not
+-- the call at place i is the first bad one: it is one of the calls, those before it answer digests, and together with it they do
+-- not
 pub record IsFirstBad {S : Type 0} (m : Meaning S) (first : S) (calls : List Call) (i : ℕ) : Type 0 where
+  pub within : i < length calls
   pub before : IsOk (play m first (take i calls))
   pub bad : IsErr (play m first (take (i + 1) calls))
 

@@ -132,9 +132,12 @@ where
     ensures bad_call { IsErr (play H.meaning first calls.now) → IsErr result }
 
     // Of a state that was just made each digest is the constructor's, of the bytes since the last
-    // start of the slot.
+    // start of the slot; and the fault is that of such a state.
     ensures fresh { (digest : List ℕ → List ℕ) (n : ℕ) → Fresh H.meaning digest n first
         → IfOk result (λ digests. play_fresh digest n calls.now ≡ Ok digests.items) }
+    ensures fresh_fault { (digest : List ℕ → List ℕ) (n : ℕ) → Fresh H.meaning digest n first
+        → IfErr result (λ fault.
+        (fault ≡ ReplayFault.Memory) ⊎ (play_fresh digest n calls.now ≡ Err fault)) }
 {
     let mut states: Vec<Option<H>> = Vec::new(alloc);
     push(&mut states, Some(first))?;

@@ -41,6 +41,15 @@ returns-in_err-replay_call-clause-fault g c =
     rw (given.1, given.2)
     (play_stops m c.args.first _ c.args.calls.now now.slots c.calls.digests.items c.calls.place _ _ c.calls-test.true now.rest (c.in_err-replay_call.ensures c.args.first now.slots now.held))
 
+pub returns-in_err-replay_call-clause-fresh_fault : goal.returns-in_err-replay_call-clause-fresh_fault
+returns-in_err-replay_call-clause-fresh_fault g c =
+    let m = g.H.Update.meaning in
+    let now = c.calls.invariant in
+    let given = err_from_is_err_and c.from_residual-in_err-replay_call.result c.from_residual-in_err-replay_call.ensures.1 in
+    rw (given.1, given.2) (λ digest n fresh.
+    rw (← play_same m c.args.first digest n fresh c.args.calls.now)
+    (play_stops m c.args.first _ c.args.calls.now now.slots c.calls.digests.items c.calls.place _ _ c.calls-test.true now.rest (c.in_err-replay_call.ensures c.args.first now.slots now.held)))
+
 pub returns-in_err-replay_call-clause-place : goal.returns-in_err-replay_call-clause-place
 returns-in_err-replay_call-clause-place g c =
     let m = g.H.Update.meaning in
