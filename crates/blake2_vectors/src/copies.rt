@@ -227,6 +227,11 @@ fn check_digest_calls<H: Digest<N> + Drop, const N: usize>(
     let mut hasher = H::new().chain_update(first);
     Digest::reset(&mut hasher);
     check_output(rt, hasher, second, of_second.as_slice());
+    let mut hasher = H::new().chain_update(first);
+    Digest::update(&mut hasher, second);
+    let mut output = [0; N];
+    Digest::finalize_into(hasher, &mut output);
+    assert!(rt; output.as_slice() == of_both.as_slice());
     let hasher = H::new().chain_update(first);
     check_output(rt, hasher, second, of_both.as_slice());
 }
