@@ -23,6 +23,8 @@ best time of each counts. A ratio is the candidate's speed over that of the colu
 A peer that is absent is named on standard error and left out. Debian's packages have them: libb2-dev,
 libssl-dev, and librust-blake2b-simd-dev with librust-blake2s-simd-dev.
 
+It needs Python 3.11 or later, whose hashlib has file_digest.
+
 usage: bench/speed.py [--mebibytes N] [--turns N] [--only long|kernel|short]
 """
 import argparse
@@ -73,8 +75,8 @@ class Column:
     text: Callable
 
     def best_peer(self):
-        """The name of the fastest candidate that is not this project's; None where there is none."""
-        return min((name for name in self.best if not name.startswith("ours")), key=self.best.get, default=None)
+        """The name of the fastest candidate that is not this project's."""
+        return min((name for name in self.best if not name.startswith("ours")), key=self.best.get)
 
 
 def say(text):
@@ -300,7 +302,8 @@ class Memory:
             sys.exit("speed: the tables in memory need a C compiler (cc)")
         self.clock = ctypes.CDLL(path).nanoseconds
         self.clock.restype = ctypes.c_double
-        self.clock.argtypes = [ctypes.c_void_p, ctypes.c_void_p, ctypes.c_size_t, ctypes.c_char_p, ctypes.c_long]
+        self.clock.argtypes = [ctypes.c_void_p, ctypes.c_void_p, ctypes.c_size_t, ctypes.c_char_p,
+                               ctypes.c_long]
         self.turns = turns
         self.libraries = libraries()
 
@@ -318,14 +321,13 @@ class Memory:
             sys.exit(f"speed: {name} gave another digest of {length} bytes")
         return loop
 
-    def best(self, kind, length, with_python=False):
-        """The best time in nanoseconds of each library's digest of a message of so many bytes."""
+    def best(self, kind, length):
+        """The best time in nanoseconds of a digest of so many bytes by each library, and through Python."""
         say(f"timing libraries at {kind.title} of {length:,} bytes")
         message = mmap.mmap(-1, max(length, 1))
         message[:] = os.urandom(len(message))
         timers = {name: loop_timer(self.loop(name, kind, message, length)) for name in self.libraries}
-        if with_python:
-            timers["hashlib through Python"] = loop_timer(python_loop(kind, message[:length]))
+        timers["hashlib through Python"] = loop_timer(python_loop(kind, message[:length]))
         return best_of(self.turns, timers)
 
 
@@ -352,8 +354,8 @@ def print_table(corner, columns, last=None):
     for name in dict.fromkeys(name for column in columns for name in column.best):
         row = [name]
         for column in columns:
-            taken, peer = column.best.get(name), column.best.get(column.best_peer())
-            row += [column.text(taken) if taken else "", f"{peer / taken:.2f}" if taken and peer else ""]
+            taken, fastest = column.best.get(name), column.best[column.best_peer()]
+            row += [column.text(taken), f"{fastest / taken:.2f}"] if taken else ["", ""]
         print_row(row + ([cells.get(name, "")] if last else []))
     print(flush=True)
 
@@ -404,7 +406,7 @@ def print_short(memory):
     for kind in KINDS:
         columns = []
         for length in SHORT_BYTES:
-            best = memory.best(kind, length, with_python=True)
+            best = memory.best(kind, length)
             columns.append(Column(f"{length:,} bytes, ns", best, "{:.0f}".format))
         print_table(f"one {kind.title} digest", columns)
 
@@ -412,7 +414,8 @@ def print_short(memory):
 def machine():
     """The processor's name, its cores, and the load as the timing begins."""
     with open("/proc/cpuinfo") as info:
-        model = next((line.split(":", 1)[1].strip() for line in info if line.startswith("model name")), "unknown")
+        models = [line.split(":", 1)[1].strip() for line in info if line.startswith("model name")]
+    model = models[0] if models else "an unknown processor"
     return f"{os.cpu_count()} cores of {model}, load {os.getloadavg()[0]:.1f}"
 
 
