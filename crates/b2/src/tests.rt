@@ -64,25 +64,49 @@ fn refuses(alloc: Global, text: &str, line: &str) -> Result<bool, AllocError> {
 }
 
 // Whether the command, at an output that fails after each number of bytes below the whole output's,
-// prints just so many, a beginning of it, and answers status 1.
+// and at one that has room for no more than these, prints just so many, a beginning of the whole, and
+// answers status 1.
 fn stops_at_each_byte(alloc: Global, text: &str, input: &[u8]) -> Result<bool, AllocError> {
     let words = words_of(alloc, text)?;
     let (_, whole) = run_over(alloc, text, input, None)?;
-    let mut room = Vec::from_slice(alloc, whole.as_slice())?;
+    let whole = whole.as_slice();
+    let mut room = Vec::from_slice(alloc, whole)?;
     for length in 0..whole.len() {
-        room.fill(0);
-        let mut source = SliceSource::new(input, 4096, None);
-        let mut sink = SliceSink::new(room.as_mut_slice(), 4096, Some(length));
-        let status = run(alloc, words.as_slice(), &mut source, &mut sink);
-        if status != 1 || sink.written() != length {
+        let room = room.as_mut_slice();
+        if !prints_beginning(
+            alloc,
+            words.as_slice(),
+            input,
+            room,
+            Some(length),
+            &whole[..length],
+        ) {
             return Ok(false);
         }
-        if !whole
-            .as_slice()
-            .starts_with(room.get(..length).unwrap_or(&[]))
-        {
+        let Some(room) = room.get_mut(..length) else {
+            return Ok(false);
+        };
+        if !prints_beginning(alloc, words.as_slice(), input, room, None, &whole[..length]) {
             return Ok(false);
         }
     }
     Ok(true)
+}
+
+// Whether a command at this room, where the output fails after so many bytes, prints just this
+// beginning and answers status 1.
+fn prints_beginning(
+    alloc: Global,
+    words: &[String],
+    input: &[u8],
+    room: &mut [u8],
+    fail_at: Option<usize>,
+    beginning: &[u8],
+) -> bool {
+    room.fill(0);
+    let mut source = SliceSource::new(input, 4096, None);
+    let mut sink = SliceSink::new(room, 4096, fail_at);
+    let status = run(alloc, words, &mut source, &mut sink);
+    let written = sink.written();
+    status == 1 && room.get(..written) == Some(beginning)
 }

@@ -221,9 +221,12 @@ fn input_fails(rt: HostRuntime) -> Result<(), Fail> {
 
 #[test]
 fn output_fails(rt: HostRuntime) -> Result<(), Fail> {
+    let lines = b"u 0 6162\nc 0\nu 0 63\nd 0\nu 1 63\nf 1\nf 0\n";
+    assert!(rt; stops_at_each_byte(rt.alloc(), "script b512", lines)?);
     assert!(rt; stops_at_each_byte(rt.alloc(), "script b128", b"d 0\nu 0 61\nf 0\n")?);
     assert!(rt; stops_at_each_byte(rt.alloc(), "script s128 key=01", b"d 0\nf 0\n")?);
     assert!(rt; stops_at_each_byte(rt.alloc(), "script s128", b"f 0\nf 0\n")?);
+    assert!(rt; stops_at_each_byte(rt.alloc(), "script s128", b"f 0\nx 0\n")?);
     Ok(())
 }
 
