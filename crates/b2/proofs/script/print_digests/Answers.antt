@@ -1,4 +1,4 @@
-use Rattle.std.proofs.Common.{◌≡◌, map, Ok, IfSome, rules}
+use Rattle.std.proofs.Common.{◌≡◌, map, Ok, IfSome}
 use Rattle.std.proofs.KnownBytes.{Keeps-refl}
 use Rattle.blake2.specs.Play.{play_fresh}
 use Rattle.b2.specs.Reading.{call_value, unplaced}

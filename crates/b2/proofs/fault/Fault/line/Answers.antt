@@ -1,4 +1,4 @@
-use Rattle.std.proofs.Common.{◌≡◌, ℕ, ◌+◌, ◌≤◌, List, ◌++◌, length, length-append, Option, Some, None, codes, decimal, ap, ◌∙◌, arith, rules}
+use Rattle.std.proofs.Common.{◌≤◌, ◌++◌, length, length-append, codes, decimal, arith, rules}
 use Rattle.std.proofs.lemmas.Fmt.{length-decimal-le}
 use Rattle.b2.specs.declared.fault.Fault.{Fault}
 use Rattle.b2.specs.declared.fault.Fault.TheVariants.{WrongWords, WrongHex, WrongLength, WrongLine, NoSuchSlot, LineTooLong, TooLong, ReadFailed, NoMemory, WriteFailed}
