@@ -1,10 +1,11 @@
 //! BLAKE2s: words of 32 bits, blocks of 64 bytes, ten rounds.
 
-ghost use Rattle.std.specs.Prelude.{◌≡◌, take, drop};
-ghost use Rattle.blake2_rows.specs.Family.{blake2s};
+ghost use Rattle.std.specs.Prelude.{◌≡◌, ◌%◌, [], take, drop, slice_index_or};
+ghost use Rattle.blake2_rows.specs.Family.{blake2s, sigma};
+ghost use Rattle.blake2_rows.specs.Round;
 ghost use Rattle.blake2_rows.specs.Rows.{eight, sixteen};
 ghost use Rattle.blake2_words.specs.Hash;
-ghost use Rattle.blake2_words.specs.Hash.{before_rounds, bytes_of, flags, words_of, xor_words};
+ghost use Rattle.blake2_words.specs.Hash.{after_rounds, before_rounds, bytes_of, flags, words_of, xor_words};
 
 use crate::consts::{BLAKE2S_IV, SIGMA};
 use blake2_rows::rows::u32x4;
@@ -38,6 +39,32 @@ fn begin(h: [u32x4; 2], counter: u64, last: bool) -> [u32x4; 4]
     [h[0], h[1], low, high ^ marks]
 }
 
+// The round that comes after `i` others.
+#[inline(always)]
+fn round_at(v: &mut [u32x4; 4], m: &[u32; 16], i: usize)
+    ensures { sixteen v.new ≡ Round.round blake2s (sixteen v.old) m.now (slice_index_or sigma (i % 10) []) }
+{
+    u32x4::round(v, m, &SIGMA[i % 10]);
+}
+
+// The ten rounds. They are written out, since a loop would look up in SIGMA, as it runs, where each
+// word of the block stands.
+#[inline(always)]
+fn rounds(v: &mut [u32x4; 4], m: &[u32; 16])
+    ensures { sixteen v.new ≡ after_rounds blake2s (sixteen v.old) m.now 10 }
+{
+    round_at(v, m, 0);
+    round_at(v, m, 1);
+    round_at(v, m, 2);
+    round_at(v, m, 3);
+    round_at(v, m, 4);
+    round_at(v, m, 5);
+    round_at(v, m, 6);
+    round_at(v, m, 7);
+    round_at(v, m, 8);
+    round_at(v, m, 9);
+}
+
 // The chaining words with both halves of the rows xored into them.
 #[tactic(auto, unfolding(crate::specs::Hash::xor_words))]
 #[inline(always)]
@@ -56,9 +83,7 @@ pub fn compress(h: &mut [u32x4; 2], block: &[u8; 64], counter: u64, last: bool)
 {
     let m = block_words(block);
     let mut v = begin(*h, counter, last);
-    for i in 0..10 {
-        u32x4::round(&mut v, &m, &SIGMA[i % 10]);
-    }
+    rounds(&mut v, &m);
     *h = finish(*h, v);
 }
 
