@@ -11,7 +11,7 @@ use Rattle.blake2_rows.specs.Round.{AreWords}
 use Rattle.blake2_rows.specs.Rows.{four, word_at, lane_bytes}
 
 -- a word has as many values as its bytes have together
-words_counted : (f : Family) → 2 ^ bits (word f) ≡ 256 ^ word_bytes f
+pub words_counted : (f : Family) → 2 ^ bits (word f) ≡ 256 ^ word_bytes f
 words_counted blake2b = refl
 words_counted blake2s = refl
 

@@ -1,5 +1,6 @@
 pub mod Bytes
 pub mod RoundByRows
 pub mod Rotations
+pub mod ByteTurns
 pub mod Words
 pub mod Undoing

@@ -28,18 +28,24 @@ places_changed j k h l low high =
     rw rest (ap (λ (x : ℕ). x % 2 ^ (j + k)) whole ∙ mod-mul-add h (2 ^ (j + k)) (l * 2 ^ j) (scaled_lt j k l low)) in
     rw (shr_high h k l low, kept) (or_shifted_r l j h high)
 
+-- turned by k bits, a number is its low k bits above the others
+turned-sum : (w n k : ℕ) → k ≤ w → n < 2 ^ w → turned w n k ≡ n % 2 ^ k * 2 ^ (w - k) + n / 2 ^ k
+turned-sum w n k le fits =
+    let j : ℕ = w - k in
+    let width : w ≡ j + k = omega arith in
+    let high : n / 2 ^ k < 2 ^ j = shr_below n j k (subst (λ (i : ℕ). n < 2 ^ i) width fits) in
+    let low : n % 2 ^ k < 2 ^ k = mod-lt n (pow_pos k) in
+    let parts : n / 2 ^ k * 2 ^ k + n % 2 ^ k ≡ n = shr_split n k in
+    ap (λ (x : ℕ). turned w x k) (sym parts) ∙ ap (λ (i : ℕ). turned i (n / 2 ^ k * 2 ^ k + n % 2 ^ k) k) width ∙ places_changed j k (n / 2 ^ k) (n % 2 ^ k) low high
+
 -- turned by k bits and then by the rest of the width, a number is itself again
 turned_back : (w n k : ℕ) → k ≤ w → n < 2 ^ w → turned w (turned w n k) (w - k) ≡ n
 turned_back w n k le fits =
     let j : ℕ = w - k in
-    let width : w ≡ j + k = omega arith in
     let turned_width : w ≡ k + j = omega arith in
-    let high : n / 2 ^ k < 2 ^ j = shr_below n j k (subst (λ (i : ℕ). n < 2 ^ i) width fits) in
+    let high : n / 2 ^ k < 2 ^ j = shr_below n j k (subst (λ (i : ℕ). n < 2 ^ i) (omega arith) fits) in
     let low : n % 2 ^ k < 2 ^ k = mod-lt n (pow_pos k) in
-    let parts : n / 2 ^ k * 2 ^ k + n % 2 ^ k ≡ n = shr_split n k in
-    let once : turned w n k ≡ n % 2 ^ k * 2 ^ j + n / 2 ^ k =
-    ap (λ (x : ℕ). turned w x k) (sym parts) ∙ ap (λ (i : ℕ). turned i (n / 2 ^ k * 2 ^ k + n % 2 ^ k) k) width ∙ places_changed j k (n / 2 ^ k) (n % 2 ^ k) low high in
-    ap (λ (x : ℕ). turned w x j) once ∙ ap (λ (i : ℕ). turned i (n % 2 ^ k * 2 ^ j + n / 2 ^ k) j) turned_width ∙ places_changed k j (n % 2 ^ k) (n / 2 ^ k) high low ∙ parts
+    ap (λ (x : ℕ). turned w x j) (turned-sum w n k le fits) ∙ ap (λ (i : ℕ). turned i (n % 2 ^ k * 2 ^ j + n / 2 ^ k) j) turned_width ∙ places_changed k j (n % 2 ^ k) (n / 2 ^ k) high low ∙ shr_split n k
 
 -- a word has bits
 bits_pos : (f : Family) → 0 < bits (word f)
@@ -107,3 +113,11 @@ rotate_left-rotate_right f n r fits = left_by-right_by (bits (word f)) n (r % bi
 -- and in the other order
 pub rotate_right-rotate_left : (f : Family) (n r : ℕ) → n < 2 ^ bits (word f) → rotate_right (word f) (rotate_left (word f) n r) r ≡ n
 rotate_right-rotate_left f n r fits = right_by-left_by (bits (word f)) n (r % bits (word f)) (mod-lt r (bits_pos f)) fits
+
+-- a word rotated to the right by r bits, as a sum: its low r bits above the others
+pub rotate_right-sum : (f : Family) (n r : ℕ) → 0 < r → r < bits (word f) → n < 2 ^ bits (word f)
+    → rotate_right (word f) n r ≡ n % 2 ^ r * 2 ^ (bits (word f) - r) + n / 2 ^ r
+rotate_right-sum f n r some low fits =
+    let w : ℕ = bits (word f) in
+    let within : r % w ≡ r = mod-eq_of_lt low in
+    ap (λ (k : ℕ). right_by w n k) within ∙ right_by-turned w n r (omega arith) low ∙ turned-sum w n r (omega arith) fits

@@ -3,7 +3,7 @@ ghost use Rattle.std.specs.Prelude.{◌≡◌, ℕ, ◌+◌, ◌%◌, ◌^◌, �
 ghost use mir.Val.{bits};
 ghost use Rattle.blake2_rows.specs.Family.{blake2s, word};
 ghost use Rattle.blake2_rows.specs.Round.{AreWords, mix, round};
-ghost use Rattle.blake2_rows.specs.Rows.{four, lane_sums, lane_xors, lane_rotations, shuffle_left, shuffle_right, word_at, lane_bytes, sixteen, columns, shuffled_rows};
+ghost use Rattle.blake2_rows.specs.Rows.{four, lane_sums, lane_xors, lane_rotations, shuffle_left, shuffle_right, word_at, lane_bytes, sixteen, columns, last_row_turned, shuffled_rows};
 
 use blake2_digest::Wipe;
 use std::marker::Model;
@@ -176,6 +176,19 @@ impl u32x4 {
         self.lanes.to_array()
     }
 
+    // Each lane rotated to the right by R3 bits, which are one whole byte, and the lanes then moved two
+    // places to the left: both at once, as one choice of bytes.
+    #[inline(always)]
+    fn rotate_and_shuffle(self) -> Self
+        ensures { result ≡ shuffle_left 2 (lane_rotations blake2s self 8) }
+    {
+        let bytes = self.lanes.to_le_bytes();
+        let chosen = bytes.swizzle([9, 10, 11, 8, 13, 14, 15, 12, 1, 2, 3, 0, 5, 6, 7, 4]);
+        Self {
+            lanes: Simd::<u32, 4>::from_le_bytes(chosen),
+        }
+    }
+
     // The sum of three rows, lane by lane, modulo 2^32.
     #[inline(always)]
     fn sum_of(a: Self, b: Self, x: Self) -> Self
@@ -188,21 +201,30 @@ impl u32x4 {
         }
     }
 
-    // Four mixings at once: lane j of the six rows has the words of the j-th.
+    // Four mixings at once, but for the last rotation of row d, by R3 bits: lane j of the six rows has
+    // the words of the j-th.
     #[inline(always)]
     fn mix(a: Self, b: Self, c: Self, d: Self, x: Self, y: Self) -> (Self, Self, Self, Self)
-        ensures { sixteen (result.0 ∷ result.1 ∷ result.2 ∷ result.3 ∷ [])
-            ≡ columns blake2s (sixteen (a ∷ b ∷ c ∷ d ∷ [])) x y }
+        ensures { last_row_turned blake2s result ≡ columns blake2s (sixteen (a ∷ b ∷ c ∷ d ∷ [])) x y }
     {
         let a1 = Self::sum_of(a, b, x);
         let d1 = (d ^ a1).rotate_right_const(R1);
         let c1 = c + d1;
         let b1 = (b ^ c1).rotate_right_const(R2);
         let a2 = Self::sum_of(a1, b1, y);
-        let d2 = (d1 ^ a2).rotate_right_const(R3);
-        let c2 = c1 + d2;
+        let d2 = d1 ^ a2;
+        let c2 = c1 + d2.rotate_right_const(R3);
         let b2 = (b1 ^ c2).rotate_right_const(R4);
         (a2, b2, c2, d2)
+    }
+
+    // Half a round, but for the last rotation of row 3.
+    #[inline(always)]
+    fn mix_rows(v: [Self; 4], x: Self, y: Self) -> (Self, Self, Self, Self)
+        ensures { last_row_turned blake2s result ≡ columns blake2s (sixteen v) x y }
+    {
+        let [a, b, c, d] = v;
+        Self::mix(a, b, c, d, x, y)
     }
 
     /// Half a round: the mixings of the four columns of `v` at once, column j with lane j of `x`
@@ -211,36 +233,36 @@ impl u32x4 {
     pub fn half_round(v: [Self; 4], x: Self, y: Self) -> [Self; 4]
         ensures { sixteen result ≡ columns blake2s (sixteen v) x y }
     {
-        let [a, b, c, d] = v;
-        let (a, b, c, d) = Self::mix(a, b, c, d, x, y);
-        [a, b, c, d]
+        let (a, b, c, d) = Self::mix_rows(v, x, y);
+        [a, b, c, d.rotate_right_const(R3)]
     }
 
-    // The diagonals become columns. Row 1, which `mix` computes last, stays in place.
+    // The last row is rotated, and the diagonals become columns. Row 1, which `mix` computes last,
+    // stays in place.
     #[inline(always)]
-    fn diagonals_to_columns(v: [Self; 4]) -> [Self; 4]
-        ensures { sixteen result ≡ shuffled_rows 3 0 1 2 (sixteen v) }
+    fn diagonals_to_columns(rows: (Self, Self, Self, Self)) -> [Self; 4]
+        ensures { sixteen result ≡ shuffled_rows 3 0 1 2 (last_row_turned blake2s rows) }
     {
-        let [a, b, c, d] = v;
+        let (a, b, c, d) = rows;
         [
             a.shuffle_left_3(),
             b,
             c.shuffle_left_1(),
-            d.shuffle_left_2(),
+            d.rotate_and_shuffle(),
         ]
     }
 
-    // The columns become diagonals again.
+    // The last row is rotated, and the columns become diagonals again.
     #[inline(always)]
-    fn columns_to_diagonals(v: [Self; 4]) -> [Self; 4]
-        ensures { sixteen result ≡ shuffled_rows 1 0 3 2 (sixteen v) }
+    fn columns_to_diagonals(rows: (Self, Self, Self, Self)) -> [Self; 4]
+        ensures { sixteen result ≡ shuffled_rows 1 0 3 2 (last_row_turned blake2s rows) }
     {
-        let [a, b, c, d] = v;
+        let (a, b, c, d) = rows;
         [
             a.shuffle_left_1(),
             b,
             c.shuffle_left_3(),
-            d.shuffle_left_2(),
+            d.rotate_and_shuffle(),
         ]
     }
 
@@ -251,12 +273,12 @@ impl u32x4 {
         requires { (j : ℕ) → j < 16 → slice_index s.now j < 16 }
         ensures { sixteen v.new ≡ round blake2s (sixteen v.old) m.now s.now }
     {
-        let columns = Self::half_round(
+        let columns = Self::mix_rows(
             *v,
             Self::gather(m, s[0], s[2], s[4], s[6]),
             Self::gather(m, s[1], s[3], s[5], s[7]),
         );
-        let diagonals = Self::half_round(
+        let diagonals = Self::mix_rows(
             Self::diagonals_to_columns(columns),
             Self::gather(m, s[14], s[8], s[10], s[12]),
             Self::gather(m, s[15], s[9], s[11], s[13]),

@@ -8,10 +8,10 @@ unfolding mix columns
 returns c =
     rw (
       c.rotate_right_const-b2.ensures,
-      c.bitxor-4.ensures,
-      c.add-c2.ensures,
-      c.rotate_right_const-d2.ensures,
       c.bitxor-3.ensures,
+      c.add-c2.ensures,
+      c.rotate_right_const.ensures,
+      c.bitxor-d2.ensures,
       c.sum_of-a2.ensures,
       c.rotate_right_const-b1.ensures,
       c.bitxor-2.ensures,
