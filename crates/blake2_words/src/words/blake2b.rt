@@ -38,7 +38,8 @@ fn begin(h: [u64x4; 2], counter: u64, last: bool) -> [u64x4; 4]
     [h[0], h[1], low, high ^ marks]
 }
 
-// The round that comes after `i` others.
+// The round that comes after `i` others, which takes the words of the block in the order of a row of
+// SIGMA (RFC 7693, 2.7).
 #[inline(always)]
 fn round_at(v: &mut [u64x4; 4], m: &[u64; 16], i: usize)
     ensures { sixteen v.new ≡ Round.round blake2b (sixteen v.old) m.now (slice_index_or sigma (i % 10) []) }

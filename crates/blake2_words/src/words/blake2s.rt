@@ -39,7 +39,8 @@ fn begin(h: [u32x4; 2], counter: u64, last: bool) -> [u32x4; 4]
     [h[0], h[1], low, high ^ marks]
 }
 
-// The round that comes after `i` others.
+// The round that comes after `i` others, which takes the words of the block in the order of a row of
+// SIGMA (RFC 7693, 2.7).
 #[inline(always)]
 fn round_at(v: &mut [u32x4; 4], m: &[u32; 16], i: usize)
     ensures { sixteen v.new ≡ Round.round blake2s (sixteen v.old) m.now (slice_index_or sigma (i % 10) []) }
