@@ -1,3 +1,4 @@
+pub use Rattle.blake2_digest.proofs.Texts
 pub mod Bytes
 pub mod RoundByRows
 pub mod Rotations

@@ -1,11 +1,8 @@
 -- What a run of the engine reads and writes.
-use Rattle.std.specs.Prelude.{◌≡◌, ℕ, ◌<◌, List, [], ◌∷◌, ◌++◌, length, All, Option}
+use Rattle.std.specs.Prelude.{◌≡◌, ℕ, ◌<◌, List, [], ◌∷◌, ◌++◌, length, Option}
 use Rattle.std.specs.Io.KnownBytes.{Consumes, IsAtEnd, Appends}
 use Rattle.hex.specs.Hex.{encode_lower}
-
--- each number is a byte
-abbrev pub AreBytes : List ℕ → Type 0
-AreBytes xs = All (λ x. x < 256) xs
+use Rattle.blake2_digest.specs.Texts.{AreBytes}
 
 -- a digest as a line: two lower-case hexadecimal digits for each byte, and a newline
 abbrev pub line_of : List ℕ → List ℕ

@@ -10,7 +10,7 @@ use Rattle.blake2_words.specs.Hash.{AreBytes, block_count}
 use Rattle.blake2_words.specs.Transcript.{Entry, joined}
 use Rattle.blake2_words.specs.Run.{no_entry}
 use Rattle.blake2_words.specs.Reader.{told_count, last_entry, told_key, told_message, AreInner, IsInner, AreWhole, IsWhole, IsRun, HasKey, EndsRun, IsZeroFrom}
-use Rattle.blake2_words.proofs.Sizes.{AreBytes-append}
+use Rattle.blake2_rows.proofs.Texts.{AreBytes-append}
 
 -- ---- the bytes of blocks joined
 

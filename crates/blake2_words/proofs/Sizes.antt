@@ -8,6 +8,7 @@ use Rattle.std.specs.List.{flat_map}
 use mir.Val.{bits}
 use Rattle.blake2_rows.specs.Family.{Family, blake2b, blake2s, word, word_bytes, block_bytes, output_bytes, salt_bytes, start_words, rounds}
 use Rattle.blake2_rows.specs.Round.{AreWords}
+use Rattle.blake2_rows.proofs.Texts.{AreBytes-append}
 use Rattle.blake2_rows.proofs.Words.{length-round, AreWords-round}
 use Rattle.blake2_words.specs.Hash.{input_flags, Flags, inner, Parameters, input_parameters, AreBytes, words_of, bytes_of, xor_words, padded, after_rounds, before_rounds, compress, parameter_block, parameter_words, start, chain, last_chain, Input, input_start, input_data, digest}
 
@@ -169,12 +170,6 @@ AreBytes-take zero xs a i = omega arith
 AreBytes-take (suc n) [] a i = omega arith
 AreBytes-take (suc n) (x ∷ xs) a zero = a 0
 AreBytes-take (suc n) (x ∷ xs) a (suc i) = AreBytes-take n xs (λ j. a (suc j)) i
-
--- bytes and then bytes are bytes
-pub AreBytes-append : (xs ys : List ℕ) → AreBytes xs → AreBytes ys → AreBytes (xs ++ ys)
-AreBytes-append [] ys a b i = b i
-AreBytes-append (x ∷ xs) ys a b zero = a 0
-AreBytes-append (x ∷ xs) ys a b (suc i) = AreBytes-append xs ys (λ j. a (suc j)) b i
 
 -- zeros are bytes
 pub AreBytes-zeros : (n : ℕ) → AreBytes (replicate n 0)

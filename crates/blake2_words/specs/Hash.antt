@@ -1,17 +1,14 @@
 -- BLAKE2b and BLAKE2s as functions on lists of numbers. Section numbers are those of RFC 7693.
-use Rattle.std.specs.Prelude.{ℕ, zero, suc, ◌+◌, ◌-◌, ◌*◌, ◌/◌, ◌%◌, ◌^◌, ◌<◌, min, nat_eq, Bool, true, false, if◌then◌else◌, List, [], ◌∷◌, ◌++◌, length, map, take, drop, replicate, bit_xor, slice_index, slice_index_or, Option, Some, None}
+use Rattle.std.specs.Prelude.{ℕ, zero, suc, ◌+◌, ◌-◌, ◌*◌, ◌/◌, ◌%◌, ◌^◌, min, nat_eq, Bool, true, false, if◌then◌else◌, List, [], ◌∷◌, ◌++◌, length, map, take, drop, replicate, bit_xor, slice_index_or, Option, Some, None}
 use Rattle.std.specs.Int.{from_le_bytes, to_le_bytes}
 use Rattle.std.specs.List.{flat_map, range_with_len}
 use mir.Val.{bits}
 use Rattle.blake2_rows.specs.Blocks
+pub use Rattle.blake2_rows.specs.Texts.{AreBytes}
 use Rattle.blake2_rows.specs.Family.{Family, word, word_bytes, block_bytes, rounds, salt_bytes, offset_bytes, reserved_bytes, start_words, sigma}
 use Rattle.blake2_rows.specs.Round.{round}
 
 -- ---- words and bytes
-
--- every element is a byte
-abbrev pub AreBytes : List ℕ → Type 0
-AreBytes xs = (i : ℕ) → slice_index xs i < 256
 
 -- n words, low byte first, from the beginning of xs (2.4)
 unfoldable pub words_of : Family → ℕ → List ℕ → List ℕ

@@ -3,7 +3,8 @@ ghost use Rattle.std.specs.Prelude.{◌≡◌, ◌≢◌, ◌↔◌, ℕ, ◌+�
 ghost use Rattle.std.specs.Result.{IsErrOf};
 ghost use Rattle.std.specs.Io.KnownBytes.{Consumes, Appends, Keeps};
 ghost use Rattle.blake2_digest.specs.States.{Updated};
-ghost use Rattle.blake2_runs.specs.Streams.{AreBytes, GivesAll, TakesPart, line_of};
+ghost use Rattle.blake2_digest.specs.Texts.{AreBytes};
+ghost use Rattle.blake2_runs.specs.Streams.{GivesAll, TakesPart, line_of};
 
 use super::device::{DeviceError, Sink, Source};
 use blake2_digest::{FixedOutput, Update};

@@ -1,6 +1,6 @@
-use Rattle.std.proofs.Common.{◌∙◌, ap, false, ◌||◌, length-append, arith, take, ◌++◌, ◌<◌}
-use Rattle.std.proofs.lemmas.List.Elements.{All-append}
+use Rattle.std.proofs.Common.{◌∙◌, ap, false, ◌||◌, length-append, arith, take, ◌++◌}
 use Rattle.std.proofs.KnownBytes.{Consumes-trans}
+use Rattle.blake2_digest.proofs.Texts.{AreBytes-append}
 use Rattle.blake2_runs.proofs.StreamLemmas.{Updated-trans}
 use Rattle.blake2_runs.proofs.engine.stream.absorb.Goals as goal
 
@@ -15,7 +15,7 @@ reading-preserved g c =
       passed = (
         before.0 ++ piece,
         omega (arith, length-append before.0 piece, read.bound.1, before.1),
-        All-append (λ x. x < 256) before.0 piece before.2 c.tell_bytes.ensures,
+        AreBytes-append before.0 piece before.2 c.tell_bytes.ensures,
         Consumes-trans _ _ _ before.0 piece before.3 read.bytes.0,
         Updated-trans g.H.Update.meaning _ _ _ before.0 piece before.4 c.update.ensures,
       );
@@ -27,7 +27,7 @@ returns-then-count-room-clause-past_count g c = λ _.
     let read = c.in-Ok.ensures in
     let piece = take c.in-Ok.count c.read.new.buf in (
       before.0 ++ piece,
-      All-append (λ x. x < 256) before.0 piece before.2 c.tell_bytes.ensures,
+      AreBytes-append before.0 piece before.2 c.tell_bytes.ensures,
       Consumes-trans _ _ _ before.0 piece before.3 read.bytes.0,
       omega (arith, length-append before.0 piece, read.bound.1, before.1, before.4.count),
     )

@@ -1,7 +1,7 @@
 use Rattle.std.proofs.Common.{◌≡◌, ◌+◌, ◌^◌, ◌-◌, List, ℕ, length, false}
 use Rattle.std.specs.Io.KnownBytes.{Consumes}
 use Rattle.blake2_digest.specs.States.{Updated}
-use Rattle.blake2_runs.specs.Streams.{AreBytes}
+use Rattle.blake2_digest.specs.Texts.{AreBytes}
 use Rattle.blake2_runs.proofs.engine.stream.absorb.Given as goal
 
 abbrev pub invariant-reading : goal.invariant-reading

@@ -1,0 +1,6 @@
+-- Texts: lists of bytes. A number of a definition has no upper bound, so that a list has bytes only is said of it.
+use Rattle.std.specs.Prelude.{ℕ, ◌<◌, List, slice_index}
+
+-- every element is a byte
+abbrev pub AreBytes : List ℕ → Type 0
+AreBytes xs = (i : ℕ) → slice_index xs i < 256
