@@ -5,6 +5,7 @@ use borrow.Rule.Slice.PartMut.{put_mid}
 use Rattle.blake2_rows.specs.Family.{Family, salt_bytes, start_words}
 use Rattle.blake2_words.specs.Hash.{padded, Parameters, parameter_block, parameter_words, start, words_of, bytes_of, xor_words, last_chain, Input, input_data, input_flags, input_parameters, digest}
 use Rattle.blake2_words.specs.Laws.{ZerosLeaveDigests}
+use Rattle.blake2_words.proofs.Padding.{zeros_overwritten}
 use Rattle.blake2_words.proofs.Sizes.{length-padded}
 
 -- a text written over the front of 2s zeros
@@ -14,11 +15,6 @@ padded-zeros s x fits =
     let left : s + s - length x ≡ s - length x + s = omega arith in
     ap (λ (z : List ℕ). x ++ z) (drop-replicate (length x) (s + s) 0 ∙ ap (λ (n : ℕ). replicate n 0) left ∙ sym (replicate-append-replicate (s - length x) s 0))
     ∙ sym (append_assoc x (replicate (s - length x) 0) (replicate s 0))
-
--- a text written over zeros
-pub text-zeros : (s : ℕ) (y : List ℕ) → y ++ drop (length y) (replicate s 0) ≡ padded s y
-unfolding padded
-text-zeros s y = ap (λ (z : List ℕ). y ++ z) (drop-replicate (length y) s 0)
 
 -- a text at the front of 2s zeros, and then another one at place s
 pub texts_padded : (s : ℕ) (x y : List ℕ) → length x ≤ s → length y ≤ s
@@ -30,7 +26,7 @@ texts_padded s x y fits_x fits_y =
     ap (λ (z : List ℕ). put_mid s (s + length y - s) z y) (padded-zeros s x fits_x)
     ∙ ap (λ (n : ℕ). put_mid s n (padded s x ++ zeros) y) k
     ∙ (λ i. take_at (padded s x) zeros s front i ++ (y ++ drop (length y) (drop_at (padded s x) zeros s front i)))
-    ∙ ap (λ (z : List ℕ). padded s x ++ z) (text-zeros s y)
+    ∙ ap (λ (z : List ℕ). padded s x ++ z) (zeros_overwritten s y)
 
 -- zeros after a text, within n bytes, are padding
 padded-append_zeros : (n : ℕ) (x : List ℕ) (m : ℕ) → length x + m ≤ n → padded n (x ++ replicate m 0) ≡ padded n x

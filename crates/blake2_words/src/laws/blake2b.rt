@@ -7,6 +7,7 @@ ghost use Rattle.blake2_rows.specs.Rows.{sixteen};
 ghost use Rattle.blake2_words.specs.Hash.{padded};
 ghost use Rattle.blake2_words.specs.Laws.{ZerosLeaveDigests};
 
+use crate::steps::blocks::with_zeros;
 use blake2_rows::rows::u64x4;
 
 /// `unround` undoes `round`: the sixteen words of `v` are afterwards as they were, for any sixteen words
@@ -60,7 +61,5 @@ pub fn padded_text(text: &[u8]) -> [u8; 16]
     ensures padding { result ≡ padded 16 text.now }
     ensures law { ZerosLeaveDigests blake2b }
 {
-    let mut all = [0; 16];
-    all[..text.len()].copy_from_slice(text);
-    all
+    with_zeros(text)
 }

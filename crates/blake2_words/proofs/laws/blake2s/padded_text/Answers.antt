@@ -1,9 +1,9 @@
 use Rattle.blake2_rows.specs.Family.{blake2s}
-use Rattle.blake2_words.proofs.ParameterTexts.{text-zeros, zeros_leave_digests}
+use Rattle.blake2_words.proofs.ParameterTexts.{zeros_leave_digests}
 use Rattle.blake2_words.proofs.laws.blake2s.padded_text.Goals as goal
 
 pub returns : goal.returns
 returns c = record {
-  padding = rw c.copy_from_slice.ensures.after (text-zeros 8 c.args.text.now);
+  padding = c.with_zeros.ensures;
   law = zeros_leave_digests blake2s;
 }
