@@ -221,23 +221,14 @@ impl u64x4 {
         (a2, b2, c2, d2)
     }
 
-    // Half a round, but for the last rotation of row 3.
+    // Half a round, the mixings of the four columns of `v` at once, column j with lane j of `x` and of
+    // `y`, but for the last rotation of row 3 (RFC 7693, section 3.2).
     #[inline(always)]
     fn mix_rows(v: [Self; 4], x: Self, y: Self) -> (Self, Self, Self, Self)
         ensures { last_row_turned blake2b result ≡ columns blake2b (sixteen v) x y }
     {
         let [a, b, c, d] = v;
         Self::mix(a, b, c, d, x, y)
-    }
-
-    /// Half a round: the mixings of the four columns of `v` at once, column j with lane j of `x`
-    /// and of `y` (RFC 7693, section 3.2).
-    #[inline(always)]
-    pub fn half_round(v: [Self; 4], x: Self, y: Self) -> [Self; 4]
-        ensures { sixteen result ≡ columns blake2b (sixteen v) x y }
-    {
-        let (a, b, c, d) = Self::mix_rows(v, x, y);
-        [a, b, c, d.rotate_right_const(R3)]
     }
 
     // The last row is rotated, and the diagonals become columns. Row 1, which `mix` computes last,

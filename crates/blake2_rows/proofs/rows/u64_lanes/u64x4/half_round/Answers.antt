@@ -1,4 +1,0 @@
-use Rattle.blake2_rows.proofs.rows.u64_lanes.u64x4.half_round.Goals as goal
-
-pub returns : goal.returns
-returns c = rw c.rotate_right_const.ensures c.mix_rows-a.ensures
