@@ -1,16 +1,16 @@
 -- What parameter words, blocks and counters tell of their input.
-use Rattle.std.proofs.Common.{◌≡◌, ℕ, zero, suc, ◌+◌, ◌-◌, ◌*◌, ◌<◌, ◌≤◌, inl, inr, List, [], ◌∷◌, ◌++◌, length, take, drop, replicate, bit_xor, refl, sym, ap, ◌∙◌, arith, get_or, length-drop, Option, Some, None}
+use Rattle.std.proofs.Common.{◌≡◌, ℕ, zero, suc, ◌+◌, ◌-◌, ◌*◌, ◌≤◌, inl, inr, List, [], ◌∷◌, ◌++◌, length, take, drop, replicate, bit_xor, refl, sym, ap, ◌∙◌, arith, get_or, length-drop, Option, Some, None}
 use Rattle.std.proofs.lemmas.List.{take_at, drop_at, take_all, drop_all, append_assoc, append-nil, take-append-drop, length-take-le, replicate-append-replicate}
 use Rattle.std.proofs.lemmas.Nat.{le_bytes_4, le_bytes_8}
 use Rattle.std.proofs.lemmas.Bool.{cases_lt}
 use Rattle.std.specs.Int.Bits.{xor_assoc, xor_self, xor_zero_l}
 use Rattle.std.specs.Int.{from_le_bytes, to_le_bytes}
-use Rattle.std.specs.List.{concat}
+use Rattle.std.specs.List.{concat, flat_map}
 use Rattle.blake2_rows.specs.Family.{Family, blake2b, blake2s, word, word_bytes, block_bytes, key_bytes, salt_bytes, output_bytes, start_words}
-use Rattle.blake2_words.specs.Hash.{inner, Parameters, input_parameters, AreBytes, words_of, xor_words, padded, parameter_block, parameter_words, start, key_block, key_size, cut, block_count, Input, input_data}
+use Rattle.blake2_words.specs.Hash.{inner, Fits, Parameters, input_parameters, AreBytes, words_of, bytes_of, xor_words, padded, parameter_block, parameter_words, start, key_block, key_size, cut, block_count, Input, input_data}
 use Rattle.blake2_words.specs.Inputs.{Accepts, KeyFits, Same}
 use Rattle.blake2_words.specs.Transcript.{Entry, TranscriptsDetermine}
-use Rattle.blake2_words.proofs.Sizes.{AreParameters, length-padded, length-parameter_block, length-parameter_words, start_words-length, AreBytes-take, AreBytes-drop, AreBytes-parameter_block}
+use Rattle.blake2_words.proofs.Sizes.{AreParameters, key_bytes_fit, length-padded, length-parameter_block, length-parameter_words, start_words-length, AreBytes-take, AreBytes-drop, AreBytes-parameter_block}
 
 -- ---- xor
 
@@ -43,24 +43,25 @@ le_word : (f : Family) (xs : List ℕ) → length xs ≡ word_bytes f → AreByt
 le_word blake2b xs l a = le_bytes_8 xs _ l a refl
 le_word blake2s xs l a = le_bytes_4 xs _ l a refl
 
--- words determine the bytes that they were read from
-pub words_of_cancel : (f : Family) (n : ℕ) (xs ys : List ℕ) → length xs ≡ n * word_bytes f → length ys ≡ n * word_bytes f → AreBytes xs → AreBytes ys
-    → words_of f n xs ≡ words_of f n ys → xs ≡ ys
-unfolding words_of
-words_of_cancel f zero [] [] lx ly ax ay h = refl
-words_of_cancel f zero (x ∷ xs) ys lx ly ax ay h = absurd (omega arith)
-words_of_cancel f zero [] (y ∷ ys) lx ly ax ay h = absurd (omega arith)
-words_of_cancel f (suc n) xs ys lx ly ax ay h =
+-- and the bytes of words are those
+pub bytes_of-words_of : (f : Family) (n : ℕ) (xs : List ℕ) → length xs ≡ n * word_bytes f → AreBytes xs → bytes_of f (words_of f n xs) ≡ xs
+unfolding words_of bytes_of
+bytes_of-words_of f zero [] l a = refl
+bytes_of-words_of f zero (x ∷ xs) l a = absurd (omega arith)
+bytes_of-words_of f (suc n) xs l a =
     let k : ℕ = word_bytes f in
     let more : suc n * k ≡ k + n * k = omega arith in
-    let head : from_le_bytes (word f) (take k xs) ≡ from_le_bytes (word f) (take k ys) = ap (λ (l : List ℕ). get_or l 0 0) h in
-    let rest : words_of f n (drop k xs) ≡ words_of f n (drop k ys) = ap (drop 1) h in
-    let front : take k xs ≡ take k ys =
-    sym (le_word f (take k xs) (length-take-le k xs (omega arith)) (AreBytes-take k xs ax)) ∙ ap (to_le_bytes (word f)) head
-    ∙ le_word f (take k ys) (length-take-le k ys (omega arith)) (AreBytes-take k ys ay) in
-    let back : drop k xs ≡ drop k ys =
-    words_of_cancel f n (drop k xs) (drop k ys) (omega (arith, length-drop k xs)) (omega (arith, length-drop k ys)) (AreBytes-drop k xs ax) (AreBytes-drop k ys ay) rest in
-    sym (take-append-drop k xs) ∙ (λ i. front i ++ back i) ∙ take-append-drop k ys
+    let front : to_le_bytes (word f) (from_le_bytes (word f) (take k xs)) ≡ take k xs =
+    le_word f (take k xs) (length-take-le k xs (omega arith)) (AreBytes-take k xs a) in
+    let back : flat_map (to_le_bytes (word f)) (words_of f n (drop k xs)) ≡ drop k xs =
+    bytes_of-words_of f n (drop k xs) (omega (arith, length-drop k xs)) (AreBytes-drop k xs a) in
+    (λ i. front i ++ back i) ∙ take-append-drop k xs
+
+-- so the words of a parameter block tell it
+pub bytes_of-parameter_words : (f : Family) (p : Parameters) → AreParameters f p → bytes_of f (parameter_words f p) ≡ parameter_block f p
+unfolding parameter_words
+bytes_of-parameter_words f p h =
+    bytes_of-words_of f 8 (parameter_block f p) (length-parameter_block f p h.fits) (AreBytes-parameter_block f p h)
 
 -- ---- padding
 
@@ -129,25 +130,23 @@ pub record SameParameters (f : Family) (p q : Parameters) : Type 0 where
   pub personas : padded (salt_bytes f) p.persona ≡ padded (salt_bytes f) q.persona
 
 -- equal parameter blocks do
-parameter_block_cancel : (f : Family) (p q : Parameters) → AreParameters f p → AreParameters f q
+parameter_block_cancel : (f : Family) (p q : Parameters) → Fits f p → Fits f q
     → parameter_block f p ≡ parameter_block f q → SameParameters f p q
 unfolding parameter_block
 parameter_block_cancel blake2b p q hp hq h =
     let texts : padded 16 p.salt ++ padded 16 p.persona ≡ padded 16 q.salt ++ padded 16 q.persona = ap (drop 32) h in
-    let parts = append_parts 16 (padded 16 p.salt) (padded 16 p.persona) (padded 16 q.salt) (padded 16 q.persona) (length-padded 16 p.salt hp.salt_fits) (length-padded 16 q.salt hq.salt_fits) texts in
+    let parts = append_parts 16 (padded 16 p.salt) (padded 16 p.persona) (padded 16 q.salt) (padded 16 q.persona) (length-padded 16 p.salt hp.salt) (length-padded 16 q.salt hq.salt) texts in
     record { sizes = ap (λ (l : List ℕ). get_or l 0 0) h; keys = ap (λ (l : List ℕ). get_or l 1 0) h; salts = parts.0; personas = parts.1 }
 parameter_block_cancel blake2s p q hp hq h =
     let texts : padded 8 p.salt ++ padded 8 p.persona ≡ padded 8 q.salt ++ padded 8 q.persona = ap (drop 16) h in
-    let parts = append_parts 8 (padded 8 p.salt) (padded 8 p.persona) (padded 8 q.salt) (padded 8 q.persona) (length-padded 8 p.salt hp.salt_fits) (length-padded 8 q.salt hq.salt_fits) texts in
+    let parts = append_parts 8 (padded 8 p.salt) (padded 8 p.persona) (padded 8 q.salt) (padded 8 q.persona) (length-padded 8 p.salt hp.salt) (length-padded 8 q.salt hq.salt) texts in
     record { sizes = ap (λ (l : List ℕ). get_or l 0 0) h; keys = ap (λ (l : List ℕ). get_or l 1 0) h; salts = parts.0; personas = parts.1 }
 
 -- and so do equal parameter words
 pub parameter_words_cancel : (f : Family) (p q : Parameters) → AreParameters f p → AreParameters f q
     → parameter_words f p ≡ parameter_words f q → SameParameters f p q
-unfolding parameter_words
 parameter_words_cancel f p q hp hq h =
-    parameter_block_cancel f p q hp hq
-    (words_of_cancel f 8 _ _ (length-parameter_block f p hp) (length-parameter_block f q hq) (AreBytes-parameter_block f p hp) (AreBytes-parameter_block f q hq) h)
+    parameter_block_cancel f p q hp.fits hq.fits (sym (bytes_of-parameter_words f p hp) ∙ ap (bytes_of f) h ∙ bytes_of-parameter_words f q hq)
 
 -- equal start words come from equal parameter words
 pub start_cancel : (f : Family) (p q : Parameters) → start f p ≡ start f q → parameter_words f p ≡ parameter_words f q
@@ -156,11 +155,6 @@ start_cancel f p q h =
     xor_words_cancel (start_words f) _ _ (length-parameter_words f p ∙ sym (start_words-length f)) (length-parameter_words f q ∙ sym (start_words-length f)) h
 
 -- ---- key and message
-
--- a key is shorter than a block, and it and an output have fewer bytes than a byte can tell
-pub key_bytes_fit : (f : Family) → (key_bytes f ≤ block_bytes f) × (key_bytes f < 256) × (output_bytes f < 256)
-key_bytes_fit blake2b = (omega arith, omega arith, omega arith)
-key_bytes_fit blake2s = (omega arith, omega arith, omega arith)
 
 -- a key's length and the data determine key and message
 same_key : (f : Family) (k k' : Option (List ℕ)) (m m' : List ℕ) → KeyFits f k → KeyFits f k' → key_size k ≡ key_size k'
@@ -176,18 +170,24 @@ same_key f (Some k) (Some k') m m' p q e h =
     let keys : k ≡ k' = padded_cancel b k k' e parts.0 in
     (ap (λ (x : List ℕ). Some x) keys, parts.1)
 
--- a key's length fits a byte
-key_size-lt : (f : Family) (k : Option (List ℕ)) → KeyFits f k → key_size k < 256
-key_size-lt f None p = omega arith
-key_size-lt f (Some k) p = let fits = key_bytes_fit f in omega arith
+-- a key that fits is not longer than the longest
+key_size-le : (f : Family) (k : Option (List ℕ)) → KeyFits f k → key_size k ≤ key_bytes f
+key_size-le f None p = omega arith
+key_size-le f (Some k) p = omega arith
 
--- the parameters of an accepted input are ones that a parameter block has room for
+-- the parameters of an accepted input fit
+pub accepted-fits : (f : Family) (size : ℕ) (a : Input) → Accepts f a → size ≤ output_bytes f → Fits f (input_parameters size a)
+accepted-fits f size a p h = record {
+  size = h;
+  key_size = key_size-le f a.key p.key_fits;
+  salt = p.salt_fits;
+  persona = p.persona_fits;
+}
+
+-- and their texts are bytes
 pub accepted-parameters : (f : Family) (size : ℕ) (a : Input) → Accepts f a → size ≤ output_bytes f → AreParameters f (input_parameters size a)
-accepted-parameters f size a p h = let fits = key_bytes_fit f in record {
-  size_fits = omega arith;
-  key_fits = key_size-lt f a.key p.key_fits;
-  salt_fits = p.salt_fits;
-  persona_fits = p.persona_fits;
+accepted-parameters f size a p h = record {
+  fits = accepted-fits f size a p h;
   salt_are = p.salt_bytes;
   persona_are = p.persona_bytes;
 }

@@ -1,35 +1,12 @@
--- Texts padded with zeros: as they are written into zeros, and that zeros after them change nothing.
-use Rattle.std.proofs.Common.{◌≡◌, ℕ, ◌+◌, ◌-◌, ◌≤◌, List, ◌++◌, length, take, drop, replicate, refl, sym, ap, ◌∙◌, arith, length-append}
-use Rattle.std.proofs.lemmas.List.{take_at, drop_at, append_assoc, length-replicate, replicate-append-replicate, drop-replicate}
-use borrow.Rule.Slice.PartMut.{put_mid}
+-- Zeros after a salt or a persona change nothing.
+use Rattle.std.proofs.Common.{◌≡◌, ℕ, ◌+◌, ◌-◌, ◌≤◌, List, ◌++◌, length, take, replicate, refl, ap, ◌∙◌, arith, length-append}
+use Rattle.std.proofs.lemmas.List.{append_assoc, length-replicate, replicate-append-replicate}
 use Rattle.blake2_rows.specs.Family.{Family, salt_bytes, start_words}
 use Rattle.blake2_words.specs.Hash.{padded, Parameters, parameter_block, parameter_words, start, words_of, bytes_of, xor_words, last_chain, Input, input_data, input_flags, input_parameters, digest}
 use Rattle.blake2_words.specs.Laws.{ZerosLeaveDigests}
-use Rattle.blake2_words.proofs.Padding.{zeros_overwritten}
-use Rattle.blake2_words.proofs.Sizes.{length-padded}
-
--- a text written over the front of 2s zeros
-padded-zeros : (s : ℕ) (x : List ℕ) → length x ≤ s → x ++ drop (length x) (replicate (s + s) 0) ≡ padded s x ++ replicate s 0
-unfolding padded
-padded-zeros s x fits =
-    let left : s + s - length x ≡ s - length x + s = omega arith in
-    ap (λ (z : List ℕ). x ++ z) (drop-replicate (length x) (s + s) 0 ∙ ap (λ (n : ℕ). replicate n 0) left ∙ sym (replicate-append-replicate (s - length x) s 0))
-    ∙ sym (append_assoc x (replicate (s - length x) 0) (replicate s 0))
-
--- a text at the front of 2s zeros, and then another one at place s
-pub texts_padded : (s : ℕ) (x y : List ℕ) → length x ≤ s → length y ≤ s
-    → put_mid s (s + length y - s) (x ++ drop (length x) (replicate (s + s) 0)) y ≡ padded s x ++ padded s y
-texts_padded s x y fits_x fits_y =
-    let k : s + length y - s ≡ length y = omega arith in
-    let zeros : List ℕ = replicate s 0 in
-    let front : length (padded s x) ≡ s = length-padded s x fits_x in
-    ap (λ (z : List ℕ). put_mid s (s + length y - s) z y) (padded-zeros s x fits_x)
-    ∙ ap (λ (n : ℕ). put_mid s n (padded s x ++ zeros) y) k
-    ∙ (λ i. take_at (padded s x) zeros s front i ++ (y ++ drop (length y) (drop_at (padded s x) zeros s front i)))
-    ∙ ap (λ (z : List ℕ). padded s x ++ z) (zeros_overwritten s y)
 
 -- zeros after a text, within n bytes, are padding
-padded-append_zeros : (n : ℕ) (x : List ℕ) (m : ℕ) → length x + m ≤ n → padded n (x ++ replicate m 0) ≡ padded n x
+pub padded-append_zeros : (n : ℕ) (x : List ℕ) (m : ℕ) → length x + m ≤ n → padded n (x ++ replicate m 0) ≡ padded n x
 unfolding padded
 padded-append_zeros n x m fits =
     let zeros : List ℕ = replicate m 0 in
@@ -39,7 +16,7 @@ padded-append_zeros n x m fits =
     ∙ ap (λ (z : List ℕ). x ++ z) (replicate-append-replicate m (n - length (x ++ zeros)) 0 ∙ ap (λ (k : ℕ). replicate k 0) left)
 
 -- salt and persona go into the parameter block padded
-parameter_block-texts : (f : Family) (p : Parameters) (salt persona : List ℕ) → padded (salt_bytes f) salt ≡ padded (salt_bytes f) p.salt
+pub parameter_block-texts : (f : Family) (p : Parameters) (salt persona : List ℕ) → padded (salt_bytes f) salt ≡ padded (salt_bytes f) p.salt
     → padded (salt_bytes f) persona ≡ padded (salt_bytes f) p.persona → parameter_block f (record p { salt = salt; persona = persona }) ≡ parameter_block f p
 unfolding parameter_block
 parameter_block-texts f p salt persona salts personas = rw (salts, personas) refl

@@ -6,11 +6,11 @@ use Rattle.std.specs.Int.{from_le_bytes, to_le_bytes, bytes_low_first}
 use Rattle.std.specs.Prelude.{if◌then◌else◌}
 use Rattle.std.specs.List.{flat_map}
 use mir.Val.{bits}
-use Rattle.blake2_rows.specs.Family.{Family, blake2b, blake2s, word, word_bytes, block_bytes, output_bytes, salt_bytes, start_words, rounds}
+use Rattle.blake2_rows.specs.Family.{Family, blake2b, blake2s, word, word_bytes, block_bytes, key_bytes, output_bytes, start_words, rounds}
 use Rattle.blake2_rows.specs.Round.{AreWords}
 use Rattle.blake2_rows.proofs.Texts.{AreBytes-append}
 use Rattle.blake2_rows.proofs.Words.{length-round, AreWords-round}
-use Rattle.blake2_words.specs.Hash.{input_flags, Flags, inner, Parameters, input_parameters, AreBytes, words_of, bytes_of, xor_words, padded, after_rounds, before_rounds, compress, parameter_block, parameter_words, start, chain, last_chain, Input, input_start, input_data, digest}
+use Rattle.blake2_words.specs.Hash.{input_flags, Fits, Flags, inner, Parameters, input_parameters, AreBytes, words_of, bytes_of, xor_words, padded, after_rounds, before_rounds, compress, parameter_block, parameter_words, start, chain, last_chain, Input, input_start, input_data, digest}
 
 -- ---- words
 
@@ -201,23 +201,26 @@ AreBytes-cons : (x : ℕ) (xs : List ℕ) → x < 256 → AreBytes xs → AreByt
 AreBytes-cons x xs lt a zero = lt
 AreBytes-cons x xs lt a (suc i) = a i
 
--- what the parameter words are made of
+-- the parameters fit, and their texts are bytes
 pub record AreParameters (f : Family) (p : Parameters) : Type 0 where
-  pub size_fits : p.size < 256
-  pub key_fits : p.key_size < 256
-  pub salt_fits : length p.salt ≤ salt_bytes f
-  pub persona_fits : length p.persona ≤ salt_bytes f
+  pub fits : Fits f p
   pub salt_are : AreBytes p.salt
   pub persona_are : AreBytes p.persona
+
+-- a key is shorter than a block, and it and an output have fewer bytes than a byte can tell
+pub key_bytes_fit : (f : Family) → (key_bytes f ≤ block_bytes f) × (key_bytes f < 256) × (output_bytes f < 256)
+key_bytes_fit blake2b = (omega arith, omega arith, omega arith)
+key_bytes_fit blake2s = (omega arith, omega arith, omega arith)
 
 -- the parameter block is made of bytes
 pub AreBytes-parameter_block : (f : Family) (p : Parameters) → AreParameters f p → AreBytes (parameter_block f p)
 unfolding parameter_block
 AreBytes-parameter_block f p h =
+    let limits = key_bytes_fit f in
     let last : AreBytes (1 ∷ []) = AreBytes-cons 1 [] (omega arith) (AreBytes-zeros 0) in
     let front : AreBytes (p.size ∷ p.key_size ∷ 1 ∷ 1 ∷ []) =
-    AreBytes-cons p.size (p.key_size ∷ 1 ∷ 1 ∷ []) h.size_fits
-    (AreBytes-cons p.key_size (1 ∷ 1 ∷ []) h.key_fits (AreBytes-cons 1 (1 ∷ []) (omega arith) last)) in
+    AreBytes-cons p.size (p.key_size ∷ 1 ∷ 1 ∷ []) (omega (arith, h.fits.size))
+    (AreBytes-cons p.key_size (1 ∷ 1 ∷ []) (omega (arith, h.fits.key_size)) (AreBytes-cons 1 (1 ∷ []) (omega arith) last)) in
     let two : AreBytes (0 ∷ 0 ∷ []) = AreBytes-zeros 2 in
     let leaf : AreBytes (replicate 4 0) = AreBytes-zeros 4 in
     let salt : AreBytes p.salt = h.salt_are in
@@ -225,12 +228,12 @@ AreBytes-parameter_block f p h =
     search (AreBytes-append, AreBytes-zeros, AreBytes-padded, front, two, leaf, salt, persona) depth 12
 
 -- the parameter block fills eight words
-pub length-parameter_block : (f : Family) (p : Parameters) → AreParameters f p → length (parameter_block f p) ≡ 8 * word_bytes f
+pub length-parameter_block : (f : Family) (p : Parameters) → Fits f p → length (parameter_block f p) ≡ 8 * word_bytes f
 unfolding parameter_block
 length-parameter_block blake2b p h =
-    omega (arith, length-append (padded 16 p.salt) (padded 16 p.persona), length-padded 16 p.salt h.salt_fits, length-padded 16 p.persona h.persona_fits)
+    omega (arith, length-append (padded 16 p.salt) (padded 16 p.persona), length-padded 16 p.salt h.salt, length-padded 16 p.persona h.persona)
 length-parameter_block blake2s p h =
-    omega (arith, length-append (padded 8 p.salt) (padded 8 p.persona), length-padded 8 p.salt h.salt_fits, length-padded 8 p.persona h.persona_fits)
+    omega (arith, length-append (padded 8 p.salt) (padded 8 p.persona), length-padded 8 p.salt h.salt, length-padded 8 p.persona h.persona)
 
 -- the parameter words are eight words, and so are the start words
 pub length-parameter_words : (f : Family) (p : Parameters) → length (parameter_words f p) ≡ 8

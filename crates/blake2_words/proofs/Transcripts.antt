@@ -1,14 +1,13 @@
 -- The run of an input is its transcript, and the words of its parameter block.
-use Rattle.std.proofs.Common.{ne_eqb, eq-eqb, ◌≡◌, ℕ, zero, suc, ◌+◌, ◌-◌, ◌*◌, ◌<◌, ◌≤◌, Bool, true, false, List, [], ◌∷◌, ◌++◌, map, length, drop, refl, sym, ap, subst, ◌∙◌, arith, get_or, length-drop, nat_eq}
-use Rattle.std.proofs.lemmas.List.{length-map, same_lists, get_or_default, get_or-map, take-append-le, drop-append-le}
+use Rattle.std.proofs.Common.{ne_eqb, eq-eqb, ◌≡◌, ℕ, ◌+◌, ◌-◌, ◌*◌, ◌<◌, Bool, true, false, List, [], map, length, refl, sym, ap, subst, ◌∙◌, arith, get_or, nat_eq}
+use Rattle.std.proofs.lemmas.List.{length-map, same_lists, get_or_default, get_or-map}
 use Rattle.std.proofs.Math.Nat.{min-eq_left, min-eq_right}
 use Rattle.std.specs.Prelude.{if◌then◌else◌}
 use Rattle.std.specs.List.{concat}
-use Rattle.blake2_rows.specs.Family.{Family, blake2b, blake2s, block_bytes, salt_bytes, word_bytes}
-use Rattle.blake2_words.specs.Hash.{input_flags, inner, key_size, Parameters, parameters_of, input_parameters, padded, words_of, parameter_block, parameter_words, blocks, block_count, Input, input_data, input_start, Step, step, steps}
+use Rattle.blake2_rows.specs.Family.{Family, block_bytes}
+use Rattle.blake2_words.specs.Hash.{input_flags, inner, Parameters, input_parameters, padded, parameter_words, blocks, block_count, Input, input_data, input_start, Step, step, steps}
 use Rattle.blake2_words.specs.Transcript.{Entry, entry, IsTranscript}
 use Rattle.blake2_words.proofs.Streaming.{length-cut, block_count-pos}
-use Rattle.blake2_words.proofs.Sizes.{AreParameters, length-padded}
 use Rattle.blake2_words.proofs.Runs.{length-steps, get_or-steps, whole_blocks}
 use Rattle.blake2_words.proofs.Determined.{concat-cut, block_count-fits}
 
@@ -60,43 +59,8 @@ steps_transcript f size a =
     }
 
 -- words and entries that are those of a run are a transcript
-pub transcript_from : (f : Family) (size key_bytes : ℕ) (a : Input) (words : List ℕ) (es : List Entry) → key_bytes ≡ key_size a.key
-    → words ≡ parameter_words f (parameters_of size key_bytes a.salt a.persona) → es ≡ map entry (steps f size a) → IsTranscript f words es size a
-transcript_from f size key_bytes a words es key w e =
-    let named : words ≡ parameter_words f (input_parameters size a) = w ∙ ap (λ (n : ℕ). parameter_words f (parameters_of size n a.salt a.persona)) key in
-    subst (λ (x : List ℕ). IsTranscript f x es size a) (sym named)
+pub transcript_from : (f : Family) (size : ℕ) (a : Input) (words : List ℕ) (es : List Entry) (p : Parameters) → p ≡ input_parameters size a
+    → words ≡ parameter_words f p → es ≡ map entry (steps f size a) → IsTranscript f words es size a
+transcript_from f size a words es p named w e =
+    subst (λ (x : List ℕ). IsTranscript f x es size a) (sym (w ∙ ap (parameter_words f) named))
     (subst (λ (x : List Entry). IsTranscript f (parameter_words f (input_parameters size a)) x size a) (sym e) (steps_transcript f size a))
-
--- ---- the parameter block's words
-
--- the words of two lists joined, the first of whole words
-words_of-append : (f : Family) (n m : ℕ) (xs ys : List ℕ) → length xs ≡ n * word_bytes f → words_of f (n + m) (xs ++ ys) ≡ words_of f n xs ++ words_of f m ys
-unfolding words_of
-words_of-append f zero m [] ys l =
-    let e : 0 + m ≡ m = omega arith in
-    rw e refl
-words_of-append f zero m (x ∷ xs) ys l = absurd (omega arith)
-words_of-append f (suc n) m xs ys l =
-    let k : ℕ = word_bytes f in
-    let e : suc n + m ≡ suc (n + m) = omega arith in
-    let more : suc n * k ≡ k + n * k = omega arith in
-    let whole : k ≤ length xs = omega arith in
-    let rest : words_of f (n + m) (drop k xs ++ ys) ≡ words_of f n (drop k xs) ++ words_of f m ys =
-    words_of-append f n m (drop k xs) ys (omega (arith, length-drop k xs)) in
-    rw (e, take-append-le k xs ys whole, drop-append-le k xs ys whole, rest) refl
-
--- the words as the standard writes them: 0x01010000 + (kk << 8) + nn, then three zeros (3.3)
-pub parameter_words_are : (f : Family) (p : Parameters) → AreParameters f p
-    → parameter_words f p ≡
-    ((0x01010000 + 256 * p.key_size + p.size) ∷ 0 ∷ 0 ∷ 0 ∷ []) ++ words_of f 2 (padded (salt_bytes f) p.salt) ++ words_of f 2 (padded (salt_bytes f) p.persona)
-unfolding parameter_words parameter_block words_of
-parameter_words_are blake2b p h =
-    let first : p.size + p.key_size * 256 + 65536 + 16777216 + 0 + 0 + 0 + 0 ≡ 0x01010000 + 256 * p.key_size + p.size = omega arith in
-    let texts : words_of blake2b (2 + 2) (padded 16 p.salt ++ padded 16 p.persona) ≡ words_of blake2b 2 (padded 16 p.salt) ++ words_of blake2b 2 (padded 16 p.persona) =
-    words_of-append blake2b 2 2 (padded 16 p.salt) (padded 16 p.persona) (length-padded 16 p.salt h.salt_fits) in
-    λ i. first i ∷ 0 ∷ 0 ∷ 0 ∷ texts i
-parameter_words_are blake2s p h =
-    let first : p.size + p.key_size * 256 + 65536 + 16777216 ≡ 0x01010000 + 256 * p.key_size + p.size = omega arith in
-    let texts : words_of blake2s (2 + 2) (padded 8 p.salt ++ padded 8 p.persona) ≡ words_of blake2s 2 (padded 8 p.salt) ++ words_of blake2s 2 (padded 8 p.persona) =
-    words_of-append blake2s 2 2 (padded 8 p.salt) (padded 8 p.persona) (length-padded 8 p.salt h.salt_fits) in
-    λ i. first i ∷ 0 ∷ 0 ∷ 0 ∷ texts i

@@ -1,11 +1,15 @@
 -- BLAKE2b and BLAKE2s as functions on lists of numbers. Section numbers are those of RFC 7693.
-use Rattle.std.specs.Prelude.{ℕ, zero, suc, ◌+◌, ◌-◌, ◌*◌, ◌/◌, ◌%◌, ◌^◌, min, nat_eq, Bool, true, false, if◌then◌else◌, List, [], ◌∷◌, ◌++◌, length, map, take, drop, replicate, bit_xor, slice_index_or, Option, Some, None}
+use Rattle.std.specs.Prelude.{ℕ, zero, suc, ◌+◌, ◌-◌, ◌*◌, ◌/◌, ◌%◌, ◌^◌, ◌≤◌, min, nat_eq, Bool}
+use Rattle.std.specs.Prelude.{true, false, if◌then◌else◌, List, [], ◌∷◌, ◌++◌, length, map, take}
+use Rattle.std.specs.Prelude.{drop, replicate, bit_xor, slice_index_or, Option, Some, None}
 use Rattle.std.specs.Int.{from_le_bytes, to_le_bytes}
 use Rattle.std.specs.List.{flat_map, range_with_len}
 use mir.Val.{bits}
 use Rattle.blake2_rows.specs.Blocks
 pub use Rattle.blake2_rows.specs.Texts.{AreBytes}
-use Rattle.blake2_rows.specs.Family.{Family, word, word_bytes, block_bytes, rounds, salt_bytes, offset_bytes, reserved_bytes, start_words, sigma}
+use Rattle.blake2_rows.specs.Family.{Family, word, word_bytes, block_bytes, rounds, key_bytes}
+use Rattle.blake2_rows.specs.Family.{output_bytes, salt_bytes, offset_bytes, reserved_bytes}
+use Rattle.blake2_rows.specs.Family.{start_words, sigma}
 use Rattle.blake2_rows.specs.Round.{round}
 
 -- ---- words and bytes
@@ -75,6 +79,13 @@ pub record Parameters : Type 0 where
 -- a record of them
 abbrev pub parameters_of : ℕ → ℕ → List ℕ → List ℕ → Parameters
 parameters_of size key_size salt persona = record { size = size; key_size = key_size; salt = salt; persona = persona }
+
+-- they are within the limits of the family (2.1; the BLAKE2 document, 2.8)
+pub record Fits (f : Family) (p : Parameters) : Type 0 where
+  pub size : p.size ≤ output_bytes f
+  pub key_size : p.key_size ≤ key_bytes f
+  pub salt : length p.salt ≤ salt_bytes f
+  pub persona : length p.persona ≤ salt_bytes f
 
 -- its bytes, 64 for BLAKE2b and 32 for BLAKE2s, with salt and persona padded by zeros
 unfoldable pub parameter_block : Family → Parameters → List ℕ

@@ -1,30 +1,22 @@
 -- What shows that words and entries are the transcript of an input, and what they tell of it. Section
 -- numbers are those of RFC 7693.
-use Rattle.std.specs.Prelude.{◌≡◌, ℕ, zero, suc, ◌+◌, ◌-◌, ◌*◌, ◌/◌, ◌%◌, ◌^◌, ◌<◌, ◌≤◌, List, [], ◌∷◌, length, take, drop, slice_index, slice_index_or, Option, Some, None}
-use Rattle.blake2_rows.specs.Family.{Family, block_bytes, key_bytes, output_bytes}
-use Rattle.blake2_rows.specs.Round.{AreWords}
-use Rattle.blake2_words.specs.Hash.{AreBytes, Input, inner, final, bytes_of, block_count}
+use Rattle.std.specs.Prelude.{◌≡◌, ℕ, zero, suc, ◌+◌, ◌-◌, ◌*◌, ◌^◌, ◌<◌, ◌≤◌, List, length, take}
+use Rattle.std.specs.Prelude.{drop, slice_index, slice_index_or, Option, Some, None}
+use Rattle.blake2_rows.specs.Family.{Family, block_bytes, offset_bytes, reserved_bytes, salt_bytes}
+use Rattle.blake2_words.specs.Hash.{AreBytes, Input, inner, final, block_count, padded}
+use Rattle.blake2_words.specs.Hash.{Fits, Parameters, parameter_words, parameters_of}
 use Rattle.blake2_words.specs.Transcript.{Entry, joined}
 use Rattle.blake2_words.specs.Run.{no_entry}
 
--- ---- what the words tell
+-- ---- the parameters
 
--- the output size
-abbrev pub told_size : List ℕ → ℕ
-told_size words = slice_index words 0 % 256
-
--- the length of the key, or 0
-abbrev pub told_key_size : List ℕ → ℕ
-told_key_size words = slice_index words 0 / 256 % 256
-
--- the words are those of a parameter block of sequential use (2.5)
-pub record AreReadable (f : Family) (words : List ℕ) : Type 0 where
-  pub size : told_size words ≤ output_bytes f
-  pub key : told_key_size words ≤ key_bytes f
-  pub form : slice_index words 0 / 65536 ≡ 0x0101
-  pub one : slice_index words 1 ≡ 0
-  pub two : slice_index words 2 ≡ 0
-  pub three : slice_index words 3 ≡ 0
+-- what a parameter block names, at the places of digest length, key length, salt and persona (the
+-- BLAKE2 document, 2.8)
+abbrev pub parameters_in : Family → List ℕ → Parameters
+parameters_in f block =
+    let s = salt_bytes f in
+    let texts = drop (8 + offset_bytes f + 2 + reserved_bytes f) block in
+    parameters_of (slice_index block 0) (slice_index block 1) (take s texts) (drop s texts)
 
 -- ---- the entries of a run
 
@@ -68,11 +60,12 @@ pub record HasKey (f : Family) (n : ℕ) (entries : List Entry) : Type 0 where
 
 -- ---- words and entries together
 
--- they are the transcript of some input
-pub record IsReadable (f : Family) (words : List ℕ) (entries : List Entry) : Type 0 where
-  pub words_are : AreReadable f words
-  pub run : IsRun f entries
-  pub key : 0 < told_key_size words → HasKey f (told_key_size words) entries
+-- they are the transcript of some input with these parameters
+pub record IsReadable (f : Family) (p : Parameters) (ws : List ℕ) (es : List Entry) : Type 0 where
+  pub fits : Fits f p
+  pub words_are : ws ≡ parameter_words f p
+  pub run : IsRun f es
+  pub key : 0 < p.key_size → HasKey f p.key_size es
 
 -- the data
 abbrev pub told_data : List Entry → List ℕ
@@ -88,13 +81,13 @@ abbrev pub told_message : Family → ℕ → List ℕ → List ℕ
 told_message f zero z = z
 told_message f (suc n) z = drop (block_bytes f) z
 
--- the input
-abbrev pub told_input : Family → List ℕ → List Entry → Input
-told_input f words entries = record {
-  salt = bytes_of f (slice_index words 4 ∷ slice_index words 5 ∷ []);
-  persona = bytes_of f (slice_index words 6 ∷ slice_index words 7 ∷ []);
-  key = told_key (told_key_size words) (told_data entries);
-  message = told_message f (told_key_size words) (told_data entries);
+-- the input, salt and persona with their zeros
+abbrev pub told_input : Family → Parameters → List Entry → Input
+told_input f p entries = record {
+  salt = padded (salt_bytes f) p.salt;
+  persona = padded (salt_bytes f) p.persona;
+  key = told_key p.key_size (told_data entries);
+  message = told_message f p.key_size (told_data entries);
 }
 
 -- ---- what the types of the code promise
@@ -108,9 +101,7 @@ pub record IsWhole (f : Family) (e : Entry) : Type 0 where
 abbrev pub AreWhole : Family → List Entry → Type 0
 AreWhole f entries = (i : ℕ) → i < length entries → IsWhole f (slice_index_or entries i no_entry)
 
--- there are eight words, blocks are whole, and the last counter has 64 bits
-pub record AreTyped (f : Family) (words : List ℕ) (entries : List Entry) : Type 0 where
-  pub eight : length words ≡ 8
-  pub words_are : AreWords f words
+-- blocks are whole, and the last counter has 64 bits
+pub record AreTyped (f : Family) (entries : List Entry) : Type 0 where
   pub whole : AreWhole f entries
   pub counter : told_count entries < 2 ^ 64

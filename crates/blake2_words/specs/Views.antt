@@ -1,14 +1,29 @@
--- How the values of the module steps are seen as those of the definitions.
+-- How the values of the modules params, words and steps are seen as those of the definitions.
 use Rattle.std.specs.Prelude.{ℕ, List, map, Option, Some, None}
 use Rattle.std.specs.Global.{Vec}
 use Rattle.std.specs.Borrow.{Bor}
+use Rattle.blake2_words.specs.declared.params.Parameters as GivenParameters
+use Rattle.blake2_words.specs.declared.words.Flags as GivenFlags
 use Rattle.blake2_words.specs.declared.steps.Input as GivenInput
 use Rattle.blake2_words.specs.declared.steps.Entry as GivenEntry
 use Rattle.blake2_words.specs.declared.steps.Step as GivenStep
 use Rattle.blake2_words.specs.declared.steps.Transcript as GivenTranscript
 use Rattle.blake2_words.specs.declared.steps.Reading as GivenReading
-use Rattle.blake2_words.specs.Hash.{flags, Input, Step}
+use Rattle.blake2_words.specs.Hash.{flags, Flags, Input, Parameters, Step}
 use Rattle.blake2_words.specs.Transcript.{Entry}
+
+-- what a parameter block names
+abbrev pub given_parameters : GivenParameters.Parameters → Parameters
+given_parameters p = record {
+  size = p.output_size;
+  key_size = p.key_size;
+  salt = p.salt.now;
+  persona = p.persona.now;
+}
+
+-- the flags of a compression
+abbrev pub given_flags : GivenFlags.Flags → Flags
+given_flags f = record { last = f.last }
 
 -- the bytes behind a key, if there is one
 abbrev pub key_of : Option (Bor (List ℕ)) → Option (List ℕ)

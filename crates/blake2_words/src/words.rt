@@ -4,17 +4,39 @@
 pub mod blake2b;
 pub mod blake2s;
 
+/// The flags of a compression (RFC 7693, 3.2).
+#[derive(Clone, Copy)]
+pub struct Flags {
+    /// The final flag: no block follows.
+    pub last: bool,
+}
+
+impl Flags {
+    /// Of a block that others follow.
+    pub const INNER: Self = Flags { last: false };
+
+    /// Of the last block.
+    pub const FINAL: Self = Flags { last: true };
+}
+
 #[cfg(test)]
 mod tests {
-    use crate::{params, words};
+    use super::Flags;
+    use crate::params::{self, Parameters};
+    use crate::words;
 
     // `abc` fills one block; its digest stands in RFC 7693, appendix A.
     #[test]
     fn blake2b_of_abc(rt: HostRuntime) {
         let mut block = [0; 128];
         block[..3].copy_from_slice(b"abc");
-        let mut h = params::blake2b::start_rows(&[], &[], 0, 64);
-        words::blake2b::compress(&mut h, &block, 3, true);
+        let mut h = params::blake2b::start_rows(&Parameters {
+            output_size: 64,
+            key_size: 0,
+            salt: &[],
+            persona: &[],
+        });
+        words::blake2b::compress(&mut h, &block, 3, Flags::FINAL);
         let digest = [
             0xba, 0x80, 0xa5, 0x3f, 0x98, 0x1c, 0x4d, 0x0d, 0x6a, 0x27, 0x97, 0xb6, 0x9f, 0x12,
             0xf6, 0xe9, 0x4c, 0x21, 0x2f, 0x14, 0x68, 0x5a, 0xc4, 0xb7, 0x4b, 0x12, 0xbb, 0x6f,
@@ -30,8 +52,13 @@ mod tests {
     fn blake2s_of_abc(rt: HostRuntime) {
         let mut block = [0; 64];
         block[..3].copy_from_slice(b"abc");
-        let mut h = params::blake2s::start_words(&[], &[], 0, 32);
-        words::blake2s::compress_words(&mut h, &block, 3, true);
+        let mut h = params::blake2s::start_words(&Parameters {
+            output_size: 32,
+            key_size: 0,
+            salt: &[],
+            persona: &[],
+        });
+        words::blake2s::compress_words(&mut h, &block, 3, Flags::FINAL);
         let digest = [
             0x50, 0x8c, 0x5e, 0x8c, 0x32, 0x7c, 0x14, 0xe2, 0xe1, 0xa7, 0x2b, 0xa3, 0x4e, 0xeb,
             0x45, 0x2f, 0x37, 0x45, 0x8b, 0x20, 0x9e, 0xd6, 0x3a, 0x29, 0x4d, 0x99, 0x9b, 0x4c,

@@ -11,8 +11,8 @@ use blake2_digest::{
     VariableOutputCoreCustomized, Wipe, ZeroizeOnDrop,
 };
 use blake2_rows::rows::u64x4;
-use blake2_words::params::blake2b as params;
-use blake2_words::words::blake2b as words;
+use blake2_words::params::{Parameters, blake2b as params};
+use blake2_words::words::{Flags, blake2b as words};
 use std::alloc::AllocError;
 use std::fmt;
 use std::fmt::Write;
@@ -47,7 +47,12 @@ impl Blake2bVarCore {
         requires output_size { output_size ≤ 64 }
         ensures { result ≡ core_made blake2b (parameters_of output_size key_size salt.now persona.now) }
     {
-        let start = params::start_rows(salt, persona, key_size, output_size);
+        let start = params::start_rows(&Parameters {
+            output_size,
+            key_size,
+            salt,
+            persona,
+        });
         Blake2bVarCore {
             h: start,
             start,
@@ -63,7 +68,7 @@ impl Blake2bVarCore {
     {
         self.counter += 128;
         let counter = self.counter;
-        words::compress(&mut self.h, block, counter, false);
+        words::compress(&mut self.h, block, counter, Flags::INNER);
     }
 }
 
@@ -124,7 +129,7 @@ impl VariableOutputCore<128, 64> for Blake2bVarCore {
         self.counter += buffer.get_pos() as u64;
         let counter = self.counter;
         let block = buffer.pad_with_zeros();
-        words::compress(&mut self.h, &block, counter, true);
+        words::compress(&mut self.h, &block, counter, Flags::FINAL);
         *out = words::to_bytes(&self.h);
     }
 }

@@ -11,8 +11,8 @@ use blake2_digest::{
     VariableOutputCoreCustomized, Wipe, ZeroizeOnDrop,
 };
 use blake2_rows::rows::u32x4;
-use blake2_words::params::blake2s as params;
-use blake2_words::words::blake2s as words;
+use blake2_words::params::{Parameters, blake2s as params};
+use blake2_words::words::{Flags, blake2s as words};
 use std::alloc::AllocError;
 use std::fmt;
 use std::fmt::Write;
@@ -47,7 +47,12 @@ impl Blake2sVarCore {
         requires output_size { output_size ≤ 32 }
         ensures { result ≡ core_made blake2s (parameters_of output_size key_size salt.now persona.now) }
     {
-        let start = params::start_rows(salt, persona, key_size, output_size);
+        let start = params::start_rows(&Parameters {
+            output_size,
+            key_size,
+            salt,
+            persona,
+        });
         Blake2sVarCore {
             h: start,
             start,
@@ -63,7 +68,7 @@ impl Blake2sVarCore {
     {
         self.counter += 64;
         let counter = self.counter;
-        words::compress(&mut self.h, block, counter, false);
+        words::compress(&mut self.h, block, counter, Flags::INNER);
     }
 }
 
@@ -124,7 +129,7 @@ impl VariableOutputCore<64, 32> for Blake2sVarCore {
         self.counter += buffer.get_pos() as u64;
         let counter = self.counter;
         let block = buffer.pad_with_zeros();
-        words::compress(&mut self.h, &block, counter, true);
+        words::compress(&mut self.h, &block, counter, Flags::FINAL);
         *out = words::to_bytes(&self.h);
     }
 }

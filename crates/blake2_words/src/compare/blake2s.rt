@@ -11,9 +11,9 @@ ghost use Rattle.blake2_words.specs.Run.{number};
 
 use super::inputs::same;
 use crate::params::blake2s as params;
-use crate::steps::blocks::{entry_at, key_size, step_count};
+use crate::steps::blocks::{entry_at, parameters_of, step_count};
 use crate::steps::{Entry, Input, Step};
-use crate::words::blake2s as words;
+use crate::words::{Flags, blake2s as words};
 use blake2_rows::rows::u32x4;
 use std::alloc::{AllocError, Global};
 
@@ -23,8 +23,7 @@ fn start(input: &Input<'_>, output_size: usize) -> [u32x4; 2]
     requires size { output_size ≤ output_bytes blake2s }
     ensures { eight result ≡ input_start blake2s output_size (input_of input.now) }
 {
-    let key_size = key_size(&input.key);
-    params::start_rows(input.salt, input.persona, key_size, output_size)
+    params::start_rows(&parameters_of(input, output_size))
 }
 
 // Step i of an input's run, at the chaining words before it.
@@ -51,7 +50,8 @@ fn output_of(step: &Step<u32, 64>) -> [u32x4; 2]
     ensures { eight result ≡ output blake2s (step_of step.now) }
 {
     let mut chain = words::to_rows(&step.chain);
-    words::compress(&mut chain, &step.block, step.counter, step.last);
+    let flags = Flags { last: step.last };
+    words::compress(&mut chain, &step.block, step.counter, flags);
     chain
 }
 

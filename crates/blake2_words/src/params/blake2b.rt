@@ -1,77 +1,76 @@
 //! BLAKE2b: a parameter block of 64 bytes, eight words of 64 bits.
 
-ghost use Rattle.std.specs.Prelude.{◌≡◌, ◌≤◌, ◌++◌, length};
+ghost use Rattle.std.specs.Prelude.{◌≡◌, ◌↔◌, IsTrue};
 ghost use Rattle.blake2_rows.specs.Family.{blake2b};
 ghost use Rattle.blake2_rows.specs.Rows.{eight};
 ghost use Rattle.blake2_words.specs.Hash;
-ghost use Rattle.blake2_words.specs.Hash.{padded, parameters_of, start};
+ghost use Rattle.blake2_words.specs.Hash.{Fits, start};
+ghost use Rattle.blake2_words.specs.Reader;
+ghost use Rattle.blake2_words.specs.Views.{given_parameters};
 
+use super::{Parameters, parameter_block};
 use crate::consts::BLAKE2B_IV;
 use crate::words::blake2b::{to_rows, to_words, xor_rows};
 use blake2_rows::rows::u64x4;
 
-// Salt and persona, each with zeros up to 16 bytes: the second half of the parameter block.
-fn texts(salt: &[u8], persona: &[u8]) -> [u8; 32]
-    requires salt { length salt.now ≤ 16 }
-    requires persona { length persona.now ≤ 16 }
-    ensures { result ≡ padded 16 salt.now ++ padded 16 persona.now }
+/// Whether BLAKE2b takes these parameters: a digest and a key of at most 64 bytes, and a salt and a
+/// persona of at most 16 (RFC 7693, 2.1; the BLAKE2 document, 2.8).
+pub fn fits(parameters: &Parameters<'_>) -> bool
+    ensures { IsTrue result ↔ Fits blake2b (given_parameters parameters.now) }
 {
-    let mut texts = [0; 32];
-    texts[..salt.len()].copy_from_slice(salt);
-    texts[16..16 + persona.len()].copy_from_slice(persona);
-    texts
+    parameters.output_size <= 64
+        && parameters.key_size <= 64
+        && parameters.salt.len() <= 16
+        && parameters.persona.len() <= 16
+}
+
+// What a parameter block names, whatever stands in its other fields.
+pub(crate) fn parameters_in(block: &[u8; 64]) -> Parameters<'_>
+    ensures { given_parameters result ≡ Reader.parameters_in blake2b block.now }
+{
+    let (salt, persona) = block[32..].split_at(16);
+    Parameters {
+        output_size: block[0] as usize,
+        key_size: block[1] as usize,
+        salt,
+        persona,
+    }
 }
 
 // The parameter words as two rows.
-fn parameter_rows(salt: &[u8], persona: &[u8], key_size: usize, output_size: usize) -> [u64x4; 2]
-    requires salt { length salt.now ≤ 16 }
-    requires persona { length persona.now ≤ 16 }
-    requires key_size { key_size ≤ 64 }
-    requires output_size { output_size ≤ 64 }
-    ensures { eight result ≡ Hash.parameter_words blake2b (parameters_of output_size key_size salt.now persona.now) }
+#[inline(always)]
+fn parameter_rows(parameters: &Parameters<'_>) -> [u64x4; 2]
+    requires { Fits blake2b (given_parameters parameters.now) }
+    ensures { eight result ≡ Hash.parameter_words blake2b (given_parameters parameters.now) }
 {
-    let first = 0x0101_0000 + 256 * key_size as u64 + output_size as u64;
+    let block: [u8; 64] = parameter_block::<64, 8, 14, 16>(parameters);
     [
-        u64x4::new(first, 0, 0, 0),
-        u64x4::from_le_bytes(&texts(salt, persona)),
+        u64x4::from_le_bytes(&block[..32]),
+        u64x4::from_le_bytes(&block[32..64]),
     ]
 }
 
-/// The eight parameter words of one sequential use (RFC 7693, 2.5; the BLAKE2 document, 2.8): salt and
-/// persona of at most 16 bytes each, padded with zeros, a key of `key_size` bytes, 0 without one, and
-/// a digest of `output_size` bytes, both at most 64.
-pub fn parameter_words(salt: &[u8], persona: &[u8], key_size: usize, output_size: usize) -> [u64; 8]
-    requires salt { length salt.now ≤ 16 }
-    requires persona { length persona.now ≤ 16 }
-    requires key_size { key_size ≤ 64 }
-    requires output_size { output_size ≤ 64 }
-    ensures { result ≡ Hash.parameter_words blake2b (parameters_of output_size key_size salt.now persona.now) }
+/// The eight parameter words (RFC 7693, 2.5), those of the parameter block.
+pub fn parameter_words(parameters: &Parameters<'_>) -> [u64; 8]
+    requires { Fits blake2b (given_parameters parameters.now) }
+    ensures { result ≡ Hash.parameter_words blake2b (given_parameters parameters.now) }
 {
-    to_words(&parameter_rows(salt, persona, key_size, output_size))
+    to_words(&parameter_rows(parameters))
 }
 
 /// The chaining words before the first block (RFC 7693, 3.3), as two rows: IV xored with the
-/// parameter words of these arguments.
-pub fn start_rows(salt: &[u8], persona: &[u8], key_size: usize, output_size: usize) -> [u64x4; 2]
-    requires salt { length salt.now ≤ 16 }
-    requires persona { length persona.now ≤ 16 }
-    requires key_size { key_size ≤ 64 }
-    requires output_size { output_size ≤ 64 }
-    ensures { eight result ≡ start blake2b (parameters_of output_size key_size salt.now persona.now) }
+/// parameter words.
+pub fn start_rows(parameters: &Parameters<'_>) -> [u64x4; 2]
+    requires { Fits blake2b (given_parameters parameters.now) }
+    ensures { eight result ≡ start blake2b (given_parameters parameters.now) }
 {
-    xor_rows(
-        to_rows(&BLAKE2B_IV),
-        parameter_rows(salt, persona, key_size, output_size),
-    )
+    xor_rows(to_rows(&BLAKE2B_IV), parameter_rows(parameters))
 }
 
 /// The same chaining words, as words.
-pub fn start_words(salt: &[u8], persona: &[u8], key_size: usize, output_size: usize) -> [u64; 8]
-    requires salt { length salt.now ≤ 16 }
-    requires persona { length persona.now ≤ 16 }
-    requires key_size { key_size ≤ 64 }
-    requires output_size { output_size ≤ 64 }
-    ensures { result ≡ start blake2b (parameters_of output_size key_size salt.now persona.now) }
+pub fn start_words(parameters: &Parameters<'_>) -> [u64; 8]
+    requires { Fits blake2b (given_parameters parameters.now) }
+    ensures { result ≡ start blake2b (given_parameters parameters.now) }
 {
-    to_words(&start_rows(salt, persona, key_size, output_size))
+    to_words(&start_rows(parameters))
 }

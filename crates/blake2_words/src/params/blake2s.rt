@@ -1,77 +1,76 @@
 //! BLAKE2s: a parameter block of 32 bytes, eight words of 32 bits.
 
-ghost use Rattle.std.specs.Prelude.{◌≡◌, ◌≤◌, ◌++◌, length};
+ghost use Rattle.std.specs.Prelude.{◌≡◌, ◌↔◌, IsTrue};
 ghost use Rattle.blake2_rows.specs.Family.{blake2s};
 ghost use Rattle.blake2_rows.specs.Rows.{eight};
 ghost use Rattle.blake2_words.specs.Hash;
-ghost use Rattle.blake2_words.specs.Hash.{padded, parameters_of, start};
+ghost use Rattle.blake2_words.specs.Hash.{Fits, start};
+ghost use Rattle.blake2_words.specs.Reader;
+ghost use Rattle.blake2_words.specs.Views.{given_parameters};
 
+use super::{Parameters, parameter_block};
 use crate::consts::BLAKE2S_IV;
 use crate::words::blake2s::{to_rows, to_words, xor_rows};
 use blake2_rows::rows::u32x4;
 
-// Salt and persona, each with zeros up to 8 bytes: the second half of the parameter block.
-fn texts(salt: &[u8], persona: &[u8]) -> [u8; 16]
-    requires salt { length salt.now ≤ 8 }
-    requires persona { length persona.now ≤ 8 }
-    ensures { result ≡ padded 8 salt.now ++ padded 8 persona.now }
+/// Whether BLAKE2s takes these parameters: a digest and a key of at most 32 bytes, and a salt and a
+/// persona of at most 8 (RFC 7693, 2.1; the BLAKE2 document, 2.8).
+pub fn fits(parameters: &Parameters<'_>) -> bool
+    ensures { IsTrue result ↔ Fits blake2s (given_parameters parameters.now) }
 {
-    let mut texts = [0; 16];
-    texts[..salt.len()].copy_from_slice(salt);
-    texts[8..8 + persona.len()].copy_from_slice(persona);
-    texts
+    parameters.output_size <= 32
+        && parameters.key_size <= 32
+        && parameters.salt.len() <= 8
+        && parameters.persona.len() <= 8
+}
+
+// What a parameter block names, whatever stands in its other fields.
+pub(crate) fn parameters_in(block: &[u8; 32]) -> Parameters<'_>
+    ensures { given_parameters result ≡ Reader.parameters_in blake2s block.now }
+{
+    let (salt, persona) = block[16..].split_at(8);
+    Parameters {
+        output_size: block[0] as usize,
+        key_size: block[1] as usize,
+        salt,
+        persona,
+    }
 }
 
 // The parameter words as two rows.
-fn parameter_rows(salt: &[u8], persona: &[u8], key_size: usize, output_size: usize) -> [u32x4; 2]
-    requires salt { length salt.now ≤ 8 }
-    requires persona { length persona.now ≤ 8 }
-    requires key_size { key_size ≤ 32 }
-    requires output_size { output_size ≤ 32 }
-    ensures { eight result ≡ Hash.parameter_words blake2s (parameters_of output_size key_size salt.now persona.now) }
+#[inline(always)]
+fn parameter_rows(parameters: &Parameters<'_>) -> [u32x4; 2]
+    requires { Fits blake2s (given_parameters parameters.now) }
+    ensures { eight result ≡ Hash.parameter_words blake2s (given_parameters parameters.now) }
 {
-    let first = 0x0101_0000 + 256 * key_size as u32 + output_size as u32;
+    let block: [u8; 32] = parameter_block::<32, 6, 0, 8>(parameters);
     [
-        u32x4::new(first, 0, 0, 0),
-        u32x4::from_le_bytes(&texts(salt, persona)),
+        u32x4::from_le_bytes(&block[..16]),
+        u32x4::from_le_bytes(&block[16..32]),
     ]
 }
 
-/// The eight parameter words of one sequential use (RFC 7693, 2.5; the BLAKE2 document, 2.8): salt and
-/// persona of at most 8 bytes each, padded with zeros, a key of `key_size` bytes, 0 without one, and
-/// a digest of `output_size` bytes, both at most 32.
-pub fn parameter_words(salt: &[u8], persona: &[u8], key_size: usize, output_size: usize) -> [u32; 8]
-    requires salt { length salt.now ≤ 8 }
-    requires persona { length persona.now ≤ 8 }
-    requires key_size { key_size ≤ 32 }
-    requires output_size { output_size ≤ 32 }
-    ensures { result ≡ Hash.parameter_words blake2s (parameters_of output_size key_size salt.now persona.now) }
+/// The eight parameter words (RFC 7693, 2.5), those of the parameter block.
+pub fn parameter_words(parameters: &Parameters<'_>) -> [u32; 8]
+    requires { Fits blake2s (given_parameters parameters.now) }
+    ensures { result ≡ Hash.parameter_words blake2s (given_parameters parameters.now) }
 {
-    to_words(&parameter_rows(salt, persona, key_size, output_size))
+    to_words(&parameter_rows(parameters))
 }
 
 /// The chaining words before the first block (RFC 7693, 3.3), as two rows: IV xored with the
-/// parameter words of these arguments.
-pub fn start_rows(salt: &[u8], persona: &[u8], key_size: usize, output_size: usize) -> [u32x4; 2]
-    requires salt { length salt.now ≤ 8 }
-    requires persona { length persona.now ≤ 8 }
-    requires key_size { key_size ≤ 32 }
-    requires output_size { output_size ≤ 32 }
-    ensures { eight result ≡ start blake2s (parameters_of output_size key_size salt.now persona.now) }
+/// parameter words.
+pub fn start_rows(parameters: &Parameters<'_>) -> [u32x4; 2]
+    requires { Fits blake2s (given_parameters parameters.now) }
+    ensures { eight result ≡ start blake2s (given_parameters parameters.now) }
 {
-    xor_rows(
-        to_rows(&BLAKE2S_IV),
-        parameter_rows(salt, persona, key_size, output_size),
-    )
+    xor_rows(to_rows(&BLAKE2S_IV), parameter_rows(parameters))
 }
 
 /// The same chaining words, as words.
-pub fn start_words(salt: &[u8], persona: &[u8], key_size: usize, output_size: usize) -> [u32; 8]
-    requires salt { length salt.now ≤ 8 }
-    requires persona { length persona.now ≤ 8 }
-    requires key_size { key_size ≤ 32 }
-    requires output_size { output_size ≤ 32 }
-    ensures { result ≡ start blake2s (parameters_of output_size key_size salt.now persona.now) }
+pub fn start_words(parameters: &Parameters<'_>) -> [u32; 8]
+    requires { Fits blake2s (given_parameters parameters.now) }
+    ensures { result ≡ start blake2s (given_parameters parameters.now) }
 {
-    to_words(&start_rows(salt, persona, key_size, output_size))
+    to_words(&start_rows(parameters))
 }

@@ -1,15 +1,17 @@
 //! The steps of BLAKE2s: blocks of 64 bytes, words of 32 bits, salts and personas of 8 bytes.
 
-ghost use Rattle.std.specs.Prelude.{◌≡◌, ◌≤◌, ◌↔◌, [], ◌∷◌, length, map, IsTrue, IsSome, IfOk, IfErr, IfSome};
+ghost use Rattle.std.specs.Prelude.{◌≡◌, ◌≤◌, ◌↔◌, map, IsTrue, IsSome, IfOk, IfErr, IfSome};
 ghost use Rattle.blake2_rows.specs.Family.{blake2s, output_bytes};
-ghost use Rattle.blake2_words.specs.Hash.{bytes_of, steps};
+ghost use Rattle.blake2_words.specs.Hash.{steps};
 ghost use Rattle.blake2_words.specs.Inputs.{Accepts};
 ghost use Rattle.blake2_words.specs.Transcript.{entry, IsOfSomeInput, IsTranscript, ReadsOnly};
 ghost use Rattle.blake2_words.specs.Views.{input_of, entries_of, entry_of, reading_of};
-ghost use Rattle.blake2_words.specs.Reader.{AreReadable, AreTyped, IsReadable, told_key_size, told_size};
+ghost use Rattle.blake2_words.specs.Views.{given_parameters};
+ghost use Rattle.blake2_words.specs.Reader.{AreTyped, IsReadable};
 
 use super::{Entry, Input, Reading, Transcript, blocks, limits, reader};
-use crate::params::blake2s as params;
+use crate::params::{Parameters, blake2s as params};
+use crate::words::blake2s::{to_bytes, to_rows};
 use std::alloc::{AllocError, Global};
 
 /// Whether BLAKE2s takes the input: salt and persona have at most 8 bytes, the key is absent or has 1 to
@@ -33,74 +35,22 @@ pub fn transcript(
     ensures transcript { IfOk result (λ t. IsTranscript blake2s t.words (entries_of t) output_size (input_of input.now)) }
     ensures steps { IfOk result (λ t. entries_of t ≡ map entry (steps blake2s output_size (input_of input.now))) }
 {
-    let key_size = blocks::key_size(&input.key);
-    let words = params::parameter_words(input.salt, input.persona, key_size, output_size);
+    let words = params::parameter_words(&blocks::parameters_of(input, output_size));
     let entries = blocks::entries(alloc, input)?;
     Ok(Transcript { words, entries })
 }
 
-// The output size that the words name.
-fn output_size_of(words: &[u32; 8]) -> usize
-    ensures { result ≡ told_size words.now }
+// The words and entries are the transcript of some input with these parameters.
+fn is_readable(told: &Parameters<'_>, words: &[u32; 8], entries: &[Entry<64>]) -> bool
+    ensures readable { IsTrue result
+        ↔ IsReadable blake2s (given_parameters told.now) words.now (map entry_of entries.now) }
+    ensures typed { IsTrue result → AreTyped blake2s (map entry_of entries.now) }
 {
-    (words[0] % 256) as usize
-}
-
-// The length of the key that the words name, 0 for none.
-fn key_size_of(words: &[u32; 8]) -> usize
-    ensures { result ≡ told_key_size words.now }
-{
-    (words[0] / 256 % 256) as usize
-}
-
-// The words are those of a parameter block of sequential use.
-fn are_readable(words: &[u32; 8]) -> bool
-    ensures { IsTrue result ↔ AreReadable blake2s words.now }
-{
-    output_size_of(words) <= 32
-        && key_size_of(words) <= 32
-        && words[0] / 0x1_0000 == 0x0101
-        && words[1] == 0
-        && words[2] == 0
-        && words[3] == 0
-}
-
-// The words and entries are the transcript of some input.
-fn is_readable(words: &[u32; 8], entries: &[Entry<64>]) -> bool
-    ensures readable { IsTrue result ↔ IsReadable blake2s words.now (map entry_of entries.now) }
-    ensures typed { IsTrue result → AreTyped blake2s words.now (map entry_of entries.now) }
-{
-    let key_size = key_size_of(words);
-    are_readable(words)
+    let key_size = told.key_size;
+    params::fits(told)
+        && params::parameter_words(told) == *words
         && reader::is_run(entries)
         && (key_size == 0 || reader::has_key(entries, key_size))
-}
-
-// Two words as the bytes of a salt or a persona.
-#[tactic(auto, unfolding(crate::specs::Hash::bytes_of))]
-fn text(low: u32, high: u32) -> [u8; 8]
-    ensures { result ≡ bytes_of blake2s (low ∷ high ∷ []) }
-{
-    let mut text = [0; 8];
-    text[..4].copy_from_slice(&low.to_le_bytes());
-    text[4..].copy_from_slice(&high.to_le_bytes());
-    text
-}
-
-// What the words and entries of some input are read as.
-fn reading(alloc: Global, words: &[u32; 8], entries: &[Entry<64>]) -> Result<Reading<8>, AllocError>
-    requires readable { IsReadable blake2s words.now (map entry_of entries.now) }
-    requires typed { AreTyped blake2s words.now (map entry_of entries.now) }
-    ensures { IfOk result (λ x. ReadsOnly blake2s words.now (map entry_of entries.now) x.output_size (reading_of x)) }
-{
-    let (key, message) = reader::key_and_message(alloc, entries, key_size_of(words))?;
-    Ok(Reading {
-        output_size: output_size_of(words),
-        salt: text(words[4], words[5]),
-        persona: text(words[6], words[7]),
-        key,
-        message,
-    })
 }
 
 /// The input and the size of the digest that a transcript is of, salt and persona with their zeros; `None`
@@ -116,8 +66,10 @@ pub fn read_transcript(
 {
     let words = &transcript.words;
     let entries = transcript.entries.as_slice();
-    if !is_readable(words, entries) {
+    let block = to_bytes(&to_rows(words));
+    let told = params::parameters_in(&block);
+    if !is_readable(&told, words, entries) {
         return Ok(None);
     }
-    Ok(Some(reading(alloc, words, entries)?))
+    Ok(Some(reader::reading(alloc, &told, entries)?))
 }

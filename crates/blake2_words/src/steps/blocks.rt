@@ -2,13 +2,14 @@
 
 ghost use Rattle.std.specs.Prelude.{◌≡◌, ◌+◌, ◌<◌, ◌≤◌, ◌*◌, ◌-◌, ◌^◌, ℕ, length, take, drop, map, slice_index_or, [], IfOk};
 ghost use Rattle.blake2_rows.specs.Family.{Family, block_bytes};
-ghost use Rattle.blake2_words.specs.Hash.{padded, input_data, blocks, steps};
+ghost use Rattle.blake2_words.specs.Hash.{padded, input_data, input_parameters, blocks, steps};
 ghost use Rattle.blake2_words.specs.Inputs.{Accepts};
 ghost use Rattle.blake2_words.specs.Transcript.{entry};
-ghost use Rattle.blake2_words.specs.Views.{input_of, entry_of, key_of};
+ghost use Rattle.blake2_words.specs.Views.{input_of, entry_of, given_parameters, key_of};
 ghost use Rattle.blake2_words.specs.Run.{number};
 
 use super::{Entry, Input};
+use crate::params::Parameters;
 use std::alloc::{AllocError, Global};
 
 // The bytes, with zeros up to N.
@@ -36,12 +37,24 @@ pub(crate) fn counted<const B: usize>(input: &Input<'_>) -> u64
 }
 
 // The length of the key, 0 without one.
-pub(crate) fn key_size(key: &Option<&[u8]>) -> usize
+fn key_size(key: &Option<&[u8]>) -> usize
     ensures { result ≡ Rattle.blake2_words.specs.Hash.key_size (key_of key.now) }
 {
     match *key {
         None => 0,
         Some(key) => key.len(),
+    }
+}
+
+// What the parameter block of an input names, at a digest of `output_size` bytes.
+pub(crate) fn parameters_of<'a>(input: &Input<'a>, output_size: usize) -> Parameters<'a>
+    ensures { given_parameters result ≡ input_parameters output_size (input_of input.now) }
+{
+    Parameters {
+        output_size,
+        key_size: key_size(&input.key),
+        salt: input.salt,
+        persona: input.persona,
     }
 }
 

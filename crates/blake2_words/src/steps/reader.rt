@@ -1,12 +1,19 @@
 //! Whether entries are those of a run, and the key and the message of one, for blocks of any length.
 
-ghost use Rattle.std.specs.Prelude.{◌≡◌, ◌+◌, ◌<◌, ◌≤◌, ◌*◌, ◌-◌, ◌^◌, ◌↔◌, ℕ, length, map, take, IsTrue, IfOk, slice_index, EachIndex};
-ghost use Rattle.blake2_rows.specs.Family.{Family, block_bytes};
-ghost use Rattle.blake2_words.specs.Views.{entry_of, items_of};
-ghost use Rattle.blake2_words.specs.Reader.{AreInner, AreWhole, EndsRun, HasKey, IsInner, IsRun, IsWhole, IsZeroFrom, told_count, told_data, told_key, told_message};
+ghost use Rattle.std.specs.Prelude.{◌≡◌, ◌+◌, ◌<◌, ◌≤◌, ◌*◌, ◌-◌, ◌^◌, ◌↔◌, ℕ, length, map, take};
+ghost use Rattle.std.specs.Prelude.{IsTrue, IfOk, slice_index, EachIndex};
+ghost use Rattle.blake2_rows.specs.Family.{Family, block_bytes, salt_bytes};
+ghost use Rattle.blake2_words.specs.Hash.{Fits};
+ghost use Rattle.blake2_words.specs.Views.{entry_of, given_parameters, items_of, reading_of};
+ghost use Rattle.blake2_words.specs.Reader.{AreInner, AreWhole, EndsRun, HasKey, IsInner, IsRun};
+ghost use Rattle.blake2_words.specs.Reader.{IsWhole, IsZeroFrom};
+ghost use Rattle.blake2_words.specs.Reader.{told_count, told_data, told_input, told_key};
+ghost use Rattle.blake2_words.specs.Reader.{told_message};
 ghost use Rattle.blake2_words.specs.Transcript.{joined};
 
-use super::Entry;
+use super::blocks::with_zeros;
+use super::{Entry, Reading};
+use crate::params::Parameters;
 use std::alloc::{AllocError, Global};
 
 // Whether each byte is zero.
@@ -111,7 +118,7 @@ fn bytes_of_blocks<const B: usize>(
 }
 
 // The key, where its size is not 0, and the message.
-pub(crate) fn key_and_message<const B: usize>(
+fn key_and_message<const B: usize>(
     alloc: Global,
     entries: &[Entry<B>],
     key_size: usize,
@@ -132,4 +139,32 @@ pub(crate) fn key_and_message<const B: usize>(
     let key = entries[0].block[..key_size].to_vec(alloc)?;
     let message = bytes_of_blocks(alloc, &entries[1..], counted - B)?;
     Ok((Some(key), message))
+}
+
+// What the entries of a run are read as, under the parameters that its words tell.
+pub(crate) fn reading<const B: usize, const S: usize>(
+    alloc: Global,
+    told: &Parameters<'_>,
+    entries: &[Entry<B>],
+) -> Result<Reading<S>, AllocError>
+    ghost f: { Family }
+    requires block { block_bytes f ≡ B }
+    requires salt { salt_bytes f ≡ S }
+    requires fits { Fits f (given_parameters told.now) }
+    requires key_size { told.now.key_size ≤ B }
+    requires run { IsRun f (map entry_of entries.now) }
+    requires whole { AreWhole f (map entry_of entries.now) }
+    requires key { 0 < told.now.key_size → HasKey f told.now.key_size (map entry_of entries.now) }
+    ensures size { IfOk result (λ x. x.output_size ≡ told.now.output_size) }
+    ensures input { IfOk result (λ x. reading_of x
+        ≡ told_input f (given_parameters told.now) (map entry_of entries.now)) }
+{
+    let (key, message) = key_and_message(alloc, entries, told.key_size)?;
+    Ok(Reading {
+        output_size: told.output_size,
+        salt: with_zeros(told.salt),
+        persona: with_zeros(told.persona),
+        key,
+        message,
+    })
 }

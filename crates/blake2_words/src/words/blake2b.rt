@@ -5,8 +5,11 @@ ghost use Rattle.blake2_rows.specs.Family.{blake2b, sigma};
 ghost use Rattle.blake2_rows.specs.Round;
 ghost use Rattle.blake2_rows.specs.Rows.{eight, sixteen};
 ghost use Rattle.blake2_words.specs.Hash;
-ghost use Rattle.blake2_words.specs.Hash.{after_rounds, before_rounds, bytes_of, flags, words_of, xor_words};
+ghost use Rattle.blake2_words.specs.Hash.{after_rounds, before_rounds, bytes_of};
+ghost use Rattle.blake2_words.specs.Hash.{words_of, xor_words};
+ghost use Rattle.blake2_words.specs.Views.{given_flags};
 
+use super::Flags;
 use crate::consts::{BLAKE2B_IV, SIGMA};
 use blake2_rows::rows::u64x4;
 
@@ -29,11 +32,11 @@ fn block_words(block: &[u8; 128]) -> [u64; 16]
 // block.
 #[tactic(auto, unfolding(crate::specs::Hash::before_rounds, crate::specs::Hash::xor_words))]
 #[inline(always)]
-fn begin(h: [u64x4; 2], counter: u64, last: bool) -> [u64x4; 4]
-    ensures { sixteen result ≡ before_rounds blake2b (eight h) counter (flags last) }
+fn begin(h: [u64x4; 2], counter: u64, flags: Flags) -> [u64x4; 4]
+    ensures { sixteen result ≡ before_rounds blake2b (eight h) counter (given_flags flags) }
 {
     let [low, high] = to_rows(&BLAKE2B_IV);
-    let ones = if last { u64::MAX } else { 0 };
+    let ones = if flags.last { u64::MAX } else { 0 };
     let marks = u64x4::new(counter, 0, ones, 0);
     [h[0], h[1], low, high ^ marks]
 }
@@ -77,24 +80,24 @@ fn finish(h: [u64x4; 2], v: [u64x4; 4]) -> [u64x4; 2]
 }
 
 /// F, the compression (RFC 7693, 3.2). `h` holds the eight chaining words, `block` the next 128 bytes
-/// of the data, `counter` the number of bytes counted up to and with this block, padding aside; `last`
-/// is the final flag.
+/// of the data, and `counter` the number of bytes counted up to and with this block, padding aside.
 #[inline]
-pub fn compress(h: &mut [u64x4; 2], block: &[u8; 128], counter: u64, last: bool)
-    ensures { eight h.new ≡ Hash.compress blake2b (eight h.old) block.now counter (flags last) }
+pub fn compress(h: &mut [u64x4; 2], block: &[u8; 128], counter: u64, flags: Flags)
+    ensures { eight h.new
+        ≡ Hash.compress blake2b (eight h.old) block.now counter (given_flags flags) }
 {
     let m = block_words(block);
-    let mut v = begin(*h, counter, last);
+    let mut v = begin(*h, counter, flags);
     rounds(&mut v, &m);
     *h = finish(*h, v);
 }
 
 /// The same where the eight chaining words are an array.
-pub fn compress_words(h: &mut [u64; 8], block: &[u8; 128], counter: u64, last: bool)
-    ensures { h.new ≡ Hash.compress blake2b h.old block.now counter (flags last) }
+pub fn compress_words(h: &mut [u64; 8], block: &[u8; 128], counter: u64, flags: Flags)
+    ensures { h.new ≡ Hash.compress blake2b h.old block.now counter (given_flags flags) }
 {
     let mut rows = to_rows(h);
-    compress(&mut rows, block, counter, last);
+    compress(&mut rows, block, counter, flags);
     *h = to_words(&rows);
 }
 

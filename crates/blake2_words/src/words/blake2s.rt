@@ -5,8 +5,11 @@ ghost use Rattle.blake2_rows.specs.Family.{blake2s, sigma};
 ghost use Rattle.blake2_rows.specs.Round;
 ghost use Rattle.blake2_rows.specs.Rows.{eight, sixteen};
 ghost use Rattle.blake2_words.specs.Hash;
-ghost use Rattle.blake2_words.specs.Hash.{after_rounds, before_rounds, bytes_of, flags, words_of, xor_words};
+ghost use Rattle.blake2_words.specs.Hash.{after_rounds, before_rounds, bytes_of};
+ghost use Rattle.blake2_words.specs.Hash.{words_of, xor_words};
+ghost use Rattle.blake2_words.specs.Views.{given_flags};
 
+use super::Flags;
 use crate::consts::{BLAKE2S_IV, SIGMA};
 use blake2_rows::rows::u32x4;
 
@@ -28,11 +31,11 @@ fn block_words(block: &[u8; 64]) -> [u32; 16]
 // and sixth word, the low 32 bits and the high ones, and all ones into its seventh in the last block.
 #[tactic(auto, unfolding(crate::specs::Hash::before_rounds, crate::specs::Hash::xor_words))]
 #[inline(always)]
-fn begin(h: [u32x4; 2], counter: u64, last: bool) -> [u32x4; 4]
-    ensures { sixteen result ≡ before_rounds blake2s (eight h) counter (flags last) }
+fn begin(h: [u32x4; 2], counter: u64, flags: Flags) -> [u32x4; 4]
+    ensures { sixteen result ≡ before_rounds blake2s (eight h) counter (given_flags flags) }
 {
     let [low, high] = to_rows(&BLAKE2S_IV);
-    let ones = if last { u32::MAX } else { 0 };
+    let ones = if flags.last { u32::MAX } else { 0 };
     let low_count = (counter % (1 << 32)) as u32;
     let high_count = (counter >> 32) as u32;
     let marks = u32x4::new(low_count, high_count, ones, 0);
@@ -76,24 +79,24 @@ fn finish(h: [u32x4; 2], v: [u32x4; 4]) -> [u32x4; 2]
 }
 
 /// F, the compression (RFC 7693, 3.2). `h` holds the eight chaining words, `block` the next 64 bytes
-/// of the data, `counter` the number of bytes counted up to and with this block, padding aside; `last`
-/// is the final flag.
+/// of the data, and `counter` the number of bytes counted up to and with this block, padding aside.
 #[inline]
-pub fn compress(h: &mut [u32x4; 2], block: &[u8; 64], counter: u64, last: bool)
-    ensures { eight h.new ≡ Hash.compress blake2s (eight h.old) block.now counter (flags last) }
+pub fn compress(h: &mut [u32x4; 2], block: &[u8; 64], counter: u64, flags: Flags)
+    ensures { eight h.new
+        ≡ Hash.compress blake2s (eight h.old) block.now counter (given_flags flags) }
 {
     let m = block_words(block);
-    let mut v = begin(*h, counter, last);
+    let mut v = begin(*h, counter, flags);
     rounds(&mut v, &m);
     *h = finish(*h, v);
 }
 
 /// The same where the eight chaining words are an array.
-pub fn compress_words(h: &mut [u32; 8], block: &[u8; 64], counter: u64, last: bool)
-    ensures { h.new ≡ Hash.compress blake2s h.old block.now counter (flags last) }
+pub fn compress_words(h: &mut [u32; 8], block: &[u8; 64], counter: u64, flags: Flags)
+    ensures { h.new ≡ Hash.compress blake2s h.old block.now counter (given_flags flags) }
 {
     let mut rows = to_rows(h);
-    compress(&mut rows, block, counter, last);
+    compress(&mut rows, block, counter, flags);
     *h = to_words(&rows);
 }
 

@@ -1,9 +1,18 @@
+use Rattle.std.proofs.Common.{◌∙◌, ap, sym, arith}
+use Rattle.std.proofs.lemmas.List.{length-take-le}
 use Rattle.blake2_rows.specs.Family.{blake2b}
-use Rattle.blake2_words.specs.Hash.{parameters_of}
-use Rattle.blake2_words.proofs.ParameterRows.{parameter_words-rows}
+use Rattle.blake2_words.specs.Hash.{words_of, parameter_words}
+use Rattle.blake2_words.proofs.Loads.{eight_read}
 use Rattle.blake2_words.proofs.params.blake2b.parameter_rows.Goals as goal
 
 pub returns : goal.returns
+unfolding parameter_words
 returns c =
-    rw (c.new.ensures, c.from_le_bytes.ensures)
-    (parameter_words-rows blake2b (parameters_of c.args.output_size c.args.key_size c.args.salt.now c.args.persona.now) c.texts.result c.texts.ensures)
+    rw (c.from_le_bytes.ensures, c.from_le_bytes-2.ensures)
+    (eight_read blake2b c.parameter_block-block.result ∙ ap (words_of blake2b 8) c.parameter_block-block.ensures)
+
+pub slice_bounds-from_le_bytes-end : goal.slice_bounds-from_le_bytes-end
+slice_bounds-from_le_bytes-end c = sym (length-take-le 32 c.parameter_block-block.result (omega arith))
+
+pub from_le_bytes-requires : goal.from_le_bytes-requires
+from_le_bytes-requires c = length-take-le 32 c.parameter_block-block.result (omega arith)

@@ -1,5 +1,5 @@
 use Rattle.blake2_rows.specs.Family.{blake2b}
-use Rattle.blake2_words.proofs.Loads.{quarters_read}
+use Rattle.blake2_words.proofs.Loads.{sixteen_read}
 use Rattle.blake2_words.proofs.words.blake2b.block_words.Goals as goal
 
 pub returns : goal.returns
@@ -14,4 +14,4 @@ returns c =
       c.to_array-4.ensures,
       c.from_le_bytes-4.ensures,
     )
-    (quarters_read blake2b c.args.block.now)
+    (sixteen_read blake2b c.args.block.now)

@@ -1,14 +1,15 @@
 use Rattle.std.proofs.Common.{ℕ, List, take, drop, ap, ◌∙◌}
 use Rattle.blake2_rows.specs.Family.{blake2b}
 use Rattle.blake2_rows.specs.Rows.{eight}
-use Rattle.blake2_words.specs.Hash.{xor_words, after_rounds, before_rounds, compress, flags}
+use Rattle.blake2_words.specs.Hash.{xor_words, after_rounds, before_rounds, compress}
+use Rattle.blake2_words.specs.Views.{given_flags}
 use Rattle.blake2_words.proofs.words.blake2b.compress.Goals as goal
 
 pub returns : goal.returns
 unfolding compress
 returns c =
     let h : List ℕ = eight c.args.h.now in
-    let begun : List ℕ = before_rounds blake2b h c.args.counter (flags c.args.last) in
+    let begun : List ℕ = before_rounds blake2b h c.args.counter (given_flags c.args.flags) in
     c.finish.ensures
     ∙ ap (λ (v : List ℕ). xor_words (xor_words h (take 8 v)) (drop 8 v))
     (c.rounds.ensures
