@@ -2,30 +2,22 @@
 use Rattle.std.proofs.Common.{◌≡◌, ℕ, ◌+◌, ◌-◌, ◌*◌, ◌^◌, ◌<◌, ◌≤◌, List, [], ◌++◌, length, take, Option, Some, None, refl, sym, ap, ◌∙◌, arith, zero-add, append-nil, append_assoc, length-append}
 use Rattle.std.proofs.lemmas.List.{take_all}
 use Rattle.blake2_rows.specs.Family.{Family, blake2b, blake2s, block_bytes, key_bytes}
-use Rattle.blake2_words.specs.Hash.{Parameters, parameters_of, final, cut, chain, last_chain, block_count, key_size, key_block, digest}
+use Rattle.blake2_words.specs.Hash.{parameters_of, final, cut, chain, last_chain, block_count, key_size, key_block, digest}
 use Rattle.blake2_words.proofs.Sizes.{length-padded}
 use Rattle.blake2_digest.specs.Blocks.{handed_on, held_back}
 use Rattle.blake2_digest.specs.States.{Updated, Fresh}
 use Rattle.blake2_digest.proofs.Cutting.{handed_and_held, length-handed_on, length-held_back}
-use Rattle.blake2.specs.Cores.{CoreState, core_made, absorbed, last_output}
+use Rattle.blake2.specs.Cores.{CoreState, absorbed, last_output}
 use Rattle.blake2.specs.States.{tail, State, future, started, count, start_count, meaning_by, fresh, digest_of}
-use Rattle.blake2.specs.CoreLaws.{count-absorbed, start-absorbed}
+use Rattle.blake2.specs.CoreLaws.{count-absorbed}
 use Rattle.blake2.proofs.Streaming.{tail_handed}
-
--- the core of a state
-abbrev pub core_of : State → CoreState
-core_of s = record { h = s.h; start = s.h0; count = s.c }
 
 -- a state once it has taken x: the core has taken what the buffer hands on
 abbrev pub updated : Family → State → List ℕ → State
-updated f s x =
-    let core = absorbed f (core_of s) (handed_on (block_bytes f) (s.p ++ x)) in record {
-      h = core.h;
-      c = core.count;
-      p = held_back (block_bytes f) (s.p ++ x);
-      h0 = s.h0;
-      k = s.k;
-    }
+updated f s x = record s {
+  core = absorbed f s.core (handed_on (block_bytes f) (s.pending ++ x));
+  pending = held_back (block_bytes f) (s.pending ++ x);
+}
 
 -- ---- updates
 
@@ -36,15 +28,15 @@ block_positive blake2s = omega arith
 future-updated : (f : Family) (n : ℕ) (s : State) (x y : List ℕ) → future f n (updated f s x) y ≡ future f n s (x ++ y)
 unfolding future
 future-updated f n s x y =
-    ap (take n) (tail_handed f final (core_of s) (s.p ++ x) y ∙ ap (λ (z : List ℕ). tail f s.h s.c z final) (append_assoc s.p x y))
+    ap (take n) (tail_handed f final s.core (s.pending ++ x) y ∙ ap (λ (z : List ℕ). tail f s.core.h s.core.count z final) (append_assoc s.pending x y))
 
 started-updated : (f : Family) (n : ℕ) (s : State) (x y : List ℕ) → started f n (updated f s x) y ≡ started f n s y
-unfolding started
+unfolding started absorbed
 started-updated f n s x y = refl
 
 pub count-updated : (f : Family) (s : State) (x : List ℕ) → count (updated f s x) ≡ count s + length x
 count-updated f s x =
-    omega (arith, count-absorbed f (core_of s) (handed_on (block_bytes f) (s.p ++ x)), handed_and_held (block_bytes f) (s.p ++ x) (block_positive f), length-append s.p x)
+    omega (arith, count-absorbed f s.core (handed_on (block_bytes f) (s.pending ++ x)), handed_and_held (block_bytes f) (s.pending ++ x) (block_positive f), length-append s.pending x)
 
 -- an update keeps its promise
 pub Updated_by : {S : Type 0} (f : Family) (n : ℕ) (state_of : S → State) (old : S) (x : List ℕ) (new : S)
@@ -60,38 +52,24 @@ Updated_by f n state_of old x new e = record {
 
 -- all blocks of the counted bytes but one are compressed
 abbrev pub IsLazy : Family → State → Type 0
-IsLazy f s = s.c ≡ block_bytes f * (block_count f (count s) - 1)
+IsLazy f s = s.core.count ≡ block_bytes f * (block_count f (count s) - 1)
 
-pub within-updated : (f : Family) (s : State) (x : List ℕ) → length (updated f s x).p ≤ block_bytes f
-within-updated f s x = length-held_back (block_bytes f) (s.p ++ x) (block_positive f)
+pub within-updated : (f : Family) (s : State) (x : List ℕ) → length (updated f s x).pending ≤ block_bytes f
+within-updated f s x = length-held_back (block_bytes f) (s.pending ++ x) (block_positive f)
 
 pub IsLazy-updated : (f : Family) (s : State) (x : List ℕ) → IsLazy f s → IsLazy f (updated f s x)
 IsLazy-updated blake2b s x h =
-    omega (arith, count-absorbed blake2b (core_of s) (handed_on 128 (s.p ++ x)), handed_and_held 128 (s.p ++ x) (omega arith), length-append s.p x, length-held_back 128 (s.p ++ x) (omega arith), length-handed_on 128 (s.p ++ x))
+    omega (arith, count-absorbed blake2b s.core (handed_on 128 (s.pending ++ x)), handed_and_held 128 (s.pending ++ x) (omega arith), length-append s.pending x, length-held_back 128 (s.pending ++ x) (omega arith), length-handed_on 128 (s.pending ++ x))
 IsLazy-updated blake2s s x h =
-    omega (arith, count-absorbed blake2s (core_of s) (handed_on 64 (s.p ++ x)), handed_and_held 64 (s.p ++ x) (omega arith), length-append s.p x, length-held_back 64 (s.p ++ x) (omega arith), length-handed_on 64 (s.p ++ x))
-
--- what the core and the buffer hold after an update is the updated state
-pub state-updated : (f : Family) (s : State) (x : List ℕ) (core : CoreState) (p : List ℕ) → core ≡ absorbed f (core_of s) (handed_on (block_bytes f) (s.p ++ x))
-    → p ≡ held_back (block_bytes f) (s.p ++ x) → record { h = core.h; c = core.count; p = p; h0 = core.start; k = s.k } ≡ updated f s x
-state-updated f s x core p taken pending =
-    let started_from = ap (λ (c : CoreState). c.start) taken ∙ start-absorbed f (core_of s) (handed_on (block_bytes f) (s.p ++ x)) in
-    λ i. record { h = (taken i).h; c = (taken i).count; p = pending i; h0 = started_from i; k = s.k }
+    omega (arith, count-absorbed blake2s s.core (handed_on 64 (s.pending ++ x)), handed_and_held 64 (s.pending ++ x) (omega arith), length-append s.pending x, length-held_back 64 (s.pending ++ x) (omega arith), length-handed_on 64 (s.pending ++ x))
 
 -- what holds of every hasher and MAC holds after an update
 pub kept-updated : (f : Family) (s new : State) (x : List ℕ) → new ≡ updated f s x → IsLazy f s → count s + length x < 2 ^ 64
-    → (length new.p ≤ block_bytes f) × (count new < 2 ^ 64) × IsLazy f new
+    → (length new.pending ≤ block_bytes f) × (count new < 2 ^ 64) × IsLazy f new
 kept-updated f s new x e one_left fits =
     rw e (within-updated f s x, omega (arith, count-updated f s x), IsLazy-updated f s x one_left)
 
 -- ---- constructors
-
--- what the core and the buffers hold as they are made is a fresh state
-pub state-fresh : (f : Family) (parameters : Parameters) (key : Option (List ℕ)) (core : CoreState) (p k : List ℕ) → core ≡ core_made f parameters
-    → p ≡ key_block f key → k ≡ key_block f key
-    → record { h = core.h; c = core.count; p = p; h0 = core.start; k = k } ≡ fresh f parameters key
-state-fresh f parameters key core p k made pending start_pending =
-    λ i. record { h = (made i).h; c = (made i).count; p = pending i; h0 = (made i).start; k = start_pending i }
 
 future-fresh : (f : Family) (n : ℕ) (salt persona : List ℕ) (key : Option (List ℕ)) (y : List ℕ)
     → future f n (fresh f (parameters_of n (key_size key) salt persona) key) y ≡ digest_of f n salt persona key y
@@ -142,6 +120,6 @@ last_chain-pending f core p fits =
     rw (append-nil p, one, whole) refl
 
 -- a finalising call keeps its promise
-pub future-nothing : (f : Family) (n : ℕ) (s : State) → length s.p ≤ block_bytes f → take n (last_output f (core_of s) s.p) ≡ future f n s []
+pub future-nothing : (f : Family) (n : ℕ) (s : State) → length s.pending ≤ block_bytes f → take n (last_output f s.core s.pending) ≡ future f n s []
 unfolding future
-future-nothing f n s fits = ap (take n) (sym (last_chain-pending f (core_of s) s.p fits))
+future-nothing f n s fits = ap (take n) (sym (last_chain-pending f s.core s.pending fits))

@@ -27,8 +27,3 @@ absorbed-nil f core =
 pub count-absorbed : (f : Family) (core : CoreState) (xs : List (List ℕ)) → (absorbed f core xs).count ≡ core.count + block_bytes f * length xs
 unfolding absorbed
 count-absorbed f core xs = refl
-
--- the start words stay
-pub start-absorbed : (f : Family) (core : CoreState) (xs : List (List ℕ)) → (absorbed f core xs).start ≡ core.start
-unfolding absorbed
-start-absorbed f core xs = refl

@@ -6,14 +6,15 @@ use Rattle.blake2.specs.declared.hashers.blake2b.Blake2b.{Blake2b}
 use Rattle.blake2.specs.declared.hashers.blake2s.Blake2s.{Blake2s}
 use Rattle.blake2.specs.declared.macs.blake2b.Blake2bMac.{Blake2bMac}
 use Rattle.blake2.specs.declared.macs.blake2s.Blake2sMac.{Blake2sMac}
+use Rattle.blake2.specs.Contexts.{blake2b_context_state, blake2s_context_state}
 use Rattle.blake2.specs.States.{State, meaning_by}
 
--- a hasher holds a core and pending bytes, and starts with nothing pending
+-- a hasher holds a context, and starts with nothing pending
 abbrev pub blake2b_state : {n : ℕ} → Blake2b n → State
-blake2b_state s = record { h = s.core.h; c = s.core.count; p = s.buffer; h0 = s.core.start; k = [] }
+blake2b_state s = blake2b_context_state [] s.context
 
 abbrev pub blake2s_state : {n : ℕ} → Blake2s n → State
-blake2s_state s = record { h = s.core.h; c = s.core.count; p = s.buffer; h0 = s.core.start; k = [] }
+blake2s_state s = blake2s_context_state [] s.context
 
 -- the digests of n bytes that a hasher will give, and the bytes that it counts
 abbrev pub blake2b_meaning : (n : ℕ) → Meaning (Blake2b n)
@@ -24,10 +25,10 @@ blake2s_meaning n = meaning_by blake2s n blake2s_state
 
 -- a MAC holds the block of its key besides, which a start leaves pending
 abbrev pub blake2b_mac_state : {n : ℕ} → Blake2bMac n → State
-blake2b_mac_state s = record { h = s.core.h; c = s.core.count; p = s.buffer; h0 = s.core.start; k = s.key_block }
+blake2b_mac_state s = blake2b_context_state s.key_block s.context
 
 abbrev pub blake2s_mac_state : {n : ℕ} → Blake2sMac n → State
-blake2s_mac_state s = record { h = s.core.h; c = s.core.count; p = s.buffer; h0 = s.core.start; k = s.key_block }
+blake2s_mac_state s = blake2s_context_state s.key_block s.context
 
 -- the outputs of n bytes that a MAC will give, and the bytes that it counts
 abbrev pub blake2b_mac_meaning : (n : ℕ) → Meaning (Blake2bMac n)

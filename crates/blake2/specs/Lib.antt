@@ -6,6 +6,7 @@ pub use Rattle.blake2_words.specs.Views
 pub use Rattle.blake2_words.specs.Witness
 pub use Rattle.blake2_runs.specs.Play
 pub use Rattle.blake2_runs.specs.Streams
+pub mod Contexts
 pub mod CoreLaws
 pub mod Cores
 pub mod Hashers

@@ -19,6 +19,6 @@ pub StartedAgain_by : {S : Type 0} (f : Family) (n : ℕ) (state_of : S → Stat
 StartedAgain_by f n state_of old new e = record {
   future = λ y. ap (λ s. future f n s y) e ∙ future-restarted f n (state_of old) y;
   started = λ y. ap (λ s. started f n s y) e ∙ started-restarted f n (state_of old) y;
-  count = ap count e ∙ zero-add (length (state_of old).k);
+  count = ap count e ∙ zero-add (length (state_of old).start_block);
   start_count = ap start_count e;
 }

@@ -1,17 +1,16 @@
 -- What the state of a hasher or MAC means: the digests that it will give.
-use Rattle.std.specs.Prelude.{◌≡◌, ℕ, ◌+◌, List, ◌++◌, length, take, Option}
+use Rattle.std.specs.Prelude.{◌≡◌, ℕ, ◌+◌, List, ◌++◌, length, take, replicate, Option}
 use Rattle.blake2_rows.specs.Family.{Family}
-use Rattle.blake2_words.specs.Hash.{Flags, final, bytes_of, last_chain, Parameters, start, key_block, Input, digest}
+use Rattle.blake2_words.specs.Hash.{Flags, final, bytes_of, last_chain, Parameters, key_block, Input, digest}
+use Rattle.blake2.specs.Cores.{CoreState, core_made, core_restarted, core_wiped}
 pub use Rattle.blake2_digest.specs.States.{Fresh, Meaning}
 
--- chaining words h, counter c, pending bytes p, start words h0, and the start block k: the padded key
--- block, or nothing
+-- the core, the pending bytes, and the start block, which stands before every message: the padded
+-- key block, or nothing
 pub record State : Type 0 where
-  pub h : List ℕ
-  pub c : ℕ
-  pub p : List ℕ
-  pub h0 : List ℕ
-  pub k : List ℕ
+  pub core : CoreState
+  pub pending : List ℕ
+  pub start_block : List ℕ
 
 -- the bytes of h after the rest z of the data, where c bytes were counted before: the loop and the
 -- last call of RFC 7693, 3.3
@@ -20,19 +19,19 @@ tail f h c z flags = bytes_of f (last_chain f h c z flags)
 
 -- the digest of n bytes that the state gives once it has taken y too
 unfoldable pub future : Family → ℕ → State → List ℕ → List ℕ
-future f n s y = take n (tail f s.h s.c (s.p ++ y) final)
+future f n s y = take n (tail f s.core.h s.core.count (s.pending ++ y) final)
 
 -- the digest of n bytes that the state gives of y after a reset
 unfoldable pub started : Family → ℕ → State → List ℕ → List ℕ
-started f n s y = take n (tail f s.h0 0 (s.k ++ y) final)
+started f n s y = take n (tail f s.core.start 0 (s.start_block ++ y) final)
 
 -- the bytes counted since the last start
 abbrev pub count : State → ℕ
-count s = s.c + length s.p
+count s = s.core.count + length s.pending
 
 -- the bytes that a start counts
 abbrev pub start_count : State → ℕ
-start_count s = length s.k
+start_count s = length s.start_block
 
 -- what is said of a type whose values hold a state each
 abbrev pub meaning_by : {S : Type 0} → Family → ℕ → (S → State) → Meaning S
@@ -45,15 +44,24 @@ meaning_by f n state_of = record {
 
 -- a state as it is made with these parameters, and a key or none
 abbrev pub fresh : Family → Parameters → Option (List ℕ) → State
-fresh f p key = record { h = start f p; c = 0; p = key_block f key; h0 = start f p; k = key_block f key }
+fresh f p key = record {
+  core = core_made f p;
+  pending = key_block f key;
+  start_block = key_block f key;
+}
 
 -- a state as it was made
 abbrev pub restarted : State → State
-restarted s = record { h = s.h0; c = 0; p = s.k; h0 = s.h0; k = s.k }
+restarted s = record s { core = core_restarted s.core; pending = s.start_block }
 
 -- the second value is the first, at its start again
 abbrev pub IsRestarted : {S : Type 0} → (S → State) → S → S → Type 0
 IsRestarted state_of old new = state_of new ≡ restarted (state_of old)
+
+-- a state of which every word, count and byte is zero
+abbrev pub IsWiped : State → Type 0
+IsWiped s = (s.core ≡ core_wiped) × (s.pending ≡ replicate (length s.pending) 0)
+    × (s.start_block ≡ replicate (length s.start_block) 0)
 
 -- the input of a salt, a persona, a key or none, and a message
 abbrev pub input : List ℕ → List ℕ → Option (List ℕ) → List ℕ → Input

@@ -11,6 +11,7 @@
 //! ```
 #![tactic(auto)]
 
+mod contexts;
 mod cores;
 mod hashers;
 mod macs;

@@ -1,33 +1,28 @@
 //! The hasher of BLAKE2b.
-ghost use Rattle.std.specs.Prelude.{◌≡◌, ⊤, ℕ, ◌+◌, ◌-◌, ◌*◌, ◌^◌, ◌<◌, ◌≤◌, List, [], length, None, EachIndex, slice_index};
+ghost use Rattle.std.specs.Prelude.{◌≡◌, ⊤, ℕ, ◌+◌, ◌-◌, ◌*◌, ◌^◌, ◌<◌, ◌≤◌, List, [], length, None};
 ghost use Rattle.std.proofs.Common.{arith};
 ghost use Rattle.blake2_rows.specs.Family.{blake2b};
 ghost use Rattle.blake2_digest.specs.Blocks.{block_count};
 ghost use Rattle.blake2.specs.States.{digest_of as blake2_of};
-ghost use Rattle.blake2.specs.Cores.{core_wiped};
 
+use crate::contexts::blake2b::Blake2bContext;
 use crate::cores::blake2b::Blake2bVarCore;
 use blake2_digest::{
     BlockSizeUser, CustomizedInit, Digest, Duplicate, FixedOutput, FixedOutputReset, HashMarker,
-    LazyBuffer, OutputSizeUser, Reset, Update, UpdateCore, VariableOutputCore, Wipe, ZeroizeOnDrop,
+    LazyBuffer, OutputSizeUser, Reset, Update, Wipe, ZeroizeOnDrop,
 };
 use std::alloc::AllocError;
 
 /// BLAKE2b with digests of `N` bytes, at most 64, as the unkeyed hash function.
+#[derive(Drop)]
 pub struct Blake2b<const N: usize> {
-    core: Blake2bVarCore,
-    buffer: LazyBuffer<128>,
+    context: Blake2bContext,
     ghost supported: { N ≤ 64 },
-    ghost within_a_block: { length buffer ≤ 128 },
-    ghost counted: { core.count + length buffer < 2 ^ 64 },
-    // All blocks of the counted bytes but one are compressed.
-    ghost one_block_left: { core.count ≡ 128 * (block_count 128 (core.count + length buffer) - 1) },
 }
 
 impl<const N: usize> Blake2b<N> {
-    ghost use Rattle.blake2.specs.States.{IsRestarted};
-    ghost use Rattle.blake2.specs.Hashers.{blake2b_state, blake2b_meaning};
-    ghost use Rattle.blake2_digest.specs.States.{Fresh, digest_now};
+    ghost use Rattle.blake2.specs.Hashers.{blake2b_meaning};
+    ghost use Rattle.blake2_digest.specs.States.{Fresh};
 
     // A hasher with this persona that has taken nothing.
     fn with_persona(persona: &[u8]) -> Self
@@ -35,24 +30,10 @@ impl<const N: usize> Blake2b<N> {
         requires persona { length persona.now ≤ 16 }
         ensures { Fresh (blake2b_meaning N) (blake2_of blake2b N [] persona.now None) 0 result }
     {
+        let core = Blake2bVarCore::new_with_params(&[], persona, 0, N);
         Blake2b {
-            core: Blake2bVarCore::new_with_params(&[], persona, 0, N),
-            buffer: LazyBuffer::default(),
+            context: Blake2bContext::new(core, LazyBuffer::default()),
         }
-    }
-
-    // Writes the digest, and goes back to the start.
-    fn finish(&mut self, out: &mut [u8; N])
-        ensures output { out.new ≡ digest_now (blake2b_meaning N) self.old }
-        ensures restarted { IsRestarted blake2b_state self.old self.new }
-    {
-        let mut whole = [0; 64];
-        self.core
-            .finalize_variable_core(&mut self.buffer, &mut whole);
-        let out = &mut out[..];
-        out.copy_from_slice(&whole[..N]);
-        self.core.reset();
-        self.buffer.reset();
     }
 }
 
@@ -72,17 +53,17 @@ impl<const N: usize> Update for Blake2b<N> {
     ghost meaning = { blake2b_meaning N };
 
     fn update(&mut self, input: &[u8]) {
-        self.buffer.digest_blocks(input, &mut self.core);
+        self.context.update(input);
     }
 
     fn counted(&self) -> u64 {
-        self.core.counted() + self.buffer.get_pos() as u64
+        self.context.counted()
     }
 }
 
 impl<const N: usize> FixedOutput<N> for Blake2b<N> {
     fn finalize_into(mut self, out: &mut [u8; N]) {
-        self.finish(out);
+        self.context.finish(out);
     }
 
     ghost output_fits = { λ s. Prim.omega (arith, s.supported) };
@@ -95,8 +76,7 @@ impl<const N: usize> Reset for Blake2b<N> {
     ghost is_reset = { IsRestarted blake2b_state };
 
     fn reset(&mut self) {
-        self.core.reset();
-        self.buffer.reset();
+        self.context.restart(LazyBuffer::default());
     }
 }
 
@@ -105,7 +85,7 @@ impl<const N: usize> FixedOutputReset<N> for Blake2b<N> {
     ghost use Rattle.blake2.specs.Restarts.{StartedAgain_by};
 
     fn finalize_into_reset(&mut self, out: &mut [u8; N]) {
-        self.finish(out);
+        self.context.finish_reset(LazyBuffer::default(), out);
     }
 
     ghost reset_starts_again = { StartedAgain_by blake2b N blake2b_state };
@@ -134,8 +114,7 @@ impl<const N: usize> Digest<N> for Blake2b<N> {
 impl<const N: usize> Duplicate for Blake2b<N> {
     fn duplicate(&self) -> Self {
         Blake2b {
-            core: self.core.duplicate(),
-            buffer: self.buffer.duplicate(),
+            context: self.context.duplicate(),
         }
     }
 }
@@ -151,18 +130,18 @@ impl<const N: usize> Clone for Blake2b<N> {
 }
 
 impl<const N: usize> Wipe for Blake2b<N> {
-    ghost is_wiped = { λ s. (s.core ≡ core_wiped) × EachIndex s.buffer (λ k. slice_index s.buffer k ≡ 0) };
+    ghost use Rattle.blake2.specs.States.{IsWiped};
+    ghost use Rattle.blake2.specs.Hashers.{blake2b_state};
 
-    fn wipe(&mut self) {
-        self.core.wipe();
-        self.buffer.wipe();
-    }
-}
+    ghost is_wiped = { λ s. IsWiped (blake2b_state s) };
 
-impl<const N: usize> Drop for Blake2b<N> {
-    fn drop(mut self) {
-        self.wipe();
-        let Blake2b { core: _, buffer: _ } = self;
+    /// As many bytes are pending.
+    fn wipe(&mut self)
+        ensures wiped { IsWiped (blake2b_state self.new) }
+        ensures pending { length (blake2b_state self.new).pending
+            ≡ length (blake2b_state self.old).pending }
+    {
+        self.context.wipe();
     }
 }
 
@@ -177,17 +156,17 @@ impl<const N: usize> Blake2b<N> {
         requires supported { N ≤ 64 }
         requires within_a_block { length pending.now ≤ 128 }
         requires counted { counter + length pending.now < 2 ^ 64 }
-        requires one_block_left { counter ≡ 128 * (block_count 128 (counter + length pending.now) - 1) }
+        requires one_block_left { counter
+            ≡ 128 * (block_count 128 (counter + length pending.now) - 1) }
         ensures { (blake2b_meaning N).count result ≡ counter + length pending.now }
     {
         Blake2b {
-            core: Blake2bVarCore::counting_from(counter),
-            buffer: LazyBuffer::new(pending),
+            context: Blake2bContext::counting_from(counter, pending),
         }
     }
 
     // The words that the run starts from.
     pub(crate) fn start_words(&self) -> [u64; 8] {
-        self.core.start_words()
+        self.context.start_words()
     }
 }

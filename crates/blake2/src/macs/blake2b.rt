@@ -1,40 +1,34 @@
 //! The MAC of BLAKE2b.
-ghost use Rattle.std.specs.Prelude.{◌≡◌, ⊤, ℕ, ◌+◌, ◌-◌, ◌*◌, ◌^◌, ◌<◌, ◌≤◌, ◌↔◌, List, [], length, None, Some, IfOk, IsErr, EachIndex, slice_index};
+ghost use Rattle.std.specs.Prelude.{◌≡◌, ⊤, ℕ, ◌+◌, ◌-◌, ◌*◌, ◌^◌, ◌<◌, ◌≤◌, ◌↔◌, List, [], length, None, Some, IfOk, IsErr};
 ghost use Rattle.std.proofs.Common.{arith};
 ghost use Rattle.blake2_rows.specs.Family.{blake2b};
 ghost use Rattle.blake2_words.specs.Views.{key_of};
-ghost use Rattle.blake2_digest.specs.Blocks.{block_count};
-ghost use Rattle.blake2.specs.Cores.{core_wiped};
 ghost use Rattle.blake2.specs.Keys.{key_count, IsRefused};
 ghost use Rattle.blake2.specs.States.{digest_of as blake2_of};
 
+use crate::contexts::blake2b::Blake2bContext;
 use crate::cores::blake2b::Blake2bVarCore;
 use blake2_digest::{
     Duplicate, FixedOutput, FixedOutputReset, InvalidLength, KeyInit, KeySizeUser, LazyBuffer, Mac,
-    MacMarker, OutputSizeUser, Reset, Update, UpdateCore, VariableOutputCore, Wipe, ZeroizeOnDrop,
+    MacMarker, OutputSizeUser, Reset, Update, Wipe, ZeroizeOnDrop,
 };
 use std::alloc::AllocError;
 use std::fmt;
 use std::fmt::Write;
 
 /// BLAKE2b with outputs of `N` bytes, at most 64, as a message authentication code.
+#[derive(Drop)]
 pub struct Blake2bMac<const N: usize> {
-    core: Blake2bVarCore,
-    buffer: LazyBuffer<128>,
+    context: Blake2bContext,
     // What a start leaves pending: the key, padded with zeros to a block, or nothing.
     key_block: LazyBuffer<128>,
     ghost supported: { N ≤ 64 },
-    ghost within_a_block: { length buffer ≤ 128 },
     ghost key_within_a_block: { length key_block ≤ 128 },
-    ghost counted: { core.count + length buffer < 2 ^ 64 },
-    // All blocks of the counted bytes but one are compressed.
-    ghost one_block_left: { core.count ≡ 128 * (block_count 128 (core.count + length buffer) - 1) },
 }
 
 impl<const N: usize> Blake2bMac<N> {
-    ghost use Rattle.blake2.specs.States.{IsRestarted};
-    ghost use Rattle.blake2.specs.Hashers.{blake2b_mac_state, blake2b_mac_meaning};
-    ghost use Rattle.blake2_digest.specs.States.{Fresh, digest_now};
+    ghost use Rattle.blake2.specs.Hashers.{blake2b_mac_meaning};
+    ghost use Rattle.blake2_digest.specs.States.{Fresh};
 
     /// A MAC under a key of 1 to 64 bytes or none, with a salt and a persona of up to 16 bytes each;
     /// `None` is no key, and no block of one. Refused exactly for a given key of no bytes or of more
@@ -72,9 +66,9 @@ impl<const N: usize> Blake2bMac<N> {
         ensures { Fresh (blake2b_mac_meaning N) (blake2_of blake2b N salt.now persona.now (Some key.now)) 128 result }
     {
         let block = LazyBuffer::<128>::new(key).pad_with_zeros();
+        let core = Blake2bVarCore::new_with_params(salt, persona, key.len(), N);
         Blake2bMac {
-            core: Blake2bVarCore::new_with_params(salt, persona, key.len(), N),
-            buffer: LazyBuffer::new(&block),
+            context: Blake2bContext::new(core, LazyBuffer::new(&block)),
             key_block: LazyBuffer::new(&block),
         }
     }
@@ -86,25 +80,11 @@ impl<const N: usize> Blake2bMac<N> {
         requires persona { length persona.now ≤ 16 }
         ensures { Fresh (blake2b_mac_meaning N) (blake2_of blake2b N salt.now persona.now None) 0 result }
     {
+        let core = Blake2bVarCore::new_with_params(salt, persona, 0, N);
         Blake2bMac {
-            core: Blake2bVarCore::new_with_params(salt, persona, 0, N),
-            buffer: LazyBuffer::default(),
+            context: Blake2bContext::new(core, LazyBuffer::default()),
             key_block: LazyBuffer::default(),
         }
-    }
-
-    // Writes the output, and goes back to the start.
-    fn finish(&mut self, out: &mut [u8; N])
-        ensures output { out.new ≡ digest_now (blake2b_mac_meaning N) self.old }
-        ensures restarted { IsRestarted blake2b_mac_state self.old self.new }
-    {
-        let mut whole = [0; 64];
-        self.core
-            .finalize_variable_core(&mut self.buffer, &mut whole);
-        let out = &mut out[..];
-        out.copy_from_slice(&whole[..N]);
-        self.core.reset();
-        self.buffer = self.key_block.duplicate();
     }
 }
 
@@ -143,17 +123,17 @@ impl<const N: usize> Update for Blake2bMac<N> {
     ghost meaning = { blake2b_mac_meaning N };
 
     fn update(&mut self, input: &[u8]) {
-        self.buffer.digest_blocks(input, &mut self.core);
+        self.context.update(input);
     }
 
     fn counted(&self) -> u64 {
-        self.core.counted() + self.buffer.get_pos() as u64
+        self.context.counted()
     }
 }
 
 impl<const N: usize> FixedOutput<N> for Blake2bMac<N> {
     fn finalize_into(mut self, out: &mut [u8; N]) {
-        self.finish(out);
+        self.context.finish(out);
     }
 
     ghost output_fits = { λ s. Prim.omega (arith, s.supported) };
@@ -166,8 +146,7 @@ impl<const N: usize> Reset for Blake2bMac<N> {
     ghost is_reset = { IsRestarted blake2b_mac_state };
 
     fn reset(&mut self) {
-        self.core.reset();
-        self.buffer = self.key_block.duplicate();
+        self.context.restart(self.key_block.duplicate());
     }
 }
 
@@ -176,7 +155,7 @@ impl<const N: usize> FixedOutputReset<N> for Blake2bMac<N> {
     ghost use Rattle.blake2.specs.Restarts.{StartedAgain_by};
 
     fn finalize_into_reset(&mut self, out: &mut [u8; N]) {
-        self.finish(out);
+        self.context.finish_reset(self.key_block.duplicate(), out);
     }
 
     ghost reset_starts_again = { StartedAgain_by blake2b N blake2b_mac_state };
@@ -187,8 +166,7 @@ impl<const N: usize> Mac<N> for Blake2bMac<N> {}
 impl<const N: usize> Duplicate for Blake2bMac<N> {
     fn duplicate(&self) -> Self {
         Blake2bMac {
-            core: self.core.duplicate(),
-            buffer: self.buffer.duplicate(),
+            context: self.context.duplicate(),
             key_block: self.key_block.duplicate(),
         }
     }
@@ -205,24 +183,21 @@ impl<const N: usize> Clone for Blake2bMac<N> {
 }
 
 impl<const N: usize> Wipe for Blake2bMac<N> {
-    ghost is_wiped = { λ s. (s.core ≡ core_wiped) × EachIndex s.buffer (λ k. slice_index s.buffer k ≡ 0)
-        × EachIndex s.key_block (λ k. slice_index s.key_block k ≡ 0) };
+    ghost use Rattle.blake2.specs.States.{IsWiped};
+    ghost use Rattle.blake2.specs.Hashers.{blake2b_mac_state};
 
-    fn wipe(&mut self) {
-        self.core.wipe();
-        self.buffer.wipe();
+    ghost is_wiped = { λ s. IsWiped (blake2b_mac_state s) };
+
+    /// As many bytes are pending, and the key's block is as long.
+    fn wipe(&mut self)
+        ensures wiped { IsWiped (blake2b_mac_state self.new) }
+        ensures pending { length (blake2b_mac_state self.new).pending
+            ≡ length (blake2b_mac_state self.old).pending }
+        ensures key_block { length (blake2b_mac_state self.new).start_block
+            ≡ length (blake2b_mac_state self.old).start_block }
+    {
+        self.context.wipe();
         self.key_block.wipe();
-    }
-}
-
-impl<const N: usize> Drop for Blake2bMac<N> {
-    fn drop(mut self) {
-        self.wipe();
-        let Blake2bMac {
-            core: _,
-            buffer: _,
-            key_block: _,
-        } = self;
     }
 }
 

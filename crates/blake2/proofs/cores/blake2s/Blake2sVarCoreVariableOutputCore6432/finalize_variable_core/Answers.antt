@@ -10,8 +10,8 @@ pub returns-clause-core : goal.returns-clause-core
 unfolding padded
 returns-clause-core c =
     let held : CoreState = record { h = eight c.self.inside.h; start = eight c.self.inside.start; count = c.self.inside.counter } in
-    completed-by blake2s held c.args.buffer.now c.get_pos.result c.pad_with_zeros-block.result (eight c.compress.new.h)
-    c.get_pos.ensures.pending c.pad_with_zeros-block.ensures.padded c.compress.ensures
+    completed-by blake2s held c.args.buffer.now c.get_pos.result c.padded-block.result (eight c.compress.new.h)
+    c.get_pos.ensures.pending c.padded-block.ensures c.compress.ensures
     ∙ ap (λ (core : CoreState). completed blake2s core c.args.buffer.now) c.self.view_is
 
 pub returns-clause-output : goal.returns-clause-output

@@ -1,13 +1,14 @@
-use Rattle.std.proofs.Common.{None, refl}
+use Rattle.std.proofs.Common.{None, refl, ◌∙◌}
 use Rattle.blake2_rows.specs.Family.{blake2s}
-use Rattle.blake2_words.specs.Hash.{parameters_of, key_block}
+use Rattle.blake2_words.specs.Hash.{key_block}
 use Rattle.blake2.specs.Hashers.{blake2s_mac_state}
-use Rattle.blake2.proofs.StateLaws.{state-fresh, Fresh_by}
+use Rattle.blake2.proofs.StateLaws.{Fresh_by}
 use Rattle.blake2.proofs.macs.blake2s.Blake2sMac.unkeyed.Goals as goal
 
 pub returns : goal.returns
 unfolding key_block
 returns g c =
+    let made = c.new.ensures.core ∙ c.new_with_params-core.ensures in
+    let pending = c.new.ensures.pending ∙ c.default.ensures in
     Fresh_by blake2s g.row.N blake2s_mac_state c.args.salt.now c.args.persona.now None 0 _ refl
-    (state-fresh blake2s (parameters_of g.row.N 0 c.args.salt.now c.args.persona.now) None c.new_with_params.result
-    c.default.result c.default-2.result c.new_with_params.ensures c.default.ensures c.default-2.ensures)
+    (λ i. record { core = made i; pending = pending i; start_block = c.default-2.ensures i })

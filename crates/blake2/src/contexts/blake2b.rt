@@ -1,0 +1,156 @@
+//! The context of a BLAKE2b run.
+ghost use Rattle.std.specs.Prelude.{◌≡◌, ℕ, ◌+◌, ◌-◌, ◌*◌, ◌^◌, ◌<◌, ◌≤◌, List, [], length, take, replicate};
+ghost use Rattle.blake2_rows.specs.Family.{blake2b};
+ghost use Rattle.blake2_digest.specs.Blocks.{block_count};
+ghost use Rattle.blake2.specs.Cores.{completed, last_output, core_restarted, core_wiped};
+
+use crate::cores::blake2b::Blake2bVarCore;
+use blake2_digest::{Duplicate, LazyBuffer, Reset, UpdateCore, VariableOutputCore, Wipe};
+
+// Takes the pending bytes as the last block, and writes the first `N` bytes of the output.
+fn write_output<const N: usize>(
+    core: &mut Blake2bVarCore,
+    buffer: &mut LazyBuffer<128>,
+    out: &mut [u8; N],
+)
+    requires supported { N ≤ 64 }
+    requires counted { core.old.count + length buffer.old < 2 ^ 64 }
+    ensures output { out.new ≡ take N (last_output blake2b core.old buffer.old) }
+    ensures core { core.new ≡ completed blake2b core.old buffer.old }
+    ensures empty { buffer.new ≡ [] }
+{
+    let mut whole = [0; 64];
+    core.finalize_variable_core(buffer, &mut whole);
+    let out = &mut out[..];
+    out.copy_from_slice(&whole[..N]);
+}
+
+/// What a run of BLAKE2b holds: the core, and the bytes that it has not compressed yet. The bytes
+/// that stand before a message, its start block, are the holder's to keep.
+#[derive(Drop)]
+pub(crate) struct Blake2bContext {
+    core: Blake2bVarCore,
+    buffer: LazyBuffer<128>,
+    ghost within_a_block: { length buffer ≤ 128 },
+    ghost counted: { core.count + length buffer < 2 ^ 64 },
+    // All blocks of the counted bytes but one are compressed.
+    ghost one_block_left: { core.count ≡ 128 * (block_count 128 (core.count + length buffer) - 1) },
+}
+
+impl Blake2bContext {
+    ghost use Rattle.blake2.specs.Contexts.{blake2b_context_meaning};
+    ghost use Rattle.blake2_digest.specs.States.{Updated, digest_now};
+
+    /// A run from this core, which has counted nothing, with the start block pending.
+    pub(crate) fn new(core: Blake2bVarCore, start_block: LazyBuffer<128>) -> Self
+        requires nothing_counted { core.count ≡ 0 }
+        requires within_a_block { length start_block ≤ 128 }
+        ensures core { result.core ≡ core }
+        ensures pending { result.buffer ≡ start_block }
+    {
+        Blake2bContext {
+            core,
+            buffer: start_block,
+        }
+    }
+
+    /// Takes the input after all that was taken before.
+    pub(crate) fn update(&mut self, input: &[u8])
+        requires { self.old.core.count + length self.old.buffer + length input.now < 2 ^ 64 }
+        ensures { (n : ℕ) (block : List ℕ)
+            → Updated (blake2b_context_meaning n block) self.old input.now self.new }
+    {
+        self.buffer.digest_blocks(input, &mut self.core);
+    }
+
+    /// The bytes counted since the last start, with those that are pending.
+    pub(crate) fn counted(&self) -> u64
+        ensures { result ≡ self.now.core.count + length self.now.buffer }
+    {
+        self.core.counted() + self.buffer.get_pos() as u64
+    }
+
+    /// Writes the output, and leaves nothing of the run.
+    pub(crate) fn finish<const N: usize>(&mut self, out: &mut [u8; N])
+        requires { N ≤ 64 }
+        ensures output { (block : List ℕ)
+            → out.new ≡ digest_now (blake2b_context_meaning N block) self.old }
+        ensures core { self.new.core ≡ core_wiped }
+        ensures pending { self.new.buffer ≡ [] }
+    {
+        write_output(&mut self.core, &mut self.buffer, out);
+        self.core.wipe();
+    }
+
+    /// Writes the output, and goes back to the start, with this block pending.
+    pub(crate) fn finish_reset<const N: usize>(
+        &mut self,
+        start_block: LazyBuffer<128>,
+        out: &mut [u8; N],
+    )
+        requires supported { N ≤ 64 }
+        requires within_a_block { length start_block ≤ 128 }
+        ensures output { (block : List ℕ)
+            → out.new ≡ digest_now (blake2b_context_meaning N block) self.old }
+        ensures core { self.new.core ≡ core_restarted self.old.core }
+        ensures pending { self.new.buffer ≡ start_block }
+    {
+        write_output(&mut self.core, &mut self.buffer, out);
+        self.core.reset();
+        self.buffer = start_block;
+    }
+
+    /// Goes back to the start, with this block pending.
+    pub(crate) fn restart(&mut self, start_block: LazyBuffer<128>)
+        requires { length start_block ≤ 128 }
+        ensures core { self.new.core ≡ core_restarted self.old.core }
+        ensures pending { self.new.buffer ≡ start_block }
+    {
+        self.core.reset();
+        self.buffer = start_block;
+    }
+}
+
+impl Duplicate for Blake2bContext {
+    fn duplicate(&self) -> Self {
+        Blake2bContext {
+            core: self.core.duplicate(),
+            buffer: self.buffer.duplicate(),
+        }
+    }
+}
+
+impl Wipe for Blake2bContext {
+    ghost is_wiped = { λ s. (s.core ≡ core_wiped) × (s.buffer ≡ replicate (length s.buffer) 0) };
+
+    fn wipe(&mut self)
+        ensures wiped { (self.new.core ≡ core_wiped)
+            × (self.new.buffer ≡ replicate (length self.new.buffer) 0) }
+        ensures len { length self.new.buffer ≡ length self.old.buffer }
+    {
+        self.core.wipe();
+        self.buffer.wipe();
+    }
+}
+
+#[cfg(test)]
+impl Blake2bContext {
+    // A run that has counted so many bytes, the last of them pending.
+    pub(crate) fn counting_from(counter: u64, pending: &[u8]) -> Self
+        requires within_a_block { length pending.now ≤ 128 }
+        requires counted { counter + length pending.now < 2 ^ 64 }
+        requires one_block_left { counter
+            ≡ 128 * (block_count 128 (counter + length pending.now) - 1) }
+        ensures { result.core.count + length result.buffer ≡ counter + length pending.now }
+    {
+        Blake2bContext {
+            core: Blake2bVarCore::counting_from(counter),
+            buffer: LazyBuffer::new(pending),
+        }
+    }
+
+    // The words that the run starts from.
+    pub(crate) fn start_words(&self) -> [u64; 8] {
+        self.core.start_words()
+    }
+}
