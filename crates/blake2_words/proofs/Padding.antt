@@ -1,6 +1,6 @@
 -- Lists with zeros at their end.
-use Rattle.std.proofs.Common.{◌≡◌, ℕ, zero, suc, ◌-◌, ◌<◌, ◌≤◌, inl, inr, List, ◌++◌, length, take, drop, replicate, refl, sym, ap, ◌∙◌, arith, get_or}
-use Rattle.std.proofs.lemmas.List.{get_or-take, get_or-append_right, get_or_append_left, length-take-le, append-nil, drop-replicate}
+use Rattle.std.proofs.Common.{◌≡◌, ℕ, zero, suc, ◌-◌, ◌<◌, ◌≤◌, inl, inr, List, ◌++◌, length, take, replicate, refl, sym, ap, ◌∙◌, arith, get_or}
+use Rattle.std.proofs.lemmas.List.{get_or-take, get_or-append_right, get_or_append_left, length-take-le, append-nil}
 use Rattle.std.proofs.lemmas.Grind.{same_number_lists}
 use Rattle.std.proofs.lemmas.Bool.{cases_lt}
 use Rattle.blake2_words.specs.Hash.{padded}
@@ -37,8 +37,3 @@ zeros_after xs k h zeros =
       | inl below ↦ sym (padded-before (length xs) (take k xs) i (omega arith) ∙ get_or-take k xs i 0 below)
       | inr past ↦ zeros i past ∙ sym (padded-past (length xs) (take k xs) i (omega arith))
     ])
-
--- a list written over the front of n zeros
-pub zeros_overwritten : (n : ℕ) (xs : List ℕ) → xs ++ drop (length xs) (replicate n 0) ≡ padded n xs
-unfolding padded
-zeros_overwritten n xs = ap (λ (z : List ℕ). xs ++ z) (drop-replicate (length xs) n 0)

@@ -4,7 +4,8 @@ use Rattle.std.proofs.lemmas.List.{take_at, drop_at, append_assoc, length-replic
 use borrow.Rule.Slice.PartMut.{put_mid}
 use Rattle.blake2_rows.specs.Family.{Family, salt_bytes, offset_bytes, reserved_bytes}
 use Rattle.blake2_words.specs.Hash.{Fits, padded, Parameters, parameter_block}
-use Rattle.blake2_words.proofs.Padding.{padded-whole, zeros_overwritten}
+use Rattle.blake2_rows.proofs.Texts.{zeros_overwritten}
+use Rattle.blake2_words.proofs.Padding.{padded-whole}
 use Rattle.blake2_words.proofs.ParameterTexts.{padded-append_zeros}
 use Rattle.blake2_words.proofs.Sizes.{length-padded}
 

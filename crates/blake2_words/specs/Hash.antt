@@ -7,6 +7,7 @@ use Rattle.std.specs.List.{flat_map, range_with_len}
 use mir.Val.{bits}
 use Rattle.blake2_rows.specs.Blocks
 pub use Rattle.blake2_rows.specs.Texts.{AreBytes}
+unfoldable pub use Rattle.blake2_rows.specs.Texts.{padded}
 use Rattle.blake2_rows.specs.Family.{Family, word, word_bytes, block_bytes, rounds, key_bytes}
 use Rattle.blake2_rows.specs.Family.{output_bytes, salt_bytes, offset_bytes, reserved_bytes}
 use Rattle.blake2_rows.specs.Family.{start_words, sigma}
@@ -27,10 +28,6 @@ bytes_of f ws = flat_map (to_le_bytes (word f)) ws
 unfoldable pub xor_words : List ℕ → List ℕ → List ℕ
 xor_words (x ∷ xs) (y ∷ ys) = bit_xor x y ∷ xor_words xs ys
 xor_words _ _ = []
-
--- xs, with zeros up to n bytes
-unfoldable pub padded : ℕ → List ℕ → List ℕ
-padded n xs = xs ++ replicate (n - length xs) 0
 
 -- ---- the compression function
 

@@ -10,7 +10,7 @@ use crate::contexts::blake2b::Blake2bContext;
 use crate::cores::blake2b::Blake2bVarCore;
 use blake2_digest::{
     Duplicate, FixedOutput, FixedOutputReset, InvalidLength, KeyInit, KeySizeUser, LazyBuffer, Mac,
-    MacMarker, OutputSizeUser, Reset, Update, Wipe, ZeroizeOnDrop,
+    MacMarker, OutputSizeUser, Reset, Update, Wipe, ZeroizeOnDrop, padded,
 };
 use std::alloc::AllocError;
 use std::fmt;
@@ -65,7 +65,7 @@ impl<const N: usize> Blake2bMac<N> {
         requires persona { length persona.now ≤ 16 }
         ensures { Fresh (blake2b_mac_meaning N) (blake2_of blake2b N salt.now persona.now (Some key.now)) 128 result }
     {
-        let block = LazyBuffer::<128>::new(key).pad_with_zeros();
+        let block = padded::<128>(key);
         let core = Blake2bVarCore::new_with_params(salt, persona, key.len(), N);
         Blake2bMac {
             context: Blake2bContext::new(core, LazyBuffer::new(&block)),

@@ -10,7 +10,7 @@ use crate::contexts::blake2s::Blake2sContext;
 use crate::cores::blake2s::Blake2sVarCore;
 use blake2_digest::{
     Duplicate, FixedOutput, FixedOutputReset, InvalidLength, KeyInit, KeySizeUser, LazyBuffer, Mac,
-    MacMarker, OutputSizeUser, Reset, Update, Wipe, ZeroizeOnDrop,
+    MacMarker, OutputSizeUser, Reset, Update, Wipe, ZeroizeOnDrop, padded,
 };
 use std::alloc::AllocError;
 use std::fmt;
@@ -65,7 +65,7 @@ impl<const N: usize> Blake2sMac<N> {
         requires persona { length persona.now ≤ 8 }
         ensures { Fresh (blake2s_mac_meaning N) (blake2_of blake2s N salt.now persona.now (Some key.now)) 64 result }
     {
-        let block = LazyBuffer::<64>::new(key).pad_with_zeros();
+        let block = padded::<64>(key);
         let core = Blake2sVarCore::new_with_params(salt, persona, key.len(), N);
         Blake2sMac {
             context: Blake2sContext::new(core, LazyBuffer::new(&block)),

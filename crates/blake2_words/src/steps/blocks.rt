@@ -10,17 +10,8 @@ ghost use Rattle.blake2_words.specs.Run.{number};
 
 use super::{Entry, Input};
 use crate::params::Parameters;
+pub(crate) use blake2_rows::padded as with_zeros;
 use std::alloc::{AllocError, Global};
-
-// The bytes, with zeros up to N.
-pub(crate) fn with_zeros<const N: usize>(bytes: &[u8]) -> [u8; N]
-    requires { length bytes.now ≤ N }
-    ensures { result ≡ padded N bytes.now }
-{
-    let mut all = [0; N];
-    all[..bytes.len()].copy_from_slice(bytes);
-    all
-}
 
 // The counted length: the key's block, if there is one, and the message.
 pub(crate) fn counted<const B: usize>(input: &Input<'_>) -> u64

@@ -1,6 +1,5 @@
-use Rattle.std.proofs.Common.{length, replicate, ◌∙◌, arith}
-use Rattle.std.proofs.lemmas.List.{drop-replicate}
-use Rattle.std.proofs.lemmas.Slice.{drop-append-drop}
+use Rattle.std.proofs.Common.{length, take, drop, ap, ◌∙◌}
+use Rattle.blake2_digest.proofs.Texts.{take-padded, drop-padded}
 use Rattle.blake2_digest.proofs.buffer.LazyBuffer.new.Goals as goal
 
 pub invariant_of-result : goal.invariant_of-result
@@ -8,5 +7,8 @@ invariant_of-result g c =
     let n = length c.args.pending.now in (
       c.requires.nonzero,
       c.requires.fits,
-      drop-append-drop n (replicate g.row.B 0) c.copy_from_slice.new.self n (omega arith) (omega arith) ∙ drop-replicate n g.row.B 0,
+      ap (drop n) c.padded.ensures ∙ drop-padded g.row.B c.args.pending.now,
     )
+
+pub returns : goal.returns
+returns g c = ap (take (length c.args.pending.now)) c.padded.ensures ∙ take-padded g.row.B c.args.pending.now

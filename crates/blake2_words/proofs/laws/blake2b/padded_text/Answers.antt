@@ -4,6 +4,6 @@ use Rattle.blake2_words.proofs.laws.blake2b.padded_text.Goals as goal
 
 pub returns : goal.returns
 returns c = record {
-  padding = c.with_zeros.ensures;
+  padding = c.padded.ensures;
   law = zeros_leave_digests blake2b;
 }

@@ -39,7 +39,7 @@ returns-then-i-eq0 g c =
     let family : block_bytes g.f ≡ g.row.B = assumption c in
     let accepted : Accepts g.f (input_of c.args.input.now) = assumption c in
     let within : c.args.i < number g.f (input_of c.args.input.now) = assumption c in
-    c.with_zeros.ensures ∙ ap (λ (b : ℕ). padded b c.in-Some.key.now) (sym family)
+    c.padded.ensures ∙ ap (λ (b : ℕ). padded b c.in-Some.key.now) (sym family)
     ∙ block_first g.f _ _ c.args.input.now.message.now c.args.i (ap key_of c.in-Some.is) accepted.key_fits (omega arith) within
 
 pub returns-else-i-eq0 : goal.returns-else-i-eq0

@@ -1,13 +1,12 @@
 use Rattle.std.proofs.Common.{ap, ◌∙◌}
 use Rattle.blake2_rows.specs.Family.{blake2b}
 use Rattle.blake2_rows.specs.Rows.{eight}
-use Rattle.blake2_words.specs.Hash.{padded, bytes_of}
+use Rattle.blake2_words.specs.Hash.{bytes_of}
 use Rattle.blake2.specs.Cores.{CoreState, completed}
 use Rattle.blake2.proofs.CoreSteps.{completed-by}
 use Rattle.blake2.proofs.cores.blake2b.Blake2bVarCoreVariableOutputCore12864.finalize_variable_core.Goals as goal
 
 pub returns-clause-core : goal.returns-clause-core
-unfolding padded
 returns-clause-core c =
     let held : CoreState = record { h = eight c.self.inside.h; start = eight c.self.inside.start; count = c.self.inside.counter } in
     completed-by blake2b held c.args.buffer.now c.get_pos.result c.padded-block.result (eight c.compress.new.h)

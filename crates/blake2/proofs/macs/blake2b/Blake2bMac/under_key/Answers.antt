@@ -1,17 +1,17 @@
-use Rattle.std.proofs.Common.{◌≡◌, Some, ap, ◌∙◌}
+use Rattle.std.proofs.Common.{◌≡◌, Some, ◌∙◌}
 use Rattle.blake2_rows.specs.Family.{blake2b}
-use Rattle.blake2_words.specs.Hash.{padded, key_block}
+use Rattle.blake2_words.specs.Hash.{key_block}
 use Rattle.blake2.specs.Hashers.{blake2b_mac_state}
 use Rattle.blake2.proofs.StateLaws.{Fresh_by, length-key_block_some}
 use Rattle.blake2.proofs.macs.blake2b.Blake2bMac.under_key.Goals as goal
 
 pub returns : goal.returns
-unfolding key_block padded
+unfolding key_block
 returns g c =
     let key = c.args.key.now in
-    let block : c.pad_with_zeros-block.result ≡ key_block blake2b (Some key) = c.pad_with_zeros-block.ensures.padded ∙ ap (padded 128) c.new.ensures in
-    let made = c.new-3.ensures.core ∙ c.new_with_params-core.ensures in
-    let pending = c.new-3.ensures.pending ∙ c.new-2.ensures ∙ block in
-    let start_block = c.new-4.ensures ∙ block in
+    let block : c.padded-block.result ≡ key_block blake2b (Some key) = c.padded-block.ensures in
+    let made = c.new-2.ensures.core ∙ c.new_with_params-core.ensures in
+    let pending = c.new-2.ensures.pending ∙ c.new.ensures ∙ block in
+    let start_block = c.new-3.ensures ∙ block in
     Fresh_by blake2b g.row.N blake2b_mac_state c.args.salt.now c.args.persona.now (Some key) 128 _ (length-key_block_some blake2b key c.requires.key)
     (λ i. record { core = made i; pending = pending i; start_block = start_block i })

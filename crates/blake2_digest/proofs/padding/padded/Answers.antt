@@ -1,7 +1,7 @@
-use Rattle.std.proofs.Common.{◌≡◌, rules, ◌++◌, drop, replicate, ap, ◌∙◌, ℕ, List, length}
+use Rattle.std.proofs.Common.{◌≡◌, rules, ℕ, List, ◌++◌, length, drop, replicate, ap, ◌∙◌}
 use Rattle.std.proofs.lemmas.Grind.{common_steps}
-use Rattle.blake2_words.proofs.Padding.{zeros_overwritten}
-use Rattle.blake2_words.proofs.steps.blocks.with_zeros.Goals as goal
+use Rattle.blake2_digest.proofs.Texts.{zeros_overwritten}
+use Rattle.blake2_digest.proofs.padding.padded.Goals as goal
 
 pub returns : goal.returns
 returns g c =
