@@ -1,10 +1,25 @@
 //! Message authentication codes.
-ghost use Rattle.std.specs.Prelude.{◌≡◌, ℕ, ◌+◌, ◌^◌, ◌<◌, ◌↔◌, ◌⊎◌, List, length, IfOk, IsErr, IsOk};
+ghost use Rattle.std.specs.Prelude.{◌≡◌, ℕ, ◌+◌, ◌^◌, ◌<◌, ◌↔◌, ◌⊎◌, List, length, IfOk, IsErr, IsOk, IsTrue};
 ghost use Rattle.blake2_digest.specs.States.{digest_now, Updated, Fresh};
 
 use crate::faults::{InvalidLength, MacError};
 use crate::state::{FixedOutput, Update};
 use std::marker::Model;
+
+// Whether the two are equal. All bytes are compared, wherever they differ: no branch here depends
+// on a byte.
+fn is_same(a: &[u8], b: &[u8]) -> bool
+    ensures { IsTrue result ↔ (a.now ≡ b.now) }
+{
+    if a.len() != b.len() {
+        return false;
+    }
+    let mut difference = 0;
+    for i in 0..a.len() {
+        difference |= a[i] ^ b[i];
+    }
+    difference == 0
+}
 
 /// Marks a message authentication code.
 pub trait MacMarker {}
@@ -90,12 +105,13 @@ pub trait Mac<const N: usize>: FixedOutput<N> {
         }
     }
 
-    /// Ok exactly where the tag is the whole output.
+    /// Ok exactly where the tag is the whole output. All bytes of a tag of `N` bytes are compared,
+    /// wherever it differs.
     fn verify_slice(self, tag: &[u8]) -> Result<(), MacError>
         ensures { IsOk result ↔ (tag.now ≡ digest_now Self.meaning self) }
     {
         let output = self.finalize_fixed();
-        if output.as_slice() == tag {
+        if is_same(output.as_slice(), tag) {
             Ok(())
         } else {
             Err(MacError)
