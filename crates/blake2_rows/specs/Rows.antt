@@ -4,7 +4,7 @@ use Rattle.std.specs.Prelude.{ℕ, ◌+◌, ◌-◌, ◌*◌, ◌%◌, ◌^◌, 
 use Rattle.std.specs.Int.{rotate_right, from_le_bytes, to_le_bytes}
 use Rattle.std.specs.List.{flat_map}
 use mir.Val.{bits}
-use Rattle.blake2_rows.specs.Family.{Family, word, word_bytes, turns}
+use Rattle.blake2_rows.specs.Family.{Family, word, word_bytes, rotations}
 use Rattle.blake2_rows.specs.Round.{mix}
 
 -- ---- one row
@@ -70,8 +70,8 @@ columns f v x y =
     mix f v3 3 7 11 15 (slice_index x 3) (slice_index y 3)
 
 -- the sixteen words of four rows, where the last row still lacks its rotation by R3 bits (3.1)
-abbrev pub last_row_turned : Family → List ℕ × List ℕ × List ℕ × List ℕ → List ℕ
-last_row_turned f rows = sixteen (rows.0 ∷ rows.1 ∷ rows.2 ∷ lane_rotations f rows.3 (slice_index (turns f) 2) ∷ [])
+abbrev pub last_row_rotated : Family → List ℕ × List ℕ × List ℕ × List ℕ → List ℕ
+last_row_rotated f rows = sixteen (rows.0 ∷ rows.1 ∷ rows.2 ∷ lane_rotations f rows.3 (slice_index (rotations f) 2) ∷ [])
 
 -- sixteen words with rows 0 to 3 moved to the left by k0, k1, k2 and k3 lanes
 abbrev pub shuffled_rows : ℕ → ℕ → ℕ → ℕ → List ℕ → List ℕ

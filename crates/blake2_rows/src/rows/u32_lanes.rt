@@ -3,7 +3,7 @@ ghost use Rattle.std.specs.Prelude.{◌≡◌, ℕ, ◌+◌, ◌%◌, ◌^◌, �
 ghost use mir.Val.{bits};
 ghost use Rattle.blake2_rows.specs.Family.{blake2s, word};
 ghost use Rattle.blake2_rows.specs.Round.{AreWords, mix, round};
-ghost use Rattle.blake2_rows.specs.Rows.{four, lane_sums, lane_xors, lane_rotations, shuffle_left, shuffle_right, word_at, lane_bytes, sixteen, columns, last_row_turned, shuffled_rows};
+ghost use Rattle.blake2_rows.specs.Rows.{four, lane_sums, lane_xors, lane_rotations, shuffle_left, shuffle_right, word_at, lane_bytes, sixteen, columns, last_row_rotated, shuffled_rows};
 
 use blake2_digest::Wipe;
 use std::marker::Model;
@@ -205,7 +205,7 @@ impl u32x4 {
     // the words of the j-th.
     #[inline(always)]
     fn mix(a: Self, b: Self, c: Self, d: Self, x: Self, y: Self) -> (Self, Self, Self, Self)
-        ensures { last_row_turned blake2s result ≡ columns blake2s (sixteen (a ∷ b ∷ c ∷ d ∷ [])) x y }
+        ensures { last_row_rotated blake2s result ≡ columns blake2s (sixteen (a ∷ b ∷ c ∷ d ∷ [])) x y }
     {
         let a1 = Self::sum_of(a, b, x);
         let d1 = (d ^ a1).rotate_right_const(R1);
@@ -222,7 +222,7 @@ impl u32x4 {
     // `y`, but for the last rotation of row 3 (RFC 7693, section 3.2).
     #[inline(always)]
     fn mix_rows(v: [Self; 4], x: Self, y: Self) -> (Self, Self, Self, Self)
-        ensures { last_row_turned blake2s result ≡ columns blake2s (sixteen v) x y }
+        ensures { last_row_rotated blake2s result ≡ columns blake2s (sixteen v) x y }
     {
         let [a, b, c, d] = v;
         Self::mix(a, b, c, d, x, y)
@@ -232,7 +232,7 @@ impl u32x4 {
     // stays in place.
     #[inline(always)]
     fn diagonals_to_columns(rows: (Self, Self, Self, Self)) -> [Self; 4]
-        ensures { sixteen result ≡ shuffled_rows 3 0 1 2 (last_row_turned blake2s rows) }
+        ensures { sixteen result ≡ shuffled_rows 3 0 1 2 (last_row_rotated blake2s rows) }
     {
         let (a, b, c, d) = rows;
         [
@@ -246,7 +246,7 @@ impl u32x4 {
     // The last row is rotated, and the columns become diagonals again.
     #[inline(always)]
     fn columns_to_diagonals(rows: (Self, Self, Self, Self)) -> [Self; 4]
-        ensures { sixteen result ≡ shuffled_rows 1 0 3 2 (last_row_turned blake2s rows) }
+        ensures { sixteen result ≡ shuffled_rows 1 0 3 2 (last_row_rotated blake2s rows) }
     {
         let (a, b, c, d) = rows;
         [
