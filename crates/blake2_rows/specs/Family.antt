@@ -1,6 +1,6 @@
 -- The two families of BLAKE2, their numbers and tables (RFC 7693, 2.1, 2.6 and 2.7; the BLAKE2
--- document, 2.8). A byte is a number below 256, a word of a family a number below 2 ^ w, where w is
--- the bits of a word.
+-- document, 2.8). A byte is a number below 256, a word of a family a number below 2 ^ w, where w
+-- is the bits of a word.
 use Rattle.std.specs.Prelude.{ℕ, List, [], ◌∷◌}
 use Rattle.std.specs.Int.{Width, w32, w64}
 
@@ -47,7 +47,8 @@ abbrev pub salt_bytes : Family → ℕ
 salt_bytes blake2b = 16
 salt_bytes blake2s = 8
 
--- the bytes of the parameter block's node offset, and of its reserved part (the BLAKE2 document, 2.8)
+-- the bytes of the parameter block's node offset, and of its reserved part (the BLAKE2 document,
+-- 2.8)
 abbrev pub offset_bytes : Family → ℕ
 offset_bytes blake2b = 8
 offset_bytes blake2s = 6

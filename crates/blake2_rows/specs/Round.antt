@@ -1,5 +1,5 @@
--- The mixing function G and a round of the compression, on a list of sixteen words. Section numbers
--- are those of RFC 7693.
+-- The mixing function G and a round of the compression, on a list of sixteen words. Section
+-- numbers are those of RFC 7693.
 use Rattle.std.specs.Prelude.{ℕ, ◌+◌, ◌%◌, ◌^◌, ◌<◌, List, bit_xor, set, slice_index}
 use Rattle.std.specs.Int.{rotate_right}
 use mir.Val.{bits}
