@@ -10,8 +10,8 @@ use mir.Val.{bits}
 use Rattle.blake2_rows.specs.Family.{Family, word, blake2b, blake2s}
 
 -- a number of w bits whose low k bits go to the top, for k from 1 to w - 1
-abbrev turned : ℕ → ℕ → ℕ → ℕ
-turned w n k = bit_or (n / 2 ^ k) (n * 2 ^ (w - k) % 2 ^ w)
+abbrev rotated : ℕ → ℕ → ℕ → ℕ
+rotated w n k = bit_or (n / 2 ^ k) (n * 2 ^ (w - k) % 2 ^ w)
 
 -- a product of numbers below powers
 scaled_lt : (j k l : ℕ) → l < 2 ^ k → l * 2 ^ j < 2 ^ (j + k)
@@ -20,7 +20,7 @@ scaled_lt j k l low =
     omega (arith, grown, pow-add 2 j k)
 
 -- the high j bits h and the low k bits l change places
-places_changed : (j k h l : ℕ) → l < 2 ^ k → h < 2 ^ j → turned (j + k) (h * 2 ^ k + l) k ≡ l * 2 ^ j + h
+places_changed : (j k h l : ℕ) → l < 2 ^ k → h < 2 ^ j → rotated (j + k) (h * 2 ^ k + l) k ≡ l * 2 ^ j + h
 places_changed j k h l low high =
     let whole : (h * 2 ^ k + l) * 2 ^ j ≡ h * 2 ^ (j + k) + l * 2 ^ j = rw (pow-add 2 j k) (omega arith) in
     let rest : j + k - k ≡ j = omega arith in
@@ -28,24 +28,24 @@ places_changed j k h l low high =
     rw rest (ap (λ (x : ℕ). x % 2 ^ (j + k)) whole ∙ mod-mul-add h (2 ^ (j + k)) (l * 2 ^ j) (scaled_lt j k l low)) in
     rw (shr_high h k l low, kept) (or_shifted_r l j h high)
 
--- turned by k bits, a number is its low k bits above the others
-turned-sum : (w n k : ℕ) → k ≤ w → n < 2 ^ w → turned w n k ≡ n % 2 ^ k * 2 ^ (w - k) + n / 2 ^ k
-turned-sum w n k le fits =
+-- rotated by k bits, a number is its low k bits above the others
+rotated-sum : (w n k : ℕ) → k ≤ w → n < 2 ^ w → rotated w n k ≡ n % 2 ^ k * 2 ^ (w - k) + n / 2 ^ k
+rotated-sum w n k le fits =
     let j : ℕ = w - k in
     let width : w ≡ j + k = omega arith in
     let high : n / 2 ^ k < 2 ^ j = shr_below n j k (subst (λ (i : ℕ). n < 2 ^ i) width fits) in
     let low : n % 2 ^ k < 2 ^ k = mod-lt n (pow_pos k) in
     let parts : n / 2 ^ k * 2 ^ k + n % 2 ^ k ≡ n = shr_split n k in
-    ap (λ (x : ℕ). turned w x k) (sym parts) ∙ ap (λ (i : ℕ). turned i (n / 2 ^ k * 2 ^ k + n % 2 ^ k) k) width ∙ places_changed j k (n / 2 ^ k) (n % 2 ^ k) low high
+    ap (λ (x : ℕ). rotated w x k) (sym parts) ∙ ap (λ (i : ℕ). rotated i (n / 2 ^ k * 2 ^ k + n % 2 ^ k) k) width ∙ places_changed j k (n / 2 ^ k) (n % 2 ^ k) low high
 
--- turned by k bits and then by the rest of the width, a number is itself again
-turned_back : (w n k : ℕ) → k ≤ w → n < 2 ^ w → turned w (turned w n k) (w - k) ≡ n
-turned_back w n k le fits =
+-- rotated by k bits and then by the rest of the width, a number is itself again
+rotated_back : (w n k : ℕ) → k ≤ w → n < 2 ^ w → rotated w (rotated w n k) (w - k) ≡ n
+rotated_back w n k le fits =
     let j : ℕ = w - k in
-    let turned_width : w ≡ k + j = omega arith in
+    let swapped_width : w ≡ k + j = omega arith in
     let high : n / 2 ^ k < 2 ^ j = shr_below n j k (subst (λ (i : ℕ). n < 2 ^ i) (omega arith) fits) in
     let low : n % 2 ^ k < 2 ^ k = mod-lt n (pow_pos k) in
-    ap (λ (x : ℕ). turned w x j) (turned-sum w n k le fits) ∙ ap (λ (i : ℕ). turned i (n % 2 ^ k * 2 ^ j + n / 2 ^ k) j) turned_width ∙ places_changed k j (n % 2 ^ k) (n / 2 ^ k) high low ∙ shr_split n k
+    ap (λ (x : ℕ). rotated w x j) (rotated-sum w n k le fits) ∙ ap (λ (i : ℕ). rotated i (n % 2 ^ k * 2 ^ j + n / 2 ^ k) j) swapped_width ∙ places_changed k j (n % 2 ^ k) (n / 2 ^ k) high low ∙ shr_split n k
 
 -- a word has bits
 bits_pos : (f : Family) → 0 < bits (word f)
@@ -61,14 +61,14 @@ abbrev left_by : ℕ → ℕ → ℕ → ℕ
 left_by w n k = bit_or (n * 2 ^ k % 2 ^ w) (n / 2 ^ ((w - k) % w))
 
 -- a rotation to the right by some bits
-right_by-turned : (w n k : ℕ) → k ≢ 0 → k < w → right_by w n k ≡ turned w n k
-right_by-turned w n k some low =
+right_by-rotated : (w n k : ℕ) → k ≢ 0 → k < w → right_by w n k ≡ rotated w n k
+right_by-rotated w n k some low =
     let rest : (w - k) % w ≡ w - k = mod-eq_of_lt (omega arith) in
     ap (λ (i : ℕ). bit_or (n / 2 ^ k) (n * 2 ^ i % 2 ^ w)) rest
 
 -- a rotation to the left by k bits is one to the right by the others
-left_by-turned : (w n k : ℕ) → k ≢ 0 → k < w → left_by w n k ≡ turned w n (w - k)
-left_by-turned w n k some low =
+left_by-rotated : (w n k : ℕ) → k ≢ 0 → k < w → left_by w n k ≡ rotated w n (w - k)
+left_by-rotated w n k some low =
     let rest : (w - k) % w ≡ w - k = mod-eq_of_lt (omega arith) in
     let whole : k ≡ w - (w - k) = omega arith in
     ap (λ (i : ℕ). bit_or (n * 2 ^ k % 2 ^ w) (n / 2 ^ i)) rest
@@ -91,7 +91,7 @@ left_by-zero w n fits =
 left_by-right_by : (w n k : ℕ) → k < w → n < 2 ^ w → left_by w (right_by w n k) k ≡ n
 left_by-right_by w n k low fits = elim (cases_eq k 0) [
   | inl none ↦ rw (none, right_by-zero w n fits) (left_by-zero w n fits)
-  | inr some ↦ left_by-turned w (right_by w n k) k some low ∙ rw (right_by-turned w n k some low) (turned_back w n k (omega arith) fits)
+  | inr some ↦ left_by-rotated w (right_by w n k) k some low ∙ rw (right_by-rotated w n k some low) (rotated_back w n k (omega arith) fits)
 ]
 
 -- first to the left, then to the right
@@ -100,10 +100,10 @@ right_by-left_by w n k low fits = elim (cases_eq k 0) [
   | inl none ↦ rw (none, left_by-zero w n fits) (right_by-zero w n fits)
   | inr some ↦
       let whole : k ≡ w - (w - k) = omega arith in
-      right_by-turned w (left_by w n k) k some low
-      ∙ ap (λ x. turned w x k) (left_by-turned w n k some low)
-      ∙ ap (λ (i : ℕ). turned w (turned w n (w - k)) i) whole
-      ∙ turned_back w n (w - k) (omega arith) fits
+      right_by-rotated w (left_by w n k) k some low
+      ∙ ap (λ x. rotated w x k) (left_by-rotated w n k some low)
+      ∙ ap (λ (i : ℕ). rotated w (rotated w n (w - k)) i) whole
+      ∙ rotated_back w n (w - k) (omega arith) fits
 ]
 
 -- a word rotated to the right by r bits and then to the left by as many is itself again
@@ -120,4 +120,4 @@ pub rotate_right-sum : (f : Family) (n r : ℕ) → 0 < r → r < bits (word f) 
 rotate_right-sum f n r some low fits =
     let w : ℕ = bits (word f) in
     let within : r % w ≡ r = mod-eq_of_lt low in
-    ap (λ (k : ℕ). right_by w n k) within ∙ right_by-turned w n r (omega arith) low ∙ turned-sum w n r (omega arith) fits
+    ap (λ (k : ℕ). right_by w n k) within ∙ right_by-rotated w n r (omega arith) low ∙ rotated-sum w n r (omega arith) fits

@@ -7,10 +7,10 @@ use Rattle.std.specs.Int.{rotate_left, rotate_right}
 use Rattle.std.specs.Int.Bits.{xor_self, xor_zero_r}
 use lib.Bits.{xor_assoc}
 use mir.Val.{bits}
-use Rattle.blake2_rows.specs.Family.{Family, word, turns, blake2b, blake2s}
-use Rattle.blake2_rows.specs.Round.{AreWords, plus, turn, mix, round}
+use Rattle.blake2_rows.specs.Family.{Family, word, rotations, blake2b, blake2s}
+use Rattle.blake2_rows.specs.Round.{AreWords, plus, rotate, mix, round}
 use Rattle.blake2_rows.proofs.Rotations.{rotate_left-rotate_right, rotate_right-rotate_left}
-use Rattle.blake2_rows.proofs.Words.{AreWords-set, AreWords-plus, AreWords-turn, rotate_left-lt}
+use Rattle.blake2_rows.proofs.Words.{AreWords-set, AreWords-plus, AreWords-rotate, rotate_left-lt}
 
 -- ---- one assignment
 
@@ -23,8 +23,8 @@ abbrev pub less : Family → List ℕ → ℕ → ℕ → List ℕ
 less f v c d = set v c ((slice_index v c + (2 ^ bits (word f) - slice_index v d)) % 2 ^ bits (word f))
 
 -- v[d] := (v[d] <<< r) ^ v[a]
-abbrev pub unturn : Family → List ℕ → ℕ → ℕ → ℕ → List ℕ
-unturn f v d a r = set v d (bit_xor (rotate_left (word f) (slice_index v d) r) (slice_index v a))
+abbrev pub unrotate : Family → List ℕ → ℕ → ℕ → ℕ → List ℕ
+unrotate f v d a r = set v d (bit_xor (rotate_left (word f) (slice_index v d) r) (slice_index v a))
 
 -- w is made of v by a step that back undoes
 record Step (f : Family) (v w : List ℕ) (back : List ℕ → List ℕ) : Type 0 where
@@ -121,23 +121,23 @@ less_step f v c d words fits other =
       undone = restored f v c d _ (λ p q. (p + q + 0) % m) fits other (single_difference_undone f _ _ (words c) (words d));
     }
 
--- v[d] := (v[d] ^ v[a]) >>> r is undone by `unturn`
-turn_step : (f : Family) (v : List ℕ) (d a r : ℕ) → AreWords f v → d < length v → a ≢ d
-    → Step f v (turn f v d a r) (λ w. unturn f w d a r)
-turn_step f v d a r words fits other =
+-- v[d] := (v[d] ^ v[a]) >>> r is undone by `unrotate`
+rotate_step : (f : Family) (v : List ℕ) (d a r : ℕ) → AreWords f v → d < length v → a ≢ d
+    → Step f v (rotate f v d a r) (λ w. unrotate f w d a r)
+rotate_step f v d a r words fits other =
     let x : ℕ = slice_index v d in
     let y : ℕ = slice_index v a in
     record {
-      words = AreWords-turn f v d a r words;
+      words = AreWords-rotate f v d a r words;
       long = length-set v d _;
       undone = restored f v d a _ (λ p q. bit_xor (rotate_left (word f) p r) q) fits other
           (ap (λ p. bit_xor p y) (rotate_left-rotate_right f (bit_xor x y) r (xor_lt (bits (word f)) x y (words d) (words a))) ∙ xor_twice x y);
     }
 
--- `unturn` is undone by v[d] := (v[d] ^ v[a]) >>> r
-unturn_step : (f : Family) (v : List ℕ) (d a r : ℕ) → AreWords f v → d < length v → a ≢ d
-    → Step f v (unturn f v d a r) (λ w. turn f w d a r)
-unturn_step f v d a r words fits other =
+-- `unrotate` is undone by v[d] := (v[d] ^ v[a]) >>> r
+unrotate_step : (f : Family) (v : List ℕ) (d a r : ℕ) → AreWords f v → d < length v → a ≢ d
+    → Step f v (unrotate f v d a r) (λ w. rotate f w d a r)
+unrotate_step f v d a r words fits other =
     let x : ℕ = slice_index v d in
     let y : ℕ = slice_index v a in
     record {
@@ -156,13 +156,13 @@ and_then f {g = g} s t = record { words = t.words; long = t.long ∙ s.long; und
 -- the eight assignments of G undone, the last first
 unfoldable pub unmix : Family → List ℕ → ℕ → ℕ → ℕ → ℕ → ℕ → ℕ → List ℕ
 unmix f v a b c d x y =
-    let v7 = unturn f v b c (slice_index (turns f) 3) in
+    let v7 = unrotate f v b c (slice_index (rotations f) 3) in
     let v6 = less f v7 c d in
-    let v5 = unturn f v6 d a (slice_index (turns f) 2) in
+    let v5 = unrotate f v6 d a (slice_index (rotations f) 2) in
     let v4 = minus f v5 a b y in
-    let v3 = unturn f v4 b c (slice_index (turns f) 1) in
+    let v3 = unrotate f v4 b c (slice_index (rotations f) 1) in
     let v2 = less f v3 c d in
-    let v1 = unturn f v2 d a (slice_index (turns f) 0) in
+    let v1 = unrotate f v2 d a (slice_index (rotations f) 0) in
     minus f v1 a b x
 
 -- G is undone by `unmix`
@@ -170,23 +170,23 @@ mix_step : (f : Family) (v : List ℕ) (a b c d x y : ℕ) → AreWords f v → 
     → a < b → b < c → c < d → d < length v → Step f v (mix f v a b c d x y) (λ w. unmix f w a b c d x y)
 unfolding mix unmix
 mix_step f v a b c d x y words lx ly ab bc cd fits =
-    let r : ℕ → ℕ = λ i. slice_index (turns f) i in
+    let r : ℕ → ℕ = λ i. slice_index (rotations f) i in
     let v1 = plus f v a b x in
     let s1 = plus_step f v a b x words lx (omega arith) (omega arith) in
-    let v2 = turn f v1 d a (r 0) in
-    let s2 = turn_step f v1 d a (r 0) s1.words (omega (arith, s1.long)) (omega arith) in
+    let v2 = rotate f v1 d a (r 0) in
+    let s2 = rotate_step f v1 d a (r 0) s1.words (omega (arith, s1.long)) (omega arith) in
     let v3 = plus f v2 c d 0 in
     let s3 = single_plus_step f v2 c d s2.words (omega (arith, s1.long, s2.long)) (omega arith) in
-    let v4 = turn f v3 b c (r 1) in
-    let s4 = turn_step f v3 b c (r 1) s3.words (omega (arith, s1.long, s2.long, s3.long)) (omega arith) in
+    let v4 = rotate f v3 b c (r 1) in
+    let s4 = rotate_step f v3 b c (r 1) s3.words (omega (arith, s1.long, s2.long, s3.long)) (omega arith) in
     let t4 = and_then f s1 (and_then f s2 (and_then f s3 s4)) in
     let v5 = plus f v4 a b y in
     let s5 = plus_step f v4 a b y s4.words ly (omega (arith, t4.long)) (omega arith) in
-    let v6 = turn f v5 d a (r 2) in
-    let s6 = turn_step f v5 d a (r 2) s5.words (omega (arith, t4.long, s5.long)) (omega arith) in
+    let v6 = rotate f v5 d a (r 2) in
+    let s6 = rotate_step f v5 d a (r 2) s5.words (omega (arith, t4.long, s5.long)) (omega arith) in
     let v7 = plus f v6 c d 0 in
     let s7 = single_plus_step f v6 c d s6.words (omega (arith, t4.long, s5.long, s6.long)) (omega arith) in
-    let s8 = turn_step f v7 b c (r 3) s7.words (omega (arith, t4.long, s5.long, s6.long, s7.long)) (omega arith) in
+    let s8 = rotate_step f v7 b c (r 3) s7.words (omega (arith, t4.long, s5.long, s6.long, s7.long)) (omega arith) in
     and_then f t4 (and_then f s5 (and_then f s6 (and_then f s7 s8)))
 
 -- `unmix` is undone by G
@@ -194,22 +194,22 @@ unmix_step : (f : Family) (v : List ℕ) (a b c d x y : ℕ) → AreWords f v �
     → a < b → b < c → c < d → d < length v → Step f v (unmix f v a b c d x y) (λ w. mix f w a b c d x y)
 unfolding mix unmix
 unmix_step f v a b c d x y words lx ly ab bc cd fits =
-    let r : ℕ → ℕ = λ i. slice_index (turns f) i in
-    let v7 = unturn f v b c (r 3) in
-    let s7 = unturn_step f v b c (r 3) words (omega arith) (omega arith) in
+    let r : ℕ → ℕ = λ i. slice_index (rotations f) i in
+    let v7 = unrotate f v b c (r 3) in
+    let s7 = unrotate_step f v b c (r 3) words (omega arith) (omega arith) in
     let v6 = less f v7 c d in
     let s6 = less_step f v7 c d s7.words (omega (arith, s7.long)) (omega arith) in
-    let v5 = unturn f v6 d a (r 2) in
-    let s5 = unturn_step f v6 d a (r 2) s6.words (omega (arith, s7.long, s6.long)) (omega arith) in
+    let v5 = unrotate f v6 d a (r 2) in
+    let s5 = unrotate_step f v6 d a (r 2) s6.words (omega (arith, s7.long, s6.long)) (omega arith) in
     let v4 = minus f v5 a b y in
     let s4 = minus_step f v5 a b y s5.words ly (omega (arith, s7.long, s6.long, s5.long)) (omega arith) in
     let t4 = and_then f s7 (and_then f s6 (and_then f s5 s4)) in
-    let v3 = unturn f v4 b c (r 1) in
-    let s3 = unturn_step f v4 b c (r 1) s4.words (omega (arith, t4.long)) (omega arith) in
+    let v3 = unrotate f v4 b c (r 1) in
+    let s3 = unrotate_step f v4 b c (r 1) s4.words (omega (arith, t4.long)) (omega arith) in
     let v2 = less f v3 c d in
     let s2 = less_step f v3 c d s3.words (omega (arith, t4.long, s3.long)) (omega arith) in
-    let v1 = unturn f v2 d a (r 0) in
-    let s1 = unturn_step f v2 d a (r 0) s2.words (omega (arith, t4.long, s3.long, s2.long)) (omega arith) in
+    let v1 = unrotate f v2 d a (r 0) in
+    let s1 = unrotate_step f v2 d a (r 0) s2.words (omega (arith, t4.long, s3.long, s2.long)) (omega arith) in
     let s0 = minus_step f v1 a b x s1.words lx (omega (arith, t4.long, s3.long, s2.long, s1.long)) (omega arith) in
     and_then f t4 (and_then f s3 (and_then f s2 (and_then f s1 s0)))
 

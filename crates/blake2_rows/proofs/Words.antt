@@ -6,7 +6,7 @@ use Rattle.std.proofs.lemmas.Bool.{cases_eq, cases_lt}
 use Rattle.std.specs.Int.{rotate_left, rotate_right}
 use mir.Val.{bits}
 use Rattle.blake2_rows.specs.Family.{Family, word}
-use Rattle.blake2_rows.specs.Round.{AreWords, plus, turn, mix, round}
+use Rattle.blake2_rows.specs.Round.{AreWords, plus, rotate, mix, round}
 
 -- a list stays one of words where a word is written over another
 pub AreWords-set : (f : Family) (v : List ℕ) (i x : ℕ) → AreWords f v → x < 2 ^ bits (word f) → AreWords f (set v i x)
@@ -36,15 +36,15 @@ pub AreWords-plus : (f : Family) (v : List ℕ) (a b x : ℕ) → AreWords f v �
 AreWords-plus f v a b x h = AreWords-set f v a _ h (mod-lt _ (pow_pos (bits (word f))))
 
 -- an exclusive or of words, rotated, is a word
-pub AreWords-turn : (f : Family) (v : List ℕ) (d a r : ℕ) → AreWords f v → AreWords f (turn f v d a r)
-AreWords-turn f v d a r h = AreWords-set f v d _ h (rotate_right-lt f _ r (xor_lt (bits (word f)) _ _ (h d) (h a)))
+pub AreWords-rotate : (f : Family) (v : List ℕ) (d a r : ℕ) → AreWords f v → AreWords f (rotate f v d a r)
+AreWords-rotate f v d a r h = AreWords-set f v d _ h (rotate_right-lt f _ r (xor_lt (bits (word f)) _ _ (h d) (h a)))
 
 -- G leaves words
 pub AreWords-mix : (f : Family) (v : List ℕ) (a b c d x y : ℕ) → AreWords f v → AreWords f (mix f v a b c d x y)
 unfolding mix
 AreWords-mix f v a b c d x y h =
-    AreWords-turn f _ b c _ (AreWords-plus f _ c d 0 (AreWords-turn f _ d a _ (AreWords-plus f _ a b y
-    (AreWords-turn f _ b c _ (AreWords-plus f _ c d 0 (AreWords-turn f _ d a _ (AreWords-plus f v a b x h)))))))
+    AreWords-rotate f _ b c _ (AreWords-plus f _ c d 0 (AreWords-rotate f _ d a _ (AreWords-plus f _ a b y
+    (AreWords-rotate f _ b c _ (AreWords-plus f _ c d 0 (AreWords-rotate f _ d a _ (AreWords-plus f v a b x h)))))))
 
 -- a round keeps the length
 pub length-round : (f : Family) (v m s : List ℕ) → length (round f v m s) ≡ length v

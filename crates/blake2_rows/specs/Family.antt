@@ -1,6 +1,6 @@
 -- The two families of BLAKE2, their numbers and tables (RFC 7693, 2.1, 2.6 and 2.7; the BLAKE2
--- document, 2.8). A byte is a number below 256, a word of a family a number below 2 ^ w, where w is
--- the bits of a word.
+-- document, 2.8). A byte is a number below 256, a word of a family a number below 2 ^ w, where w
+-- is the bits of a word.
 use Rattle.std.specs.Prelude.{ℕ, List, [], ◌∷◌}
 use Rattle.std.specs.Int.{Width, w32, w64}
 
@@ -28,10 +28,10 @@ abbrev pub rounds : Family → ℕ
 rounds blake2b = 12
 rounds blake2s = 10
 
--- R1, R2, R3, R4: by how many bits the mixing turns a word to the right (2.1)
-abbrev pub turns : Family → List ℕ
-turns blake2b = 32 ∷ 24 ∷ 16 ∷ 63 ∷ []
-turns blake2s = 16 ∷ 12 ∷ 8 ∷ 7 ∷ []
+-- R1, R2, R3, R4: by how many bits the mixing rotates a word to the right (2.1)
+abbrev pub rotations : Family → List ℕ
+rotations blake2b = 32 ∷ 24 ∷ 16 ∷ 63 ∷ []
+rotations blake2s = 16 ∷ 12 ∷ 8 ∷ 7 ∷ []
 
 -- the bytes of the longest key, and of the longest output (2.1)
 abbrev pub key_bytes : Family → ℕ
@@ -47,7 +47,8 @@ abbrev pub salt_bytes : Family → ℕ
 salt_bytes blake2b = 16
 salt_bytes blake2s = 8
 
--- the bytes of the parameter block's node offset, and of its reserved part (the BLAKE2 document, 2.8)
+-- the bytes of the parameter block's node offset, and of its reserved part (the BLAKE2 document,
+-- 2.8)
 abbrev pub offset_bytes : Family → ℕ
 offset_bytes blake2b = 8
 offset_bytes blake2s = 6
@@ -57,11 +58,11 @@ reserved_bytes blake2b = 14
 reserved_bytes blake2s = 0
 
 -- IV, the initialization vector (2.6)
-abbrev pub start_words : Family → List ℕ
-start_words blake2b =
+abbrev pub iv : Family → List ℕ
+iv blake2b =
     0x6a09e667f3bcc908 ∷ 0xbb67ae8584caa73b ∷ 0x3c6ef372fe94f82b ∷ 0xa54ff53a5f1d36f1 ∷
     0x510e527fade682d1 ∷ 0x9b05688c2b3e6c1f ∷ 0x1f83d9abfb41bd6b ∷ 0x5be0cd19137e2179 ∷ []
-start_words blake2s =
+iv blake2s =
     0x6a09e667 ∷ 0xbb67ae85 ∷ 0x3c6ef372 ∷ 0xa54ff53a ∷
     0x510e527f ∷ 0x9b05688c ∷ 0x1f83d9ab ∷ 0x5be0cd19 ∷ []
 

@@ -1,9 +1,9 @@
--- The mixing function G and a round of the compression, on a list of sixteen words. Section numbers
--- are those of RFC 7693.
+-- The mixing function G and a round of the compression, on a list of sixteen words. Section
+-- numbers are those of RFC 7693.
 use Rattle.std.specs.Prelude.{ℕ, ◌+◌, ◌%◌, ◌^◌, ◌<◌, List, bit_xor, set, slice_index}
 use Rattle.std.specs.Int.{rotate_right}
 use mir.Val.{bits}
-use Rattle.blake2_rows.specs.Family.{Family, word, turns}
+use Rattle.blake2_rows.specs.Family.{Family, word, rotations}
 
 -- every element is a word of the family
 abbrev pub AreWords : Family → List ℕ → Type 0
@@ -14,20 +14,20 @@ abbrev pub plus : Family → List ℕ → ℕ → ℕ → ℕ → List ℕ
 plus f v a b x = set v a ((slice_index v a + slice_index v b + x) % 2 ^ bits (word f))
 
 -- v[d] := (v[d] ^ v[a]) >>> r
-abbrev pub turn : Family → List ℕ → ℕ → ℕ → ℕ → List ℕ
-turn f v d a r = set v d (rotate_right (word f) (bit_xor (slice_index v d) (slice_index v a)) r)
+abbrev pub rotate : Family → List ℕ → ℕ → ℕ → ℕ → List ℕ
+rotate f v d a r = set v d (rotate_right (word f) (bit_xor (slice_index v d) (slice_index v a)) r)
 
 -- G: the words at places a, b, c and d of v mixed with the words x and y (3.1)
 unfoldable pub mix : Family → List ℕ → ℕ → ℕ → ℕ → ℕ → ℕ → ℕ → List ℕ
 mix f v a b c d x y =
     let v1 = plus f v a b x in
-    let v2 = turn f v1 d a (slice_index (turns f) 0) in
+    let v2 = rotate f v1 d a (slice_index (rotations f) 0) in
     let v3 = plus f v2 c d 0 in
-    let v4 = turn f v3 b c (slice_index (turns f) 1) in
+    let v4 = rotate f v3 b c (slice_index (rotations f) 1) in
     let v5 = plus f v4 a b y in
-    let v6 = turn f v5 d a (slice_index (turns f) 2) in
+    let v6 = rotate f v5 d a (slice_index (rotations f) 2) in
     let v7 = plus f v6 c d 0 in
-    turn f v7 b c (slice_index (turns f) 3)
+    rotate f v7 b c (slice_index (rotations f) 3)
 
 -- a round on v with the block's words m and a row s of numbers below 16 (3.2)
 unfoldable pub round : Family → List ℕ → List ℕ → List ℕ → List ℕ

@@ -1,10 +1,11 @@
 -- Sixteen words as four rows of four lanes, row r being words 4r to 4r + 3, and what the lanes
 -- compute. Section numbers are those of RFC 7693.
-use Rattle.std.specs.Prelude.{ℕ, ◌+◌, ◌-◌, ◌*◌, ◌%◌, ◌^◌, List, [], ◌∷◌, ◌++◌, take, drop, bit_xor, slice_index, slice_index_or}
+use Rattle.std.specs.Prelude.{ℕ, ◌+◌, ◌-◌, ◌*◌, ◌%◌, ◌^◌, List, [], ◌∷◌, ◌++◌, take, drop, bit_xor}
+use Rattle.std.specs.Prelude.{slice_index, slice_index_or}
 use Rattle.std.specs.Int.{rotate_right, from_le_bytes, to_le_bytes}
 use Rattle.std.specs.List.{flat_map}
 use mir.Val.{bits}
-use Rattle.blake2_rows.specs.Family.{Family, word, word_bytes, turns}
+use Rattle.blake2_rows.specs.Family.{Family, word, word_bytes, rotations}
 use Rattle.blake2_rows.specs.Round.{mix}
 
 -- ---- one row
@@ -49,7 +50,9 @@ lane v r j = slice_index (slice_index_or v r []) j
 
 -- the eight words of two rows, as of the state vector h (3.2)
 abbrev pub eight : List (List ℕ) → List ℕ
-eight h = lane h 0 0 ∷ lane h 0 1 ∷ lane h 0 2 ∷ lane h 0 3 ∷ lane h 1 0 ∷ lane h 1 1 ∷ lane h 1 2 ∷ lane h 1 3 ∷ []
+eight h =
+    lane h 0 0 ∷ lane h 0 1 ∷ lane h 0 2 ∷ lane h 0 3 ∷
+    lane h 1 0 ∷ lane h 1 1 ∷ lane h 1 2 ∷ lane h 1 3 ∷ []
 
 -- the sixteen words of four rows, as of the local vector v (3.2)
 abbrev pub sixteen : List (List ℕ) → List ℕ
@@ -70,8 +73,10 @@ columns f v x y =
     mix f v3 3 7 11 15 (slice_index x 3) (slice_index y 3)
 
 -- the sixteen words of four rows, where the last row still lacks its rotation by R3 bits (3.1)
-abbrev pub last_row_turned : Family → List ℕ × List ℕ × List ℕ × List ℕ → List ℕ
-last_row_turned f rows = sixteen (rows.0 ∷ rows.1 ∷ rows.2 ∷ lane_rotations f rows.3 (slice_index (turns f) 2) ∷ [])
+abbrev pub last_row_rotated : Family → List ℕ × List ℕ × List ℕ × List ℕ → List ℕ
+last_row_rotated f rows =
+    sixteen
+    (rows.0 ∷ rows.1 ∷ rows.2 ∷ lane_rotations f rows.3 (slice_index (rotations f) 2) ∷ [])
 
 -- sixteen words with rows 0 to 3 moved to the left by k0, k1, k2 and k3 lanes
 abbrev pub shuffled_rows : ℕ → ℕ → ℕ → ℕ → List ℕ → List ℕ

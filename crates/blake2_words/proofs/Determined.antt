@@ -6,11 +6,11 @@ use Rattle.std.proofs.lemmas.Bool.{cases_lt}
 use Rattle.std.specs.Int.Bits.{xor_assoc, xor_self, xor_zero_l}
 use Rattle.std.specs.Int.{from_le_bytes, to_le_bytes}
 use Rattle.std.specs.List.{concat, flat_map}
-use Rattle.blake2_rows.specs.Family.{Family, blake2b, blake2s, word, word_bytes, block_bytes, key_bytes, salt_bytes, output_bytes, start_words}
+use Rattle.blake2_rows.specs.Family.{Family, blake2b, blake2s, word, word_bytes, block_bytes, key_bytes, salt_bytes, output_bytes, iv}
 use Rattle.blake2_words.specs.Hash.{inner, Fits, Parameters, input_parameters, AreBytes, words_of, bytes_of, xor_words, padded, parameter_block, parameter_words, start, key_block, key_size, cut, block_count, Input, input_data}
 use Rattle.blake2_words.specs.Inputs.{Accepts, KeyFits, Same}
 use Rattle.blake2_words.specs.Transcript.{Entry, TranscriptsDetermine}
-use Rattle.blake2_words.proofs.Sizes.{AreParameters, key_bytes_fit, length-padded, length-parameter_block, length-parameter_words, start_words-length, AreBytes-take, AreBytes-drop, AreBytes-parameter_block}
+use Rattle.blake2_words.proofs.Sizes.{AreParameters, key_bytes_fit, length-padded, length-parameter_block, length-parameter_words, length-iv, AreBytes-take, AreBytes-drop, AreBytes-parameter_block}
 
 -- ---- xor
 
@@ -152,7 +152,7 @@ parameter_words_cancel f p q hp hq h =
 pub start_cancel : (f : Family) (p q : Parameters) → start f p ≡ start f q → parameter_words f p ≡ parameter_words f q
 unfolding start
 start_cancel f p q h =
-    xor_words_cancel (start_words f) _ _ (length-parameter_words f p ∙ sym (start_words-length f)) (length-parameter_words f q ∙ sym (start_words-length f)) h
+    xor_words_cancel (iv f) _ _ (length-parameter_words f p ∙ sym (length-iv f)) (length-parameter_words f q ∙ sym (length-iv f)) h
 
 -- ---- key and message
 

@@ -8,7 +8,8 @@ use Rattle.blake2_words.specs.Inputs.{Accepts, Same}
 use Rattle.blake2_words.specs.Witness.{Collide, IsWitness}
 use Rattle.blake2_words.specs.declared.steps.Step as GivenStep
 use Rattle.blake2_words.specs.Views.{step_of}
-use Rattle.blake2_words.specs.Run.{number, run_step, last_step, step_at}
+use Rattle.blake2_words.specs.Run.{step_count, run_step, last_step}
+use Rattle.blake2_words.specs.Transcript.{Entry, entry, step_at}
 use Rattle.blake2_words.proofs.Streaming.{block_count-pos}
 use Rattle.blake2_words.proofs.Runs.{length-steps, get_or-steps, output-step}
 use Rattle.blake2_words.proofs.Pairs.{witness_at, same_from_pairs, last_counter, chain_zero}
@@ -77,33 +78,38 @@ none_same xs ys i here all k d h = one_more xs ys i (λ (n : ℕ). Unit {0}) (λ
 pub first_chain : (f : Family) (size : ℕ) (a : Input) (h : List ℕ) → h ≡ input_start f size a → h ≡ (run_step f size a 0).chain
 first_chain f size a h e = e ∙ sym (chain_zero f _ 0 _)
 
--- the step at the chaining words that a run has there is the run's
-pub step_at-chain : (f : Family) (size : ℕ) (a : Input) (h : List ℕ) (i : ℕ) (s : Step) → h ≡ (run_step f size a i).chain → s ≡ step_at f a h i → s ≡ run_step f size a i
-step_at-chain f size a h i s e is = is ∙ ap (λ (x : List ℕ). step_at f a x i) e
+-- the step of a run's entry, at the chaining words that the run has there, is the run's
+pub step_at-chain : (f : Family) (size : ℕ) (a : Input) (h : List ℕ) (i : ℕ) (e : Entry)
+    → h ≡ (run_step f size a i).chain → e ≡ entry (run_step f size a i) → step_at h e ≡ run_step f size a i
+step_at-chain f size a h i e chained is = λ k. step_at (chained k) (is k)
 
 -- what F gives of it are the next ones
 pub next_chain : (f : Family) (size : ℕ) (a : Input) (i : ℕ) (h : List ℕ) (s : Step) → s ≡ run_step f size a i → h ≡ output f s
-    → i + 1 < number f a → h ≡ (run_step f size a (i + 1)).chain
+    → i + 1 < step_count f a → h ≡ (run_step f size a (i + 1)).chain
 next_chain f size a i h s is e lt = e ∙ ap (output f) is ∙ output-step f (input_start f size a) (input_data f a) (input_flags a) i lt
 
 -- it stands in the list of steps
-in_steps : (f : Family) (size : ℕ) (a : Input) (i : ℕ) (s d : Step) → s ≡ run_step f size a i → i < number f a → s ≡ get_or (steps f size a) i d
+in_steps : (f : Family) (size : ℕ) (a : Input) (i : ℕ) (s d : Step) → s ≡ run_step f size a i → i < step_count f a → s ≡ get_or (steps f size a) i d
 in_steps f size a i s d is lt = is ∙ sym (get_or-steps f size a i d lt)
 
 -- one more pair, which is kept if it differs
-pub walk_differs : {B : ℕ} (f : Family) (size : ℕ) (a b : Input) (i : ℕ) (w : Pair B) → step_of w.0 ≡ run_step f size a i → step_of w.1 ≡ run_step f size b i
-    → i < number f a → i < number f b → step_of w.0 ≢ step_of w.1 → Kept f size a b (i + 1) (Some w)
-walk_differs f size a b i w of_a of_b in_a in_b differ =
-    kept_differs (steps f size a) (steps f size b) i (step_of w.0) (step_of w.1) (λ d. in_steps f size a i (step_of w.0) d of_a in_a) (λ d. in_steps f size b i (step_of w.1) d of_b in_b) differ
+pub walk_differs : {B : ℕ} (f : Family) (size : ℕ) (a b : Input) (i : ℕ) (w : Pair B) (x y : Step)
+    → step_of w.0 ≡ x → step_of w.1 ≡ y → x ≡ run_step f size a i → y ≡ run_step f size b i
+    → i < step_count f a → i < step_count f b → x ≢ y → Kept f size a b (i + 1) (Some w)
+walk_differs f size a b i w x y is_x is_y of_a of_b in_a in_b differ =
+    kept_differs (steps f size a) (steps f size b) i (step_of w.0) (step_of w.1)
+    (λ d. in_steps f size a i (step_of w.0) d (is_x ∙ of_a) in_a)
+    (λ d. in_steps f size b i (step_of w.1) d (is_y ∙ of_b) in_b)
+    (λ e. differ (sym is_x ∙ e ∙ is_y))
 
 -- equal steps of both runs are equal in their lists
 same_in_steps : (f : Family) (size : ℕ) (a b : Input) (i : ℕ) (x y d : Step) → x ≡ run_step f size a i → y ≡ run_step f size b i
-    → i < number f a → i < number f b → x ≡ y → get_or (steps f size a) i d ≡ get_or (steps f size b) i d
+    → i < step_count f a → i < step_count f b → x ≡ y → get_or (steps f size a) i d ≡ get_or (steps f size b) i d
 same_in_steps f size a b i x y d of_a of_b in_a in_b same = sym (in_steps f size a i x d of_a in_a) ∙ same ∙ in_steps f size b i y d of_b in_b
 
 -- and else changes nothing
 pub walk_same : {B : ℕ} (f : Family) (size : ℕ) (a b : Input) (i : ℕ) (x y : Step) (kept : Option (Pair B)) → x ≡ run_step f size a i → y ≡ run_step f size b i
-    → i < number f a → i < number f b → x ≡ y → Kept f size a b i kept → Kept f size a b (i + 1) kept
+    → i < step_count f a → i < step_count f b → x ≡ y → Kept f size a b i kept → Kept f size a b (i + 1) kept
 walk_same f size a b i x y None of_a of_b in_a in_b same all =
     none_same (steps f size a) (steps f size b) i (λ d. same_in_steps f size a b i x y d of_a of_b in_a in_b same) all
 walk_same f size a b i x y (Some w) of_a of_b in_a in_b same k =
@@ -112,25 +118,25 @@ walk_same f size a b i x y (Some w) of_a of_b in_a in_b same k =
 -- ---- where the walk ends
 
 -- if no pair differs, the inputs are the same
-front_same : (f : Family) (size : ℕ) (a b : Input) → Accepts f a → Accepts f b → size ≤ output_bytes f → number f a ≡ number f b
-    → NoPair (steps f size a) (steps f size b) (number f a) → Same f a b
+front_same : (f : Family) (size : ℕ) (a b : Input) → Accepts f a → Accepts f b → size ≤ output_bytes f → step_count f a ≡ step_count f b
+    → NoPair (steps f size a) (steps f size b) (step_count f a) → Same f a b
 front_same f size a b p q h numbers all =
-    let la : length (steps f size a) ≡ number f a = length-steps f size a in
-    let lb : length (steps f size b) ≡ number f b = length-steps f size b in
+    let la : length (steps f size a) ≡ step_count f a = length-steps f size a in
+    let lb : length (steps f size b) ≡ step_count f b = length-steps f size b in
     same_from_pairs f size a b p q h
     (λ j d ja jb. let e : length (steps f size a) - 1 - j ≡ length (steps f size b) - 1 - j = omega arith in
     all (length (steps f size a) - 1 - j) d (omega arith) ∙ ap (λ (k : ℕ). get_or (steps f size b) k d) e)
 
 -- the kept pair is a witness
-front_witness : (f : Family) (size : ℕ) (a b : Input) (x y : Step) → digest f size a ≡ digest f size b → number f a ≡ number f b
-    → KeptPair (steps f size a) (steps f size b) (number f a) x y → IsWitness f a b size x y
+front_witness : (f : Family) (size : ℕ) (a b : Input) (x y : Step) → digest f size a ≡ digest f size b → step_count f a ≡ step_count f b
+    → KeptPair (steps f size a) (steps f size b) (step_count f a) x y → IsWitness f a b size x y
 front_witness f size a b x y digests numbers k =
     let xs : List Step = steps f size a in
     let ys : List Step = steps f size b in
-    let la : length xs ≡ number f a = length-steps f size a in
-    let lb : length ys ≡ number f b = length-steps f size b in
-    let within : k.place < number f a = k.within in
-    let j : ℕ = number f a - 1 - k.place in
+    let la : length xs ≡ step_count f a = length-steps f size a in
+    let lb : length ys ≡ step_count f b = length-steps f size b in
+    let within : k.place < step_count f a = k.within in
+    let j : ℕ = step_count f a - 1 - k.place in
     let ea : k.place ≡ length xs - 1 - j = omega arith in
     let eb : k.place ≡ length ys - 1 - j = omega arith in (
       j,
@@ -143,7 +149,7 @@ front_witness f size a b x y digests numbers k =
 
 -- THE LAW: of two inputs that collide, with as many steps, the walk keeps a witness
 pub walk_witness : {B : ℕ} (f : Family) (size : ℕ) (a b : Input) (n : ℕ) (kept : Option (Pair B)) → Accepts f a → Accepts f b → size ≤ output_bytes f
-    → Collide f size a b → number f a ≡ number f b → n ≡ number f a → Kept f size a b n kept
+    → Collide f size a b → step_count f a ≡ step_count f b → n ≡ step_count f a → Kept f size a b n kept
     → MatchOption kept ⊥ (λ w. IsWitness f a b size (step_of w.0) (step_of w.1))
 walk_witness f size a b n None p q h c numbers end all =
     c.different (front_same f size a b p q h numbers (subst (NoPair (steps f size a) (steps f size b)) end all))
@@ -152,21 +158,21 @@ walk_witness f size a b n (Some w) p q h c numbers end k =
     (subst (λ (m : ℕ). KeptPair (steps f size a) (steps f size b) m (step_of w.0) (step_of w.1)) end k)
 
 -- THE LAW: where the numbers of steps differ, the last steps are a witness, by their counters
-pub last_witness : (f : Family) (size : ℕ) (a b : Input) (x y : Step) → digest f size a ≡ digest f size b → number f a ≢ number f b
+pub last_witness : (f : Family) (size : ℕ) (a b : Input) (x y : Step) → digest f size a ≡ digest f size b → step_count f a ≢ step_count f b
     → x ≡ last_step f size a → y ≡ last_step f size b → IsWitness f a b size x y
 last_witness f size a b x y digests numbers xa yb =
     let xs : List Step = steps f size a in
     let ys : List Step = steps f size b in
-    let la : length xs ≡ number f a = length-steps f size a in
-    let lb : length ys ≡ number f b = length-steps f size b in
-    let pa : 0 < number f a = block_count-pos f (length (input_data f a)) in
-    let pb : 0 < number f b = block_count-pos f (length (input_data f b)) in
-    let ea : number f a - 1 ≡ length xs - 1 - 0 = omega arith in
-    let eb : number f b - 1 ≡ length ys - 1 - 0 = omega arith in (
+    let la : length xs ≡ step_count f a = length-steps f size a in
+    let lb : length ys ≡ step_count f b = length-steps f size b in
+    let pa : 0 < step_count f a = block_count-pos f (length (input_data f a)) in
+    let pb : 0 < step_count f b = block_count-pos f (length (input_data f b)) in
+    let ea : step_count f a - 1 ≡ length xs - 1 - 0 = omega arith in
+    let eb : step_count f b - 1 ≡ length ys - 1 - 0 = omega arith in (
       0,
       witness_at f size a b 0 x y (omega arith) (omega arith)
-          (λ d. xa ∙ sym (get_or-steps f size a (number f a - 1) d (omega arith)) ∙ ap (λ (n : ℕ). get_or xs n d) ea)
-          (λ d. yb ∙ sym (get_or-steps f size b (number f b - 1) d (omega arith)) ∙ ap (λ (n : ℕ). get_or ys n d) eb)
+          (λ d. xa ∙ sym (get_or-steps f size a (step_count f a - 1) d (omega arith)) ∙ ap (λ (n : ℕ). get_or xs n d) ea)
+          (λ d. yb ∙ sym (get_or-steps f size b (step_count f b - 1) d (omega arith)) ∙ ap (λ (n : ℕ). get_or ys n d) eb)
           (λ i d h. absurd (omega arith))
           (λ e. numbers (ap (block_count f) (sym (last_counter f size a) ∙ ap (λ (s : Step). s.counter) (sym xa ∙ e ∙ yb) ∙ last_counter f size b)))
           digests,

@@ -1,7 +1,7 @@
 -- Zeros after a salt or a persona change nothing.
 use Rattle.std.proofs.Common.{◌≡◌, ℕ, ◌+◌, ◌-◌, ◌≤◌, List, ◌++◌, length, take, replicate, refl, ap, ◌∙◌, arith, length-append}
 use Rattle.std.proofs.lemmas.List.{append_assoc, length-replicate, replicate-append-replicate}
-use Rattle.blake2_rows.specs.Family.{Family, salt_bytes, start_words}
+use Rattle.blake2_rows.specs.Family.{Family, salt_bytes, iv}
 use Rattle.blake2_words.specs.Hash.{padded, Parameters, parameter_block, parameter_words, start, words_of, bytes_of, xor_words, last_chain, Input, input_data, input_flags, input_parameters, digest}
 use Rattle.blake2_words.specs.Laws.{ZerosLeaveDigests}
 
@@ -26,7 +26,7 @@ digest-texts : (f : Family) (size : ℕ) (a : Input) (salt persona : List ℕ) �
     → padded (salt_bytes f) persona ≡ padded (salt_bytes f) a.persona → digest f size (record a { salt = salt; persona = persona }) ≡ digest f size a
 unfolding digest start parameter_words
 digest-texts f size a salt persona salts personas =
-    ap (λ (block : List ℕ). take size (bytes_of f (last_chain f (xor_words (start_words f) (words_of f 8 block)) 0 (input_data f a) (input_flags a))))
+    ap (λ (block : List ℕ). take size (bytes_of f (last_chain f (xor_words (iv f) (words_of f 8 block)) 0 (input_data f a) (input_flags a))))
     (parameter_block-texts f (input_parameters size a) salt persona salts personas)
 
 -- THE LAW: zeros after salt and persona change no digest

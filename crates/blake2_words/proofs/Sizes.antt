@@ -6,7 +6,7 @@ use Rattle.std.specs.Int.{from_le_bytes, to_le_bytes, bytes_low_first}
 use Rattle.std.specs.Prelude.{if◌then◌else◌}
 use Rattle.std.specs.List.{flat_map}
 use mir.Val.{bits}
-use Rattle.blake2_rows.specs.Family.{Family, blake2b, blake2s, word, word_bytes, block_bytes, key_bytes, output_bytes, start_words, rounds}
+use Rattle.blake2_rows.specs.Family.{Family, blake2b, blake2s, word, word_bytes, block_bytes, key_bytes, output_bytes, iv, rounds}
 use Rattle.blake2_rows.specs.Round.{AreWords}
 use Rattle.blake2_rows.proofs.Texts.{AreBytes-append}
 use Rattle.blake2_rows.proofs.Words.{length-round, AreWords-round}
@@ -71,9 +71,9 @@ AreWords-nil : (f : Family) → AreWords f []
 AreWords-nil f i = pow_pos (bits (word f))
 
 -- IV is eight words long
-pub start_words-length : (f : Family) → length (start_words f) ≡ 8
-start_words-length blake2b = refl
-start_words-length blake2s = refl
+pub length-iv : (f : Family) → length (iv f) ≡ 8
+length-iv blake2b = refl
+length-iv blake2s = refl
 
 -- eight words make a list of words
 AreWords-eight : (f : Family) (a b c d e g h k : ℕ) → a < 2 ^ bits (word f) → b < 2 ^ bits (word f) → c < 2 ^ bits (word f) → d < 2 ^ bits (word f)
@@ -90,12 +90,12 @@ AreWords-eight f a b c d e g h k la lb lc ld le lg lh lk =
     AreWords-cons f a (b ∷ c ∷ d ∷ e ∷ g ∷ h ∷ k ∷ []) la n1
 
 -- IV is made of words
-pub start_words-words : (f : Family) → AreWords f (start_words f)
-start_words-words blake2b =
+pub AreWords-iv : (f : Family) → AreWords f (iv f)
+AreWords-iv blake2b =
     AreWords-eight blake2b 0x6a09e667f3bcc908 0xbb67ae8584caa73b 0x3c6ef372fe94f82b 0xa54ff53a5f1d36f1
     0x510e527fade682d1 0x9b05688c2b3e6c1f 0x1f83d9abfb41bd6b 0x5be0cd19137e2179
     (omega arith) (omega arith) (omega arith) (omega arith) (omega arith) (omega arith) (omega arith) (omega arith)
-start_words-words blake2s =
+AreWords-iv blake2s =
     AreWords-eight blake2s 0x6a09e667 0xbb67ae85 0x3c6ef372 0xa54ff53a 0x510e527f 0x9b05688c 0x1f83d9ab 0x5be0cd19
     (omega arith) (omega arith) (omega arith) (omega arith) (omega arith) (omega arith) (omega arith) (omega arith)
 
@@ -108,8 +108,8 @@ length-before_rounds f h t flags e =
     let w = bits (word f) in
     let ones = if flags.last then 2 ^ w - 1 else 0 in
     let marks : List ℕ = 0 ∷ 0 ∷ 0 ∷ 0 ∷ t % 2 ^ w ∷ t / 2 ^ w ∷ ones ∷ 0 ∷ [] in
-    let iv : length (start_words f) ≡ 8 = start_words-length f in
-    omega (arith, length-append h (xor_words (start_words f) marks), length-xor_words (start_words f) marks iv)
+    let long : length (iv f) ≡ 8 = length-iv f in
+    omega (arith, length-append h (xor_words (iv f) marks), length-xor_words (iv f) marks long)
 
 -- the mark of the final flag is a word
 ones-lt : (f : Family) (last : Bool) → (if last then 2 ^ bits (word f) - 1 else 0) < 2 ^ bits (word f)
@@ -126,7 +126,7 @@ AreWords-before_rounds : (f : Family) (h : List ℕ) (t : ℕ) (flags : Flags) �
 unfolding before_rounds
 AreWords-before_rounds f h t flags lt a =
     let z : 0 < 2 ^ bits (word f) = pow_pos (bits (word f)) in
-    AreWords-append f h _ a (AreWords-xor_words f (start_words f) _ (start_words-words f)
+    AreWords-append f h _ a (AreWords-xor_words f (iv f) _ (AreWords-iv f)
     (AreWords-eight f 0 0 0 0 _ _ _ 0 z z z z (mod-lt t z) (high-lt f t lt) (ones-lt f flags.last) z))
 
 -- F gives eight words
@@ -248,12 +248,12 @@ AreWords-parameter_words f p h = AreWords-words_of f 8 (parameter_block f p) (Ar
 -- the start words are eight
 pub length-start : (f : Family) (p : Parameters) → length (start f p) ≡ 8
 unfolding start
-length-start f p = length-xor_words (start_words f) _ (start_words-length f ∙ sym (length-parameter_words f p)) ∙ start_words-length f
+length-start f p = length-xor_words (iv f) _ (length-iv f ∙ sym (length-parameter_words f p)) ∙ length-iv f
 
 -- the start words are words
 pub AreWords-start : (f : Family) (p : Parameters) → AreParameters f p → AreWords f (start f p)
 unfolding start
-AreWords-start f p h = AreWords-xor_words f (start_words f) (parameter_words f p) (start_words-words f) (AreWords-parameter_words f p h)
+AreWords-start f p h = AreWords-xor_words f (iv f) (parameter_words f p) (AreWords-iv f) (AreWords-parameter_words f p h)
 
 -- ---- the run
 

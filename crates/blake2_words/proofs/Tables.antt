@@ -1,14 +1,14 @@
 -- The code's tables are those of the definitions.
 use Rattle.std.proofs.Common.{◌≡◌, refl}
-use Rattle.blake2_rows.specs.Family.{blake2b, blake2s, start_words, sigma}
+use Rattle.blake2_rows.specs.Family.{blake2b, blake2s, iv, sigma}
 use Rattle.blake2_words.specs.declared.consts.TheConstants.{BLAKE2B_IV, BLAKE2S_IV, SIGMA}
 
 -- IV of BLAKE2b
-pub iv_b : BLAKE2B_IV ≡ start_words blake2b
+pub iv_b : BLAKE2B_IV ≡ iv blake2b
 iv_b = refl
 
 -- IV of BLAKE2s
-pub iv_s : BLAKE2S_IV ≡ start_words blake2s
+pub iv_s : BLAKE2S_IV ≡ iv blake2s
 iv_s = refl
 
 -- SIGMA

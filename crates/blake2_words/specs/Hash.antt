@@ -10,7 +10,7 @@ pub use Rattle.blake2_rows.specs.Texts.{AreBytes}
 unfoldable pub use Rattle.blake2_rows.specs.Texts.{padded}
 use Rattle.blake2_rows.specs.Family.{Family, word, word_bytes, block_bytes, rounds, key_bytes}
 use Rattle.blake2_rows.specs.Family.{output_bytes, salt_bytes, offset_bytes, reserved_bytes}
-use Rattle.blake2_rows.specs.Family.{start_words, sigma}
+use Rattle.blake2_rows.specs.Family.{iv, sigma}
 use Rattle.blake2_rows.specs.Round.{round}
 
 -- ---- words and bytes
@@ -18,7 +18,8 @@ use Rattle.blake2_rows.specs.Round.{round}
 -- n words, low byte first, from the beginning of xs (2.4)
 unfoldable pub words_of : Family → ℕ → List ℕ → List ℕ
 words_of f zero xs = []
-words_of f (suc n) xs = from_le_bytes (word f) (take (word_bytes f) xs) ∷ words_of f n (drop (word_bytes f) xs)
+words_of f (suc n) xs =
+    from_le_bytes (word f) (take (word_bytes f) xs) ∷ words_of f n (drop (word_bytes f) xs)
 
 -- the bytes of words, low byte first (2.4)
 unfoldable pub bytes_of : Family → List ℕ → List ℕ
@@ -56,7 +57,7 @@ unfoldable pub before_rounds : Family → List ℕ → ℕ → Flags → List �
 before_rounds f h t flags =
     let w = bits (word f) in
     let ones = if flags.last then 2 ^ w - 1 else 0 in
-    h ++ xor_words (start_words f) (0 ∷ 0 ∷ 0 ∷ 0 ∷ t % 2 ^ w ∷ t / 2 ^ w ∷ ones ∷ 0 ∷ [])
+    h ++ xor_words (iv f) (0 ∷ 0 ∷ 0 ∷ 0 ∷ t % 2 ^ w ∷ t / 2 ^ w ∷ ones ∷ 0 ∷ [])
 
 -- F (3.2)
 unfoldable pub compress : Family → List ℕ → List ℕ → ℕ → Flags → List ℕ
@@ -75,7 +76,8 @@ pub record Parameters : Type 0 where
 
 -- a record of them
 abbrev pub parameters_of : ℕ → ℕ → List ℕ → List ℕ → Parameters
-parameters_of size key_size salt persona = record { size = size; key_size = key_size; salt = salt; persona = persona }
+parameters_of size key_size salt persona =
+    record { size = size; key_size = key_size; salt = salt; persona = persona }
 
 -- they are within the limits of the family (2.1; the BLAKE2 document, 2.8)
 pub record Fits (f : Family) (p : Parameters) : Type 0 where
@@ -100,7 +102,7 @@ parameter_words f p = words_of f 8 (parameter_block f p)
 
 -- h[0..7] before the first block (3.3)
 unfoldable pub start : Family → Parameters → List ℕ
-start f p = xor_words (start_words f) (parameter_words f p)
+start f p = xor_words (iv f) (parameter_words f p)
 
 -- ---- the data and its blocks
 
@@ -125,7 +127,8 @@ block_count f n = Blocks.block_count (block_bytes f) n
 -- the first n blocks of z, each the next B bytes, with zeros where z has ended
 unfoldable pub cut : Family → ℕ → List ℕ → List (List ℕ)
 cut f zero z = []
-cut f (suc n) z = padded (block_bytes f) (take (block_bytes f) z) ∷ cut f n (drop (block_bytes f) z)
+cut f (suc n) z =
+    padded (block_bytes f) (take (block_bytes f) z) ∷ cut f n (drop (block_bytes f) z)
 
 -- d[0..dd-1]
 abbrev pub blocks : Family → List ℕ → List (List ℕ)
@@ -136,7 +139,8 @@ blocks f z = cut f (block_count f (length z)) z
 -- h after the first i blocks of d, none of them final, where c bytes were counted before
 unfoldable pub chain : Family → List ℕ → ℕ → List (List ℕ) → ℕ → List ℕ
 chain f h c d zero = h
-chain f h c d (suc i) = compress f (chain f h c d i) (slice_index_or d i []) (c + (i + 1) * block_bytes f) inner
+chain f h c d (suc i) =
+    compress f (chain f h c d i) (slice_index_or d i []) (c + (i + 1) * block_bytes f) inner
 
 -- h after the last block of z, compressed under these flags
 unfoldable pub last_chain : Family → List ℕ → ℕ → List ℕ → Flags → List ℕ
@@ -169,7 +173,8 @@ input_start f size a = start f (input_parameters size a)
 
 -- BLAKE2: the first `size` bytes of the last h (3.3)
 unfoldable pub digest : Family → ℕ → Input → List ℕ
-digest f size a = take size (bytes_of f (last_chain f (input_start f size a) 0 (input_data f a) (input_flags a)))
+digest f size a =
+    take size (bytes_of f (last_chain f (input_start f size a) 0 (input_data f a) (input_flags a)))
 
 -- ---- the steps
 
@@ -195,4 +200,6 @@ step f h z flags i = record {
 
 -- all steps of an input's run, in order
 unfoldable pub steps : Family → ℕ → Input → List Step
-steps f size a = map (step f (input_start f size a) (input_data f a) (input_flags a)) (range_with_len 0 (block_count f (length (input_data f a))))
+steps f size a =
+    map (step f (input_start f size a) (input_data f a) (input_flags a))
+    (range_with_len 0 (block_count f (length (input_data f a))))

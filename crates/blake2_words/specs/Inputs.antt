@@ -1,4 +1,5 @@
--- Which inputs are hashed, and when two of them are the same. Section numbers are those of RFC 7693.
+-- Which inputs are hashed, and when two of them are the same. Section numbers are those of RFC
+-- 7693.
 use Rattle.std.specs.Prelude.{◌≡◌, ℕ, ◌<◌, ◌≤◌, ◌^◌, List, length, Option, Some, None, ⊤}
 use Rattle.blake2_rows.specs.Family.{Family, salt_bytes, key_bytes}
 use Rattle.blake2_words.specs.Hash.{AreBytes, Input, input_data, padded}
@@ -8,8 +9,8 @@ abbrev pub KeyFits : Family → Option (List ℕ) → Type 0
 KeyFits f None = ⊤
 KeyFits f (Some key) = (1 ≤ length key) × (length key ≤ key_bytes f) × AreBytes key
 
--- salt and persona have at most S bytes, the key fits, and the counted bytes, those of the data, are less
--- than 2^64 (2.1, 3.3; the BLAKE2 document, 2.8)
+-- salt and persona have at most S bytes, the key fits, and the counted bytes, those of the data,
+-- are less than 2^64 (2.1, 3.3; the BLAKE2 document, 2.8)
 pub record Accepts (f : Family) (a : Input) : Type 0 where
   pub salt_fits : length a.salt ≤ salt_bytes f
   pub persona_fits : length a.persona ≤ salt_bytes f

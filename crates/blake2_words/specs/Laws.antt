@@ -5,5 +5,8 @@ use Rattle.blake2_words.specs.Hash.{Input, digest}
 
 -- zeros after a salt or a persona, within its bytes, leave each digest as it is
 abbrev pub ZerosLeaveDigests : Family → Type 0
-ZerosLeaveDigests f = (size : ℕ) (a : Input) (m n : ℕ) → length a.salt + m ≤ salt_bytes f → length a.persona + n ≤ salt_bytes f
-    → digest f size (record a { salt = a.salt ++ replicate m 0; persona = a.persona ++ replicate n 0 }) ≡ digest f size a
+ZerosLeaveDigests f = (size : ℕ) (a : Input) (m n : ℕ)
+    → length a.salt + m ≤ salt_bytes f → length a.persona + n ≤ salt_bytes f
+    → digest f size
+    (record a { salt = a.salt ++ replicate m 0; persona = a.persona ++ replicate n 0 })
+    ≡ digest f size a

@@ -1,5 +1,5 @@
--- What shows that words and entries are the transcript of an input, and what they tell of it. Section
--- numbers are those of RFC 7693.
+-- What shows that words and entries are the transcript of an input, and what they tell of it.
+-- Section numbers are those of RFC 7693.
 use Rattle.std.specs.Prelude.{◌≡◌, ℕ, zero, suc, ◌+◌, ◌-◌, ◌*◌, ◌^◌, ◌<◌, ◌≤◌, List, length, take}
 use Rattle.std.specs.Prelude.{drop, slice_index, slice_index_or, Option, Some, None}
 use Rattle.blake2_rows.specs.Family.{Family, block_bytes, offset_bytes, reserved_bytes, salt_bytes}

@@ -1,9 +1,10 @@
--- The transcript of a run: its parameter words, and its steps without their chaining words. Section
--- numbers are those of RFC 7693.
+-- The transcript of a run: its parameter words, and its steps without their chaining words.
+-- Section numbers are those of RFC 7693.
 use Rattle.std.specs.Prelude.{◌≡◌, ℕ, ◌+◌, ◌-◌, ◌*◌, ◌<◌, ◌≤◌, List, length, map, slice_index_or}
 use Rattle.std.specs.List.{concat}
 use Rattle.blake2_rows.specs.Family.{Family, block_bytes, output_bytes}
-use Rattle.blake2_words.specs.Hash.{Flags, inner, Input, input_flags, input_parameters, input_data, padded, block_count, parameter_words, Step}
+use Rattle.blake2_words.specs.Hash.{Flags, inner, Input, input_flags, input_parameters, input_data}
+use Rattle.blake2_words.specs.Hash.{padded, block_count, parameter_words, Step}
 use Rattle.blake2_words.specs.Inputs.{Accepts, Same}
 
 -- what one compression is given, but for its chaining words (3.2)
@@ -16,26 +17,35 @@ pub record Entry : Type 0 where
 abbrev pub entry : Step → Entry
 entry s = record { block = s.block; counter = s.counter; flags = s.flags }
 
+-- the step of an entry, at the chaining words h
+abbrev pub step_at : List ℕ → Entry → Step
+step_at h e = record { chain = h; block = e.block; counter = e.counter; flags = e.flags }
+
 -- the bytes of the blocks, one after the other
 abbrev pub joined : List Entry → List ℕ
 joined entries = concat (map (λ (e : Entry). e.block) entries)
 
--- words and entries are those of the input at this output size, place by place and without F (3.3): the
--- parameter words; an entry for each block; before the last, counters (i+1)·B and no final flag; at the
--- last, the counted length and the input's flags; and blocks that joined are the data and then zeros
-pub record IsTranscript (f : Family) (words : List ℕ) (entries : List Entry) (size : ℕ) (a : Input) : Type 0 where
+-- words and entries are those of the input at this output size, place by place and without F
+-- (3.3): the parameter words; an entry for each block; before the last, counters (i+1)·B and no
+-- final flag; at the last, the counted length and the input's flags; and blocks that joined are
+-- the data and then zeros
+pub record IsTranscript (f : Family) (words : List ℕ) (entries : List Entry) (size : ℕ) (a : Input)
+    : Type 0 where
   pub parameters : words ≡ parameter_words f (input_parameters size a)
   pub number : length entries ≡ block_count f (length (input_data f a))
   pub below : (i : ℕ) (d : Entry) → i + 1 < length entries
-      → ((slice_index_or entries i d).counter ≡ (i + 1) * block_bytes f) × ((slice_index_or entries i d).flags ≡ inner)
+      → ((slice_index_or entries i d).counter ≡ (i + 1) * block_bytes f)
+      × ((slice_index_or entries i d).flags ≡ inner)
   pub ends : (d : Entry)
-      → ((slice_index_or entries (length entries - 1) d).counter ≡ length (input_data f a)) × ((slice_index_or entries (length entries - 1) d).flags ≡ input_flags a)
+      → ((slice_index_or entries (length entries - 1) d).counter ≡ length (input_data f a))
+      × ((slice_index_or entries (length entries - 1) d).flags ≡ input_flags a)
   pub blocks : joined entries ≡ padded (length entries * block_bytes f) (input_data f a)
 
 -- ---- what a transcript is read as
 
 -- words and entries are the transcript of this accepted input, at this output size
-pub record Reads (f : Family) (words : List ℕ) (entries : List Entry) (size : ℕ) (a : Input) : Type 0 where
+pub record Reads (f : Family) (words : List ℕ) (entries : List Entry) (size : ℕ) (a : Input)
+    : Type 0 where
   pub fits : size ≤ output_bytes f
   pub accepted : Accepts f a
   pub is : IsTranscript f words entries size a
@@ -45,7 +55,8 @@ abbrev pub IsOfSomeInput : Family → List ℕ → List Entry → Type 0
 IsOfSomeInput f words entries = (size : ℕ) × (a : Input) × Reads f words entries size a
 
 -- they are the transcript of this input at this size, and of no other input or size
-pub record ReadsOnly (f : Family) (words : List ℕ) (entries : List Entry) (size : ℕ) (a : Input) : Type 0 where
+pub record ReadsOnly (f : Family) (words : List ℕ) (entries : List Entry) (size : ℕ) (a : Input)
+    : Type 0 where
   pub reads : Reads f words entries size a
   pub only : (other : ℕ) (b : Input) → Reads f words entries other b → (size ≡ other) × Same f a b
 

@@ -1,5 +1,5 @@
--- The pair of steps that two different inputs with one digest come to, each what one compression is
--- given (RFC 7693, 3.2).
+-- The pair of steps that two different inputs with one digest come to, each what one compression
+-- is given (RFC 7693, 3.2).
 use Rattle.std.specs.Prelude.{◌≡◌, ◌≢◌, ℕ, ◌-◌, ◌<◌, List, length, take, slice_index_or}
 use Rattle.blake2_rows.specs.Family.{Family}
 use Rattle.blake2_words.specs.Hash.{bytes_of, Input, digest, Step, output, steps}
@@ -14,14 +14,15 @@ pub record Collide (f : Family) (size : ℕ) (a b : Input) : Type 0 where
 abbrev pub from_end : List Step → ℕ → Step → Step
 from_end xs j d = slice_index_or xs (length xs - 1 - j) d
 
--- x and y are the steps of a and b at one distance j from the ends; all nearer pairs are equal, x and
--- y differ, and F gives the same of both: in the first bytes, and wholly where j is not 0
+-- x and y are the steps of a and b at one distance j from the ends; all nearer pairs are equal, x
+-- and y differ, and F gives the same of both: in the first bytes, and wholly where j is not 0
 pub record IsWitnessAt (f : Family) (a b : Input) (size : ℕ) (x y : Step) (j : ℕ) : Type 0 where
   pub in_a : j < length (steps f size a)
   pub in_b : j < length (steps f size b)
   pub of_a : (d : Step) → x ≡ from_end (steps f size a) j d
   pub of_b : (d : Step) → y ≡ from_end (steps f size b) j d
-  pub nearer : (i : ℕ) (d : Step) → i < j → from_end (steps f size a) i d ≡ from_end (steps f size b) i d
+  pub nearer : (i : ℕ) (d : Step) → i < j
+      → from_end (steps f size a) i d ≡ from_end (steps f size b) i d
   pub differ : x ≢ y
   pub agree : take size (bytes_of f (output f x)) ≡ take size (bytes_of f (output f y))
   pub wholly : 0 < j → output f x ≡ output f y

@@ -23,8 +23,8 @@ pub struct Parameters<'a> {
     pub persona: &'a [u8],
 }
 
-// The N bytes of the parameter block, field by field (the BLAKE2 document, 2.8): the node offset has
-// O bytes, R are reserved, and a salt and a persona have S bytes each.
+// The N bytes of the parameter block, field by field (the BLAKE2 document, 2.8): the node offset
+// has O bytes, R are reserved, and a salt and a persona have S bytes each.
 #[inline(always)]
 fn parameter_block<const N: usize, const O: usize, const R: usize, const S: usize>(
     parameters: &Parameters<'_>,
@@ -59,8 +59,8 @@ fn parameter_block<const N: usize, const O: usize, const R: usize, const S: usiz
 mod tests {
     use super::{Parameters, blake2b};
 
-    // The first parameter word of an unkeyed digest of 64 bytes, and its bytes: digest length 64, key
-    // length 0, fanout 1, depth 1 and leaf length 0 (the BLAKE2 document, 2.8).
+    // The first parameter word of an unkeyed digest of 64 bytes, and its bytes: digest length 64,
+    // key length 0, fanout 1, depth 1 and leaf length 0 (the BLAKE2 document, 2.8).
     #[test]
     fn first_word_without_a_key(rt: HostRuntime) {
         let [first, ..] = blake2b::parameter_words(&Parameters {

@@ -1,6 +1,6 @@
-//! The steps of a hash as values: what BLAKE2 compresses for an input (RFC 7693, 3.3), written down as a
-//! transcript, and read back. Blocks have B bytes, 128 in BLAKE2b and 64 in BLAKE2s; words W are `u64`
-//! and `u32`; salts and personas have S bytes, 16 and 8.
+//! The steps of a hash as values: what BLAKE2 compresses for an input (RFC 7693, 3.3), written
+//! down as a transcript, and read back. Blocks have B bytes, 128 in BLAKE2b and 64 in BLAKE2s;
+//! words W are `u64` and `u32`; salts and personas have S bytes, 16 and 8.
 
 pub mod blake2b;
 pub mod blake2s;
@@ -10,8 +10,8 @@ mod reader;
 #[cfg(test)]
 mod tests;
 
-/// What a hash is of, but for its size. The module of each family has a function `accepts`, which tells
-/// whether the parts are as long as that family takes them.
+/// What a hash is of, but for its size. The module of each family has a function `accepts`, which
+/// tells whether the parts are as long as that family takes them.
 #[derive(Clone, Copy)]
 pub struct Input<'a> {
     /// At most S bytes; zeros behind it change nothing (the BLAKE2 document, 2.8).

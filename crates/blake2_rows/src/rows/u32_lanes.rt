@@ -1,9 +1,12 @@
 //! Rows of BLAKE2s: four words of 32 bits.
-ghost use Rattle.std.specs.Prelude.{◌≡◌, ℕ, ◌+◌, ◌%◌, ◌^◌, ◌<◌, List, [], ◌∷◌, length, slice_index};
+ghost use Rattle.std.specs.Prelude.{◌≡◌, ℕ, ◌+◌, ◌%◌, ◌^◌, ◌<◌, List, [], ◌∷◌, length};
+ghost use Rattle.std.specs.Prelude.{slice_index};
 ghost use mir.Val.{bits};
 ghost use Rattle.blake2_rows.specs.Family.{blake2s, word};
 ghost use Rattle.blake2_rows.specs.Round.{AreWords, mix, round};
-ghost use Rattle.blake2_rows.specs.Rows.{four, lane_sums, lane_xors, lane_rotations, shuffle_left, shuffle_right, word_at, lane_bytes, sixteen, columns, last_row_turned, shuffled_rows};
+ghost use Rattle.blake2_rows.specs.Rows.{four, lane_sums, lane_xors, lane_rotations, shuffle_left};
+ghost use Rattle.blake2_rows.specs.Rows.{shuffle_right, word_at, lane_bytes, sixteen, columns};
+ghost use Rattle.blake2_rows.specs.Rows.{last_row_rotated, shuffled_rows};
 
 use blake2_digest::Wipe;
 use std::marker::Model;
@@ -176,8 +179,8 @@ impl u32x4 {
         self.lanes.to_array()
     }
 
-    // Each lane rotated to the right by R3 bits, which are one whole byte, and the lanes then moved two
-    // places to the left: both at once, as one choice of bytes.
+    // Each lane rotated to the right by R3 bits, which are one whole byte, and the lanes then
+    // moved two places to the left: both at once, as one choice of bytes.
     #[inline(always)]
     fn rotate_and_shuffle(self) -> Self
         ensures { result ≡ shuffle_left 2 (lane_rotations blake2s self 8) }
@@ -201,11 +204,12 @@ impl u32x4 {
         }
     }
 
-    // Four mixings at once, but for the last rotation of row d, by R3 bits: lane j of the six rows has
-    // the words of the j-th.
+    // Four mixings at once, but for the last rotation of row d, by R3 bits: lane j of the six rows
+    // has the words of the j-th.
     #[inline(always)]
     fn mix(a: Self, b: Self, c: Self, d: Self, x: Self, y: Self) -> (Self, Self, Self, Self)
-        ensures { last_row_turned blake2s result ≡ columns blake2s (sixteen (a ∷ b ∷ c ∷ d ∷ [])) x y }
+        ensures { last_row_rotated blake2s result
+            ≡ columns blake2s (sixteen (a ∷ b ∷ c ∷ d ∷ [])) x y }
     {
         let a1 = Self::sum_of(a, b, x);
         let d1 = (d ^ a1).rotate_right_const(R1);
@@ -218,11 +222,11 @@ impl u32x4 {
         (a2, b2, c2, d2)
     }
 
-    // Half a round, the mixings of the four columns of `v` at once, column j with lane j of `x` and of
-    // `y`, but for the last rotation of row 3 (RFC 7693, section 3.2).
+    // Half a round, the mixings of the four columns of `v` at once, column j with lane j of `x`
+    // and of `y`, but for the last rotation of row 3 (RFC 7693, section 3.2).
     #[inline(always)]
     fn mix_rows(v: [Self; 4], x: Self, y: Self) -> (Self, Self, Self, Self)
-        ensures { last_row_turned blake2s result ≡ columns blake2s (sixteen v) x y }
+        ensures { last_row_rotated blake2s result ≡ columns blake2s (sixteen v) x y }
     {
         let [a, b, c, d] = v;
         Self::mix(a, b, c, d, x, y)
@@ -232,7 +236,7 @@ impl u32x4 {
     // stays in place.
     #[inline(always)]
     fn diagonals_to_columns(rows: (Self, Self, Self, Self)) -> [Self; 4]
-        ensures { sixteen result ≡ shuffled_rows 3 0 1 2 (last_row_turned blake2s rows) }
+        ensures { sixteen result ≡ shuffled_rows 3 0 1 2 (last_row_rotated blake2s rows) }
     {
         let (a, b, c, d) = rows;
         [
@@ -246,7 +250,7 @@ impl u32x4 {
     // The last row is rotated, and the columns become diagonals again.
     #[inline(always)]
     fn columns_to_diagonals(rows: (Self, Self, Self, Self)) -> [Self; 4]
-        ensures { sixteen result ≡ shuffled_rows 1 0 3 2 (last_row_turned blake2s rows) }
+        ensures { sixteen result ≡ shuffled_rows 1 0 3 2 (last_row_rotated blake2s rows) }
     {
         let (a, b, c, d) = rows;
         [

@@ -1,13 +1,15 @@
 //! The witness of BLAKE2b: steps of eight words of 64 bits and blocks of 128 bytes.
 
-ghost use Rattle.std.specs.Prelude.{◌≡◌, ◌+◌, ◌<◌, ◌≤◌, ◌↔◌, IsTrue, IsOk, IsSome, IfOk, IfSome, MatchOption};
+ghost use Rattle.std.specs.Prelude.{◌≡◌, ◌+◌, ◌<◌, ◌≤◌, ◌↔◌, take, IsTrue, IsOk, IsSome, IfOk};
+ghost use Rattle.std.specs.Prelude.{IfSome, MatchOption};
 ghost use Rattle.blake2_rows.specs.Family.{blake2b, output_bytes};
 ghost use Rattle.blake2_rows.specs.Rows.{eight};
 ghost use Rattle.blake2_words.specs.Hash.{digest, input_start, output};
 ghost use Rattle.blake2_words.specs.Inputs.{Accepts, Same};
+ghost use Rattle.blake2_words.specs.Transcript;
 ghost use Rattle.blake2_words.specs.Witness.{Collide, IsWitness};
-ghost use Rattle.blake2_words.specs.Views.{input_of, step_of};
-ghost use Rattle.blake2_words.specs.Run.{number};
+ghost use Rattle.blake2_words.specs.Views.{entry_of, input_of, step_of};
+ghost use Rattle.blake2_words.specs.Run;
 
 use super::inputs::same;
 use crate::params::blake2b as params;
@@ -26,47 +28,52 @@ fn start(input: &Input<'_>, output_size: usize) -> [u64x4; 2]
     params::start_rows(&parameters_of(input, output_size))
 }
 
-// Step i of an input's run, at the chaining words before it.
-fn step_at(input: &Input<'_>, chain: &[u64x4; 2], i: u64) -> Step<u64, 128>
-    requires accepted { Accepts blake2b (input_of input.now) }
-    requires within { i < number blake2b (input_of input.now) }
-    ensures { step_of result ≡ Rattle.blake2_words.specs.Run.step_at blake2b (input_of input.now) (eight chain.now) i }
+// The step of an entry, at the chaining words before it.
+fn step_at(chain: &[u64x4; 2], entry: &Entry<128>) -> Step<u64, 128>
+    ensures { step_of result ≡ Transcript.step_at (eight chain.now) (entry_of entry.now) }
 {
-    let Entry {
-        block,
-        counter,
-        last,
-    } = entry_at(input, i);
     Step {
         chain: words::to_words(chain),
-        block,
-        counter,
-        last,
+        block: entry.block,
+        counter: entry.counter,
+        last: entry.last,
     }
 }
 
-// What F gives of a step.
-fn output_of(step: &Step<u64, 128>) -> [u64x4; 2]
-    ensures { eight result ≡ output blake2b (step_of step.now) }
+// What F gives of that step.
+fn output_of(chain: &[u64x4; 2], entry: &Entry<128>) -> [u64x4; 2]
+    ensures { eight result
+        ≡ output blake2b (Transcript.step_at (eight chain.now) (entry_of entry.now)) }
 {
-    let mut chain = words::to_rows(&step.chain);
-    let flags = Flags { last: step.last };
-    words::compress(&mut chain, &step.block, step.counter, flags);
-    chain
+    let mut after = *chain;
+    let flags = Flags { last: entry.last };
+    words::compress(&mut after, &entry.block, entry.counter, flags);
+    after
 }
 
-// The last step of an input's run.
-fn last_step(input: &Input<'_>, output_size: usize) -> Step<u64, 128>
+// The chaining words and the entry of the last step of an input's run.
+fn last_step(input: &Input<'_>, output_size: usize) -> ([u64x4; 2], Entry<128>)
     requires accepted { Accepts blake2b (input_of input.now) }
     requires size { output_size ≤ output_bytes blake2b }
-    ensures { step_of result ≡ Rattle.blake2_words.specs.Run.last_step blake2b output_size (input_of input.now) }
+    ensures { Transcript.step_at (eight result.0) (entry_of result.1)
+        ≡ Run.last_step blake2b output_size (input_of input.now) }
 {
     let last = step_count::<128>(input) - 1;
     let mut chain = start(input, output_size);
     for i in 0..last {
-        chain = output_of(&step_at(input, &chain, i));
+        chain = output_of(&chain, &entry_at(input, i));
     }
-    step_at(input, &chain, last)
+    (chain, entry_at(input, last))
+}
+
+// The bytes of the last chaining words, which begin with the digest.
+fn last_bytes(input: &Input<'_>, output_size: usize) -> [u8; 64]
+    requires accepted { Accepts blake2b (input_of input.now) }
+    requires size { output_size ≤ output_bytes blake2b }
+    ensures { take output_size result ≡ digest blake2b output_size (input_of input.now) }
+{
+    let (chain, entry) = last_step(input, output_size);
+    words::to_bytes(&output_of(&chain, &entry))
 }
 
 // The digests are equal.
@@ -74,18 +81,22 @@ fn same_digest(a: &Input<'_>, b: &Input<'_>, output_size: usize) -> bool
     requires a { Accepts blake2b (input_of a.now) }
     requires b { Accepts blake2b (input_of b.now) }
     requires size { output_size ≤ output_bytes blake2b }
-    ensures { IsTrue result ↔ (digest blake2b output_size (input_of a.now) ≡ digest blake2b output_size (input_of b.now)) }
+    ensures { IsTrue result
+        ↔ (digest blake2b output_size (input_of a.now)
+        ≡ digest blake2b output_size (input_of b.now)) }
 {
-    let x = words::to_bytes(&output_of(&last_step(a, output_size)));
-    let y = words::to_bytes(&output_of(&last_step(b, output_size)));
+    let x = last_bytes(a, output_size);
+    let y = last_bytes(b, output_size);
     x[..output_size] == y[..output_size]
 }
 
-// The steps are equal.
-fn same_step(x: &Step<u64, 128>, y: &Step<u64, 128>) -> bool
-    ensures { IsTrue result ↔ (step_of x.now ≡ step_of y.now) }
+// The steps of two entries, each at the chaining words before it, are equal.
+fn same_step(chain_a: &[u64x4; 2], x: &Entry<128>, chain_b: &[u64x4; 2], y: &Entry<128>) -> bool
+    ensures { IsTrue result
+        ↔ (Transcript.step_at (eight chain_a.now) (entry_of x.now)
+        ≡ Transcript.step_at (eight chain_b.now) (entry_of y.now)) }
 {
-    x == y
+    words::to_words(chain_a) == words::to_words(chain_b) && x == y
 }
 
 // Of two runs with as many steps the last pair of steps, one of each, that differ.
@@ -98,29 +109,32 @@ fn last_pair(
     requires b { Accepts blake2b (input_of b.now) }
     requires size { output_size ≤ output_bytes blake2b }
     requires collide { Collide blake2b output_size (input_of a.now) (input_of b.now) }
-    requires numbers { number blake2b (input_of a.now) ≡ number blake2b (input_of b.now) }
-    ensures { MatchOption result ⊥ (λ p. IsWitness blake2b (input_of a.now) (input_of b.now) output_size (step_of p.0) (step_of p.1)) }
+    requires numbers { Run.step_count blake2b (input_of a.now)
+        ≡ Run.step_count blake2b (input_of b.now) }
+    ensures { MatchOption result ⊥
+        (λ p. IsWitness blake2b (input_of a.now) (input_of b.now) output_size
+        (step_of p.0) (step_of p.1)) }
 {
     let mut chain_a = start(a, output_size);
     let mut chain_b = start(b, output_size);
     let mut kept = None;
     for i in 0..step_count::<128>(a) {
-        let x = step_at(a, &chain_a, i);
-        let y = step_at(b, &chain_b, i);
-        if !same_step(&x, &y) {
-            kept = Some((x, y));
+        let x = entry_at(a, i);
+        let y = entry_at(b, i);
+        if !same_step(&chain_a, &x, &chain_b, &y) {
+            kept = Some((step_at(&chain_a, &x), step_at(&chain_b, &y)));
         }
-        chain_a = output_of(&x);
-        chain_b = output_of(&y);
+        chain_a = output_of(&chain_a, &x);
+        chain_b = output_of(&chain_b, &y);
     }
     kept
 }
 
-/// For two inputs that are not the same and whose digests of `output_size` bytes, at most 64, are equal, a
-/// step of the first run and a step of the second that are not equal though their outputs are: in the
-/// first `output_size` bytes, and wholly where they are not the last. They stand at one distance from the
-/// ends of their runs, and all steps nearer to the ends are equal in pairs. `None` for all other inputs.
-/// Takes no memory and makes no error.
+/// For two inputs that are not the same and whose digests of `output_size` bytes, at most 64, are
+/// equal, a step of the first run and a step of the second that are not equal though their outputs
+/// are: in the first `output_size` bytes, and wholly where they are not the last. They stand at
+/// one distance from the ends of their runs, and all steps nearer to the ends are equal in pairs.
+/// `None` for all other inputs. Takes no memory and makes no error.
 pub fn witness(
     _alloc: Global,
     a: &Input<'_>,
@@ -131,14 +145,19 @@ pub fn witness(
     requires b { Accepts blake2b (input_of b.now) }
     requires size { output_size ≤ output_bytes blake2b }
     ensures ok { IsOk result }
-    ensures some { IfOk result (λ w. IsSome w ↔ Collide blake2b output_size (input_of a.now) (input_of b.now)) }
-    ensures pair { IfOk result (λ w. IfSome w (λ p. IsWitness blake2b (input_of a.now) (input_of b.now) output_size (step_of p.0) (step_of p.1))) }
+    ensures some { IfOk result
+        (λ w. IsSome w ↔ Collide blake2b output_size (input_of a.now) (input_of b.now)) }
+    ensures pair { IfOk result (λ w. IfSome w (λ p.
+        IsWitness blake2b (input_of a.now) (input_of b.now) output_size
+        (step_of p.0) (step_of p.1))) }
 {
     if same::<16>(a, b) || !same_digest(a, b, output_size) {
         return Ok(None);
     }
     if step_count::<128>(a) != step_count::<128>(b) {
-        return Ok(Some((last_step(a, output_size), last_step(b, output_size))));
+        let (chain_a, x) = last_step(a, output_size);
+        let (chain_b, y) = last_step(b, output_size);
+        return Ok(Some((step_at(&chain_a, &x), step_at(&chain_b, &y))));
     }
     Ok(last_pair(a, b, output_size))
 }

@@ -1,4 +1,5 @@
-//! Each call once. The expected first words are IV's xored with the parameter block's (RFC 7693, 2.5).
+//! Each call once. The expected first words are IV's xored with the parameter block's (RFC 7693,
+//! 2.5).
 
 use super::{blake2b, blake2s};
 use crate::steps::{self, Input};

@@ -10,8 +10,9 @@ ghost use Rattle.blake2_words.specs.Laws.{ZerosLeaveDigests};
 use crate::steps::blocks::with_zeros;
 use blake2_rows::rows::u32x4;
 
-/// `unround` undoes `round`: the sixteen words of `v` are afterwards as they were, for any sixteen words
-/// of a block `m` and any row `s` of numbers below 16. The answer is what the round made of them.
+/// `unround` undoes `round`: the sixteen words of `v` are afterwards as they were, for any sixteen
+/// words of a block `m` and any row `s` of numbers below 16. The answer is what the round made of
+/// them.
 pub fn unround_undoes_round(v: &mut [u32x4; 4], m: &[u32; 16], s: &[usize; 16]) -> [u32x4; 4]
     requires { (j : ℕ) → j < 16 → slice_index s.now j < 16 }
     ensures between { sixteen result ≡ round blake2s (sixteen v.old) m.now s.now }
@@ -37,8 +38,8 @@ pub fn round_undoes_unround(w: &mut [u32x4; 4], m: &[u32; 16], s: &[usize; 16]) 
     between
 }
 
-/// A round, under one `m` and one `s`, takes different lists of sixteen words to different lists. It
-/// is what becomes of `a` and of `b`.
+/// A round, under one `m` and one `s`, takes different lists of sixteen words to different lists.
+/// It is what becomes of `a` and of `b`.
 pub fn round_keeps_apart(a: &mut [u32x4; 4], b: &mut [u32x4; 4], m: &[u32; 16], s: &[usize; 16])
     requires { (j : ℕ) → j < 16 → slice_index s.now j < 16 }
     ensures first { sixteen a.new ≡ round blake2s (sixteen a.old) m.now s.now }
@@ -54,8 +55,8 @@ pub fn round_keeps_apart(a: &mut [u32x4; 4], b: &mut [u32x4; 4], m: &[u32; 16], 
     u32x4::unround(&mut before, m, s);
 }
 
-/// A salt or persona of at most 8 bytes with zeros up to 8. Zeros after a salt or a persona, within
-/// its 8 bytes, leave each digest as it is (the BLAKE2 document, 2.8).
+/// A salt or persona of at most 8 bytes with zeros up to 8. Zeros after a salt or a persona,
+/// within its 8 bytes, leave each digest as it is (the BLAKE2 document, 2.8).
 pub fn padded_text(text: &[u8]) -> [u8; 8]
     requires { length text.now ≤ 8 }
     ensures padding { result ≡ padded 8 text.now }

@@ -13,8 +13,8 @@ use crate::consts::BLAKE2S_IV;
 use crate::words::blake2s::{to_rows, to_words, xor_rows};
 use blake2_rows::rows::u32x4;
 
-/// Whether BLAKE2s takes these parameters: a digest and a key of at most 32 bytes, and a salt and a
-/// persona of at most 8 (RFC 7693, 2.1; the BLAKE2 document, 2.8).
+/// Whether BLAKE2s takes these parameters: a digest and a key of at most 32 bytes, and a salt and
+/// a persona of at most 8 (RFC 7693, 2.1; the BLAKE2 document, 2.8).
 pub fn fits(parameters: &Parameters<'_>) -> bool
     ensures { IsTrue result ↔ Fits blake2s (given_parameters parameters.now) }
 {

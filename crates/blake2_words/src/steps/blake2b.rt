@@ -14,17 +14,18 @@ use crate::params::{Parameters, blake2b as params};
 use crate::words::blake2b::{to_bytes, to_rows};
 use std::alloc::{AllocError, Global};
 
-/// Whether BLAKE2b takes the input: salt and persona have at most 16 bytes, the key is absent or has 1 to
-/// 64 bytes, and the bytes of the message, with 128 for a key, are less than 2^64 (RFC 7693, 2.1).
+/// Whether BLAKE2b takes the input: salt and persona have at most 16 bytes, the key is absent or
+/// has 1 to 64 bytes, and the bytes of the message, with 128 for a key, are less than 2^64 (RFC
+/// 7693, 2.1).
 pub fn accepts(input: &Input<'_>) -> bool
     ensures { IsTrue result ↔ Accepts blake2b (input_of input.now) }
 {
     limits::accepts::<128, 64, 16>(input)
 }
 
-/// The transcript of an input at a digest of `output_size` bytes, at most 64: the parameter words, and an
-/// entry for each block. The key, if there is one, is the first block (RFC 7693, 3.3). The error is want
-/// of memory, for a vector that has just the room for the entries.
+/// The transcript of an input at a digest of `output_size` bytes, at most 64: the parameter words,
+/// and an entry for each block. The key, if there is one, is the first block (RFC 7693, 3.3). The
+/// error is want of memory, for a vector that has just the room for the entries.
 pub fn transcript(
     alloc: Global,
     input: &Input<'_>,
@@ -32,8 +33,10 @@ pub fn transcript(
 ) -> Result<Transcript<u64, 128>, AllocError>
     requires accepted { Accepts blake2b (input_of input.now) }
     requires size { output_size ≤ output_bytes blake2b }
-    ensures transcript { IfOk result (λ t. IsTranscript blake2b t.words (entries_of t) output_size (input_of input.now)) }
-    ensures steps { IfOk result (λ t. entries_of t ≡ map entry (steps blake2b output_size (input_of input.now))) }
+    ensures transcript { IfOk result
+        (λ t. IsTranscript blake2b t.words (entries_of t) output_size (input_of input.now)) }
+    ensures steps { IfOk result
+        (λ t. entries_of t ≡ map entry (steps blake2b output_size (input_of input.now))) }
 {
     let words = params::parameter_words(&blocks::parameters_of(input, output_size));
     let entries = blocks::entries(alloc, input)?;
@@ -53,16 +56,21 @@ fn is_readable(told: &Parameters<'_>, words: &[u64; 8], entries: &[Entry<128>]) 
         && (key_size == 0 || reader::has_key(entries, key_size))
 }
 
-/// The input and the size of the digest that a transcript is of, salt and persona with their zeros; `None`
-/// where no accepted input at a size of at most 64 bytes has this transcript. The error is want of memory,
-/// and comes only where some input has it: all tests come before the first request for memory.
+/// The input and the size of the digest that a transcript is of, salt and persona with their
+/// zeros; `None` where no accepted input at a size of at most 64 bytes has this transcript. The
+/// error is want of memory, and comes only where some input has it: all tests come before the
+/// first request for memory.
 pub fn read_transcript(
     alloc: Global,
     transcript: &Transcript<u64, 128>,
 ) -> Result<Option<Reading<16>>, AllocError>
-    ensures some { IfOk result (λ r. IsSome r ↔ IsOfSomeInput blake2b transcript.now.words (entries_of transcript.now)) }
-    ensures reading { IfOk result (λ r. IfSome r (λ x. ReadsOnly blake2b transcript.now.words (entries_of transcript.now) x.output_size (reading_of x))) }
-    ensures memory { IfErr result (λ _. IsOfSomeInput blake2b transcript.now.words (entries_of transcript.now)) }
+    ensures some { IfOk result
+        (λ r. IsSome r ↔ IsOfSomeInput blake2b transcript.now.words (entries_of transcript.now)) }
+    ensures reading { IfOk result (λ r. IfSome r (λ x.
+        ReadsOnly blake2b transcript.now.words (entries_of transcript.now)
+        x.output_size (reading_of x))) }
+    ensures memory { IfErr result
+        (λ _. IsOfSomeInput blake2b transcript.now.words (entries_of transcript.now)) }
 {
     let words = &transcript.words;
     let entries = transcript.entries.as_slice();

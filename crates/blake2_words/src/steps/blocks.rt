@@ -1,12 +1,14 @@
 //! The blocks of an input's data, and the entries of its transcript.
 
-ghost use Rattle.std.specs.Prelude.{◌≡◌, ◌+◌, ◌<◌, ◌≤◌, ◌*◌, ◌-◌, ◌^◌, ℕ, length, take, drop, map, slice_index_or, [], IfOk};
+ghost use Rattle.std.specs.Prelude.{◌≡◌, ◌+◌, ◌<◌, ◌≤◌, ◌*◌, ◌-◌, ◌^◌, ℕ, length, take, drop, map};
+ghost use Rattle.std.specs.Prelude.{slice_index_or, [], IfOk};
 ghost use Rattle.blake2_rows.specs.Family.{Family, block_bytes};
 ghost use Rattle.blake2_words.specs.Hash.{padded, input_data, input_parameters, blocks, steps};
 ghost use Rattle.blake2_words.specs.Inputs.{Accepts};
 ghost use Rattle.blake2_words.specs.Transcript.{entry};
 ghost use Rattle.blake2_words.specs.Views.{input_of, entry_of, given_parameters, key_of};
-ghost use Rattle.blake2_words.specs.Run.{number};
+ghost use Rattle.blake2_words.specs.Run;
+ghost use Rattle.blake2_words.specs.Run.{run_step};
 
 use super::{Entry, Input};
 use crate::params::Parameters;
@@ -54,7 +56,7 @@ pub(crate) fn step_count<const B: usize>(input: &Input<'_>) -> u64
     ghost f: { Family }
     requires family { block_bytes f ≡ B }
     requires accepted { Accepts f (input_of input.now) }
-    ensures { result ≡ number f (input_of input.now) }
+    ensures { result ≡ Run.step_count f (input_of input.now) }
 {
     counted::<B>(input).saturating_sub(1) / B as u64 + 1
 }
@@ -73,7 +75,7 @@ fn block_at<const B: usize>(input: &Input<'_>, i: usize) -> [u8; B]
     ghost f: { Family }
     requires family { block_bytes f ≡ B }
     requires accepted { Accepts f (input_of input.now) }
-    requires within { i < number f (input_of input.now) }
+    requires within { i < Run.step_count f (input_of input.now) }
     ensures { result ≡ slice_index_or (blocks f (input_data f (input_of input.now))) i [] }
 {
     match input.key {
@@ -93,8 +95,8 @@ pub(crate) fn entry_at<const B: usize>(input: &Input<'_>, i: u64) -> Entry<B>
     ghost f: { Family }
     requires family { block_bytes f ≡ B }
     requires accepted { Accepts f (input_of input.now) }
-    requires within { i < number f (input_of input.now) }
-    ensures { entry_of result ≡ Rattle.blake2_words.specs.Run.entry_at f (input_of input.now) i }
+    requires within { i < Run.step_count f (input_of input.now) }
+    ensures { (size : ℕ) → entry_of result ≡ entry (run_step f size (input_of input.now) i) }
 {
     let last = i + 1 == step_count::<B>(input);
     Entry {
@@ -116,7 +118,8 @@ pub(crate) fn entries<const B: usize>(
     ghost f: { Family }
     requires family { block_bytes f ≡ B }
     requires accepted { Accepts f (input_of input.now) }
-    ensures { IfOk result (λ v. (size : ℕ) → map entry_of v.items ≡ map entry (steps f size (input_of input.now))) }
+    ensures { IfOk result (λ v. (size : ℕ)
+        → map entry_of v.items ≡ map entry (steps f size (input_of input.now))) }
 {
     let count = step_count::<B>(input);
     let mut entries = Vec::with_capacity(alloc, count as usize)?;

@@ -21,7 +21,8 @@ fn given_key_fits<const B: usize, const K: usize>(key: &[u8], message: &[u8]) ->
     ghost f: { Family }
     requires block { block_bytes f ≡ B }
     requires key { key_bytes f ≡ K }
-    ensures { IsTrue result ↔ KeyFits f (Some key.now) × (length (data_bytes f (Some key.now) message.now) < 2 ^ 64) }
+    ensures { IsTrue result
+        ↔ KeyFits f (Some key.now) × (length (data_bytes f (Some key.now) message.now) < 2 ^ 64) }
 {
     let key_within = fits(key, K);
     if key.is_empty() || !key_within {
@@ -30,14 +31,15 @@ fn given_key_fits<const B: usize, const K: usize>(key: &[u8], message: &[u8]) ->
     fits(message, usize::MAX - B)
 }
 
-// The key is absent or has 1 to K bytes, and the data is counted in 64 bits. That the message has bytes
-// is what its type says.
+// The key is absent or has 1 to K bytes, and the data is counted in 64 bits. That the message has
+// bytes is what its type says.
 #[tactic(auto, unfolding(crate::specs::Hash::key_block))]
 fn key_fits<const B: usize, const K: usize>(key: &Option<&[u8]>, message: &[u8]) -> bool
     ghost f: { Family }
     requires block { block_bytes f ≡ B }
     requires key { key_bytes f ≡ K }
-    ensures within { IsTrue result ↔ KeyFits f (key_of key.now) × (length (data_bytes f (key_of key.now) message.now) < 2 ^ 64) }
+    ensures within { IsTrue result ↔ KeyFits f (key_of key.now)
+        × (length (data_bytes f (key_of key.now) message.now) < 2 ^ 64) }
     ensures bytes { AreBytes message.now }
 {
     match *key {

@@ -1,4 +1,5 @@
-//! Whether entries are those of a run, and the key and the message of one, for blocks of any length.
+//! Whether entries are those of a run, and the key and the message of one, for blocks of any
+//! length.
 
 ghost use Rattle.std.specs.Prelude.{◌≡◌, ◌+◌, ◌<◌, ◌≤◌, ◌*◌, ◌-◌, ◌^◌, ◌↔◌, ℕ, length, map, take};
 ghost use Rattle.std.specs.Prelude.{IsTrue, IfOk, slice_index, EachIndex};
@@ -129,8 +130,10 @@ fn key_and_message<const B: usize>(
     requires run { IsRun f (map entry_of entries.now) }
     requires whole { AreWhole f (map entry_of entries.now) }
     requires key { 0 < key_size → HasKey f key_size (map entry_of entries.now) }
-    ensures key { IfOk result (λ p. items_of p.0 ≡ told_key key_size (told_data (map entry_of entries.now))) }
-    ensures message { IfOk result (λ p. p.1.items ≡ told_message f key_size (told_data (map entry_of entries.now))) }
+    ensures key { IfOk result
+        (λ p. items_of p.0 ≡ told_key key_size (told_data (map entry_of entries.now))) }
+    ensures message { IfOk result
+        (λ p. p.1.items ≡ told_message f key_size (told_data (map entry_of entries.now))) }
 {
     let counted = entries[entries.len() - 1].counter as usize;
     if key_size == 0 {

@@ -1,5 +1,5 @@
-//! Each call once, with ample memory. The expected words are those of the parameter block (the BLAKE2
-//! document, 2.8), byte by byte.
+//! Each call once, with ample memory. The expected words are those of the parameter block (the
+//! BLAKE2 document, 2.8), byte by byte.
 
 use super::{Entry, Input, Reading, Transcript, blake2b, blake2s};
 use crate::laws;

@@ -27,8 +27,9 @@ fn block_words(block: &[u8; 64]) -> [u32; 16]
     ]
 }
 
-// The rows before the first round: the chaining words, and IV with the counter xored into its fifth
-// and sixth word, the low 32 bits and the high ones, and all ones into its seventh in the last block.
+// The rows before the first round: the chaining words, and IV with the counter xored into its
+// fifth and sixth word, the low 32 bits and the high ones, and all ones into its seventh in the
+// last block.
 #[tactic(auto, unfolding(crate::specs::Hash::before_rounds, crate::specs::Hash::xor_words))]
 #[inline(always)]
 fn begin(h: [u32x4; 2], counter: u64, flags: Flags) -> [u32x4; 4]
@@ -42,17 +43,18 @@ fn begin(h: [u32x4; 2], counter: u64, flags: Flags) -> [u32x4; 4]
     [h[0], h[1], low, high ^ marks]
 }
 
-// The round that comes after `i` others, which takes the words of the block in the order of a row of
-// SIGMA (RFC 7693, 2.7).
+// The round that comes after `i` others, which takes the words of the block in the order of a row
+// of SIGMA (RFC 7693, 2.7).
 #[inline(always)]
 fn round_at(v: &mut [u32x4; 4], m: &[u32; 16], i: usize)
-    ensures { sixteen v.new ≡ Round.round blake2s (sixteen v.old) m.now (slice_index_or sigma (i % 10) []) }
+    ensures { sixteen v.new
+        ≡ Round.round blake2s (sixteen v.old) m.now (slice_index_or sigma (i % 10) []) }
 {
     u32x4::round(v, m, &SIGMA[i % 10]);
 }
 
-// The ten rounds. They are written out, since a loop would look up in SIGMA, as it runs, where each
-// word of the block stands.
+// The ten rounds. They are written out, since a loop would look up in SIGMA, as it runs, where
+// each word of the block stands.
 #[inline(always)]
 fn rounds(v: &mut [u32x4; 4], m: &[u32; 16])
     ensures { sixteen v.new ≡ after_rounds blake2s (sixteen v.old) m.now 10 }
@@ -73,13 +75,15 @@ fn rounds(v: &mut [u32x4; 4], m: &[u32; 16])
 #[tactic(auto, unfolding(crate::specs::Hash::xor_words))]
 #[inline(always)]
 fn finish(h: [u32x4; 2], v: [u32x4; 4]) -> [u32x4; 2]
-    ensures { eight result ≡ xor_words (xor_words (eight h) (take 8 (sixteen v))) (drop 8 (sixteen v)) }
+    ensures { eight result
+        ≡ xor_words (xor_words (eight h) (take 8 (sixteen v))) (drop 8 (sixteen v)) }
 {
     [h[0] ^ v[0] ^ v[2], h[1] ^ v[1] ^ v[3]]
 }
 
-/// F, the compression (RFC 7693, 3.2). `h` holds the eight chaining words, `block` the next 64 bytes
-/// of the data, and `counter` the number of bytes counted up to and with this block, padding aside.
+/// F, the compression (RFC 7693, 3.2). `h` holds the eight chaining words, `block` the next 64
+/// bytes of the data, and `counter` the number of bytes counted up to and with this block, padding
+/// aside.
 #[inline]
 pub fn compress(h: &mut [u32x4; 2], block: &[u8; 64], counter: u64, flags: Flags)
     ensures { eight h.new
@@ -120,8 +124,8 @@ pub fn to_words(rows: &[u32x4; 2]) -> [u32; 8]
     [h0, h1, h2, h3, h4, h5, h6, h7]
 }
 
-/// The 32 bytes of the eight words of two rows, each word's low byte first (RFC 7693, 2.4). Those of the
-/// last chaining words begin with the digest (3.3).
+/// The 32 bytes of the eight words of two rows, each word's low byte first (RFC 7693, 2.4). Those
+/// of the last chaining words begin with the digest (3.3).
 pub fn to_bytes(rows: &[u32x4; 2]) -> [u8; 32]
     ensures { result ≡ bytes_of blake2s (eight rows.now) }
 {

@@ -6,10 +6,12 @@ ghost use Rattle.blake2_words.specs.Transcript.{TranscriptsDetermine};
 
 use crate::steps::Transcript;
 
-/// Whether two transcripts are equal, words and entries. A transcript is of one output size and, but for
-/// zeros behind salt and persona, of one input: inputs with equal transcripts are the same.
+/// Whether two transcripts are equal, words and entries. A transcript is of one output size and,
+/// but for zeros behind salt and persona, of one input: inputs with equal transcripts are the
+/// same.
 pub fn equal(a: &Transcript<u64, 128>, b: &Transcript<u64, 128>) -> bool
-    ensures equal { IsTrue result ↔ ((a.now.words ≡ b.now.words) × (a.now.entries.items ≡ b.now.entries.items)) }
+    ensures equal { IsTrue result
+        ↔ ((a.now.words ≡ b.now.words) × (a.now.entries.items ≡ b.now.entries.items)) }
     ensures law { TranscriptsDetermine blake2b }
 {
     a == b

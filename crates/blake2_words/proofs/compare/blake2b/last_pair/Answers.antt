@@ -1,9 +1,12 @@
-use Rattle.std.proofs.Common.{◌≡◌, ◌<◌, ℕ, arith, true}
+use Rattle.std.proofs.Common.{◌≡◌, ◌<◌, ℕ, ◌∙◌, arith, true}
 use Rattle.blake2_rows.specs.Family.{blake2b}
+use Rattle.blake2_rows.specs.Rows.{eight}
 use Rattle.blake2_words.specs.Hash.{Input, Step}
-use Rattle.blake2_words.specs.Views.{input_of, step_of}
-use Rattle.blake2_words.specs.Run.{number, run_step}
-use Rattle.blake2_words.proofs.Front.{first_chain, step_at-chain, next_chain, walk_differs, walk_same, walk_witness}
+use Rattle.blake2_words.specs.Transcript.{step_at}
+use Rattle.blake2_words.specs.Views.{entry_of, input_of}
+use Rattle.blake2_words.specs.Run.{step_count, run_step}
+use Rattle.blake2_words.proofs.Front.{first_chain, step_at-chain, next_chain}
+use Rattle.blake2_words.proofs.Front.{walk_differs, walk_same, walk_witness}
 use Rattle.blake2_words.proofs.compare.blake2b.last_pair.Goals as goal
 use Rattle.blake2_words.proofs.compare.blake2b.last_pair.Goals.{then-not-same_step, else-not-same_step}
 
@@ -20,23 +23,32 @@ loop-i-preserved c =
     let b : Input = input_of c.args.b.now in
     let size : ℕ = c.args.output_size in
     let i : ℕ = c.loop-i.i in
-    let in_a : i < number blake2b a = omega arith in
-    let in_b : i < number blake2b b = omega arith in
-    let x : Step = step_of c.step_at-x.result in
-    let y : Step = step_of c.step_at-y.result in
-    let of_a : x ≡ run_step blake2b size a i = step_at-chain blake2b size a _ i x (c.loop-i.invariant.of_a in_a) c.step_at-x.ensures in
-    let of_b : y ≡ run_step blake2b size b i = step_at-chain blake2b size b _ i y (c.loop-i.invariant.of_b in_b) c.step_at-y.ensures in
+    let in_a : i < step_count blake2b a = omega arith in
+    let in_b : i < step_count blake2b b = omega arith in
+    let x : Step = step_at (eight c.loop-i.chain_a) (entry_of c.entry_at-x.result) in
+    let y : Step = step_at (eight c.loop-i.chain_b) (entry_of c.entry_at-y.result) in
+    let of_a : x ≡ run_step blake2b size a i =
+    step_at-chain blake2b size a _ i _ (c.loop-i.invariant.of_a in_a) (c.entry_at-x.ensures size) in
+    let of_b : y ≡ run_step blake2b size b i =
+    step_at-chain blake2b size b _ i _ (c.loop-i.invariant.of_b in_b) (c.entry_at-y.ensures size) in
     record {
       of_a = λ lt. next_chain blake2b size a i _ x of_a c.output_of-chain_a.ensures lt;
       of_b = λ lt. next_chain blake2b size b i _ y of_b c.output_of-chain_b.ensures lt;
       kept = elim c.if-not-same_step.branch [
         | then-not-same_step w ↦
-            rw w.kept-is (walk_differs blake2b size a b i (c.step_at-x.result, c.step_at-y.result) of_a of_b in_a in_b (λ e. let same : c.same_step.result ≡ true = c.same_step.ensures.1 e in cc w.if-not-same_step.true))
-        | else-not-same_step w ↦ rw w.kept-is (walk_same blake2b size a b i x y c.loop-i.kept of_a of_b in_a in_b (c.same_step.ensures.0 w.if-not-same_step.false) c.loop-i.invariant.kept)
+            rw w.kept-is
+            (walk_differs blake2b size a b i (w.step_at.result, w.step_at-then-not-same_step.result) x y
+            w.step_at.ensures w.step_at-then-not-same_step.ensures of_a of_b in_a in_b
+            (λ e. let same : c.same_step.result ≡ true = c.same_step.ensures.1 e in cc w.if-not-same_step.true))
+        | else-not-same_step w ↦
+            rw w.kept-is
+            (walk_same blake2b size a b i x y c.loop-i.kept of_a of_b in_a in_b
+            (c.same_step.ensures.0 w.if-not-same_step.false) c.loop-i.invariant.kept)
       ];
     }
 
 pub returns : goal.returns
 returns c =
-    walk_witness blake2b c.args.output_size _ _ c.loop-i.i c.loop-i.kept c.requires.a c.requires.b c.requires.size c.requires.collide
+    walk_witness blake2b c.args.output_size _ _ c.loop-i.i c.loop-i.kept
+    c.requires.a c.requires.b c.requires.size c.requires.collide
     c.requires.numbers (omega arith) c.loop-i.invariant.kept
