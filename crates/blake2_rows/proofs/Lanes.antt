@@ -1,8 +1,8 @@
 -- What holds of each lane, and mixings lane by lane.
-use Rattle.std.proofs.Common.{◌≡◌, ℕ, zero, suc, ◌<◌, List, [], ◌∷◌, ◌++◌, slice_index, slice_index_or, arith}
+use Rattle.std.proofs.Common.{◌≡◌, ℕ, zero, suc, ◌<◌, List, [], ◌∷◌, ◌++◌, slice_index, slice_index_or, refl, arith}
 use Rattle.blake2_rows.specs.Family.{Family}
 use Rattle.blake2_rows.specs.Round.{mix}
-use Rattle.blake2_rows.specs.Rows.{sixteen, columns}
+use Rattle.blake2_rows.specs.Rows.{four, sixteen, columns}
 use Rattle.blake2_rows.specs.Lanes.{in_lane}
 
 -- what holds of each of four lanes
@@ -12,6 +12,10 @@ below_four P p0 p1 p2 p3 (suc zero) h = p1
 below_four P p0 p1 p2 p3 (suc (suc zero)) h = p2
 below_four P p0 p1 p2 p3 (suc (suc (suc zero))) h = p3
 below_four P p0 p1 p2 p3 (suc (suc (suc (suc n)))) h = absurd (omega arith)
+
+-- lane j of a row that is given lane by lane
+pub lane_of_four : (f : ℕ → ℕ) (j : ℕ) → j < 4 → slice_index (four f) j ≡ f j
+lane_of_four f = below_four (λ j. slice_index (four f) j ≡ f j) refl refl refl refl
 
 -- what is equal in each of them
 pub same_in_four : (p q : ℕ → List ℕ) → p 0 ∷ p 1 ∷ p 2 ∷ p 3 ∷ [] ≡ q 0 ∷ q 1 ∷ q 2 ∷ q 3 ∷ [] → (j : ℕ) → j < 4 → p j ≡ q j

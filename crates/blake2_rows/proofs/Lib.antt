@@ -6,3 +6,4 @@ pub mod Lanes
 pub mod ByteTurns
 pub mod Words
 pub mod Undoing
+pub mod Places

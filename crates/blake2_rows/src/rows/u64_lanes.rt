@@ -17,7 +17,7 @@ const R1: u32 = 32;
 
 const R2: u32 = 24;
 
-const R3: u32 = 16;
+pub(super) const R3: u32 = 16;
 
 const R4: u32 = 63;
 
@@ -208,7 +208,14 @@ impl u64x4 {
     // G in each lane, but for the last rotation of row d, by R3 bits: lane j of the six rows has the
     // words of the j-th mixing.
     #[inline(always)]
-    fn mix(a: Self, b: Self, c: Self, d: Self, x: Self, y: Self) -> (Self, Self, Self, Self)
+    pub(super) fn mix(
+        a: Self,
+        b: Self,
+        c: Self,
+        d: Self,
+        x: Self,
+        y: Self,
+    ) -> (Self, Self, Self, Self)
         ensures { (j : ℕ) → j < 4 → in_lane j (rows_turned blake2b result)
             ≡ mix blake2b (in_lane j (a ∷ b ∷ c ∷ d ∷ [])) 0 1 2 3 (slice_index x j) (slice_index y j) }
     {
