@@ -33,7 +33,7 @@ record Step (f : Family) (v w : List ℕ) (back : List ℕ → List ℕ) : Type 
   undone : back w ≡ v
 
 -- a second write at one place
-set-set : (l : List ℕ) (i x y : ℕ) → set (set l i x) i y ≡ set l i y
+pub set-set : (l : List ℕ) (i x y : ℕ) → set (set l i x) i y ≡ set l i y
 set-set [] i x y = refl
 set-set (z ∷ l) zero x y = refl
 set-set (z ∷ l) (suc i) x y = ap (λ t. z ∷ t) (set-set l i x y)

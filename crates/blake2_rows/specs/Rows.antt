@@ -72,11 +72,14 @@ columns f v x y =
     let v3 = mix f v2 2 6 10 14 (slice_index x 2) (slice_index y 2) in
     mix f v3 3 7 11 15 (slice_index x 3) (slice_index y 3)
 
--- the sixteen words of four rows, where the last row still lacks its rotation by R3 bits (3.1)
+-- four rows, the last of which still lacks its rotation by R3 bits, once it is rotated (3.1)
+abbrev pub rows_rotated : Family → List ℕ × List ℕ × List ℕ × List ℕ → List (List ℕ)
+rows_rotated f rows =
+    rows.0 ∷ rows.1 ∷ rows.2 ∷ lane_rotations f rows.3 (slice_index (rotations f) 2) ∷ []
+
+-- their sixteen words
 abbrev pub last_row_rotated : Family → List ℕ × List ℕ × List ℕ × List ℕ → List ℕ
-last_row_rotated f rows =
-    sixteen
-    (rows.0 ∷ rows.1 ∷ rows.2 ∷ lane_rotations f rows.3 (slice_index (rotations f) 2) ∷ [])
+last_row_rotated f rows = sixteen (rows_rotated f rows)
 
 -- sixteen words with rows 0 to 3 moved to the left by k0, k1, k2 and k3 lanes
 abbrev pub shuffled_rows : ℕ → ℕ → ℕ → ℕ → List ℕ → List ℕ

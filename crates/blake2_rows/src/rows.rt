@@ -6,6 +6,7 @@
 //! these, and moves them back.
 mod u32_lanes;
 mod u64_lanes;
+mod u64_states;
 
 pub use u32_lanes::u32x4;
 pub use u64_lanes::u64x4;

@@ -4,9 +4,10 @@ ghost use Rattle.std.specs.Prelude.{slice_index};
 ghost use mir.Val.{bits};
 ghost use Rattle.blake2_rows.specs.Family.{blake2s, word};
 ghost use Rattle.blake2_rows.specs.Round.{AreWords, mix, round};
+ghost use Rattle.blake2_rows.specs.Lanes.{in_lane};
 ghost use Rattle.blake2_rows.specs.Rows.{four, lane_sums, lane_xors, lane_rotations, shuffle_left};
 ghost use Rattle.blake2_rows.specs.Rows.{shuffle_right, word_at, lane_bytes, sixteen, columns};
-ghost use Rattle.blake2_rows.specs.Rows.{last_row_rotated, shuffled_rows};
+ghost use Rattle.blake2_rows.specs.Rows.{rows_rotated, last_row_rotated, shuffled_rows};
 
 use blake2_digest::Wipe;
 use std::marker::Model;
@@ -204,12 +205,13 @@ impl u32x4 {
         }
     }
 
-    // Four mixings at once, but for the last rotation of row d, by R3 bits: lane j of the six rows
-    // has the words of the j-th.
+    // G in each lane, but for the last rotation of row d, by R3 bits: lane j of the six rows has the
+    // words of the j-th mixing.
     #[inline(always)]
     fn mix(a: Self, b: Self, c: Self, d: Self, x: Self, y: Self) -> (Self, Self, Self, Self)
-        ensures { last_row_rotated blake2s result
-            ≡ columns blake2s (sixteen (a ∷ b ∷ c ∷ d ∷ [])) x y }
+        ensures { (j : ℕ) → j < 4 → in_lane j (rows_rotated blake2s result)
+            ≡ mix blake2s (in_lane j (a ∷ b ∷ c ∷ d ∷ [])) 0 1 2 3
+            (slice_index x j) (slice_index y j) }
     {
         let a1 = Self::sum_of(a, b, x);
         let d1 = (d ^ a1).rotate_right_const(R1);

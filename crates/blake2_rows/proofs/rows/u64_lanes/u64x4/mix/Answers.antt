@@ -1,11 +1,11 @@
 use Rattle.std.proofs.Common.{add-zero}
 use Rattle.blake2_rows.specs.Round.{mix}
-use Rattle.blake2_rows.specs.Rows.{columns}
+use Rattle.blake2_rows.proofs.Lanes.{same_in_four}
 use Rattle.blake2_rows.proofs.rows.u64_lanes.u64x4.mix.Goals as goal
 
 pub returns : goal.returns
-unfolding mix columns
-returns c =
+unfolding mix
+returns c = same_in_four _ _ (
     rw (
       c.rotate_right_const-b2.ensures,
       c.bitxor-3.ensures,
@@ -19,4 +19,4 @@ returns c =
       c.rotate_right_const-d1.ensures,
       c.bitxor.ensures,
       c.sum_of-a1.ensures,
-    ) (simp add-zero)
+    ) (simp add-zero))

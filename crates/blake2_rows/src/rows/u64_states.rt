@@ -1,0 +1,51 @@
+//! Four states of BLAKE2b at once, one a lane: sixteen rows hold them, row k having word k of each.
+ghost use Rattle.std.specs.Prelude.{◌≡◌, ℕ, ◌<◌, slice_index};
+ghost use Rattle.blake2_rows.specs.Family.{blake2b};
+ghost use Rattle.blake2_rows.specs.Round;
+ghost use Rattle.blake2_rows.specs.Round.{mix};
+ghost use Rattle.blake2_rows.specs.Lanes.{in_lane};
+
+use super::u64_lanes::{R3, u64x4};
+
+impl u64x4 {
+    /// The row with this word in each lane.
+    #[inline(always)]
+    pub fn splat(word: u64) -> Self
+        ensures { (j : ℕ) → j < 4 → slice_index result j ≡ word }
+    {
+        Self::new(word, word, word, word)
+    }
+
+    // G at the places `a`, `b`, `c` and `d` of each state, with lane j of `x` and of `y` in lane j
+    // (RFC 7693, section 3.1).
+    #[inline(always)]
+    fn mix_each(v: &mut [Self; 16], a: usize, b: usize, c: usize, d: usize, x: Self, y: Self)
+        requires { (a < b) × (b < c) × (c < d) × (d < 16) }
+        ensures { (j : ℕ) → j < 4 → in_lane j v.new
+            ≡ mix blake2b (in_lane j v.old) a b c d (slice_index x j) (slice_index y j) }
+    {
+        let (va, vb, vc, vd) = Self::mix(v[a], v[b], v[c], v[d], x, y);
+        v[a] = va;
+        v[b] = vb;
+        v[c] = vc;
+        v[d] = vd.rotate_right_const(R3);
+    }
+
+    /// One round on each of four states: row k of `v` has their words k, and row k of `m` the words k
+    /// of their blocks, taken in the order `s`, sixteen numbers below 16 (RFC 7693, section 3.2).
+    #[inline(always)]
+    pub fn round_each(v: &mut [Self; 16], m: &[Self; 16], s: &[usize; 16])
+        requires { (j : ℕ) → j < 16 → slice_index s.now j < 16 }
+        ensures { (j : ℕ) → j < 4
+            → in_lane j v.new ≡ Round.round blake2b (in_lane j v.old) (in_lane j m.now) s.now }
+    {
+        Self::mix_each(v, 0, 4, 8, 12, m[s[0]], m[s[1]]);
+        Self::mix_each(v, 1, 5, 9, 13, m[s[2]], m[s[3]]);
+        Self::mix_each(v, 2, 6, 10, 14, m[s[4]], m[s[5]]);
+        Self::mix_each(v, 3, 7, 11, 15, m[s[6]], m[s[7]]);
+        Self::mix_each(v, 0, 5, 10, 15, m[s[8]], m[s[9]]);
+        Self::mix_each(v, 1, 6, 11, 12, m[s[10]], m[s[11]]);
+        Self::mix_each(v, 2, 7, 8, 13, m[s[12]], m[s[13]]);
+        Self::mix_each(v, 3, 4, 9, 14, m[s[14]], m[s[15]]);
+    }
+}
