@@ -31,10 +31,10 @@ count() {
     {
         echo "FAILED: $name"
         echo "  status $status, wanted $wanted_status"
-        echo "  output: $(head -c 300 "$room/output" | cat -v)"
-        echo "  wanted: $(head -c 300 "$room/wanted" | cat -v)"
-        [ -s "$room/errors" ] && echo "  errors: $(head -c 300 "$room/errors" | cat -v)"
-    } >&2
+        echo "  output: $(head -c 300 "$room/output")"
+        echo "  wanted: $(head -c 300 "$room/wanted")"
+        [ -s "$room/errors" ] && echo "  errors: $(head -c 300 "$room/errors")"
+    } | cat -v >&2
 }
 
 # Checks a run over an input, which may hold escapes as printf takes them: wants STATUS and the line

@@ -1,5 +1,6 @@
 mod Accepting
 mod CutLemmas
+mod Hashing
 mod LineLemmas
 mod Printing
 mod ScriptLemmas

@@ -1,10 +1,10 @@
 -- The faults of the program: their statuses, texts and causes.
-use Rattle.std.specs.Prelude.{◌≡◌, ◌∷◌, ◌++◌, ℕ, Bool, ⊤, List, [], codes, decimal, Option, Some, None, Result, Err, IfSome, IsOkAnd, IsTrue}
+use Rattle.std.specs.Prelude.{◌≡◌, ◌≢◌, ◌<◌, ◌⊎◌, ◌∷◌, ◌++◌, ℕ, Bool, false, List, [], length, codes, decimal, Option, Some, None, IfSome, IsOkAnd, IsTrue}
 use Rattle.std.specs.Io.KnownBytes.{Appends}
 use Rattle.b2.specs.declared.fault.Fault.{Fault}
 use Rattle.b2.specs.declared.fault.Fault.TheVariants.{WrongWords, WrongHex, WrongLength, WrongLine, NoSuchSlot, LineTooLong, TooLong, ReadFailed, NoMemory, WriteFailed}
-use Rattle.b2.specs.Words.{Task}
-use Rattle.b2.specs.Tasks.{IsRefusedTask, IsTooLongFor, IsFaultOfScript}
+use Rattle.b2.specs.Words.{Task, task_of, IsReadingFault}
+use Rattle.b2.specs.Tasks.{IsRefusedTask, IsTooLongFor, IsFaultOfScript, TakesMemory}
 
 -- the status that a fault ends with: 2 for the words and the input, 1 for the devices and the memory
 abbrev pub status_of : Fault → ℕ
@@ -49,27 +49,40 @@ abbrev pub fault_line : Fault → List ℕ
 fault_line WriteFailed = []
 fault_line fault = codes "b2: " ++ place_text (line_number fault) ++ fault_text fault ++ 10 ∷ []
 
--- a task that is not refused has a fault in its script
-abbrev pub IsScriptFault : Fault → Result Task Fault → Option (List ℕ) → Type 0
-IsScriptFault fault task left = IsOkAnd task (λ t. (¬ IsRefusedTask t) × IfSome left (IsFaultOfScript fault t))
+-- a fault in the script of a task that is not refused
+abbrev pub IsScriptFault : Fault → Task → Option (List ℕ) → Type 0
+IsScriptFault fault task left = (¬ IsRefusedTask task) × IfSome left (IsFaultOfScript fault task)
 
--- the cause of a fault: what the words ask for, then what the source had left, and whether a read has
--- failed. Lengths are looked at once the words are right, and the input is read once the lengths are
-abbrev pub IsDue : Fault → Result Task Fault → Option (List ℕ) → Bool → Type 0
-IsDue WrongWords task left failed = task ≡ Err WrongWords
-IsDue WrongHex task left failed = task ≡ Err WrongHex
-IsDue WrongLength task left failed = IsOkAnd task IsRefusedTask
+-- the cause of a fault, once the words are read: what they ask for, then what the source had left, and
+-- whether a read has failed. Lengths are looked at first, and the input is read once they are right
+abbrev pub IsDue : Fault → Task → Option (List ℕ) → Bool → Type 0
+IsDue WrongLength task left failed = IsRefusedTask task
 IsDue (WrongLine number) task left failed = IsScriptFault (WrongLine number) task left
 IsDue (NoSuchSlot number) task left failed = IsScriptFault (NoSuchSlot number) task left
 IsDue (LineTooLong number) task left failed = IsScriptFault (LineTooLong number) task left
-IsDue TooLong task left failed = IsOkAnd task (λ t. (¬ IsRefusedTask t) × IfSome left (IsTooLongFor t))
-IsDue ReadFailed task left failed = IsOkAnd task (λ t. (¬ IsRefusedTask t) × IsTrue failed)
-IsDue NoMemory task left failed = ⊤
-IsDue WriteFailed task left failed = IsOkAnd task (λ t. ¬ IsRefusedTask t)
+IsDue TooLong task left failed = (¬ IsRefusedTask task) × IfSome left (IsTooLongFor task)
+IsDue ReadFailed task left failed = (¬ IsRefusedTask task) × IsTrue failed
+IsDue NoMemory task left failed = (¬ IsRefusedTask task) × TakesMemory task × (failed ≡ false)
+IsDue WriteFailed task left failed = ¬ IsRefusedTask task
+IsDue fault task left failed = ⊥
+
+-- the cause of a fault of the words, of which nothing is read: the first wrong one, or memory was refused
+-- for the bytes of HEX, in a word behind a command and its KIND
+pub record IsFaultOfWords (fault : Fault) (words : List (List ℕ)) (left rest : Option (List ℕ)) (failed : Bool) : Type 0 where
+  pub reading : IsReadingFault fault (task_of words)
+  pub memory : fault ≡ NoMemory → 2 < length words
+  pub unread : rest ≡ left
+  pub unfailed : failed ≡ false
+
+-- the cause of a fault: it is one of the words, or due for the task that they ask for
+abbrev pub IsCause : Fault → List (List ℕ) → Option (List ℕ) → Option (List ℕ) → Bool → Type 0
+IsCause fault words left rest failed =
+    IsFaultOfWords fault words left rest failed ⊎ IsOkAnd (task_of words) (λ task. IsDue fault task left failed)
 
 -- a fault with its cause gave the status, and a sink took its line
-pub record IsTold (task : Result Task Fault) (left : Option (List ℕ)) (failed : Bool) (status : ℕ) (old new : Option (List ℕ)) : Type 0 where
+pub record IsTold (words : List (List ℕ)) (left rest : Option (List ℕ)) (failed : Bool) (status : ℕ) (old new : Option (List ℕ)) : Type 0 where
   pub fault : Fault
-  pub cause : IsDue fault task left failed
+  pub cause : IsCause fault words left rest failed
+  pub has_line : fault ≢ WriteFailed
   pub status_is : status ≡ status_of fault
   pub line : Appends old new (fault_line fault)

@@ -2,6 +2,7 @@ pub mod Commands
 pub mod Comparisons
 pub mod Ends
 pub mod Faults
+pub mod Hashes
 pub mod Inputs
 pub mod Lines
 pub mod Options

@@ -1,5 +1,5 @@
 -- What the tasks of the program take and print.
-use Rattle.std.specs.Prelude.{◌≡◌, ℕ, ◌+◌, ◌≤◌, ◌^◌, List, [], length, Option, unwrap_or, IfSome, Result, Err, IsOkAnd}
+use Rattle.std.specs.Prelude.{◌≡◌, ℕ, ◌+◌, ◌≤◌, ◌^◌, ⊤, List, [], length, Option, unwrap_or, IfSome, Result, Err, IsOkAnd}
 use Rattle.std.specs.List.{flat_map}
 use Rattle.std.specs.Io.KnownBytes.{Appends}
 use Rattle.blake2.specs.Family.{Family, blake2b, blake2s}
@@ -80,6 +80,13 @@ IsTooLongFor (to_script kind given) input = ⊥
 IsTooLongFor (to_steps kind given) input = IsTooLongBy (family_of kind) given input
 IsTooLongFor (to_witness kind a b) input = ⊥
 
+-- a task takes memory once its words are read: `script` and `steps` hold the input, `sum` passes it on
+-- in pieces, and `witness` needs none
+abbrev pub TakesMemory : Task → Type 0
+TakesMemory (to_script kind given) = ⊤
+TakesMemory (to_steps kind given) = ⊤
+TakesMemory task = ⊥
+
 -- the digests that a script answers with what is given
 abbrev pub script_answer : Family → ℕ → Given → List ℕ → Result (List (List ℕ)) Fault
 script_answer f n given script = script_digests (digest_with f n given) (key_count f given.key) script
@@ -89,18 +96,23 @@ abbrev pub IsFaultOfScript : Fault → Task → List ℕ → Type 0
 IsFaultOfScript fault (to_script kind given) input = script_answer (family_of kind) (size_of kind) given input ≡ Err fault
 IsFaultOfScript fault task input = ⊥
 
--- a sink took the output of a task over an input
-abbrev pub Outputs : Task → List ℕ → Option (List ℕ) → Option (List ℕ) → Type 0
-Outputs (to_sum kind given) input old new = Appends old new (line_of (digest_with (family_of kind) (size_of kind) given input))
-Outputs (to_script kind given) input old new =
-    IsOkAnd (script_answer (family_of kind) (size_of kind) given input) (λ digests. Appends old new (flat_map line_of digests))
-Outputs (to_steps kind given) input old new = Appends old new (transcript_lines (family_of kind) (size_of kind) (input_with given input))
-Outputs (to_witness kind a b) input old new =
-    PrintsWitness (compared_family kind) (compared_size kind) (input_with nothing_given a) (input_with nothing_given b) old new
+-- a sink took the output of a task over what a source had left; `witness` reads no input
+abbrev pub Outputs : Task → Option (List ℕ) → Option (List ℕ) → Option (List ℕ) → Type 0
+Outputs (to_sum kind given) left old new =
+    IfSome left (λ input. Appends old new (line_of (digest_with (family_of kind) (size_of kind) given input)))
+Outputs (to_script kind given) left old new =
+    IfSome left (λ input. IsOkAnd (script_answer (family_of kind) (size_of kind) given input)
+    (λ digests. Appends old new (flat_map line_of digests)))
+Outputs (to_steps kind given) left old new =
+    IfSome left (λ input.
+    Appends old new (transcript_lines (family_of kind) (size_of kind) (input_with given input)))
+Outputs (to_witness kind a b) left old new =
+    PrintsWitness (compared_family kind) (compared_size kind)
+    (input_with nothing_given a) (input_with nothing_given b) old new
 
 -- a task was done: it is not refused, the input that a source had left is not too long for it, and a
 -- sink took the whole output
 pub record IsDone (task : Task) (left old new : Option (List ℕ)) : Type 0 where
   pub not_refused : ¬ IsRefusedTask task
   pub fits : IfSome left (λ input. ¬ IsTooLongFor task input)
-  pub output : IfSome left (λ input. Outputs task input old new)
+  pub output : Outputs task left old new

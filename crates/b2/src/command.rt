@@ -1,19 +1,17 @@
 //! The commands, and the run of one.
-ghost use Rattle.std.specs.Prelude.{◌≡◌, ◌≢◌, ◌≤◌, ◌↔◌, false, map, IsTrue, IfOk, IfErr, OnOk, IsOkAnd};
+ghost use Rattle.std.specs.Prelude.{◌≡◌, ◌≢◌, ◌<◌, ◌≤◌, false, length, map, IsTrue, IfOk, IfErr, IsOkAnd};
 ghost use Rattle.std.specs.String.{string_bytes};
-ghost use Rattle.std.specs.Result.{IsErrOf};
-ghost use Rattle.std.specs.Io.KnownBytes.{Keeps};
-ghost use Rattle.b2.specs.declared.fault.Fault.TheVariants.{WriteFailed};
 ghost use Rattle.b2.specs.declared.words.Kind.{Kind};
 ghost use Rattle.b2.specs.Words.{Given, Task, given_task, task_of, IsReadingFault};
 ghost use Rattle.b2.specs.Options.{given_of};
 ghost use Rattle.b2.specs.Tasks.{IsDone};
-ghost use Rattle.b2.specs.Faults.{IsDue, IsTold};
+ghost use Rattle.b2.specs.Faults.{IsTold};
+ghost use Rattle.b2.specs.Commands.{command_task};
+ghost use Rattle.b2.specs.Ends.{EndsTask};
 
 use crate::fault::Fault;
-use crate::script::script;
+use crate::hash::{Output, hash};
 use crate::steps::steps;
-use crate::sum::sum;
 use crate::witness::{Comparison, witness};
 use crate::words::{Kind, Options};
 use blake2::engine::{Sink, Source};
@@ -33,12 +31,13 @@ enum Command {
 }
 
 impl Command {
-    ghost use Rattle.b2.specs.Commands.{command_task};
-
     // Reads the words from left to right: the command, its KIND and then the rest.
     fn from_words(alloc: Global, words: &[String]) -> Result<Command, Fault>
-        ensures task { IfOk result (λ command. task_of (map string_bytes words.now) ≡ Ok (command_task command)) }
-        ensures fault { IfErr result (λ fault. IsReadingFault fault (task_of (map string_bytes words.now))) }
+        ensures task { IfOk result (λ command.
+            task_of (map string_bytes words.now) ≡ Ok (command_task command)) }
+        ensures fault { IfErr result (λ fault.
+            IsReadingFault fault (task_of (map string_bytes words.now))) }
+        ensures memory { result ≡ Err Fault.NoMemory → 2 < length words.now }
     {
         let (command, words) = words.split_first().ok_or(Fault::WrongWords)?;
         match command.as_str() {
@@ -66,6 +65,7 @@ fn kind_and_options(alloc: Global, words: &[String]) -> Result<(Kind, Options), 
         → given_task to (map string_bytes words.now) ≡ Ok (to read.0 (given_of read.1))) }
     ensures fault { IfErr result (λ fault. (to : Kind → Given → Task)
         → IsReadingFault fault (given_task to (map string_bytes words.now))) }
+    ensures memory { result ≡ Err Fault.NoMemory → 1 < length words.now }
 {
     let (kind, words) = words.split_first().ok_or(Fault::WrongWords)?;
     let kind = Kind::from_word(kind.as_str())?;
@@ -85,35 +85,36 @@ pub fn run<S: Source, K: Sink>(alloc: Global, words: &[String], source: &mut S, 
     ensures done { result ≡ 0 → IsOkAnd (task_of (map string_bytes words.now)) (λ task.
         IsDone task (S.left source.old) (K.held sink.old) (K.held sink.new)) }
     // Another status: the sink took the line of a fault that has its cause, unless a write failed.
-    ensures told { result ≢ 0 → K.failed sink.new ≡ false → IsTold (task_of (map string_bytes words.now))
-        (S.left source.old) (S.failed source.new) result (K.held sink.old) (K.held sink.new) }
+    ensures told { result ≢ 0 → K.failed sink.new ≡ false → IsTold (map string_bytes words.now)
+        (S.left source.old) (S.left source.new) (S.failed source.new) result
+        (K.held sink.old) (K.held sink.new) }
 {
-    match execute(alloc, words, source, sink) {
-        Ok(()) => 0,
+    match Command::from_words(alloc, words) {
+        Ok(command) => match execute(alloc, command, source, sink) {
+            Ok(()) => 0,
+            Err(fault) => fault.report(sink),
+        },
         Err(fault) => fault.report(sink),
     }
 }
 
-// Does what the words say; a fault is still to be printed.
+// Does what the command says; a fault is still to be printed.
 fn execute<S: Source, K: Sink>(
     alloc: Global,
-    words: &[String],
+    command: Command,
     source: &mut S,
     sink: &mut K,
 ) -> Result<(), Fault>
     requires source { S.failed source.old ≡ false }
     requires sink { K.failed sink.old ≡ false }
-    ensures read { IsErrOf result Fault.ReadFailed ↔ IsTrue (S.failed source.new) }
-    ensures write { IsErrOf result Fault.WriteFailed ↔ IsTrue (K.failed sink.new) }
-    ensures done { OnOk result (IsOkAnd (task_of (map string_bytes words.now)) (λ task.
-        IsDone task (S.left source.old) (K.held sink.old) (K.held sink.new))) }
-    ensures cause { IfErr result (λ fault. IsDue fault (task_of (map string_bytes words.now))
-        (S.left source.old) (S.failed source.new)) }
-    ensures unprinted { IfErr result (λ fault. fault ≢ WriteFailed → Keeps (K.held sink.old) (K.held sink.new)) }
+    ensures { EndsTask (command_task command) result (S.left source.old)
+        (S.failed source.new) (K.failed sink.new) (K.held sink.old) (K.held sink.new) }
 {
-    match Command::from_words(alloc, words)? {
-        Command::Sum(kind, options) => sum(kind, &options, source, sink),
-        Command::Script(kind, options) => script(alloc, kind, &options, source, sink),
+    match command {
+        Command::Sum(kind, options) => { hash(alloc, Output::Digest, kind, &options, source, sink) }
+        Command::Script(kind, options) => {
+            hash(alloc, Output::Digests, kind, &options, source, sink)
+        }
         Command::Steps(kind, options) => steps(alloc, kind, &options, source, sink),
         Command::Witness(comparison) => witness(alloc, &comparison, sink),
     }

@@ -5,6 +5,7 @@ ghost use Rattle.std.specs.Prelude.{◌≡◌, false};
 
 mod command;
 mod fault;
+mod hash;
 mod input;
 mod lines;
 mod print;

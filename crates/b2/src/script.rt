@@ -1,118 +1,27 @@
 //! `b2 script`: the digests that the input's calls answer.
-ghost use Rattle.std.specs.Prelude.{◌≡◌, ◌≢◌, ◌≤◌, ◌↔◌, ℕ, List, map, false, IsTrue, IfOk, IfErr, OnOk, IsOkUnless};
+ghost use Rattle.std.specs.Prelude.{◌≡◌, ◌≢◌, ◌≤◌, ◌↔◌, ℕ, List, false, IsTrue, OnOk, IsOkUnless};
 ghost use Rattle.std.specs.List.{flat_map};
 ghost use Rattle.std.specs.Result.{IsErrOf};
-ghost use Rattle.std.specs.Io.KnownBytes.{Appends, Keeps};
+ghost use Rattle.std.specs.Io.KnownBytes.{Appends};
 ghost use Rattle.blake2.specs.States.{Fresh};
-ghost use Rattle.blake2.specs.Family.{blake2b, blake2s};
-ghost use Rattle.blake2.specs.Keys.{key_count};
 ghost use Rattle.blake2.specs.Streams.{line_of};
-ghost use Rattle.b2.specs.declared.fault.Fault.TheVariants.{WriteFailed};
-ghost use Rattle.b2.specs.Words.Task.{to_script};
-ghost use Rattle.b2.specs.Options.{given_of};
 ghost use Rattle.b2.specs.Reading.{IsPlaced};
 ghost use Rattle.b2.specs.Scripts.{fault_of_calls, script_digests};
-ghost use Rattle.b2.specs.Tasks.{script_answer, IsRefusedBy, IsDone};
-ghost use Rattle.b2.specs.Faults.{IsDue};
 ghost use Rattle.b2.specs.Ends.{EndsByDigests};
 
 use crate::fault::Fault;
 use crate::input::read_all;
 use crate::lines::{calls_of, read_script};
 use crate::print::Line;
-use crate::words::{Kind, Options};
 use blake2::calls::{ReplayFault, replay};
 use blake2::digest::{Duplicate, FixedOutput, FixedOutputReset, Reset, Update};
 use blake2::engine::{Sink, Source};
-use blake2::{Blake2b, Blake2bMac, Blake2s, Blake2sMac, Digest};
 use std::alloc::Global;
 
-/// Prints the digests that the calls of the source's lines answer, a line each: of the hash function
-/// where no option is given, and of the MAC where one is. The script and its digests are held in
-/// memory, and all lines are read before the first call.
-pub(crate) fn script<S: Source, K: Sink>(
-    alloc: Global,
-    kind: Kind,
-    options: &Options,
-    source: &mut S,
-    sink: &mut K,
-) -> Result<(), Fault>
-    requires source { S.failed source.old ≡ false }
-    requires sink { K.failed sink.old ≡ false }
-    ensures read { IsErrOf result Fault.ReadFailed ↔ IsTrue (S.failed source.new) }
-    ensures write { IsErrOf result Fault.WriteFailed ↔ IsTrue (K.failed sink.new) }
-    ensures done { OnOk result (IsDone (to_script kind (given_of options.now)) (S.left source.old)
-        (K.held sink.old) (K.held sink.new)) }
-    ensures cause { IfErr result (λ fault. IsDue fault (Ok (to_script kind (given_of options.now)))
-        (S.left source.old) (S.failed source.new)) }
-    ensures unprinted { IfErr result (λ fault. fault ≢ WriteFailed → Keeps (K.held sink.old) (K.held sink.new)) }
-{
-    match kind {
-        Kind::Blake2b128 => script_blake2b::<S, K, 16>(alloc, options, source, sink),
-        Kind::Blake2b256 => script_blake2b::<S, K, 32>(alloc, options, source, sink),
-        Kind::Blake2b512 => script_blake2b::<S, K, 64>(alloc, options, source, sink),
-        Kind::Blake2s128 => script_blake2s::<S, K, 16>(alloc, options, source, sink),
-        Kind::Blake2s256 => script_blake2s::<S, K, 32>(alloc, options, source, sink),
-    }
-}
-
-fn script_blake2b<S: Source, K: Sink, const N: usize>(
-    alloc: Global,
-    options: &Options,
-    source: &mut S,
-    sink: &mut K,
-) -> Result<(), Fault>
-    requires size { N ≤ 64 }
-    requires source { S.failed source.old ≡ false }
-    requires sink { K.failed sink.old ≡ false }
-    ensures length { IsErrOf result Fault.WrongLength ↔ IsRefusedBy blake2b (given_of options.now) }
-    ensures read { IsErrOf result Fault.ReadFailed ↔ IsTrue (S.failed source.new) }
-    ensures write { IsErrOf result Fault.WriteFailed ↔ IsTrue (K.failed sink.new) }
-    ensures ends { EndsByDigests (script_answer blake2b N (given_of options.now)) result (S.left source.old)
-        (K.held sink.old) (K.held sink.new) }
-{
-    if options.are_empty() {
-        print_digests(alloc, Blake2b::<N>::new(), source, sink)
-    } else {
-        let mac = Blake2bMac::<N>::new_with_salt_and_personal(
-            options.key(),
-            options.salt(),
-            options.persona(),
-        )?;
-        print_digests(alloc, mac, source, sink)
-    }
-}
-
-fn script_blake2s<S: Source, K: Sink, const N: usize>(
-    alloc: Global,
-    options: &Options,
-    source: &mut S,
-    sink: &mut K,
-) -> Result<(), Fault>
-    requires size { N ≤ 32 }
-    requires source { S.failed source.old ≡ false }
-    requires sink { K.failed sink.old ≡ false }
-    ensures length { IsErrOf result Fault.WrongLength ↔ IsRefusedBy blake2s (given_of options.now) }
-    ensures read { IsErrOf result Fault.ReadFailed ↔ IsTrue (S.failed source.new) }
-    ensures write { IsErrOf result Fault.WriteFailed ↔ IsTrue (K.failed sink.new) }
-    ensures ends { EndsByDigests (script_answer blake2s N (given_of options.now)) result (S.left source.old)
-        (K.held sink.old) (K.held sink.new) }
-{
-    if options.are_empty() {
-        print_digests(alloc, Blake2s::<N>::new(), source, sink)
-    } else {
-        let mac = Blake2sMac::<N>::new_with_salt_and_personal(
-            options.key(),
-            options.salt(),
-            options.persona(),
-        )?;
-        print_digests(alloc, mac, source, sink)
-    }
-}
-
-// Prints the digests that the calls of the source's lines answer, where the state in slot 0 begins
-// as this one.
-fn print_digests<H, S, K, const N: usize>(
+/// Prints the digests that the calls of the source's lines answer, a line each, where the state in
+/// slot 0 begins as this one. The script and its digests are held in memory, and all lines are read
+/// before the first call.
+pub(crate) fn script<H, S, K, const N: usize>(
     alloc: Global,
     first: H,
     source: &mut S,

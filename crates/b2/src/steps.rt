@@ -1,17 +1,15 @@
 //! `b2 steps`: the transcript of the input.
-ghost use Rattle.std.specs.Prelude.{◌≡◌, ◌≢◌, ◌≤◌, ◌↔◌, ◌++◌, map, false, IsTrue, IfErr, OnOk, IsOkUnless};
+ghost use Rattle.std.specs.Prelude.{◌≡◌, ◌≤◌, ◌↔◌, ◌++◌, map, false, IsTrue, OnOk, IsOkUnless};
 ghost use Rattle.std.specs.List.{flat_map};
 ghost use Rattle.std.specs.Result.{IsErrOf};
-ghost use Rattle.std.specs.Io.KnownBytes.{Appends, Keeps};
+ghost use Rattle.std.specs.Io.KnownBytes.{Appends};
 ghost use Rattle.blake2.specs.Family.{blake2b, blake2s};
 ghost use Rattle.blake2.specs.Keys.{key_count};
 ghost use Rattle.blake2.specs.Views.{entry_of, entries_of, input_of, key_of};
-ghost use Rattle.b2.specs.declared.fault.Fault.TheVariants.{WriteFailed};
 ghost use Rattle.b2.specs.Words.Task.{to_steps};
 ghost use Rattle.b2.specs.Options.{given_of};
-ghost use Rattle.b2.specs.Tasks.{input_with, IsRefusedBy, IsDone};
-ghost use Rattle.b2.specs.Faults.{IsDue};
-ghost use Rattle.b2.specs.Ends.{EndsBy};
+ghost use Rattle.b2.specs.Tasks.{input_with, IsRefusedBy};
+ghost use Rattle.b2.specs.Ends.{EndsBy, EndsTask};
 ghost use Rattle.b2.specs.Inputs.{IsKeyOfBytes, IsOfBytes};
 ghost use Rattle.b2.specs.Lines.{entry_line, words_line, transcript_lines};
 
@@ -35,13 +33,8 @@ pub(crate) fn steps<S: Source, K: Sink>(
 ) -> Result<(), Fault>
     requires source { S.failed source.old ≡ false }
     requires sink { K.failed sink.old ≡ false }
-    ensures read { IsErrOf result Fault.ReadFailed ↔ IsTrue (S.failed source.new) }
-    ensures write { IsErrOf result Fault.WriteFailed ↔ IsTrue (K.failed sink.new) }
-    ensures done { OnOk result (IsDone (to_steps kind (given_of options.now)) (S.left source.old)
-        (K.held sink.old) (K.held sink.new)) }
-    ensures cause { IfErr result (λ fault. IsDue fault (Ok (to_steps kind (given_of options.now)))
-        (S.left source.old) (S.failed source.new)) }
-    ensures unprinted { IfErr result (λ fault. fault ≢ WriteFailed → Keeps (K.held sink.old) (K.held sink.new)) }
+    ensures { EndsTask (to_steps kind (given_of options.now)) result (S.left source.old)
+        (S.failed source.new) (K.failed sink.new) (K.held sink.old) (K.held sink.new) }
 {
     match kind {
         Kind::Blake2b128 => steps_blake2b(alloc, options, 16, source, sink),

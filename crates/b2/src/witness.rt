@@ -1,5 +1,5 @@
 //! `b2 witness`: the pair of steps that two messages with one digest come to.
-ghost use Rattle.std.specs.Prelude.{◌≡◌, ◌≢◌, ◌≤◌, ◌↔◌, [], ◌∷◌, ◌++◌, ℕ, List, Option, codes, map, false, IsTrue, IfOk, IfErr, OnOk, IsOkUnless};
+ghost use Rattle.std.specs.Prelude.{◌≡◌, ◌≢◌, ◌≤◌, ◌↔◌, [], ◌∷◌, ◌++◌, ◌<◌, length, ℕ, List, Option, codes, map, false, IsTrue, IfOk, IfErr, OnOk, IsOkUnless};
 ghost use Rattle.std.specs.String.{string_bytes};
 ghost use Rattle.std.specs.Result.{IsErrOf};
 ghost use Rattle.std.specs.Io.KnownBytes.{Appends, Keeps};
@@ -7,8 +7,9 @@ ghost use Rattle.blake2.specs.Family.{Family, blake2b, blake2s};
 ghost use Rattle.blake2.specs.Inputs.{Accepts};
 ghost use Rattle.blake2.specs.Views.{input_of, step_of};
 ghost use Rattle.b2.specs.Words.{message_value, nothing_given, IsReadingFault};
-ghost use Rattle.b2.specs.Tasks.{input_with, IsDone};
+ghost use Rattle.b2.specs.Tasks.{input_with};
 ghost use Rattle.b2.specs.Comparisons.{comparison_task};
+ghost use Rattle.b2.specs.Ends.{EndsTask};
 ghost use Rattle.b2.specs.Lines.{step_line};
 ghost use Rattle.b2.specs.Witnesses.{PrintsWitness};
 
@@ -66,8 +67,11 @@ impl Comparison {
 
     /// Reads the words KIND HEX HEX from left to right.
     pub(crate) fn from_words(alloc: Global, words: &[String]) -> Result<Comparison, Fault>
-        ensures task { IfOk result (λ comparison. witness_task (map string_bytes words.now) ≡ Ok (comparison_task comparison)) }
-        ensures fault { IfErr result (λ fault. IsReadingFault fault (witness_task (map string_bytes words.now))) }
+        ensures task { IfOk result (λ comparison.
+            witness_task (map string_bytes words.now) ≡ Ok (comparison_task comparison)) }
+        ensures fault { IfErr result (λ fault.
+            IsReadingFault fault (witness_task (map string_bytes words.now))) }
+        ensures memory { result ≡ Err Fault.NoMemory → 1 < length words.now }
     {
         let (kind, words) = words.split_first().ok_or(Fault::WrongWords)?;
         let kind = WitnessKind::from_word(kind.as_str())?;
@@ -91,9 +95,8 @@ pub(crate) fn witness<K: Sink>(
     sink: &mut K,
 ) -> Result<(), Fault>
     requires { K.failed sink.old ≡ false }
-    ensures write { IsErrOf result Fault.WriteFailed ↔ IsTrue (K.failed sink.new) }
-    ensures fault { IsOkUnless result Fault.WriteFailed }
-    ensures done { OnOk result ((left : Option (List ℕ)) → IsDone (comparison_task comparison.now) left (K.held sink.old) (K.held sink.new)) }
+    ensures { (left : Option (List ℕ)) → EndsTask (comparison_task comparison.now) result left
+        false (K.failed sink.new) (K.held sink.old) (K.held sink.new) }
 {
     let a = comparison.a.as_slice();
     let b = comparison.b.as_slice();

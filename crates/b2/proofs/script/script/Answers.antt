@@ -4,7 +4,7 @@ use Rattle.blake2.specs.Play.{play_fresh}
 use Rattle.b2.specs.Reading.{call_value, unplaced}
 use Rattle.b2.specs.Scripts.{script_calls, script_digests}
 use Rattle.b2.proofs.ScriptLemmas.{answered, printed, stopped}
-use Rattle.b2.proofs.script.print_digests.Goals as goal
+use Rattle.b2.proofs.script.script.Goals as goal
 
 pub returns-in-Ok-clause-ends : goal.returns-in-Ok-clause-ends
 returns-in-Ok-clause-ends g c = λ digest n fresh.
