@@ -1,12 +1,16 @@
 #!/usr/bin/env python3
 """Times this project's BLAKE2b-512 and BLAKE2s-256 beside other programs and libraries, in one run.
 
-Three tables, as Markdown on standard output:
+Tables, as Markdown on standard output, and a plot:
 
 - long: `b2 sum` beside programs, each over one file of random bytes as its standard input, with the start
   of the program. hashlib.file_digest runs in this process, with no start of Python.
 - kernel: one message of 1 MiB in memory, digested again and again.
 - short: messages of 0, 64 and 1,024 bytes in memory, digested again and again.
+- plot: messages of 64 bytes to 1 MiB in memory, at each power of two.
+
+With --write all of them go into the documents: the tables to docs/SPEED.md, between its two marks, and the
+plot to docs/speed.svg.
 
 This project is built for x86-64-v2 and for x86-64-v3: the program b2, and the static library blake2_c, whose
 functions C calls. In memory one loop in C (peers/clock.c) calls each library's function through a pointer,
@@ -25,9 +29,8 @@ libssl-dev, and librust-blake2b-simd-dev with librust-blake2s-simd-dev.
 
 It needs Python 3.11 or later, whose hashlib has file_digest.
 
-usage: bench/speed.py [--mebibytes N] [--turns N] [--only long|kernel|short]
+usage: bench/speed.py [--mebibytes N] [--turns N] [--only long|kernel|short | --write]
 """
-import argparse
 import ctypes
 import functools
 import hashlib
@@ -43,28 +46,53 @@ from dataclasses import dataclass
 from typing import Callable
 
 TOP = os.path.dirname(os.path.dirname(os.path.abspath(__file__)))
+sys.path.insert(0, os.path.join(TOP, "tools"))
+from blake2_kinds import FAMILIES, KINDS, Parser, at_least  # noqa: E402
+import plot  # noqa: E402
+
+PAGE = os.path.join(TOP, "docs", "SPEED.md")
+PICTURE = os.path.join(TOP, "docs", "speed.svg")
+MARKS = ("<!-- measured by bench/speed.py -->\n", "<!-- end of what was measured -->\n")
 PEERS = os.path.join(TOP, "bench", "peers")
 OUT = os.path.join(TOP, "bench", "out")
 CPUS = ("x86-64-v2", "x86-64-v3")
 KERNEL_BYTES = 1 << 20
 SHORT_BYTES = (0, 64, 1024)
+PLOT_BYTES = tuple(1 << power for power in range(6, 21))
 TURN_NANOSECONDS = 2e6  # of one timing in memory, at least
-MEMORY_TURNS = 50  # timings in memory for each turn over the file
+MEMORY_TURNS = 50  # timings in memory for each turn over the file, at the lengths of the tables
+PLOT_TURNS = 25  # and at the lengths of the plot alone
 DEBIAN_CRATES = ["--config", 'source.crates-io.replace-with="debian"',
                  "--config", 'source.debian.directory="/usr/share/cargo/registry"']
 
 
-@dataclass
-class Kind:
+@dataclass(frozen=True)
+class Timed:
     """A hash function that is timed."""
-    title: str  # in the tables
     word: str  # of b2
-    function: str  # in C, and of openssl
-    algorithm: str  # of hashlib
+
+    @property
+    def algorithm(self):
+        """Its family's name in hashlib."""
+        return FAMILIES[KINDS[self.word][0]].function.__name__
+
+    @property
+    def bits(self):
+        """The bits of its digest."""
+        return 8 * KINDS[self.word][1]
+
+    @property
+    def title(self):
+        """Its name in the tables."""
+        return f"{self.algorithm.upper()[:-1]}{self.algorithm[-1]}-{self.bits}"
+
+    @property
+    def function(self):
+        """Its name in C, and of openssl."""
+        return f"{self.algorithm}{self.bits}"
 
 
-KINDS = (Kind("BLAKE2b-512", "b512", "blake2b512", "blake2b"),
-         Kind("BLAKE2s-256", "s256", "blake2s256", "blake2s"))
+TIMED = (Timed("b512"), Timed("s256"))
 
 
 @dataclass
@@ -232,7 +260,7 @@ def file_digest_timer(kind, file):
 def functions_of(path, prefix=""):
     """The functions of a shared library by their kinds' words."""
     library = ctypes.CDLL(path)
-    return {kind.word: getattr(library, prefix + kind.function) for kind in KINDS}
+    return {kind.word: getattr(library, prefix + kind.function) for kind in TIMED}
 
 
 def addresses_in(path):
@@ -306,6 +334,7 @@ class Memory:
                                ctypes.c_long]
         self.turns = turns
         self.libraries = libraries()
+        self.measured = {}
 
     def loop(self, name, kind, message, length):
         """The loop in C over one library's digests, once one of them is seen to be right."""
@@ -323,12 +352,19 @@ class Memory:
 
     def best(self, kind, length):
         """The best time in nanoseconds of a digest of so many bytes by each library, and through Python."""
+        if (kind, length) not in self.measured:
+            self.measured[kind, length] = self.timed(kind, length)
+        return self.measured[kind, length]
+
+    def timed(self, kind, length):
+        """The same, timed now."""
         say(f"timing libraries at {kind.title} of {length:,} bytes")
         message = mmap.mmap(-1, max(length, 1))
         message[:] = os.urandom(len(message))
         timers = {name: loop_timer(self.loop(name, kind, message, length)) for name in self.libraries}
         timers["hashlib through Python"] = loop_timer(python_loop(kind, message[:length]))
-        return best_of(self.turns, timers)
+        in_a_table = length in SHORT_BYTES or length == KERNEL_BYTES
+        return best_of(self.turns * (MEMORY_TURNS if in_a_table else PLOT_TURNS), timers)
 
 
 # What is printed.
@@ -338,26 +374,26 @@ def rate(length):
     return lambda nanoseconds: f"{length / nanoseconds:.2f}"
 
 
-def print_row(cells):
-    """Prints a row of a Markdown table."""
-    print("| " + " | ".join(cells) + " |", flush=True)
+def row_text(cells):
+    """A row of a Markdown table."""
+    return "| " + " | ".join(cells) + " |\n"
 
 
-def print_table(corner, columns, last=None):
-    """Prints the columns as a Markdown table, each with its ratios, and last a title and its cells."""
+def table(corner, columns, last=None):
+    """The columns as a Markdown table, each with its ratios, and last a title and its cells."""
     title, cells = last if last else (None, {})
     titles = [corner]
     for column in columns:
         titles += [column.title, f"ratio to {column.best_peer()}"]
-    print_row(titles + ([title] if last else []))
-    print_row(["---"] * (len(titles) + bool(last)))
+    text = row_text(titles + ([title] if last else []))
+    text += row_text(["---"] * (len(titles) + bool(last)))
     for name in dict.fromkeys(name for column in columns for name in column.best):
         row = [name]
         for column in columns:
             taken, fastest = column.best.get(name), column.best[column.best_peer()]
             row += [column.text(taken), f"{fastest / taken:.2f}"] if taken else ["", ""]
-        print_row(row + ([cells.get(name, "")] if last else []))
-    print(flush=True)
+        text += row_text(row + ([cells.get(name, "")] if last else []))
+    return text
 
 
 def random_file(mebibytes):
@@ -370,11 +406,11 @@ def random_file(mebibytes):
     return file
 
 
-def print_long(options):
-    """Prints the table of programs over a file."""
+def long_table(options):
+    """The table of programs over a file."""
     commands, columns, peaks = programs(), [], {}
     with random_file(options.mebibytes) as file:
-        for kind in KINDS:
+        for kind in TIMED:
             say(f"timing programs at {kind.title}")
             file.seek(0)
             wanted = hashlib.file_digest(file, kind.algorithm).hexdigest()
@@ -391,59 +427,101 @@ def print_long(options):
             text = rate(options.mebibytes << 20)
             columns.append(Column(kind.title + ", GB/s", best_of(options.turns, timers), text))
     peaks = {name: f"{peak:.1f}" for name, peak in peaks.items()}
-    print_table(f"{options.mebibytes} MiB from a file", columns, ("peak memory, MiB", peaks))
+    return table(f"{options.mebibytes} MiB from a file", columns, ("peak memory, MiB", peaks))
 
 
-def print_kernel(memory):
-    """Prints the table of libraries over one long message in memory."""
+def kernel_table(memory):
+    """The table of libraries over one long message in memory."""
     text = rate(KERNEL_BYTES)
-    columns = [Column(kind.title + ", GB/s", memory.best(kind, KERNEL_BYTES), text) for kind in KINDS]
-    print_table("1 MiB in memory", columns)
+    columns = [Column(kind.title + ", GB/s", memory.best(kind, KERNEL_BYTES), text) for kind in TIMED]
+    return table("1 MiB in memory", columns)
 
 
-def print_short(memory):
-    """Prints the tables of libraries over short messages in memory."""
-    for kind in KINDS:
-        columns = []
-        for length in SHORT_BYTES:
-            best = memory.best(kind, length)
-            columns.append(Column(f"{length:,} bytes, ns", best, "{:.0f}".format))
-        print_table(f"one {kind.title} digest", columns)
+def short_table(kind, memory):
+    """The table of libraries over short messages in memory."""
+    columns = [Column(f"{length:,} bytes, ns", memory.best(kind, length), "{:.0f}".format)
+               for length in SHORT_BYTES]
+    return table(f"one {kind.title} digest", columns)
+
+
+def picture(memory):
+    """The plot of speed by length as SVG."""
+    panels = {}
+    for kind in TIMED:
+        best = {length: memory.best(kind, length) for length in PLOT_BYTES}
+        panels[kind.title] = {name: {length: length / best[length][name] for length in PLOT_BYTES}
+                              for name in best[PLOT_BYTES[0]]}
+    return plot.svg(PLOT_BYTES, panels)
+
+
+def write_page(parts):
+    """Puts the parts between the marks of docs/SPEED.md."""
+    with open(PAGE) as file:
+        before, rest = file.read().split(MARKS[0])
+        _, after = rest.split(MARKS[1])
+    with open(PAGE, "w") as file:
+        file.write(before + MARKS[0] + "\n" + "\n".join(parts) + "\n" + MARKS[1] + after)
 
 
 def machine():
-    """The processor's name, its cores, and the load as the timing begins."""
+    """The processor's name, and its cores."""
     with open("/proc/cpuinfo") as info:
         models = [line.split(":", 1)[1].strip() for line in info if line.startswith("model name")]
-    model = models[0] if models else "an unknown processor"
-    return f"{os.cpu_count()} cores of {model}, load {os.getloadavg()[0]:.1f}"
+    return f"{os.cpu_count()} cores of {models[0] if models else 'an unknown processor'}"
+
+
+def with_load(part):
+    """A part, and the machine's load as it was finished."""
+    return f"{part}\n(Load {os.getloadavg()[0]:.1f} in the last minute of this.)\n"
 
 
 def heading(options):
     """The machine, the versions of the peers, and how often each candidate is timed."""
     turns = f"best of {options.turns} over the file, of {options.turns * MEMORY_TURNS} in memory"
-    return f"{machine()}; {versions()}; {turns}"
+    return f"{machine()}; {versions()}; {turns}.\n"
+
+
+def options_given():
+    """The options of the command line."""
+    parser = Parser(description="Times this project beside other programs and libraries.")
+    parser.add_argument("--mebibytes", type=at_least(1), default=512, help="the size of the file (512)")
+    parser.add_argument("--turns", type=at_least(1), default=6, help="how often each program is timed (6)")
+    which = parser.add_mutually_exclusive_group()
+    which.add_argument("--only", choices=("long", "kernel", "short"), help="one part alone")
+    which.add_argument("--write", action="store_true", help="put all into docs/SPEED.md and docs/speed.svg")
+    return parser.parse_args()
+
+
+def parts_of(options):
+    """The heading and the tables, each once it is measured; with --write the plot is drawn last."""
+    yield heading(options)
+    if options.only in (None, "long"):
+        yield with_load(long_table(options))
+    if options.only == "long":
+        return
+    memory = Memory(options.turns)
+    if options.only in (None, "kernel"):
+        yield with_load(kernel_table(memory))
+    if options.only in (None, "short"):
+        yield from (with_load(short_table(kind, memory)) for kind in TIMED)
+    if options.write:
+        with open(PICTURE, "w") as file:
+            file.write(picture(memory))
 
 
 def main():
-    parser = argparse.ArgumentParser(description="Times this project beside other programs and libraries.")
-    parser.add_argument("--mebibytes", type=int, default=512, help="the size of the file (512)")
-    parser.add_argument("--turns", type=int, default=6, help="how often each program is timed (6)")
-    parser.add_argument("--only", choices=("long", "kernel", "short"), help="one of the tables alone")
-    options = parser.parse_args()
+    options = options_given()
     if not shutil.which("rt"):
         sys.exit("speed: the toolchain's command rt is not on the PATH")
+    if sys.version_info < (3, 11):
+        sys.exit("speed: Python 3.11 or later is needed, whose hashlib has file_digest")
     os.makedirs(OUT, exist_ok=True)
-    print(heading(options) + "\n", flush=True)
-    if options.only in (None, "long"):
-        print_long(options)
-    if options.only == "long":
-        return
-    memory = Memory(options.turns * MEMORY_TURNS)
-    if options.only in (None, "kernel"):
-        print_kernel(memory)
-    if options.only in (None, "short"):
-        print_short(memory)
+    parts = []
+    for part in parts_of(options):
+        print(part, flush=True)
+        parts.append(part)
+    if options.write:
+        write_page(parts)
 
 
 if __name__ == "__main__":

@@ -2,36 +2,29 @@
 """Compares `b2 script` with Python's hashlib over random lists of calls on up to a dozen slots.
 
 A copy is hashlib's copy(), a reset a state made anew. Some scripts name a slot that is absent or has
-ended, or have a wrong line, whose number is then wanted. Prints the number of cases and ends with status
+ended, or have a wrong line, whose number is then wanted. Prints the number of cases, and ends with status
 1 at the first difference.
 
 usage: tools/compare_script.py [--cases N] [--seed N] [--program PATH]
 """
-import argparse
-import hashlib
-import os
-import random
-import subprocess
-import sys
+from blake2_kinds import FAMILIES, KINDS, compare
 
-TOP = os.path.dirname(os.path.dirname(os.path.abspath(__file__)))
-KINDS = {"b128": ("b", 16), "b256": ("b", 32), "b512": ("b", 64), "s128": ("s", 16), "s256": ("s", 32)}
-FAMILIES = {"b": (hashlib.blake2b, 128, 64, 16), "s": (hashlib.blake2s, 64, 32, 8)}
-WRONG_LINES = ["", "u 0", "u 0 6", "u 0 6g", "u 00 61", "u 0  61", "f 0 ", "f 0123456789", "x 0", " f 0", "c -1"]
+WRONG_LINES = ["", "u 0", "u 0 6", "u 0 6g", "u 00 61", "u 0  61", "f 0 ", "f 0123456789", "x 0", " f 0",
+               "c -1", "f 0\r"]
 
 
 def start(source):
     """The words of a run, a function that makes its start state, and the bytes of a block."""
     kind = source.choice(sorted(KINDS))
-    family, size = KINDS[kind]
-    function, block, key_most, salt_most = FAMILIES[family]
+    letter, size = KINDS[kind]
+    family = FAMILIES[letter]
     given, words = {"digest_size": size}, ["script", kind]
-    for name, argument, least, most in (("key", "key", 1, key_most), ("salt", "salt", 0, salt_most),
-                                        ("persona", "person", 0, salt_most)):
+    for name, argument, least, most in (("key", "key", 1, family.key), ("salt", "salt", 0, family.salt),
+                                        ("persona", "person", 0, family.salt)):
         if source.random() < 0.4:
             given[argument] = source.randbytes(source.randint(least, most))
             words.append(f"{name}={given[argument].hex()}")
-    return words, lambda: function(**given), block
+    return words, lambda: family.function(**given), family.block
 
 
 def call(source, states, block):
@@ -56,9 +49,8 @@ def played(name, slot, data, states, new):
     return digest
 
 
-def case(source):
-    """The words of a run, its script, and the status and output that are wanted."""
-    words, new, block = start(source)
+def calls(source, new, block):
+    """The lines of random calls, the digests that they answer, and the fault of the first bad one, if any."""
     states, lines, digests, fault = [new()], [], [], None
     for number in range(1, source.randrange(40) + 1):
         if not any(states) and source.random() < 0.9:
@@ -70,6 +62,13 @@ def case(source):
         if fault is None:
             digest = played(name, slot, data, states, new)
             digests += [digest] if digest else []
+    return lines, digests, fault
+
+
+def case(source):
+    """A run over a random script: its words, its input, what is wanted, and whether that is a fault."""
+    words, new, block = start(source)
+    lines, digests, fault = calls(source, new, block)
     if source.random() < 0.15:
         place = source.randint(0, len(lines))
         lines.insert(place, source.choice(WRONG_LINES))
@@ -77,25 +76,9 @@ def case(source):
     script = "".join(line + "\n" for line in lines)
     if lines and lines[-1] and source.random() < 0.5:
         script = script[:-1]
-    return words, script, (2, fault) if fault else (0, "".join(digest + "\n" for digest in digests))
+    wanted = (2, fault) if fault else (0, "".join(digest + "\n" for digest in digests))
+    return words, script.encode(), wanted, "with a fault" if fault else None
 
 
-def main():
-    parser = argparse.ArgumentParser()
-    parser.add_argument("--cases", type=int, default=500)
-    parser.add_argument("--seed", type=int, default=7693)
-    parser.add_argument("--program", default=os.path.join(TOP, "b2"))
-    options = parser.parse_args()
-    source = random.Random(options.seed)
-    faults = 0
-    for number in range(options.cases):
-        words, script, wanted = case(source)
-        run = subprocess.run([options.program, *words], input=script.encode(), stdout=subprocess.PIPE)
-        if (run.returncode, run.stdout.decode()) != wanted:
-            sys.exit(f"case {number}: b2 {' '.join(words)} over\n{script}\n"
-                     f"status {run.returncode}, {run.stdout!r}, wanted {wanted!r}")
-        faults += wanted[0] != 0
-    print(f"{options.cases} cases, {faults} of them with a fault, seed {options.seed}: b2 and hashlib agree")
-
-
-main()
+if __name__ == "__main__":
+    compare(__doc__, 500, case)

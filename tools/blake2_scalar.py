@@ -1,0 +1,137 @@
+"""BLAKE2 on plain words, written from RFC 7693 and the BLAKE2 document alone. No program of its own.
+
+The comparisons compute their expected lines by it. `check` holds it to Python's hashlib. Section numbers
+are those of RFC 7693.
+"""
+import struct
+import sys
+from dataclasses import dataclass
+
+from blake2_kinds import FAMILIES
+
+
+@dataclass(frozen=True)
+class Words:
+    """The numbers of a family that its computation needs (2.1, 2.6; the BLAKE2 document, 2.8)."""
+    bits: int
+    rounds: int
+    turns: tuple  # R1 to R4
+    start: tuple  # IV
+    code: str  # of a word, for struct
+    offset: str  # the code of the node offset
+    reserved: int  # bytes
+
+
+WORDS = {
+    "b": Words(64, 12, (32, 24, 16, 63), (
+        0x6a09e667f3bcc908, 0xbb67ae8584caa73b, 0x3c6ef372fe94f82b, 0xa54ff53a5f1d36f1,
+        0x510e527fade682d1, 0x9b05688c2b3e6c1f, 0x1f83d9abfb41bd6b, 0x5be0cd19137e2179), "Q", "8s", 14),
+    "s": Words(32, 10, (16, 12, 8, 7), (
+        0x6a09e667, 0xbb67ae85, 0x3c6ef372, 0xa54ff53a,
+        0x510e527f, 0x9b05688c, 0x1f83d9ab, 0x5be0cd19), "I", "6s", 0),
+}
+
+SIGMA = (  # 2.7
+    (0, 1, 2, 3, 4, 5, 6, 7, 8, 9, 10, 11, 12, 13, 14, 15),
+    (14, 10, 4, 8, 9, 15, 13, 6, 1, 12, 0, 2, 11, 7, 5, 3),
+    (11, 8, 12, 0, 5, 2, 15, 13, 10, 14, 3, 6, 7, 1, 9, 4),
+    (7, 9, 3, 1, 13, 12, 11, 14, 2, 6, 5, 10, 4, 0, 15, 8),
+    (9, 0, 5, 7, 2, 4, 10, 15, 14, 1, 11, 12, 6, 8, 3, 13),
+    (2, 12, 6, 10, 0, 11, 8, 3, 4, 13, 7, 5, 15, 14, 1, 9),
+    (12, 5, 1, 15, 14, 13, 4, 10, 0, 7, 6, 3, 9, 2, 8, 11),
+    (13, 11, 7, 14, 12, 1, 3, 9, 5, 0, 15, 4, 8, 6, 2, 10),
+    (6, 15, 14, 9, 11, 3, 0, 8, 12, 2, 13, 7, 1, 4, 10, 5),
+    (10, 2, 8, 4, 7, 6, 1, 5, 15, 11, 9, 14, 3, 12, 13, 0),
+)
+
+# The places that the eight mixings of a round take: columns, then diagonals (3.2).
+MIXINGS = ((0, 4, 8, 12), (1, 5, 9, 13), (2, 6, 10, 14), (3, 7, 11, 15),
+           (0, 5, 10, 15), (1, 6, 11, 12), (2, 7, 8, 13), (3, 4, 9, 14))
+
+
+@dataclass(frozen=True)
+class Step:
+    """What one compression is given: the eight chaining words, the counter, the final flag and the block."""
+    chain: tuple
+    counter: int
+    last: bool
+    block: bytes
+
+
+def mix(words, v, places, x, y):
+    """G on the words of v at four places (3.1)."""
+    a, b, c, d = places
+    mask = (1 << words.bits) - 1
+
+    def turned(word, by):
+        return (word >> by | word << words.bits - by) & mask
+
+    for term, by_d, by_b in ((x, *words.turns[:2]), (y, *words.turns[2:])):
+        v[a] = (v[a] + v[b] + term) & mask
+        v[d] = turned(v[d] ^ v[a], by_d)
+        v[c] = (v[c] + v[d]) & mask
+        v[b] = turned(v[b] ^ v[c], by_b)
+
+
+def compress(family, step):
+    """F: the eight chaining words behind a step (3.2)."""
+    words = WORDS[family]
+    mask = (1 << words.bits) - 1
+    m = struct.unpack("<16" + words.code, step.block)
+    v = [*step.chain, *words.start]
+    v[12] ^= step.counter & mask
+    v[13] ^= step.counter >> words.bits
+    v[14] ^= mask if step.last else 0
+    for i in range(words.rounds):
+        row = SIGMA[i % 10]
+        for j, places in enumerate(MIXINGS):
+            mix(words, v, places, m[row[2 * j]], m[row[2 * j + 1]])
+    return tuple(h ^ low ^ high for h, low, high in zip(step.chain, v[:8], v[8:]))
+
+
+def parameter_words(family, size, key=b"", salt=b"", persona=b""):
+    """The eight words of the parameter block of sequential use (2.5; the BLAKE2 document, 2.8)."""
+    words, texts = WORDS[family], f"{FAMILIES[family].salt}s" * 2
+    block = struct.pack(f"<BBBBI{words.offset}BB{words.reserved}x{texts}",
+                        size, len(key), 1, 1, 0, b"", 0, 0, salt, persona)
+    return struct.unpack("<8" + words.code, block)
+
+
+def blocks(family, key, message):
+    """Counter, final flag and bytes of each block of the data: the key's block, if any, and the message (3.3)."""
+    width = FAMILIES[family].block
+    data = (key.ljust(width, b"\0") if key else b"") + message
+    count = max(1, -(-len(data) // width))
+    for place in range(count):
+        last = place + 1 == count
+        counter = len(data) if last else (place + 1) * width
+        yield counter, last, data[place * width:counter].ljust(width, b"\0")
+
+
+def steps(family, size, message, key=b"", salt=b"", persona=b""):
+    """The steps that make a digest of so many bytes, and the chaining words behind the last of them (3.3)."""
+    chain = tuple(iv ^ word for iv, word in zip(WORDS[family].start,
+                                                parameter_words(family, size, key, salt, persona)))
+    made = []
+    for counter, last, block in blocks(family, key, message):
+        made.append(Step(chain, counter, last, block))
+        chain = compress(family, made[-1])
+    return made, chain
+
+
+def digest(family, size, message, key=b"", salt=b"", persona=b""):
+    """BLAKE2 (3.3)."""
+    _, chain = steps(family, size, message, key, salt, persona)
+    return struct.pack("<8" + WORDS[family].code, *chain)[:size]
+
+
+def check(source):
+    """Ends the program where a digest differs from hashlib's, over random inputs at every size of digest."""
+    for family, numbers in FAMILIES.items():
+        for size in range(1, numbers.key + 1):
+            message = source.randbytes(source.randrange(4 * numbers.block))
+            key = source.randbytes(source.randint(0, numbers.key))
+            salt, persona = (source.randbytes(source.randint(0, numbers.salt)) for _ in range(2))
+            wanted = numbers.function(message, digest_size=size, key=key, salt=salt, person=persona)
+            if digest(family, size, message, key, salt, persona) != wanted.digest():
+                sys.exit(f"blake2_scalar: another digest than hashlib's, BLAKE2{family} of {size} bytes")

@@ -1,0 +1,204 @@
+#!/usr/bin/env python3
+"""Prints the expected values that stand in tables of the tests, under the name that stands beside each.
+
+Digests come from Python's hashlib; words and entries of transcripts from the scalar BLAKE2 beside this
+file; and what a transcript is read as from the reader below, which knows nothing of this repository's.
+"The digest of X" is BLAKE2b-256 of X.
+
+usage: tools/expected_values.py [NAME..]
+"""
+import hashlib
+import itertools
+import struct
+
+from blake2_kinds import FAMILIES, KINDS, Parser
+from blake2_scalar import WORDS, blocks, parameter_words
+from compare_steps import lines
+
+ALPHABET = bytes(i % 251 for i in range(6000))
+LENGTHS = [0, 1, 63, 64, 65, 127, 128, 129, 255, 256, 257]
+
+
+def digest(data):
+    """BLAKE2b-256, in hexadecimal."""
+    return hashlib.blake2b(data, digest_size=32).hexdigest()
+
+
+def blake2(family, size, message=b"", key=b"", salt=b"", persona=b""):
+    """The digest of this size; hashlib has none of no bytes."""
+    if size == 0:
+        return b""
+    return FAMILIES[family].function(message, digest_size=size, key=key, salt=salt, person=persona).digest()
+
+
+def transcript_text(family, size, message, key=b"", salt=b"", persona=b""):
+    """What `steps` prints."""
+    return "".join(line + "\n" for line in lines(family, size, message, key, salt, persona)).encode()
+
+
+def copies():
+    """copies: the digest of the outputs for both pieces, for each pair of lengths in their order."""
+    runs = [(kind, family, size, b"", b"", b"") for kind, (family, size) in KINDS.items()]
+    for name, family, size in (("Blake2bMac512", "b", 64), ("Blake2sMac256", "s", 32)):
+        for salt, persona in ((b"", b""), (b"salt", b"persona")):
+            runs += [(name, family, size, key, salt, persona) for key in (b"\x2a", b"")]
+    for name, family, size, key, salt, persona in runs:
+        outputs = b"".join(blake2(family, size, ALPHABET[:first + second], key, salt, persona)
+                           for first in LENGTHS for second in LENGTHS)
+        print(f"  {name} key={key.hex()} salt={salt.decode()} persona={persona.decode()}: {digest(outputs)}")
+
+
+def keys():
+    """keys: outputs over `abc` under the key 0, 1, 2 and so on, of all its bytes and of one."""
+    for family, numbers in FAMILIES.items():
+        for size, length in itertools.product((1, 20, numbers.key - 1), (numbers.key, 1)):
+            output = blake2(family, size, b"abc", ALPHABET[:length])
+            print(f"  {family} N={size} key of {length}: {output.hex()}")
+
+
+def cores():
+    """cores: the digest of the outputs over each message, at each size, smallest first."""
+    for family, numbers in FAMILIES.items():
+        for persona in (b"", b"personal"):
+            outputs = b"".join(blake2(family, size, ALPHABET[:length], persona=persona)
+                               for size in range(numbers.key + 1) for length in LENGTHS)
+            print(f"  {family} persona={persona.decode()}: {digest(outputs)}")
+
+
+def lengths():
+    """lengths: the digest of the MACs' outputs over no message, at each length that is not refused."""
+    for family, numbers in FAMILIES.items():
+        parts = list(itertools.product((0, 1, numbers.key), (0, numbers.salt), (0, numbers.salt)))
+        outputs = b"".join(blake2(family, numbers.key, b"", ALPHABET[:key], ALPHABET[:salt], ALPHABET[:persona])
+                           for key, salt, persona in parts)
+        print(f"  {family}: {len(parts)} accepted, {digest(outputs)}")
+
+
+def replays():
+    """replays: the digest of the digests of the 1,000 beginnings of 1 to 1,000 bytes."""
+    for family, numbers in FAMILIES.items():
+        digests = b"".join(blake2(family, numbers.key, ALPHABET[:length]) for length in range(1, 1001))
+        print(f"  {family}: {digest(digests)}")
+
+
+def transcripts():
+    """transcripts: the digest of all entries over 5,000 bytes, without and with a key of three bytes: for
+    each its counter in 8 bytes, low first, its flag and its block."""
+    for family in FAMILIES:
+        for key in (b"", b"key"):
+            entries = list(blocks(family, key, ALPHABET[:5000]))
+            data = b"".join(struct.pack("<QB", counter, last) + block for counter, last, block in entries)
+            print(f"  {family} key={key.decode()}: {len(entries)} entries, {digest(data)}")
+
+
+def options():
+    """options: for each KIND and words in brackets the line of `sum` over `abc`, and the digest of what
+    `steps` prints over it."""
+    for kind, (family, size) in KINDS.items():
+        for texts in itertools.product((b"", b"key"), (b"", b"abc"), (b"", b"persona")):
+            words = [f"{name}={text.hex()}" for name, text in zip(("key", "salt", "persona"), texts) if text]
+            steps = digest(transcript_text(family, size, b"abc", *texts))
+            print(f"{' '.join([kind, *words])}|{blake2(family, size, b'abc', *texts).hex()}|{steps}")
+
+
+def large():
+    """large: over 1,048,577 bytes, byte i being i modulo 251: the line of `sum`, and the digest of what
+    `steps` prints."""
+    message = bytes(i % 251 for i in range(2**20 + 1))
+    for kind, (family, size) in KINDS.items():
+        text = transcript_text(family, size, message)
+        print(f"  {kind}: {blake2(family, size, message).hex()}, {len(text)} bytes, {digest(text)}")
+
+
+def collisions():
+    """collisions: of the messages 0000 to 0100 of two bytes the first two with equal digests of 1 byte."""
+    for family in FAMILIES:
+        seen = {}
+        for number in range(257):
+            message = number.to_bytes(2, "big")
+            first = seen.setdefault(blake2(family, 1, message), message)
+            if first != message:
+                print(f"  {family}8: {first.hex()} {message.hex()}")
+                break
+
+
+def reading(family, words, entries):
+    """What a transcript is read as (size, key, salt, persona, message); None where it is of no input."""
+    numbers = FAMILIES[family]
+    block = struct.pack("<8" + WORDS[family].code, *words)
+    size, key_size, texts = block[0], block[1], block[-2 * numbers.salt:]
+    if size > numbers.key or key_size > numbers.key or not entries:
+        return None
+    data = b"".join(block for _, _, block in entries)[:entries[-1][0]]
+    key, message = (data[:key_size], data[numbers.block:]) if key_size else (b"", data)
+    salt, persona = texts[:numbers.salt], texts[numbers.salt:]
+    if len(key) < key_size or parameter_words(family, size, key, salt, persona) != tuple(words):
+        return None
+    if list(blocks(family, key, message)) != entries:
+        return None
+    return size, key, salt, persona, message
+
+
+def with_bit(number, bit):
+    """The number with this bit turned."""
+    return number ^ 1 << bit
+
+
+def changed_words(family, words, entries):
+    """How many of the words with one bit changed, 0 to 3 and 4 to 7, leave a transcript with a reading."""
+    def count(places):
+        return sum(reading(family, [*words[:i], with_bit(words[i], bit), *words[i + 1:]], entries) is not None
+                   for i in places for bit in range(WORDS[family].bits))
+    return count(range(4)), count(range(4, 8))
+
+
+def changed_entries(family, words, entries):
+    """The same of each bit of the counters, of the flags and of the blocks."""
+    counters = flags = changed_blocks = 0
+    for place, (counter, last, block) in enumerate(entries):
+        def is_read(*entry):
+            return reading(family, words, [*entries[:place], entry, *entries[place + 1:]]) is not None
+        counters += sum(is_read(with_bit(counter, bit), last, block) for bit in range(64))
+        flags += is_read(counter, not last, block)
+        number = int.from_bytes(block, "little")
+        changed_blocks += sum(is_read(counter, last, with_bit(number, bit).to_bytes(len(block), "little"))
+                              for bit in range(8 * len(block)))
+    return counters, flags, changed_blocks
+
+
+def forged():
+    """forged: of the transcripts with one bit changed, how many have a reading: by a bit of words 0 to 3 and
+    4 to 7, of a counter, of a flag and of a block."""
+    for family, length, persona in (("b", 200, b"0123456789abcdef"), ("s", 100, b"01234567")):
+        width, size = FAMILIES[family].block, FAMILIES[family].key
+        for key, salt, persona, length in ((b"", b"", b"", width), (b"", b"", b"", width + 1),
+                                           (b"\x01", b"abc", persona, length)):
+            words = list(parameter_words(family, size, key, salt, persona))
+            entries = list(blocks(family, key, b"\x2a" * length))
+            assert reading(family, words, entries) is not None
+            low, high = changed_words(family, words, entries)
+            counters, flags, changed_blocks = changed_entries(family, words, entries)
+            print(f"  {family} {len(entries)} entries: words 0..3 {low}, words 4..7 {high}, "
+                  f"counters {counters}, flags {flags}, blocks {changed_blocks}")
+
+
+TABLES = {table.__name__: table for table in (
+    copies, keys, cores, lengths, replays, transcripts, options, large, collisions, forged)}
+
+
+def main():
+    """Prints the named tables, or all."""
+    parser = Parser(description=__doc__.split("\n\n")[0])
+    parser.add_argument("names", nargs="*", metavar="NAME", help=" ".join(TABLES))
+    names = parser.parse_args().names
+    for name in names:
+        if name not in TABLES:
+            parser.error(f"no table has the name {name!r}")
+    for name, table in TABLES.items():
+        if not names or name in names:
+            print(table.__doc__)
+            table()
+
+
+if __name__ == "__main__":
+    main()
