@@ -1,7 +1,6 @@
 //! The digests of `abc` in RFC 7693, appendices A and B.
 use super::*;
 use std::alloc::AllocError;
-use std::test::Fail;
 
 #[test]
 fn blake2b512_of_abc(rt: HostRuntime) -> Result<(), AllocError> {

@@ -151,6 +151,6 @@ impl Blake2bContext {
 
     // The words that the run starts from.
     pub(crate) fn start_words(&self) -> [u64; 8] {
-        self.core.start_words()
+        self.core.first_words()
     }
 }

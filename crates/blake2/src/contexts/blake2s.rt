@@ -151,6 +151,6 @@ impl Blake2sContext {
 
     // The words that the run starts from.
     pub(crate) fn start_words(&self) -> [u32; 8] {
-        self.core.start_words()
+        self.core.first_words()
     }
 }

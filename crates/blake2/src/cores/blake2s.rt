@@ -60,6 +60,35 @@ impl Blake2sVarCore {
         }
     }
 
+    /// The core that holds these chaining words, was started from those, and has counted so many
+    /// bytes.
+    #[inline]
+    pub fn from_words(h: &[u32; 8], start: &[u32; 8], counter: u64) -> Self
+        ensures { result ≡ record { h = h.now; start = start.now; count = counter } }
+    {
+        Blake2sVarCore {
+            h: words::to_rows(h),
+            start: words::to_rows(start),
+            counter,
+        }
+    }
+
+    /// The eight chaining words.
+    #[inline]
+    pub fn chain_words(&self) -> [u32; 8]
+        ensures { result ≡ self.now.h }
+    {
+        words::to_words(&self.h)
+    }
+
+    /// The eight words that the run started from.
+    #[inline]
+    pub fn first_words(&self) -> [u32; 8]
+        ensures { result ≡ self.now.start }
+    {
+        words::to_words(&self.start)
+    }
+
     // Compresses a block that is not the last.
     #[inline]
     fn absorb_block(&mut self, block: &[u8; 64])
@@ -220,10 +249,5 @@ impl Blake2sVarCore {
         let mut core = Self::new_with_params(&[], &[], 0, 32);
         core.counter = counter;
         core
-    }
-
-    // The words that the run starts from.
-    pub(crate) fn start_words(&self) -> [u32; 8] {
-        words::to_words(&self.start)
     }
 }

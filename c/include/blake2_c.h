@@ -1,0 +1,315 @@
+/* BLAKE2b and BLAKE2s (RFC 7693): the digest of a message in one call, or step by step with a
+ * state that the caller keeps. No function takes or frees memory, or keeps a pointer.
+ *
+ * C programs call the functions vulfsjor_*. These are inline and do no more than make way for
+ * null pointers; then they call the functions blake2_c_* of libblake2_c.a, each of which is
+ * proved to do what is said here of the call, where the caller gives it what it asks for. The
+ * inline functions are C, which no proof covers. Other languages call blake2_c_* themselves.
+ *
+ * Lengths are in bytes. A text is a pointer and a length, and a text of 0 bytes may be a null
+ * pointer in a call of vulfsjor_*. No pointer that is given to blake2_c_* is null.
+ *
+ * Status: 0, or -1 where the call is refused. A refused call writes nothing and leaves the state
+ * as it was, but for a refused init, which leaves the state of zeros. All calls but init and
+ * wipe refuse that.
+ *
+ * The caller owes, and no call can test, that each pointer is to as many bytes as its length
+ * says, and that what a call writes (the state, the output) overlaps nothing else that it is
+ * given.
+ *
+ * Secrets: final and verify wipe the state. What a call leaves of a key on the stack is not
+ * wiped. */
+#ifndef BLAKE2_C_H
+#define BLAKE2_C_H
+
+#include <stddef.h>
+#include <stdint.h>
+
+#ifdef __cplusplus
+extern "C" {
+#endif
+
+/* Lengths in bytes: of a block, the longest digest and key, and the longest salt and persona. */
+enum {
+    VULFSJOR_BLAKE2B_BLOCKBYTES = 128,
+    VULFSJOR_BLAKE2B_OUTBYTES = 64,
+    VULFSJOR_BLAKE2B_KEYBYTES = 64,
+    VULFSJOR_BLAKE2B_SALTBYTES = 16,
+    VULFSJOR_BLAKE2B_PERSONALBYTES = 16,
+    VULFSJOR_BLAKE2S_BLOCKBYTES = 64,
+    VULFSJOR_BLAKE2S_OUTBYTES = 32,
+    VULFSJOR_BLAKE2S_KEYBYTES = 32,
+    VULFSJOR_BLAKE2S_SALTBYTES = 8,
+    VULFSJOR_BLAKE2S_PERSONALBYTES = 8
+};
+
+/* A run of BLAKE2b. Keep it anywhere, copy it by assignment (a copy is a run of its own), and
+ * leave its fields alone. An init makes one, in memory of any content; every other call asks for
+ * bytes that were written. No value of them is unsafe: one that no init has made is refused, or
+ * has a digest without meaning. Two threads may not use one at once. */
+typedef struct vulfsjor_blake2b_state {
+    uint64_t chain[8];       /* the chaining words */
+    uint64_t first[8];       /* those that the run started from */
+    uint64_t counter;        /* the bytes of the blocks that were compressed */
+    size_t pending_length;   /* how many bytes are pending, 0 to 128 */
+    size_t start_length;     /* how many a reset leaves pending: those of a key's block, or none */
+    size_t output_size;      /* the bytes of the digest, 1 to 64; 0 in the state of zeros */
+    uint8_t pending[128];    /* the pending bytes, at the beginning */
+    uint8_t start_block[128]; /* those that a reset leaves pending, at the beginning */
+} vulfsjor_blake2b_state;
+
+/* The same of BLAKE2s. */
+typedef struct vulfsjor_blake2s_state {
+    uint32_t chain[8];
+    uint32_t first[8];
+    uint64_t counter;
+    size_t pending_length;   /* 0 to 64 */
+    size_t start_length;
+    size_t output_size;      /* 1 to 32 */
+    uint8_t pending[64];
+    uint8_t start_block[64];
+} vulfsjor_blake2s_state;
+
+/* The parameter block of BLAKE2b (the BLAKE2 document, 2.8), with the fields of the reference
+ * code. Without a tree, fanout and depth are 1, and all other fields of numbers are 0. */
+typedef struct vulfsjor_blake2b_param {
+    uint8_t digest_length; /* 1 to 64 */
+    uint8_t key_length;    /* 0 to 64 */
+    uint8_t fanout;
+    uint8_t depth;
+    uint32_t leaf_length;
+    uint64_t node_offset;
+    uint8_t node_depth;
+    uint8_t inner_length;
+    uint8_t reserved[14];
+    uint8_t salt[16];
+    uint8_t personal[16];
+} vulfsjor_blake2b_param;
+
+/* The same of BLAKE2s. */
+typedef struct vulfsjor_blake2s_param {
+    uint8_t digest_length; /* 1 to 32 */
+    uint8_t key_length;    /* 0 to 32 */
+    uint8_t fanout;
+    uint8_t depth;
+    uint32_t leaf_length;
+    uint8_t node_offset[6];
+    uint8_t node_depth;
+    uint8_t inner_length;
+    uint8_t salt[8];
+    uint8_t personal[8];
+} vulfsjor_blake2s_param;
+
+/* The library is built for 64 bits, and knows these layouts. */
+typedef char vulfsjor_layouts[sizeof(size_t) == 8 && sizeof(vulfsjor_blake2b_state) == 416 &&
+                              sizeof(vulfsjor_blake2s_state) == 224 &&
+                              sizeof(vulfsjor_blake2b_param) == 64 &&
+                              sizeof(vulfsjor_blake2s_param) == 32 ? 1 : -1];
+
+/* ---- The functions of the library. No pointer is null. */
+
+/* Writes the digest of the message under no key, of 64 bytes and of 32. */
+void blake2_c_blake2b512(const uint8_t *message, size_t length, uint8_t *out);
+void blake2_c_blake2s256(const uint8_t *message, size_t length, uint8_t *out);
+
+/* The rest does what is said of vulfsjor_* below. init_at and init_block_at answer nothing: the
+ * output_size that they leave is 0 where the arguments were refused, and there alone. */
+
+int32_t blake2_c_is_same(const uint8_t *a, size_t a_length, const uint8_t *b, size_t b_length);
+
+int32_t blake2_c_blake2b(uint8_t *out, size_t out_length, const uint8_t *input, size_t input_length,
+                         const uint8_t *key, size_t key_length);
+void blake2_c_blake2b_init_at(vulfsjor_blake2b_state *at, size_t output_size, const uint8_t *key,
+                              size_t key_length, const uint8_t *salt, size_t salt_length,
+                              const uint8_t *persona, size_t persona_length);
+void blake2_c_blake2b_init_block_at(vulfsjor_blake2b_state *at, const uint8_t *block,
+                                    size_t block_length);
+int32_t blake2_c_blake2b_update(vulfsjor_blake2b_state *state, const uint8_t *input,
+                                size_t input_length);
+int32_t blake2_c_blake2b_final(vulfsjor_blake2b_state *state, uint8_t *out, size_t out_length);
+int32_t blake2_c_blake2b_verify(vulfsjor_blake2b_state *state, const uint8_t *tag,
+                                size_t tag_length);
+int32_t blake2_c_blake2b_reset(vulfsjor_blake2b_state *state);
+void blake2_c_blake2b_wipe(vulfsjor_blake2b_state *state);
+
+int32_t blake2_c_blake2s(uint8_t *out, size_t out_length, const uint8_t *input, size_t input_length,
+                         const uint8_t *key, size_t key_length);
+void blake2_c_blake2s_init_at(vulfsjor_blake2s_state *at, size_t output_size, const uint8_t *key,
+                              size_t key_length, const uint8_t *salt, size_t salt_length,
+                              const uint8_t *persona, size_t persona_length);
+void blake2_c_blake2s_init_block_at(vulfsjor_blake2s_state *at, const uint8_t *block,
+                                    size_t block_length);
+int32_t blake2_c_blake2s_update(vulfsjor_blake2s_state *state, const uint8_t *input,
+                                size_t input_length);
+int32_t blake2_c_blake2s_final(vulfsjor_blake2s_state *state, uint8_t *out, size_t out_length);
+int32_t blake2_c_blake2s_verify(vulfsjor_blake2s_state *state, const uint8_t *tag,
+                                size_t tag_length);
+int32_t blake2_c_blake2s_reset(vulfsjor_blake2s_state *state);
+void blake2_c_blake2s_wipe(vulfsjor_blake2s_state *state);
+
+/* ---- For C. -1 also where a state, an output, a parameter block or a text of more than 0 bytes
+ * is null. */
+
+/* The pointer, or one that is not null for a text of 0 bytes. */
+static inline const uint8_t *vulfsjor_text(const void *text) {
+    return text ? (const uint8_t *)text : (const uint8_t *)"";
+}
+
+/* 0 where the first length bytes of a and b are equal, and -1 where not. It looks at all of
+ * them: the comparison for tags. */
+static inline int vulfsjor_is_same(const void *a, const void *b, size_t length) {
+    if ((!a || !b) && length) return -1;
+    return blake2_c_is_same(vulfsjor_text(a), length, vulfsjor_text(b), length);
+}
+
+/* -- BLAKE2b */
+
+/* Begins a run with digests of outlen bytes, 1 to 64, under a key of keylen bytes, 0 to 64 (0 is
+ * no key), with a salt and a persona of up to 16 bytes each (zeros behind either change
+ * nothing). -1 where a length is not among these. */
+static inline int vulfsjor_blake2b_init_salt_personal(
+    vulfsjor_blake2b_state *S, size_t outlen, const void *key, size_t keylen, const void *salt,
+    size_t saltlen, const void *personal, size_t personallen) {
+    if (!S) return -1;
+    if ((!key && keylen) || (!salt && saltlen) || (!personal && personallen))
+        outlen = keylen = saltlen = personallen = 0;
+    blake2_c_blake2b_init_at(S, outlen, vulfsjor_text(key), keylen, vulfsjor_text(salt), saltlen,
+                             vulfsjor_text(personal), personallen);
+    return S->output_size ? 0 : -1;
+}
+
+/* The same without key, salt and persona. */
+static inline int vulfsjor_blake2b_init(vulfsjor_blake2b_state *S, size_t outlen) {
+    return vulfsjor_blake2b_init_salt_personal(S, outlen, 0, 0, 0, 0, 0, 0);
+}
+
+/* The same under a key of 1 to 64 bytes, without salt and persona. */
+static inline int vulfsjor_blake2b_init_key(vulfsjor_blake2b_state *S, size_t outlen,
+                                            const void *key, size_t keylen) {
+    if (!keylen) outlen = 0;
+    return vulfsjor_blake2b_init_salt_personal(S, outlen, key, keylen, 0, 0, 0, 0);
+}
+
+/* Begins a run from a parameter block, as it stands: the words of its bytes are xored into the
+ * IV. Where it names a key, the first 128 bytes of input have to be the key with zeros behind
+ * it. -1 where digest_length is not 1 to 64, or key_length more than 64; no other field is
+ * looked at. */
+static inline int vulfsjor_blake2b_init_param(vulfsjor_blake2b_state *S,
+                                              const vulfsjor_blake2b_param *P) {
+    if (!S) return -1;
+    if (!P) return vulfsjor_blake2b_init(S, 0);
+    blake2_c_blake2b_init_block_at(S, (const uint8_t *)P, sizeof *P);
+    return S->output_size ? 0 : -1;
+}
+
+/* Takes the input after all that was taken before. -1 where the bytes since the start, a key's
+ * block among them, would be 2^64 or more. */
+static inline int vulfsjor_blake2b_update(vulfsjor_blake2b_state *S, const void *in, size_t inlen) {
+    if (!S || (!in && inlen)) return -1;
+    return blake2_c_blake2b_update(S, vulfsjor_text(in), inlen);
+}
+
+/* Writes the digest of all input since the start at the beginning of out, and wipes the state.
+ * -1 where outlen, the bytes that out has room for, is less than the digest has. */
+static inline int vulfsjor_blake2b_final(vulfsjor_blake2b_state *S, void *out, size_t outlen) {
+    if (!S || !out) return -1;
+    return blake2_c_blake2b_final(S, (uint8_t *)out, outlen);
+}
+
+/* Compares the tag with the digest of all input since the start, and wipes the state: 0 where
+ * the tag is the whole digest, -1 where not. It looks at all bytes of a tag of the digest's
+ * length. */
+static inline int vulfsjor_blake2b_verify(vulfsjor_blake2b_state *S, const void *tag,
+                                          size_t taglen) {
+    if (!S || (!tag && taglen)) return -1;
+    return blake2_c_blake2b_verify(S, vulfsjor_text(tag), taglen);
+}
+
+/* Goes back to the start: no input is taken, and digest length, key, salt and persona are kept. */
+static inline int vulfsjor_blake2b_reset(vulfsjor_blake2b_state *S) {
+    if (!S) return -1;
+    return blake2_c_blake2b_reset(S);
+}
+
+/* Sets the state to zeros, whatever it was. */
+static inline void vulfsjor_blake2b_wipe(vulfsjor_blake2b_state *S) {
+    if (S) blake2_c_blake2b_wipe(S);
+}
+
+/* The digest of the input in outlen bytes, 1 to 64, under a key of 0 to 64 bytes (0 is no key).
+ * -1 where a length is not among these, or input and key's block are 2^64 bytes or more. */
+static inline int vulfsjor_blake2b(void *out, size_t outlen, const void *in, size_t inlen,
+                                   const void *key, size_t keylen) {
+    if (!out || (!in && inlen) || (!key && keylen)) return -1;
+    return blake2_c_blake2b((uint8_t *)out, outlen, vulfsjor_text(in), inlen, vulfsjor_text(key),
+                            keylen);
+}
+
+/* -- BLAKE2s: the same, with digests and keys of up to 32 bytes, salts and personas of up to 8,
+ * and key blocks of 64. */
+
+static inline int vulfsjor_blake2s_init_salt_personal(
+    vulfsjor_blake2s_state *S, size_t outlen, const void *key, size_t keylen, const void *salt,
+    size_t saltlen, const void *personal, size_t personallen) {
+    if (!S) return -1;
+    if ((!key && keylen) || (!salt && saltlen) || (!personal && personallen))
+        outlen = keylen = saltlen = personallen = 0;
+    blake2_c_blake2s_init_at(S, outlen, vulfsjor_text(key), keylen, vulfsjor_text(salt), saltlen,
+                             vulfsjor_text(personal), personallen);
+    return S->output_size ? 0 : -1;
+}
+
+static inline int vulfsjor_blake2s_init(vulfsjor_blake2s_state *S, size_t outlen) {
+    return vulfsjor_blake2s_init_salt_personal(S, outlen, 0, 0, 0, 0, 0, 0);
+}
+
+static inline int vulfsjor_blake2s_init_key(vulfsjor_blake2s_state *S, size_t outlen,
+                                            const void *key, size_t keylen) {
+    if (!keylen) outlen = 0;
+    return vulfsjor_blake2s_init_salt_personal(S, outlen, key, keylen, 0, 0, 0, 0);
+}
+
+static inline int vulfsjor_blake2s_init_param(vulfsjor_blake2s_state *S,
+                                              const vulfsjor_blake2s_param *P) {
+    if (!S) return -1;
+    if (!P) return vulfsjor_blake2s_init(S, 0);
+    blake2_c_blake2s_init_block_at(S, (const uint8_t *)P, sizeof *P);
+    return S->output_size ? 0 : -1;
+}
+
+static inline int vulfsjor_blake2s_update(vulfsjor_blake2s_state *S, const void *in, size_t inlen) {
+    if (!S || (!in && inlen)) return -1;
+    return blake2_c_blake2s_update(S, vulfsjor_text(in), inlen);
+}
+
+static inline int vulfsjor_blake2s_final(vulfsjor_blake2s_state *S, void *out, size_t outlen) {
+    if (!S || !out) return -1;
+    return blake2_c_blake2s_final(S, (uint8_t *)out, outlen);
+}
+
+static inline int vulfsjor_blake2s_verify(vulfsjor_blake2s_state *S, const void *tag,
+                                          size_t taglen) {
+    if (!S || (!tag && taglen)) return -1;
+    return blake2_c_blake2s_verify(S, vulfsjor_text(tag), taglen);
+}
+
+static inline int vulfsjor_blake2s_reset(vulfsjor_blake2s_state *S) {
+    if (!S) return -1;
+    return blake2_c_blake2s_reset(S);
+}
+
+static inline void vulfsjor_blake2s_wipe(vulfsjor_blake2s_state *S) {
+    if (S) blake2_c_blake2s_wipe(S);
+}
+
+static inline int vulfsjor_blake2s(void *out, size_t outlen, const void *in, size_t inlen,
+                                   const void *key, size_t keylen) {
+    if (!out || (!in && inlen) || (!key && keylen)) return -1;
+    return blake2_c_blake2s((uint8_t *)out, outlen, vulfsjor_text(in), inlen, vulfsjor_text(key),
+                            keylen);
+}
+
+#ifdef __cplusplus
+}
+#endif
+#endif

@@ -1,0 +1,298 @@
+/* Known answers in one call, at every cut and in random pieces; tags, copies, resets, wiping; what is
+ * refused; states of random bytes. Reads the lines of cases.py from the file that is named, and answers
+ * 0 where all is as it should be. TEST_S is defined for BLAKE2s. */
+#include "blake2_c.h"
+
+#include <stdio.h>
+#include <stdlib.h>
+#include <string.h>
+
+#ifdef TEST_S
+#define MAX 32
+#define SALT 8
+#define BLOCK 64
+#define BLAKE(name) vulfsjor_blake2s_##name
+#define ONE_CALL vulfsjor_blake2s
+#define LONGEST blake2_c_blake2s256
+#else
+#define MAX 64
+#define SALT 16
+#define BLOCK 128
+#define BLAKE(name) vulfsjor_blake2b_##name
+#define ONE_CALL vulfsjor_blake2b
+#define LONGEST blake2_c_blake2b512
+#endif
+
+typedef BLAKE(state) state_t;
+
+static int fails;
+static int checks;
+#define CHECK(condition)                                             \
+    do {                                                             \
+        checks++;                                                    \
+        if (!(condition)) {                                          \
+            fails++;                                                 \
+            printf("test.c:%d: not %s\n", __LINE__, #condition);     \
+        }                                                            \
+    } while (0)
+
+/* A text in memory of exactly its own length, so that a sanitizer sees a byte too far. */
+typedef struct text {
+    uint8_t *bytes;
+    size_t length;
+} text;
+
+static text copy_of(const uint8_t *bytes, size_t length) {
+    text made = {malloc(length ? length : 1), length};
+    if (length) memcpy(made.bytes, bytes, length);
+    return made;
+}
+
+static text from_hex(const char *digits) {
+    text made = {NULL, digits[0] == '-' ? 0 : strlen(digits) / 2};
+    made.bytes = malloc(made.length ? made.length : 1);
+    for (size_t i = 0; i < made.length; i++) {
+        unsigned byte;
+        sscanf(digits + 2 * i, "%2x", &byte);
+        made.bytes[i] = (uint8_t)byte;
+    }
+    return made;
+}
+
+/* NULL for no bytes, as C programs have it. */
+static const uint8_t *or_null(text t) {
+    return t.length ? t.bytes : NULL;
+}
+
+static uint32_t seed = 1;
+static uint32_t random_number(void) {
+    seed = seed * 1664525u + 1013904223u;
+    return seed >> 8;
+}
+
+static int is_zero(const state_t *state) {
+    static const state_t zeros;
+    return !memcmp(state, &zeros, sizeof zeros);
+}
+
+/* Takes bytes from..to of the message, alone in their memory. */
+static void take(state_t *state, text message, size_t from, size_t to) {
+    text piece = copy_of(message.bytes + from, to - from);
+    CHECK(BLAKE(update)(state, or_null(piece), piece.length) == 0);
+    free(piece.bytes);
+}
+
+/* The digest of a copy is the wanted one, and the copy is then zeros. */
+static void gives(const state_t *state, text wanted) {
+    state_t copy = *state;
+    uint8_t *out = malloc(wanted.length);
+    memset(out, 0xee, wanted.length);
+    CHECK(BLAKE(final)(&copy, out, wanted.length) == 0);
+    CHECK(!memcmp(out, wanted.bytes, wanted.length));
+    CHECK(is_zero(&copy));
+    CHECK(BLAKE(update)(&copy, out, 1) == -1 && BLAKE(reset)(&copy) == -1);
+    CHECK(BLAKE(final)(&copy, out, wanted.length) == -1);
+    CHECK(BLAKE(verify)(&copy, out, wanted.length) == -1);
+    free(out);
+}
+
+/* Only the whole digest is its tag: no other byte anywhere, no byte less or more. */
+static void verifies(const state_t *state, text wanted) {
+    uint8_t tag[MAX + 1];
+    state_t copy = *state;
+    memcpy(tag, wanted.bytes, wanted.length);
+    tag[wanted.length] = 0;
+    CHECK(BLAKE(verify)(&copy, wanted.bytes, wanted.length) == 0 && is_zero(&copy));
+    for (size_t i = 0; i < wanted.length; i++) {
+        copy = *state;
+        tag[i] ^= (uint8_t)(1 << (i % 8));
+        CHECK(BLAKE(verify)(&copy, tag, wanted.length) == -1 && is_zero(&copy));
+        CHECK(vulfsjor_is_same(tag, wanted.bytes, wanted.length) == -1);
+        tag[i] ^= (uint8_t)(1 << (i % 8));
+    }
+    copy = *state;
+    CHECK(BLAKE(verify)(&copy, tag, wanted.length + 1) == -1 && is_zero(&copy));
+    copy = *state;
+    CHECK(BLAKE(verify)(&copy, tag, wanted.length - 1) == -1 && is_zero(&copy));
+    copy = *state;
+    CHECK(BLAKE(verify)(&copy, NULL, 0) == -1 && is_zero(&copy));
+    CHECK(vulfsjor_is_same(tag, wanted.bytes, wanted.length) == 0);
+}
+
+/* The run that the state begins gives the wanted digest of the message, however it comes. */
+static void runs(state_t *state, text message, text wanted) {
+    for (size_t cut = 0; cut <= message.length && message.length <= 400; cut++) {
+        take(state, message, 0, cut);
+        take(state, message, cut, message.length);
+        gives(state, wanted);
+        CHECK(BLAKE(reset)(state) == 0);
+    }
+    for (size_t at = 0; at < message.length;) {
+        size_t n = random_number() % 3 ? random_number() % 20 : random_number() % 300;
+        if (n > message.length - at) n = message.length - at;
+        take(state, message, at, at + n);
+        at += n;
+    }
+    gives(state, wanted);
+    verifies(state, wanted);
+    /* Too little room: nothing is written, and the state stays. */
+    uint8_t out[MAX + 16];
+    memset(out, 0xaa, sizeof out);
+    CHECK(BLAKE(final)(state, out, wanted.length - 1) == -1 && out[0] == 0xaa);
+    /* Room to spare: no byte behind the digest. */
+    CHECK(BLAKE(final)(state, out, sizeof out) == 0);
+    CHECK(!memcmp(out, wanted.bytes, wanted.length) && out[wanted.length] == 0xaa);
+    CHECK(out[sizeof out - 1] == 0xaa);
+}
+
+static void hash_case(size_t size, text key, text salt, text persona, text message, text wanted) {
+    state_t *state = malloc(sizeof *state); /* holds nothing yet */
+    CHECK(BLAKE(init_salt_personal)(state, size, or_null(key), key.length, or_null(salt), salt.length,
+                                    or_null(persona), persona.length) == 0);
+    runs(state, message, wanted);
+    uint8_t out[MAX];
+    if (!salt.length && !persona.length) {
+        CHECK(ONE_CALL(out, size, or_null(message), message.length, or_null(key), key.length) == 0);
+        CHECK(!memcmp(out, wanted.bytes, size));
+        CHECK((key.length ? BLAKE(init_key)(state, size, key.bytes, key.length)
+                          : BLAKE(init)(state, size)) == 0);
+        take(state, message, 0, message.length);
+        gives(state, wanted);
+    }
+    if (!salt.length && !persona.length && !key.length && size == MAX) {
+        LONGEST(message.bytes, message.length, out);
+        CHECK(!memcmp(out, wanted.bytes, size));
+    }
+    /* The same by a parameter block, where the key's block is an input. */
+    BLAKE(param) param = {.digest_length = (uint8_t)size, .key_length = (uint8_t)key.length, .fanout = 1, .depth = 1};
+    memcpy(param.salt, salt.bytes, salt.length);
+    memcpy(param.personal, persona.bytes, persona.length);
+    CHECK(BLAKE(init_param)(state, &param) == 0);
+    uint8_t block[BLOCK] = {0};
+    memcpy(block, key.bytes, key.length);
+    if (key.length) CHECK(BLAKE(update)(state, block, BLOCK) == 0);
+    take(state, message, 0, message.length);
+    gives(state, wanted);
+    BLAKE(wipe)(state);
+    CHECK(is_zero(state));
+    free(state);
+}
+
+static void tree_case(text block, text message, text wanted) {
+    BLAKE(param) param;
+    state_t *state = malloc(sizeof *state);
+    CHECK(block.length == sizeof param);
+    memcpy(&param, block.bytes, sizeof param);
+    CHECK(BLAKE(init_param)(state, &param) == 0);
+    runs(state, message, wanted);
+    free(state);
+}
+
+static int read_cases(const char *name) {
+    static char kind[3], field[6][200000];
+    FILE *file = fopen(name, "r");
+    if (!file) return 0;
+    int cases = 0;
+    for (; fscanf(file, "%2s", kind) == 1; cases++) {
+        int fields = kind[0] == 'h' ? 6 : 3;
+        text t[6];
+        for (int i = 0; i < fields; i++) {
+            if (fscanf(file, "%199999s", field[i]) != 1) return 0;
+            t[i] = from_hex(kind[0] == 'h' && i == 0 ? "-" : field[i]);
+        }
+        if (kind[0] == 'h') hash_case((size_t)atoi(field[0]), t[1], t[2], t[3], t[4], t[5]);
+        else tree_case(t[0], t[1], t[2]);
+        for (int i = 0; i < fields; i++) free(t[i].bytes);
+    }
+    fclose(file);
+    return cases;
+}
+
+/* A refused init leaves zeros, which no call takes. */
+#define REFUSED(call)                                                \
+    do {                                                             \
+        memset(&state, 0x5a, sizeof state);                          \
+        CHECK((call) == -1 && is_zero(&state));                      \
+    } while (0)
+
+static void refusals(void) {
+    state_t state;
+    uint8_t out[MAX + 1], bytes[MAX + 1] = {0};
+    REFUSED(BLAKE(init)(&state, 0));
+    REFUSED(BLAKE(init)(&state, MAX + 1));
+    REFUSED(BLAKE(init)(&state, (size_t)1 << 32 | 1));
+    REFUSED(BLAKE(init)(&state, (size_t)-1));
+    REFUSED(BLAKE(init_key)(&state, MAX, bytes, 0));
+    REFUSED(BLAKE(init_key)(&state, MAX, bytes, MAX + 1));
+    REFUSED(BLAKE(init_key)(&state, 0, bytes, MAX));
+    REFUSED(BLAKE(init_key)(&state, MAX, NULL, 5));
+    REFUSED(BLAKE(init_salt_personal)(&state, MAX, 0, 0, bytes, SALT + 1, 0, 0));
+    REFUSED(BLAKE(init_salt_personal)(&state, MAX, 0, 0, 0, 0, bytes, SALT + 1));
+    REFUSED(BLAKE(init_salt_personal)(&state, MAX, 0, 0, NULL, 1, 0, 0));
+    REFUSED(BLAKE(init_salt_personal)(&state, MAX, 0, 0, 0, 0, NULL, 1));
+    REFUSED(BLAKE(init_param)(&state, NULL));
+    BLAKE(param) param = {.digest_length = 0, .fanout = 1, .depth = 1};
+    REFUSED(BLAKE(init_param)(&state, &param));
+    param.digest_length = MAX + 1;
+    REFUSED(BLAKE(init_param)(&state, &param));
+    param.digest_length = MAX;
+    param.key_length = MAX + 1;
+    REFUSED(BLAKE(init_param)(&state, &param));
+    CHECK(BLAKE(init)(NULL, MAX) == -1 && BLAKE(init_key)(NULL, MAX, bytes, 1) == -1);
+    CHECK(BLAKE(init_param)(NULL, &param) == -1 && BLAKE(reset)(NULL) == -1);
+    CHECK(BLAKE(update)(NULL, bytes, 1) == -1 && BLAKE(final)(NULL, out, MAX) == -1);
+    CHECK(BLAKE(verify)(NULL, bytes, 1) == -1);
+    BLAKE(wipe)(NULL);
+    CHECK(ONE_CALL(out, 0, bytes, 1, 0, 0) == -1 && ONE_CALL(out, MAX + 1, bytes, 1, 0, 0) == -1);
+    CHECK(ONE_CALL(out, MAX, NULL, 1, 0, 0) == -1 && ONE_CALL(out, MAX, bytes, 1, NULL, 1) == -1);
+    CHECK(ONE_CALL(out, MAX, bytes, 1, bytes, MAX + 1) == -1 && ONE_CALL(NULL, MAX, 0, 0, 0, 0) == -1);
+    CHECK(vulfsjor_is_same(NULL, NULL, 0) == 0 && vulfsjor_is_same(NULL, bytes, 1) == -1);
+    /* A null text with a length changes nothing. */
+    CHECK(BLAKE(init)(&state, MAX) == 0);
+    state_t before = state;
+    CHECK(BLAKE(update)(&state, NULL, 3) == -1 && BLAKE(final)(&state, NULL, MAX) == -1);
+    CHECK(BLAKE(verify)(&state, NULL, 3) == -1 && !memcmp(&state, &before, sizeof state));
+    CHECK(BLAKE(update)(&state, NULL, 0) == 0 && !memcmp(&state, &before, sizeof state));
+}
+
+/* The count may not reach 2^64, and a refused update changes nothing. */
+static void long_counts(void) {
+    state_t state;
+    uint8_t bytes[BLOCK] = {0};
+    CHECK(BLAKE(init)(&state, MAX) == 0);
+    state.counter = ~(uint64_t)0 - (BLOCK - 1); /* 2^64 - BLOCK */
+    CHECK(BLAKE(update)(&state, bytes, BLOCK / 2) == 0);
+    state_t before = state;
+    CHECK(BLAKE(update)(&state, bytes, BLOCK / 2) == -1 && !memcmp(&state, &before, sizeof state));
+    CHECK(BLAKE(update)(&state, bytes, BLOCK / 2 - 1) == 0);
+    CHECK(BLAKE(update)(&state, bytes, 1) == -1 && BLAKE(update)(&state, bytes, 0) == 0);
+}
+
+/* Random bytes as a state: every call ends, and writes within its memory. */
+static void random_states(void) {
+    state_t state;
+    uint8_t out[MAX], bytes[3 * BLOCK] = {0};
+    for (int i = 0; i < 4000; i++) {
+        for (size_t j = 0; j < sizeof state; j++) ((uint8_t *)&state)[j] = (uint8_t)random_number();
+        if (i % 2) {
+            state.output_size %= MAX + 6;
+            state.pending_length %= BLOCK + 12;
+            state.start_length %= BLOCK + 12;
+            if (i % 4 == 1) state.counter = ~(uint64_t)0 - random_number() % (2 * BLOCK);
+        }
+        int updated = BLAKE(update)(&state, bytes, i % sizeof bytes);
+        int reset = i % 3 ? 0 : BLAKE(reset)(&state);
+        int ended = i % 5 ? BLAKE(final)(&state, out, MAX) : BLAKE(verify)(&state, out, MAX);
+        CHECK((updated == 0 || updated == -1) && (reset == 0 || reset == -1) && (ended == 0 || ended == -1));
+    }
+}
+
+int main(int argc, char **argv) {
+    int cases = argc > 1 ? read_cases(argv[1]) : 0;
+    CHECK(cases > 0);
+    refusals();
+    long_counts();
+    random_states();
+    printf("%d cases, %d checks, %d failures\n", cases, checks, fails);
+    return fails != 0;
+}

@@ -1,0 +1,173 @@
+//! BLAKE2b with sizes that are chosen as the program runs.
+ghost use Rattle.std.specs.Prelude.{◌≡◌, ◌≢◌, ◌++◌, ◌⊎◌, ◌↔◌, [], length, drop, slice_index, pos, negsuc};
+ghost use Rattle.std.specs.Borrow.{full_share, sem};
+ghost use Rattle.std.specs.Ptr.{lies_at, room_at};
+ghost use Rattle.blake2.specs.Family.{blake2b};
+ghost use Rattle.blake2.specs.States.{digest_of};
+ghost use Rattle.blake2_digest.specs.States.{Updated, StartedAgain, digest_now};
+ghost use Rattle.blake2_plain.specs.Arguments.{given_key, given_count, IsRefused};
+ghost use Rattle.blake2_plain.specs.Blake2b.{IsReady, meaning, zeros};
+ghost use Rattle.blake2_plain.specs.Blocks.{block_digest, IsRefusedBlock};
+ghost use Rattle.blake2_plain.specs.contracts.blake2b.State.{the_row};
+ghost use Rattle.blake2_plain.specs.declared.blake2b.State.{State as Made};
+ghost use Rattle.blake2_c.specs.Blake2b.{IsMade};
+ghost use Rattle.blake2_c.specs.Status.{Answers, IsTooLong, IsUntakable, IsUngivable};
+
+use blake2_plain::blake2b::State;
+
+/// Writes the digest of the input in as many bytes as `out` has, 1 to 64, under a key of up to 64
+/// bytes (none is no key; RFC 7693, 3.3). Answers 0, or -1 where a length is not among these or the
+/// input and the key's block have 2^64 bytes; nothing is then written.
+#[unsafe(no_mangle)]
+pub extern "C" fn blake2_c_blake2b(out: &mut [u8], input: &[u8], key: &[u8]) -> i32
+    ensures status { Answers result (IsRefused blake2b (length out.old) key.now [] []
+        ⊎ IsTooLong (given_count blake2b key.now) (length input.now)) }
+    ensures digest { result ≡ pos 0
+        → out.new ≡ digest_of blake2b (length out.old) [] [] (given_key key.now) input.now }
+    ensures nothing { result ≡ negsuc 0 → out.new ≡ out.old }
+{
+    match State::new(out.len(), key, &[], &[]) {
+        Ok(mut run) => {
+            if input.len() as u64 > u64::MAX - run.counted() {
+                return -1;
+            }
+            run.update(input);
+            run.write_digest(out);
+            0
+        }
+        Err(_) => -1,
+    }
+}
+
+// The state of these parameters, or that of zeros.
+fn made(output_size: usize, key: &[u8], salt: &[u8], persona: &[u8]) -> State
+    ensures { IsMade (IsRefused blake2b output_size key.now salt.now persona.now) output_size
+        (digest_of blake2b output_size salt.now persona.now (given_key key.now)) (given_count blake2b key.now) result }
+{
+    match State::new(output_size, key, salt, persona) {
+        Ok(state) => state,
+        Err(_) => State::zeros(),
+    }
+}
+
+/// Puts a state of these parameters that has taken nothing into memory, which may hold nothing yet: a
+/// digest of 1 to 64 bytes, a key of up to 64 (none is no key), a salt and a persona of up to 16 each.
+/// Where a length is not among these, it puts the state of zeros there, which no other call takes; its
+/// size is 0, and that of no other state is.
+#[unsafe(no_mangle)]
+pub unsafe extern "C" fn blake2_c_blake2b_init_at(
+    at: *mut State,
+    output_size: usize,
+    key: &[u8],
+    salt: &[u8],
+    persona: &[u8],
+)
+    requires* { sem 𝓛 (room_at the_row at) }
+    ensures* { ∃ₛ (λ (s : Made). sem 𝓛 (lies_at the_row full_share at s)
+        ∗ ⌜ IsMade (IsRefused blake2b output_size key.now salt.now persona.now) output_size
+        (digest_of blake2b output_size salt.now persona.now (given_key key.now)) (given_count blake2b key.now) s ⌝) }
+{
+    at.write(made(output_size, key, salt, persona));
+}
+
+// The state of this parameter block, or that of zeros.
+fn made_from_block(block: &[u8]) -> State
+    ensures { IsMade (IsRefusedBlock blake2b block.now) (slice_index block.now 0) (block_digest blake2b block.now) 0 result }
+{
+    match State::from_block(block) {
+        Ok(state) => state,
+        Err(_) => State::zeros(),
+    }
+}
+
+/// The same of a parameter block of 64 bytes (the BLAKE2 document, 2.8), whatever stands in its
+/// fields but a digest of 0 or more than 64 bytes or a key of more than 64. Where it names a key, the
+/// key's block, padded with zeros to 128 bytes, is the caller's to give as the first input.
+#[unsafe(no_mangle)]
+pub unsafe extern "C" fn blake2_c_blake2b_init_block_at(at: *mut State, block: &[u8])
+    requires* { sem 𝓛 (room_at the_row at) }
+    ensures* { ∃ₛ (λ (s : Made). sem 𝓛 (lies_at the_row full_share at s)
+        ∗ ⌜ IsMade (IsRefusedBlock blake2b block.now) (slice_index block.now 0) (block_digest blake2b block.now) 0 s ⌝) }
+{
+    at.write(made_from_block(block));
+}
+
+/// Takes the input after all that was taken before. Answers 0, or -1 where the state is not ready or
+/// its count would reach 2^64; the state then stays as it is.
+#[unsafe(no_mangle)]
+pub extern "C" fn blake2_c_blake2b_update(state: &mut State, input: &[u8]) -> i32
+    ensures status { Answers result (IsUntakable (IsReady state.old) (meaning.count state.old) (length input.now)) }
+    ensures ready { result ≡ pos 0 → IsReady state.new }
+    ensures size { state.new.output_size ≡ state.old.output_size }
+    ensures taken { result ≡ pos 0 → Updated meaning state.old input.now state.new }
+    ensures same { result ≡ negsuc 0 → state.new ≡ state.old }
+{
+    if !state.is_ready() {
+        return -1;
+    }
+    if input.len() as u64 > u64::MAX - state.counted() {
+        return -1;
+    }
+    state.update(input);
+    0
+}
+
+/// Writes the digest at the beginning of `out`, and wipes the state, which is then not ready. Answers
+/// 0, or -1 where the state is not ready or `out` has less room than the digest; nothing is then
+/// written, and the state stays as it is.
+#[unsafe(no_mangle)]
+pub extern "C" fn blake2_c_blake2b_final(state: &mut State, out: &mut [u8]) -> i32
+    ensures status { Answers result (IsUngivable (IsReady state.old) state.old.output_size (length out.old)) }
+    ensures output { result ≡ pos 0 → out.new ≡ digest_now meaning state.old ++ drop state.old.output_size out.old }
+    ensures wiped { result ≡ pos 0 → state.new ≡ zeros }
+    ensures same { result ≡ negsuc 0 → state.new ≡ state.old }
+    ensures nothing { result ≡ negsuc 0 → out.new ≡ out.old }
+{
+    if !state.is_ready() || out.len() < state.output_size {
+        return -1;
+    }
+    state.write_digest(out);
+    state.wipe();
+    0
+}
+
+/// Whether the tag is the whole digest: 0, or -1 where it is not or the state is not ready. It looks
+/// at all bytes of a tag of the digest's length. A state that was ready is then wiped.
+#[unsafe(no_mangle)]
+pub extern "C" fn blake2_c_blake2b_verify(state: &mut State, tag: &[u8]) -> i32
+    ensures status { Answers result ((¬ IsReady state.old) ⊎ (tag.now ≢ digest_now meaning state.old)) }
+    ensures wiped { IsReady state.old → state.new ≡ zeros }
+    ensures same { (¬ IsReady state.old) → state.new ≡ state.old }
+{
+    if !state.is_ready() {
+        return -1;
+    }
+    let is_digest = state.is_digest(tag);
+    state.wipe();
+    if is_digest { 0 } else { -1 }
+}
+
+/// Brings the state back to its start: it has then taken nothing, under the same parameters and key.
+/// Answers 0, or -1 where the state is not ready, and then stays as it is.
+#[unsafe(no_mangle)]
+pub extern "C" fn blake2_c_blake2b_reset(state: &mut State) -> i32
+    ensures status { Answers result (¬ IsReady state.old) }
+    ensures ready { result ≡ pos 0 → IsReady state.new }
+    ensures size { state.new.output_size ≡ state.old.output_size }
+    ensures reset { result ≡ pos 0 → StartedAgain meaning state.old state.new }
+    ensures same { result ≡ negsuc 0 → state.new ≡ state.old }
+{
+    if !state.is_ready() {
+        return -1;
+    }
+    state.reset();
+    0
+}
+
+/// Sets the state to zeros. It is then not ready.
+#[unsafe(no_mangle)]
+pub extern "C" fn blake2_c_blake2b_wipe(state: &mut State)
+    ensures { state.new ≡ zeros }
+{
+    state.wipe();
+}

@@ -1,0 +1,15 @@
+use Rattle.std.proofs.Common.{sym, ◌∙◌}
+use Rattle.blake2_rows.specs.Family.{blake2b}
+use Rattle.blake2_plain.specs.Blake2b.{meaning}
+use Rattle.blake2_plain.proofs.StateLaws.{Fresh-given_none, Fresh-given_some}
+use Rattle.blake2_plain.proofs.blake2b.State.new.Goals as goal
+
+pub returns-then-is_empty-clause-fresh : goal.returns-then-is_empty-clause-fresh
+returns-then-is_empty-clause-fresh c =
+    Fresh-given_none meaning blake2b c.args.output_size c.args.salt.now c.args.persona.now c.args.key.now _
+    (sym c.is_empty.ensures ∙ c.if-is_empty.true) c.unkeyed.ensures.fresh
+
+pub returns-clause-fresh : goal.returns-clause-fresh
+returns-clause-fresh c =
+    Fresh-given_some meaning blake2b c.args.output_size c.args.salt.now c.args.persona.now c.args.key.now _
+    (sym c.is_empty.ensures ∙ c.if-is_empty.false) c.under_key.ensures.fresh

@@ -1,0 +1,20 @@
+-- What the constructors of plain states are given.
+use Rattle.std.specs.Prelude.{◌≡◌, ℕ, ◌<◌, ◌⊎◌, List, [], ◌∷◌, length, Option, Some, None}
+use Rattle.blake2_rows.specs.Family.{Family, block_bytes, output_bytes, key_bytes, salt_bytes}
+
+-- the key that bytes stand for: no bytes are no key
+abbrev pub given_key : List ℕ → Option (List ℕ)
+given_key [] = None
+given_key (x ∷ xs) = Some (x ∷ xs)
+
+-- the bytes that it counts for: a block (RFC 7693, 3.3), or none
+abbrev pub given_count : Family → List ℕ → ℕ
+given_count f [] = 0
+given_count f (x ∷ xs) = block_bytes f
+
+-- the output size, the key, the salt or the persona has a length that the family does not take (RFC
+-- 7693, 2.1; the BLAKE2 document, 2.8)
+abbrev pub IsRefused : Family → ℕ → List ℕ → List ℕ → List ℕ → Type 0
+IsRefused f size key salt persona =
+    (size ≡ 0) ⊎ (output_bytes f < size) ⊎ (key_bytes f < length key)
+    ⊎ (salt_bytes f < length salt) ⊎ (salt_bytes f < length persona)

@@ -1,0 +1,308 @@
+//! BLAKE2s, with a state of plain numbers.
+ghost use Rattle.std.specs.Prelude.{◌≡◌, ℕ, ◌+◌, ◌*◌, ◌^◌, ◌<◌, ◌≤◌, ◌↔◌, List, [], ◌++◌, length, take, drop, slice_index, None, Some, IfOk, IsErr, IsTrue};
+ghost use Rattle.blake2_rows.specs.Family.{blake2s};
+ghost use Rattle.blake2_rows.specs.Rows.{eight};
+ghost use Rattle.blake2_words.specs.Hash.{words_of, xor_words};
+ghost use Rattle.blake2_digest.specs.States.{Fresh, Updated, StartedAgain, digest_now};
+ghost use Rattle.blake2.specs.Cores.{CoreState};
+ghost use Rattle.blake2.specs.States.{digest_of};
+ghost use Rattle.blake2_plain.specs.Arguments.{given_key, given_count, IsRefused};
+ghost use Rattle.blake2_plain.specs.Blocks.{block_start, block_digest, IsRefusedBlock};
+ghost use Rattle.blake2_plain.specs.Blake2s.{IsReady, meaning, zeros};
+
+use crate::compare::is_same;
+use blake2::Blake2sVarCore;
+use blake2_digest::{InvalidLength, LazyBuffer, UpdateCore, VariableOutputCore, digest_into};
+use blake2_rows::rows::u32x4;
+use blake2_words::consts::BLAKE2S_IV;
+use blake2_words::words::blake2s::{to_rows, to_words};
+
+/// A run of BLAKE2s as plain numbers. Every value of the fields is a state, and none is unsafe; it
+/// gives digests where it is ready ([`State::is_ready`]), as all are that a constructor has made.
+#[repr(C)]
+#[derive(Drop)]
+pub struct State {
+    /// The chaining words.
+    pub chain: [u32; 8],
+    /// Those that the run started from.
+    pub first: [u32; 8],
+    /// The bytes of the blocks that were compressed.
+    pub counter: u64,
+    /// How many bytes are pending, 0 to 64.
+    pub pending_length: usize,
+    /// How many bytes a start leaves pending: 64 of a key's block, or none.
+    pub start_length: usize,
+    /// The bytes of the digest, 1 to 32.
+    pub output_size: usize,
+    /// The pending bytes, at the beginning.
+    pub pending: [u8; 64],
+    /// The bytes that a start leaves pending, at the beginning.
+    pub start_block: [u8; 64],
+}
+
+// The eight words of a parameter block as two rows.
+fn block_rows(block: &[u8]) -> [u32x4; 2]
+    requires { length block.now ≡ 32 }
+    ensures { eight result ≡ words_of blake2s 8 block.now }
+{
+    [
+        u32x4::from_le_bytes(&block[..16]),
+        u32x4::from_le_bytes(&block[16..32]),
+    ]
+}
+
+// Each of eight words xored with that of the others.
+#[tactic(auto, unfolding(blake2_words::specs::Hash::xor_words))]
+#[inline(always)]
+fn xor_rows(a: [u32x4; 2], b: [u32x4; 2]) -> [u32x4; 2]
+    ensures { eight result ≡ xor_words (eight a) (eight b) }
+{
+    [a[0] ^ b[0], a[1] ^ b[1]]
+}
+
+// The chaining words before the first block (RFC 7693, 3.3): the words of this parameter block xored
+// into the IV.
+fn start_of(block: &[u8]) -> [u32; 8]
+    requires { length block.now ≡ 32 }
+    ensures { result ≡ block_start blake2s block.now }
+{
+    to_words(&xor_rows(to_rows(&BLAKE2S_IV), block_rows(block)))
+}
+
+impl State {
+    /// Whether the state gives digests.
+    pub fn is_ready(&self) -> bool
+        ensures { IsTrue result ↔ IsReady self.now }
+    {
+        self.output_size >= 1
+            && self.output_size <= 32
+            && self.pending_length <= 64
+            && self.start_length <= 64
+            && self.counter <= u64::MAX - self.pending_length as u64
+    }
+
+    /// The state of zeros, which is not ready.
+    pub fn zeros() -> Self
+        ensures { result ≡ zeros }
+    {
+        State {
+            chain: [0; 8],
+            first: [0; 8],
+            counter: 0,
+            pending_length: 0,
+            start_length: 0,
+            output_size: 0,
+            pending: [0; 64],
+            start_block: [0; 64],
+        }
+    }
+
+    /// Sets everything to zero. The state is then not ready.
+    pub fn wipe(&mut self)
+        ensures { self.new ≡ zeros }
+    {
+        *self = Self::zeros();
+    }
+
+    // A state from these words that has taken nothing, under no key.
+    fn starting_from(first: [u32; 8], output_size: usize) -> Self
+        ensures { result ≡ record zeros { chain = first; first = first; output_size = output_size } }
+    {
+        State {
+            chain: first,
+            first,
+            counter: 0,
+            pending_length: 0,
+            start_length: 0,
+            output_size,
+            pending: [0; 64],
+            start_block: [0; 64],
+        }
+    }
+
+    // A state of these parameters that has taken nothing, under no key.
+    fn unkeyed(output_size: usize, salt: &[u8], persona: &[u8]) -> Self
+        requires least { 1 ≤ output_size }
+        requires most { output_size ≤ 32 }
+        requires salt { length salt.now ≤ 8 }
+        requires persona { length persona.now ≤ 8 }
+        ensures ready { IsReady result }
+        ensures size { result.output_size ≡ output_size }
+        ensures fresh { Fresh meaning (digest_of blake2s output_size salt.now persona.now None) 0 result }
+    {
+        let core = Blake2sVarCore::new_with_params(salt, persona, 0, output_size);
+        Self::starting_from(core.first_words(), output_size)
+    }
+
+    // A state under this key that has taken nothing else.
+    fn under_key(output_size: usize, key: &[u8], salt: &[u8], persona: &[u8]) -> Self
+        requires least { 1 ≤ output_size }
+        requires most { output_size ≤ 32 }
+        requires key { length key.now ≤ 32 }
+        requires salt { length salt.now ≤ 8 }
+        requires persona { length persona.now ≤ 8 }
+        ensures ready { IsReady result }
+        ensures size { result.output_size ≡ output_size }
+        ensures fresh { Fresh meaning (digest_of blake2s output_size salt.now persona.now (Some key.now)) 64 result }
+    {
+        let core = Blake2sVarCore::new_with_params(salt, persona, key.len(), output_size);
+        let first = core.first_words();
+        let block = LazyBuffer::<64>::new(key).padded();
+        State {
+            chain: first,
+            first,
+            counter: 0,
+            pending_length: 64,
+            start_length: 64,
+            output_size,
+            pending: block,
+            start_block: block,
+        }
+    }
+
+    /// A state of these parameters that has taken nothing: a digest of 1 to 32 bytes, a key of up to
+    /// 32 (none is no key), a salt and a persona of up to 8 each. Refused exactly for other lengths.
+    pub fn new(
+        output_size: usize,
+        key: &[u8],
+        salt: &[u8],
+        persona: &[u8],
+    ) -> Result<Self, InvalidLength>
+        ensures refused { IsErr result ↔ IsRefused blake2s output_size key.now salt.now persona.now }
+        ensures ready { IfOk result (λ s. IsReady s) }
+        ensures size { IfOk result (λ s. s.output_size ≡ output_size) }
+        ensures fresh { IfOk result (λ s. Fresh meaning
+            (digest_of blake2s output_size salt.now persona.now (given_key key.now)) (given_count blake2s key.now) s) }
+    {
+        if output_size == 0 || output_size > 32 {
+            return Err(InvalidLength);
+        }
+        if key.len() > 32 || salt.len() > 8 || persona.len() > 8 {
+            return Err(InvalidLength);
+        }
+        if key.is_empty() {
+            return Ok(Self::unkeyed(output_size, salt, persona));
+        }
+        Ok(Self::under_key(output_size, key, salt, persona))
+    }
+
+    /// The state of a parameter block (the BLAKE2 document, 2.8) that has taken nothing, of as many
+    /// bytes as the block says. Where the block names a key, the key's block, padded with zeros to 64
+    /// bytes, is the caller's to give as the first input. Refused exactly for a block that has not 32
+    /// bytes, and for one that names a digest of 0 or more than 32 bytes or a key of more than 32.
+    pub fn from_block(block: &[u8]) -> Result<Self, InvalidLength>
+        ensures refused { IsErr result ↔ IsRefusedBlock blake2s block.now }
+        ensures ready { IfOk result (λ s. IsReady s) }
+        ensures size { IfOk result (λ s. s.output_size ≡ slice_index block.now 0) }
+        ensures fresh { IfOk result (λ s. Fresh meaning (block_digest blake2s block.now) 0 s) }
+    {
+        if block.len() != 32 {
+            return Err(InvalidLength);
+        }
+        if block[0] == 0 || block[0] > 32 || block[1] > 32 {
+            return Err(InvalidLength);
+        }
+        Ok(Self::starting_from(start_of(block), block[0] as usize))
+    }
+
+    // The core that the state holds.
+    #[inline]
+    fn core(&self) -> Blake2sVarCore
+        ensures { result ≡ record { h = self.now.chain; start = self.now.first; count = self.now.counter } }
+    {
+        Blake2sVarCore::from_words(&self.chain, &self.first, self.counter)
+    }
+
+    /// How many bytes the state has counted since its last start.
+    pub fn counted(&self) -> u64
+        requires { IsReady self.now }
+        ensures { result ≡ meaning.count self.now }
+    {
+        self.counter + self.pending_length as u64
+    }
+
+    // Takes an input that the pending block has room for.
+    fn keep(&mut self, input: &[u8])
+        requires ready { IsReady self.old }
+        requires room { self.old.pending_length + length input.now ≤ 64 }
+        requires counted { meaning.count self.old + length input.now < 2 ^ 64 }
+        ensures ready { IsReady self.new }
+        ensures size { self.new.output_size ≡ self.old.output_size }
+        ensures updated { Updated meaning self.old input.now self.new }
+    {
+        let pos = self.pending_length;
+        let end = pos + input.len();
+        self.pending[pos..end].copy_from_slice(input);
+        self.pending_length = end;
+    }
+
+    // Takes any input.
+    fn absorb(&mut self, input: &[u8])
+        requires ready { IsReady self.old }
+        requires counted { meaning.count self.old + length input.now < 2 ^ 64 }
+        ensures ready { IsReady self.new }
+        ensures size { self.new.output_size ≡ self.old.output_size }
+        ensures updated { Updated meaning self.old input.now self.new }
+    {
+        let mut core = self.core();
+        let pos = self.pending_length;
+        let held = digest_into(&mut self.pending, pos, input, &mut core);
+        self.pending_length = held;
+        self.chain = core.chain_words();
+        self.counter = core.counted();
+    }
+
+    /// Takes the input after all that was taken before.
+    pub fn update(&mut self, input: &[u8])
+        requires ready { IsReady self.old }
+        requires counted { meaning.count self.old + length input.now < 2 ^ 64 }
+        ensures ready { IsReady self.new }
+        ensures size { self.new.output_size ≡ self.old.output_size }
+        ensures updated { Updated meaning self.old input.now self.new }
+    {
+        // Without this, a few bytes would cost a move of all words to rows and back.
+        if input.len() <= 64 - self.pending_length {
+            self.keep(input);
+        } else {
+            self.absorb(input);
+        }
+    }
+
+    /// Goes back to the start: parameters and key are kept.
+    pub fn reset(&mut self)
+        requires { IsReady self.old }
+        ensures ready { IsReady self.new }
+        ensures size { self.new.output_size ≡ self.old.output_size }
+        ensures reset { StartedAgain meaning self.old self.new }
+    {
+        self.chain = self.first;
+        self.counter = 0;
+        self.pending_length = self.start_length;
+        self.pending = self.start_block;
+    }
+
+    /// Writes the digest of what was taken since the last start at the beginning of `out`. The state
+    /// stays as it is, and can take more.
+    pub fn write_digest(&self, out: &mut [u8])
+        requires ready { IsReady self.now }
+        requires room { self.now.output_size ≤ length out.old }
+        ensures { out.new ≡ digest_now meaning self.now ++ drop self.now.output_size out.old }
+    {
+        let mut core = self.core();
+        let mut buffer = LazyBuffer::<64>::new(&self.pending[..self.pending_length]);
+        let mut whole = [0; 32];
+        core.finalize_variable_core(&mut buffer, &mut whole);
+        let size = self.output_size;
+        out[..size].copy_from_slice(&whole[..size]);
+    }
+
+    /// Whether the tag is the whole digest of what was taken since the last start.
+    pub fn is_digest(&self, tag: &[u8]) -> bool
+        requires { IsReady self.now }
+        ensures { IsTrue result ↔ (tag.now ≡ digest_now meaning self.now) }
+    {
+        let mut whole = [0; 32];
+        self.write_digest(&mut whole);
+        is_same(tag, &whole[..self.output_size])
+    }
+}
