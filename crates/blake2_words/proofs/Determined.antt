@@ -1,10 +1,10 @@
 -- What parameter words, blocks and counters tell of their input.
-use Rattle.std.proofs.Common.{◌≡◌, ℕ, zero, suc, ◌+◌, ◌-◌, ◌*◌, ◌≤◌, inl, inr, List, [], ◌∷◌, ◌++◌, length, take, drop, replicate, bit_xor, refl, sym, ap, ◌∙◌, arith, get_or, length-drop, Option, Some, None}
+use Rattle.std.proofs.Common.{◌≡◌, ℕ, zero, suc, ◌+◌, ◌-◌, ◌*◌, ◌^◌, ◌<◌, ◌≤◌, inl, inr, List, [], ◌∷◌, ◌++◌, length, take, drop, replicate, bit_xor, refl, sym, ap, ◌∙◌, arith, get_or, length-drop, Option, Some, None}
 use Rattle.std.proofs.lemmas.List.{take_at, drop_at, take_all, drop_all, append_assoc, append-nil, take-append-drop, length-take-le, replicate-append-replicate}
 use Rattle.std.proofs.lemmas.Nat.{le_bytes_4, le_bytes_8}
 use Rattle.std.proofs.lemmas.Bool.{cases_lt}
 use Rattle.std.specs.Int.Bits.{xor_assoc, xor_self, xor_zero_l}
-use Rattle.std.specs.Int.{from_le_bytes, to_le_bytes}
+use Rattle.std.specs.Int.{from_le_bytes, to_le_bytes, w32, w64}
 use Rattle.std.specs.List.{concat, flat_map}
 use Rattle.blake2_rows.specs.Family.{Family, blake2b, blake2s, word, word_bytes, block_bytes, key_bytes, salt_bytes, output_bytes, iv}
 use Rattle.blake2_words.specs.Hash.{inner, Fits, Parameters, input_parameters, AreBytes, words_of, bytes_of, xor_words, padded, parameter_block, parameter_words, start, key_block, key_size, cut, block_count, Input, input_data}
@@ -128,6 +128,25 @@ pub record SameParameters (f : Family) (p q : Parameters) : Type 0 where
   pub keys : p.key_size ≡ q.key_size
   pub salts : padded (salt_bytes f) p.salt ≡ padded (salt_bytes f) q.salt
   pub personas : padded (salt_bytes f) p.persona ≡ padded (salt_bytes f) q.persona
+  pub trees : p.tree ≡ q.tree
+
+-- four, six and eight bytes tell a number of as many
+same_4 : (m n : ℕ) → m < 2 ^ 32 → n < 2 ^ 32
+    → ((i : ℕ) → get_or (to_le_bytes w32 m) i 0 ≡ get_or (to_le_bytes w32 n) i 0) → m ≡ n
+same_4 m n hm hn e = omega (arith, e 0, e 1, e 2, e 3)
+
+same_6 : (m n : ℕ) → m < 2 ^ 48 → n < 2 ^ 48
+    → ((i : ℕ) → get_or (take 6 (to_le_bytes w64 m)) i 0 ≡ get_or (take 6 (to_le_bytes w64 n)) i 0) → m ≡ n
+same_6 m n hm hn e = omega (arith, e 0, e 1, e 2, e 3, e 4, e 5)
+
+same_8 : (m n : ℕ) → m < 2 ^ 64 → n < 2 ^ 64
+    → ((i : ℕ) → get_or (to_le_bytes w64 m) i 0 ≡ get_or (to_le_bytes w64 n) i 0) → m ≡ n
+same_8 m n hm hn e = omega (arith, e 0, e 1, e 2, e 3, e 4, e 5, e 6, e 7)
+
+-- equal lists have equal parts
+part : (k n : ℕ) (xs ys : List ℕ) → xs ≡ ys
+    → (i : ℕ) → get_or (take n (drop k xs)) i 0 ≡ get_or (take n (drop k ys)) i 0
+part k n xs ys h i = ap (λ (l : List ℕ). get_or (take n (drop k l)) i 0) h
 
 -- equal parameter blocks do
 parameter_block_cancel : (f : Family) (p q : Parameters) → Fits f p → Fits f q
@@ -136,11 +155,47 @@ unfolding parameter_block
 parameter_block_cancel blake2b p q hp hq h =
     let texts : padded 16 p.salt ++ padded 16 p.persona ≡ padded 16 q.salt ++ padded 16 q.persona = ap (drop 32) h in
     let parts = append_parts 16 (padded 16 p.salt) (padded 16 p.persona) (padded 16 q.salt) (padded 16 q.persona) (length-padded 16 p.salt hp.salt) (length-padded 16 q.salt hq.salt) texts in
-    record { sizes = ap (λ (l : List ℕ). get_or l 0 0) h; keys = ap (λ (l : List ℕ). get_or l 1 0) h; salts = parts.0; personas = parts.1 }
+    let at = λ (i : ℕ). ap (λ (l : List ℕ). get_or l i 0) h in
+    let leaf : p.tree.leaf_length ≡ q.tree.leaf_length =
+    same_4 _ _ hp.tree.leaf_length hq.tree.leaf_length (part 4 4 _ _ h) in
+    let offset : p.tree.node_offset ≡ q.tree.node_offset =
+    same_8 _ _ hp.tree.node_offset hq.tree.node_offset (part 8 8 _ _ h) in
+    record {
+      sizes = at 0;
+      keys = at 1;
+      salts = parts.0;
+      personas = parts.1;
+      trees = λ i. record {
+        fanout = at 2 i;
+        depth = at 3 i;
+        leaf_length = leaf i;
+        node_offset = offset i;
+        node_depth = at 16 i;
+        inner_length = at 17 i;
+      };
+    }
 parameter_block_cancel blake2s p q hp hq h =
     let texts : padded 8 p.salt ++ padded 8 p.persona ≡ padded 8 q.salt ++ padded 8 q.persona = ap (drop 16) h in
     let parts = append_parts 8 (padded 8 p.salt) (padded 8 p.persona) (padded 8 q.salt) (padded 8 q.persona) (length-padded 8 p.salt hp.salt) (length-padded 8 q.salt hq.salt) texts in
-    record { sizes = ap (λ (l : List ℕ). get_or l 0 0) h; keys = ap (λ (l : List ℕ). get_or l 1 0) h; salts = parts.0; personas = parts.1 }
+    let at = λ (i : ℕ). ap (λ (l : List ℕ). get_or l i 0) h in
+    let leaf : p.tree.leaf_length ≡ q.tree.leaf_length =
+    same_4 _ _ hp.tree.leaf_length hq.tree.leaf_length (part 4 4 _ _ h) in
+    let offset : p.tree.node_offset ≡ q.tree.node_offset =
+    same_6 _ _ hp.tree.node_offset hq.tree.node_offset (part 8 6 _ _ h) in
+    record {
+      sizes = at 0;
+      keys = at 1;
+      salts = parts.0;
+      personas = parts.1;
+      trees = λ i. record {
+        fanout = at 2 i;
+        depth = at 3 i;
+        leaf_length = leaf i;
+        node_offset = offset i;
+        node_depth = at 14 i;
+        inner_length = at 15 i;
+      };
+    }
 
 -- and so do equal parameter words
 pub parameter_words_cancel : (f : Family) (p q : Parameters) → AreParameters f p → AreParameters f q
@@ -182,6 +237,7 @@ accepted-fits f size a p h = record {
   key_size = key_size-le f a.key p.key_fits;
   salt = p.salt_fits;
   persona = p.persona_fits;
+  tree = p.tree;
 }
 
 -- and their texts are bytes
@@ -199,7 +255,7 @@ pub determined : (f : Family) (size size' : ℕ) (a b : Input) → Accepts f a �
 determined f size size' a b p q h h' words joined =
     let same = parameter_words_cancel f (input_parameters size a) (input_parameters size' b) (accepted-parameters f size a p h) (accepted-parameters f size' b q h') words in
     let both = same_key f a.key b.key a.message b.message p.key_fits q.key_fits same.keys joined in
-    (same.sizes, record { salt = same.salts; persona = same.personas; key = both.0; message = both.1 })
+    (same.sizes, record { salt = same.salts; persona = same.personas; key = both.0; tree = same.trees; message = both.1 })
 
 -- THE LAW: a transcript determines its size and input
 pub transcripts_determine : (f : Family) → TranscriptsDetermine f

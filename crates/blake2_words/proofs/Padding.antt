@@ -1,8 +1,9 @@
 -- Lists with zeros at their end.
 use Rattle.std.proofs.Common.{◌≡◌, ℕ, zero, suc, ◌-◌, ◌<◌, ◌≤◌, inl, inr, List, ◌++◌, length, take, replicate, refl, sym, ap, ◌∙◌, arith, get_or}
-use Rattle.std.proofs.lemmas.List.{get_or-take, get_or-append_right, get_or_append_left, length-take-le, append-nil}
+use Rattle.std.proofs.lemmas.List.{get_or-take, get_or-append_right, get_or_append_left, get_or_past, length-take-le, append-nil}
 use Rattle.std.proofs.lemmas.Grind.{same_number_lists}
 use Rattle.std.proofs.lemmas.Bool.{cases_lt}
+use Rattle.std.specs.Int.{from_le_bytes, w32, w64}
 use Rattle.blake2_words.specs.Hash.{padded}
 use Rattle.blake2_words.proofs.Sizes.{length-padded}
 
@@ -37,3 +38,20 @@ zeros_after xs k h zeros =
       | inl below ↦ sym (padded-before (length xs) (take k xs) i (omega arith) ∙ get_or-take k xs i 0 below)
       | inr past ↦ zeros i past ∙ sym (padded-past (length xs) (take k xs) i (omega arith))
     ])
+
+-- zeros behind bytes leave each of them, and what they are read as
+padded-at : (n : ℕ) (z : List ℕ) (i : ℕ) → get_or (padded n z) i 0 ≡ get_or z i 0
+padded-at n z i = elim (cases_lt i (length z)) [
+  | inl below ↦ padded-before n z i below
+  | inr past ↦ padded-past n z i past ∙ sym (get_or_past z i 0 past)
+]
+
+pub read_padded_4 : (n : ℕ) (z : List ℕ) → from_le_bytes w32 (padded n z) ≡ from_le_bytes w32 z
+read_padded_4 n z =
+    let at = padded-at n z in
+    omega (arith, at 0, at 1, at 2, at 3)
+
+pub read_padded_8 : (n : ℕ) (z : List ℕ) → from_le_bytes w64 (padded n z) ≡ from_le_bytes w64 z
+read_padded_8 n z =
+    let at = padded-at n z in
+    omega (arith, at 0, at 1, at 2, at 3, at 4, at 5, at 6, at 7)

@@ -1,10 +1,12 @@
 -- Words and entries are the transcript of some input exactly where the reader's tests hold.
-use Rattle.std.proofs.Common.{◌≡◌, ℕ, zero, suc, ◌+◌, ◌-◌, ◌*◌, ◌<◌, ◌≤◌, inl, inr, List, ◌++◌, length, take, drop, refl, sym, ap, subst, ◌∙◌, arith, get_or, length-append, Option, Some, None}
+use Rattle.std.proofs.Common.{◌≡◌, ℕ, zero, suc, ◌+◌, ◌-◌, ◌*◌, ◌^◌, ◌<◌, ◌≤◌, inl, inr, List, ◌++◌, length, take, drop, refl, sym, ap, subst, ◌∙◌, arith, get_or, length-append, Option, Some, None}
 use Rattle.std.proofs.lemmas.List.{take_at, drop_at, get_or-take, get_or_append_left, length-take-le, take-append-drop, get_or_default}
 use Rattle.std.proofs.lemmas.Grind.{same_number_lists}
 use Rattle.std.proofs.lemmas.Bool.{cases_lt}
+use Rattle.std.proofs.lemmas.Nat.{from_le_bytes-to_le_bytes_4, from_le_bytes-to_le_bytes_8}
+use Rattle.std.specs.Int.{from_le_bytes, to_le_bytes, w32, w64}
 use Rattle.blake2_rows.specs.Family.{Family, blake2b, blake2s, block_bytes, key_bytes, offset_bytes, reserved_bytes, salt_bytes}
-use Rattle.blake2_words.specs.Hash.{AreBytes, Fits, Input, Parameters, bytes_of, words_of, block_count, padded, parameter_block, parameter_words, parameters_of, input_parameters, input_data, data_bytes, key_block, key_size}
+use Rattle.blake2_words.specs.Hash.{AreBytes, Fits, Input, Parameters, bytes_of, words_of, block_count, padded, parameter_block, parameter_words, input_parameters, input_data, data_bytes, key_block, key_size}
 use Rattle.blake2_words.specs.Inputs.{KeyFits}
 use Rattle.blake2_words.specs.Transcript.{Entry, joined, Reads, ReadsOnly, IsOfSomeInput}
 use Rattle.blake2_words.specs.Run.{no_entry}
@@ -29,6 +31,7 @@ whole-fits f p h = record {
   key_size = h.key_size;
   salt = omega (arith, length-padded (salt_bytes f) p.salt h.salt);
   persona = omega (arith, length-padded (salt_bytes f) p.persona h.persona);
+  tree = h.tree;
 }
 
 -- and have the same words
@@ -39,6 +42,10 @@ whole-words f p h =
     (padded-whole (salt_bytes f) _ (length-padded (salt_bytes f) p.salt h.salt))
     (padded-whole (salt_bytes f) _ (length-padded (salt_bytes f) p.persona h.persona)))
 
+-- six bytes of a number that has no more tell it
+six_bytes : (n : ℕ) → n < 2 ^ 48 → from_le_bytes w64 (take 6 (to_le_bytes w64 n)) ≡ n
+six_bytes n h = omega (arith, h)
+
 -- a parameter block names them
 parameters_in-block : (f : Family) (p : Parameters) → Fits f p → parameters_in f (parameter_block f p) ≡ whole f p
 unfolding parameter_block
@@ -46,12 +53,28 @@ parameters_in-block blake2b p h =
     let front : length (padded 16 p.salt) ≡ 16 = length-padded 16 p.salt h.salt in
     let salt : take 16 (padded 16 p.salt ++ padded 16 p.persona) ≡ padded 16 p.salt = take_at (padded 16 p.salt) (padded 16 p.persona) 16 front in
     let persona : drop 16 (padded 16 p.salt ++ padded 16 p.persona) ≡ padded 16 p.persona = drop_at (padded 16 p.salt) (padded 16 p.persona) 16 front in
-    λ i. record { size = p.size; key_size = p.key_size; salt = salt i; persona = persona i }
+    let leaf = from_le_bytes-to_le_bytes_4 p.tree.leaf_length h.tree.leaf_length in
+    let offset = from_le_bytes-to_le_bytes_8 p.tree.node_offset h.tree.node_offset in
+    λ i. record {
+      size = p.size;
+      key_size = p.key_size;
+      salt = salt i;
+      persona = persona i;
+      tree = record p.tree { leaf_length = leaf i; node_offset = offset i };
+    }
 parameters_in-block blake2s p h =
     let front : length (padded 8 p.salt) ≡ 8 = length-padded 8 p.salt h.salt in
     let salt : take 8 (padded 8 p.salt ++ padded 8 p.persona) ≡ padded 8 p.salt = take_at (padded 8 p.salt) (padded 8 p.persona) 8 front in
     let persona : drop 8 (padded 8 p.salt ++ padded 8 p.persona) ≡ padded 8 p.persona = drop_at (padded 8 p.salt) (padded 8 p.persona) 8 front in
-    λ i. record { size = p.size; key_size = p.key_size; salt = salt i; persona = persona i }
+    let leaf = from_le_bytes-to_le_bytes_4 p.tree.leaf_length h.tree.leaf_length in
+    let offset = six_bytes p.tree.node_offset h.tree.node_offset in
+    λ i. record {
+      size = p.size;
+      key_size = p.key_size;
+      salt = salt i;
+      persona = persona i;
+      tree = record p.tree { leaf_length = leaf i; node_offset = offset i };
+    }
 
 -- THE LAW: so the bytes of parameter words name the parameters, with those zeros
 parameters_in-words : (f : Family) (p : Parameters) → AreParameters f p → parameters_in f (bytes_of f (parameter_words f p)) ≡ whole f p
@@ -142,11 +165,12 @@ readable_reads f p words entries named typed test =
         counted = rw ld typed.counter;
         salt_bytes = AreBytes-padded (salt_bytes f) p.salt texts.0;
         persona_bytes = AreBytes-padded (salt_bytes f) p.persona texts.1;
+        tree = test.fits.tree;
         message_bytes = told_message-bytes f kk z bytes;
       };
       is = record {
         parameters = test.words_are ∙ sym (whole-words f p test.fits)
-            ∙ ap (λ (m : ℕ). parameter_words f (parameters_of p.size m a.salt a.persona)) key_is;
+            ∙ ap (λ (m : ℕ). parameter_words f (record (whole f p) { key_size = m })) key_is;
         number = test.run.number ∙ ap (block_count f) (sym ld);
         below = λ i d h.
             let here = test.run.below i h in

@@ -2,15 +2,15 @@
 use Rattle.std.proofs.Common.{◌≡◌, ℕ, zero, suc, ◌+◌, ◌-◌, ◌*◌, ◌/◌, ◌%◌, ◌^◌, ◌<◌, ◌≤◌, Bool, true, false, List, [], ◌∷◌, ◌++◌, length, take, drop, replicate, refl, sym, ap, ◌∙◌, arith, length-append, length-drop, pow_pos, mod-lt}
 use Rattle.std.proofs.lemmas.List.{length-take-le, length-replicate, get_or-drop}
 use Rattle.std.proofs.lemmas.Nat.{xor_lt}
-use Rattle.std.specs.Int.{from_le_bytes, to_le_bytes, bytes_low_first}
+use Rattle.std.specs.Int.{from_le_bytes, to_le_bytes, bytes_low_first, w32, w64}
 use Rattle.std.specs.Prelude.{if◌then◌else◌}
 use Rattle.std.specs.List.{flat_map}
 use mir.Val.{bits}
-use Rattle.blake2_rows.specs.Family.{Family, blake2b, blake2s, word, word_bytes, block_bytes, key_bytes, output_bytes, iv, rounds}
+use Rattle.blake2_rows.specs.Family.{Family, blake2b, blake2s, word, word_bytes, block_bytes, key_bytes, output_bytes, offset_bytes, iv, rounds}
 use Rattle.blake2_rows.specs.Round.{AreWords}
 use Rattle.blake2_rows.proofs.Texts.{AreBytes-append}
 use Rattle.blake2_rows.proofs.Words.{length-round, AreWords-round}
-use Rattle.blake2_words.specs.Hash.{input_flags, Fits, Flags, inner, Parameters, input_parameters, AreBytes, words_of, bytes_of, xor_words, padded, after_rounds, before_rounds, compress, parameter_block, parameter_words, start, chain, last_chain, Input, input_start, input_data, digest}
+use Rattle.blake2_words.specs.Hash.{input_flags, Fits, Flags, inner, Parameters, input_parameters, AreBytes, words_of, bytes_of, xor_words, padded, after_rounds, before_rounds, compress, parameter_block, parameter_words, start, chain, last_chain, Input, input_start, input_data, digest, Tree}
 
 -- ---- words
 
@@ -196,6 +196,13 @@ AreBytes-padded n xs a = AreBytes-append xs _ a (AreBytes-zeros (n - length xs))
 
 -- ---- the parameter block and the start words
 
+-- the digits of a number in base 256 are bytes
+AreBytes-low : (i n x : ℕ) → AreBytes (bytes_low_first i n x)
+AreBytes-low i zero x k = omega arith
+AreBytes-low zero (suc n) x zero = omega arith
+AreBytes-low (suc i) (suc n) x zero = mod-lt (x / 256 ^ suc i) (omega arith)
+AreBytes-low i (suc n) x (suc k) = AreBytes-low (suc i) n x k
+
 -- a byte before bytes
 AreBytes-cons : (x : ℕ) (xs : List ℕ) → x < 256 → AreBytes xs → AreBytes (x ∷ xs)
 AreBytes-cons x xs lt a zero = lt
@@ -217,15 +224,25 @@ pub AreBytes-parameter_block : (f : Family) (p : Parameters) → AreParameters f
 unfolding parameter_block
 AreBytes-parameter_block f p h =
     let limits = key_bytes_fit f in
-    let last : AreBytes (1 ∷ []) = AreBytes-cons 1 [] (omega arith) (AreBytes-zeros 0) in
-    let front : AreBytes (p.size ∷ p.key_size ∷ 1 ∷ 1 ∷ []) =
-    AreBytes-cons p.size (p.key_size ∷ 1 ∷ 1 ∷ []) (omega (arith, h.fits.size))
-    (AreBytes-cons p.key_size (1 ∷ 1 ∷ []) (omega (arith, h.fits.key_size)) (AreBytes-cons 1 (1 ∷ []) (omega arith) last)) in
-    let two : AreBytes (0 ∷ 0 ∷ []) = AreBytes-zeros 2 in
-    let leaf : AreBytes (replicate 4 0) = AreBytes-zeros 4 in
+    let t : Tree = p.tree in
+    let fits = h.fits.tree in
+    let depth : AreBytes (t.depth ∷ []) =
+    AreBytes-cons t.depth [] (omega (arith, fits.depth)) (AreBytes-zeros 0) in
+    let fanout : AreBytes (t.fanout ∷ t.depth ∷ []) =
+    AreBytes-cons t.fanout (t.depth ∷ []) (omega (arith, fits.fanout)) depth in
+    let front : AreBytes (p.size ∷ p.key_size ∷ t.fanout ∷ t.depth ∷ []) =
+    AreBytes-cons p.size (p.key_size ∷ t.fanout ∷ t.depth ∷ []) (omega (arith, h.fits.size))
+    (AreBytes-cons p.key_size (t.fanout ∷ t.depth ∷ []) (omega (arith, h.fits.key_size)) fanout) in
+    let inner_length : AreBytes (t.inner_length ∷ []) =
+    AreBytes-cons t.inner_length [] (omega (arith, fits.inner_length)) (AreBytes-zeros 0) in
+    let node : AreBytes (t.node_depth ∷ t.inner_length ∷ []) =
+    AreBytes-cons t.node_depth (t.inner_length ∷ []) (omega (arith, fits.node_depth)) inner_length in
+    let leaf : AreBytes (to_le_bytes w32 t.leaf_length) = AreBytes-low 0 4 t.leaf_length in
+    let offset : AreBytes (take (offset_bytes f) (to_le_bytes w64 t.node_offset)) =
+    AreBytes-take (offset_bytes f) _ (AreBytes-low 0 8 t.node_offset) in
     let salt : AreBytes p.salt = h.salt_are in
     let persona : AreBytes p.persona = h.persona_are in
-    search (AreBytes-append, AreBytes-zeros, AreBytes-padded, front, two, leaf, salt, persona) depth 12
+    search (AreBytes-append, AreBytes-zeros, AreBytes-padded, front, leaf, offset, node, salt, persona) depth 12
 
 -- the parameter block fills eight words
 pub length-parameter_block : (f : Family) (p : Parameters) → Fits f p → length (parameter_block f p) ≡ 8 * word_bytes f
@@ -303,13 +320,6 @@ length-digest f size a fits =
     eight_words blake2s = refl
 
 -- ---- the digest's bytes
-
--- the digits of a number in base 256 are bytes
-AreBytes-low : (i n x : ℕ) → AreBytes (bytes_low_first i n x)
-AreBytes-low i zero x k = omega arith
-AreBytes-low zero (suc n) x zero = omega arith
-AreBytes-low (suc i) (suc n) x zero = mod-lt (x / 256 ^ suc i) (omega arith)
-AreBytes-low i (suc n) x (suc k) = AreBytes-low (suc i) n x k
 
 -- the bytes of a word are bytes
 AreBytes-le_bytes : (f : Family) (x : ℕ) → AreBytes (to_le_bytes (word f) x)

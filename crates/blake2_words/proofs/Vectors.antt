@@ -7,11 +7,11 @@ use Rattle.blake2_rows.specs.Family.{blake2b, blake2s}
 use Rattle.blake2_rows.specs.Round.{mix, round}
 use Rattle.blake2_words.specs.Hash.{words_of, bytes_of, xor_words, padded, after_rounds}
 use Rattle.blake2_words.specs.Hash.{before_rounds, compress, parameter_block, parameter_words}
-use Rattle.blake2_words.specs.Hash.{start, key_block, cut, chain, last_chain, Input, digest}
+use Rattle.blake2_words.specs.Hash.{start, key_block, cut, chain, last_chain, Input, digest, sequential}
 
 -- an input without salt, persona and key
 abbrev no_key : List ℕ → Input
-no_key m = record { salt = []; persona = []; key = None; message = m }
+no_key m = record { salt = []; persona = []; key = None; tree = sequential; message = m }
 
 -- a key of the bytes 0 to 31 and the persona `personal`
 abbrev keyed_with_persona : Input
@@ -19,12 +19,13 @@ keyed_with_persona = record {
   salt = [];
   persona = codes "personal";
   key = Some (range_with_len 0 32);
+  tree = sequential;
   message = [];
 }
 
 -- the message `abc` with the persona `personal` and this salt
 abbrev salted : List ℕ → Input
-salted salt = record { salt = salt; persona = codes "personal"; key = None; message = codes "abc" }
+salted salt = record { salt = salt; persona = codes "personal"; key = None; tree = sequential; message = codes "abc" }
 
 -- what a digest is computed by
 computed : ℕ

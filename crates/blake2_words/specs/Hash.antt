@@ -1,8 +1,8 @@
 -- BLAKE2b and BLAKE2s as functions on lists of numbers. Section numbers are those of RFC 7693.
-use Rattle.std.specs.Prelude.{ℕ, zero, suc, ◌+◌, ◌-◌, ◌*◌, ◌/◌, ◌%◌, ◌^◌, ◌≤◌, min, nat_eq, Bool}
-use Rattle.std.specs.Prelude.{true, false, if◌then◌else◌, List, [], ◌∷◌, ◌++◌, length, map, take}
+use Rattle.std.specs.Prelude.{ℕ, zero, suc, ◌+◌, ◌-◌, ◌*◌, ◌/◌, ◌%◌, ◌^◌, ◌<◌, ◌≤◌, min, nat_eq}
+use Rattle.std.specs.Prelude.{Bool, true, false, if◌then◌else◌, List, [], ◌∷◌, ◌++◌, length, map, take}
 use Rattle.std.specs.Prelude.{drop, replicate, bit_xor, slice_index_or, Option, Some, None}
-use Rattle.std.specs.Int.{from_le_bytes, to_le_bytes}
+use Rattle.std.specs.Int.{from_le_bytes, to_le_bytes, w32, w64}
 use Rattle.std.specs.List.{flat_map, range_with_len}
 use mir.Val.{bits}
 use Rattle.blake2_rows.specs.Blocks
@@ -65,19 +65,57 @@ compress f h block t flags =
     let v = after_rounds f (before_rounds f h t flags) (words_of f 16 block) (rounds f) in
     xor_words (xor_words h (take 8 v)) (drop 8 v)
 
--- ---- the parameter block, of one sequential use (2.5; the BLAKE2 document, 2.8)
+-- ---- the parameter block (2.5; the BLAKE2 document, 2.8)
 
--- what the parameter block names: the bytes of the digest and of the key, the salt and the persona
+-- the place of a hash in a tree of hashes (the BLAKE2 document, 2.8 and 2.10)
+pub record Tree : Type 0 where
+  pub fanout : ℕ
+  pub depth : ℕ
+  pub leaf_length : ℕ
+  pub node_offset : ℕ
+  pub node_depth : ℕ
+  pub inner_length : ℕ
+
+-- that of a hash which is the whole tree: fanout and depth are 1 (2.5)
+abbrev pub sequential : Tree
+sequential = record {
+  fanout = 1;
+  depth = 1;
+  leaf_length = 0;
+  node_offset = 0;
+  node_depth = 0;
+  inner_length = 0;
+}
+
+-- each number has room in its field of the parameter block, there is a level at least, and an inner
+-- node's digest is not longer than the longest (the BLAKE2 document, 2.8 and 2.10)
+pub record AdmitsTree (f : Family) (t : Tree) : Type 0 where
+  pub fanout : t.fanout < 2 ^ 8
+  pub depth_given : 1 ≤ t.depth
+  pub depth : t.depth < 2 ^ 8
+  pub leaf_length : t.leaf_length < 2 ^ 32
+  pub node_offset : t.node_offset < 2 ^ (8 * offset_bytes f)
+  pub node_depth : t.node_depth < 2 ^ 8
+  pub inner_length : t.inner_length ≤ output_bytes f
+
+-- what the parameter block names: the bytes of the digest and of the key, the salt, the persona and
+-- the place in a tree
 pub record Parameters : Type 0 where
   pub size : ℕ
   pub key_size : ℕ
   pub salt : List ℕ
   pub persona : List ℕ
+  pub tree : Tree
 
--- a record of them
+-- those of a hash which is the whole tree
 abbrev pub parameters_of : ℕ → ℕ → List ℕ → List ℕ → Parameters
-parameters_of size key_size salt persona =
-    record { size = size; key_size = key_size; salt = salt; persona = persona }
+parameters_of size key_size salt persona = record {
+  size = size;
+  key_size = key_size;
+  salt = salt;
+  persona = persona;
+  tree = sequential;
+}
 
 -- they are within the limits of the family (2.1; the BLAKE2 document, 2.8)
 pub record Fits (f : Family) (p : Parameters) : Type 0 where
@@ -85,14 +123,16 @@ pub record Fits (f : Family) (p : Parameters) : Type 0 where
   pub key_size : p.key_size ≤ key_bytes f
   pub salt : length p.salt ≤ salt_bytes f
   pub persona : length p.persona ≤ salt_bytes f
+  pub tree : AdmitsTree f p.tree
 
--- its bytes, 64 for BLAKE2b and 32 for BLAKE2s, with salt and persona padded by zeros
+-- its bytes, 64 for BLAKE2b and 32 for BLAKE2s: numbers low byte first, and salt and persona padded
+-- by zeros
 unfoldable pub parameter_block : Family → Parameters → List ℕ
 parameter_block f p =
-    p.size ∷ p.key_size ∷ 1 ∷ 1 ∷ []  -- digest length, key length, fanout, depth
-    ++ replicate 4 0  -- leaf length
-    ++ replicate (offset_bytes f) 0  -- node offset
-    ++ 0 ∷ 0 ∷ []  -- node depth, inner length
+    p.size ∷ p.key_size ∷ p.tree.fanout ∷ p.tree.depth ∷ []
+    ++ to_le_bytes w32 p.tree.leaf_length
+    ++ take (offset_bytes f) (to_le_bytes w64 p.tree.node_offset)
+    ++ p.tree.node_depth ∷ p.tree.inner_length ∷ []
     ++ replicate (reserved_bytes f) 0
     ++ padded (salt_bytes f) p.salt ++ padded (salt_bytes f) p.persona
 
@@ -153,6 +193,7 @@ pub record Input : Type 0 where
   pub salt : List ℕ
   pub persona : List ℕ
   pub key : Option (List ℕ)
+  pub tree : Tree
   pub message : List ℕ
 
 -- the bytes that are cut into its blocks
@@ -161,7 +202,13 @@ input_data f a = data_bytes f a.key a.message
 
 -- its parameters, with that many bytes of digest
 abbrev pub input_parameters : ℕ → Input → Parameters
-input_parameters size a = parameters_of size (key_size a.key) a.salt a.persona
+input_parameters size a = record {
+  size = size;
+  key_size = key_size a.key;
+  salt = a.salt;
+  persona = a.persona;
+  tree = a.tree;
+}
 
 -- the flags of its last compression
 abbrev pub input_flags : Input → Flags

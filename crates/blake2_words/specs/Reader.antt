@@ -2,21 +2,37 @@
 -- Section numbers are those of RFC 7693.
 use Rattle.std.specs.Prelude.{◌≡◌, ℕ, zero, suc, ◌+◌, ◌-◌, ◌*◌, ◌^◌, ◌<◌, ◌≤◌, List, length, take}
 use Rattle.std.specs.Prelude.{drop, slice_index, slice_index_or, Option, Some, None}
+use Rattle.std.specs.Int.{from_le_bytes, w32, w64}
 use Rattle.blake2_rows.specs.Family.{Family, block_bytes, offset_bytes, reserved_bytes, salt_bytes}
 use Rattle.blake2_words.specs.Hash.{AreBytes, Input, inner, final, block_count, padded}
-use Rattle.blake2_words.specs.Hash.{Fits, Parameters, parameter_words, parameters_of}
+use Rattle.blake2_words.specs.Hash.{Fits, Parameters, parameter_words, Tree}
 use Rattle.blake2_words.specs.Transcript.{Entry, joined}
 use Rattle.blake2_words.specs.Run.{no_entry}
 
 -- ---- the parameters
 
--- what a parameter block names, at the places of digest length, key length, salt and persona (the
--- BLAKE2 document, 2.8)
+-- what a parameter block names, at the places of its fields (the BLAKE2 document, 2.8)
+abbrev pub tree_in : Family → List ℕ → Tree
+tree_in f block =
+    let o = offset_bytes f in record {
+      fanout = slice_index block 2;
+      depth = slice_index block 3;
+      leaf_length = from_le_bytes w32 (take 4 (drop 4 block));
+      node_offset = from_le_bytes w64 (take o (drop 8 block));
+      node_depth = slice_index block (8 + o);
+      inner_length = slice_index block (8 + o + 1);
+    }
+
 abbrev pub parameters_in : Family → List ℕ → Parameters
 parameters_in f block =
     let s = salt_bytes f in
-    let texts = drop (8 + offset_bytes f + 2 + reserved_bytes f) block in
-    parameters_of (slice_index block 0) (slice_index block 1) (take s texts) (drop s texts)
+    let texts = drop (8 + offset_bytes f + 2 + reserved_bytes f) block in record {
+      size = slice_index block 0;
+      key_size = slice_index block 1;
+      salt = take s texts;
+      persona = drop s texts;
+      tree = tree_in f block;
+    }
 
 -- ---- the entries of a run
 
@@ -87,6 +103,7 @@ told_input f p entries = record {
   salt = padded (salt_bytes f) p.salt;
   persona = padded (salt_bytes f) p.persona;
   key = told_key p.key_size (told_data entries);
+  tree = p.tree;
   message = told_message f p.key_size (told_data entries);
 }
 

@@ -3,14 +3,26 @@ use Rattle.std.specs.Prelude.{ℕ, List, map, Option, Some, None}
 use Rattle.std.specs.Global.{Vec}
 use Rattle.std.specs.Borrow.{Bor}
 use Rattle.blake2_words.specs.declared.params.Parameters as GivenParameters
+use Rattle.blake2_words.specs.declared.params.Tree as GivenTree
 use Rattle.blake2_words.specs.declared.words.Flags as GivenFlags
 use Rattle.blake2_words.specs.declared.steps.Input as GivenInput
 use Rattle.blake2_words.specs.declared.steps.Entry as GivenEntry
 use Rattle.blake2_words.specs.declared.steps.Step as GivenStep
 use Rattle.blake2_words.specs.declared.steps.Transcript as GivenTranscript
 use Rattle.blake2_words.specs.declared.steps.Reading as GivenReading
-use Rattle.blake2_words.specs.Hash.{flags, Flags, Input, Parameters, Step}
+use Rattle.blake2_words.specs.Hash.{flags, Flags, Input, Parameters, Step, Tree}
 use Rattle.blake2_words.specs.Transcript.{Entry}
+
+-- a place in a tree
+abbrev pub tree_of : GivenTree.Tree → Tree
+tree_of t = record {
+  fanout = t.fanout;
+  depth = t.depth;
+  leaf_length = t.leaf_length;
+  node_offset = t.node_offset;
+  node_depth = t.node_depth;
+  inner_length = t.inner_length;
+}
 
 -- what a parameter block names
 abbrev pub given_parameters : GivenParameters.Parameters → Parameters
@@ -19,6 +31,7 @@ given_parameters p = record {
   key_size = p.key_size;
   salt = p.salt.now;
   persona = p.persona.now;
+  tree = tree_of p.tree;
 }
 
 -- the flags of a compression
@@ -36,6 +49,7 @@ input_of a = record {
   salt = a.salt.now;
   persona = a.persona.now;
   key = key_of a.key;
+  tree = tree_of a.tree;
   message = a.message.now;
 }
 
@@ -62,5 +76,6 @@ reading_of r = record {
   salt = r.salt;
   persona = r.persona;
   key = items_of r.key;
+  tree = tree_of r.tree;
   message = r.message.items;
 }

@@ -4,13 +4,52 @@
 pub mod blake2b;
 pub mod blake2s;
 
-ghost use Rattle.std.specs.Prelude.{◌≡◌, ◌+◌};
+ghost use Rattle.std.specs.Prelude.{◌≡◌, ◌+◌, ◌≤◌, length};
 ghost use Rattle.blake2_rows.specs.Family.{Family, offset_bytes, reserved_bytes, salt_bytes};
 ghost use Rattle.blake2_words.specs.Hash;
 ghost use Rattle.blake2_words.specs.Hash.{Fits};
-ghost use Rattle.blake2_words.specs.Views.{given_parameters};
+ghost use Rattle.blake2_words.specs.Reader;
+ghost use Rattle.blake2_words.specs.Views.{given_parameters, tree_of};
 
-/// What the parameter block of one sequential use names (RFC 7693, 2.5; the BLAKE2 document, 2.8).
+use crate::steps::blocks::with_zeros;
+
+/// The place of a hash in a tree of hashes (the BLAKE2 document, 2.10), as its parameter block names
+/// it (2.8). A core's `admits_tree` tells which of them its family takes.
+#[derive(Clone, Copy, Debug, PartialEq, Eq)]
+pub struct Tree {
+    /// How many children a node has at most; 0 is without a limit.
+    pub fanout: u8,
+    /// How many levels the tree has, 1 at least.
+    pub depth: u8,
+    /// How many bytes of the message a leaf takes at most; 0 is without a limit.
+    pub leaf_length: u32,
+    /// The place of this node in its level, from 0; less than 2^48 in BLAKE2s.
+    pub node_offset: u64,
+    /// The level of this node, from 0, that of the leaves.
+    pub node_depth: u8,
+    /// The bytes of an inner node's digest, at most 64 in BLAKE2b and 32 in BLAKE2s.
+    pub inner_length: u8,
+}
+
+impl Tree {
+    /// That of a hash which is the whole tree: fanout and depth are 1, all else is 0 (RFC 7693, 2.5;
+    /// the BLAKE2 document, 2.10).
+    #[inline]
+    pub fn sequential() -> Self
+        ensures { tree_of result ≡ Hash.sequential }
+    {
+        Tree {
+            fanout: 1,
+            depth: 1,
+            leaf_length: 0,
+            node_offset: 0,
+            node_depth: 0,
+            inner_length: 0,
+        }
+    }
+}
+
+/// What a parameter block names (RFC 7693, 2.5; the BLAKE2 document, 2.8).
 #[derive(Clone, Copy)]
 pub struct Parameters<'a> {
     /// The bytes of the digest, at most 64 in BLAKE2b and 32 in BLAKE2s.
@@ -21,6 +60,8 @@ pub struct Parameters<'a> {
     pub salt: &'a [u8],
     /// At most 16 bytes in BLAKE2b and 8 in BLAKE2s; zeros behind it change nothing.
     pub persona: &'a [u8],
+    /// The place in a tree.
+    pub tree: Tree,
 }
 
 // The N bytes of the parameter block, field by field (the BLAKE2 document, 2.8): the node offset
@@ -31,6 +72,7 @@ fn parameter_block<const N: usize, const O: usize, const R: usize, const S: usiz
 ) -> [u8; N]
     ghost f: { Family }
     requires offset { offset_bytes f ≡ O }
+    requires offset_room { O ≤ 8 }
     requires reserved { reserved_bytes f ≡ R }
     requires salt { salt_bytes f ≡ S }
     requires table { 4 + 4 + O + 2 + R + S + S ≡ N }
@@ -42,22 +84,42 @@ fn parameter_block<const N: usize, const O: usize, const R: usize, const S: usiz
         key_size,
         salt,
         persona,
+        tree,
     } = *parameters;
     let mut block = [0; N];
     let fields = &mut block[..];
-    // Digest length, key length, fanout and depth.
-    fields[..4].copy_from_slice(&[output_size as u8, key_size as u8, 1, 1]);
-    // Leaf length, node offset, node depth and inner length, of 4, O, 1 and 1 bytes, are zero in
-    // sequential use, as are the reserved bytes.
+    fields[..4].copy_from_slice(&[output_size as u8, key_size as u8, tree.fanout, tree.depth]);
+    fields[4..8].copy_from_slice(&tree.leaf_length.to_le_bytes());
+    fields[8..8 + O].copy_from_slice(&tree.node_offset.to_le_bytes()[..O]);
+    fields[8 + O..10 + O].copy_from_slice(&[tree.node_depth, tree.inner_length]);
+    // The reserved bytes are zero.
     let texts = 4 + 4 + O + 2 + R;
     fields[texts..texts + salt.len()].copy_from_slice(salt);
     fields[texts + S..texts + S + persona.len()].copy_from_slice(persona);
     block
 }
 
+// The place in a tree that a parameter block names, where the node offset has O bytes.
+fn tree_in<const O: usize>(block: &[u8]) -> Tree
+    ghost f: { Family }
+    requires offset { offset_bytes f ≡ O }
+    requires offset_room { O ≤ 8 }
+    requires fields { 8 + O + 2 ≤ length block.now }
+    ensures { tree_of result ≡ Reader.tree_in f block.now }
+{
+    Tree {
+        fanout: block[2],
+        depth: block[3],
+        leaf_length: u32::from_le_bytes(with_zeros(&block[4..8])),
+        node_offset: u64::from_le_bytes(with_zeros(&block[8..8 + O])),
+        node_depth: block[8 + O],
+        inner_length: block[8 + O + 1],
+    }
+}
+
 #[cfg(test)]
 mod tests {
-    use super::{Parameters, blake2b};
+    use super::{Parameters, Tree, blake2b};
 
     // The first parameter word of an unkeyed digest of 64 bytes, and its bytes: digest length 64,
     // key length 0, fanout 1, depth 1 and leaf length 0 (the BLAKE2 document, 2.8).
@@ -68,6 +130,7 @@ mod tests {
             key_size: 0,
             salt: &[],
             persona: &[],
+            tree: Tree::sequential(),
         });
         assert_eq!(rt; first, 0x01010040);
         assert_eq!(rt;

@@ -10,6 +10,8 @@ mod reader;
 #[cfg(test)]
 mod tests;
 
+pub use crate::params::Tree;
+
 /// What a hash is of, but for its size. The module of each family has a function `accepts`, which
 /// tells whether the parts are as long as that family takes them.
 #[derive(Clone, Copy)]
@@ -20,6 +22,8 @@ pub struct Input<'a> {
     pub persona: &'a [u8],
     /// Nothing, or 1 to 64 bytes in BLAKE2b and 1 to 32 bytes in BLAKE2s (RFC 7693, 2.1).
     pub key: Option<&'a [u8]>,
+    /// The place in a tree; [`Tree::sequential`] for a hash which is the whole tree.
+    pub tree: Tree,
     /// Any bytes, such that with the key's block there are less than 2^64.
     pub message: &'a [u8],
 }
@@ -70,6 +74,8 @@ pub struct Reading<const S: usize> {
     pub persona: [u8; S],
     /// The key, or nothing.
     pub key: Option<Vec<u8>>,
+    /// The place in a tree.
+    pub tree: Tree,
     /// The message.
     pub message: Vec<u8>,
 }

@@ -22,7 +22,7 @@ impl Flags {
 #[cfg(test)]
 mod tests {
     use super::Flags;
-    use crate::params::{self, Parameters};
+    use crate::params::{self, Parameters, Tree};
     use crate::words;
 
     // `abc` fills one block; its digest stands in RFC 7693, appendix A.
@@ -35,6 +35,7 @@ mod tests {
             key_size: 0,
             salt: &[],
             persona: &[],
+            tree: Tree::sequential(),
         });
         words::blake2b::compress(&mut h, &block, 3, Flags::FINAL);
         let digest = [
@@ -57,6 +58,7 @@ mod tests {
             key_size: 0,
             salt: &[],
             persona: &[],
+            tree: Tree::sequential(),
         });
         words::blake2s::compress_words(&mut h, &block, 3, Flags::FINAL);
         let digest = [

@@ -8,7 +8,7 @@ ghost use Rattle.blake2_words.specs.Views.{input_of};
 use crate::steps::Input;
 use crate::steps::blocks::with_zeros;
 
-// Salts and personas, with zeros up to S bytes, keys and messages are equal.
+// Salts and personas, with zeros up to S bytes, keys, trees and messages are equal.
 pub(crate) fn same<const S: usize>(a: &Input<'_>, b: &Input<'_>) -> bool
     ghost f: { Family }
     requires salt { salt_bytes f ≡ S }
@@ -19,6 +19,7 @@ pub(crate) fn same<const S: usize>(a: &Input<'_>, b: &Input<'_>) -> bool
     let salts = with_zeros::<S>(a.salt) == with_zeros::<S>(b.salt);
     let personas = with_zeros::<S>(a.persona) == with_zeros::<S>(b.persona);
     let keys = a.key == b.key;
+    let trees = a.tree == b.tree;
     let messages = a.message == b.message;
-    salts && personas && keys && messages
+    salts && personas && keys && trees && messages
 }

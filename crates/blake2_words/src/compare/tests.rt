@@ -2,7 +2,7 @@
 //! 2.5).
 
 use super::{blake2b, blake2s};
-use crate::steps::{self, Input};
+use crate::steps::{self, Input, Tree};
 use std::process::Abort;
 use std::test::Fail;
 
@@ -11,6 +11,7 @@ fn unkeyed<'a>(message: &'a [u8]) -> Input<'a> {
         salt: b"",
         persona: b"",
         key: None,
+        tree: Tree::sequential(),
         message,
     }
 }

@@ -4,14 +4,27 @@ ghost use Rattle.std.specs.Prelude.{◌≡◌, ◌↔◌, IsTrue};
 ghost use Rattle.blake2_rows.specs.Family.{blake2b};
 ghost use Rattle.blake2_rows.specs.Rows.{eight};
 ghost use Rattle.blake2_words.specs.Hash;
-ghost use Rattle.blake2_words.specs.Hash.{Fits, start};
+ghost use Rattle.blake2_words.specs.Hash.{AdmitsTree, Fits, start};
 ghost use Rattle.blake2_words.specs.Reader;
-ghost use Rattle.blake2_words.specs.Views.{given_parameters};
+ghost use Rattle.blake2_words.specs.Views.{given_parameters, tree_of};
 
-use super::{Parameters, parameter_block};
+use super::{Parameters, Tree, parameter_block, tree_in};
 use crate::consts::BLAKE2B_IV;
 use crate::words::blake2b::{to_rows, to_words, xor_rows};
 use blake2_rows::rows::u64x4;
+
+// The last node offset that has room in its 8 bytes.
+const LAST_OFFSET: u64 = u64::MAX;
+
+/// Whether BLAKE2b takes this place in a tree: at least one level, an inner node's digest of at
+/// most 64 bytes, and a node offset below 2^64 (the BLAKE2 document, 2.8 and 2.10).
+pub fn admits_tree(tree: &Tree) -> bool
+    ensures { IsTrue result ↔ AdmitsTree blake2b (tree_of tree.now) }
+{
+    // A copy, whose type bounds the numbers that are not looked at.
+    let place = *tree;
+    place.depth >= 1 && place.inner_length <= 64 && place.node_offset <= LAST_OFFSET
+}
 
 /// Whether BLAKE2b takes these parameters: a digest and a key of at most 64 bytes, and a salt and
 /// a persona of at most 16 (RFC 7693, 2.1; the BLAKE2 document, 2.8).
@@ -22,9 +35,10 @@ pub fn fits(parameters: &Parameters<'_>) -> bool
         && parameters.key_size <= 64
         && parameters.salt.len() <= 16
         && parameters.persona.len() <= 16
+        && admits_tree(&parameters.tree)
 }
 
-// What a parameter block names, whatever stands in its other fields.
+// What a parameter block names, whatever stands in its reserved bytes.
 pub(crate) fn parameters_in(block: &[u8; 64]) -> Parameters<'_>
     ensures { given_parameters result ≡ Reader.parameters_in blake2b block.now }
 {
@@ -34,6 +48,7 @@ pub(crate) fn parameters_in(block: &[u8; 64]) -> Parameters<'_>
         key_size: block[1] as usize,
         salt,
         persona,
+        tree: tree_in::<8>(&block[..]),
     }
 }
 

@@ -20,7 +20,7 @@ use std::alloc::{AllocError, Global};
 pub fn accepts(input: &Input<'_>) -> bool
     ensures { IsTrue result ↔ Accepts blake2b (input_of input.now) }
 {
-    limits::accepts::<128, 64, 16>(input)
+    limits::accepts::<128, 64, 16>(input, params::admits_tree(&input.tree))
 }
 
 /// The transcript of an input at a digest of `output_size` bytes, at most 64: the parameter words,

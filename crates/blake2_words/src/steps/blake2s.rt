@@ -20,7 +20,7 @@ use std::alloc::{AllocError, Global};
 pub fn accepts(input: &Input<'_>) -> bool
     ensures { IsTrue result ↔ Accepts blake2s (input_of input.now) }
 {
-    limits::accepts::<64, 32, 8>(input)
+    limits::accepts::<64, 32, 8>(input, params::admits_tree(&input.tree))
 }
 
 /// The transcript of an input at a digest of `output_size` bytes, at most 32: the parameter words,

@@ -48,6 +48,7 @@ pub(crate) fn parameters_of<'a>(input: &Input<'a>, output_size: usize) -> Parame
         key_size: key_size(&input.key),
         salt: input.salt,
         persona: input.persona,
+        tree: input.tree,
     }
 }
 

@@ -2,9 +2,9 @@
 
 ghost use Rattle.std.specs.Prelude.{◌≡◌, ◌+◌, ◌<◌, ◌≤◌, ◌^◌, ◌↔◌, length, IsTrue, Some};
 ghost use Rattle.blake2_rows.specs.Family.{Family, block_bytes, key_bytes, salt_bytes};
-ghost use Rattle.blake2_words.specs.Hash.{AreBytes, data_bytes};
+ghost use Rattle.blake2_words.specs.Hash.{AdmitsTree, AreBytes, data_bytes};
 ghost use Rattle.blake2_words.specs.Inputs.{Accepts, KeyFits};
-ghost use Rattle.blake2_words.specs.Views.{input_of, key_of};
+ghost use Rattle.blake2_words.specs.Views.{input_of, key_of, tree_of};
 
 use super::Input;
 
@@ -48,16 +48,21 @@ fn key_fits<const B: usize, const K: usize>(key: &Option<&[u8]>, message: &[u8])
     }
 }
 
-// The input is one that a family with blocks of B, keys of K and salts of S bytes takes.
-pub(crate) fn accepts<const B: usize, const K: usize, const S: usize>(input: &Input<'_>) -> bool
+// The input is one that a family with blocks of B, keys of K and salts of S bytes takes, where
+// `takes_tree` tells whether it takes the tree.
+pub(crate) fn accepts<const B: usize, const K: usize, const S: usize>(
+    input: &Input<'_>,
+    takes_tree: bool,
+) -> bool
     ghost f: { Family }
     requires block { block_bytes f ≡ B }
     requires key { key_bytes f ≡ K }
     requires salt { salt_bytes f ≡ S }
+    requires tree { IsTrue takes_tree ↔ AdmitsTree f (tree_of input.now.tree) }
     ensures { IsTrue result ↔ Accepts f (input_of input.now) }
 {
     let salt_fits = fits(input.salt, S);
     let persona_fits = fits(input.persona, S);
     let key_fits = key_fits::<B, K>(&input.key, input.message);
-    salt_fits && persona_fits && key_fits
+    salt_fits && persona_fits && key_fits && takes_tree
 }

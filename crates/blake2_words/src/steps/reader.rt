@@ -168,6 +168,7 @@ pub(crate) fn reading<const B: usize, const S: usize>(
         salt: with_zeros(told.salt),
         persona: with_zeros(told.persona),
         key,
+        tree: told.tree,
         message,
     })
 }

@@ -1,7 +1,7 @@
 //! Each call once, with ample memory. The expected words are those of the parameter block (the
 //! BLAKE2 document, 2.8), byte by byte.
 
-use super::{Entry, Input, Reading, Transcript, blake2b, blake2s};
+use super::{Entry, Input, Reading, Transcript, Tree, blake2b, blake2s};
 use crate::laws;
 use std::process::Abort;
 use std::test::Fail;
@@ -13,6 +13,7 @@ fn keyed_blake2b_and_back(rt: HostRuntime) -> Result<(), Fail> {
         salt: b"abc",
         persona: b"0123456789abcdef",
         key: Some(&[1]),
+        tree: Tree::sequential(),
         message: &message,
     };
     assert!(rt; blake2b::accepts(&input));
@@ -48,9 +49,11 @@ fn keyed_blake2b_and_back(rt: HostRuntime) -> Result<(), Fail> {
         salt: _,
         persona: _,
         key,
+        tree,
         message: read_message,
     } = read;
     assert_eq!(rt; read_message.as_slice(), message.as_slice());
+    assert_eq!(rt; tree, Tree::sequential());
     let Some(key) = key else {
         return Err(Fail::from("no key"));
     };
@@ -68,6 +71,7 @@ fn keyed_blake2s_and_back(rt: HostRuntime) -> Result<(), Fail> {
         salt: b"",
         persona: b"personal",
         key: Some(&key),
+        tree: Tree::sequential(),
         message: b"",
     };
     assert!(rt; blake2s::accepts(&input));

@@ -11,4 +11,5 @@ returns c =
       key_size = get_or block 1 0;
       salt = (c.split_at.ensures.front ∙ ap (take 16) texts) i;
       persona = (c.split_at.ensures.back ∙ ap (drop 16) texts) i;
+      tree = c.tree_in.ensures i;
     }
