@@ -1,16 +1,24 @@
 //! Four messages of BLAKE2b: eight rows hold their chaining words, row k having word k of each.
 
-ghost use Rattle.std.specs.Prelude.{◌≡◌, ◌<◌, ℕ, List, [], ◌++◌, bit_xor, take, drop, slice_index, slice_index_or};
-ghost use Rattle.blake2_rows.specs.Family.{blake2b};
+ghost use Rattle.std.specs.Prelude.{◌≡◌, ◌<◌, ◌≤◌, ◌-◌, ℕ, List, [], ◌++◌, length, bit_xor, map, take, drop, slice_index, slice_index_or};
+ghost use Rattle.blake2_rows.specs.Family.{blake2b, output_bytes};
 ghost use Rattle.blake2_rows.specs.Lanes.{in_lane};
+ghost use Rattle.blake2_rows.specs.Rows.{eight};
 ghost use Rattle.blake2_words.specs.Hash;
-ghost use Rattle.blake2_words.specs.Hash.{after_rounds, before_rounds, words_of, xor_words};
-ghost use Rattle.blake2_words.specs.Views.{given_flags};
-ghost use Rattle.blake2_words.specs.Lanes.{texts};
+ghost use Rattle.blake2_words.specs.Hash.{after_rounds, before_rounds, blocks, bytes_of, chain, digest};
+ghost use Rattle.blake2_words.specs.Hash.{final, input_data, input_start, last_chain, words_of, xor_words};
+ghost use Rattle.blake2_words.specs.Inputs.{Accepts};
+ghost use Rattle.blake2_words.specs.Lanes.{input_at, texts};
+ghost use Rattle.blake2_words.specs.Run.{number};
+ghost use Rattle.blake2_words.specs.Views.{given_flags, input_of};
 
+use super::later_blocks;
 use crate::consts::{BLAKE2B_IV, SIGMA};
+use crate::params::blake2b::start_words;
+use crate::steps::Input;
+use crate::steps::blocks::{block_at, counted, parameters_of, step_count};
 use crate::words::Flags;
-use crate::words::blake2b::block_words;
+use crate::words::blake2b::{block_words, to_bytes};
 use blake2_rows::rows::u64x4;
 
 // Row k of several words a lane.
@@ -144,4 +152,134 @@ pub fn compress(h: &mut [u64x4; 8], blocks: &[&[u8; 128]; 4], counter: u64, flag
     let mut v = begin(h, counter, flags);
     rounds(&mut v, &m);
     *h = finish(h, &v);
+}
+
+// The chaining words that the inputs start from, at digests of `output_size` bytes.
+fn start(output_size: usize, inputs: &[Input<'_>; 4]) -> [u64x4; 8]
+    requires size { output_size ≤ output_bytes blake2b }
+    requires accepted { (j : ℕ) → j < 4 → Accepts blake2b (input_at inputs.now j) }
+    ensures { (j : ℕ) → j < 4
+        → in_lane j result ≡ input_start blake2b output_size (input_at inputs.now j) }
+{
+    let h = [
+        start_words(&parameters_of(&inputs[0], output_size)),
+        start_words(&parameters_of(&inputs[1], output_size)),
+        start_words(&parameters_of(&inputs[2], output_size)),
+        start_words(&parameters_of(&inputs[3], output_size)),
+    ];
+    [
+        row(&h, 0),
+        row(&h, 1),
+        row(&h, 2),
+        row(&h, 3),
+        row(&h, 4),
+        row(&h, 5),
+        row(&h, 6),
+        row(&h, 7),
+    ]
+}
+
+// Block i of each of four inputs, and their compression.
+fn compress_at(h: &mut [u64x4; 8], inputs: &[Input<'_>; 4], i: usize, counter: u64, flags: Flags)
+    requires accepted { (j : ℕ) → j < 4 → Accepts blake2b (input_at inputs.now j) }
+    requires within { (j : ℕ) → j < 4 → i < number blake2b (input_at inputs.now j) }
+    ensures { (j : ℕ) → j < 4 → in_lane j h.new
+        ≡ Hash.compress blake2b (in_lane j h.old) (slice_index_or (blocks blake2b (input_data blake2b (input_at inputs.now j))) i []) counter (given_flags flags) }
+{
+    let b0 = block_at(&inputs[0], i);
+    let b1 = block_at(&inputs[1], i);
+    let b2 = block_at(&inputs[2], i);
+    let b3 = block_at(&inputs[3], i);
+    compress(h, &[&b0, &b1, &b2, &b3], counter, flags);
+}
+
+// Compresses all blocks of four inputs but the last. Those from the second on are read where they
+// stand.
+fn absorb_inner(h: &mut [u64x4; 8], inputs: &[Input<'_>; 4])
+    requires accepted { (j : ℕ) → j < 4 → Accepts blake2b (input_at inputs.now j) }
+    requires same_number { (j : ℕ) → j < 4
+        → number blake2b (input_at inputs.now j) ≡ number blake2b (input_at inputs.now 0) }
+    ensures { (j : ℕ) → j < 4 → in_lane j h.new
+        ≡ chain blake2b (in_lane j h.old) 0 (blocks blake2b (input_data blake2b (input_at inputs.now j))) (number blake2b (input_at inputs.now 0) - 1) }
+{
+    let count = step_count::<128>(&inputs[0]);
+    if count == 1 {
+        return;
+    }
+    compress_at(h, inputs, 0, 128, Flags::INNER);
+    let p0 = later_blocks(&inputs[0]);
+    let p1 = later_blocks(&inputs[1]);
+    let p2 = later_blocks(&inputs[2]);
+    let p3 = later_blocks(&inputs[3]);
+    for i in 0..count as usize - 2 {
+        compress(
+            h,
+            &[&p0[i], &p1[i], &p2[i], &p3[i]],
+            (i as u64 + 2) * 128,
+            Flags::INNER,
+        );
+    }
+}
+
+// Compresses all blocks of four inputs.
+fn absorb(h: &mut [u64x4; 8], inputs: &[Input<'_>; 4])
+    requires accepted { (j : ℕ) → j < 4 → Accepts blake2b (input_at inputs.now j) }
+    requires same_count { (j : ℕ) → j < 4
+        → length (input_data blake2b (input_at inputs.now j)) ≡ length (input_data blake2b (input_at inputs.now 0)) }
+    ensures { (j : ℕ) → j < 4 → in_lane j h.new
+        ≡ last_chain blake2b (in_lane j h.old) 0 (input_data blake2b (input_at inputs.now j)) final }
+{
+    absorb_inner(h, inputs);
+    let last = step_count::<128>(&inputs[0]) as usize - 1;
+    compress_at(h, inputs, last, counted::<128>(&inputs[0]), Flags::FINAL);
+}
+
+// The chaining words of message `j`.
+#[inline(always)]
+fn lane(h: &[u64x4; 8], j: usize) -> [u64x4; 2]
+    requires { j < 4 }
+    ensures { eight result ≡ in_lane j h.now }
+{
+    [
+        u64x4::new(
+            h[0].to_array()[j],
+            h[1].to_array()[j],
+            h[2].to_array()[j],
+            h[3].to_array()[j],
+        ),
+        u64x4::new(
+            h[4].to_array()[j],
+            h[5].to_array()[j],
+            h[6].to_array()[j],
+            h[7].to_array()[j],
+        ),
+    ]
+}
+
+// The first N bytes of the chaining words of message `j`.
+fn output<const N: usize>(h: &[u64x4; 8], j: usize) -> [u8; N]
+    requires lane { j < 4 }
+    requires size { N ≤ output_bytes blake2b }
+    ensures { result ≡ take N (bytes_of blake2b (in_lane j h.now)) }
+{
+    let whole = to_bytes(&lane(h, j));
+    let mut bytes = [0; N];
+    let out = &mut bytes[..];
+    out.copy_from_slice(&whole[..N]);
+    bytes
+}
+
+/// BLAKE2b of four inputs at once, in their order, N bytes of digest each, at most 64 (RFC 7693, 3.3).
+/// Of each input as many bytes are counted: those of its message, and 128 where it has a key. The
+/// inputs are such as `accepts` takes. No memory is taken.
+pub fn hash_four<const N: usize>(inputs: &[Input<'_>; 4]) -> [[u8; N]; 4]
+    requires size { N ≤ output_bytes blake2b }
+    requires accepted { (j : ℕ) → j < 4 → Accepts blake2b (input_at inputs.now j) }
+    requires same_count { (j : ℕ) → j < 4
+        → length (input_data blake2b (input_at inputs.now j)) ≡ length (input_data blake2b (input_at inputs.now 0)) }
+    ensures { result ≡ map (λ input. digest blake2b N (input_of input)) inputs.now }
+{
+    let mut h = start(N, inputs);
+    absorb(&mut h, inputs);
+    [output(&h, 0), output(&h, 1), output(&h, 2), output(&h, 3)]
 }

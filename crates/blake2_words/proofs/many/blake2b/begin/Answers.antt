@@ -1,7 +1,7 @@
-use Rattle.std.proofs.Common.{◌≡◌, ◌<◌, ℕ, List, [], ◌∷◌, ◌++◌, length, get_or, slice_index, sym, ap, ◌∙◌, arith, rules}
+use Rattle.std.proofs.Common.{◌≡◌, ◌<◌, ℕ, List, [], ◌∷◌, ◌++◌, length, get_or, slice_index, ◌∙◌, arith, rules}
 use Rattle.std.proofs.lemmas.List.{length-map}
 use Rattle.blake2_rows.specs.Lanes.{in_lane}
-use Rattle.blake2_rows.proofs.Words.{cells, cells-drop}
+use Rattle.blake2_rows.proofs.Words.{cells-drop}
 use Rattle.blake2_words.proofs.Lanes.{lane_word}
 use Rattle.blake2_words.proofs.many.blake2b.begin.Goals as goal
 

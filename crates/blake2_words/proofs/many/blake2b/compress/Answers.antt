@@ -1,4 +1,4 @@
-use Rattle.std.proofs.Common.{ℕ, List, [], take, drop, slice_index_or, ap, ◌∙◌}
+use Rattle.std.proofs.Common.{ℕ, List, take, drop, ap, ◌∙◌}
 use Rattle.blake2_rows.specs.Family.{blake2b}
 use Rattle.blake2_rows.specs.Lanes.{in_lane}
 use Rattle.blake2_words.specs.Hash.{xor_words, after_rounds, before_rounds, compress}
