@@ -1,6 +1,6 @@
 //! Four messages of BLAKE2b: eight rows hold their chaining words, row k having word k of each.
 
-ghost use Rattle.std.specs.Prelude.{◌≡◌, ◌<◌, ◌≤◌, ◌-◌, ℕ, List, [], ◌++◌, length, bit_xor, map, take, drop, slice_index, slice_index_or};
+ghost use Rattle.std.specs.Prelude.{◌≡◌, ◌↔◌, ◌<◌, ◌≤◌, ◌-◌, ℕ, List, [], ◌++◌, IsTrue, length, bit_xor, map, take, drop, slice_index, slice_index_or};
 ghost use Rattle.blake2_rows.specs.Family.{blake2b, output_bytes};
 ghost use Rattle.blake2_rows.specs.Lanes.{in_lane};
 ghost use Rattle.blake2_rows.specs.Rows.{eight};
@@ -8,7 +8,7 @@ ghost use Rattle.blake2_words.specs.Hash;
 ghost use Rattle.blake2_words.specs.Hash.{after_rounds, before_rounds, blocks, bytes_of, chain, digest};
 ghost use Rattle.blake2_words.specs.Hash.{final, input_data, input_start, last_chain, words_of, xor_words};
 ghost use Rattle.blake2_words.specs.Inputs.{Accepts};
-ghost use Rattle.blake2_words.specs.Lanes.{input_at, texts};
+ghost use Rattle.blake2_words.specs.Lanes.{AcceptsAtOnce, input_at, texts};
 ghost use Rattle.blake2_words.specs.Run.{number};
 ghost use Rattle.blake2_words.specs.Views.{given_flags, input_of};
 
@@ -16,6 +16,7 @@ use super::later_blocks;
 use crate::consts::{BLAKE2B_IV, SIGMA};
 use crate::params::blake2b::start_words;
 use crate::steps::Input;
+use crate::steps::blake2b::accepts;
 use crate::steps::blocks::{block_at, counted, parameters_of, step_count};
 use crate::words::Flags;
 use crate::words::blake2b::{block_words, to_bytes};
@@ -269,14 +270,31 @@ fn output<const N: usize>(h: &[u64x4; 8], j: usize) -> [u8; N]
     bytes
 }
 
+/// Whether `hash_four` takes these inputs: each is one that `accepts` takes, and of each as many bytes are
+/// counted, those of its message and 128 where it has a key.
+pub fn accepts_four(inputs: &[Input<'_>; 4]) -> bool
+    ensures { IsTrue result ↔ AcceptsAtOnce blake2b 4 inputs.now }
+{
+    if !accepts(&inputs[0]) {
+        return false;
+    }
+    let count = counted::<128>(&inputs[0]);
+    for j in 1..4 {
+        if !accepts(&inputs[j]) {
+            return false;
+        }
+        if counted::<128>(&inputs[j]) != count {
+            return false;
+        }
+    }
+    true
+}
+
 /// BLAKE2b of four inputs at once, in their order, N bytes of digest each, at most 64 (RFC 7693, 3.3).
-/// Of each input as many bytes are counted: those of its message, and 128 where it has a key. The
-/// inputs are such as `accepts` takes. No memory is taken.
+/// No memory is taken.
 pub fn hash_four<const N: usize>(inputs: &[Input<'_>; 4]) -> [[u8; N]; 4]
     requires size { N ≤ output_bytes blake2b }
-    requires accepted { (j : ℕ) → j < 4 → Accepts blake2b (input_at inputs.now j) }
-    requires same_count { (j : ℕ) → j < 4
-        → length (input_data blake2b (input_at inputs.now j)) ≡ length (input_data blake2b (input_at inputs.now 0)) }
+    requires accepted { AcceptsAtOnce blake2b 4 inputs.now }
     ensures { result ≡ map (λ input. digest blake2b N (input_of input)) inputs.now }
 {
     let mut h = start(N, inputs);

@@ -10,11 +10,6 @@ use Rattle.blake2_words.proofs.Lanes.{no_block, block_more}
 use Rattle.blake2_words.proofs.Streaming.{block_count-pos}
 use Rattle.blake2_words.proofs.many.blake2b.absorb_inner.Goals as goal
 
-
-
-
-
-
 pub returns-then-count-eq1 : goal.returns-then-count-eq1
 returns-then-count-eq1 c j h =
     let inputs = c.args.inputs.now in

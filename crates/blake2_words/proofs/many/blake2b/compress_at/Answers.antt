@@ -7,14 +7,6 @@ use Rattle.blake2_words.specs.Lanes.{input_at}
 use Rattle.blake2_words.specs.Views.{given_flags}
 use Rattle.blake2_words.proofs.many.blake2b.compress_at.Goals as goal
 
-
-
-
-
-
-
-
-
 pub returns : goal.returns
 returns c j h =
     let inputs = c.args.inputs.now in
