@@ -15,6 +15,7 @@ mod contexts;
 mod cores;
 mod hashers;
 mod macs;
+pub mod many;
 pub mod steps;
 #[cfg(test)]
 mod tests;

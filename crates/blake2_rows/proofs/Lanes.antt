@@ -13,6 +13,11 @@ below_four P p0 p1 p2 p3 (suc (suc zero)) h = p2
 below_four P p0 p1 p2 p3 (suc (suc (suc zero))) h = p3
 below_four P p0 p1 p2 p3 (suc (suc (suc (suc n)))) h = absurd (omega arith)
 
+-- what four lists are, each in its lane
+pub listed_in_four : (p : ℕ → List ℕ) (a b c d : List ℕ) → a ≡ p 0 → b ≡ p 1 → c ≡ p 2 → d ≡ p 3
+    → (j : ℕ) → j < 4 → slice_index_or (a ∷ b ∷ c ∷ d ∷ []) j [] ≡ p j
+listed_in_four p a b c d ea eb ec ed = below_four (λ j. slice_index_or (a ∷ b ∷ c ∷ d ∷ []) j [] ≡ p j) ea eb ec ed
+
 -- lane j of a row that is given lane by lane
 pub lane_of_four : (f : ℕ → ℕ) (j : ℕ) → j < 4 → slice_index (four f) j ≡ f j
 lane_of_four f = below_four (λ j. slice_index (four f) j ≡ f j) refl refl refl refl

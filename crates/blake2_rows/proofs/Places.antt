@@ -1,5 +1,5 @@
 -- G reads and writes four places of a list alone: it is G on the list of the four words there.
-use Rattle.std.proofs.Common.{◌≡◌, ◌≢◌, ℕ, ◌+◌, ◌%◌, ◌^◌, ◌<◌, List, [], ◌∷◌, length, get_or, set, bit_xor, slice_index, sym, ap, ◌∙◌, arith}
+use Rattle.std.proofs.Common.{◌≡◌, ℕ, ◌+◌, ◌%◌, ◌^◌, ◌<◌, List, [], ◌∷◌, length, get_or, set, bit_xor, slice_index, sym, ap, ◌∙◌, arith}
 use Rattle.std.proofs.lemmas.List.{length-map, length-set, map-set, get_or-map, set-get_or, set_comm, get_or-set_same, get_or-set_other}
 use Rattle.std.specs.Int.{rotate_right}
 use mir.Val.{bits}

@@ -9,3 +9,4 @@ pub mod Views
 pub mod Run
 pub mod Reader
 pub mod Laws
+pub mod Lanes

@@ -5,6 +5,7 @@
 pub mod compare;
 pub mod consts;
 pub mod laws;
+pub mod many;
 pub mod params;
 pub mod steps;
 pub mod words;

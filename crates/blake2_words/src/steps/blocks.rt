@@ -72,7 +72,7 @@ fn message_block<const B: usize>(message: &[u8], from: usize) -> [u8; B]
 }
 
 // Block i of an input.
-fn block_at<const B: usize>(input: &Input<'_>, i: usize) -> [u8; B]
+pub(crate) fn block_at<const B: usize>(input: &Input<'_>, i: usize) -> [u8; B]
     ghost f: { Family }
     requires family { block_bytes f ≡ B }
     requires accepted { Accepts f (input_of input.now) }

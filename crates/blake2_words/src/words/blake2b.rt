@@ -15,7 +15,7 @@ use blake2_rows::rows::u64x4;
 
 // The sixteen words of a block.
 #[inline(always)]
-fn block_words(block: &[u8; 128]) -> [u64; 16]
+pub(crate) fn block_words(block: &[u8; 128]) -> [u64; 16]
     ensures { result ≡ words_of blake2b 16 block.now }
 {
     let [m0, m1, m2, m3] = u64x4::from_le_bytes(&block[..32]).to_array();

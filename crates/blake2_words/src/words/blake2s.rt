@@ -15,7 +15,7 @@ use blake2_rows::rows::u32x4;
 
 // The sixteen words of a block.
 #[inline(always)]
-fn block_words(block: &[u8; 64]) -> [u32; 16]
+pub(crate) fn block_words(block: &[u8; 64]) -> [u32; 16]
     ensures { result ≡ words_of blake2s 16 block.now }
 {
     let [m0, m1, m2, m3] = u32x4::from_le_bytes(&block[..16]).to_array();

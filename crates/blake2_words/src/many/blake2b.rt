@@ -1,0 +1,303 @@
+//! Four messages of BLAKE2b: eight rows hold their chaining words, row k having word k of each.
+
+ghost use Rattle.std.specs.Prelude.{◌≡◌, ◌↔◌, ◌<◌, ◌≤◌, ◌-◌, ℕ, List, [], ◌++◌, IsTrue, length, bit_xor, map, take, drop, slice_index, slice_index_or};
+ghost use Rattle.blake2_rows.specs.Family.{blake2b, output_bytes};
+ghost use Rattle.blake2_rows.specs.Lanes.{in_lane};
+ghost use Rattle.blake2_rows.specs.Rows.{eight};
+ghost use Rattle.blake2_words.specs.Hash;
+ghost use Rattle.blake2_words.specs.Hash.{after_rounds, before_rounds, blocks, bytes_of, chain, digest};
+ghost use Rattle.blake2_words.specs.Hash.{final, input_data, input_start, last_chain, words_of, xor_words};
+ghost use Rattle.blake2_words.specs.Inputs.{Accepts};
+ghost use Rattle.blake2_words.specs.Lanes.{AcceptsAtOnce, input_at, texts};
+ghost use Rattle.blake2_words.specs.Run.{number};
+ghost use Rattle.blake2_words.specs.Views.{given_flags, input_of};
+
+use super::later_blocks;
+use crate::consts::{BLAKE2B_IV, SIGMA};
+use crate::params::blake2b::start_words;
+use crate::steps::Input;
+use crate::steps::blake2b::accepts;
+use crate::steps::blocks::{block_at, counted, parameters_of, step_count};
+use crate::words::Flags;
+use crate::words::blake2b::{block_words, to_bytes};
+use blake2_rows::rows::u64x4;
+
+// Row k of several words a lane.
+#[inline(always)]
+fn row<const N: usize>(words: &[[u64; N]; 4], k: usize) -> u64x4
+    requires { k < N }
+    ensures { (j : ℕ) → j < 4
+        → slice_index result j ≡ slice_index (slice_index_or words.now j []) k }
+{
+    u64x4::new(words[0][k], words[1][k], words[2][k], words[3][k])
+}
+
+// The rows of the words of four blocks.
+#[inline(always)]
+fn block_rows(blocks: &[&[u8; 128]; 4]) -> [u64x4; 16]
+    ensures { (j : ℕ) → j < 4
+        → in_lane j result ≡ words_of blake2b 16 (slice_index_or (texts blocks.now) j []) }
+{
+    let m = [
+        block_words(blocks[0]),
+        block_words(blocks[1]),
+        block_words(blocks[2]),
+        block_words(blocks[3]),
+    ];
+    [
+        row(&m, 0),
+        row(&m, 1),
+        row(&m, 2),
+        row(&m, 3),
+        row(&m, 4),
+        row(&m, 5),
+        row(&m, 6),
+        row(&m, 7),
+        row(&m, 8),
+        row(&m, 9),
+        row(&m, 10),
+        row(&m, 11),
+        row(&m, 12),
+        row(&m, 13),
+        row(&m, 14),
+        row(&m, 15),
+    ]
+}
+
+// The words 8 to 15 before the first round: IV with the counter xored into its fifth and sixth word,
+// which for 64 bits is into the fifth alone, and all ones into its seventh in the last block.
+#[tactic(auto, unfolding(crate::specs::Hash::before_rounds, crate::specs::Hash::xor_words))]
+#[inline(always)]
+fn last_words(counter: u64, flags: Flags) -> [u64; 8]
+    ensures { (h : List ℕ) → h ++ result ≡ before_rounds blake2b h counter (given_flags flags) }
+{
+    let [v8, v9, v10, v11, v12, v13, v14, v15] = BLAKE2B_IV;
+    let ones = if flags.last { u64::MAX } else { 0 };
+    [v8, v9, v10, v11, v12 ^ counter, v13, v14 ^ ones, v15]
+}
+
+// The rows before the first round: the chaining words, and the same last words in each lane.
+#[inline(always)]
+fn begin(h: &[u64x4; 8], counter: u64, flags: Flags) -> [u64x4; 16]
+    ensures { (j : ℕ) → j < 4
+        → in_lane j result ≡ before_rounds blake2b (in_lane j h.now) counter (given_flags flags) }
+{
+    let w = last_words(counter, flags);
+    [
+        h[0],
+        h[1],
+        h[2],
+        h[3],
+        h[4],
+        h[5],
+        h[6],
+        h[7],
+        u64x4::splat(w[0]),
+        u64x4::splat(w[1]),
+        u64x4::splat(w[2]),
+        u64x4::splat(w[3]),
+        u64x4::splat(w[4]),
+        u64x4::splat(w[5]),
+        u64x4::splat(w[6]),
+        u64x4::splat(w[7]),
+    ]
+}
+
+// The rounds, each with the words in the order of a row of SIGMA (RFC 7693, 2.7).
+#[inline(always)]
+fn rounds(v: &mut [u64x4; 16], m: &[u64x4; 16])
+    ensures { (j : ℕ) → j < 4
+        → in_lane j v.new ≡ after_rounds blake2b (in_lane j v.old) (in_lane j m.now) 12 }
+{
+    for i in 0..12 {
+        u64x4::round_each(v, m, &SIGMA[i % 10]);
+    }
+}
+
+// The exclusive or of three rows.
+#[inline(always)]
+fn xor(a: u64x4, b: u64x4, c: u64x4) -> u64x4
+    ensures { (j : ℕ) → j < 4 → slice_index result j
+        ≡ bit_xor (bit_xor (slice_index a j) (slice_index b j)) (slice_index c j) }
+{
+    a ^ b ^ c
+}
+
+// The chaining words with both halves of the rows xored into them.
+#[inline(always)]
+fn finish(h: &[u64x4; 8], v: &[u64x4; 16]) -> [u64x4; 8]
+    ensures { (j : ℕ) → j < 4 → in_lane j result
+        ≡ xor_words (xor_words (in_lane j h.now) (take 8 (in_lane j v.now))) (drop 8 (in_lane j v.now)) }
+{
+    [
+        xor(h[0], v[0], v[8]),
+        xor(h[1], v[1], v[9]),
+        xor(h[2], v[2], v[10]),
+        xor(h[3], v[3], v[11]),
+        xor(h[4], v[4], v[12]),
+        xor(h[5], v[5], v[13]),
+        xor(h[6], v[6], v[14]),
+        xor(h[7], v[7], v[15]),
+    ]
+}
+
+/// F, the compression (RFC 7693, 3.2), of four messages at once: `h` holds their chaining words, and
+/// block j is the next 128 bytes of message j. `counter` is the number of bytes counted of each of
+/// them up to and with its block, padding aside.
+#[inline]
+pub fn compress(h: &mut [u64x4; 8], blocks: &[&[u8; 128]; 4], counter: u64, flags: Flags)
+    ensures { (j : ℕ) → j < 4 → in_lane j h.new
+        ≡ Hash.compress blake2b (in_lane j h.old) (slice_index_or (texts blocks.now) j []) counter (given_flags flags) }
+{
+    let m = block_rows(blocks);
+    let mut v = begin(h, counter, flags);
+    rounds(&mut v, &m);
+    *h = finish(h, &v);
+}
+
+// The chaining words that the inputs start from, at digests of `output_size` bytes.
+fn start(output_size: usize, inputs: &[Input<'_>; 4]) -> [u64x4; 8]
+    requires size { output_size ≤ output_bytes blake2b }
+    requires accepted { (j : ℕ) → j < 4 → Accepts blake2b (input_at inputs.now j) }
+    ensures { (j : ℕ) → j < 4
+        → in_lane j result ≡ input_start blake2b output_size (input_at inputs.now j) }
+{
+    let h = [
+        start_words(&parameters_of(&inputs[0], output_size)),
+        start_words(&parameters_of(&inputs[1], output_size)),
+        start_words(&parameters_of(&inputs[2], output_size)),
+        start_words(&parameters_of(&inputs[3], output_size)),
+    ];
+    [
+        row(&h, 0),
+        row(&h, 1),
+        row(&h, 2),
+        row(&h, 3),
+        row(&h, 4),
+        row(&h, 5),
+        row(&h, 6),
+        row(&h, 7),
+    ]
+}
+
+// Block i of each of four inputs, and their compression.
+fn compress_at(h: &mut [u64x4; 8], inputs: &[Input<'_>; 4], i: usize, counter: u64, flags: Flags)
+    requires accepted { (j : ℕ) → j < 4 → Accepts blake2b (input_at inputs.now j) }
+    requires within { (j : ℕ) → j < 4 → i < number blake2b (input_at inputs.now j) }
+    ensures { (j : ℕ) → j < 4 → in_lane j h.new
+        ≡ Hash.compress blake2b (in_lane j h.old) (slice_index_or (blocks blake2b (input_data blake2b (input_at inputs.now j))) i []) counter (given_flags flags) }
+{
+    let b0 = block_at(&inputs[0], i);
+    let b1 = block_at(&inputs[1], i);
+    let b2 = block_at(&inputs[2], i);
+    let b3 = block_at(&inputs[3], i);
+    compress(h, &[&b0, &b1, &b2, &b3], counter, flags);
+}
+
+// Compresses all blocks of four inputs but the last. Those from the second on are read where they
+// stand.
+fn absorb_inner(h: &mut [u64x4; 8], inputs: &[Input<'_>; 4])
+    requires accepted { (j : ℕ) → j < 4 → Accepts blake2b (input_at inputs.now j) }
+    requires same_number { (j : ℕ) → j < 4
+        → number blake2b (input_at inputs.now j) ≡ number blake2b (input_at inputs.now 0) }
+    ensures { (j : ℕ) → j < 4 → in_lane j h.new
+        ≡ chain blake2b (in_lane j h.old) 0 (blocks blake2b (input_data blake2b (input_at inputs.now j))) (number blake2b (input_at inputs.now 0) - 1) }
+{
+    let count = step_count::<128>(&inputs[0]);
+    if count == 1 {
+        return;
+    }
+    compress_at(h, inputs, 0, 128, Flags::INNER);
+    let p0 = later_blocks(&inputs[0]);
+    let p1 = later_blocks(&inputs[1]);
+    let p2 = later_blocks(&inputs[2]);
+    let p3 = later_blocks(&inputs[3]);
+    for i in 0..count as usize - 2 {
+        compress(
+            h,
+            &[&p0[i], &p1[i], &p2[i], &p3[i]],
+            (i as u64 + 2) * 128,
+            Flags::INNER,
+        );
+    }
+}
+
+// Compresses all blocks of four inputs.
+fn absorb(h: &mut [u64x4; 8], inputs: &[Input<'_>; 4])
+    requires accepted { (j : ℕ) → j < 4 → Accepts blake2b (input_at inputs.now j) }
+    requires same_count { (j : ℕ) → j < 4
+        → length (input_data blake2b (input_at inputs.now j)) ≡ length (input_data blake2b (input_at inputs.now 0)) }
+    ensures { (j : ℕ) → j < 4 → in_lane j h.new
+        ≡ last_chain blake2b (in_lane j h.old) 0 (input_data blake2b (input_at inputs.now j)) final }
+{
+    absorb_inner(h, inputs);
+    let last = step_count::<128>(&inputs[0]) as usize - 1;
+    compress_at(h, inputs, last, counted::<128>(&inputs[0]), Flags::FINAL);
+}
+
+// The chaining words of message `j`.
+#[inline(always)]
+fn lane(h: &[u64x4; 8], j: usize) -> [u64x4; 2]
+    requires { j < 4 }
+    ensures { eight result ≡ in_lane j h.now }
+{
+    [
+        u64x4::new(
+            h[0].to_array()[j],
+            h[1].to_array()[j],
+            h[2].to_array()[j],
+            h[3].to_array()[j],
+        ),
+        u64x4::new(
+            h[4].to_array()[j],
+            h[5].to_array()[j],
+            h[6].to_array()[j],
+            h[7].to_array()[j],
+        ),
+    ]
+}
+
+// The first N bytes of the chaining words of message `j`.
+fn output<const N: usize>(h: &[u64x4; 8], j: usize) -> [u8; N]
+    requires lane { j < 4 }
+    requires size { N ≤ output_bytes blake2b }
+    ensures { result ≡ take N (bytes_of blake2b (in_lane j h.now)) }
+{
+    let whole = to_bytes(&lane(h, j));
+    let mut bytes = [0; N];
+    let out = &mut bytes[..];
+    out.copy_from_slice(&whole[..N]);
+    bytes
+}
+
+/// Whether `hash_four` takes these inputs: each is one that `accepts` takes, and of each as many bytes are
+/// counted, those of its message and 128 where it has a key.
+pub fn accepts_four(inputs: &[Input<'_>; 4]) -> bool
+    ensures { IsTrue result ↔ AcceptsAtOnce blake2b 4 inputs.now }
+{
+    if !accepts(&inputs[0]) {
+        return false;
+    }
+    let count = counted::<128>(&inputs[0]);
+    for j in 1..4 {
+        if !accepts(&inputs[j]) {
+            return false;
+        }
+        if counted::<128>(&inputs[j]) != count {
+            return false;
+        }
+    }
+    true
+}
+
+/// BLAKE2b of four inputs at once, in their order, N bytes of digest each, at most 64 (RFC 7693, 3.3).
+/// No memory is taken.
+pub fn hash_four<const N: usize>(inputs: &[Input<'_>; 4]) -> [[u8; N]; 4]
+    requires size { N ≤ output_bytes blake2b }
+    requires accepted { AcceptsAtOnce blake2b 4 inputs.now }
+    ensures { result ≡ map (λ input. digest blake2b N (input_of input)) inputs.now }
+{
+    let mut h = start(N, inputs);
+    absorb(&mut h, inputs);
+    [output(&h, 0), output(&h, 1), output(&h, 2), output(&h, 3)]
+}
