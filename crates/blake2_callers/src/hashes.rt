@@ -1,0 +1,56 @@
+//! Callers of the hash functions.
+ghost use Rattle.std.specs.Prelude.{◌≡◌, ◌+◌, ◌*◌, ◌^◌, ◌<◌, ◌++◌, [], length, None};
+ghost use Rattle.blake2_rows.specs.Family.{blake2b, blake2s};
+ghost use Rattle.blake2.specs.States.{digest_of};
+ghost use Rattle.blake2_callers.specs.Pieces.{joined};
+
+use blake2::digest::Digest;
+use blake2::{Blake2b512, Blake2s256};
+
+/// The digest of two pieces taken as one message.
+pub fn digest_of_parts(first: &[u8], second: &[u8]) -> [u8; 64]
+    requires { length first.now + length second.now < 2 ^ 64 }
+    ensures { result ≡ digest_of blake2b 64 [] [] None (first.now ++ second.now) }
+{
+    let mut hasher = Blake2b512::new();
+    hasher.update(first);
+    hasher.update(second);
+    hasher.finalize()
+}
+
+/// The digest of all pieces taken as one message.
+pub fn digest_of_pieces(pieces: &[&[u8]]) -> [u8; 32]
+    requires { length (joined pieces.now) < 2 ^ 64 }
+    ensures { result ≡ digest_of blake2s 32 [] [] None (joined pieces.now) }
+{
+    let mut hasher = Blake2s256::new();
+    for piece in pieces {
+        hasher.update(piece);
+    }
+    hasher.finalize()
+}
+
+/// The digests of two messages, by one hasher.
+pub fn digests_in_turn(first: &[u8], second: &[u8]) -> ([u8; 64], [u8; 64])
+    requires first { length first.now < 2 ^ 64 }
+    requires second { length second.now < 2 ^ 64 }
+    ensures first { result.0 ≡ digest_of blake2b 64 [] [] None first.now }
+    ensures second { result.1 ≡ digest_of blake2b 64 [] [] None second.now }
+{
+    let mut hasher = Blake2b512::new();
+    hasher.update(first);
+    let digest = hasher.finalize_reset();
+    hasher.update(second);
+    (digest, hasher.finalize())
+}
+
+/// The digest of a message by any hash function of the traits.
+pub fn digest_by<D: Digest<N> + Drop, const N: usize>(message: &[u8]) -> [u8; N]
+    requires supported { D.is_supported }
+    requires fits { length message.now < 2 ^ 64 }
+    ensures { result ≡ D.digest_of message.now }
+{
+    let mut hasher = D::new();
+    Digest::update(&mut hasher, message);
+    hasher.finalize()
+}

@@ -1,0 +1,41 @@
+//! Callers of the parts that the hash functions are made of, and of what runs them.
+ghost use Rattle.std.specs.Prelude.{◌≡◌, [], None, Ok, IfOk};
+ghost use Rattle.blake2_rows.specs.Family.{blake2b};
+ghost use Rattle.blake2_rows.specs.Rows.{lane_sums, lane_rotations};
+ghost use Rattle.blake2_words.specs.Hash.{compress, start, inner, Fits};
+ghost use Rattle.blake2_words.specs.Views.{given_parameters};
+ghost use Rattle.blake2_runs.specs.Play.{play_fresh};
+ghost use Rattle.blake2.specs.States.{digest_of};
+
+use blake2::Blake2b512;
+use blake2::calls::{Call, ReplayFault, replay};
+use blake2::digest::Digest;
+use blake2_rows::rows::u64x4;
+use blake2_words::params::{Parameters, blake2b as params};
+use blake2_words::words::{Flags, blake2b as words};
+use std::alloc::Global;
+
+/// The sums of the lanes, each rotated to the right by 24 bits.
+pub fn add_and_rotate(a: u64x4, b: u64x4) -> u64x4
+    ensures { result ≡ lane_rotations blake2b (lane_sums blake2b a b) 24 }
+{
+    (a + b).rotate_right_const(24)
+}
+
+/// The chaining words under these parameters after a first block that others follow.
+pub fn after_first_block(parameters: &Parameters<'_>, block: &[u8; 128]) -> [u64; 8]
+    requires { Fits blake2b (given_parameters parameters.now) }
+    ensures { result ≡ compress blake2b (start blake2b (given_parameters parameters.now)) block.now 128 inner }
+{
+    let mut h = params::start_words(parameters);
+    words::compress_words(&mut h, block, 128, Flags::INNER);
+    h
+}
+
+/// The digests that a list of calls on a new hasher answers.
+pub fn digests_of_calls(alloc: Global, calls: &[Call<'_>]) -> Result<Vec<[u8; 64]>, ReplayFault>
+    ensures { IfOk result (λ digests. play_fresh (digest_of blake2b 64 [] [] None) 0 calls.now
+        ≡ Ok digests.items) }
+{
+    replay(alloc, Blake2b512::new(), calls)
+}

@@ -1,0 +1,20 @@
+//! Callers with sizes that are known as the program runs.
+ghost use Rattle.std.specs.Prelude.{◌≡◌, ◌+◌, ◌^◌, ◌<◌, ◌↔◌, ◌⊎◌, [], length, None, OnOk, OnErr, IsErr};
+ghost use Rattle.blake2_rows.specs.Family.{blake2s};
+ghost use Rattle.blake2.specs.States.{digest_of};
+
+use blake2_digest::InvalidLength;
+use blake2_plain::blake2s::State;
+
+/// Fills `out` with the digest of the message in as many bytes as it has, 1 to 32.
+pub fn fill(out: &mut [u8], message: &[u8]) -> Result<(), InvalidLength>
+    requires { length message.now < 2 ^ 64 }
+    ensures refused { IsErr result ↔ ((length out.old ≡ 0) ⊎ (32 < length out.old)) }
+    ensures filled { OnOk result (out.new ≡ digest_of blake2s (length out.old) [] [] None message.now) }
+    ensures same { OnErr result (out.new ≡ out.old) }
+{
+    let mut state = State::new(out.len(), &[], &[], &[])?;
+    state.update(message);
+    state.write_digest(out);
+    Ok(())
+}

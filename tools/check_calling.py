@@ -1,0 +1,64 @@
+#!/usr/bin/env python3
+"""Compares the pages CALLING.md with the sources that they quote.
+
+Each function that a block of Rust shows has to stand in crates/blake2_callers/src, and each contract that a
+block of text shows in the file of the page's crate that the line before the block names, but for spaces.
+
+usage: tools/check_calling.py
+"""
+import glob
+import os
+import re
+import sys
+
+TOP = os.path.dirname(os.path.dirname(os.path.abspath(__file__)))
+
+
+def read(*parts):
+    """The text of a file, with each run of spaces as one."""
+    with open(os.path.join(TOP, *parts), encoding="utf-8") as file:
+        return re.sub(r"\s+", " ", file.read())
+
+
+def one_spaced(text):
+    """The text, with each run of spaces as one."""
+    return re.sub(r"\s+", " ", text).strip()
+
+
+def faults(page):
+    """What the page shows and no source has, and how many quotes it has."""
+    with open(page, encoding="utf-8") as file:
+        text = file.read()
+    crate = os.path.basename(os.path.dirname(page))
+    callers = [read(path) for path in glob.glob(os.path.join(TOP, "crates", "blake2_callers", "src", "*.rt"))]
+    found, quotes = [], 0
+    for block in re.findall(r"^```rust\n(.*?)^```$", text, re.M | re.S):
+        for function in re.findall(r"^///.*?^}$", block, re.M | re.S):
+            quotes += 1
+            if not any(one_spaced(function) in source for source in callers):
+                found.append(function.splitlines()[0])
+    for name, block in re.findall(r"^`(src/[^`]*)`\n\n```text\n(.*?)^```$", text, re.M | re.S):
+        source = read("crates", crate, name)
+        for contract in re.split(r"^(?=pub fn |fn )", block, flags=re.M)[1:]:
+            quotes += 1
+            if one_spaced(contract) not in source:
+                found.append(name + ": " + contract.splitlines()[0])
+    return found, quotes
+
+
+def main():
+    """Says what differs, and answers whether something does."""
+    pages = sorted(glob.glob(os.path.join(TOP, "crates", "*", "CALLING.md")))
+    differs = total = 0
+    for page in pages:
+        found, quotes = faults(page)
+        total += quotes
+        for quote in found:
+            differs += 1
+            print(f"{os.path.relpath(page, TOP)}: not in the source: {quote}")
+    print(f"{len(pages)} pages, {total} quotes, {differs} differ")
+    return 1 if differs or not total else 0
+
+
+if __name__ == "__main__":
+    sys.exit(main())
