@@ -98,7 +98,7 @@ def parameter_words(family, size, key=b"", salt=b"", persona=b""):
 
 
 def blocks(family, key, message):
-    """Counter, final flag and bytes of each block of the data: the key's block, if any, and the message (3.3)."""
+    """Counter, final flag and bytes of each block: the key's, if there is one, and the message's (3.3)."""
     width = FAMILIES[family].block
     data = (key.ljust(width, b"\0") if key else b"") + message
     count = max(1, -(-len(data) // width))

@@ -34,7 +34,8 @@ def call(source, states, block):
         [slot for slot, state in enumerate(states) if state is not None] or [0])
     if name != "u":
         return name, slot, b""
-    return name, slot, source.randbytes(source.choice([0, 1, block - 1, block, block + 1, source.randrange(4 * block)]))
+    lengths = [0, 1, block - 1, block, block + 1, source.randrange(4 * block)]
+    return name, slot, source.randbytes(source.choice(lengths))
 
 
 def played(name, slot, data, states, new):

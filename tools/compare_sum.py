@@ -19,8 +19,8 @@ def case(source):
     kind = source.choice(sorted(KINDS))
     letter, size = KINDS[kind]
     family = FAMILIES[letter]
-    length = max(0, family.block * source.randrange(10) + source.choice([-2, -1, 0, 1, 2, source.randrange(family.block)]))
-    message = source.randbytes(length)
+    beside = source.choice([-2, -1, 0, 1, 2, source.randrange(family.block)])
+    message = source.randbytes(max(0, family.block * source.randrange(10) + beside))
     given = {"digest_size": size}
     words = []
     for name, argument, most, least in (("key", "key", family.key, 1), ("salt", "salt", family.salt, 0),

@@ -40,7 +40,7 @@ def with_equal_digests(source, family, block):
 
 
 def pair(family, size, a, b):
-    """The last steps of both runs that differ, where the messages differ and their digests are equal; else None."""
+    """The last steps of both runs that differ, where only the digests are equal; else None."""
     if a == b or digest(family, size, a) != digest(family, size, b):
         return None
     (of_a, _), (of_b, _) = steps(family, size, a), steps(family, size, b)
@@ -66,7 +66,8 @@ def case(source):
         b = source.choice([a, message(source, block), like(source, a, block)])
     found = pair(family, size, a, b)
     wanted = "".join(line(family, step) for step in found) if found else "none\n"
-    return ["witness", kind, a.hex() or "-", b.hex() or "-"], b"", (0, wanted), "with a pair" if found else None
+    words = ["witness", kind, a.hex() or "-", b.hex() or "-"]
+    return words, b"", (0, wanted), "with a pair" if found else None
 
 
 if __name__ == "__main__":
