@@ -7,7 +7,7 @@ use Rattle.std.specs.Simd.{first_chunks}
 use Rattle.blake2_rows.specs.Family.{Family, blake2b, blake2s, block_bytes}
 use Rattle.blake2_words.specs.Hash.{Input, input_data, padded, blocks, block_count, data_bytes, key_block}
 use Rattle.blake2_words.specs.Inputs.{KeyFits}
-use Rattle.blake2_words.specs.Run.{number}
+use Rattle.blake2_words.specs.Run.{step_count}
 use Rattle.blake2_words.proofs.Sizes.{key_bytes_fit, length-padded}
 use Rattle.blake2_words.proofs.Padding.{padded-whole}
 use Rattle.blake2_words.proofs.InputBlocks.{cut-at}
@@ -58,13 +58,13 @@ rest_some f b e key k m some fits =
     sym (ap (λ (x : Option (List ℕ)). drop b (data_bytes f x m)) some ∙ drop_at (padded (block_bytes f) k) m b first)
 
 -- chunk i of the rest is block i + 1
-pub later_block : (f : Family) (b : ℕ) → block_bytes f ≡ b → (a : Input) (rest : List ℕ) → rest ≡ drop b (input_data f a) → (i : ℕ) → i + 2 < number f a
+pub later_block : (f : Family) (b : ℕ) → block_bytes f ≡ b → (a : Input) (rest : List ℕ) → rest ≡ drop b (input_data f a) → (i : ℕ) → i + 2 < step_count f a
     → slice_index_or (first_chunks b (length rest / b) rest) i [] ≡ slice_index_or (blocks f (input_data f a)) (i + 1) []
 later_block f b e = subst
-    (λ (b : ℕ). (a : Input) (rest : List ℕ) → rest ≡ drop b (input_data f a) → (i : ℕ) → i + 2 < number f a
+    (λ (b : ℕ). (a : Input) (rest : List ℕ) → rest ≡ drop b (input_data f a) → (i : ℕ) → i + 2 < step_count f a
     → slice_index_or (first_chunks b (length rest / b) rest) i [] ≡ slice_index_or (blocks f (input_data f a)) (i + 1) []) e here
   where
-    here : (a : Input) (rest : List ℕ) → rest ≡ drop (block_bytes f) (input_data f a) → (i : ℕ) → i + 2 < number f a
+    here : (a : Input) (rest : List ℕ) → rest ≡ drop (block_bytes f) (input_data f a) → (i : ℕ) → i + 2 < step_count f a
         → slice_index_or (first_chunks (block_bytes f) (length rest / block_bytes f) rest) i [] ≡ slice_index_or (blocks f (input_data f a)) (i + 1) []
     here a rest is i lt =
         let b : ℕ = block_bytes f in
@@ -75,12 +75,12 @@ later_block f b e = subst
         let full : length (take b (drop ((i + 1) * b) z)) ≡ b = length-take-le b (drop ((i + 1) * b) z) (omega (arith, length-drop ((i + 1) * b) z)) in
         first_chunks-at b (length rest / b) i rest (chunk_below f (length rest) i (omega arith))
         ∙ ap (take b) (ap (drop (i * b)) is ∙ drop-drop (i * b) b z ∙ ap (λ (n : ℕ). drop n z) place)
-        ∙ sym (cut-at f (number f a) z (i + 1) (omega arith) ∙ padded-whole b (take b (drop ((i + 1) * b) z)) full)
+        ∙ sym (cut-at f (step_count f a) z (i + 1) (omega arith) ∙ padded-whole b (take b (drop ((i + 1) * b) z)) full)
 
 -- there are chunks for all blocks but the first and the last
-pub later_enough : (f : Family) (b : ℕ) → block_bytes f ≡ b → (a : Input) (rest : List ℕ) → rest ≡ drop b (input_data f a) → number f a ≤ length rest / b + 2
-later_enough f b e = subst (λ (b : ℕ). (a : Input) (rest : List ℕ) → rest ≡ drop b (input_data f a) → number f a ≤ length rest / b + 2) e
+pub later_enough : (f : Family) (b : ℕ) → block_bytes f ≡ b → (a : Input) (rest : List ℕ) → rest ≡ drop b (input_data f a) → step_count f a ≤ length rest / b + 2
+later_enough f b e = subst (λ (b : ℕ). (a : Input) (rest : List ℕ) → rest ≡ drop b (input_data f a) → step_count f a ≤ length rest / b + 2) e
     (λ a rest is.
     let z : List ℕ = input_data f a in
     let size : length z - block_bytes f ≡ length rest = sym (ap length is ∙ length-drop (block_bytes f) z) in
-    subst (λ (m : ℕ). number f a ≤ m / block_bytes f + 2) size (chunks_enough f (length z)))
+    subst (λ (m : ℕ). step_count f a ≤ m / block_bytes f + 2) size (chunks_enough f (length z)))

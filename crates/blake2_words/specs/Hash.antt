@@ -1,6 +1,7 @@
 -- BLAKE2b and BLAKE2s as functions on lists of numbers. Section numbers are those of RFC 7693.
 use Rattle.std.specs.Prelude.{ℕ, zero, suc, ◌+◌, ◌-◌, ◌*◌, ◌/◌, ◌%◌, ◌^◌, ◌<◌, ◌≤◌, min, nat_eq}
-use Rattle.std.specs.Prelude.{Bool, true, false, if◌then◌else◌, List, [], ◌∷◌, ◌++◌, length, map, take}
+use Rattle.std.specs.Prelude.{Bool, true, false, if◌then◌else◌, List, [], ◌∷◌, ◌++◌, length, map}
+use Rattle.std.specs.Prelude.{take}
 use Rattle.std.specs.Prelude.{drop, replicate, bit_xor, slice_index_or, Option, Some, None}
 use Rattle.std.specs.Int.{from_le_bytes, to_le_bytes, w32, w64}
 use Rattle.std.specs.List.{flat_map, range_with_len}

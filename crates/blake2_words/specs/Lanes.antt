@@ -1,6 +1,7 @@
 -- Several messages side by side.
 use Rattle.std.specs.Prelude.{◌≡◌, ℕ, ◌<◌, List, [], length, map, slice_index_or, None}
 use Rattle.std.specs.Borrow.{Bor}
+use Rattle.blake2_words.specs.declared.params.Tree as GivenTree
 use Rattle.blake2_words.specs.declared.steps.Input as GivenInput
 use Rattle.blake2_rows.specs.Family.{Family}
 use Rattle.blake2_words.specs.Hash.{Input, input_data}
@@ -15,7 +16,15 @@ texts = map (λ b. b.now)
 abbrev pub no_input : GivenInput.Input
 no_input =
     let nothing : Bor (List ℕ) = record { ref_ptr = (0, 0); now = [] } in
-    record { salt = nothing; persona = nothing; key = None; message = nothing }
+    let nowhere : GivenTree.Tree = record {
+      fanout = 0;
+      depth = 0;
+      leaf_length = 0;
+      node_offset = 0;
+      node_depth = 0;
+      inner_length = 0;
+    } in
+    record { salt = nothing; persona = nothing; key = None; message = nothing; tree = nowhere }
 
 -- input j of several
 abbrev pub input_at : List GivenInput.Input → ℕ → Input

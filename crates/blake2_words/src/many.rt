@@ -7,7 +7,7 @@ ghost use Rattle.std.specs.Prelude.{◌≡◌, ◌+◌, ◌<◌, ◌≤◌, ℕ,
 ghost use Rattle.blake2_rows.specs.Family.{Family, block_bytes};
 ghost use Rattle.blake2_words.specs.Hash.{blocks, input_data};
 ghost use Rattle.blake2_words.specs.Inputs.{Accepts};
-ghost use Rattle.blake2_words.specs.Run.{number};
+ghost use Rattle.blake2_words.specs.Run;
 ghost use Rattle.blake2_words.specs.Views.{input_of};
 
 use crate::steps::Input;
@@ -19,9 +19,9 @@ fn later_blocks<'a, const B: usize>(input: &Input<'a>) -> &'a [[u8; B]]
     ghost f: { Family }
     requires family { block_bytes f ≡ B }
     requires accepted { Accepts f (input_of input.now) }
-    ensures blocks { (i : ℕ) → i + 2 < number f (input_of input.now)
+    ensures blocks { (i : ℕ) → i + 2 < Run.step_count f (input_of input.now)
         → slice_index_or result.now i [] ≡ slice_index_or (blocks f (input_data f (input_of input.now))) (i + 1) [] }
-    ensures enough { number f (input_of input.now) ≤ length result.now + 2 }
+    ensures enough { Run.step_count f (input_of input.now) ≤ length result.now + 2 }
 {
     let message = input.message;
     let rest = match input.key {

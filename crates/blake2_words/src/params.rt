@@ -11,7 +11,7 @@ ghost use Rattle.blake2_words.specs.Hash.{Fits};
 ghost use Rattle.blake2_words.specs.Reader;
 ghost use Rattle.blake2_words.specs.Views.{given_parameters, tree_of};
 
-use crate::steps::blocks::with_zeros;
+use blake2_rows::padded;
 
 /// The place of a hash in a tree of hashes (the BLAKE2 document, 2.10), as its parameter block names
 /// it (2.8). A core's `admits_tree` tells which of them its family takes.
@@ -110,8 +110,8 @@ fn tree_in<const O: usize>(block: &[u8]) -> Tree
     Tree {
         fanout: block[2],
         depth: block[3],
-        leaf_length: u32::from_le_bytes(with_zeros(&block[4..8])),
-        node_offset: u64::from_le_bytes(with_zeros(&block[8..8 + O])),
+        leaf_length: u32::from_le_bytes(padded(&block[4..8])),
+        node_offset: u64::from_le_bytes(padded(&block[8..8 + O])),
         node_depth: block[8 + O],
         inner_length: block[8 + O + 1],
     }

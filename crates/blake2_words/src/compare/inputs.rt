@@ -6,7 +6,7 @@ ghost use Rattle.blake2_words.specs.Inputs.{Accepts, Same};
 ghost use Rattle.blake2_words.specs.Views.{input_of};
 
 use crate::steps::Input;
-use crate::steps::blocks::with_zeros;
+use blake2_rows::padded;
 
 // Salts and personas, with zeros up to S bytes, keys, trees and messages are equal.
 pub(crate) fn same<const S: usize>(a: &Input<'_>, b: &Input<'_>) -> bool
@@ -16,8 +16,8 @@ pub(crate) fn same<const S: usize>(a: &Input<'_>, b: &Input<'_>) -> bool
     requires b { Accepts f (input_of b.now) }
     ensures { IsTrue result ↔ Same f (input_of a.now) (input_of b.now) }
 {
-    let salts = with_zeros::<S>(a.salt) == with_zeros::<S>(b.salt);
-    let personas = with_zeros::<S>(a.persona) == with_zeros::<S>(b.persona);
+    let salts = padded::<S>(a.salt) == padded::<S>(b.salt);
+    let personas = padded::<S>(a.persona) == padded::<S>(b.persona);
     let keys = a.key == b.key;
     let trees = a.tree == b.tree;
     let messages = a.message == b.message;

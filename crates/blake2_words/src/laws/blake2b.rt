@@ -4,10 +4,10 @@ ghost use Rattle.std.specs.Prelude.{◌≡◌, ◌≢◌, ℕ, ◌<◌, ◌≤�
 ghost use Rattle.blake2_rows.specs.Family.{blake2b};
 ghost use Rattle.blake2_rows.specs.Round.{round};
 ghost use Rattle.blake2_rows.specs.Rows.{sixteen};
-ghost use Rattle.blake2_words.specs.Hash.{padded};
+ghost use Rattle.blake2_words.specs.Hash;
 ghost use Rattle.blake2_words.specs.Laws.{ZerosLeaveDigests};
 
-use crate::steps::blocks::with_zeros;
+use blake2_rows::padded;
 use blake2_rows::rows::u64x4;
 
 /// `unround` undoes `round`: the sixteen words of `v` are afterwards as they were, for any sixteen
@@ -59,8 +59,8 @@ pub fn round_keeps_apart(a: &mut [u64x4; 4], b: &mut [u64x4; 4], m: &[u64; 16], 
 /// within its 16 bytes, leave each digest as it is (the BLAKE2 document, 2.8).
 pub fn padded_text(text: &[u8]) -> [u8; 16]
     requires { length text.now ≤ 16 }
-    ensures padding { result ≡ padded 16 text.now }
+    ensures padding { result ≡ Hash.padded 16 text.now }
     ensures law { ZerosLeaveDigests blake2b }
 {
-    with_zeros(text)
+    padded(text)
 }

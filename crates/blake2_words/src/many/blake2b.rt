@@ -1,15 +1,18 @@
 //! Four messages of BLAKE2b: eight rows hold their chaining words, row k having word k of each.
 
-ghost use Rattle.std.specs.Prelude.{◌≡◌, ◌↔◌, ◌<◌, ◌≤◌, ◌-◌, ℕ, List, [], ◌++◌, IsTrue, length, bit_xor, map, take, drop, slice_index, slice_index_or};
+ghost use Rattle.std.specs.Prelude.{◌≡◌, ◌↔◌, ◌<◌, ◌≤◌, ◌-◌, ℕ, List, [], ◌++◌, IsTrue, length};
+ghost use Rattle.std.specs.Prelude.{bit_xor, map, take, drop, slice_index, slice_index_or};
 ghost use Rattle.blake2_rows.specs.Family.{blake2b, output_bytes};
 ghost use Rattle.blake2_rows.specs.Lanes.{in_lane};
 ghost use Rattle.blake2_rows.specs.Rows.{eight};
 ghost use Rattle.blake2_words.specs.Hash;
-ghost use Rattle.blake2_words.specs.Hash.{after_rounds, before_rounds, blocks, bytes_of, chain, digest};
-ghost use Rattle.blake2_words.specs.Hash.{final, input_data, input_start, last_chain, words_of, xor_words};
+ghost use Rattle.blake2_words.specs.Hash.{after_rounds, before_rounds, blocks, bytes_of, chain};
+ghost use Rattle.blake2_words.specs.Hash.{digest};
+ghost use Rattle.blake2_words.specs.Hash.{final, input_data, input_start, last_chain, words_of};
+ghost use Rattle.blake2_words.specs.Hash.{xor_words};
 ghost use Rattle.blake2_words.specs.Inputs.{Accepts};
 ghost use Rattle.blake2_words.specs.Lanes.{AcceptsAtOnce, input_at, texts};
-ghost use Rattle.blake2_words.specs.Run.{number};
+ghost use Rattle.blake2_words.specs.Run;
 ghost use Rattle.blake2_words.specs.Views.{given_flags, input_of};
 
 use super::later_blocks;
@@ -183,7 +186,7 @@ fn start(output_size: usize, inputs: &[Input<'_>; 4]) -> [u64x4; 8]
 // Block i of each of four inputs, and their compression.
 fn compress_at(h: &mut [u64x4; 8], inputs: &[Input<'_>; 4], i: usize, counter: u64, flags: Flags)
     requires accepted { (j : ℕ) → j < 4 → Accepts blake2b (input_at inputs.now j) }
-    requires within { (j : ℕ) → j < 4 → i < number blake2b (input_at inputs.now j) }
+    requires within { (j : ℕ) → j < 4 → i < Run.step_count blake2b (input_at inputs.now j) }
     ensures { (j : ℕ) → j < 4 → in_lane j h.new
         ≡ Hash.compress blake2b (in_lane j h.old) (slice_index_or (blocks blake2b (input_data blake2b (input_at inputs.now j))) i []) counter (given_flags flags) }
 {
@@ -199,9 +202,9 @@ fn compress_at(h: &mut [u64x4; 8], inputs: &[Input<'_>; 4], i: usize, counter: u
 fn absorb_inner(h: &mut [u64x4; 8], inputs: &[Input<'_>; 4])
     requires accepted { (j : ℕ) → j < 4 → Accepts blake2b (input_at inputs.now j) }
     requires same_number { (j : ℕ) → j < 4
-        → number blake2b (input_at inputs.now j) ≡ number blake2b (input_at inputs.now 0) }
+        → Run.step_count blake2b (input_at inputs.now j) ≡ Run.step_count blake2b (input_at inputs.now 0) }
     ensures { (j : ℕ) → j < 4 → in_lane j h.new
-        ≡ chain blake2b (in_lane j h.old) 0 (blocks blake2b (input_data blake2b (input_at inputs.now j))) (number blake2b (input_at inputs.now 0) - 1) }
+        ≡ chain blake2b (in_lane j h.old) 0 (blocks blake2b (input_data blake2b (input_at inputs.now j))) (Run.step_count blake2b (input_at inputs.now 0) - 1) }
 {
     let count = step_count::<128>(&inputs[0]);
     if count == 1 {

@@ -3,7 +3,8 @@
 ghost use Rattle.std.specs.Prelude.{◌≡◌, ◌+◌, ◌<◌, ◌≤◌, ◌*◌, ◌-◌, ◌^◌, ℕ, length, take, drop, map};
 ghost use Rattle.std.specs.Prelude.{slice_index_or, [], IfOk};
 ghost use Rattle.blake2_rows.specs.Family.{Family, block_bytes};
-ghost use Rattle.blake2_words.specs.Hash.{padded, input_data, input_parameters, blocks, steps};
+ghost use Rattle.blake2_words.specs.Hash;
+ghost use Rattle.blake2_words.specs.Hash.{input_data, input_parameters, blocks, steps};
 ghost use Rattle.blake2_words.specs.Inputs.{Accepts};
 ghost use Rattle.blake2_words.specs.Transcript.{entry};
 ghost use Rattle.blake2_words.specs.Views.{input_of, entry_of, given_parameters, key_of};
@@ -12,7 +13,7 @@ ghost use Rattle.blake2_words.specs.Run.{run_step};
 
 use super::{Entry, Input};
 use crate::params::Parameters;
-pub(crate) use blake2_rows::padded as with_zeros;
+use blake2_rows::padded;
 use std::alloc::{AllocError, Global};
 
 // The counted length: the key's block, if there is one, and the message.
@@ -65,10 +66,10 @@ pub(crate) fn step_count<const B: usize>(input: &Input<'_>) -> u64
 // The block of the message at place `from`.
 fn message_block<const B: usize>(message: &[u8], from: usize) -> [u8; B]
     requires { from ≤ length message.now }
-    ensures { result ≡ padded B (take B (drop from message.now)) }
+    ensures { result ≡ Hash.padded B (take B (drop from message.now)) }
 {
     let rest = &message[from..];
-    with_zeros(&rest[..rest.len().min(B)])
+    padded(&rest[..rest.len().min(B)])
 }
 
 // Block i of an input.
@@ -83,7 +84,7 @@ pub(crate) fn block_at<const B: usize>(input: &Input<'_>, i: usize) -> [u8; B]
         None => message_block(input.message, i * B),
         Some(key) => {
             if i == 0 {
-                with_zeros(key)
+                padded(key)
             } else {
                 message_block(input.message, (i - 1) * B)
             }

@@ -12,9 +12,9 @@ ghost use Rattle.blake2_words.specs.Reader.{told_count, told_data, told_input, t
 ghost use Rattle.blake2_words.specs.Reader.{told_message};
 ghost use Rattle.blake2_words.specs.Transcript.{joined};
 
-use super::blocks::with_zeros;
 use super::{Entry, Reading};
 use crate::params::Parameters;
+use blake2_rows::padded;
 use std::alloc::{AllocError, Global};
 
 // Whether each byte is zero.
@@ -165,8 +165,8 @@ pub(crate) fn reading<const B: usize, const S: usize>(
     let (key, message) = key_and_message(alloc, entries, told.key_size)?;
     Ok(Reading {
         output_size: told.output_size,
-        salt: with_zeros(told.salt),
-        persona: with_zeros(told.persona),
+        salt: padded(told.salt),
+        persona: padded(told.persona),
         key,
         tree: told.tree,
         message,

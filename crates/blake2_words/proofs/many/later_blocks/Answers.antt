@@ -3,7 +3,7 @@ use Rattle.std.proofs.lemmas.List.{take_rest}
 use Rattle.blake2_rows.specs.Family.{block_bytes}
 use Rattle.blake2_words.specs.Hash.{input_data}
 use Rattle.blake2_words.specs.Inputs.{Accepts}
-use Rattle.blake2_words.specs.Run.{number}
+use Rattle.blake2_words.specs.Run.{step_count}
 use Rattle.blake2_words.specs.Views.{key_of, input_of}
 use Rattle.blake2_words.proofs.LaterBlocks.{rest_none, rest_some, later_block, later_enough}
 use Rattle.blake2_words.proofs.many.later_blocks.Goals.{in-None, in-Some}
@@ -22,6 +22,6 @@ returns g c =
     ] in record {
       blocks = λ i lt. ap (λ (l : List (List ℕ)). slice_index_or l i []) c.as_chunks.ensures.front
           ∙ later_block g.f g.row.B family (input_of c.args.input.now) c.match-input.rest.now rest i lt;
-      enough = subst (λ (n : ℕ). number g.f (input_of c.args.input.now) ≤ n + 2) (sym c.as_chunks.ensures.front_len)
+      enough = subst (λ (n : ℕ). step_count g.f (input_of c.args.input.now) ≤ n + 2) (sym c.as_chunks.ensures.front_len)
           (later_enough g.f g.row.B family (input_of c.args.input.now) c.match-input.rest.now rest);
     }

@@ -2,7 +2,7 @@ use Rattle.std.proofs.Common.{◌-◌, ℕ, [], length, slice_index_or, sym, ap,
 use Rattle.blake2_rows.specs.Family.{blake2b}
 use Rattle.blake2_words.specs.Hash.{block_count, blocks, final, input_data}
 use Rattle.blake2_words.specs.Lanes.{input_at}
-use Rattle.blake2_words.specs.Run.{number}
+use Rattle.blake2_words.specs.Run.{step_count}
 use Rattle.blake2_words.proofs.Lanes.{run_end}
 use Rattle.blake2_words.proofs.Streaming.{block_count-pos}
 use Rattle.blake2_words.proofs.many.blake2b.absorb.Goals as goal
@@ -21,5 +21,5 @@ returns c j h =
     let z = input_data blake2b (input_at c.args.inputs.now j) in
     let same = ap (block_count blake2b) (c.requires.same_count j h) in
     let last = c.step_count.ensures in
-    run_end blake2b _ z (number blake2b (input_at c.args.inputs.now 0) - 1) _ _ _ _ final (c.absorb_inner.ensures j h) (ap (λ (m : ℕ). m - 1) (sym same))
+    run_end blake2b _ z (step_count blake2b (input_at c.args.inputs.now 0) - 1) _ _ _ _ final (c.absorb_inner.ensures j h) (ap (λ (m : ℕ). m - 1) (sym same))
     (c.compress_at.ensures j h) (ap (λ (m : ℕ). slice_index_or (blocks blake2b z) (m - 1) []) last) (c.counted.ensures ∙ sym (c.requires.same_count j h))

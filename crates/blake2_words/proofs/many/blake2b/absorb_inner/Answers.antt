@@ -5,7 +5,7 @@ use Rattle.blake2_rows.specs.Lanes.{in_lane}
 use Rattle.blake2_rows.proofs.Lanes.{listed_in_four}
 use Rattle.blake2_words.specs.Hash.{Input, blocks, chain, input_data}
 use Rattle.blake2_words.specs.Lanes.{input_at}
-use Rattle.blake2_words.specs.Run.{number}
+use Rattle.blake2_words.specs.Run.{step_count}
 use Rattle.blake2_words.proofs.Lanes.{no_block, block_more}
 use Rattle.blake2_words.proofs.Streaming.{block_count-pos}
 use Rattle.blake2_words.proofs.many.blake2b.absorb_inner.Goals as goal
@@ -80,5 +80,5 @@ returns c j h =
     let long : length inputs ≡ 4 = search rules in
     let first = c.step_count-count.ensures in
     let some = block_count-pos blake2b (length (input_data blake2b (input_at inputs 0))) in
-    let all : c.loop-i.i + 1 ≡ number blake2b (input_at inputs 0) - 1 = omega (arith, first, some) in
+    let all : c.loop-i.i + 1 ≡ step_count blake2b (input_at inputs 0) - 1 = omega (arith, first, some) in
     c.loop-i.invariant j h ∙ ap (chain blake2b (in_lane j c.args.h.now) 0 (blocks blake2b (input_data blake2b (input_at inputs j)))) all
