@@ -100,6 +100,12 @@ impl Blake2sContext {
         self.buffer = start_block;
     }
 
+    /// Makes a compiler keep the zeros of `wipe`, as [`blake2_digest::settle`] does.
+    pub(crate) fn settle(&self) {
+        self.core.settle();
+        self.buffer.settle();
+    }
+
     /// Goes back to the start, with this block pending.
     pub(crate) fn restart(&mut self, start_block: LazyBuffer<64>)
         requires { length start_block ≤ 64 }

@@ -1,5 +1,5 @@
 //! The block core of BLAKE2s.
-ghost use Rattle.std.specs.Prelude.{◌≡◌, ⊤, ℕ, ◌+◌, ◌^◌, ◌<◌, ◌≤◌, List, [], ◌∷◌, length, replicate};
+ghost use Rattle.std.specs.Prelude.{◌≡◌, ⊤, ℕ, ◌+◌, ◌^◌, ◌<◌, ◌≤◌, ◌↔◌, List, [], ◌∷◌, length, IfOk, IsErr};
 ghost use Rattle.blake2_rows.specs.Family.{blake2s};
 ghost use Rattle.blake2_words.specs.Hash.{parameters_of};
 ghost use Rattle.blake2.specs.Cores.{CoreState, absorbed, completed, last_output, core_made, core_restarted, core_wiped};
@@ -14,9 +14,9 @@ use blake2_rows::rows::u32x4;
 use blake2_words::params::{Parameters, blake2s as params};
 use blake2_words::words::{Flags, blake2s as words};
 use std::alloc::AllocError;
-use std::fmt;
 use std::fmt::Write;
 use std::marker::Model;
+use std::{fmt, hint};
 
 /// The core of BLAKE2s: it compresses blocks of 64 bytes, and its outputs have up to 32 bytes.
 pub struct Blake2sVarCore {
@@ -57,6 +57,16 @@ impl Blake2sVarCore {
             h: start,
             start,
             counter: 0,
+        }
+    }
+
+    // Makes a compiler keep the zeros of `wipe`, as `blake2_digest::settle` does.
+    #[inline(never)]
+    pub(crate) fn settle(&self) {
+        let [h, start] = [&self.h, &self.start];
+        let is_zero = h[0].is_zero() & h[1].is_zero() & start[0].is_zero() & start[1].is_zero();
+        if !(is_zero & (self.counter == 0)) {
+            hint::spin_loop();
         }
     }
 
@@ -118,7 +128,11 @@ impl VariableOutputCore<64, 32> for Blake2sVarCore {
 
     ghost after_last = { λ old p new. new ≡ completed blake2s old p };
 
-    fn new(output_size: usize) -> Result<Self, InvalidOutputSize> {
+    fn new(output_size: usize) -> Result<Self, InvalidOutputSize>
+        ensures refused { IsErr result ↔ (32 < output_size) }
+        ensures made { IfOk result (λ core.
+            core ≡ core_made blake2s (parameters_of output_size 0 [] [])) }
+    {
         if output_size > 32 {
             return Err(InvalidOutputSize);
         }
@@ -140,7 +154,11 @@ impl VariableOutputCoreCustomized for Blake2sVarCore {
 
     ghost customized = { λ persona n core. core ≡ core_made blake2s (parameters_of n 0 [] persona) };
 
-    fn new_customized(customization: &[u8], output_size: usize) -> Self {
+    fn new_customized(customization: &[u8], output_size: usize) -> Self
+        requires customization { length customization.now ≤ 8 }
+        requires output_size { output_size ≤ 32 }
+        ensures { result ≡ core_made blake2s (parameters_of output_size 0 [] customization.now) }
+    {
         Self::new_with_params(&[], customization, 0, output_size)
     }
 }

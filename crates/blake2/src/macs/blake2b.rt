@@ -1,5 +1,5 @@
 //! The MAC of BLAKE2b.
-ghost use Rattle.std.specs.Prelude.{◌≡◌, ⊤, ℕ, ◌+◌, ◌-◌, ◌*◌, ◌^◌, ◌<◌, ◌≤◌, ◌↔◌, List, [], length, None, Some, IfOk, IsErr};
+ghost use Rattle.std.specs.Prelude.{◌≡◌, ⊤, ℕ, ◌+◌, ◌-◌, ◌*◌, ◌^◌, ◌<◌, ◌≤◌, ◌↔◌, ◌⊎◌, List, [], length, None, Some, IfOk, IsErr};
 ghost use Rattle.std.proofs.Common.{arith};
 ghost use Rattle.blake2_rows.specs.Family.{blake2b};
 ghost use Rattle.blake2_words.specs.Views.{key_of};
@@ -10,14 +10,13 @@ use crate::contexts::blake2b::Blake2bContext;
 use crate::cores::blake2b::Blake2bVarCore;
 use blake2_digest::{
     Duplicate, FixedOutput, FixedOutputReset, InvalidLength, KeyInit, KeySizeUser, LazyBuffer, Mac,
-    MacMarker, OutputSizeUser, Reset, Update, Wipe, ZeroizeOnDrop, padded,
+    MacMarker, OutputSizeUser, Reset, Update, Wipe, ZeroizeOnDrop, padded, settle,
 };
 use std::alloc::AllocError;
 use std::fmt;
 use std::fmt::Write;
 
 /// BLAKE2b with outputs of `N` bytes, at most 64, as a message authentication code.
-#[derive(Drop)]
 pub struct Blake2bMac<const N: usize> {
     context: Blake2bContext,
     // What a start leaves pending: the key, padded with zeros to a block, or nothing.
@@ -65,12 +64,15 @@ impl<const N: usize> Blake2bMac<N> {
         requires persona { length persona.now ≤ 16 }
         ensures { Fresh (blake2b_mac_meaning N) (blake2_of blake2b N salt.now persona.now (Some key.now)) 128 result }
     {
-        let block = padded::<128>(key);
+        let mut block = padded::<128>(key);
         let core = Blake2bVarCore::new_with_params(salt, persona, key.len(), N);
-        Blake2bMac {
+        let mac = Blake2bMac {
             context: Blake2bContext::new(core, LazyBuffer::new(&block)),
             key_block: LazyBuffer::new(&block),
-        }
+        };
+        block = [0; 128];
+        settle(&block);
+        mac
     }
 
     // A MAC under no key that has taken nothing.
@@ -99,17 +101,28 @@ impl<const N: usize> OutputSizeUser for Blake2bMac<N> {
 impl<const N: usize> MacMarker for Blake2bMac<N> {}
 
 impl<const N: usize> KeyInit<64> for Blake2bMac<N> {
+    ghost use Rattle.blake2.specs.Hashers.{blake2b_mac_meaning};
+    ghost use Rattle.blake2_digest.specs.States.{Fresh};
+
     ghost is_supported = { N ≤ 64 };
 
     ghost keyed = { λ key. blake2_of blake2b N [] [] (Some key) };
 
     ghost key_count = { 128 };
 
-    fn new(key: &[u8; 64]) -> Self {
+    fn new(key: &[u8; 64]) -> Self
+        requires { N ≤ 64 }
+        ensures { Fresh (blake2b_mac_meaning N) (blake2_of blake2b N [] [] (Some key.now)) 128 result }
+    {
         Self::under_key(key, &[], &[])
     }
 
-    fn new_from_slice(key: &[u8]) -> Result<Self, InvalidLength> {
+    fn new_from_slice(key: &[u8]) -> Result<Self, InvalidLength>
+        requires { N ≤ 64 }
+        ensures refused { IsErr result ↔ ((length key.now ≡ 0) ⊎ (64 < length key.now)) }
+        ensures made { IfOk result (λ mac.
+            Fresh (blake2b_mac_meaning N) (blake2_of blake2b N [] [] (Some key.now)) 128 mac) }
+    {
         if key.is_empty() || key.len() > 64 {
             return Err(InvalidLength);
         }
@@ -198,6 +211,18 @@ impl<const N: usize> Wipe for Blake2bMac<N> {
     {
         self.context.wipe();
         self.key_block.wipe();
+        self.context.settle();
+        self.key_block.settle();
+    }
+}
+
+impl<const N: usize> Drop for Blake2bMac<N> {
+    fn drop(mut self) {
+        self.wipe();
+        let Blake2bMac {
+            context: _context,
+            key_block: _key_block,
+        } = self;
     }
 }
 
