@@ -123,10 +123,7 @@ impl<const N: usize> KeyInit<64> for Blake2bMac<N> {
         ensures made { IfOk result (λ mac.
             Fresh (blake2b_mac_meaning N) (blake2_of blake2b N [] [] (Some key.now)) 128 mac) }
     {
-        if key.is_empty() || key.len() > 64 {
-            return Err(InvalidLength);
-        }
-        Ok(Self::under_key(key, &[], &[]))
+        Self::new_with_salt_and_personal(Some(key), &[], &[])
     }
 }
 

@@ -123,10 +123,7 @@ impl<const N: usize> KeyInit<32> for Blake2sMac<N> {
         ensures made { IfOk result (λ mac.
             Fresh (blake2s_mac_meaning N) (blake2_of blake2s N [] [] (Some key.now)) 64 mac) }
     {
-        if key.is_empty() || key.len() > 32 {
-            return Err(InvalidLength);
-        }
-        Ok(Self::under_key(key, &[], &[]))
+        Self::new_with_salt_and_personal(Some(key), &[], &[])
     }
 }
 
