@@ -1,8 +1,10 @@
 //! The block core of BLAKE2s.
-ghost use Rattle.std.specs.Prelude.{◌≡◌, ⊤, ℕ, ◌+◌, ◌^◌, ◌<◌, ◌≤◌, ◌↔◌, List, [], ◌∷◌, length, IfOk, IsErr};
+ghost use Rattle.std.specs.Prelude.{◌≡◌, ⊤, ℕ, ◌+◌, ◌^◌, ◌<◌, ◌≤◌, ◌↔◌, List, [], ◌∷◌, length};
+ghost use Rattle.std.specs.Prelude.{IfOk, IsErr};
 ghost use Rattle.blake2_rows.specs.Family.{blake2s};
 ghost use Rattle.blake2_words.specs.Hash.{parameters_of};
-ghost use Rattle.blake2.specs.Cores.{CoreState, absorbed, completed, last_output, core_made, core_restarted, core_wiped};
+ghost use Rattle.blake2.specs.Cores.{CoreState, absorbed, completed, last_output, core_made};
+ghost use Rattle.blake2.specs.Cores.{core_restarted, core_wiped};
 ghost use Rattle.blake2.specs.CoreLaws.{absorbed-append, absorbed-nil, count-absorbed};
 
 use blake2_digest::{
@@ -33,7 +35,8 @@ impl Model for Blake2sVarCore {
 
     ghost Value = { CoreState };
 
-    ghost view = { λ core. record { h = eight core.h; start = eight core.start; count = core.counter } };
+    ghost view = { λ core.
+        record { h = eight core.h; start = eight core.start; count = core.counter } };
 }
 
 impl Blake2sVarCore {
@@ -45,7 +48,8 @@ impl Blake2sVarCore {
         requires persona { length persona.now ≤ 8 }
         requires key_size { key_size ≤ 32 }
         requires output_size { output_size ≤ 32 }
-        ensures { result ≡ core_made blake2s (parameters_of output_size key_size salt.now persona.now) }
+        ensures { result
+            ≡ core_made blake2s (parameters_of output_size key_size salt.now persona.now) }
     {
         let start = params::start_rows(&Parameters {
             output_size,
@@ -152,7 +156,8 @@ impl VariableOutputCore<64, 32> for Blake2sVarCore {
 impl VariableOutputCoreCustomized for Blake2sVarCore {
     ghost can_customize = { λ persona n. (length persona ≤ 8) × (n ≤ 32) };
 
-    ghost customized = { λ persona n core. core ≡ core_made blake2s (parameters_of n 0 [] persona) };
+    ghost customized = { λ persona n core.
+        core ≡ core_made blake2s (parameters_of n 0 [] persona) };
 
     fn new_customized(customization: &[u8], output_size: usize) -> Self
         requires customization { length customization.now ≤ 8 }

@@ -1,5 +1,6 @@
 //! The hasher of BLAKE2b.
-ghost use Rattle.std.specs.Prelude.{◌≡◌, ⊤, ℕ, ◌+◌, ◌-◌, ◌*◌, ◌^◌, ◌<◌, ◌≤◌, List, [], length, None};
+ghost use Rattle.std.specs.Prelude.{◌≡◌, ⊤, ℕ, ◌+◌, ◌-◌, ◌*◌, ◌^◌, ◌<◌, ◌≤◌, List, [], length};
+ghost use Rattle.std.specs.Prelude.{None};
 ghost use Rattle.std.proofs.Common.{arith};
 ghost use Rattle.blake2_rows.specs.Family.{blake2b};
 ghost use Rattle.blake2_digest.specs.Blocks.{block_count};
@@ -102,7 +103,8 @@ impl<const N: usize> CustomizedInit for Blake2b<N> {
     fn new_customized(customization: &[u8]) -> Self
         requires supported { N ≤ 64 }
         requires persona { length customization.now ≤ 16 }
-        ensures { Fresh (blake2b_meaning N) (blake2_of blake2b N [] customization.now None) 0 result }
+        ensures { Fresh (blake2b_meaning N)
+            (blake2_of blake2b N [] customization.now None) 0 result }
     {
         Self::with_persona(customization)
     }

@@ -1,5 +1,6 @@
 //! The hasher of BLAKE2s.
-ghost use Rattle.std.specs.Prelude.{◌≡◌, ⊤, ℕ, ◌+◌, ◌-◌, ◌*◌, ◌^◌, ◌<◌, ◌≤◌, List, [], length, None};
+ghost use Rattle.std.specs.Prelude.{◌≡◌, ⊤, ℕ, ◌+◌, ◌-◌, ◌*◌, ◌^◌, ◌<◌, ◌≤◌, List, [], length};
+ghost use Rattle.std.specs.Prelude.{None};
 ghost use Rattle.std.proofs.Common.{arith};
 ghost use Rattle.blake2_rows.specs.Family.{blake2s};
 ghost use Rattle.blake2_digest.specs.Blocks.{block_count};
@@ -102,7 +103,8 @@ impl<const N: usize> CustomizedInit for Blake2s<N> {
     fn new_customized(customization: &[u8]) -> Self
         requires supported { N ≤ 32 }
         requires persona { length customization.now ≤ 8 }
-        ensures { Fresh (blake2s_meaning N) (blake2_of blake2s N [] customization.now None) 0 result }
+        ensures { Fresh (blake2s_meaning N)
+            (blake2_of blake2s N [] customization.now None) 0 result }
     {
         Self::with_persona(customization)
     }

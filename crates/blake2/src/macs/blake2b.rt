@@ -1,5 +1,6 @@
 //! The MAC of BLAKE2b.
-ghost use Rattle.std.specs.Prelude.{◌≡◌, ⊤, ℕ, ◌+◌, ◌-◌, ◌*◌, ◌^◌, ◌<◌, ◌≤◌, ◌↔◌, ◌⊎◌, List, [], length, None, Some, IfOk, IsErr};
+ghost use Rattle.std.specs.Prelude.{◌≡◌, ⊤, ℕ, ◌+◌, ◌-◌, ◌*◌, ◌^◌, ◌<◌, ◌≤◌, ◌↔◌, ◌⊎◌, List, []};
+ghost use Rattle.std.specs.Prelude.{length, None, Some, IfOk, IsErr};
 ghost use Rattle.std.proofs.Common.{arith};
 ghost use Rattle.blake2_rows.specs.Family.{blake2b};
 ghost use Rattle.blake2_words.specs.Views.{key_of};
@@ -29,9 +30,9 @@ impl<const N: usize> Blake2bMac<N> {
     ghost use Rattle.blake2.specs.Hashers.{blake2b_mac_meaning};
     ghost use Rattle.blake2_digest.specs.States.{Fresh};
 
-    /// A MAC under a key of 1 to 64 bytes or none, with a salt and a persona of up to 16 bytes each;
-    /// `None` is no key, and no block of one. Refused exactly for a given key of no bytes or of more
-    /// than 64, and for a salt or a persona of more than 16.
+    /// A MAC under a key of 1 to 64 bytes or none, with a salt and a persona of up to 16 bytes
+    /// each; `None` is no key, and no block of one. Refused exactly for a given key of no bytes or
+    /// of more than 64, and for a salt or a persona of more than 16.
     pub fn new_with_salt_and_personal(
         key: Option<&[u8]>,
         salt: &[u8],
@@ -40,7 +41,8 @@ impl<const N: usize> Blake2bMac<N> {
         requires { N ≤ 64 }
         ensures refused { IsErr result ↔ IsRefused blake2b (key_of key.entry) salt.now persona.now }
         ensures made { IfOk result (λ mac. Fresh (blake2b_mac_meaning N)
-            (blake2_of blake2b N salt.now persona.now (key_of key.entry)) (key_count blake2b (key_of key.entry)) mac) }
+            (blake2_of blake2b N salt.now persona.now (key_of key.entry))
+            (key_count blake2b (key_of key.entry)) mac) }
     {
         if salt.len() > 16 || persona.len() > 16 {
             return Err(InvalidLength);
@@ -62,7 +64,8 @@ impl<const N: usize> Blake2bMac<N> {
         requires key { length key.now ≤ 64 }
         requires salt { length salt.now ≤ 16 }
         requires persona { length persona.now ≤ 16 }
-        ensures { Fresh (blake2b_mac_meaning N) (blake2_of blake2b N salt.now persona.now (Some key.now)) 128 result }
+        ensures { Fresh (blake2b_mac_meaning N)
+            (blake2_of blake2b N salt.now persona.now (Some key.now)) 128 result }
     {
         let mut block = padded::<128>(key);
         let core = Blake2bVarCore::new_with_params(salt, persona, key.len(), N);
@@ -80,7 +83,8 @@ impl<const N: usize> Blake2bMac<N> {
         requires supported { N ≤ 64 }
         requires salt { length salt.now ≤ 16 }
         requires persona { length persona.now ≤ 16 }
-        ensures { Fresh (blake2b_mac_meaning N) (blake2_of blake2b N salt.now persona.now None) 0 result }
+        ensures { Fresh (blake2b_mac_meaning N)
+            (blake2_of blake2b N salt.now persona.now None) 0 result }
     {
         let core = Blake2bVarCore::new_with_params(salt, persona, 0, N);
         Blake2bMac {
@@ -112,7 +116,8 @@ impl<const N: usize> KeyInit<64> for Blake2bMac<N> {
 
     fn new(key: &[u8; 64]) -> Self
         requires { N ≤ 64 }
-        ensures { Fresh (blake2b_mac_meaning N) (blake2_of blake2b N [] [] (Some key.now)) 128 result }
+        ensures { Fresh (blake2b_mac_meaning N)
+            (blake2_of blake2b N [] [] (Some key.now)) 128 result }
     {
         Self::under_key(key, &[], &[])
     }

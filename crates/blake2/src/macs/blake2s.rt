@@ -1,5 +1,6 @@
 //! The MAC of BLAKE2s.
-ghost use Rattle.std.specs.Prelude.{◌≡◌, ⊤, ℕ, ◌+◌, ◌-◌, ◌*◌, ◌^◌, ◌<◌, ◌≤◌, ◌↔◌, ◌⊎◌, List, [], length, None, Some, IfOk, IsErr};
+ghost use Rattle.std.specs.Prelude.{◌≡◌, ⊤, ℕ, ◌+◌, ◌-◌, ◌*◌, ◌^◌, ◌<◌, ◌≤◌, ◌↔◌, ◌⊎◌, List, []};
+ghost use Rattle.std.specs.Prelude.{length, None, Some, IfOk, IsErr};
 ghost use Rattle.std.proofs.Common.{arith};
 ghost use Rattle.blake2_rows.specs.Family.{blake2s};
 ghost use Rattle.blake2_words.specs.Views.{key_of};
@@ -29,9 +30,9 @@ impl<const N: usize> Blake2sMac<N> {
     ghost use Rattle.blake2.specs.Hashers.{blake2s_mac_meaning};
     ghost use Rattle.blake2_digest.specs.States.{Fresh};
 
-    /// A MAC under a key of 1 to 32 bytes or none, with a salt and a persona of up to 8 bytes each;
-    /// `None` is no key, and no block of one. Refused exactly for a given key of no bytes or of more
-    /// than 32, and for a salt or a persona of more than 8.
+    /// A MAC under a key of 1 to 32 bytes or none, with a salt and a persona of up to 8 bytes
+    /// each; `None` is no key, and no block of one. Refused exactly for a given key of no bytes or
+    /// of more than 32, and for a salt or a persona of more than 8.
     pub fn new_with_salt_and_personal(
         key: Option<&[u8]>,
         salt: &[u8],
@@ -40,7 +41,8 @@ impl<const N: usize> Blake2sMac<N> {
         requires { N ≤ 32 }
         ensures refused { IsErr result ↔ IsRefused blake2s (key_of key.entry) salt.now persona.now }
         ensures made { IfOk result (λ mac. Fresh (blake2s_mac_meaning N)
-            (blake2_of blake2s N salt.now persona.now (key_of key.entry)) (key_count blake2s (key_of key.entry)) mac) }
+            (blake2_of blake2s N salt.now persona.now (key_of key.entry))
+            (key_count blake2s (key_of key.entry)) mac) }
     {
         if salt.len() > 8 || persona.len() > 8 {
             return Err(InvalidLength);
@@ -62,7 +64,8 @@ impl<const N: usize> Blake2sMac<N> {
         requires key { length key.now ≤ 32 }
         requires salt { length salt.now ≤ 8 }
         requires persona { length persona.now ≤ 8 }
-        ensures { Fresh (blake2s_mac_meaning N) (blake2_of blake2s N salt.now persona.now (Some key.now)) 64 result }
+        ensures { Fresh (blake2s_mac_meaning N)
+            (blake2_of blake2s N salt.now persona.now (Some key.now)) 64 result }
     {
         let mut block = padded::<64>(key);
         let core = Blake2sVarCore::new_with_params(salt, persona, key.len(), N);
@@ -80,7 +83,8 @@ impl<const N: usize> Blake2sMac<N> {
         requires supported { N ≤ 32 }
         requires salt { length salt.now ≤ 8 }
         requires persona { length persona.now ≤ 8 }
-        ensures { Fresh (blake2s_mac_meaning N) (blake2_of blake2s N salt.now persona.now None) 0 result }
+        ensures { Fresh (blake2s_mac_meaning N)
+            (blake2_of blake2s N salt.now persona.now None) 0 result }
     {
         let core = Blake2sVarCore::new_with_params(salt, persona, 0, N);
         Blake2sMac {
@@ -112,7 +116,8 @@ impl<const N: usize> KeyInit<32> for Blake2sMac<N> {
 
     fn new(key: &[u8; 32]) -> Self
         requires { N ≤ 32 }
-        ensures { Fresh (blake2s_mac_meaning N) (blake2_of blake2s N [] [] (Some key.now)) 64 result }
+        ensures { Fresh (blake2s_mac_meaning N)
+            (blake2_of blake2s N [] [] (Some key.now)) 64 result }
     {
         Self::under_key(key, &[], &[])
     }
