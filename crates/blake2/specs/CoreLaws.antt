@@ -6,14 +6,19 @@ use Rattle.blake2_words.proofs.Streaming.{chain-append}
 use Rattle.blake2.specs.Cores.{CoreState, absorbed}
 
 -- two lists in turn are their join
-pub absorbed-append : (f : Family) (core : CoreState) (xs ys : List (List ℕ)) → absorbed f core (xs ++ ys) ≡ absorbed f (absorbed f core xs) ys
+pub absorbed-append : (f : Family) (core : CoreState) (xs ys : List (List ℕ))
+    → absorbed f core (xs ++ ys) ≡ absorbed f (absorbed f core xs) ys
 unfolding absorbed
 absorbed-append f core xs ys =
     let number : length (xs ++ ys) ≡ length xs + length ys = length-append xs ys in
     let order : block_bytes f * length xs ≡ length xs * block_bytes f = omega arith in
-    let words : chain f core.h core.count (xs ++ ys) (length (xs ++ ys)) ≡ chain f (chain f core.h core.count xs (length xs)) (core.count + block_bytes f * length xs) ys (length ys) =
+    let words : chain f core.h core.count (xs ++ ys) (length (xs ++ ys))
+    ≡ chain f (chain f core.h core.count xs (length xs))
+    (core.count + block_bytes f * length xs) ys (length ys) =
     rw (number, order) (chain-append f core.h core.count (length xs) xs ys (length ys) refl) in
-    let bytes : core.count + block_bytes f * length (xs ++ ys) ≡ core.count + block_bytes f * length xs + block_bytes f * length ys = rw number (omega arith) in
+    let bytes : core.count + block_bytes f * length (xs ++ ys)
+    ≡ core.count + block_bytes f * length xs + block_bytes f * length ys =
+    rw number (omega arith) in
     λ i. record { h = words i; start = core.start; count = bytes i }
 
 -- no blocks change nothing
@@ -24,6 +29,7 @@ absorbed-nil f core =
     λ i. record { h = core.h; start = core.start; count = none i }
 
 -- the count grows by the bytes of each block
-pub count-absorbed : (f : Family) (core : CoreState) (xs : List (List ℕ)) → (absorbed f core xs).count ≡ core.count + block_bytes f * length xs
+pub count-absorbed : (f : Family) (core : CoreState) (xs : List (List ℕ))
+    → (absorbed f core xs).count ≡ core.count + block_bytes f * length xs
 unfolding absorbed
 count-absorbed f core xs = refl

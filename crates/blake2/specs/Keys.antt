@@ -15,4 +15,5 @@ IsRefusedKey f (Some key) = (length key ≡ 0) ⊎ (key_bytes f < length key)
 -- the key, the salt or the persona has a length that the family does not take (RFC 7693, 2.1; the
 -- BLAKE2 document, 2.8)
 abbrev pub IsRefused : Family → Option (List ℕ) → List ℕ → List ℕ → Type 0
-IsRefused f key salt persona = IsRefusedKey f key ⊎ (salt_bytes f < length salt) ⊎ (salt_bytes f < length persona)
+IsRefused f key salt persona =
+    IsRefusedKey f key ⊎ (salt_bytes f < length salt) ⊎ (salt_bytes f < length persona)

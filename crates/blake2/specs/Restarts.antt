@@ -3,13 +3,16 @@ use Rattle.std.specs.Prelude.{◌≡◌, ℕ, List, length, refl}
 use Rattle.std.proofs.Common.{ap, ◌∙◌, zero-add}
 use Rattle.blake2_rows.specs.Family.{Family}
 use Rattle.blake2_digest.specs.States.{StartedAgain}
-use Rattle.blake2.specs.States.{State, future, started, count, start_count, meaning_by, restarted, IsRestarted}
+use Rattle.blake2.specs.States.{State, future, started, count, start_count, meaning_by, restarted}
+use Rattle.blake2.specs.States.{IsRestarted}
 
-future-restarted : (f : Family) (n : ℕ) (s : State) (y : List ℕ) → future f n (restarted s) y ≡ started f n s y
+future-restarted : (f : Family) (n : ℕ) (s : State) (y : List ℕ)
+    → future f n (restarted s) y ≡ started f n s y
 unfolding future started
 future-restarted f n s y = refl
 
-started-restarted : (f : Family) (n : ℕ) (s : State) (y : List ℕ) → started f n (restarted s) y ≡ started f n s y
+started-restarted : (f : Family) (n : ℕ) (s : State) (y : List ℕ)
+    → started f n (restarted s) y ≡ started f n s y
 unfolding started
 started-restarted f n s y = refl
 

@@ -1,7 +1,8 @@
 -- What the state of a hasher or MAC means: the digests that it will give.
 use Rattle.std.specs.Prelude.{◌≡◌, ℕ, ◌+◌, List, ◌++◌, length, take, replicate, Option}
 use Rattle.blake2_rows.specs.Family.{Family}
-use Rattle.blake2_words.specs.Hash.{Flags, final, bytes_of, last_chain, Parameters, key_block, Input, digest, sequential}
+use Rattle.blake2_words.specs.Hash.{Flags, final, bytes_of, last_chain, Parameters, key_block}
+use Rattle.blake2_words.specs.Hash.{Input, digest, sequential}
 use Rattle.blake2.specs.Cores.{CoreState, core_made, core_restarted, core_wiped}
 pub use Rattle.blake2_digest.specs.States.{Fresh, Meaning}
 

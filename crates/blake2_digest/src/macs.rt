@@ -4,6 +4,7 @@ ghost use Rattle.blake2_digest.specs.States.{digest_now, Updated, Fresh};
 
 use crate::faults::{InvalidLength, MacError};
 use crate::state::{FixedOutput, Update};
+use crate::wiping::settle;
 use std::marker::Model;
 
 // Whether the two are equal. All bytes are compared, wherever they differ: no branch here depends
@@ -106,15 +107,14 @@ pub trait Mac<const N: usize>: FixedOutput<N> {
     }
 
     /// Ok exactly where the tag is the whole output. All bytes of a tag of `N` bytes are compared,
-    /// wherever it differs.
+    /// wherever it differs, and the output is then overwritten.
     fn verify_slice(self, tag: &[u8]) -> Result<(), MacError>
         ensures { IsOk result ↔ (tag.now ≡ digest_now Self.meaning self) }
     {
-        let output = self.finalize_fixed();
-        if is_same(output.as_slice(), tag) {
-            Ok(())
-        } else {
-            Err(MacError)
-        }
+        let mut output = self.finalize_fixed();
+        let is_same = is_same(output.as_slice(), tag);
+        output = [0; N];
+        settle(&output);
+        if is_same { Ok(()) } else { Err(MacError) }
     }
 }

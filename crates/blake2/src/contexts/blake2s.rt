@@ -1,5 +1,6 @@
 //! The context of a BLAKE2s run.
-ghost use Rattle.std.specs.Prelude.{◌≡◌, ℕ, ◌+◌, ◌-◌, ◌*◌, ◌^◌, ◌<◌, ◌≤◌, List, [], length, take, replicate};
+ghost use Rattle.std.specs.Prelude.{◌≡◌, ℕ, ◌+◌, ◌-◌, ◌*◌, ◌^◌, ◌<◌, ◌≤◌, List, [], length, take};
+ghost use Rattle.std.specs.Prelude.{replicate};
 ghost use Rattle.blake2_rows.specs.Family.{blake2s};
 ghost use Rattle.blake2_digest.specs.Blocks.{block_count};
 ghost use Rattle.blake2.specs.Cores.{completed, last_output, core_restarted, core_wiped};
@@ -98,6 +99,12 @@ impl Blake2sContext {
         write_output(&mut self.core, &mut self.buffer, out);
         self.core.reset();
         self.buffer = start_block;
+    }
+
+    /// Makes a compiler keep the zeros of `wipe`, as [`blake2_digest::settle`] does.
+    pub(crate) fn settle(&self) {
+        self.core.settle();
+        self.buffer.settle();
     }
 
     /// Goes back to the start, with this block pending.

@@ -1,8 +1,10 @@
 //! The block core of BLAKE2b.
-ghost use Rattle.std.specs.Prelude.{◌≡◌, ⊤, ℕ, ◌+◌, ◌^◌, ◌<◌, ◌≤◌, List, [], ◌∷◌, length, replicate};
+ghost use Rattle.std.specs.Prelude.{◌≡◌, ⊤, ℕ, ◌+◌, ◌^◌, ◌<◌, ◌≤◌, ◌↔◌, List, [], ◌∷◌, length};
+ghost use Rattle.std.specs.Prelude.{IfOk, IsErr};
 ghost use Rattle.blake2_rows.specs.Family.{blake2b};
 ghost use Rattle.blake2_words.specs.Hash.{parameters_of};
-ghost use Rattle.blake2.specs.Cores.{CoreState, absorbed, completed, last_output, core_made, core_restarted, core_wiped};
+ghost use Rattle.blake2.specs.Cores.{CoreState, absorbed, completed, last_output, core_made};
+ghost use Rattle.blake2.specs.Cores.{core_restarted, core_wiped};
 ghost use Rattle.blake2.specs.CoreLaws.{absorbed-append, absorbed-nil, count-absorbed};
 
 use blake2_digest::{
@@ -14,9 +16,9 @@ use blake2_rows::rows::u64x4;
 use blake2_words::params::{Parameters, Tree, blake2b as params};
 use blake2_words::words::{Flags, blake2b as words};
 use std::alloc::AllocError;
-use std::fmt;
 use std::fmt::Write;
 use std::marker::Model;
+use std::{fmt, hint};
 
 /// The core of BLAKE2b: it compresses blocks of 128 bytes, and its outputs have up to 64 bytes.
 pub struct Blake2bVarCore {
@@ -33,7 +35,8 @@ impl Model for Blake2bVarCore {
 
     ghost Value = { CoreState };
 
-    ghost view = { λ core. record { h = eight core.h; start = eight core.start; count = core.counter } };
+    ghost view = { λ core.
+        record { h = eight core.h; start = eight core.start; count = core.counter } };
 }
 
 impl Blake2bVarCore {
@@ -45,7 +48,8 @@ impl Blake2bVarCore {
         requires persona { length persona.now ≤ 16 }
         requires key_size { key_size ≤ 64 }
         requires output_size { output_size ≤ 64 }
-        ensures { result ≡ core_made blake2b (parameters_of output_size key_size salt.now persona.now) }
+        ensures { result
+            ≡ core_made blake2b (parameters_of output_size key_size salt.now persona.now) }
     {
         let start = params::start_rows(&Parameters {
             output_size,
@@ -88,6 +92,16 @@ impl Blake2bVarCore {
         ensures { result ≡ self.now.start }
     {
         words::to_words(&self.start)
+    }
+
+    // Makes a compiler keep the zeros of `wipe`, as `blake2_digest::settle` does.
+    #[inline(never)]
+    pub(crate) fn settle(&self) {
+        let [h, start] = [&self.h, &self.start];
+        let is_zero = h[0].is_zero() & h[1].is_zero() & start[0].is_zero() & start[1].is_zero();
+        if !(is_zero & (self.counter == 0)) {
+            hint::spin_loop();
+        }
     }
 
     // Compresses a block that is not the last.
@@ -148,7 +162,11 @@ impl VariableOutputCore<128, 64> for Blake2bVarCore {
 
     ghost after_last = { λ old p new. new ≡ completed blake2b old p };
 
-    fn new(output_size: usize) -> Result<Self, InvalidOutputSize> {
+    fn new(output_size: usize) -> Result<Self, InvalidOutputSize>
+        ensures refused { IsErr result ↔ (64 < output_size) }
+        ensures made { IfOk result (λ core.
+            core ≡ core_made blake2b (parameters_of output_size 0 [] [])) }
+    {
         if output_size > 64 {
             return Err(InvalidOutputSize);
         }
@@ -168,9 +186,14 @@ impl VariableOutputCore<128, 64> for Blake2bVarCore {
 impl VariableOutputCoreCustomized for Blake2bVarCore {
     ghost can_customize = { λ persona n. (length persona ≤ 16) × (n ≤ 64) };
 
-    ghost customized = { λ persona n core. core ≡ core_made blake2b (parameters_of n 0 [] persona) };
+    ghost customized = { λ persona n core.
+        core ≡ core_made blake2b (parameters_of n 0 [] persona) };
 
-    fn new_customized(customization: &[u8], output_size: usize) -> Self {
+    fn new_customized(customization: &[u8], output_size: usize) -> Self
+        requires customization { length customization.now ≤ 16 }
+        requires output_size { output_size ≤ 64 }
+        ensures { result ≡ core_made blake2b (parameters_of output_size 0 [] customization.now) }
+    {
         Self::new_with_params(&[], customization, 0, output_size)
     }
 }

@@ -1,5 +1,6 @@
 //! The hasher of BLAKE2b.
-ghost use Rattle.std.specs.Prelude.{◌≡◌, ⊤, ℕ, ◌+◌, ◌-◌, ◌*◌, ◌^◌, ◌<◌, ◌≤◌, List, [], length, None};
+ghost use Rattle.std.specs.Prelude.{◌≡◌, ⊤, ℕ, ◌+◌, ◌-◌, ◌*◌, ◌^◌, ◌<◌, ◌≤◌, List, [], length};
+ghost use Rattle.std.specs.Prelude.{None};
 ghost use Rattle.std.proofs.Common.{arith};
 ghost use Rattle.blake2_rows.specs.Family.{blake2b};
 ghost use Rattle.blake2_digest.specs.Blocks.{block_count};
@@ -92,21 +93,35 @@ impl<const N: usize> FixedOutputReset<N> for Blake2b<N> {
 }
 
 impl<const N: usize> CustomizedInit for Blake2b<N> {
+    ghost use Rattle.blake2.specs.Hashers.{blake2b_meaning};
+    ghost use Rattle.blake2_digest.specs.States.{Fresh};
+
     ghost can_customize = { λ persona. (N ≤ 64) × (length persona ≤ 16) };
 
     ghost customized = { λ persona. blake2_of blake2b N [] persona None };
 
-    fn new_customized(customization: &[u8]) -> Self {
+    fn new_customized(customization: &[u8]) -> Self
+        requires supported { N ≤ 64 }
+        requires persona { length customization.now ≤ 16 }
+        ensures { Fresh (blake2b_meaning N)
+            (blake2_of blake2b N [] customization.now None) 0 result }
+    {
         Self::with_persona(customization)
     }
 }
 
 impl<const N: usize> Digest<N> for Blake2b<N> {
+    ghost use Rattle.blake2.specs.Hashers.{blake2b_meaning};
+    ghost use Rattle.blake2_digest.specs.States.{Fresh};
+
     ghost is_supported = { N ≤ 64 };
 
     ghost digest_of = { blake2_of blake2b N [] [] None };
 
-    fn new() -> Self {
+    fn new() -> Self
+        requires { N ≤ 64 }
+        ensures { Fresh (blake2b_meaning N) (blake2_of blake2b N [] [] None) 0 result }
+    {
         Self::with_persona(&[])
     }
 }
@@ -142,6 +157,7 @@ impl<const N: usize> Wipe for Blake2b<N> {
             ≡ length (blake2b_state self.old).pending }
     {
         self.context.wipe();
+        self.context.settle();
     }
 }
 

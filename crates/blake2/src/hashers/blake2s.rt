@@ -1,5 +1,6 @@
 //! The hasher of BLAKE2s.
-ghost use Rattle.std.specs.Prelude.{◌≡◌, ⊤, ℕ, ◌+◌, ◌-◌, ◌*◌, ◌^◌, ◌<◌, ◌≤◌, List, [], length, None};
+ghost use Rattle.std.specs.Prelude.{◌≡◌, ⊤, ℕ, ◌+◌, ◌-◌, ◌*◌, ◌^◌, ◌<◌, ◌≤◌, List, [], length};
+ghost use Rattle.std.specs.Prelude.{None};
 ghost use Rattle.std.proofs.Common.{arith};
 ghost use Rattle.blake2_rows.specs.Family.{blake2s};
 ghost use Rattle.blake2_digest.specs.Blocks.{block_count};
@@ -92,21 +93,35 @@ impl<const N: usize> FixedOutputReset<N> for Blake2s<N> {
 }
 
 impl<const N: usize> CustomizedInit for Blake2s<N> {
+    ghost use Rattle.blake2.specs.Hashers.{blake2s_meaning};
+    ghost use Rattle.blake2_digest.specs.States.{Fresh};
+
     ghost can_customize = { λ persona. (N ≤ 32) × (length persona ≤ 8) };
 
     ghost customized = { λ persona. blake2_of blake2s N [] persona None };
 
-    fn new_customized(customization: &[u8]) -> Self {
+    fn new_customized(customization: &[u8]) -> Self
+        requires supported { N ≤ 32 }
+        requires persona { length customization.now ≤ 8 }
+        ensures { Fresh (blake2s_meaning N)
+            (blake2_of blake2s N [] customization.now None) 0 result }
+    {
         Self::with_persona(customization)
     }
 }
 
 impl<const N: usize> Digest<N> for Blake2s<N> {
+    ghost use Rattle.blake2.specs.Hashers.{blake2s_meaning};
+    ghost use Rattle.blake2_digest.specs.States.{Fresh};
+
     ghost is_supported = { N ≤ 32 };
 
     ghost digest_of = { blake2_of blake2s N [] [] None };
 
-    fn new() -> Self {
+    fn new() -> Self
+        requires { N ≤ 32 }
+        ensures { Fresh (blake2s_meaning N) (blake2_of blake2s N [] [] None) 0 result }
+    {
         Self::with_persona(&[])
     }
 }
@@ -142,6 +157,7 @@ impl<const N: usize> Wipe for Blake2s<N> {
             ≡ length (blake2s_state self.old).pending }
     {
         self.context.wipe();
+        self.context.settle();
     }
 }
 

@@ -1,5 +1,6 @@
 //! The MAC of BLAKE2b.
-ghost use Rattle.std.specs.Prelude.{◌≡◌, ⊤, ℕ, ◌+◌, ◌-◌, ◌*◌, ◌^◌, ◌<◌, ◌≤◌, ◌↔◌, List, [], length, None, Some, IfOk, IsErr};
+ghost use Rattle.std.specs.Prelude.{◌≡◌, ⊤, ℕ, ◌+◌, ◌-◌, ◌*◌, ◌^◌, ◌<◌, ◌≤◌, ◌↔◌, ◌⊎◌, List, []};
+ghost use Rattle.std.specs.Prelude.{length, None, Some, IfOk, IsErr};
 ghost use Rattle.std.proofs.Common.{arith};
 ghost use Rattle.blake2_rows.specs.Family.{blake2b};
 ghost use Rattle.blake2_words.specs.Views.{key_of};
@@ -10,14 +11,13 @@ use crate::contexts::blake2b::Blake2bContext;
 use crate::cores::blake2b::Blake2bVarCore;
 use blake2_digest::{
     Duplicate, FixedOutput, FixedOutputReset, InvalidLength, KeyInit, KeySizeUser, LazyBuffer, Mac,
-    MacMarker, OutputSizeUser, Reset, Update, Wipe, ZeroizeOnDrop, padded,
+    MacMarker, OutputSizeUser, Reset, Update, Wipe, ZeroizeOnDrop, padded, settle,
 };
 use std::alloc::AllocError;
 use std::fmt;
 use std::fmt::Write;
 
 /// BLAKE2b with outputs of `N` bytes, at most 64, as a message authentication code.
-#[derive(Drop)]
 pub struct Blake2bMac<const N: usize> {
     context: Blake2bContext,
     // What a start leaves pending: the key, padded with zeros to a block, or nothing.
@@ -30,9 +30,9 @@ impl<const N: usize> Blake2bMac<N> {
     ghost use Rattle.blake2.specs.Hashers.{blake2b_mac_meaning};
     ghost use Rattle.blake2_digest.specs.States.{Fresh};
 
-    /// A MAC under a key of 1 to 64 bytes or none, with a salt and a persona of up to 16 bytes each;
-    /// `None` is no key, and no block of one. Refused exactly for a given key of no bytes or of more
-    /// than 64, and for a salt or a persona of more than 16.
+    /// A MAC under a key of 1 to 64 bytes or none, with a salt and a persona of up to 16 bytes
+    /// each; `None` is no key, and no block of one. Refused exactly for a given key of no bytes or
+    /// of more than 64, and for a salt or a persona of more than 16.
     pub fn new_with_salt_and_personal(
         key: Option<&[u8]>,
         salt: &[u8],
@@ -41,7 +41,8 @@ impl<const N: usize> Blake2bMac<N> {
         requires { N ≤ 64 }
         ensures refused { IsErr result ↔ IsRefused blake2b (key_of key.entry) salt.now persona.now }
         ensures made { IfOk result (λ mac. Fresh (blake2b_mac_meaning N)
-            (blake2_of blake2b N salt.now persona.now (key_of key.entry)) (key_count blake2b (key_of key.entry)) mac) }
+            (blake2_of blake2b N salt.now persona.now (key_of key.entry))
+            (key_count blake2b (key_of key.entry)) mac) }
     {
         if salt.len() > 16 || persona.len() > 16 {
             return Err(InvalidLength);
@@ -63,14 +64,18 @@ impl<const N: usize> Blake2bMac<N> {
         requires key { length key.now ≤ 64 }
         requires salt { length salt.now ≤ 16 }
         requires persona { length persona.now ≤ 16 }
-        ensures { Fresh (blake2b_mac_meaning N) (blake2_of blake2b N salt.now persona.now (Some key.now)) 128 result }
+        ensures { Fresh (blake2b_mac_meaning N)
+            (blake2_of blake2b N salt.now persona.now (Some key.now)) 128 result }
     {
-        let block = padded::<128>(key);
+        let mut block = padded::<128>(key);
         let core = Blake2bVarCore::new_with_params(salt, persona, key.len(), N);
-        Blake2bMac {
+        let mac = Blake2bMac {
             context: Blake2bContext::new(core, LazyBuffer::new(&block)),
             key_block: LazyBuffer::new(&block),
-        }
+        };
+        block = [0; 128];
+        settle(&block);
+        mac
     }
 
     // A MAC under no key that has taken nothing.
@@ -78,7 +83,8 @@ impl<const N: usize> Blake2bMac<N> {
         requires supported { N ≤ 64 }
         requires salt { length salt.now ≤ 16 }
         requires persona { length persona.now ≤ 16 }
-        ensures { Fresh (blake2b_mac_meaning N) (blake2_of blake2b N salt.now persona.now None) 0 result }
+        ensures { Fresh (blake2b_mac_meaning N)
+            (blake2_of blake2b N salt.now persona.now None) 0 result }
     {
         let core = Blake2bVarCore::new_with_params(salt, persona, 0, N);
         Blake2bMac {
@@ -99,21 +105,30 @@ impl<const N: usize> OutputSizeUser for Blake2bMac<N> {
 impl<const N: usize> MacMarker for Blake2bMac<N> {}
 
 impl<const N: usize> KeyInit<64> for Blake2bMac<N> {
+    ghost use Rattle.blake2.specs.Hashers.{blake2b_mac_meaning};
+    ghost use Rattle.blake2_digest.specs.States.{Fresh};
+
     ghost is_supported = { N ≤ 64 };
 
     ghost keyed = { λ key. blake2_of blake2b N [] [] (Some key) };
 
     ghost key_count = { 128 };
 
-    fn new(key: &[u8; 64]) -> Self {
+    fn new(key: &[u8; 64]) -> Self
+        requires { N ≤ 64 }
+        ensures { Fresh (blake2b_mac_meaning N)
+            (blake2_of blake2b N [] [] (Some key.now)) 128 result }
+    {
         Self::under_key(key, &[], &[])
     }
 
-    fn new_from_slice(key: &[u8]) -> Result<Self, InvalidLength> {
-        if key.is_empty() || key.len() > 64 {
-            return Err(InvalidLength);
-        }
-        Ok(Self::under_key(key, &[], &[]))
+    fn new_from_slice(key: &[u8]) -> Result<Self, InvalidLength>
+        requires { N ≤ 64 }
+        ensures refused { IsErr result ↔ ((length key.now ≡ 0) ⊎ (64 < length key.now)) }
+        ensures made { IfOk result (λ mac.
+            Fresh (blake2b_mac_meaning N) (blake2_of blake2b N [] [] (Some key.now)) 128 mac) }
+    {
+        Self::new_with_salt_and_personal(Some(key), &[], &[])
     }
 }
 
@@ -198,6 +213,18 @@ impl<const N: usize> Wipe for Blake2bMac<N> {
     {
         self.context.wipe();
         self.key_block.wipe();
+        self.context.settle();
+        self.key_block.settle();
+    }
+}
+
+impl<const N: usize> Drop for Blake2bMac<N> {
+    fn drop(mut self) {
+        self.wipe();
+        let Blake2bMac {
+            context: _context,
+            key_block: _key_block,
+        } = self;
     }
 }
 

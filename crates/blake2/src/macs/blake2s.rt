@@ -1,5 +1,6 @@
 //! The MAC of BLAKE2s.
-ghost use Rattle.std.specs.Prelude.{◌≡◌, ⊤, ℕ, ◌+◌, ◌-◌, ◌*◌, ◌^◌, ◌<◌, ◌≤◌, ◌↔◌, List, [], length, None, Some, IfOk, IsErr};
+ghost use Rattle.std.specs.Prelude.{◌≡◌, ⊤, ℕ, ◌+◌, ◌-◌, ◌*◌, ◌^◌, ◌<◌, ◌≤◌, ◌↔◌, ◌⊎◌, List, []};
+ghost use Rattle.std.specs.Prelude.{length, None, Some, IfOk, IsErr};
 ghost use Rattle.std.proofs.Common.{arith};
 ghost use Rattle.blake2_rows.specs.Family.{blake2s};
 ghost use Rattle.blake2_words.specs.Views.{key_of};
@@ -10,14 +11,13 @@ use crate::contexts::blake2s::Blake2sContext;
 use crate::cores::blake2s::Blake2sVarCore;
 use blake2_digest::{
     Duplicate, FixedOutput, FixedOutputReset, InvalidLength, KeyInit, KeySizeUser, LazyBuffer, Mac,
-    MacMarker, OutputSizeUser, Reset, Update, Wipe, ZeroizeOnDrop, padded,
+    MacMarker, OutputSizeUser, Reset, Update, Wipe, ZeroizeOnDrop, padded, settle,
 };
 use std::alloc::AllocError;
 use std::fmt;
 use std::fmt::Write;
 
 /// BLAKE2s with outputs of `N` bytes, at most 32, as a message authentication code.
-#[derive(Drop)]
 pub struct Blake2sMac<const N: usize> {
     context: Blake2sContext,
     // What a start leaves pending: the key, padded with zeros to a block, or nothing.
@@ -30,9 +30,9 @@ impl<const N: usize> Blake2sMac<N> {
     ghost use Rattle.blake2.specs.Hashers.{blake2s_mac_meaning};
     ghost use Rattle.blake2_digest.specs.States.{Fresh};
 
-    /// A MAC under a key of 1 to 32 bytes or none, with a salt and a persona of up to 8 bytes each;
-    /// `None` is no key, and no block of one. Refused exactly for a given key of no bytes or of more
-    /// than 32, and for a salt or a persona of more than 8.
+    /// A MAC under a key of 1 to 32 bytes or none, with a salt and a persona of up to 8 bytes
+    /// each; `None` is no key, and no block of one. Refused exactly for a given key of no bytes or
+    /// of more than 32, and for a salt or a persona of more than 8.
     pub fn new_with_salt_and_personal(
         key: Option<&[u8]>,
         salt: &[u8],
@@ -41,7 +41,8 @@ impl<const N: usize> Blake2sMac<N> {
         requires { N ≤ 32 }
         ensures refused { IsErr result ↔ IsRefused blake2s (key_of key.entry) salt.now persona.now }
         ensures made { IfOk result (λ mac. Fresh (blake2s_mac_meaning N)
-            (blake2_of blake2s N salt.now persona.now (key_of key.entry)) (key_count blake2s (key_of key.entry)) mac) }
+            (blake2_of blake2s N salt.now persona.now (key_of key.entry))
+            (key_count blake2s (key_of key.entry)) mac) }
     {
         if salt.len() > 8 || persona.len() > 8 {
             return Err(InvalidLength);
@@ -63,14 +64,18 @@ impl<const N: usize> Blake2sMac<N> {
         requires key { length key.now ≤ 32 }
         requires salt { length salt.now ≤ 8 }
         requires persona { length persona.now ≤ 8 }
-        ensures { Fresh (blake2s_mac_meaning N) (blake2_of blake2s N salt.now persona.now (Some key.now)) 64 result }
+        ensures { Fresh (blake2s_mac_meaning N)
+            (blake2_of blake2s N salt.now persona.now (Some key.now)) 64 result }
     {
-        let block = padded::<64>(key);
+        let mut block = padded::<64>(key);
         let core = Blake2sVarCore::new_with_params(salt, persona, key.len(), N);
-        Blake2sMac {
+        let mac = Blake2sMac {
             context: Blake2sContext::new(core, LazyBuffer::new(&block)),
             key_block: LazyBuffer::new(&block),
-        }
+        };
+        block = [0; 64];
+        settle(&block);
+        mac
     }
 
     // A MAC under no key that has taken nothing.
@@ -78,7 +83,8 @@ impl<const N: usize> Blake2sMac<N> {
         requires supported { N ≤ 32 }
         requires salt { length salt.now ≤ 8 }
         requires persona { length persona.now ≤ 8 }
-        ensures { Fresh (blake2s_mac_meaning N) (blake2_of blake2s N salt.now persona.now None) 0 result }
+        ensures { Fresh (blake2s_mac_meaning N)
+            (blake2_of blake2s N salt.now persona.now None) 0 result }
     {
         let core = Blake2sVarCore::new_with_params(salt, persona, 0, N);
         Blake2sMac {
@@ -99,21 +105,30 @@ impl<const N: usize> OutputSizeUser for Blake2sMac<N> {
 impl<const N: usize> MacMarker for Blake2sMac<N> {}
 
 impl<const N: usize> KeyInit<32> for Blake2sMac<N> {
+    ghost use Rattle.blake2.specs.Hashers.{blake2s_mac_meaning};
+    ghost use Rattle.blake2_digest.specs.States.{Fresh};
+
     ghost is_supported = { N ≤ 32 };
 
     ghost keyed = { λ key. blake2_of blake2s N [] [] (Some key) };
 
     ghost key_count = { 64 };
 
-    fn new(key: &[u8; 32]) -> Self {
+    fn new(key: &[u8; 32]) -> Self
+        requires { N ≤ 32 }
+        ensures { Fresh (blake2s_mac_meaning N)
+            (blake2_of blake2s N [] [] (Some key.now)) 64 result }
+    {
         Self::under_key(key, &[], &[])
     }
 
-    fn new_from_slice(key: &[u8]) -> Result<Self, InvalidLength> {
-        if key.is_empty() || key.len() > 32 {
-            return Err(InvalidLength);
-        }
-        Ok(Self::under_key(key, &[], &[]))
+    fn new_from_slice(key: &[u8]) -> Result<Self, InvalidLength>
+        requires { N ≤ 32 }
+        ensures refused { IsErr result ↔ ((length key.now ≡ 0) ⊎ (32 < length key.now)) }
+        ensures made { IfOk result (λ mac.
+            Fresh (blake2s_mac_meaning N) (blake2_of blake2s N [] [] (Some key.now)) 64 mac) }
+    {
+        Self::new_with_salt_and_personal(Some(key), &[], &[])
     }
 }
 
@@ -198,6 +213,18 @@ impl<const N: usize> Wipe for Blake2sMac<N> {
     {
         self.context.wipe();
         self.key_block.wipe();
+        self.context.settle();
+        self.key_block.settle();
+    }
+}
+
+impl<const N: usize> Drop for Blake2sMac<N> {
+    fn drop(mut self) {
+        self.wipe();
+        let Blake2sMac {
+            context: _context,
+            key_block: _key_block,
+        } = self;
     }
 }
 

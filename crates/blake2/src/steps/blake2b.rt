@@ -31,22 +31,28 @@ impl Blake2bVarCore {
     ) -> Result<Transcript<u64, 128>, AllocError>
         requires accepted { Accepts blake2b (input_of input.now) }
         requires output_size { output_size ≤ 64 }
-        ensures transcript { IfOk result (λ t. IsTranscript blake2b t.words (entries_of t) output_size (input_of input.now)) }
-        ensures steps { IfOk result (λ t. entries_of t ≡ map entry (steps blake2b output_size (input_of input.now))) }
+        ensures transcript { IfOk result (λ t.
+            IsTranscript blake2b t.words (entries_of t) output_size (input_of input.now)) }
+        ensures steps { IfOk result (λ t.
+            entries_of t ≡ map entry (steps blake2b output_size (input_of input.now))) }
     {
         run::transcript(alloc, input, output_size)
     }
 
     /// The input and the output size that have this transcript, with salt and persona padded to 16
-    /// bytes; `None` exactly where no accepted input has it. Fails only for want of memory, and only
-    /// where an input has it.
+    /// bytes; `None` exactly where no accepted input has it. Fails only for want of memory, and
+    /// only where an input has it.
     pub fn read_transcript(
         alloc: Global,
         transcript: &Transcript<u64, 128>,
     ) -> Result<Option<Reading<16>>, AllocError>
-        ensures some { IfOk result (λ r. IsSome r ↔ IsOfSomeInput blake2b transcript.now.words (entries_of transcript.now)) }
-        ensures reading { IfOk result (λ r. IfSome r (λ x. ReadsOnly blake2b transcript.now.words (entries_of transcript.now) x.output_size (reading_of x))) }
-        ensures memory { IfErr result (λ _. IsOfSomeInput blake2b transcript.now.words (entries_of transcript.now)) }
+        ensures some { IfOk result (λ r. IsSome r
+            ↔ IsOfSomeInput blake2b transcript.now.words (entries_of transcript.now)) }
+        ensures reading { IfOk result (λ r. IfSome r (λ x.
+            ReadsOnly blake2b transcript.now.words (entries_of transcript.now)
+            x.output_size (reading_of x))) }
+        ensures memory { IfErr result (λ _.
+            IsOfSomeInput blake2b transcript.now.words (entries_of transcript.now)) }
     {
         run::read_transcript(alloc, transcript)
     }
@@ -65,8 +71,11 @@ impl Blake2bVarCore {
         requires b { Accepts blake2b (input_of b.now) }
         requires output_size { output_size ≤ 64 }
         ensures ok { IsOk result }
-        ensures some { IfOk result (λ pair. IsSome pair ↔ Collide blake2b output_size (input_of a.now) (input_of b.now)) }
-        ensures pair { IfOk result (λ pair. IfSome pair (λ p. IsWitness blake2b (input_of a.now) (input_of b.now) output_size (step_of p.0) (step_of p.1))) }
+        ensures some { IfOk result (λ pair. IsSome pair
+            ↔ Collide blake2b output_size (input_of a.now) (input_of b.now)) }
+        ensures pair { IfOk result (λ pair. IfSome pair (λ p.
+            IsWitness blake2b (input_of a.now) (input_of b.now) output_size
+            (step_of p.0) (step_of p.1))) }
     {
         compare::witness(alloc, a, b, output_size)
     }

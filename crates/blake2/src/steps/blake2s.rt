@@ -31,22 +31,28 @@ impl Blake2sVarCore {
     ) -> Result<Transcript<u32, 64>, AllocError>
         requires accepted { Accepts blake2s (input_of input.now) }
         requires output_size { output_size ≤ 32 }
-        ensures transcript { IfOk result (λ t. IsTranscript blake2s t.words (entries_of t) output_size (input_of input.now)) }
-        ensures steps { IfOk result (λ t. entries_of t ≡ map entry (steps blake2s output_size (input_of input.now))) }
+        ensures transcript { IfOk result (λ t.
+            IsTranscript blake2s t.words (entries_of t) output_size (input_of input.now)) }
+        ensures steps { IfOk result (λ t.
+            entries_of t ≡ map entry (steps blake2s output_size (input_of input.now))) }
     {
         run::transcript(alloc, input, output_size)
     }
 
     /// The input and the output size that have this transcript, with salt and persona padded to 8
-    /// bytes; `None` exactly where no accepted input has it. Fails only for want of memory, and only
-    /// where an input has it.
+    /// bytes; `None` exactly where no accepted input has it. Fails only for want of memory, and
+    /// only where an input has it.
     pub fn read_transcript(
         alloc: Global,
         transcript: &Transcript<u32, 64>,
     ) -> Result<Option<Reading<8>>, AllocError>
-        ensures some { IfOk result (λ r. IsSome r ↔ IsOfSomeInput blake2s transcript.now.words (entries_of transcript.now)) }
-        ensures reading { IfOk result (λ r. IfSome r (λ x. ReadsOnly blake2s transcript.now.words (entries_of transcript.now) x.output_size (reading_of x))) }
-        ensures memory { IfErr result (λ _. IsOfSomeInput blake2s transcript.now.words (entries_of transcript.now)) }
+        ensures some { IfOk result (λ r. IsSome r
+            ↔ IsOfSomeInput blake2s transcript.now.words (entries_of transcript.now)) }
+        ensures reading { IfOk result (λ r. IfSome r (λ x.
+            ReadsOnly blake2s transcript.now.words (entries_of transcript.now)
+            x.output_size (reading_of x))) }
+        ensures memory { IfErr result (λ _.
+            IsOfSomeInput blake2s transcript.now.words (entries_of transcript.now)) }
     {
         run::read_transcript(alloc, transcript)
     }
@@ -65,8 +71,11 @@ impl Blake2sVarCore {
         requires b { Accepts blake2s (input_of b.now) }
         requires output_size { output_size ≤ 32 }
         ensures ok { IsOk result }
-        ensures some { IfOk result (λ pair. IsSome pair ↔ Collide blake2s output_size (input_of a.now) (input_of b.now)) }
-        ensures pair { IfOk result (λ pair. IfSome pair (λ p. IsWitness blake2s (input_of a.now) (input_of b.now) output_size (step_of p.0) (step_of p.1))) }
+        ensures some { IfOk result (λ pair. IsSome pair
+            ↔ Collide blake2s output_size (input_of a.now) (input_of b.now)) }
+        ensures pair { IfOk result (λ pair. IfSome pair (λ p.
+            IsWitness blake2s (input_of a.now) (input_of b.now) output_size
+            (step_of p.0) (step_of p.1))) }
     {
         compare::witness(alloc, a, b, output_size)
     }

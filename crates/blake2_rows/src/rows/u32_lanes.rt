@@ -1,5 +1,5 @@
 //! Rows of BLAKE2s: four words of 32 bits.
-ghost use Rattle.std.specs.Prelude.{◌≡◌, ℕ, ◌+◌, ◌%◌, ◌^◌, ◌<◌, List, [], ◌∷◌, length};
+ghost use Rattle.std.specs.Prelude.{◌≡◌, ◌↔◌, ℕ, IsTrue, ◌+◌, ◌%◌, ◌^◌, ◌<◌, List, [], ◌∷◌, length};
 ghost use Rattle.std.specs.Prelude.{slice_index};
 ghost use mir.Val.{bits};
 ghost use Rattle.blake2_rows.specs.Family.{blake2s, word};
@@ -170,6 +170,14 @@ impl u32x4 {
     {
         let words = self.lanes.to_array();
         Simd::<u32, 4>::from_array(words).to_le_bytes().to_array()
+    }
+
+    /// Whether the four words are zero.
+    #[inline(always)]
+    pub fn is_zero(self) -> bool
+        ensures { IsTrue result ↔ (self ≡ 0 ∷ 0 ∷ 0 ∷ 0 ∷ []) }
+    {
+        self.to_array() == [0; 4]
     }
 
     /// The four words, lane 0 first.
