@@ -3,8 +3,9 @@
 
 Tables, as Markdown on standard output, and a plot:
 
-- long: `b2 sum` beside programs, each over one file of random bytes as its standard input, with the start
-  of the program. hashlib.file_digest runs in this process, with no start of Python.
+- long: `b2 sum` beside programs, each over one file of random bytes as its standard input: the processor's
+  time (user and system) of the whole program, with its start. hashlib.file_digest runs in this process, with
+  no start of Python.
 - kernel: one message of 1 MiB in memory, digested again and again.
 - short: messages of 0, 64 and 1,024 bytes in memory, digested again and again.
 - plot: messages of 64 bytes to 1 MiB in memory, at each power of two.
@@ -238,22 +239,25 @@ def peak_and_digest(command, file):
 
 
 def program_timer(command, file):
-    """A function that answers the wall time in nanoseconds of one run over this input."""
+    """A function that answers the processor's time in nanoseconds of one run over this input."""
     def timer():
         file.seek(0)
-        start = time.perf_counter_ns()
-        subprocess.run(command, stdin=file, stdout=subprocess.DEVNULL, check=True)
-        return time.perf_counter_ns() - start
+        process = subprocess.Popen(command, stdin=file, stdout=subprocess.DEVNULL)
+        _, status, used = os.wait4(process.pid, 0)
+        process.returncode = os.waitstatus_to_exitcode(status)
+        if process.returncode != 0:
+            sys.exit(f"speed: {command[0]} failed")
+        return (used.ru_utime + used.ru_stime) * 1e9
     return timer
 
 
 def file_digest_timer(kind, file):
-    """A function that answers the wall time in nanoseconds of hashlib.file_digest."""
+    """A function that answers the processor's time in nanoseconds of hashlib.file_digest."""
     def timer():
         file.seek(0)
-        start = time.perf_counter_ns()
+        start = time.process_time_ns()
         hashlib.file_digest(file, kind.algorithm).hexdigest()
-        return time.perf_counter_ns() - start
+        return time.process_time_ns() - start
     return timer
 
 

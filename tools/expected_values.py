@@ -49,11 +49,11 @@ def copies():
 
 
 def keys():
-    """keys: outputs over `abc` under the key 0, 1, 2 and so on, of all its bytes and of one."""
-    for family, numbers in FAMILIES.items():
-        for size, length in itertools.product((1, 20, numbers.key - 1), (numbers.key, 1)):
-            output = blake2(family, size, b"abc", ALPHABET[:length])
-            print(f"  {family} N={size} key of {length}: {output.hex()}")
+    """keys: the digest of the outputs over `abc` at 1, 20 and all but one bytes, each under the longest key,
+    0, 1, 2 and so on, and under the key 0."""
+    outputs = b"".join(blake2(family, size, b"abc", ALPHABET[:length]) for family, numbers in FAMILIES.items()
+                       for size in (1, 20, numbers.key - 1) for length in (numbers.key, 1))
+    print(f"  {digest(outputs)}")
 
 
 def cores():
@@ -145,11 +145,11 @@ def with_bit(number, bit):
 
 
 def changed_words(family, words, entries):
-    """How many of the words with one bit changed, 0 to 3 and 4 to 7, leave a transcript with a reading."""
-    def count(places):
+    """How many of the changes of one bit leave a reading: of the first 16 of word 0, and of words 4 to 7."""
+    def count(places, bits):
         return sum(reading(family, [*words[:i], with_bit(words[i], bit), *words[i + 1:]], entries) is not None
-                   for i in places for bit in range(WORDS[family].bits))
-    return count(range(4)), count(range(4, 8))
+                   for i in places for bit in range(bits))
+    return count([0], 16), count(range(4, 8), WORDS[family].bits)
 
 
 def changed_entries(family, words, entries):
@@ -167,8 +167,8 @@ def changed_entries(family, words, entries):
 
 
 def forged():
-    """forged: of the transcripts with one bit changed, how many have a reading: by a bit of words 0 to 3 and
-    4 to 7, of a counter, of a flag and of a block."""
+    """forged: of the transcripts with one bit changed, how many have a reading: by one of the first 16 bits
+    of word 0, by one of words 4 to 7, of a counter, of a flag and of a block."""
     for family, length, persona in (("b", 200, b"0123456789abcdef"), ("s", 100, b"01234567")):
         width, size = FAMILIES[family].block, FAMILIES[family].key
         for key, salt, persona, length in ((b"", b"", b"", width), (b"", b"", b"", width + 1),
@@ -176,9 +176,9 @@ def forged():
             words = list(parameter_words(family, size, key, salt, persona))
             entries = list(blocks(family, key, b"\x2a" * length))
             assert reading(family, words, entries) is not None
-            low, high = changed_words(family, words, entries)
+            sizes, texts = changed_words(family, words, entries)
             counters, flags, changed_blocks = changed_entries(family, words, entries)
-            print(f"  {family} {len(entries)} entries: words 0..3 {low}, words 4..7 {high}, "
+            print(f"  {family} {len(entries)} entries: word 0 {sizes}, words 4 to 7 {texts}, "
                   f"counters {counters}, flags {flags}, blocks {changed_blocks}")
 
 
