@@ -142,7 +142,7 @@ libb2_test() {
 }
 
 rust_tests() {
-    BLAKE2_C_LIB=$prefix/lib BLAKE2_C_CASES=$work CARGO_TARGET_DIR=$work/target \
+    BLAKE2_C_LIB=$prefix/lib CARGO_TARGET_DIR=$work/target \
         cargo test --offline --manifest-path "$top/rust/Cargo.toml"
 }
 

@@ -42,7 +42,8 @@ pub extern "C" fn blake2_c_blake2s(out: &mut [u8], input: &[u8], key: &[u8]) -> 
 // The state of these parameters, or that of zeros.
 fn made(output_size: usize, key: &[u8], salt: &[u8], persona: &[u8]) -> State
     ensures { IsMade (IsRefused blake2s output_size key.now salt.now persona.now) output_size
-        (digest_of blake2s output_size salt.now persona.now (given_key key.now)) (given_count blake2s key.now) result }
+        (digest_of blake2s output_size salt.now persona.now (given_key key.now))
+        (given_count blake2s key.now) result }
 {
     match State::new(output_size, key, salt, persona) {
         Ok(state) => state,
@@ -65,14 +66,16 @@ pub unsafe extern "C" fn blake2_c_blake2s_init_at(
     requires* { sem 𝓛 (room_at the_row at) }
     ensures* { ∃ₛ (λ (s : Made). sem 𝓛 (lies_at the_row full_share at s)
         ∗ ⌜ IsMade (IsRefused blake2s output_size key.now salt.now persona.now) output_size
-        (digest_of blake2s output_size salt.now persona.now (given_key key.now)) (given_count blake2s key.now) s ⌝) }
+        (digest_of blake2s output_size salt.now persona.now (given_key key.now))
+        (given_count blake2s key.now) s ⌝) }
 {
     at.write(made(output_size, key, salt, persona));
 }
 
 // The state of this parameter block, or that of zeros.
 fn made_from_block(block: &[u8]) -> State
-    ensures { IsMade (IsRefusedBlock blake2s block.now) (slice_index block.now 0) (block_digest blake2s block.now) 0 result }
+    ensures { IsMade (IsRefusedBlock blake2s block.now) (slice_index block.now 0)
+        (block_digest blake2s block.now) 0 result }
 {
     match State::from_block(block) {
         Ok(state) => state,
@@ -87,7 +90,8 @@ fn made_from_block(block: &[u8]) -> State
 pub unsafe extern "C" fn blake2_c_blake2s_init_block_at(at: *mut State, block: &[u8])
     requires* { sem 𝓛 (room_at the_row at) }
     ensures* { ∃ₛ (λ (s : Made). sem 𝓛 (lies_at the_row full_share at s)
-        ∗ ⌜ IsMade (IsRefusedBlock blake2s block.now) (slice_index block.now 0) (block_digest blake2s block.now) 0 s ⌝) }
+        ∗ ⌜ IsMade (IsRefusedBlock blake2s block.now) (slice_index block.now 0)
+        (block_digest blake2s block.now) 0 s ⌝) }
 {
     at.write(made_from_block(block));
 }
@@ -96,7 +100,8 @@ pub unsafe extern "C" fn blake2_c_blake2s_init_block_at(at: *mut State, block: &
 /// its count would reach 2^64; the state then stays as it is.
 #[unsafe(no_mangle)]
 pub extern "C" fn blake2_c_blake2s_update(state: &mut State, input: &[u8]) -> i32
-    ensures status { Answers result (IsUntakable (IsReady state.old) (meaning.count state.old) (length input.now)) }
+    ensures status { Answers result
+        (IsUntakable (IsReady state.old) (meaning.count state.old) (length input.now)) }
     ensures ready { result ≡ pos 0 → IsReady state.new }
     ensures size { state.new.output_size ≡ state.old.output_size }
     ensures taken { result ≡ pos 0 → Updated meaning state.old input.now state.new }
@@ -117,8 +122,10 @@ pub extern "C" fn blake2_c_blake2s_update(state: &mut State, input: &[u8]) -> i3
 /// written, and the state stays as it is.
 #[unsafe(no_mangle)]
 pub extern "C" fn blake2_c_blake2s_final(state: &mut State, out: &mut [u8]) -> i32
-    ensures status { Answers result (IsUngivable (IsReady state.old) state.old.output_size (length out.old)) }
-    ensures output { result ≡ pos 0 → out.new ≡ digest_now meaning state.old ++ drop state.old.output_size out.old }
+    ensures status { Answers result
+        (IsUngivable (IsReady state.old) state.old.output_size (length out.old)) }
+    ensures output { result ≡ pos 0
+        → out.new ≡ digest_now meaning state.old ++ drop state.old.output_size out.old }
     ensures wiped { result ≡ pos 0 → state.new ≡ zeros }
     ensures same { result ≡ negsuc 0 → state.new ≡ state.old }
     ensures nothing { result ≡ negsuc 0 → out.new ≡ out.old }
@@ -135,7 +142,8 @@ pub extern "C" fn blake2_c_blake2s_final(state: &mut State, out: &mut [u8]) -> i
 /// at all bytes of a tag of the digest's length. A state that was ready is then wiped.
 #[unsafe(no_mangle)]
 pub extern "C" fn blake2_c_blake2s_verify(state: &mut State, tag: &[u8]) -> i32
-    ensures status { Answers result ((¬ IsReady state.old) ⊎ (tag.now ≢ digest_now meaning state.old)) }
+    ensures status { Answers result
+        ((¬ IsReady state.old) ⊎ (tag.now ≢ digest_now meaning state.old)) }
     ensures wiped { IsReady state.old → state.new ≡ zeros }
     ensures same { (¬ IsReady state.old) → state.new ≡ state.old }
 {

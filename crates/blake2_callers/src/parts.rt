@@ -25,7 +25,8 @@ pub fn add_and_rotate(a: u64x4, b: u64x4) -> u64x4
 /// The chaining words under these parameters after a first block that others follow.
 pub fn after_first_block(parameters: &Parameters<'_>, block: &[u8; 128]) -> [u64; 8]
     requires { Fits blake2b (given_parameters parameters.now) }
-    ensures { result ≡ compress blake2b (start blake2b (given_parameters parameters.now)) block.now 128 inner }
+    ensures { result
+        ≡ compress blake2b (start blake2b (given_parameters parameters.now)) block.now 128 inner }
 {
     let mut h = params::start_words(parameters);
     words::compress_words(&mut h, block, 128, Flags::INNER);

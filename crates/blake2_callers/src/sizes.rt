@@ -10,7 +10,8 @@ use blake2_plain::blake2s::State;
 pub fn fill(out: &mut [u8], message: &[u8]) -> Result<(), InvalidLength>
     requires { length message.now < 2 ^ 64 }
     ensures refused { IsErr result ↔ ((length out.old ≡ 0) ⊎ (32 < length out.old)) }
-    ensures filled { OnOk result (out.new ≡ digest_of blake2s (length out.old) [] [] None message.now) }
+    ensures filled { OnOk result
+        (out.new ≡ digest_of blake2s (length out.old) [] [] None message.now) }
     ensures same { OnErr result (out.new ≡ out.old) }
 {
     let mut state = State::new(out.len(), &[], &[], &[])?;
