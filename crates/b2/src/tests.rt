@@ -1,6 +1,7 @@
 //! Runs of the program over memory.
 
 mod memory;
+mod outputs;
 mod script;
 mod steps;
 mod sum;
