@@ -34,8 +34,8 @@ count_of m first (since_reset x) = m.start_count first + length x
 abbrev pub Slots : Type 0
 Slots = List (Option Taken)
 
--- what a call leaves: the slots, and the digests that it answers
-pub record Left : Type 0 where
+-- the outcome of a call: the slots that it leaves, and the digests that it answers
+pub record Outcome : Type 0 where
   pub slots : Slots
   pub digests : List (List ℕ)
 
@@ -48,11 +48,11 @@ slot_of (Finalize k) = k
 slot_of (FinalizeReset k) = k
 
 -- a call that is not bad leaves these slots, and answers these digests
-abbrev pub leaves : Slots → List (List ℕ) → Result Left ReplayFault
+abbrev pub leaves : Slots → List (List ℕ) → Result Outcome ReplayFault
 leaves slots digests = Ok (record { slots = slots; digests = digests })
 
 -- the call at place i, whose slot has taken this; an update is bad where it would bring the count to 2^64 or more
-abbrev pub play_live : {S : Type 0} → Meaning S → S → Slots → ℕ → Call → Taken → Result Left ReplayFault
+abbrev pub play_live : {S : Type 0} → Meaning S → S → Slots → ℕ → Call → Taken → Result Outcome ReplayFault
 play_live m first slots i (Update k x) taken =
     if nat_lt (count_of m first taken + length x.now) (2 ^ 64)
     then leaves (slice_set slots k (Some (and_more taken x.now))) []
@@ -63,12 +63,12 @@ play_live m first slots i (Finalize k) taken = leaves (slice_set slots k None) (
 play_live m first slots i (FinalizeReset k) taken = leaves (slice_set slots k (Some (since_reset []))) (digest_of m first taken ∷ [])
 
 -- the call at place i does this to what its slot has taken, and is bad where the slot is absent or has ended
-abbrev pub at_slot : ℕ → Option Taken → (Taken → Result Left ReplayFault) → Result Left ReplayFault
+abbrev pub at_slot : ℕ → Option Taken → (Taken → Result Outcome ReplayFault) → Result Outcome ReplayFault
 at_slot i None f = Err (NoSuchSlot i)
 at_slot i (Some taken) f = f taken
 
 -- the call at place i, on these slots
-abbrev pub play_call : {S : Type 0} → Meaning S → S → Slots → ℕ → Call → Result Left ReplayFault
+abbrev pub play_call : {S : Type 0} → Meaning S → S → Slots → ℕ → Call → Result Outcome ReplayFault
 play_call m first slots i call = at_slot i (slice_index_or slots (slot_of call) None) (play_live m first slots i call)
 
 -- the digests of earlier calls, and then those of later ones
@@ -77,7 +77,7 @@ after earlier (Ok later) = Ok (earlier ++ later)
 after earlier (Err fault) = Err fault
 
 -- what a call leaves, and then what comes of the slots
-abbrev pub and_then : Result Left ReplayFault → (Slots → Result (List (List ℕ)) ReplayFault) → Result (List (List ℕ)) ReplayFault
+abbrev pub and_then : Result Outcome ReplayFault → (Slots → Result (List (List ℕ)) ReplayFault) → Result (List (List ℕ)) ReplayFault
 and_then (Ok left) f = after left.digests (f left.slots)
 and_then (Err fault) f = Err fault
 
