@@ -8,7 +8,8 @@ use std::io;
 use std::io::{ErrorKind, Write};
 use std::test::Fail;
 
-// Takes so many bytes, then fails once, by an error or by taking none, and takes all that comes later.
+// Takes so many bytes, then fails once, by an error or by taking none, and takes all that comes
+// later.
 #[derive(Drop)]
 struct FailsOnce {
     before: usize,

@@ -229,28 +229,30 @@ impl Write for FailsOnce {
     }
 }
 
-fn failing_once(by_error: bool) -> IoSink<FailsOnce> {
-    IoSink::new(FailsOnce {
-        by_error,
-        has_failed: false,
-        later: 0,
-    })
+impl FailsOnce {
+    fn new(by_error: bool) -> Self {
+        FailsOnce {
+            by_error,
+            has_failed: false,
+            later: 0,
+        }
+    }
 }
 
 #[test]
 fn a_writer_that_fails_is_not_tried_again(rt: HostRuntime) -> Result<(), Fail> {
     for by_error in [true, false] {
-        let mut sink = failing_once(by_error);
+        let mut sink = IoSink::new(FailsOnce::new(by_error));
         let answer = sink.write(b"abc");
         assert_eq!(rt; answer, if by_error { Err(DeviceError) } else { Ok(0) });
         assert!(rt; sink.failed());
         assert_eq!(rt; sink.into_inner().later, 0);
 
-        let mut sink = failing_once(by_error);
+        let mut sink = IoSink::new(FailsOnce::new(by_error));
         assert_eq!(rt; write_whole(&mut sink, b"abc"), Err(DeviceError));
         assert_eq!(rt; sink.into_inner().later, 0);
 
-        let mut sink = failing_once(by_error);
+        let mut sink = IoSink::new(FailsOnce::new(by_error));
         let mut source = SliceSource::new(b"abc", 4, None);
         let answer = hash_stream(&mut source, &mut sink, fresh());
         assert_eq!(rt; answer, Err(StreamFault::Write));
