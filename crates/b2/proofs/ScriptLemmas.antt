@@ -3,7 +3,7 @@ use Rattle.std.proofs.Common.{◌≡◌, ℕ, ◌+◌, List, [], ◌∷◌, map,
 use Rattle.std.specs.Prelude.{IsOkUnless, OnOk}
 use Rattle.std.specs.List.{flat_map}
 use Rattle.std.specs.Io.KnownBytes.{Appends, Keeps}
-use Rattle.blake2.specs.Play.{Slots, Left, after, and_then, play_call, play_from, play_fresh, fresh_meaning}
+use Rattle.blake2.specs.Play.{Slots, Outcome, after, and_then, play_call, play_from, play_fresh, fresh_meaning}
 use Rattle.blake2_runs.specs.declared.calls.Call.{Call}
 use Rattle.blake2_runs.specs.declared.calls.Call.TheVariants.{Update, Clone, Reset, Finalize, FinalizeReset}
 use Rattle.blake2_runs.specs.declared.calls.ReplayFault.{ReplayFault}
@@ -25,7 +25,7 @@ call_unplaced digest n slots i (Finalize k) = refl
 call_unplaced digest n slots i (FinalizeReset k) = refl
 
 -- what a call leaves goes on in the same way
-goes_on : (played : Result Left ReplayFault) (f g : Slots → Result (List (List ℕ)) ReplayFault) → ((slots : Slots) → f slots ≡ g slots) → and_then played f ≡ and_then played g
+goes_on : (played : Result Outcome ReplayFault) (f g : Slots → Result (List (List ℕ)) ReplayFault) → ((slots : Slots) → f slots ≡ g slots) → and_then played f ≡ and_then played g
 goes_on (Ok left) f g same = ap (after left.digests) (same left.slots)
 goes_on (Err fault) f g same = refl
 
@@ -34,7 +34,7 @@ calls_unplaced : (digest : List ℕ → List ℕ) (n : ℕ) (calls : List Call) 
     → play_from (fresh_meaning digest n) tt (map unplaced calls) slots i ≡ play_from (fresh_meaning digest n) tt calls slots i
 calls_unplaced digest n [] slots i = refl
 calls_unplaced digest n (call ∷ calls) slots i =
-    ap (λ (played : Result Left ReplayFault). and_then played (λ next. play_from (fresh_meaning digest n) tt (map unplaced calls) next (i + 1))) (call_unplaced digest n slots i call)
+    ap (λ (played : Result Outcome ReplayFault). and_then played (λ next. play_from (fresh_meaning digest n) tt (map unplaced calls) next (i + 1))) (call_unplaced digest n slots i call)
     ∙ goes_on (play_call (fresh_meaning digest n) tt slots i call) _ _ (λ next. calls_unplaced digest n calls next (i + 1))
 
 -- the digests of a script are those of the calls that were read

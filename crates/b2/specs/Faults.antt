@@ -1,12 +1,16 @@
 -- The faults of the program: their statuses, texts and causes.
-use Rattle.std.specs.Prelude.{◌≡◌, ◌≢◌, ◌<◌, ◌⊎◌, ◌∷◌, ◌++◌, ℕ, Bool, false, List, [], length, codes, decimal, Option, Some, None, IfSome, IsOkAnd, IsTrue}
+use Rattle.std.specs.Prelude.{◌≡◌, ◌≢◌, ◌<◌, ◌⊎◌, ◌∷◌, ◌++◌, ℕ, Bool, false, List, [], length}
+use Rattle.std.specs.Prelude.{codes, decimal, Option, Some, None, IfSome, IsOkAnd, IsTrue}
 use Rattle.std.specs.Io.KnownBytes.{Appends}
 use Rattle.b2.specs.declared.fault.Fault.{Fault}
-use Rattle.b2.specs.declared.fault.Fault.TheVariants.{WrongWords, WrongHex, WrongLength, WrongLine, NoSuchSlot, LineTooLong, TooLong, ReadFailed, NoMemory, WriteFailed}
+use Rattle.b2.specs.declared.fault.Fault.TheVariants.{WrongWords, WrongHex, WrongLength, WrongLine}
+use Rattle.b2.specs.declared.fault.Fault.TheVariants.{NoSuchSlot, LineTooLong, TooLong, ReadFailed}
+use Rattle.b2.specs.declared.fault.Fault.TheVariants.{NoMemory, WriteFailed}
 use Rattle.b2.specs.Words.{Task, task_of, IsReadingFault}
 use Rattle.b2.specs.Tasks.{IsRefusedTask, IsTooLongFor, IsFaultOfScript, TakesMemory}
 
--- the status that a fault ends with: 2 for the words and the input, 1 for the devices and the memory
+-- the status that a fault ends with: 2 for the words and the input, 1 for the devices and the
+-- memory
 abbrev pub status_of : Fault → ℕ
 status_of WrongWords = 2
 status_of WrongHex = 2
@@ -53,8 +57,9 @@ fault_line fault = codes "b2: " ++ place_text (line_number fault) ++ fault_text 
 abbrev pub IsScriptFault : Fault → Task → Option (List ℕ) → Type 0
 IsScriptFault fault task left = (¬ IsRefusedTask task) × IfSome left (IsFaultOfScript fault task)
 
--- the cause of a fault, once the words are read: what they ask for, then what the source had left, and
--- whether a read has failed. Lengths are looked at first, and the input is read once they are right
+-- the cause of a fault, once the words are read: what they ask for, then what the source had left,
+-- and whether a read has failed. Lengths are looked at first, and the input is read once they are
+-- right
 abbrev pub IsDue : Fault → Task → Option (List ℕ) → Bool → Type 0
 IsDue WrongLength task left failed = IsRefusedTask task
 IsDue (WrongLine number) task left failed = IsScriptFault (WrongLine number) task left
@@ -66,9 +71,10 @@ IsDue NoMemory task left failed = (¬ IsRefusedTask task) × TakesMemory task ×
 IsDue WriteFailed task left failed = ¬ IsRefusedTask task
 IsDue fault task left failed = ⊥
 
--- the cause of a fault of the words, of which nothing is read: the first wrong one, or memory was refused
--- for the bytes of HEX, in a word behind a command and its KIND
-pub record IsFaultOfWords (fault : Fault) (words : List (List ℕ)) (left rest : Option (List ℕ)) (failed : Bool) : Type 0 where
+-- the cause of a fault of the words, of which nothing is read: the first wrong one, or memory was
+-- refused for the bytes of HEX, in a word behind a command and its KIND
+pub record IsFaultOfWords (fault : Fault) (words : List (List ℕ)) (left rest : Option (List ℕ))
+    (failed : Bool) : Type 0 where
   pub reading : IsReadingFault fault (task_of words)
   pub memory : fault ≡ NoMemory → 2 < length words
   pub unread : rest ≡ left
@@ -77,10 +83,12 @@ pub record IsFaultOfWords (fault : Fault) (words : List (List ℕ)) (left rest :
 -- the cause of a fault: it is one of the words, or due for the task that they ask for
 abbrev pub IsCause : Fault → List (List ℕ) → Option (List ℕ) → Option (List ℕ) → Bool → Type 0
 IsCause fault words left rest failed =
-    IsFaultOfWords fault words left rest failed ⊎ IsOkAnd (task_of words) (λ task. IsDue fault task left failed)
+    IsFaultOfWords fault words left rest failed
+    ⊎ IsOkAnd (task_of words) (λ task. IsDue fault task left failed)
 
 -- a fault with its cause gave the status, and a sink took its line
-pub record IsTold (words : List (List ℕ)) (left rest : Option (List ℕ)) (failed : Bool) (status : ℕ) (old new : Option (List ℕ)) : Type 0 where
+pub record IsTold (words : List (List ℕ)) (left rest : Option (List ℕ)) (failed : Bool) (status : ℕ)
+    (old new : Option (List ℕ)) : Type 0 where
   pub fault : Fault
   pub cause : IsCause fault words left rest failed
   pub has_line : fault ≢ WriteFailed

@@ -16,6 +16,9 @@ hash_task Digest kind given = to_sum kind given
 hash_task Digests kind given = to_script kind given
 
 -- how the printing ends, where the digest of y is `digest y` and n bytes are counted at the start
-abbrev pub EndsFor : Output → (List ℕ → List ℕ) → ℕ → Result (Unit {0}) Fault → Option (List ℕ) → Option (List ℕ) → Option (List ℕ) → Type 0
-EndsFor Digest digest n result left old new = EndsBy (λ message. line_of (digest message)) n result left old new
-EndsFor Digests digest n result left old new = EndsByDigests (script_digests digest n) result left old new
+abbrev pub EndsFor : Output → (List ℕ → List ℕ) → ℕ → Result (Unit {0}) Fault → Option (List ℕ)
+    → Option (List ℕ) → Option (List ℕ) → Type 0
+EndsFor Digest digest n result left old new =
+    EndsBy (λ message. line_of (digest message)) n result left old new
+EndsFor Digests digest n result left old new =
+    EndsByDigests (script_digests digest n) result left old new

@@ -1,4 +1,5 @@
--- The lines that the program prints of transcripts and steps. 32 is a space and 10 a newline; fields stand behind a space each.
+-- The lines that the program prints of transcripts and steps. 32 is a space and 10 a newline;
+-- fields stand behind a space each.
 use Rattle.std.specs.Prelude.{ℕ, Bool, List, [], ◌∷◌, ◌++◌, map, codes, decimal, if◌then◌else◌}
 use Rattle.std.specs.Int.{to_be_bytes}
 use Rattle.std.specs.List.{flat_map}
@@ -33,12 +34,18 @@ words_line f words = codes "w" ++ word_fields f words ++ 10 ∷ []
 
 -- the line of an entry: counter, final flag and block
 abbrev pub entry_line : Entry → List ℕ
-entry_line e = codes "e" ++ number_field e.counter ++ flag_field e.flags.last ++ bytes_field e.block ++ 10 ∷ []
+entry_line e =
+    codes "e" ++ number_field e.counter ++ flag_field e.flags.last ++ bytes_field e.block ++ 10 ∷ []
 
 -- the line of a step: chaining words, counter, final flag and block
 abbrev pub step_line : Family → Step → List ℕ
-step_line f s = codes "s" ++ word_fields f s.chain ++ number_field s.counter ++ flag_field s.flags.last ++ bytes_field s.block ++ 10 ∷ []
+step_line f s =
+    codes "s" ++ word_fields f s.chain ++ number_field s.counter ++ flag_field s.flags.last
+    ++ bytes_field s.block ++ 10 ∷ []
 
--- the lines of the transcript of an input, at n bytes of digest: its parameter words, and each step without its chaining words
+-- the lines of the transcript of an input, at n bytes of digest: its parameter words, and each step
+-- without its chaining words
 abbrev pub transcript_lines : Family → ℕ → Input → List ℕ
-transcript_lines f n a = words_line f (parameter_words f (input_parameters n a)) ++ flat_map entry_line (map entry (steps f n a))
+transcript_lines f n a =
+    words_line f (parameter_words f (input_parameters n a))
+    ++ flat_map entry_line (map entry (steps f n a))

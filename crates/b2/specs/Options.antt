@@ -11,4 +11,8 @@ bytes_given option = option_map (λ v. v.items) option
 
 -- what the options give
 abbrev pub given_of : Options → Given
-given_of options = record { key = bytes_given options.key; salt = bytes_given options.salt; persona = bytes_given options.persona }
+given_of options = record {
+  key = bytes_given options.key;
+  salt = bytes_given options.salt;
+  persona = bytes_given options.persona;
+}

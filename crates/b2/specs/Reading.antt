@@ -6,9 +6,11 @@ use Rattle.b2.specs.declared.lines.ScriptCall.{ScriptCall}
 use Rattle.b2.specs.declared.lines.ScriptCall.TheVariants as script
 use Rattle.b2.specs.Scripts.{slice_of}
 use Rattle.blake2_runs.specs.declared.calls.Call.{Call}
-use Rattle.blake2_runs.specs.declared.calls.Call.TheVariants.{Update, Clone, Reset, Finalize, FinalizeReset}
+use Rattle.blake2_runs.specs.declared.calls.Call.TheVariants.{Update, Clone, Reset, Finalize}
+use Rattle.blake2_runs.specs.declared.calls.Call.TheVariants.{FinalizeReset}
 use Rattle.blake2_runs.specs.declared.calls.ReplayFault.{ReplayFault}
-use Rattle.blake2_runs.specs.declared.calls.ReplayFault.TheVariants.{NoSuchSlot as NoSuchSlotAt, TooLong as TooLongAt, Memory}
+use Rattle.blake2_runs.specs.declared.calls.ReplayFault.TheVariants.{NoSuchSlot as NoSuchSlotAt}
+use Rattle.blake2_runs.specs.declared.calls.ReplayFault.TheVariants.{TooLong as TooLongAt, Memory}
 
 -- the call that the program has read
 abbrev pub call_value : ScriptCall → Call

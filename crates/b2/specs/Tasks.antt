@@ -1,5 +1,6 @@
 -- What the tasks of the program take and print.
-use Rattle.std.specs.Prelude.{◌≡◌, ℕ, ◌+◌, ◌≤◌, ◌^◌, ⊤, List, [], length, Option, unwrap_or, IfSome, Result, Err, IsOkAnd}
+use Rattle.std.specs.Prelude.{◌≡◌, ℕ, ◌+◌, ◌≤◌, ◌^◌, ⊤, List, [], length, Option, unwrap_or, IfSome}
+use Rattle.std.specs.Prelude.{Result, Err, IsOkAnd}
 use Rattle.std.specs.List.{flat_map}
 use Rattle.std.specs.Io.KnownBytes.{Appends}
 use Rattle.blake2.specs.Family.{Family, blake2b, blake2s}
@@ -9,9 +10,11 @@ use Rattle.blake2.specs.States.{digest_of, input as input_of_parts}
 use Rattle.blake2.specs.Streams.{line_of}
 use Rattle.b2.specs.declared.fault.Fault.{Fault}
 use Rattle.b2.specs.declared.words.Kind.{Kind}
-use Rattle.b2.specs.declared.words.Kind.TheVariants.{Blake2b128, Blake2b256, Blake2b512, Blake2s128, Blake2s256}
+use Rattle.b2.specs.declared.words.Kind.TheVariants.{Blake2b128, Blake2b256, Blake2b512, Blake2s128}
+use Rattle.b2.specs.declared.words.Kind.TheVariants.{Blake2s256}
 use Rattle.b2.specs.declared.witness.WitnessKind.{WitnessKind}
-use Rattle.b2.specs.declared.witness.WitnessKind.TheVariants.{Common, Blake2b0, Blake2b8, Blake2s0, Blake2s8}
+use Rattle.b2.specs.declared.witness.WitnessKind.TheVariants.{Common, Blake2b0, Blake2b8, Blake2s0}
+use Rattle.b2.specs.declared.witness.WitnessKind.TheVariants.{Blake2s8}
 use Rattle.b2.specs.Words.{Given, nothing_given, Task}
 use Rattle.b2.specs.Words.Task.{to_sum, to_script, to_steps, to_witness}
 use Rattle.b2.specs.Lines.{transcript_lines}
@@ -54,13 +57,16 @@ compared_size Blake2s8 = 1
 abbrev pub IsRefusedBy : Family → Given → Type 0
 IsRefusedBy f given = IsRefused f given.key (unwrap_or given.salt []) (unwrap_or given.persona [])
 
--- BLAKE2 of n bytes with the salt, the persona and the key that are given, as a function of the message
+-- BLAKE2 of n bytes with the salt, the persona and the key that are given, as a function of the
+-- message
 abbrev pub digest_with : Family → ℕ → Given → List ℕ → List ℕ
-digest_with f n given message = digest_of f n (unwrap_or given.salt []) (unwrap_or given.persona []) given.key message
+digest_with f n given message =
+    digest_of f n (unwrap_or given.salt []) (unwrap_or given.persona []) given.key message
 
 -- the input with the salt, the persona and the key that are given
 abbrev pub input_with : Given → List ℕ → Input
-input_with given message = input_of_parts (unwrap_or given.salt []) (unwrap_or given.persona []) given.key message
+input_with given message =
+    input_of_parts (unwrap_or given.salt []) (unwrap_or given.persona []) given.key message
 
 -- a task has a key, a salt or a persona of a length that is not taken
 abbrev pub IsRefusedTask : Task → Type 0
@@ -80,8 +86,8 @@ IsTooLongFor (to_script kind given) input = ⊥
 IsTooLongFor (to_steps kind given) input = IsTooLongBy (family_of kind) given input
 IsTooLongFor (to_witness kind a b) input = ⊥
 
--- a task takes memory once its words are read: `script` and `steps` hold the input, `sum` passes it on
--- in pieces, and `witness` needs none
+-- a task takes memory once its words are read: `script` and `steps` hold the input, `sum` passes it
+-- on in pieces, and `witness` needs none
 abbrev pub TakesMemory : Task → Type 0
 TakesMemory (to_script kind given) = ⊤
 TakesMemory (to_steps kind given) = ⊤
@@ -89,17 +95,20 @@ TakesMemory task = ⊥
 
 -- the digests that a script answers with what is given
 abbrev pub script_answer : Family → ℕ → Given → List ℕ → Result (List (List ℕ)) Fault
-script_answer f n given script = script_digests (digest_with f n given) (key_count f given.key) script
+script_answer f n given script =
+    script_digests (digest_with f n given) (key_count f given.key) script
 
 -- a script has this fault
 abbrev pub IsFaultOfScript : Fault → Task → List ℕ → Type 0
-IsFaultOfScript fault (to_script kind given) input = script_answer (family_of kind) (size_of kind) given input ≡ Err fault
+IsFaultOfScript fault (to_script kind given) input =
+    script_answer (family_of kind) (size_of kind) given input ≡ Err fault
 IsFaultOfScript fault task input = ⊥
 
 -- a sink took the output of a task over what a source had left; `witness` reads no input
 abbrev pub Outputs : Task → Option (List ℕ) → Option (List ℕ) → Option (List ℕ) → Type 0
 Outputs (to_sum kind given) left old new =
-    IfSome left (λ input. Appends old new (line_of (digest_with (family_of kind) (size_of kind) given input)))
+    IfSome left (λ input. Appends old new
+    (line_of (digest_with (family_of kind) (size_of kind) given input)))
 Outputs (to_script kind given) left old new =
     IfSome left (λ input. IsOkAnd (script_answer (family_of kind) (size_of kind) given input)
     (λ digests. Appends old new (flat_map line_of digests)))
@@ -110,8 +119,8 @@ Outputs (to_witness kind a b) left old new =
     PrintsWitness (compared_family kind) (compared_size kind)
     (input_with nothing_given a) (input_with nothing_given b) old new
 
--- a task was done: it is not refused, the input that a source had left is not too long for it, and a
--- sink took the whole output
+-- a task was done: it is not refused, the input that a source had left is not too long for it, and
+-- a sink took the whole output
 pub record IsDone (task : Task) (left old new : Option (List ℕ)) : Type 0 where
   pub not_refused : ¬ IsRefusedTask task
   pub fits : IfSome left (λ input. ¬ IsTooLongFor task input)

@@ -1,14 +1,17 @@
 -- What the words of the command line ask for. They are looked at from left to right, and the first
 -- fault is the answer.
-use Rattle.std.specs.Prelude.{◌≡◌, ⊤, ℕ, ◌==◌, if◌then◌else◌, List, [], ◌∷◌, codes, Option, Some, None, is_some, position, Result, Ok, Err}
+use Rattle.std.specs.Prelude.{◌≡◌, ⊤, ℕ, ◌==◌, if◌then◌else◌, List, [], ◌∷◌, codes, Option, Some}
+use Rattle.std.specs.Prelude.{None, is_some, position, Result, Ok, Err}
 use Rattle.std.specs.List.{before_first, after_first}
 use Rattle.std.specs.Result.{result_map_both}
 use Rattle.std.specs.Str.{bytes_eq}
 use Rattle.hex.specs.Hex.{decode_of}
 use Rattle.b2.specs.declared.words.Kind.{Kind}
-use Rattle.b2.specs.declared.words.Kind.TheVariants.{Blake2b128, Blake2b256, Blake2b512, Blake2s128, Blake2s256}
+use Rattle.b2.specs.declared.words.Kind.TheVariants.{Blake2b128, Blake2b256, Blake2b512, Blake2s128}
+use Rattle.b2.specs.declared.words.Kind.TheVariants.{Blake2s256}
 use Rattle.b2.specs.declared.witness.WitnessKind.{WitnessKind}
-use Rattle.b2.specs.declared.witness.WitnessKind.TheVariants.{Common, Blake2b0, Blake2b8, Blake2s0, Blake2s8}
+use Rattle.b2.specs.declared.witness.WitnessKind.TheVariants.{Common, Blake2b0, Blake2b8, Blake2s0}
+use Rattle.b2.specs.declared.witness.WitnessKind.TheVariants.{Blake2s8}
 use Rattle.b2.specs.declared.fault.Fault.{Fault}
 use Rattle.b2.specs.declared.fault.Fault.TheVariants.{WrongWords, WrongHex, NoMemory}
 
@@ -69,15 +72,19 @@ abbrev pub first_value : Option (List ℕ) → List ℕ → Result (List ℕ) Fa
 first_value None digits = hex_value digits
 first_value (Some bytes) digits = Err WrongWords
 
--- what is given with one word NAME=HEX more: its name is looked at first, and its HEX next (61 is `=`)
+-- what is given with one word NAME=HEX more: its name is looked at first, and its HEX next (61 is
+-- `=`)
 abbrev pub with_word : Given → List ℕ → Result Given Fault
 with_word given word =
     let name = before_first (λ b. b == 61) word in
     let digits = after_first (λ b. b == 61) word in
     if is_some (position (λ b. b == 61) word) then (
-    if bytes_eq name (codes "key") then and_then (first_value given.key digits) (λ bytes. Ok (record given { key = Some bytes }))
-    else if bytes_eq name (codes "salt") then and_then (first_value given.salt digits) (λ bytes. Ok (record given { salt = Some bytes }))
-    else if bytes_eq name (codes "persona") then and_then (first_value given.persona digits) (λ bytes. Ok (record given { persona = Some bytes }))
+    if bytes_eq name (codes "key") then and_then (first_value given.key digits)
+    (λ bytes. Ok (record given { key = Some bytes }))
+    else if bytes_eq name (codes "salt") then and_then (first_value given.salt digits)
+    (λ bytes. Ok (record given { salt = Some bytes }))
+    else if bytes_eq name (codes "persona") then and_then (first_value given.persona digits)
+    (λ bytes. Ok (record given { persona = Some bytes }))
     else Err WrongWords
     ) else Err WrongWords
 
@@ -100,7 +107,9 @@ pub data Task : Type 0 where
 -- the task of the words behind a command's name, KIND and what is given
 abbrev pub given_task : (Kind → Given → Task) → List (List ℕ) → Result Task Fault
 given_task to [] = Err WrongWords
-given_task to (kind ∷ words) = and_then (kind_of kind) (λ k. and_then (with_words nothing_given words) (λ given. Ok (to k given)))
+given_task to (kind ∷ words) =
+    and_then (kind_of kind)
+    (λ k. and_then (with_words nothing_given words) (λ given. Ok (to k given)))
 
 -- the task of the words behind `witness`, where the kind and the messages before them are told
 abbrev pub rest_task : WitnessKind → List ℕ → List ℕ → List (List ℕ) → Result Task Fault

@@ -1,5 +1,6 @@
 //! The commands, and the run of one.
-ghost use Rattle.std.specs.Prelude.{◌≡◌, ◌≢◌, ◌<◌, ◌≤◌, false, length, map, IsTrue, IfOk, IfErr, IsOkAnd};
+ghost use Rattle.std.specs.Prelude.{◌≡◌, ◌≢◌, ◌<◌, ◌≤◌, false, length, map, IsTrue, IfOk, IfErr};
+ghost use Rattle.std.specs.Prelude.{IsOkAnd};
 ghost use Rattle.std.specs.String.{string_bytes};
 ghost use Rattle.b2.specs.declared.words.Kind.{Kind};
 ghost use Rattle.b2.specs.Words.{Given, Task, given_task, task_of, IsReadingFault};

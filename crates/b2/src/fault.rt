@@ -3,7 +3,7 @@ ghost use Rattle.std.specs.Prelude.{◌≡◌, ◌≢◌, ◌<◌, ◌↔◌, []
 ghost use Rattle.std.specs.Io.KnownBytes.{Appends};
 ghost use Rattle.b2.specs.declared.fault.Fault.TheVariants.{WrongLength, NoMemory, WriteFailed};
 
-use crate::print::Line;
+use crate::print::{LINE_BYTES, Line};
 use blake2::digest::InvalidLength;
 use blake2::engine::Sink;
 use std::alloc::AllocError;
@@ -40,7 +40,7 @@ impl Fault {
     fn line(self) -> Line
         requires { self ≢ WriteFailed }
         ensures text { result ++ 10 ∷ [] ≡ fault_line self }
-        ensures room { length result < 418 }
+        ensures room { length result < LINE_BYTES }
     {
         let mut line = Line::starting(b"b2: ");
         if let Some(number) = self.script_line() {
@@ -101,7 +101,8 @@ impl Fault {
     pub(crate) fn report<K: Sink>(self, sink: &mut K) -> u8
         requires { (self ≡ WriteFailed) ↔ IsTrue (K.failed sink.old) }
         ensures printed { K.failed sink.new ≡ false →
-            (result ≡ status_of self) × Appends (K.held sink.old) (K.held sink.new) (fault_line self) }
+            (result ≡ status_of self)
+            × Appends (K.held sink.old) (K.held sink.new) (fault_line self) }
         ensures failed { IsTrue (K.failed sink.old) → IsTrue (K.failed sink.new) }
         ensures unprinted { IsTrue (K.failed sink.new) → result ≡ 1 }
     {

@@ -69,7 +69,8 @@ impl ScriptCall {
 
 /// Reads all lines of a script, which newlines end; the last line may lack its own.
 pub(crate) fn read_script(alloc: Global, text: &[u8]) -> Result<Vec<ScriptCall>, Fault>
-    ensures calls { IfOk result (λ script. script_calls text.now ≡ Ok (map call_value script.items)) }
+    ensures calls { IfOk result
+        (λ script. script_calls text.now ≡ Ok (map call_value script.items)) }
     ensures fault { IfErr result (λ fault. IsLineFault fault (script_calls text.now)) }
 {
     let mut script = Vec::new(alloc);
@@ -124,7 +125,8 @@ fn slot_of(digits: &[u8]) -> Option<usize>
 // The number that at most 9 decimal digits write.
 fn number_of(digits: &[u8]) -> Option<usize>
     requires { length digits.now ≤ 9 }
-    ensures { result ≡ (if list_all is_ascii_digit digits.now then Some (digits_value 10 digits.now) else None) }
+    ensures { result ≡
+        (if list_all is_ascii_digit digits.now then Some (digits_value 10 digits.now) else None) }
 {
     let mut number = 0;
     for digit in digits {

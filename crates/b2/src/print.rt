@@ -1,5 +1,6 @@
 //! Lines of output.
-ghost use Rattle.std.specs.Prelude.{◌≡◌, ◌↔◌, ◌+◌, ◌*◌, ◌<◌, ◌≤◌, ◌∷◌, [], ◌++◌, length, decimal, false, IsTrue, OnOk, IsOkUnless};
+ghost use Rattle.std.specs.Prelude.{◌≡◌, ◌↔◌, ◌+◌, ◌*◌, ◌<◌, ◌≤◌, ◌∷◌, [], ◌++◌, length, decimal};
+ghost use Rattle.std.specs.Prelude.{false, IsTrue, OnOk, IsOkUnless};
 ghost use Rattle.std.specs.Result.{IsErrOf};
 ghost use Rattle.std.specs.Io.KnownBytes.{Appends};
 ghost use Rattle.hex.specs.Hex.{encode_lower};
@@ -13,7 +14,7 @@ use std::marker::Model;
 // The bytes of the longest line, that of a step of BLAKE2b: a letter, eight words of 16 digits, a
 // counter of up to 20, a flag and a block of 256 digits, a space before each but the first, and a
 // newline.
-const LINE_BYTES: usize = 418;
+pub(crate) const LINE_BYTES: usize = 418;
 
 /// A line that is put together field by field, with a space before each, in memory of its own.
 #[derive(Drop)]
@@ -24,12 +25,13 @@ pub(crate) struct Line {
 
 impl Model for Line {
     ghost use Rattle.std.specs.Prelude.{ℕ, ◌≤◌, List, take};
+    ghost use Rattle.b2.specs.declared.print.TheConstants.{LINE_BYTES};
 
     ghost Value = { List ℕ };
 
     ghost view = { λ line. take line.length line.bytes };
 
-    ghost invariant = { λ line. line.length ≤ 418 };
+    ghost invariant = { λ line. line.length ≤ LINE_BYTES };
 }
 
 impl Line {
@@ -45,7 +47,7 @@ impl Line {
 
     /// A line that begins with this text.
     pub(crate) fn starting(text: &[u8]) -> Line
-        requires { length text.now ≤ 418 }
+        requires { length text.now ≤ LINE_BYTES }
         ensures { result ≡ text.now }
     {
         let mut line = Line::new();
@@ -55,7 +57,7 @@ impl Line {
 
     /// Puts text behind the line.
     pub(crate) fn push(&mut self, text: &[u8])
-        requires { length self.old + length text.now ≤ 418 }
+        requires { length self.old + length text.now ≤ LINE_BYTES }
         ensures { self.new ≡ self.old ++ text.now }
     {
         let end = self.length + text.len();
@@ -66,7 +68,7 @@ impl Line {
 
     /// Puts bytes behind the line, two lower-case hexadecimal digits each.
     pub(crate) fn push_hex(&mut self, bytes: &[u8])
-        requires { length self.old + 2 * length bytes.now ≤ 418 }
+        requires { length self.old + 2 * length bytes.now ≤ LINE_BYTES }
         ensures { self.new ≡ self.old ++ encode_lower bytes.now }
     {
         let end = self.length + 2 * bytes.len();
@@ -77,7 +79,7 @@ impl Line {
 
     /// Puts bytes behind the line as a field, two lower-case hexadecimal digits each.
     pub(crate) fn add_bytes(&mut self, bytes: &[u8])
-        requires { length self.old + 2 * length bytes.now < 418 }
+        requires { length self.old + 2 * length bytes.now < LINE_BYTES }
         ensures added { self.new ≡ self.old ++ bytes_field bytes.now }
         ensures longer { length self.new ≡ length self.old + 2 * length bytes.now + 1 }
     {
@@ -87,7 +89,7 @@ impl Line {
 
     /// Puts words behind the line as fields of 16 digits each.
     pub(crate) fn add_words_of_64(&mut self, words: &[u64; 8])
-        requires { length self.old + 136 ≤ 418 }
+        requires { length self.old + 136 ≤ LINE_BYTES }
         ensures added { self.new ≡ self.old ++ word_fields blake2b words.now }
         ensures longer { length self.new ≡ length self.old + 136 }
     {
@@ -98,7 +100,7 @@ impl Line {
 
     /// Puts words behind the line as fields of 8 digits each.
     pub(crate) fn add_words_of_32(&mut self, words: &[u32; 8])
-        requires { length self.old + 72 ≤ 418 }
+        requires { length self.old + 72 ≤ LINE_BYTES }
         ensures added { self.new ≡ self.old ++ word_fields blake2s words.now }
         ensures longer { length self.new ≡ length self.old + 72 }
     {
@@ -109,7 +111,7 @@ impl Line {
 
     /// Puts a number behind the line, in decimal.
     pub(crate) fn push_decimal(&mut self, n: u64)
-        requires { length self.old + length (decimal n) ≤ 418 }
+        requires { length self.old + length (decimal n) ≤ LINE_BYTES }
         ensures { self.new ≡ self.old ++ decimal n }
     {
         if n >= 10 {
@@ -120,7 +122,7 @@ impl Line {
 
     /// Puts a number behind the line as a field, in decimal.
     pub(crate) fn add_number(&mut self, n: u64)
-        requires { length self.old + 21 ≤ 418 }
+        requires { length self.old + 21 ≤ LINE_BYTES }
         ensures added { self.new ≡ self.old ++ number_field n }
         ensures longer { length self.new ≤ length self.old + 21 }
     {
@@ -130,7 +132,7 @@ impl Line {
 
     /// Puts a flag behind the line as a field: `1` or `0`.
     pub(crate) fn add_flag(&mut self, flag: bool)
-        requires { length self.old + 2 ≤ 418 }
+        requires { length self.old + 2 ≤ LINE_BYTES }
         ensures added { self.new ≡ self.old ++ flag_field flag }
         ensures longer { length self.new ≡ length self.old + 2 }
     {
@@ -139,7 +141,7 @@ impl Line {
 
     /// Ends the line, and writes it.
     pub(crate) fn print<K: Sink>(mut self, sink: &mut K) -> Result<(), Fault>
-        requires room { length self < 418 }
+        requires room { length self < LINE_BYTES }
         requires sink { K.failed sink.old ≡ false }
         ensures write { IsErrOf result Fault.WriteFailed ↔ IsTrue (K.failed sink.new) }
         ensures fault { IsOkUnless result Fault.WriteFailed }

@@ -38,7 +38,8 @@ where
     ensures read { IsErrOf result Fault.ReadFailed ↔ IsTrue (S.failed source.new) }
     ensures write { IsErrOf result Fault.WriteFailed ↔ IsTrue (K.failed sink.new) }
     ensures ends { (digest : List ℕ → List ℕ) (n : ℕ) → Fresh H.meaning digest n first
-        → EndsByDigests (script_digests digest n) result (S.left source.old) (K.held sink.old) (K.held sink.new) }
+        → EndsByDigests (script_digests digest n) result (S.left source.old)
+        (K.held sink.old) (K.held sink.new) }
 {
     let text = read_all(alloc, source)?;
     let script = read_script(alloc, text.as_slice())?;
@@ -67,7 +68,8 @@ fn print_lines<K: Sink, const N: usize>(digests: &[[u8; N]], sink: &mut K) -> Re
     requires sink { K.failed sink.old ≡ false }
     ensures write { IsErrOf result Fault.WriteFailed ↔ IsTrue (K.failed sink.new) }
     ensures fault { IsOkUnless result Fault.WriteFailed }
-    ensures lines { OnOk result (Appends (K.held sink.old) (K.held sink.new) (flat_map line_of digests.now)) }
+    ensures lines { OnOk result
+        (Appends (K.held sink.old) (K.held sink.new) (flat_map line_of digests.now)) }
 {
     for digest in digests {
         print_digest(digest, sink)?;

@@ -58,7 +58,8 @@ fn steps_blake2b<S: Source, K: Sink>(
     ensures length { IsErrOf result Fault.WrongLength ↔ IsRefusedBy blake2b (given_of options.now) }
     ensures read { IsErrOf result Fault.ReadFailed ↔ IsTrue (S.failed source.new) }
     ensures write { IsErrOf result Fault.WriteFailed ↔ IsTrue (K.failed sink.new) }
-    ensures ends { EndsBy (λ message. transcript_lines blake2b output_size (input_with (given_of options.now) message))
+    ensures ends { EndsBy (λ message.
+        transcript_lines blake2b output_size (input_with (given_of options.now) message))
         (key_count blake2b (given_of options.now).key) result (S.left source.old)
         (K.held sink.old) (K.held sink.new) }
 {
@@ -80,7 +81,8 @@ fn print_blake2b<K: Sink>(transcript: &Transcript<u64, 128>, sink: &mut K) -> Re
     ensures write { IsErrOf result Fault.WriteFailed ↔ IsTrue (K.failed sink.new) }
     ensures fault { IsOkUnless result Fault.WriteFailed }
     ensures lines { OnOk result (Appends (K.held sink.old) (K.held sink.new)
-        (words_line blake2b transcript.now.words ++ flat_map entry_line (entries_of transcript.now))) }
+        (words_line blake2b transcript.now.words
+        ++ flat_map entry_line (entries_of transcript.now))) }
 {
     let mut line = Line::starting(b"w");
     line.add_words_of_64(&transcript.words);
@@ -101,7 +103,8 @@ fn steps_blake2s<S: Source, K: Sink>(
     ensures length { IsErrOf result Fault.WrongLength ↔ IsRefusedBy blake2s (given_of options.now) }
     ensures read { IsErrOf result Fault.ReadFailed ↔ IsTrue (S.failed source.new) }
     ensures write { IsErrOf result Fault.WriteFailed ↔ IsTrue (K.failed sink.new) }
-    ensures ends { EndsBy (λ message. transcript_lines blake2s output_size (input_with (given_of options.now) message))
+    ensures ends { EndsBy (λ message.
+        transcript_lines blake2s output_size (input_with (given_of options.now) message))
         (key_count blake2s (given_of options.now).key) result (S.left source.old)
         (K.held sink.old) (K.held sink.new) }
 {
@@ -123,7 +126,8 @@ fn print_blake2s<K: Sink>(transcript: &Transcript<u32, 64>, sink: &mut K) -> Res
     ensures write { IsErrOf result Fault.WriteFailed ↔ IsTrue (K.failed sink.new) }
     ensures fault { IsOkUnless result Fault.WriteFailed }
     ensures lines { OnOk result (Appends (K.held sink.old) (K.held sink.new)
-        (words_line blake2s transcript.now.words ++ flat_map entry_line (entries_of transcript.now))) }
+        (words_line blake2s transcript.now.words
+        ++ flat_map entry_line (entries_of transcript.now))) }
 {
     let mut line = Line::starting(b"w");
     line.add_words_of_32(&transcript.words);
@@ -165,7 +169,9 @@ fn print_entries<K: Sink, const B: usize>(entries: &[Entry<B>], sink: &mut K) ->
     requires sink { K.failed sink.old ≡ false }
     ensures write { IsErrOf result Fault.WriteFailed ↔ IsTrue (K.failed sink.new) }
     ensures fault { IsOkUnless result Fault.WriteFailed }
-    ensures lines { OnOk result (Appends (K.held sink.old) (K.held sink.new) (flat_map entry_line (map entry_of entries.now))) }
+    ensures lines { OnOk result
+        (Appends (K.held sink.old) (K.held sink.new)
+        (flat_map entry_line (map entry_of entries.now))) }
 {
     for entry in entries {
         print_entry(entry, sink)?;
@@ -179,7 +185,8 @@ fn print_entry<K: Sink, const B: usize>(entry: &Entry<B>, sink: &mut K) -> Resul
     requires sink { K.failed sink.old ≡ false }
     ensures write { IsErrOf result Fault.WriteFailed ↔ IsTrue (K.failed sink.new) }
     ensures fault { IsOkUnless result Fault.WriteFailed }
-    ensures line { OnOk result (Appends (K.held sink.old) (K.held sink.new) (entry_line (entry_of entry.now))) }
+    ensures line { OnOk result
+        (Appends (K.held sink.old) (K.held sink.new) (entry_line (entry_of entry.now))) }
 {
     let mut line = Line::starting(b"e");
     line.add_number(entry.counter);

@@ -25,7 +25,8 @@ where
     ensures read { IsErrOf result Fault.ReadFailed ↔ IsTrue (S.failed source.new) }
     ensures write { IsErrOf result Fault.WriteFailed ↔ IsTrue (K.failed sink.new) }
     ensures memory { result ≢ Err Fault.NoMemory }
-    ensures ends { EndsBy (λ message. line_of (H.meaning.future hasher message)) (H.meaning.count hasher) result
+    ensures ends { EndsBy (λ message. line_of (H.meaning.future hasher message))
+        (H.meaning.count hasher) result
         (S.left source.old) (K.held sink.old) (K.held sink.new) }
 {
     match hash_stream(source, sink, hasher) {

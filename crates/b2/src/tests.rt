@@ -1,6 +1,7 @@
 //! Runs of the program over memory.
 
 mod memory;
+mod outputs;
 mod script;
 mod steps;
 mod sum;
@@ -64,8 +65,8 @@ fn refuses(alloc: Global, text: &str, line: &str) -> Result<bool, AllocError> {
 }
 
 // Whether the command, at an output that fails after each number of bytes below the whole output's,
-// and at one that has room for no more than these, prints just so many, a beginning of the whole, and
-// answers status 1.
+// and at one that has room for no more than these, prints just so many, a beginning of the whole,
+// and answers status 1.
 fn stops_at_each_byte(alloc: Global, text: &str, input: &[u8]) -> Result<bool, AllocError> {
     let words = words_of(alloc, text)?;
     let (_, whole) = run_over(alloc, text, input, None)?;

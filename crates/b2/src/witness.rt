@@ -1,5 +1,7 @@
 //! `b2 witness`: the pair of steps that two messages with one digest come to.
-ghost use Rattle.std.specs.Prelude.{◌≡◌, ◌≢◌, ◌≤◌, ◌↔◌, [], ◌∷◌, ◌++◌, ◌<◌, length, ℕ, List, Option, codes, map, false, IsTrue, IfOk, IfErr, OnOk, IsOkUnless};
+ghost use Rattle.std.specs.Prelude.{◌≡◌, ◌≢◌, ◌≤◌, ◌↔◌, [], ◌∷◌, ◌++◌, ◌<◌, length, ℕ, List};
+ghost use Rattle.std.specs.Prelude.{Option, codes, map, false, IsTrue, IfOk, IfErr, OnOk};
+ghost use Rattle.std.specs.Prelude.{IsOkUnless};
 ghost use Rattle.std.specs.String.{string_bytes};
 ghost use Rattle.std.specs.Result.{IsErrOf};
 ghost use Rattle.std.specs.Io.KnownBytes.{Appends, Keeps};
@@ -124,7 +126,8 @@ fn witness_blake2b<K: Sink>(
     requires sink { K.failed sink.old ≡ false }
     ensures write { IsErrOf result Fault.WriteFailed ↔ IsTrue (K.failed sink.new) }
     ensures fault { IsOkUnless result Fault.WriteFailed }
-    ensures lines { OnOk result (PrintsWitness blake2b output_size (input_with nothing_given a.now) (input_with nothing_given b.now)
+    ensures lines { OnOk result (PrintsWitness blake2b output_size
+        (input_with nothing_given a.now) (input_with nothing_given b.now)
         (K.held sink.old) (K.held sink.new)) }
 {
     match Blake2bVarCore::witness(alloc, &unkeyed(a), &unkeyed(b), output_size).unwrap() {
@@ -147,7 +150,8 @@ fn witness_blake2s<K: Sink>(
     requires sink { K.failed sink.old ≡ false }
     ensures write { IsErrOf result Fault.WriteFailed ↔ IsTrue (K.failed sink.new) }
     ensures fault { IsOkUnless result Fault.WriteFailed }
-    ensures lines { OnOk result (PrintsWitness blake2s output_size (input_with nothing_given a.now) (input_with nothing_given b.now)
+    ensures lines { OnOk result (PrintsWitness blake2s output_size
+        (input_with nothing_given a.now) (input_with nothing_given b.now)
         (K.held sink.old) (K.held sink.new)) }
 {
     match Blake2sVarCore::witness(alloc, &unkeyed(a), &unkeyed(b), output_size).unwrap() {
@@ -179,7 +183,8 @@ fn print_blake2b<K: Sink>(step: &Step<u64, 128>, sink: &mut K) -> Result<(), Fau
     requires { K.failed sink.old ≡ false }
     ensures write { IsErrOf result Fault.WriteFailed ↔ IsTrue (K.failed sink.new) }
     ensures fault { IsOkUnless result Fault.WriteFailed }
-    ensures line { OnOk result (Appends (K.held sink.old) (K.held sink.new) (step_line blake2b (step_of step.now))) }
+    ensures line { OnOk result
+        (Appends (K.held sink.old) (K.held sink.new) (step_line blake2b (step_of step.now))) }
 {
     let mut line = Line::starting(b"s");
     line.add_words_of_64(&step.chain);
@@ -194,7 +199,8 @@ fn print_blake2s<K: Sink>(step: &Step<u32, 64>, sink: &mut K) -> Result<(), Faul
     requires { K.failed sink.old ≡ false }
     ensures write { IsErrOf result Fault.WriteFailed ↔ IsTrue (K.failed sink.new) }
     ensures fault { IsOkUnless result Fault.WriteFailed }
-    ensures line { OnOk result (Appends (K.held sink.old) (K.held sink.new) (step_line blake2s (step_of step.now))) }
+    ensures line { OnOk result
+        (Appends (K.held sink.old) (K.held sink.new) (step_line blake2s (step_of step.now))) }
 {
     let mut line = Line::starting(b"s");
     line.add_words_of_32(&step.chain);
@@ -209,7 +215,8 @@ fn print_none<K: Sink>(sink: &mut K) -> Result<(), Fault>
     requires { K.failed sink.old ≡ false }
     ensures write { IsErrOf result Fault.WriteFailed ↔ IsTrue (K.failed sink.new) }
     ensures fault { IsOkUnless result Fault.WriteFailed }
-    ensures line { OnOk result (Appends (K.held sink.old) (K.held sink.new) (codes "none" ++ 10 ∷ [])) }
+    ensures line { OnOk result
+        (Appends (K.held sink.old) (K.held sink.new) (codes "none" ++ 10 ∷ [])) }
 {
     write_whole(sink, b"none\n").map_err(|_| Fault::WriteFailed)
 }

@@ -1,5 +1,6 @@
 //! The words of the command line, read from left to right.
-ghost use Rattle.std.specs.Prelude.{◌≡◌, ◌<◌, ◌↔◌, [], length, map, unwrap_or, IsTrue, IfOk, IfErr, OnOk};
+ghost use Rattle.std.specs.Prelude.{◌≡◌, ◌<◌, ◌↔◌, [], length, map, unwrap_or, IsTrue, IfOk, IfErr};
+ghost use Rattle.std.specs.Prelude.{OnOk};
 ghost use Rattle.std.specs.String.{string_bytes};
 ghost use Rattle.blake2.specs.Views.{key_of};
 ghost use Rattle.b2.specs.Words.{hex_value, message_value, IsReadingFault};
@@ -74,7 +75,8 @@ impl Options {
 
     // Takes the word NAME=HEX, whose name no word before it had.
     fn take_word(&mut self, alloc: Global, word: &str) -> Result<(), Fault>
-        ensures taken { OnOk result (with_word (given_of self.old) word.now ≡ Ok (given_of self.new)) }
+        ensures taken { OnOk result
+            (with_word (given_of self.old) word.now ≡ Ok (given_of self.new)) }
         ensures fault { IfErr result (λ fault.
             IsReadingFault fault (with_word (given_of self.old) word.now)) }
     {

@@ -6,15 +6,15 @@ use Rattle.blake2_runs.specs.declared.calls.Call.{Call}
 use Rattle.blake2_runs.specs.declared.calls.Call.TheVariants.{Update, Clone, Reset, Finalize, FinalizeReset}
 use Rattle.blake2_runs.specs.declared.calls.ReplayFault.{ReplayFault}
 use Rattle.blake2_runs.specs.declared.calls.ReplayFault.TheVariants.{TooLong}
-use Rattle.blake2_runs.specs.Play.{Taken, since_beginning, since_reset, Slots, Left, at_slot, and_more, digest_of, count_of, leaves, play_call, and_then, after, play, play_from, fresh_meaning, play_fresh}
+use Rattle.blake2_runs.specs.Play.{Taken, since_beginning, since_reset, Slots, Outcome, at_slot, and_more, digest_of, count_of, leaves, play_call, and_then, after, play, play_from, fresh_meaning, play_fresh}
 
 -- what is done to a slot may be told in another way
-at_slot_same : (i : ℕ) (slot : Option Taken) (f g : Taken → Result Left ReplayFault) → ((taken : Taken) → f taken ≡ g taken) → at_slot i slot f ≡ at_slot i slot g
+at_slot_same : (i : ℕ) (slot : Option Taken) (f g : Taken → Result Outcome ReplayFault) → ((taken : Taken) → f taken ≡ g taken) → at_slot i slot f ≡ at_slot i slot g
 at_slot_same i None f g e = refl
 at_slot_same i (Some taken) f g e = e taken
 
 -- and so may what comes of the slots
-and_then_same : (r : Result Left ReplayFault) (f g : Slots → Result (List (List ℕ)) ReplayFault) → ((next : Slots) → f next ≡ g next) → and_then r f ≡ and_then r g
+and_then_same : (r : Result Outcome ReplayFault) (f g : Slots → Result (List (List ℕ)) ReplayFault) → ((next : Slots) → f next ≡ g next) → and_then r f ≡ and_then r g
 and_then_same (Ok left) f g e = ap (after left.digests) (e left.slots)
 and_then_same (Err fault) f g e = refl
 
@@ -44,7 +44,7 @@ module _ {S : Type 0} (m : Meaning S) (first : S) (digest : List ℕ → List �
   play_from_same : (calls : List Call) (slots : Slots) (i : ℕ) → play_from m first calls slots i ≡ play_from (fresh_meaning digest n) tt calls slots i
   play_from_same [] slots i = refl
   play_from_same (call ∷ calls) slots i =
-      ap (λ (r : Result Left ReplayFault). and_then r (λ (next : Slots). play_from m first calls next (i + 1))) (call_same slots i call)
+      ap (λ (r : Result Outcome ReplayFault). and_then r (λ (next : Slots). play_from m first calls next (i + 1))) (call_same slots i call)
       ∙ and_then_same (play_call (fresh_meaning digest n) tt slots i call) _ _ (λ next. play_from_same calls next (i + 1))
 
   -- on a state that was just made

@@ -7,7 +7,7 @@ use Rattle.blake2_digest.specs.States.{Meaning, digest_now, Updated, StartedAgai
 use Rattle.blake2_runs.specs.declared.calls.Call.{Call}
 use Rattle.blake2_runs.specs.declared.calls.ReplayFault.{ReplayFault}
 use Rattle.blake2_runs.specs.declared.calls.ReplayFault.TheVariants.{NoSuchSlot, Memory}
-use Rattle.blake2_runs.specs.Play.{Taken, since_beginning, since_reset, Slots, Left, and_more, digest_of, count_of, slot_of, leaves, at_slot, play_live, play_call}
+use Rattle.blake2_runs.specs.Play.{Taken, since_beginning, since_reset, Slots, Outcome, and_more, digest_of, count_of, slot_of, leaves, at_slot, play_live, play_call}
 use Rattle.blake2_runs.specs.Holding.{StandsFor, SlotHolds, AllHold, WentOn, Answers}
 
 -- the state at a place, put back there, leaves the states as they were
@@ -129,36 +129,36 @@ module _ {S : Type 0} (m : Meaning S) (first : S) where
   plays_as slots i call kind h live is = live.plays ∙ ap (λ (c : Call). play_live m first slots i c live.taken) is
 
   -- the state at place k, which is that of slot j, gave way to another, and the digests xs came behind the earlier ones
-  pub went_on : (slots : Slots) (states : List (Option S)) (k j : ℕ) (slot : Option Taken) (h : Option S) (played : Result Left ReplayFault) (xs earlier digests : List (List ℕ))
+  pub went_on : (slots : Slots) (states : List (Option S)) (k j : ℕ) (slot : Option Taken) (h : Option S) (played : Result Outcome ReplayFault) (xs earlier digests : List (List ℕ))
       → AllHold m first slots states → k ≡ j → SlotHolds m first slot h → played ≡ leaves (set slots j slot) xs → digests ≡ earlier ++ xs
       → WentOn m first played earlier (set states k h) digests
   went_on slots states k j slot h played xs earlier digests all e one is added = record {
-    left = record { slots = set slots j slot; digests = xs };
+    outcome = record { slots = set slots j slot; digests = xs };
     played_is = is;
     held = rw e (AllHold-set slots states j slot h all one);
     digests_are = added;
   }
 
   -- a state came as the next slot
-  pub came_next : (slots : Slots) (states : List (Option S)) (slot : Option Taken) (h : Option S) (played : Result Left ReplayFault) (earlier : List (List ℕ))
+  pub came_next : (slots : Slots) (states : List (Option S)) (slot : Option Taken) (h : Option S) (played : Result Outcome ReplayFault) (earlier : List (List ℕ))
       → AllHold m first slots states → SlotHolds m first slot h → played ≡ leaves (slots ++ slot ∷ []) []
       → WentOn m first played earlier (states ++ h ∷ []) earlier
   came_next slots states slot h played earlier all one is = record {
-    left = record { slots = slots ++ slot ∷ []; digests = [] };
+    outcome = record { slots = slots ++ slot ∷ []; digests = [] };
     played_is = is;
     held = AllHold-push slots states slot h all one;
     digests_are = sym (append-nil earlier);
   }
 
   -- an update of a state that has counted n bytes, where it fits
-  pub update_fits : (taken : Taken) (h : S) (x : List ℕ) (n : ℕ) (o p : Result Left ReplayFault) → StandsFor m first taken h → n ≡ m.count h → length x ≤ 2 ^ 64 - 1 - n → n < 2 ^ 64
+  pub update_fits : (taken : Taken) (h : S) (x : List ℕ) (n : ℕ) (o p : Result Outcome ReplayFault) → StandsFor m first taken h → n ≡ m.count h → length x ≤ 2 ^ 64 - 1 - n → n < 2 ^ 64
       → if nat_lt (count_of m first taken + length x) (2 ^ 64) then o else p ≡ o
   update_fits taken h x n o p stands e le lt =
       let fits : count_of m first taken + length x < 2 ^ 64 = omega (arith, stands.count) in
       rw (lt-ltb (count_of m first taken + length x) (2 ^ 64) fits) refl
 
   -- and where it does not
-  pub update_refused : (taken : Taken) (h : S) (x : List ℕ) (n : ℕ) (o p : Result Left ReplayFault) → StandsFor m first taken h → n ≡ m.count h → 2 ^ 64 - 1 - n < length x
+  pub update_refused : (taken : Taken) (h : S) (x : List ℕ) (n : ℕ) (o p : Result Outcome ReplayFault) → StandsFor m first taken h → n ≡ m.count h → 2 ^ 64 - 1 - n < length x
       → if nat_lt (count_of m first taken + length x) (2 ^ 64) then o else p ≡ p
   update_refused taken h x n o p stands e lt =
       let too_far : 2 ^ 64 ≤ count_of m first taken + length x = omega (arith, stands.count) in
@@ -170,7 +170,7 @@ module _ {S : Type 0} (m : Meaning S) (first : S) where
   digest_added taken h d earlier digests stands e added = added ∙ ap (λ (x : List ℕ). earlier ++ x ∷ []) (e ∙ digest_stands taken h stands)
 
   -- a call whose last step is a push, which wants memory or does P
-  pub answers_by_push : (played : Result Left ReplayFault) (earlier digests : List (List ℕ)) (states : List (Option S)) (pushed : Result (Unit {0}) ReplayFault) (P : Type 0)
+  pub answers_by_push : (played : Result Outcome ReplayFault) (earlier digests : List (List ℕ)) (states : List (Option S)) (pushed : Result (Unit {0}) ReplayFault) (P : Type 0)
       → OnOk pushed P → IsOkUnless pushed Memory → (P → WentOn m first played earlier states digests) → Answers m first played earlier states digests pushed
   answers_by_push played earlier digests states (Ok _) P did refused f = f did
   answers_by_push played earlier digests states (Err fault) P did refused f = inl refused

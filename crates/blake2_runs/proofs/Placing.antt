@@ -5,7 +5,7 @@ use Rattle.blake2_runs.specs.declared.calls.Call.{Call}
 use Rattle.blake2_runs.specs.declared.calls.Call.TheVariants.{Update, Clone, Reset, Finalize, FinalizeReset}
 use Rattle.blake2_runs.specs.declared.calls.ReplayFault.{ReplayFault}
 use Rattle.blake2_runs.specs.declared.calls.ReplayFault.TheVariants.{NoSuchSlot, TooLong, Memory}
-use Rattle.blake2_runs.specs.Play.{Taken, since_beginning, Slots, Left, count_of, slot_of, at_slot, play_live, play_call, and_then, after, play_from, play, IsFirstBad, NamesFirstBad}
+use Rattle.blake2_runs.specs.Play.{Taken, since_beginning, Slots, Outcome, count_of, slot_of, at_slot, play_live, play_call, and_then, after, play_from, play, IsFirstBad, NamesFirstBad}
 
 -- what a list of calls answers: its digests, or the fault of its first bad call
 abbrev Played : Type 0
@@ -18,12 +18,12 @@ IsAt i (TooLong j) = j ≡ i
 IsAt i Memory = ⊥
 
 -- an update's fault names its place
-if_fault : (b : Bool) (i : ℕ) (left : Left) (fault : ReplayFault) → if b then Ok left else Err (TooLong i) ≡ Err fault → IsAt i fault
+if_fault : (b : Bool) (i : ℕ) (left : Outcome) (fault : ReplayFault) → if b then Ok left else Err (TooLong i) ≡ Err fault → IsAt i fault
 if_fault true i left fault e = cc
 if_fault false i left fault e = let same : TooLong i ≡ fault = cc in subst (IsAt i) same refl
 
 -- a fault of a call names its place, where it does so on each slot that is there
-at_fault : (i : ℕ) (slot : Option Taken) (f : Taken → Result Left ReplayFault) (fault : ReplayFault) → ((taken : Taken) → f taken ≡ Err fault → IsAt i fault) → at_slot i slot f ≡ Err fault → IsAt i fault
+at_fault : (i : ℕ) (slot : Option Taken) (f : Taken → Result Outcome ReplayFault) (fault : ReplayFault) → ((taken : Taken) → f taken ≡ Err fault → IsAt i fault) → at_slot i slot f ≡ Err fault → IsAt i fault
 at_fault i None f fault h e = let same : NoSuchSlot i ≡ fault = cc in subst (IsAt i) same refl
 at_fault i (Some taken) f fault h e = h taken e
 
@@ -74,7 +74,7 @@ module _ {S : Type 0} (m : Meaning S) (first : S) where
   }
 
   -- the first call goes on, and a later one is bad
-  stops_later : (call : Call) (calls : List Call) (slots : Slots) (i : ℕ) (fault : ReplayFault) (left : Left) → play_call m first slots i call ≡ Ok left → StopsAfter calls left.slots (i + 1) fault
+  stops_later : (call : Call) (calls : List Call) (slots : Slots) (i : ℕ) (fault : ReplayFault) (left : Outcome) → play_call m first slots i call ≡ Ok left → StopsAfter calls left.slots (i + 1) fault
       → StopsAfter (call ∷ calls) slots i fault
   stops_later call calls slots i fault left is rest = record {
     count = suc rest.count;
@@ -85,7 +85,7 @@ module _ {S : Type 0} (m : Meaning S) (first : S) where
   }
 
   -- so the list stops, whatever its first call does
-  stops_by : (call : Call) (calls : List Call) (slots : Slots) (i : ℕ) (fault : ReplayFault) (r : Result Left ReplayFault) → play_call m first slots i call ≡ r
+  stops_by : (call : Call) (calls : List Call) (slots : Slots) (i : ℕ) (fault : ReplayFault) (r : Result Outcome ReplayFault) → play_call m first slots i call ≡ r
       → ((next : Slots) → play_from m first calls next (i + 1) ≡ Err fault → StopsAfter calls next (i + 1) fault) → and_then r (λ next. play_from m first calls next (i + 1)) ≡ Err fault
       → StopsAfter (call ∷ calls) slots i fault
   stops_by call calls slots i fault (Err other) is later e = let same : other ≡ fault = cc in stops_here call calls slots i fault (is ∙ ap Err same)

@@ -5,7 +5,7 @@ use Rattle.blake2_digest.specs.States.{Meaning}
 use Rattle.blake2_runs.specs.declared.calls.Call.{Call}
 use Rattle.blake2_runs.specs.declared.calls.ReplayFault.{ReplayFault}
 use Rattle.blake2_runs.specs.declared.calls.ReplayFault.TheVariants.{Memory}
-use Rattle.blake2_runs.specs.Play.{Slots, Left, play_call, play_from, play, and_then, after}
+use Rattle.blake2_runs.specs.Play.{Slots, Outcome, play_call, play_from, play, and_then, after}
 use Rattle.blake2_runs.specs.Holding.{AllHold}
 
 -- what a list of calls answers: its digests, or the fault of its first bad call
@@ -43,12 +43,12 @@ module _ {S : Type 0} (m : Meaning S) (first : S) where
       ap (λ (cs : List Call). play_from m first cs slots i) e
 
   -- the call at place i went on
-  pub play_on : (call : Call) (calls : List Call) (slots : Slots) (left : Left) (earlier digests : List (List ℕ)) (i : ℕ) (p : Played) → i < length calls
+  pub play_on : (call : Call) (calls : List Call) (slots : Slots) (left : Outcome) (earlier digests : List (List ℕ)) (i : ℕ) (p : Played) → i < length calls
       → p ≡ after earlier (play_from m first (drop i calls) slots i) → play_call m first slots i (get_or calls i call) ≡ Ok left → digests ≡ earlier ++ left.digests
       → p ≡ after digests (play_from m first (drop (i + 1) calls) left.slots (i + 1))
   play_on call calls slots left earlier digests i p h e on added =
       let later : Slots → Played = λ next. play_from m first (drop (i + 1) calls) next (i + 1) in
-      e ∙ ap (after earlier) (play_at call calls slots i h ∙ ap (λ (r : Result Left ReplayFault). and_then r later) on)
+      e ∙ ap (after earlier) (play_at call calls slots i h ∙ ap (λ (r : Result Outcome ReplayFault). and_then r later) on)
       ∙ sym (after-after earlier left.digests (later left.slots)) ∙ ap (λ (ds : List (List ℕ)). after ds (later left.slots)) (sym added)
 
   -- the call at place i was refused
@@ -57,7 +57,7 @@ module _ {S : Type 0} (m : Meaning S) (first : S) where
   play_stops call calls slots earlier i p fault h e (inl memory) = inl memory
   play_stops call calls slots earlier i p fault h e (inr bad) =
       let later : Slots → Played = λ next. play_from m first (drop (i + 1) calls) next (i + 1) in
-      inr (e ∙ ap (after earlier) (play_at call calls slots i h ∙ ap (λ (r : Result Left ReplayFault). and_then r later) bad))
+      inr (e ∙ ap (after earlier) (play_at call calls slots i h ∙ ap (λ (r : Result Outcome ReplayFault). and_then r later) bad))
 
   -- all calls went on
   pub play_ends : (calls : List Call) (slots : Slots) (digests : List (List ℕ)) (i : ℕ) (p : Played) → length calls ≤ i

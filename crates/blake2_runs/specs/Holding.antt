@@ -1,7 +1,8 @@
 -- How states stand for slots, and what one call does to them.
-use Rattle.std.specs.Prelude.{◌≡◌, ⊤, ℕ, List, [], ◌∷◌, ◌++◌, ◌⊎◌, Option, Some, None, Result, Ok, Err}
+use Rattle.std.specs.Prelude.{◌≡◌, ⊤, ℕ, List, [], ◌∷◌, ◌++◌, ◌⊎◌, Option, Some, None, Result, Ok}
+use Rattle.std.specs.Prelude.{Err}
 use Rattle.blake2_digest.specs.States.{Meaning}
-use Rattle.blake2_runs.specs.Play.{Taken, Slots, Left, digest_of, count_of, and_more, play_call}
+use Rattle.blake2_runs.specs.Play.{Taken, Slots, Outcome, digest_of, count_of, and_more, play_call}
 use Rattle.blake2_runs.specs.declared.calls.Call.{Call}
 use Rattle.blake2_runs.specs.declared.calls.ReplayFault.{ReplayFault}
 use Rattle.blake2_runs.specs.declared.calls.ReplayFault.TheVariants.{Memory}
@@ -27,19 +28,24 @@ AllHold m first [] (h ∷ hs) = ⊥
 AllHold m first (slot ∷ slots) [] = ⊥
 AllHold m first (slot ∷ slots) (h ∷ hs) = SlotHolds m first slot h × AllHold m first slots hs
 
--- a call went on as the definition says: the states stand for the slots that it leaves, and its digests came behind the earlier ones
-pub record WentOn {S : Type 0} (m : Meaning S) (first : S) (played : Result Left ReplayFault) (earlier : List (List ℕ)) (states : List (Option S)) (digests : List (List ℕ)) : Type 0 where
-  pub left : Left
-  pub played_is : played ≡ Ok left
-  pub held : AllHold m first left.slots states
-  pub digests_are : digests ≡ earlier ++ left.digests
+-- a call went on as the definition says: the states stand for the slots that it leaves, and its
+-- digests came behind the earlier ones
+pub record WentOn {S : Type 0} (m : Meaning S) (first : S) (played : Result Outcome ReplayFault)
+    (earlier : List (List ℕ)) (states : List (Option S)) (digests : List (List ℕ)) : Type 0 where
+  pub outcome : Outcome
+  pub played_is : played ≡ Ok outcome
+  pub held : AllHold m first outcome.slots states
+  pub digests_are : digests ≡ earlier ++ outcome.digests
 
 -- a call went on as the definition says, or gave its fault, or wanted memory
-abbrev pub Answers : {S : Type 0} → Meaning S → S → Result Left ReplayFault → List (List ℕ) → List (Option S) → List (List ℕ) → Result (Unit {0}) ReplayFault → Type 0
+abbrev pub Answers : {S : Type 0} → Meaning S → S → Result Outcome ReplayFault → List (List ℕ)
+    → List (Option S) → List (List ℕ) → Result (Unit {0}) ReplayFault → Type 0
 Answers m first played earlier states digests (Ok _) = WentOn m first played earlier states digests
 Answers m first played earlier states digests (Err fault) = (fault ≡ Memory) ⊎ (played ≡ Err fault)
 
 -- what a call at place i does to any states that stand for slots
-abbrev pub PlaysCall : {S : Type 0} → Meaning S → ℕ → Call → List (Option S) → List (List ℕ) → List (Option S) → List (List ℕ) → Result (Unit {0}) ReplayFault → Type 0
+abbrev pub PlaysCall : {S : Type 0} → Meaning S → ℕ → Call → List (Option S) → List (List ℕ)
+    → List (Option S) → List (List ℕ) → Result (Unit {0}) ReplayFault → Type 0
 PlaysCall {S} m i call before earlier states digests result =
-    (first : S) (slots : Slots) → AllHold m first slots before → Answers m first (play_call m first slots i call) earlier states digests result
+    (first : S) (slots : Slots) → AllHold m first slots before
+    → Answers m first (play_call m first slots i call) earlier states digests result

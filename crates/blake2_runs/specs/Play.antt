@@ -1,12 +1,15 @@
 -- What a list of calls on hashers answers.
 --
--- The definition knows the first slot's state by its meaning alone. A slot is what it has taken: its digest is the one that the
--- first state gives after those bytes, or, once the slot was reset, the one that the first state gives after a reset and those
--- bytes. No slot holds a state.
-use Rattle.std.specs.Prelude.{⊤, ℕ, ◌+◌, ◌^◌, ◌<◌, List, [], ◌∷◌, ◌++◌, length, nat_lt, if◌then◌else◌, Option, Some, None, Result, Ok, Err, IsOk, IsErr, take, slice_index_or, slice_set}
+-- The definition knows the first slot's state by its meaning alone. A slot is what it has taken:
+-- its digest is the one that the first state gives after those bytes, or, once the slot was reset,
+-- the one that the first state gives after a reset and those bytes. No slot holds a state.
+use Rattle.std.specs.Prelude.{⊤, ℕ, ◌+◌, ◌^◌, ◌<◌, List, [], ◌∷◌, ◌++◌, length, nat_lt}
+use Rattle.std.specs.Prelude.{if◌then◌else◌, Option, Some, None, Result, Ok, Err, IsOk, IsErr, take}
+use Rattle.std.specs.Prelude.{slice_index_or, slice_set}
 use Rattle.blake2_digest.specs.States.{Meaning}
 use Rattle.blake2_runs.specs.declared.calls.Call.{Call}
-use Rattle.blake2_runs.specs.declared.calls.Call.TheVariants.{Update, Clone, Reset, Finalize, FinalizeReset}
+use Rattle.blake2_runs.specs.declared.calls.Call.TheVariants.{Update, Clone, Reset, Finalize}
+use Rattle.blake2_runs.specs.declared.calls.Call.TheVariants.{FinalizeReset}
 use Rattle.blake2_runs.specs.declared.calls.ReplayFault.{ReplayFault}
 use Rattle.blake2_runs.specs.declared.calls.ReplayFault.TheVariants.{NoSuchSlot, TooLong, Memory}
 
@@ -34,8 +37,8 @@ count_of m first (since_reset x) = m.start_count first + length x
 abbrev pub Slots : Type 0
 Slots = List (Option Taken)
 
--- what a call leaves: the slots, and the digests that it answers
-pub record Left : Type 0 where
+-- the outcome of a call: the slots that it leaves, and the digests that it answers
+pub record Outcome : Type 0 where
   pub slots : Slots
   pub digests : List (List ℕ)
 
@@ -48,52 +51,65 @@ slot_of (Finalize k) = k
 slot_of (FinalizeReset k) = k
 
 -- a call that is not bad leaves these slots, and answers these digests
-abbrev pub leaves : Slots → List (List ℕ) → Result Left ReplayFault
+abbrev pub leaves : Slots → List (List ℕ) → Result Outcome ReplayFault
 leaves slots digests = Ok (record { slots = slots; digests = digests })
 
--- the call at place i, whose slot has taken this; an update is bad where it would bring the count to 2^64 or more
-abbrev pub play_live : {S : Type 0} → Meaning S → S → Slots → ℕ → Call → Taken → Result Left ReplayFault
+-- the call at place i, whose slot has taken this; an update is bad where it would bring the count
+-- to 2^64 or more
+abbrev pub play_live : {S : Type 0} → Meaning S → S → Slots → ℕ → Call → Taken
+    → Result Outcome ReplayFault
 play_live m first slots i (Update k x) taken =
     if nat_lt (count_of m first taken + length x.now) (2 ^ 64)
     then leaves (slice_set slots k (Some (and_more taken x.now))) []
     else Err (TooLong i)
 play_live m first slots i (Clone k) taken = leaves (slots ++ Some taken ∷ []) []
 play_live m first slots i (Reset k) taken = leaves (slice_set slots k (Some (since_reset []))) []
-play_live m first slots i (Finalize k) taken = leaves (slice_set slots k None) (digest_of m first taken ∷ [])
-play_live m first slots i (FinalizeReset k) taken = leaves (slice_set slots k (Some (since_reset []))) (digest_of m first taken ∷ [])
+play_live m first slots i (Finalize k) taken =
+    leaves (slice_set slots k None) (digest_of m first taken ∷ [])
+play_live m first slots i (FinalizeReset k) taken =
+    leaves (slice_set slots k (Some (since_reset []))) (digest_of m first taken ∷ [])
 
--- the call at place i does this to what its slot has taken, and is bad where the slot is absent or has ended
-abbrev pub at_slot : ℕ → Option Taken → (Taken → Result Left ReplayFault) → Result Left ReplayFault
+-- the call at place i does this to what its slot has taken, and is bad where the slot is absent or
+-- has ended
+abbrev pub at_slot : ℕ → Option Taken → (Taken → Result Outcome ReplayFault)
+    → Result Outcome ReplayFault
 at_slot i None f = Err (NoSuchSlot i)
 at_slot i (Some taken) f = f taken
 
 -- the call at place i, on these slots
-abbrev pub play_call : {S : Type 0} → Meaning S → S → Slots → ℕ → Call → Result Left ReplayFault
-play_call m first slots i call = at_slot i (slice_index_or slots (slot_of call) None) (play_live m first slots i call)
+abbrev pub play_call : {S : Type 0} → Meaning S → S → Slots → ℕ → Call → Result Outcome ReplayFault
+play_call m first slots i call =
+    at_slot i (slice_index_or slots (slot_of call) None) (play_live m first slots i call)
 
 -- the digests of earlier calls, and then those of later ones
-abbrev pub after : List (List ℕ) → Result (List (List ℕ)) ReplayFault → Result (List (List ℕ)) ReplayFault
+abbrev pub after : List (List ℕ) → Result (List (List ℕ)) ReplayFault
+    → Result (List (List ℕ)) ReplayFault
 after earlier (Ok later) = Ok (earlier ++ later)
 after earlier (Err fault) = Err fault
 
 -- what a call leaves, and then what comes of the slots
-abbrev pub and_then : Result Left ReplayFault → (Slots → Result (List (List ℕ)) ReplayFault) → Result (List (List ℕ)) ReplayFault
+abbrev pub and_then : Result Outcome ReplayFault → (Slots → Result (List (List ℕ)) ReplayFault)
+    → Result (List (List ℕ)) ReplayFault
 and_then (Ok left) f = after left.digests (f left.slots)
 and_then (Err fault) f = Err fault
 
 -- the calls from place i on, on these slots
-abbrev pub play_from : {S : Type 0} → Meaning S → S → List Call → Slots → ℕ → Result (List (List ℕ)) ReplayFault
+abbrev pub play_from : {S : Type 0} → Meaning S → S → List Call → Slots → ℕ
+    → Result (List (List ℕ)) ReplayFault
 play_from m first [] slots i = Ok []
-play_from m first (call ∷ calls) slots i = and_then (play_call m first slots i call) (λ left. play_from m first calls left (i + 1))
+play_from m first (call ∷ calls) slots i =
+    and_then (play_call m first slots i call) (λ next. play_from m first calls next (i + 1))
 
--- The digests of a list of calls, in the order of the calls, where slot 0 begins as this state. They exist where no call is bad;
--- else the fault tells the place of the first bad call, and why it is bad.
+-- The digests of a list of calls, in the order of the calls, where slot 0 begins as this state.
+-- They exist where no call is bad; else the fault tells the place of the first bad call, and why it
+-- is bad.
 abbrev pub play : {S : Type 0} → Meaning S → S → List Call → Result (List (List ℕ)) ReplayFault
 play m first calls = play_from m first calls (Some (since_beginning []) ∷ []) 0
 
--- the call at place i is the first bad one: it is one of the calls, those before it answer digests, and together with it they do
--- not
-pub record IsFirstBad {S : Type 0} (m : Meaning S) (first : S) (calls : List Call) (i : ℕ) : Type 0 where
+-- the call at place i is the first bad one: it is one of the calls, those before it answer digests,
+-- and together with it they do not
+pub record IsFirstBad {S : Type 0} (m : Meaning S) (first : S) (calls : List Call)
+    (i : ℕ) : Type 0 where
   pub within : i < length calls
   pub before : IsOk (play m first (take i calls))
   pub bad : IsErr (play m first (take (i + 1) calls))
@@ -104,9 +120,11 @@ NamesFirstBad m first calls (NoSuchSlot i) = IsFirstBad m first calls i
 NamesFirstBad m first calls (TooLong i) = IsFirstBad m first calls i
 NamesFirstBad m first calls Memory = ⊤
 
--- the meaning of a state that was just made, whose digest of y is `digest y` and which begins with n counted bytes
+-- the meaning of a state that was just made, whose digest of y is `digest y` and which begins with
+-- n counted bytes
 abbrev pub fresh_meaning : (List ℕ → List ℕ) → ℕ → Meaning (Unit {0})
-fresh_meaning digest n = record { future = λ _. digest; started = λ _. digest; count = λ _. n; start_count = λ _. n }
+fresh_meaning digest n =
+    record { future = λ _. digest; started = λ _. digest; count = λ _. n; start_count = λ _. n }
 
 -- a list of calls on such a state: each digest is that of the bytes since its slot's last start
 abbrev pub play_fresh : (List ℕ → List ℕ) → ℕ → List Call → Result (List (List ℕ)) ReplayFault

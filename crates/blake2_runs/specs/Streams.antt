@@ -17,4 +17,5 @@ pub record GivesAll (old new : Option (List ℕ)) (bytes : List ℕ) : Type 0 wh
 -- a sink took a beginning of the text, and not the whole
 abbrev pub TakesPart : Option (List ℕ) → Option (List ℕ) → List ℕ → Type 0
 TakesPart old new text =
-    (part : List ℕ) × (rest : List ℕ) × (text ≡ part ++ rest) × (0 < length rest) × Appends old new part
+    (part : List ℕ) × (rest : List ℕ) × (text ≡ part ++ rest) × (0 < length rest)
+    × Appends old new part

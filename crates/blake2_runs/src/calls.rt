@@ -1,5 +1,6 @@
 //! Lists of calls on several states of one hasher or MAC.
-ghost use Rattle.std.specs.Prelude.{◌≡◌, ℕ, List, [], ◌∷◌, ◌++◌, ◌⊎◌, OnOk, IfOk, IfErr, IsOk, IsErr, IsOkUnless, Ok, Err};
+ghost use Rattle.std.specs.Prelude.{◌≡◌, ℕ, List, [], ◌∷◌, ◌++◌, ◌⊎◌, OnOk, IfOk, IfErr, IsOk};
+ghost use Rattle.std.specs.Prelude.{IsErr, IsOkUnless, Ok, Err};
 ghost use Rattle.blake2_digest.specs.States.{Fresh};
 ghost use Rattle.blake2_runs.specs.Play.{play, NamesFirstBad, play_fresh, slot_of};
 ghost use Rattle.blake2_runs.specs.Holding.{PlaysCall};

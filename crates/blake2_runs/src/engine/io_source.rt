@@ -4,7 +4,8 @@ ghost use Rattle.std.specs.Prelude.{◌≡◌, false};
 use super::device::{DeviceError, Source};
 use std::io::Read;
 
-/// A reader of std as a source. A read that answers an error, also an interrupted one, is a failure.
+/// A reader of std as a source. A read that answers an error, also an interrupted one, is a
+/// failure.
 #[derive(Drop)]
 pub struct IoSource<R> {
     inner: R,

@@ -1,5 +1,6 @@
 //! Memory as a sink that takes little at a time, has little room, or fails when told to.
-ghost use Rattle.std.specs.Prelude.{◌≡◌, ◌↔◌, ◌≤◌, ◌||◌, length, Some, [], IsErr, IfOk, OnErr, true, false};
+ghost use Rattle.std.specs.Prelude.{◌≡◌, ◌↔◌, ◌≤◌, ◌||◌, length, Some, [], IsErr, IfOk, OnErr};
+ghost use Rattle.std.specs.Prelude.{true, false};
 ghost use Rattle.std.specs.Io.{WritesAtMost};
 ghost use Rattle.std.specs.Io.KnownBytes.{WriteAppends};
 ghost use Rattle.blake2_runs.specs.Devices.{is_failed_write, SinkState, taken_count, taken_state};

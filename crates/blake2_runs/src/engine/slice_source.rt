@@ -1,13 +1,14 @@
 //! Memory as a source that gives little at a time, or fails when told to.
-ghost use Rattle.std.specs.Prelude.{◌≡◌, ◌↔◌, ◌≤◌, ◌||◌, length, Some, is_err, IsErr, IfOk, OnErr, true, false};
+ghost use Rattle.std.specs.Prelude.{◌≡◌, ◌↔◌, ◌≤◌, ◌||◌, length, Some, is_err, IsErr, IfOk, OnErr};
+ghost use Rattle.std.specs.Prelude.{true, false};
 ghost use Rattle.std.specs.Io.{ReadsAtMost};
 ghost use Rattle.blake2_runs.specs.Devices.{Gives, SourceState, given_count, given_state};
 
 use super::device::{DeviceError, Source};
 use std::marker::Model;
 
-/// A slice as a source: at most so many bytes a call, and an error once so many have passed. No call
-/// gives a byte past the error, which comes also where no byte is left.
+/// A slice as a source: at most so many bytes a call, and an error once so many have passed. No
+/// call gives a byte past the error, which comes also where no byte is left.
 #[derive(Drop)]
 pub struct SliceSource<'a> {
     rest: &'a [u8],

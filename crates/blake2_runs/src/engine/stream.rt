@@ -1,5 +1,6 @@
 //! Reading a source to its end, and writing the digest of its bytes as a line.
-ghost use Rattle.std.specs.Prelude.{◌≡◌, ◌≢◌, ◌↔◌, ℕ, ◌+◌, ◌*◌, ◌<◌, ◌≤◌, ◌^◌, List, length, take, false, IsTrue, IsErr, IfOk, IfSome, OnOk, OnErr};
+ghost use Rattle.std.specs.Prelude.{◌≡◌, ◌≢◌, ◌↔◌, ℕ, ◌+◌, ◌*◌, ◌<◌, ◌≤◌, ◌^◌, List, length, take};
+ghost use Rattle.std.specs.Prelude.{false, IsTrue, IsErr, IfOk, IfSome, OnOk, OnErr};
 ghost use Rattle.std.specs.Result.{IsErrOf};
 ghost use Rattle.std.specs.Io.KnownBytes.{Consumes, Appends, Keeps};
 ghost use Rattle.blake2_digest.specs.States.{Updated};
@@ -57,7 +58,8 @@ where
         × GivesAll (S.left source.old) (S.left source.new) bytes
         × (H.meaning.count hasher + n < 2 ^ 64)
         × Appends (K.held sink.old) (K.held sink.new) (line_of (H.meaning.future hasher bytes))) }
-    ensures after_read { IsErrOf result StreamFault.Read → Keeps (K.held sink.old) (K.held sink.new) }
+    ensures after_read { IsErrOf result StreamFault.Read
+        → Keeps (K.held sink.old) (K.held sink.new) }
     ensures after_too_long { IsErrOf result StreamFault.TooLong → (bytes : List ℕ) × AreBytes bytes
         × Consumes (S.left source.old) (S.left source.new) bytes
         × (2 ^ 64 ≤ H.meaning.count hasher + length bytes)

@@ -203,6 +203,64 @@ fn a_writer_fills_up(rt: HostRuntime) -> Result<(), Fail> {
     Ok(())
 }
 
+// Fails its first write, by an error or by taking no byte, and takes all that comes later.
+#[derive(Drop)]
+struct FailsOnce {
+    by_error: bool,
+    has_failed: bool,
+    later: u32,
+}
+
+impl Write for FailsOnce {
+    fn write(&mut self, buf: &[u8]) -> io::Result<usize> {
+        if self.has_failed {
+            self.later = self.later.saturating_add(1);
+            return Ok(buf.len());
+        }
+        self.has_failed = true;
+        if self.by_error {
+            return Err(io::Error::from(ErrorKind::Interrupted));
+        }
+        Ok(0)
+    }
+
+    fn flush(&mut self) -> io::Result<()> {
+        Ok(())
+    }
+}
+
+impl FailsOnce {
+    fn new(by_error: bool) -> Self {
+        FailsOnce {
+            by_error,
+            has_failed: false,
+            later: 0,
+        }
+    }
+}
+
+#[test]
+fn a_writer_that_fails_is_not_tried_again(rt: HostRuntime) -> Result<(), Fail> {
+    for by_error in [true, false] {
+        let mut sink = IoSink::new(FailsOnce::new(by_error));
+        let answer = sink.write(b"abc");
+        assert_eq!(rt; answer, if by_error { Err(DeviceError) } else { Ok(0) });
+        assert!(rt; sink.failed());
+        assert_eq!(rt; sink.into_inner().later, 0);
+
+        let mut sink = IoSink::new(FailsOnce::new(by_error));
+        assert_eq!(rt; write_whole(&mut sink, b"abc"), Err(DeviceError));
+        assert_eq!(rt; sink.into_inner().later, 0);
+
+        let mut sink = IoSink::new(FailsOnce::new(by_error));
+        let mut source = SliceSource::new(b"abc", 4, None);
+        let answer = hash_stream(&mut source, &mut sink, fresh());
+        assert_eq!(rt; answer, Err(StreamFault::Write));
+        assert_eq!(rt; sink.into_inner().later, 0);
+    }
+    Ok(())
+}
+
 #[test]
 fn errors_come_after_their_bytes(rt: HostRuntime) -> Result<(), Fail> {
     let mut piece = [0u8; 2];

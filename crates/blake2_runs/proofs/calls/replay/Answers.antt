@@ -22,9 +22,9 @@ calls-preserved g c =
     let now = c.calls.invariant in
     let on = c.in_ok-replay_call.ensures c.args.first now.slots now.held in
     record {
-      slots = on.left.slots;
+      slots = on.outcome.slots;
       held = on.held;
-      rest = play_on m c.args.first _ c.args.calls.now now.slots on.left c.calls.digests.items c.replay_call.new.digests.items c.calls.place _ c.calls-test.true now.rest on.played_is on.digests_are;
+      rest = play_on m c.args.first _ c.args.calls.now now.slots on.outcome c.calls.digests.items c.replay_call.new.digests.items c.calls.place _ c.calls-test.true now.rest on.played_is on.digests_are;
     }
 
 pub returns-clause-fresh : goal.returns-clause-fresh
