@@ -10,7 +10,8 @@ block_start f block = xor_words (start_words f) (words_of f 8 block)
 -- the digest of the data z, in which a key's block stands first, of as many bytes as the block's
 -- first byte says
 abbrev pub block_digest : Family → List ℕ → List ℕ → List ℕ
-block_digest f block z = take (slice_index block 0) (bytes_of f (last_chain f (block_start f block) 0 z final))
+block_digest f block z =
+    take (slice_index block 0) (bytes_of f (last_chain f (block_start f block) 0 z final))
 
 -- it is no block of eight words, or it names an output or a key of a length that the family does not
 -- take (the BLAKE2 document, 2.8)

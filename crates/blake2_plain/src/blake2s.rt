@@ -106,7 +106,8 @@ impl State {
 
     // A state from these words that has taken nothing, under no key.
     fn starting_from(first: [u32; 8], output_size: usize) -> Self
-        ensures { result ≡ record zeros { chain = first; first = first; output_size = output_size } }
+        ensures { result
+            ≡ record zeros { chain = first; first = first; output_size = output_size } }
     {
         State {
             chain: first,
@@ -128,7 +129,8 @@ impl State {
         requires persona { length persona.now ≤ 8 }
         ensures ready { IsReady result }
         ensures size { result.output_size ≡ output_size }
-        ensures fresh { Fresh meaning (digest_of blake2s output_size salt.now persona.now None) 0 result }
+        ensures fresh { Fresh meaning
+            (digest_of blake2s output_size salt.now persona.now None) 0 result }
     {
         let core = Blake2sVarCore::new_with_params(salt, persona, 0, output_size);
         Self::starting_from(core.first_words(), output_size)
@@ -143,7 +145,8 @@ impl State {
         requires persona { length persona.now ≤ 8 }
         ensures ready { IsReady result }
         ensures size { result.output_size ≡ output_size }
-        ensures fresh { Fresh meaning (digest_of blake2s output_size salt.now persona.now (Some key.now)) 64 result }
+        ensures fresh { Fresh meaning
+            (digest_of blake2s output_size salt.now persona.now (Some key.now)) 64 result }
     {
         let core = Blake2sVarCore::new_with_params(salt, persona, key.len(), output_size);
         let first = core.first_words();
@@ -168,11 +171,13 @@ impl State {
         salt: &[u8],
         persona: &[u8],
     ) -> Result<Self, InvalidLength>
-        ensures refused { IsErr result ↔ IsRefused blake2s output_size key.now salt.now persona.now }
+        ensures refused { IsErr result
+            ↔ IsRefused blake2s output_size key.now salt.now persona.now }
         ensures ready { IfOk result (λ s. IsReady s) }
         ensures size { IfOk result (λ s. s.output_size ≡ output_size) }
         ensures fresh { IfOk result (λ s. Fresh meaning
-            (digest_of blake2s output_size salt.now persona.now (given_key key.now)) (given_count blake2s key.now) s) }
+            (digest_of blake2s output_size salt.now persona.now (given_key key.now))
+            (given_count blake2s key.now) s) }
     {
         if output_size == 0 || output_size > 32 {
             return Err(InvalidLength);
@@ -208,7 +213,11 @@ impl State {
     // The core that the state holds.
     #[inline]
     fn core(&self) -> Blake2sVarCore
-        ensures { result ≡ record { h = self.now.chain; start = self.now.first; count = self.now.counter } }
+        ensures { result ≡ record {
+          h = self.now.chain;
+          start = self.now.first;
+          count = self.now.counter;
+        } }
     {
         Blake2sVarCore::from_words(&self.chain, &self.first, self.counter)
     }
@@ -236,7 +245,9 @@ impl State {
         self.pending_length = end;
     }
 
-    // Takes any input.
+    // Takes any input. It stays a call of its own, so that `update` saves no registers for it where a
+    // few bytes come.
+    #[inline(never)]
     fn absorb(&mut self, input: &[u8])
         requires ready { IsReady self.old }
         requires counted { meaning.count self.old + length input.now < 2 ^ 64 }
@@ -260,7 +271,7 @@ impl State {
         ensures size { self.new.output_size ≡ self.old.output_size }
         ensures updated { Updated meaning self.old input.now self.new }
     {
-        // Without this, a few bytes would cost a move of all words to rows and back.
+        // A few bytes need no core, whose words would move to rows and back.
         if input.len() <= 64 - self.pending_length {
             self.keep(input);
         } else {
@@ -306,3 +317,6 @@ impl State {
         is_same(tag, &whole[..self.output_size])
     }
 }
+
+#[cfg(test)]
+mod tests;
