@@ -1,10 +1,10 @@
 -- Which inputs are accepted, in terms of what the options of a MAC refuse and of how much is counted.
-use Rattle.std.proofs.Common.{◌≡◌, ℕ, ◌+◌, ◌-◌, ◌<◌, ◌≤◌, ◌^◌, List, [], ◌++◌, length, replicate, Option, None, Some, inl, inr, arith, length-append, lit<, subst, sym, IfSome}
+use Rattle.std.proofs.Common.{◌≡◌, ℕ, ◌+◌, ◌-◌, ◌<◌, ◌≤◌, ◌^◌, List, [], ◌++◌, length, replicate, Option, None, Some, inl, inr, refl, arith, length-append, lit<, subst, sym, IfSome}
 use Rattle.std.proofs.lemmas.List.{length-replicate}
 use Rattle.std.specs.Prelude.{◌⊎◌}
 use Rattle.std.proofs.lemmas.Bool.{cases_lt}
 use Rattle.blake2.specs.Family.{Family, blake2b, blake2s, block_bytes, key_bytes, salt_bytes}
-use Rattle.blake2.specs.Hash.{AreBytes, Input, key_block, padded}
+use Rattle.blake2.specs.Hash.{AdmitsTree, AreBytes, Input, key_block, padded, sequential}
 use Rattle.blake2.specs.Inputs.{Accepts, KeyFits}
 use Rattle.blake2.specs.Keys.{key_count, IsRefused, IsRefusedKey}
 use Rattle.blake2.specs.States.{input}
@@ -55,10 +55,34 @@ not_refused f a b same accepts = go (subst (Accepts f) same accepts)
     go accepted (inr (inl salt)) = omega (arith, accepted.salt_fits, salt)
     go accepted (inr (inr persona)) = omega (arith, accepted.persona_fits, persona)
 
+-- a hash which is the whole tree has its place in it
+sequential_admitted : (f : Family) (a : Input) → a.tree ≡ sequential → AdmitsTree f a.tree
+sequential_admitted f a whole = subst (AdmitsTree f) (sym whole) (go f)
+  where
+    go : (f : Family) → AdmitsTree f sequential
+    go blake2b = record {
+      fanout = omega arith;
+      depth_given = omega arith;
+      depth = omega arith;
+      leaf_length = omega arith;
+      node_offset = omega arith;
+      node_depth = omega arith;
+      inner_length = omega arith;
+    }
+    go blake2s = record {
+      fanout = omega arith;
+      depth_given = omega arith;
+      depth = omega arith;
+      leaf_length = omega arith;
+      node_offset = omega arith;
+      node_depth = omega arith;
+      inner_length = omega arith;
+    }
+
 -- an input of bytes is refused for its lengths, or counts too much, or is accepted
-refused_or_counts : (f : Family) (a : Input) → IsOfBytes a
+refused_or_counts : (f : Family) (a : Input) → IsOfBytes a → a.tree ≡ sequential
     → IsRefused f a.key a.salt a.persona ⊎ ((2 ^ 64 ≤ key_count f a.key + length a.message) ⊎ Accepts f a)
-refused_or_counts f a bytes =
+refused_or_counts f a bytes whole =
     elim (fits_or_refused f a.key bytes.key) [
       | inr key ↦ inl (inl key)
       | inl key ↦ elim (cases_lt (salt_bytes f) (length a.salt)) [
@@ -72,6 +96,7 @@ refused_or_counts f a bytes =
               persona_fits = persona;
               key_fits = key;
               counted = rw (counted f a.key a.message key) short;
+              tree = sequential_admitted f a whole;
               salt_bytes = bytes.salt;
               persona_bytes = bytes.persona;
               message_bytes = bytes.message;
@@ -89,19 +114,21 @@ not_alone blake2b (Some key) n empty long = omega (arith, empty, long)
 not_alone blake2s (Some key) n empty long = omega (arith, empty, long)
 
 -- an input of no message that is not accepted has a key, a salt or a persona that a MAC refuses
-pub refused_without_message : (f : Family) (a b : Input) → a ≡ b → IsOfBytes a → length b.message ≡ 0 → (Accepts f a → ⊥) → IsRefused f b.key b.salt b.persona
-refused_without_message f a b same bytes empty not =
+pub refused_without_message : (f : Family) (a b : Input) → a ≡ b → IsOfBytes a → b.tree ≡ sequential
+    → length b.message ≡ 0 → (Accepts f a → ⊥) → IsRefused f b.key b.salt b.persona
+refused_without_message f a b same bytes whole empty not =
     let of_bytes : IsOfBytes b = subst IsOfBytes same bytes in
-    elim (refused_or_counts f b of_bytes) [
+    elim (refused_or_counts f b of_bytes whole) [
       | inl refused ↦ refused
       | inr (inl long) ↦ absurd (not_alone f b.key (length b.message) empty long)
       | inr (inr accepted) ↦ absurd (not (subst (Accepts f) (sym same) accepted))
     ]
 
 -- an input that is not accepted, though its lengths are, counts 2^64 bytes or more
-pub too_long : (f : Family) (a b : Input) → a ≡ b → IsOfBytes a → (IsRefused f b.key b.salt b.persona → ⊥) → (Accepts f a → ⊥) → 2 ^ 64 ≤ key_count f b.key + length b.message
-too_long f a b same bytes allowed not =
-    elim (refused_or_counts f b (subst IsOfBytes same bytes)) [
+pub too_long : (f : Family) (a b : Input) → a ≡ b → IsOfBytes a → b.tree ≡ sequential
+    → (IsRefused f b.key b.salt b.persona → ⊥) → (Accepts f a → ⊥) → 2 ^ 64 ≤ key_count f b.key + length b.message
+too_long f a b same bytes whole allowed not =
+    elim (refused_or_counts f b (subst IsOfBytes same bytes) whole) [
       | inl refused ↦ absurd (allowed refused)
       | inr (inl long) ↦ long
       | inr (inr accepted) ↦ absurd (not (subst (Accepts f) (sym same) accepted))
@@ -121,6 +148,7 @@ unkeyed_accepted f a message is bytes short =
       persona_fits = omega arith;
       key_fits = tt;
       counted = omega (arith, counted f None message tt, short);
+      tree = sequential_admitted f (input [] [] None message) refl;
       salt_bytes = no_bytes;
       persona_bytes = no_bytes;
       message_bytes = bytes;

@@ -20,7 +20,7 @@ use crate::input::{read_all, tell_bytes};
 use crate::print::Line;
 use crate::words::{Kind, Options};
 use blake2::engine::{Sink, Source};
-use blake2::steps::{Entry, Input, Transcript};
+use blake2::steps::{Entry, Input, Transcript, Tree};
 use blake2::{Blake2bVarCore, Blake2sVarCore};
 use std::alloc::Global;
 
@@ -147,6 +147,7 @@ fn input_under<'a>(options: &'a Options, message: &'a [u8]) -> Input<'a>
         salt: options.salt(),
         persona: options.persona(),
         key: options.key(),
+        tree: Tree::sequential(),
         message,
     };
     tell_bytes(input.salt);

@@ -17,7 +17,7 @@ use crate::input::tell_bytes;
 use crate::print::Line;
 use crate::words::{Kind, message_of};
 use blake2::engine::{Sink, write_whole};
-use blake2::steps::{Input, Step};
+use blake2::steps::{Input, Step, Tree};
 use blake2::{Blake2bVarCore, Blake2sVarCore};
 use std::alloc::Global;
 
@@ -166,6 +166,7 @@ fn unkeyed(message: &[u8]) -> Input<'_>
         salt: &[],
         persona: &[],
         key: None,
+        tree: Tree::sequential(),
         message,
     }
 }

@@ -1,7 +1,7 @@
 -- What the state of a hasher or MAC means: the digests that it will give.
 use Rattle.std.specs.Prelude.{◌≡◌, ℕ, ◌+◌, List, ◌++◌, length, take, replicate, Option}
 use Rattle.blake2_rows.specs.Family.{Family}
-use Rattle.blake2_words.specs.Hash.{Flags, final, bytes_of, last_chain, Parameters, key_block, Input, digest}
+use Rattle.blake2_words.specs.Hash.{Flags, final, bytes_of, last_chain, Parameters, key_block, Input, digest, sequential}
 use Rattle.blake2.specs.Cores.{CoreState, core_made, core_restarted, core_wiped}
 pub use Rattle.blake2_digest.specs.States.{Fresh, Meaning}
 
@@ -63,9 +63,10 @@ abbrev pub IsWiped : State → Type 0
 IsWiped s = (s.core ≡ core_wiped) × (s.pending ≡ replicate (length s.pending) 0)
     × (s.start_block ≡ replicate (length s.start_block) 0)
 
--- the input of a salt, a persona, a key or none, and a message
+-- the input of a salt, a persona, a key or none, and a message, of a hash which is the whole tree
 abbrev pub input : List ℕ → List ℕ → Option (List ℕ) → List ℕ → Input
-input salt persona key message = record { salt = salt; persona = persona; key = key; message = message }
+input salt persona key message =
+    record { salt = salt; persona = persona; key = key; tree = sequential; message = message }
 
 -- BLAKE2 of n bytes, as a function of the message
 abbrev pub digest_of : Family → ℕ → List ℕ → List ℕ → Option (List ℕ) → List ℕ → List ℕ

@@ -4,4 +4,4 @@
 mod blake2b;
 mod blake2s;
 
-pub use blake2_words::steps::{Entry, Input, Reading, Step, Transcript};
+pub use blake2_words::steps::{Entry, Input, Reading, Step, Transcript, Tree};

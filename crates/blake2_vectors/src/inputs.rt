@@ -2,7 +2,7 @@
 ghost use Rattle.std.specs.Prelude.{◌≡◌, ◌≤◌, [], length};
 
 use blake2::digest::Update;
-use blake2::steps::Input;
+use blake2::steps::{Input, Tree};
 use std::process::Abort;
 
 /// The bytes 0 to 31.
@@ -11,7 +11,7 @@ pub(crate) const KEY: [u8; 32] = [
     26, 27, 28, 29, 30, 31,
 ];
 
-/// An input without key, salt and persona.
+/// An input without key, salt and persona, of a hash which is the whole tree.
 pub(crate) fn unkeyed<'a>(message: &'a [u8]) -> Input<'a>
     ensures salt { result.salt.now ≡ [] }
     ensures persona { result.persona.now ≡ [] }
@@ -20,6 +20,7 @@ pub(crate) fn unkeyed<'a>(message: &'a [u8]) -> Input<'a>
         salt: b"",
         persona: b"",
         key: None,
+        tree: Tree::sequential(),
         message,
     }
 }

@@ -47,6 +47,7 @@ fn reading<const S: usize>(
         salt: padded(input.salt),
         persona: padded(input.persona),
         key,
+        tree: input.tree,
         message: input.message.to_vec(alloc)?,
     })
 }
@@ -142,7 +143,7 @@ fn write_and_read_a_key_and_a_persona(rt: HostRuntime) -> Result<(), AllocError>
         salt: b"",
         persona: b"personal",
         key: Some(&KEY),
-        message: b"",
+        ..unkeyed(b"")
     };
     let words = [0x01012040, 0, 0, 0, 0, 0, 0x6c616e6f73726570, 0];
     let wanted = transcript(alloc, words, &[entry(&KEY, 128, true)])?;
@@ -173,7 +174,7 @@ fn write_and_read_all_parts_of_blake2b(rt: HostRuntime) -> Result<(), AllocError
         salt: b"abc",
         persona: b"0123456789abcdef",
         key: Some(&[1]),
-        message: &message,
+        ..unkeyed(&message)
     };
     let entries = [
         entry(&[1], 128, false),
@@ -192,7 +193,7 @@ fn write_and_read_all_parts_of_blake2s(rt: HostRuntime) -> Result<(), AllocError
         salt: b"abc",
         persona: b"01234567",
         key: Some(&[1]),
-        message: &message,
+        ..unkeyed(&message)
     };
     let words = [0x01010120, 0, 0, 0, 0x636261, 0, 0x33323130, 0x37363534];
     let entries = [
@@ -304,7 +305,7 @@ fn read_a_key_of_a_zero_byte(rt: HostRuntime) -> Result<(), AllocError> {
         salt: b"",
         persona: b"",
         key: Some(&[0]),
-        message: b"",
+        ..unkeyed(b"")
     };
     let read = blake2s_reading(alloc, 0x01010120, &[entry(b"", 64, true)])?;
     assert_eq!(rt; read, Some(reading(alloc, &input, 32)?));

@@ -11,7 +11,7 @@ use blake2_digest::{
     VariableOutputCoreCustomized, Wipe, ZeroizeOnDrop,
 };
 use blake2_rows::rows::u64x4;
-use blake2_words::params::{Parameters, blake2b as params};
+use blake2_words::params::{Parameters, Tree, blake2b as params};
 use blake2_words::words::{Flags, blake2b as words};
 use std::alloc::AllocError;
 use std::fmt;
@@ -52,6 +52,7 @@ impl Blake2bVarCore {
             key_size,
             salt,
             persona,
+            tree: Tree::sequential(),
         });
         Blake2bVarCore {
             h: start,
