@@ -13,8 +13,8 @@ ghost use Rattle.blake2_words.specs.Views.{given_parameters, tree_of};
 
 use blake2_rows::padded;
 
-/// The place of a hash in a tree of hashes (the BLAKE2 document, 2.10), as its parameter block names
-/// it (2.8). A core's `admits_tree` tells which of them its family takes.
+/// The place of a hash in a tree of hashes (the BLAKE2 document, 2.10), as its parameter block
+/// names it (2.8). A core's `admits_tree` tells which of them its family takes.
 #[derive(Clone, Copy, Debug, PartialEq, Eq)]
 pub struct Tree {
     /// How many children a node has at most; 0 is without a limit.
@@ -32,8 +32,8 @@ pub struct Tree {
 }
 
 impl Tree {
-    /// That of a hash which is the whole tree: fanout and depth are 1, all else is 0 (RFC 7693, 2.5;
-    /// the BLAKE2 document, 2.10).
+    /// That of a hash which is the whole tree: fanout and depth are 1, all else is 0 (RFC 7693,
+    /// 2.5; the BLAKE2 document, 2.10).
     #[inline]
     pub fn sequential() -> Self
         ensures { tree_of result ≡ Hash.sequential }
@@ -119,7 +119,7 @@ fn tree_in<const O: usize>(block: &[u8]) -> Tree
 
 #[cfg(test)]
 mod tests {
-    use super::{Parameters, Tree, blake2b};
+    use super::{Parameters, Tree, blake2b, blake2s};
 
     // The first parameter word of an unkeyed digest of 64 bytes, and its bytes: digest length 64,
     // key length 0, fanout 1, depth 1 and leaf length 0 (the BLAKE2 document, 2.8).
@@ -137,5 +137,78 @@ mod tests {
             first.to_le_bytes(),
             [0x40, 0x00, 0x01, 0x01, 0x00, 0x00, 0x00, 0x00]
         );
+    }
+
+    // The words of a leaf and of the root of a tree of two levels, byte by byte as the parameter
+    // block has its fields (the BLAKE2 document, 2.8).
+    #[test]
+    fn words_of_a_tree_blake2b(rt: HostRuntime) {
+        let leaf = Tree {
+            fanout: 0,
+            depth: 2,
+            leaf_length: 4096,
+            node_offset: 3,
+            node_depth: 0,
+            inner_length: 64,
+        };
+        let of_leaf = blake2b::parameter_words(&Parameters {
+            output_size: 64,
+            key_size: 0,
+            salt: &[],
+            persona: &[],
+            tree: leaf,
+        });
+        assert_eq!(rt; of_leaf, [0x0000100002000040, 3, 0x4000, 0, 0, 0, 0, 0]);
+        let root = Tree {
+            node_offset: 0,
+            node_depth: 1,
+            ..leaf
+        };
+        let of_root = blake2b::parameter_words(&Parameters {
+            output_size: 32,
+            key_size: 0,
+            salt: &[],
+            persona: &[],
+            tree: root,
+        });
+        assert_eq!(rt; of_root, [0x0000100002000020, 0, 0x4001, 0, 0, 0, 0, 0]);
+    }
+
+    // The same of BLAKE2s, whose node offset has 48 bits.
+    #[test]
+    fn words_of_a_tree_blake2s(rt: HostRuntime) {
+        let node = Tree {
+            fanout: 2,
+            depth: 3,
+            leaf_length: 7,
+            node_offset: (1 << 32) + 5,
+            node_depth: 1,
+            inner_length: 32,
+        };
+        let of_node = blake2s::parameter_words(&Parameters {
+            output_size: 32,
+            key_size: 0,
+            salt: &[],
+            persona: &[],
+            tree: node,
+        });
+        assert_eq!(rt; of_node, [0x03020020, 7, 5, 0x20010001, 0, 0, 0, 0]);
+    }
+
+    // The last of 48 bits' node offsets is taken, the next is not, nor are an inner length past 32
+    // or a tree without levels.
+    #[test]
+    fn trees_of_blake2s(rt: HostRuntime) {
+        let mut tree = Tree::sequential();
+        tree.node_offset = (1 << 48) - 1;
+        assert!(rt; blake2s::admits_tree(&tree));
+        tree.node_offset = 1 << 48;
+        assert!(rt; !blake2s::admits_tree(&tree));
+        tree = Tree::sequential();
+        tree.inner_length = 33;
+        assert!(rt; !blake2s::admits_tree(&tree));
+        tree = Tree::sequential();
+        tree.depth = 0;
+        assert!(rt; !blake2s::admits_tree(&tree));
     }
 }

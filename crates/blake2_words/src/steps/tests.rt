@@ -1,6 +1,8 @@
 //! Each call once, with ample memory. The expected words are those of the parameter block (the
 //! BLAKE2 document, 2.8), byte by byte.
 
+ghost use Rattle.std.specs.Prelude.{◌<◌};
+
 use super::{Entry, Input, Reading, Transcript, Tree, blake2b, blake2s};
 use crate::laws;
 use std::process::Abort;
@@ -138,6 +140,73 @@ fn transcripts_of_no_input(rt: HostRuntime) -> Result<(), Fail> {
             read.is_some(),
             is_one,
             "at {last_byte} {both_last} {counter}"
+        );
+    }
+    Ok(())
+}
+
+// The message of 129 bytes 2a, unkeyed, under words with one change.
+fn read_changed(rt: &HostRuntime, place: usize, word: u64) -> Result<Option<Tree>, Fail>
+    requires { place < 8 }
+{
+    let mut transcript = of_two_blocks(rt, 0, false, 129)?;
+    transcript.words[place] = word;
+    let read = blake2b::read_transcript(rt.alloc(), &transcript)?;
+    Ok(read.map(|reading| reading.tree))
+}
+
+// The fields of a tree are read, and what no accepted tree writes is refused: bytes of the
+// reserved part, an inner length of 65, a depth of 0.
+#[test]
+fn trees_of_transcripts(rt: HostRuntime) -> Result<(), Fail> {
+    let sequential = Tree::sequential();
+    for (place, word) in [(2, 0x10000), (2, 0x4100), (3, 1), (0, 0x00010040)] {
+        assert!(rt;
+            read_changed(&rt, place, word)?.is_none(),
+            "at {place} {word}"
+        );
+    }
+    let cases = [
+        (0, 0x01010040, sequential),
+        (
+            0,
+            0x01000040,
+            Tree {
+                fanout: 0,
+                ..sequential
+            },
+        ),
+        (
+            0,
+            0x0000000701010040,
+            Tree {
+                leaf_length: 7,
+                ..sequential
+            },
+        ),
+        (
+            1,
+            1,
+            Tree {
+                node_offset: 1,
+                ..sequential
+            },
+        ),
+        (
+            2,
+            0x4001,
+            Tree {
+                node_depth: 1,
+                inner_length: 64,
+                ..sequential
+            },
+        ),
+    ];
+    for (place, word, tree) in cases {
+        assert_eq!(rt;
+            read_changed(&rt, place, word)?,
+            Some(tree),
+            "at {place} {word}"
         );
     }
     Ok(())
