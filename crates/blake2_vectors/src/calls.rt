@@ -1,11 +1,12 @@
 //! Lists of calls on hashers and MACs.
 ghost use Rattle.std.specs.Prelude.{◌≤◌};
 
-use crate::inputs::KEY;
+use crate::inputs::{KEY, count_up, take};
 use blake2::calls::{Call, ReplayFault, replay};
 use blake2::digest::{Duplicate, FixedOutput, FixedOutputReset, Reset, Update};
-use blake2::{Blake2b512, Blake2bMac512, Blake2s256, Blake2sMac256, Digest};
+use blake2::{Blake2b256, Blake2b512, Blake2bMac512, Blake2s256, Blake2sMac256, Digest};
 use std::alloc::Global;
+use std::process::Abort;
 use std::test::Fail;
 
 // The digests of a list of calls, in hexadecimal, each before a semicolon; nothing for a fault.
@@ -95,4 +96,48 @@ fn refuse_the_first_bad_call(rt: HostRuntime) {
     let calls = [Call::Clone(1)];
     let refused = replay::<_, 32>(rt.alloc(), Blake2s256::new(), &calls);
     assert!(rt; matches!(refused, Err(ReplayFault::NoSuchSlot(0))));
+}
+
+// The digest of the digests of the beginnings of 1 to 1,000 bytes, each by a copy in a slot of its
+// own. The expected ones are those of `tools/expected_values.py`, under `replays`.
+fn digest_of_beginnings<H, const N: usize>(
+    rt: &impl Abort,
+    alloc: Global,
+    first: H,
+) -> Result<String, Fail>
+where
+    H: Update + FixedOutputReset<N> + FixedOutput<N> + Reset + Duplicate + Drop,
+{
+    let mut message = [0; 1000];
+    count_up(&mut message);
+    let mut calls = Vec::new(alloc);
+    for byte in message.chunks(1) {
+        calls.push(Call::Update(0, byte))?;
+        calls.push(Call::Clone(0))?;
+    }
+    for slot in 1..1001 {
+        calls.push(Call::Finalize(slot))?;
+    }
+    let digests = replay::<H, N>(alloc, first, calls.as_slice())?;
+    assert_eq!(rt; digests.len(), 1000);
+    let mut hasher = Blake2b256::new();
+    for digest in &digests {
+        take(rt, &mut hasher, digest.as_slice());
+    }
+    Ok(hex::encode(alloc, &hasher.finalize()[..])?)
+}
+
+#[test]
+fn replay_many_calls(rt: HostRuntime) -> Result<(), Fail> {
+    let digest = digest_of_beginnings::<_, 64>(&rt, rt.alloc(), Blake2b512::new())?;
+    assert_eq!(rt;
+        digest.as_str(),
+        "f61444b1133ce519c8e309676d976e14a98ba4e21c946441e322928df26b1abe"
+    );
+    let digest = digest_of_beginnings::<_, 32>(&rt, rt.alloc(), Blake2s256::new())?;
+    assert_eq!(rt;
+        digest.as_str(),
+        "1da4761ee42dd01f62e8cc09ddc9f446059b364fb051a82b3451349af905ab41"
+    );
+    Ok(())
 }

@@ -1,7 +1,8 @@
-//! Messages that come in two pieces, with copies, resets and digests between them.
+//! Messages that come in two pieces, with copies, resets and digests between them. The expected
+//! digests of all outputs are those of `tools/expected_values.py`, under `copies`.
 ghost use Rattle.std.specs.Prelude.{◌≤◌, length};
 
-use crate::inputs::take;
+use crate::inputs::{LENGTHS, count_up, take};
 use blake2::digest::{Duplicate, FixedOutput, FixedOutputReset, Reset};
 use blake2::{
     Blake2b128, Blake2b256, Blake2b512, Blake2bMac512, Blake2s128, Blake2s256, Blake2sMac256,
@@ -10,9 +11,6 @@ use blake2::{
 use std::alloc::{AllocError, Global};
 use std::process::Abort;
 use std::test::Fail;
-
-// Lengths of pieces, in bytes: those about the ends of blocks, and of two blocks.
-const LENGTHS: [usize; 11] = [0, 1, 63, 64, 65, 127, 128, 129, 255, 256, 257];
 
 // Checks that a state gives this output once it has taken the piece.
 fn check_output<S: FixedOutput<N> + Drop, const N: usize>(
@@ -67,7 +65,8 @@ where
     Ok(of_both)
 }
 
-// Checks each pair of lengths, and gives BLAKE2b-256 of all outputs for both pieces, in hexadecimal.
+// Checks each pair of lengths, and gives BLAKE2b-256 of all outputs for both pieces, in
+// hexadecimal.
 fn digest_of_outputs<S, const N: usize>(
     rt: &impl Abort,
     alloc: Global,
@@ -77,9 +76,7 @@ where
     S: FixedOutputReset<N> + Duplicate + Clone + Drop,
 {
     let mut message = [0u8; 514];
-    for (i, byte) in message.iter_mut().enumerate() {
-        *byte = (i % 251) as u8;
-    }
+    count_up(&mut message);
     let mut outputs = Blake2b256::new();
     for first in LENGTHS {
         for second in LENGTHS {
@@ -128,54 +125,43 @@ fn hash_two_pieces_by_blake2s(rt: HostRuntime) -> Result<(), Fail> {
 
 #[test]
 fn authenticate_two_pieces(rt: HostRuntime) -> Result<(), Fail> {
-    let start = Blake2bMac512::new_with_salt_and_personal(Some(&[42]), b"", b"")?;
-    let digest = digest_of_outputs(&rt, rt.alloc(), &start)?;
-    assert_eq!(rt;
-        digest.as_str(),
-        "f23c3e6e036e16dfc1a0f0b28ca81196436de0bd0ab659a349cb839c9e4fd3ea"
-    );
-    let start = Blake2sMac256::new_with_salt_and_personal(Some(&[42]), b"", b"")?;
-    let digest = digest_of_outputs(&rt, rt.alloc(), &start)?;
-    assert_eq!(rt;
-        digest.as_str(),
-        "5dcf7679b0de239a0d1326df502c2d8bfdbe69ee6e8343af6fbd13c04b9fa226"
-    );
-    Ok(())
-}
-
-#[test]
-fn authenticate_two_pieces_under_salt_and_persona(rt: HostRuntime) -> Result<(), Fail> {
-    for (key, wanted) in [
+    for (key, salt, persona, by_blake2b, by_blake2s) in [
         (
             Some(&[42u8][..]),
-            "4bfda7e2578e6bba3c638b27d879477b7520016e5a9df98acf8be7367d5fb1a5",
+            "",
+            "",
+            "f23c3e6e036e16dfc1a0f0b28ca81196436de0bd0ab659a349cb839c9e4fd3ea",
+            "5dcf7679b0de239a0d1326df502c2d8bfdbe69ee6e8343af6fbd13c04b9fa226",
         ),
         (
             None,
-            "f63ba749914457e114385f39ab53f788e3e2f2412d19ec0986f3b82ac54dc6e9",
+            "",
+            "",
+            "e3daa74c613f0eb619f757374ee61d8caa318610cd6e3ffc8e14a812095aa278",
+            "7b55b8396e3d36ec1a00e70509b7de72ee48b643d354128566218889bb906b43",
         ),
-    ] {
-        let start = Blake2bMac512::new_with_salt_and_personal(key, b"salt", b"persona")?;
-        assert_eq!(rt;
-            digest_of_outputs(&rt, rt.alloc(), &start)?.as_str(),
-            wanted
-        );
-    }
-    for (key, wanted) in [
         (
             Some(&[42u8][..]),
+            "salt",
+            "persona",
+            "4bfda7e2578e6bba3c638b27d879477b7520016e5a9df98acf8be7367d5fb1a5",
             "8fc5772e4fbb5348aa7cc5137208ecc7d48ef654d0253717db00215dd7242521",
         ),
         (
             None,
+            "salt",
+            "persona",
+            "f63ba749914457e114385f39ab53f788e3e2f2412d19ec0986f3b82ac54dc6e9",
             "b8567a8c63227534d0f2f24350a2516f2545f3f2081ccded8591d47881f59a20",
         ),
     ] {
-        let start = Blake2sMac256::new_with_salt_and_personal(key, b"salt", b"persona")?;
-        assert_eq!(rt;
-            digest_of_outputs(&rt, rt.alloc(), &start)?.as_str(),
-            wanted
-        );
+        let (salt, persona) = (salt.as_bytes(), persona.as_bytes());
+        let start = Blake2bMac512::new_with_salt_and_personal(key, salt, persona)?;
+        let digest = digest_of_outputs(&rt, rt.alloc(), &start)?;
+        assert_eq!(rt; digest.as_str(), by_blake2b);
+        let start = Blake2sMac256::new_with_salt_and_personal(key, salt, persona)?;
+        let digest = digest_of_outputs(&rt, rt.alloc(), &start)?;
+        assert_eq!(rt; digest.as_str(), by_blake2s);
     }
     Ok(())
 }

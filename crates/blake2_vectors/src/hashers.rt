@@ -1,8 +1,10 @@
 //! Digests of the hashers.
 ghost use Rattle.std.specs.Prelude.{◌≡◌, ◌+◌, ◌^◌, ◌<◌, ◌≤◌, length};
 
+use crate::inputs::take;
 use blake2::{Blake2b, Blake2b512, Blake2s, Blake2s256, Digest};
 use std::alloc::{AllocError, Global};
+use std::process::Abort;
 use std::test::Fail;
 
 // The digest of a message that comes in two pieces, cut after `at` bytes, in hexadecimal.
@@ -80,6 +82,39 @@ fn hash_whole_and_cut_after_each_byte(rt: HostRuntime) -> Result<(), Fail> {
         let agrees = digests_are::<Blake2s256, 32>(alloc, message.as_bytes(), wanted)?;
         assert!(rt; agrees, "BLAKE2s-256 of {message:?}");
     }
+    Ok(())
+}
+
+// The digest of a message that comes in these pieces, in hexadecimal.
+fn digest_of_pieces<H: Digest<N> + Drop, const N: usize>(
+    rt: &impl Abort,
+    alloc: Global,
+    pieces: &[&[u8]],
+) -> Result<String, AllocError>
+    requires supported { H.is_supported }
+    requires size { N ≤ 64 }
+{
+    let mut hasher = H::new();
+    for piece in pieces {
+        take(rt, &mut hasher, piece);
+    }
+    hex::encode(alloc, &hasher.finalize()[..])
+}
+
+#[test]
+fn hash_three_pieces(rt: HostRuntime) -> Result<(), Fail> {
+    let pieces: [&[u8]; 3] = [b"hello ", b"", b"world"];
+    let digest = digest_of_pieces::<Blake2b512, 64>(&rt, rt.alloc(), &pieces)?;
+    assert_eq!(rt;
+        digest.as_str(),
+        "021ced8799296ceca557832ab941a50b4a11f83478cf141f51f933f653ab9fbc\
+         c05a037cddbed06e309bf334942c4e58cdf1a46e237911ccd7fcf9787cbc7fd0"
+    );
+    let digest = digest_of_pieces::<Blake2s256, 32>(&rt, rt.alloc(), &pieces)?;
+    assert_eq!(rt;
+        digest.as_str(),
+        "9aec6806794561107e594b1f6a8a6b0c92a0cba9acf5e5e93cca06f781813b0b"
+    );
     Ok(())
 }
 

@@ -1,8 +1,11 @@
-//! A key, inputs, blocks and pieces that several tests share.
+//! A key, inputs, blocks, entries, steps, readings and pieces that several tests share. What has
+//! several fields is made here alone.
 ghost use Rattle.std.specs.Prelude.{◌≡◌, ◌≤◌, [], length};
 
 use blake2::digest::Update;
-use blake2::steps::{Input, Tree};
+pub(crate) use blake2::digest::padded;
+use blake2::steps::{Entry, Input, Reading, Step, Transcript, Tree};
+use std::alloc::{AllocError, Global};
 use std::process::Abort;
 
 /// The bytes 0 to 31.
@@ -11,28 +14,102 @@ pub(crate) const KEY: [u8; 32] = [
     26, 27, 28, 29, 30, 31,
 ];
 
-/// An input without key, salt and persona, of a hash which is the whole tree.
-pub(crate) fn unkeyed<'a>(message: &'a [u8]) -> Input<'a>
-    ensures salt { result.salt.now ≡ [] }
-    ensures persona { result.persona.now ≡ [] }
+/// Lengths in bytes about the ends of blocks, and of two blocks.
+pub(crate) const LENGTHS: [usize; 11] = [0, 1, 63, 64, 65, 127, 128, 129, 255, 256, 257];
+
+/// Fills the bytes with 0 to 250, again and again.
+pub(crate) fn count_up(bytes: &mut [u8]) {
+    for (i, byte) in bytes.iter_mut().enumerate() {
+        *byte = (i % 251) as u8;
+    }
+}
+
+/// An input of these parts, of a hash which is the whole tree.
+pub(crate) fn input<'a>(
+    key: Option<&'a [u8]>,
+    salt: &'a [u8],
+    persona: &'a [u8],
+    message: &'a [u8],
+) -> Input<'a>
+    ensures salt { result.salt.now ≡ salt.now }
+    ensures persona { result.persona.now ≡ persona.now }
 {
     Input {
-        salt: b"",
-        persona: b"",
-        key: None,
+        salt,
+        persona,
+        key,
         tree: Tree::sequential(),
         message,
     }
 }
 
-/// These bytes, and zeros up to a block.
-pub(crate) fn padded<const B: usize>(beginning: &[u8]) -> [u8; B]
+/// An input without key, salt and persona.
+pub(crate) fn unkeyed<'a>(message: &'a [u8]) -> Input<'a>
+    ensures salt { result.salt.now ≡ [] }
+    ensures persona { result.persona.now ≡ [] }
+{
+    input(None, b"", b"", message)
+}
+
+/// An entry whose block goes on with zeros behind these bytes.
+pub(crate) fn entry<const B: usize>(beginning: &[u8], counter: u64, last: bool) -> Entry<B>
     requires { length beginning.now ≤ B }
 {
-    let mut block = [0; B];
-    let bytes = &mut block[..];
-    bytes[..beginning.len()].copy_from_slice(beginning);
-    block
+    Entry {
+        block: padded(beginning),
+        counter,
+        last,
+    }
+}
+
+/// A transcript of these words and entries.
+pub(crate) fn transcript<W: Drop, const B: usize>(
+    alloc: Global,
+    words: [W; 8],
+    entries: &[Entry<B>],
+) -> Result<Transcript<W, B>, AllocError> {
+    let entries = entries.to_vec(alloc)?;
+    Ok(Transcript { words, entries })
+}
+
+/// A step whose block goes on with zeros behind these bytes.
+pub(crate) fn step<W: Drop, const B: usize>(
+    chain: [W; 8],
+    beginning: &[u8],
+    counter: u64,
+    last: bool,
+) -> Step<W, B>
+    requires { length beginning.now ≤ B }
+{
+    Step {
+        chain,
+        block: padded(beginning),
+        counter,
+        last,
+    }
+}
+
+/// What a transcript of this input and output size is read as.
+pub(crate) fn reading<const S: usize>(
+    alloc: Global,
+    input: &Input<'_>,
+    output_size: usize,
+) -> Result<Reading<S>, AllocError>
+    requires salt { length input.now.salt.now ≤ S }
+    requires persona { length input.now.persona.now ≤ S }
+{
+    let key = match input.key {
+        Some(key) => Some(key.to_vec(alloc)?),
+        None => None,
+    };
+    Ok(Reading {
+        output_size,
+        salt: padded(input.salt),
+        persona: padded(input.persona),
+        key,
+        tree: input.tree,
+        message: input.message.to_vec(alloc)?,
+    })
 }
 
 /// Takes a short piece, where few bytes are counted so far, and checks the new count.

@@ -1,5 +1,5 @@
-//! Worked values of the public calls of `blake2`, as tests. They come from RFC 7693 and from Python's
-//! `hashlib.blake2b` and `hashlib.blake2s`, and not from this project's own code.
+//! Worked values of the public calls of `blake2`, as tests. They come from RFC 7693 and from
+//! Python's `hashlib.blake2b` and `hashlib.blake2s`, and not from this project's own code.
 #![tactic(auto)]
 
 #[cfg(test)]
@@ -7,15 +7,25 @@ mod calls;
 #[cfg(test)]
 mod copies;
 #[cfg(test)]
+mod cores;
+#[cfg(test)]
+mod derives;
+#[cfg(test)]
 mod hashers;
 #[cfg(test)]
 mod inputs;
 #[cfg(test)]
 mod lanes;
 #[cfg(test)]
+mod lengths;
+#[cfg(test)]
 mod macs;
 #[cfg(test)]
+mod memory;
+#[cfg(test)]
 mod selftest;
+#[cfg(test)]
+mod sizes;
 #[cfg(test)]
 mod steps;
 #[cfg(test)]

@@ -1,16 +1,18 @@
 //! Outputs of the MACs, personas of the hashers, and what constructors refuse.
 ghost use Rattle.std.specs.Prelude.{◌≤◌};
 
-use crate::inputs::KEY;
+use crate::inputs::{KEY, count_up, take};
 use blake2::digest::{
     AlgorithmName, CustomizedInit, FixedOutput, InvalidLength, InvalidOutputSize, KeyInit, Mac,
     Update, VariableOutputCore,
 };
 use blake2::{
-    Blake2b128, Blake2bMac, Blake2bMac512, Blake2bVarCore, Blake2sMac256, Blake2sVarCore,
+    Blake2b128, Blake2b256, Blake2bMac, Blake2bMac512, Blake2bVarCore, Blake2sMac, Blake2sMac256,
+    Blake2sVarCore, Digest,
 };
 use std::alloc::{AllocError, Global};
 use std::fmt;
+use std::process::Abort;
 use std::test::Fail;
 
 // The output of BLAKE2b's MAC for a message, in hexadecimal.
@@ -71,7 +73,7 @@ fn authenticate_with_salt_and_persona(rt: HostRuntime) -> Result<(), Fail> {
 fn personalize_a_hasher(rt: HostRuntime) -> Result<(), Fail> {
     let alloc = rt.alloc();
     let mut hasher = Blake2b128::new_customized(b"personal");
-    hasher.update(b"hello");
+    take(&rt, &mut hasher, b"hello");
     let digest = hex::encode(alloc, &hasher.finalize_fixed()[..])?;
     assert_eq!(rt; digest.as_str(), "5a5eb0aecc053af1ce6de25354c1c761");
     let mut mac = Blake2bMac::<16>::new_with_salt_and_personal(None, b"", b"personal")?;
@@ -214,6 +216,51 @@ fn print_macs(rt: HostRuntime) -> Result<(), AllocError> {
     assert_eq!(rt;
         format!(in alloc; "{mac:?}")?.as_str(),
         "Blake2sMac32 { ... }"
+    );
+    let few = Blake2bMac::<9>::new(&[1; 64]);
+    let none = Blake2sMac::<0>::new(&[1; 32]);
+    assert_eq!(rt;
+        format!(in alloc; "{few:?} {none:?}")?.as_str(),
+        "Blake2bMac9 { ... } Blake2sMac0 { ... }"
+    );
+    Ok(())
+}
+
+// Takes the outputs over `abc` under the keys 0, 1, 2 and so on, of all their bytes and of one.
+fn take_keyed<M, const K: usize, const N: usize>(
+    rt: &impl Abort,
+    outputs: &mut Blake2b256,
+) -> Result<(), InvalidLength>
+where
+    M: KeyInit<K> + FixedOutput<N> + Drop,
+    requires supported { M.is_supported }
+    requires key { K ≤ 64 }
+{
+    let mut key = [0; K];
+    count_up(&mut key);
+    let mut mac = M::new(&key);
+    take(rt, &mut mac, b"abc");
+    take(rt, outputs, mac.finalize_fixed().as_slice());
+    let mut mac = M::new_from_slice(&[0])?;
+    take(rt, &mut mac, b"abc");
+    take(rt, outputs, mac.finalize_fixed().as_slice());
+    Ok(())
+}
+
+// The expected digest of all outputs is that of `tools/expected_values.py`, under `keys`.
+#[test]
+fn authenticate_to_other_sizes(rt: HostRuntime) -> Result<(), Fail> {
+    let mut outputs = Blake2b256::new();
+    take_keyed::<Blake2bMac<1>, 64, 1>(&rt, &mut outputs)?;
+    take_keyed::<Blake2bMac<20>, 64, 20>(&rt, &mut outputs)?;
+    take_keyed::<Blake2bMac<63>, 64, 63>(&rt, &mut outputs)?;
+    take_keyed::<Blake2sMac<1>, 32, 1>(&rt, &mut outputs)?;
+    take_keyed::<Blake2sMac<20>, 32, 20>(&rt, &mut outputs)?;
+    take_keyed::<Blake2sMac<31>, 32, 31>(&rt, &mut outputs)?;
+    let digest = hex::encode(rt.alloc(), &outputs.finalize()[..])?;
+    assert_eq!(rt;
+        digest.as_str(),
+        "bfd506236e9b8a5d740276cc9b96dd0c699608d0cae18bdc3e20fffe94fcc0ae"
     );
     Ok(())
 }

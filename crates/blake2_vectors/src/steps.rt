@@ -1,56 +1,12 @@
 //! Transcripts of inputs, and what transcripts are read as. Words are those of the parameter block
 //! (RFC 7693, 2.5), byte by byte; entries follow section 3.3.
-ghost use Rattle.std.specs.Prelude.{◌≤◌, length};
+ghost use Rattle.std.specs.Prelude.{◌≤◌};
 
-use crate::inputs::{KEY, padded, unkeyed};
-use blake2::steps::{Entry, Input, Reading, Step, Transcript};
+use crate::inputs::{KEY, entry, input, reading, transcript, unkeyed};
+use blake2::steps::{Entry, Input, Reading, Transcript};
 use blake2::{Blake2bVarCore, Blake2sVarCore};
 use std::alloc::{AllocError, Global};
 use std::process::Abort;
-
-// An entry whose block goes on with zeros behind these bytes.
-fn entry<const B: usize>(beginning: &[u8], counter: u64, last: bool) -> Entry<B>
-    requires { length beginning.now ≤ B }
-{
-    Entry {
-        block: padded(beginning),
-        counter,
-        last,
-    }
-}
-
-// A transcript of these words and entries.
-fn transcript<W: Drop, const B: usize>(
-    alloc: Global,
-    words: [W; 8],
-    entries: &[Entry<B>],
-) -> Result<Transcript<W, B>, AllocError> {
-    let entries = entries.to_vec(alloc)?;
-    Ok(Transcript { words, entries })
-}
-
-// What a transcript of this input and output size is read as.
-fn reading<const S: usize>(
-    alloc: Global,
-    input: &Input<'_>,
-    output_size: usize,
-) -> Result<Reading<S>, AllocError>
-    requires salt { length input.now.salt.now ≤ S }
-    requires persona { length input.now.persona.now ≤ S }
-{
-    let key = match input.key {
-        Some(key) => Some(key.to_vec(alloc)?),
-        None => None,
-    };
-    Ok(Reading {
-        output_size,
-        salt: padded(input.salt),
-        persona: padded(input.persona),
-        key,
-        tree: input.tree,
-        message: input.message.to_vec(alloc)?,
-    })
-}
 
 // BLAKE2b writes this transcript of the input, and reads it as the input.
 fn check_blake2b(
@@ -139,12 +95,7 @@ fn write_and_read_messages_of_blake2s(rt: HostRuntime) -> Result<(), AllocError>
 #[test]
 fn write_and_read_a_key_and_a_persona(rt: HostRuntime) -> Result<(), AllocError> {
     let alloc = rt.alloc();
-    let input = Input {
-        salt: b"",
-        persona: b"personal",
-        key: Some(&KEY),
-        ..unkeyed(b"")
-    };
+    let input = input(Some(&KEY), b"", b"personal", b"");
     let words = [0x01012040, 0, 0, 0, 0, 0, 0x6c616e6f73726570, 0];
     let wanted = transcript(alloc, words, &[entry(&KEY, 128, true)])?;
     check_blake2b(&rt, alloc, &input, 64, &wanted)?;
@@ -170,12 +121,7 @@ const WORDS: [u64; 8] = [
 fn write_and_read_all_parts_of_blake2b(rt: HostRuntime) -> Result<(), AllocError> {
     let alloc = rt.alloc();
     let message = [0x2a; 200];
-    let input = Input {
-        salt: b"abc",
-        persona: b"0123456789abcdef",
-        key: Some(&[1]),
-        ..unkeyed(&message)
-    };
+    let input = input(Some(&[1]), b"abc", b"0123456789abcdef", &message);
     let entries = [
         entry(&[1], 128, false),
         entry(&message[..128], 256, false),
@@ -189,12 +135,7 @@ fn write_and_read_all_parts_of_blake2b(rt: HostRuntime) -> Result<(), AllocError
 fn write_and_read_all_parts_of_blake2s(rt: HostRuntime) -> Result<(), AllocError> {
     let alloc = rt.alloc();
     let message = [0x2a; 100];
-    let input = Input {
-        salt: b"abc",
-        persona: b"01234567",
-        key: Some(&[1]),
-        ..unkeyed(&message)
-    };
+    let input = input(Some(&[1]), b"abc", b"01234567", &message);
     let words = [0x01010120, 0, 0, 0, 0x636261, 0, 0x33323130, 0x37363534];
     let entries = [
         entry(&[1], 64, false),
@@ -301,12 +242,7 @@ fn blake2s_reading(
 #[test]
 fn read_a_key_of_a_zero_byte(rt: HostRuntime) -> Result<(), AllocError> {
     let alloc = rt.alloc();
-    let input = Input {
-        salt: b"",
-        persona: b"",
-        key: Some(&[0]),
-        ..unkeyed(b"")
-    };
+    let input = input(Some(&[0]), b"", b"", b"");
     let read = blake2s_reading(alloc, 0x01010120, &[entry(b"", 64, true)])?;
     assert_eq!(rt; read, Some(reading(alloc, &input, 32)?));
     let read = blake2s_reading(alloc, 0x01010120, &[entry(&[0, 1], 64, true)])?;
@@ -323,103 +259,5 @@ fn read_zero_blocks(rt: HostRuntime) -> Result<(), AllocError> {
     assert!(rt; blake2s_reading(alloc, 0x01010021, &none)?.is_none());
     let entries = [entry(b"", 64, false), entry(b"", 64, true)];
     assert!(rt; blake2s_reading(alloc, 0x01010020, &entries)?.is_none());
-    Ok(())
-}
-
-// Whether each of two values is equal to itself, and neither to the other.
-fn are_different<T: Eq>(a: &T, b: &T) -> bool {
-    a == a && b == b && a != b && b != a
-}
-
-// Whether a copy and a clone of the value are equal to it.
-fn is_copied<T: Copy + Eq>(value: &T) -> Result<bool, AllocError> {
-    let copy = *value;
-    Ok(copy == *value && value.clone()? == *value)
-}
-
-#[test]
-fn compare_and_copy_entries(rt: HostRuntime) -> Result<(), AllocError> {
-    let first: Entry<64> = entry(b"a", 1, true);
-    assert!(rt; is_copied(&first)?);
-    for other in [
-        entry(b"b", 1, true),
-        entry(b"a", 2, true),
-        entry(b"a", 1, false),
-    ] {
-        assert!(rt; are_different(&first, &other), "{other:?}");
-    }
-    Ok(())
-}
-
-#[test]
-fn compare_and_copy_steps(rt: HostRuntime) -> Result<(), AllocError> {
-    let step: Step<u64, 128> = Step {
-        chain: [1, 2, 3, 4, 5, 6, 7, 8],
-        block: [9; 128],
-        counter: 10,
-        last: false,
-    };
-    assert!(rt; is_copied(&step)?);
-    for other in [
-        Step {
-            chain: [1, 2, 3, 4, 5, 6, 7, 9],
-            ..step
-        },
-        Step {
-            block: padded(&[9; 127]),
-            ..step
-        },
-        Step {
-            counter: 11,
-            ..step
-        },
-        Step { last: true, ..step },
-    ] {
-        assert!(rt; are_different(&step, &other), "{other:?}");
-    }
-    Ok(())
-}
-
-#[test]
-fn compare_transcripts(rt: HostRuntime) -> Result<(), AllocError> {
-    let alloc = rt.alloc();
-    let words = [1u32, 2, 3, 4, 5, 6, 7, 8];
-    let entries: [Entry<64>; 2] = [entry(b"a", 64, false), entry(b"b", 65, true)];
-    let first = transcript(alloc, words, &entries)?;
-    assert!(rt; first == transcript(alloc, words, &entries)?);
-    let other = transcript(alloc, [1, 2, 3, 4, 5, 6, 7, 9], &entries)?;
-    assert!(rt; are_different(&first, &other));
-    let other = transcript(alloc, words, &entries[..1])?;
-    assert!(rt; are_different(&first, &other));
-    let other = transcript(alloc, words, &[entries[1], entries[0]])?;
-    assert!(rt; are_different(&first, &other));
-    Ok(())
-}
-
-#[test]
-fn compare_readings(rt: HostRuntime) -> Result<(), AllocError> {
-    let alloc = rt.alloc();
-    let input = unkeyed(b"message");
-    let first: Reading<8> = reading(alloc, &input, 32)?;
-    assert!(rt; first == reading(alloc, &input, 32)?);
-    assert!(rt; are_different(&first, &reading(alloc, &input, 31)?));
-    for other in [
-        Input {
-            salt: b"salt",
-            ..input
-        },
-        Input {
-            persona: b"persona",
-            ..input
-        },
-        Input {
-            key: Some(&[0]),
-            ..input
-        },
-        unkeyed(b"messages"),
-    ] {
-        assert!(rt; other.salt.len() <= 8 && other.persona.len() <= 8);
-        assert!(rt; are_different(&first, &reading(alloc, &other, 32)?));
-    }
     Ok(())
 }

@@ -1,6 +1,11 @@
 //! Streams between devices in memory that give and take little, or fail.
+ghost use Rattle.std.specs.Prelude.{◌≤◌};
+
+use crate::inputs::LENGTHS;
+use blake2::digest::{KeyInit, Mac};
 use blake2::engine::{Sink, SliceSink, SliceSource, Source, StreamFault, hash_stream};
-use blake2::{Blake2b512, Digest};
+use blake2::{Blake2b, Blake2b512, Blake2bMac, Blake2s, Digest};
+use std::process::Abort;
 use std::test::Fail;
 
 // What is written for `abc`.
@@ -46,4 +51,29 @@ fn fail_to_read_in_mid_stream(rt: HostRuntime) {
     assert_eq!(rt; found, Err(StreamFault::Read));
     assert!(rt; source.failed() && !sink.failed());
     assert_eq!(rt; sink.written(), 0);
+}
+
+// Checks that a digest of no bytes is a newline alone, over messages of each length.
+fn check_empty_lines<H: Digest<0> + Drop>(rt: &impl Abort)
+    requires { H.is_supported }
+{
+    let message = [0x2a; 257];
+    for length in LENGTHS {
+        assert!(rt; length <= 257);
+        let mut source = SliceSource::new(&message[..length], 100, None);
+        let mut room = [0u8; 2];
+        let mut sink = SliceSink::new(&mut room, 2, None);
+        let found = hash_stream(&mut source, &mut sink, H::new());
+        assert_eq!(rt; found, Ok(length as u64));
+        assert_eq!(rt; sink.written(), 1);
+        assert_eq!(rt; room, [b'\n', 0]);
+    }
+}
+
+#[test]
+fn hash_to_no_bytes(rt: HostRuntime) {
+    check_empty_lines::<Blake2b<0>>(&rt);
+    check_empty_lines::<Blake2s<0>>(&rt);
+    assert!(rt; Blake2bMac::<0>::new(&[1; 64]).verify_slice(b"").is_ok());
+    assert!(rt; Blake2bMac::<0>::new(&[1; 64]).verify_slice(b"\0").is_err());
 }

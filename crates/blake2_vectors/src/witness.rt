@@ -1,48 +1,41 @@
-//! The pairs of steps that two inputs with one digest come to. Start words are IV's (RFC 7693, 2.6) xored
-//! with those of the parameter block (2.5). The chaining words behind a first block come from a plain
-//! program of the compression (3.2) in Python, whose digests are those of `hashlib`.
+//! The pairs of steps that two inputs with one digest come to. Start words are IV's (RFC 7693,
+//! 2.6) xored with those of the parameter block (2.5). The chaining words behind a first block
+//! come from a plain program of the compression (3.2) in Python, whose digests are those of
+//! `hashlib`.
 ghost use Rattle.std.specs.Prelude.{◌≤◌, length};
 
-use crate::inputs::{padded, unkeyed};
+use crate::inputs::{input, padded, step, unkeyed};
 use blake2::steps::{Input, Step};
 use blake2::{Blake2b, Blake2bVarCore, Blake2s, Blake2sVarCore, Digest};
-use std::alloc::{AllocError, Global};
+use std::alloc::Global;
 use std::test::Fail;
 
 // A last step of BLAKE2b, whose chaining words are the start words after the first of them.
 fn blake2b_last(first_word: u64, beginning: &[u8], counter: u64) -> Step<u64, 128>
     requires { length beginning.now ≤ 128 }
 {
-    Step {
-        chain: [
-            first_word,
-            0xbb67ae8584caa73b,
-            0x3c6ef372fe94f82b,
-            0xa54ff53a5f1d36f1,
-            0x510e527fade682d1,
-            0x9b05688c2b3e6c1f,
-            0x1f83d9abfb41bd6b,
-            0x5be0cd19137e2179,
-        ],
-        block: padded(beginning),
-        counter,
-        last: true,
-    }
+    let chain = [
+        first_word,
+        0xbb67ae8584caa73b,
+        0x3c6ef372fe94f82b,
+        0xa54ff53a5f1d36f1,
+        0x510e527fade682d1,
+        0x9b05688c2b3e6c1f,
+        0x1f83d9abfb41bd6b,
+        0x5be0cd19137e2179,
+    ];
+    step(chain, beginning, counter, true)
 }
 
 // A last step of BLAKE2s, whose chaining words are the start words after the first of them.
 fn blake2s_last(first_word: u32, beginning: &[u8], counter: u64) -> Step<u32, 64>
     requires { length beginning.now ≤ 64 }
 {
-    Step {
-        chain: [
-            first_word, 0xbb67ae85, 0x3c6ef372, 0xa54ff53a, 0x510e527f, 0x9b05688c, 0x1f83d9ab,
-            0x5be0cd19,
-        ],
-        block: padded(beginning),
-        counter,
-        last: true,
-    }
+    let chain = [
+        first_word, 0xbb67ae85, 0x3c6ef372, 0xa54ff53a, 0x510e527f, 0x9b05688c, 0x1f83d9ab,
+        0x5be0cd19,
+    ];
+    step(chain, beginning, counter, true)
 }
 
 // The witness of two inputs that BLAKE2b accepts.
@@ -77,18 +70,12 @@ fn blake2s_witness(
 
 // An input that has a salt alone.
 fn salted<'a>(salt: &'a [u8]) -> Input<'a> {
-    Input {
-        salt,
-        ..unkeyed(b"")
-    }
+    input(None, salt, b"", b"")
 }
 
 // An input that has a key alone.
 fn keyed<'a>(key: &'a [u8]) -> Input<'a> {
-    Input {
-        key: Some(key),
-        ..unkeyed(b"")
-    }
+    input(Some(key), b"", b"", b"")
 }
 
 #[test]
@@ -173,10 +160,7 @@ fn witness_different_numbers_of_steps(rt: HostRuntime) -> Result<(), Fail> {
     ];
     let wanted = (
         blake2b_last(0x6a09e667f2bdc908, &message[..128], 128),
-        Step {
-            chain,
-            ..blake2b_last(0, &message[..1], 129)
-        },
+        step(chain, &message[..1], 129, true),
     );
     assert_eq!(rt; found, Some(wanted));
     let found = blake2s_witness(alloc, &unkeyed(&message[..64]), &unkeyed(&message[..65]), 0)?;
@@ -186,16 +170,14 @@ fn witness_different_numbers_of_steps(rt: HostRuntime) -> Result<(), Fail> {
     ];
     let wanted = (
         blake2s_last(0x6b08e667, &message[..64], 64),
-        Step {
-            chain,
-            ..blake2s_last(0, &message[..1], 65)
-        },
+        step(chain, &message[..1], 65, true),
     );
     assert_eq!(rt; found, Some(wanted));
     Ok(())
 }
 
-// Of the 257 messages of two bytes that are the numbers 0 to 256 two with equal digests of one byte.
+// Of the 257 messages of two bytes that are the numbers 0 to 256 two with equal digests of one
+// byte.
 fn equal_digests<H: Digest<1> + Drop>() -> Option<(u16, u16)>
     requires { H.is_supported }
 {
@@ -234,46 +216,5 @@ fn witness_equal_digests_of_one_byte(rt: HostRuntime) -> Result<(), Fail> {
     let wanted = (blake2s_last(word, &a, 2), blake2s_last(word, &b, 2));
     let found = blake2s_witness(alloc, &unkeyed(&a), &unkeyed(&b), 1)?;
     assert_eq!(rt; found, Some(wanted));
-    Ok(())
-}
-
-// Takes all the memory that there is, in blocks that halve, down to the smallest.
-fn hoard(alloc: Global, blocks: &mut Vec<Vec<u8>>) {
-    let mut size = 1usize << 46;
-    for _ in 0..4_000_000 {
-        match Vec::with_capacity(alloc, size) {
-            Ok(block) => {
-                if blocks.push(block).is_err() {
-                    return;
-                }
-            }
-            Err(_) => {
-                size /= 2;
-                if size < 16 {
-                    return;
-                }
-            }
-        }
-    }
-}
-
-#[test]
-fn witness_without_memory(rt: HostRuntime) -> Result<(), AllocError> {
-    let alloc = rt.alloc();
-    let (a, b) = (unkeyed(b"a"), unkeyed(b"b"));
-    assert!(rt; Blake2bVarCore::accepts(&a) && Blake2bVarCore::accepts(&b));
-    assert!(rt; Blake2sVarCore::accepts(&a) && Blake2sVarCore::accepts(&b));
-    let of_blake2b = Blake2bVarCore::witness(alloc, &a, &b, 0)?;
-    let of_blake2s = Blake2sVarCore::witness(alloc, &a, &b, 0)?;
-    let mut blocks = Vec::with_capacity(alloc, 300_000)?;
-    hoard(alloc, &mut blocks);
-    let one_byte: Result<Vec<u8>, AllocError> = Vec::with_capacity(alloc, 1);
-    let found_by_blake2b = Blake2bVarCore::witness(alloc, &a, &b, 0);
-    let found_by_blake2s = Blake2sVarCore::witness(alloc, &a, &b, 0);
-    drop(blocks);
-    assert!(rt; one_byte.is_err());
-    assert!(rt; of_blake2b.is_some() && of_blake2s.is_some());
-    assert_eq!(rt; found_by_blake2b, Ok(of_blake2b));
-    assert_eq!(rt; found_by_blake2s, Ok(of_blake2s));
     Ok(())
 }

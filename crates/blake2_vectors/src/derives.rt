@@ -1,0 +1,128 @@
+//! The derives of plain values: copies and clones are equal to them, and other values are not.
+ghost use Rattle.std.specs.Prelude.{◌≤◌};
+
+use crate::inputs::{entry, input, reading, step, transcript, unkeyed};
+use blake2::calls::{Call, ReplayFault};
+use blake2::digest::{InvalidLength, InvalidOutputSize, Lazy, MacError, TruncSide};
+use blake2::engine::{DeviceError, StreamFault};
+use blake2::rows::{u32x4, u64x4};
+use blake2::steps::{Entry, Reading, Step};
+use std::alloc::AllocError;
+use std::process::Abort;
+use std::test::Fail;
+
+// Checks that each value is equal to itself alone.
+fn check_different<T: Eq>(rt: &impl Abort, values: &[T]) {
+    for (i, value) in values.iter().enumerate() {
+        for (j, other) in values.iter().enumerate() {
+            assert!(rt; (value == other) == (i == j), "{i} {j}");
+        }
+    }
+}
+
+// Checks the copies and clones of values, no two of which are equal.
+fn check_copies<T: Copy + Eq>(rt: &impl Abort, values: &[T]) -> Result<(), AllocError> {
+    check_different(rt, values);
+    for (i, value) in values.iter().enumerate() {
+        let copy = *value;
+        assert!(rt; copy == *value && value.clone()? == *value, "{i}");
+    }
+    Ok(())
+}
+
+#[test]
+fn copy_faults(rt: HostRuntime) -> Result<(), Fail> {
+    check_copies(&rt, &[InvalidOutputSize])?;
+    check_copies(&rt, &[InvalidLength])?;
+    check_copies(&rt, &[MacError])?;
+    check_copies(&rt, &[DeviceError])?;
+    check_copies(&rt, &[Lazy])?;
+    check_copies(&rt, &[TruncSide::Left, TruncSide::Right])?;
+    let streams = [StreamFault::Read, StreamFault::TooLong, StreamFault::Write];
+    check_copies(&rt, &streams)?;
+    let replays = [
+        ReplayFault::NoSuchSlot(1),
+        ReplayFault::NoSuchSlot(2),
+        ReplayFault::TooLong(1),
+        ReplayFault::Memory,
+    ];
+    check_copies(&rt, &replays)?;
+    let text = format!(in rt.alloc(); "{:?} {streams:?} {replays:?}", DeviceError)?;
+    assert_eq!(rt;
+        text.as_str(),
+        "DeviceError [Read, TooLong, Write] [NoSuchSlot(1), NoSuchSlot(2), TooLong(1), Memory]"
+    );
+    Ok(())
+}
+
+#[test]
+fn copy_entries_and_steps(rt: HostRuntime) -> Result<(), Fail> {
+    let entries: [Entry<64>; 4] = [
+        entry(b"a", 1, true),
+        entry(b"b", 1, true),
+        entry(b"a", 2, true),
+        entry(b"a", 1, false),
+    ];
+    check_copies(&rt, &entries)?;
+    let chain = [1, 2, 3, 4, 5, 6, 7, 8];
+    let steps: [Step<u64, 128>; 5] = [
+        step(chain, &[9; 128], 10, false),
+        step([1, 2, 3, 4, 5, 6, 7, 9], &[9; 128], 10, false),
+        step(chain, &[9; 127], 10, false),
+        step(chain, &[9; 128], 11, false),
+        step(chain, &[9; 128], 10, true),
+    ];
+    check_copies(&rt, &steps)?;
+    Ok(())
+}
+
+#[test]
+fn copy_lanes_calls_and_inputs(rt: HostRuntime) -> Result<(), Fail> {
+    let row = u64x4::new(1, 2, 3, 4);
+    let copy = row;
+    assert_eq!(rt; copy.to_bytes(), row.to_bytes());
+    assert_eq!(rt; row.clone()?.to_bytes(), row.to_bytes());
+    let row = u32x4::new(1, 2, 3, 4);
+    let copy = row;
+    assert_eq!(rt; copy.to_bytes(), row.to_bytes());
+    assert_eq!(rt; row.clone()?.to_bytes(), row.to_bytes());
+    let call = Call::Update(7, b"abc");
+    let copy = call;
+    assert!(rt; matches!(copy, Call::Update(7, b"abc")));
+    assert!(rt; matches!(call.clone()?, Call::Update(7, b"abc")));
+    let given = input(Some(b"key"), b"salt", b"persona", b"message");
+    let copy = given;
+    for input in [given, copy, given.clone()?] {
+        assert_eq!(rt; input.key.map(|key| key == b"key".as_slice()), Some(true));
+        assert_eq!(rt; input.salt, b"salt".as_slice());
+        assert_eq!(rt; input.persona, b"persona".as_slice());
+        assert_eq!(rt; input.message, b"message".as_slice());
+    }
+    Ok(())
+}
+
+#[test]
+fn compare_transcripts_and_readings(rt: HostRuntime) -> Result<(), Fail> {
+    let alloc = rt.alloc();
+    let words = [1u32, 2, 3, 4, 5, 6, 7, 8];
+    let entries: [Entry<64>; 2] = [entry(b"a", 64, false), entry(b"b", 65, true)];
+    check_different(
+        &rt,
+        &[
+            transcript(alloc, words, &entries)?,
+            transcript(alloc, [1, 2, 3, 4, 5, 6, 7, 9], &entries)?,
+            transcript(alloc, words, &entries[..1])?,
+            transcript(alloc, words, &[entries[1], entries[0]])?,
+        ],
+    );
+    let readings: [Reading<8>; 6] = [
+        reading(alloc, &unkeyed(b"message"), 32)?,
+        reading(alloc, &unkeyed(b"message"), 31)?,
+        reading(alloc, &unkeyed(b"messages"), 32)?,
+        reading(alloc, &input(None, b"salt", b"", b"message"), 32)?,
+        reading(alloc, &input(None, b"", b"persona", b"message"), 32)?,
+        reading(alloc, &input(Some(&[0]), b"", b"", b"message"), 32)?,
+    ];
+    check_different(&rt, &readings);
+    Ok(())
+}
