@@ -41,25 +41,26 @@ abbrev pub given_state : SourceState → ℕ → SourceState
 given_state s n =
     record s { rest = drop n s.rest; before_error = before_error_after s.before_error n }
 
--- a sink over memory: the bytes that it holds, how many more have room, the most that a call takes,
--- how many bytes pass before the error (none: it never comes), and whether a write has failed
+-- a sink over memory: the bytes that it holds at the front of the memory, those behind them, which it
+-- has not written over, the most that a call takes, how many bytes pass before the error (none: it
+-- never comes), and whether a write has failed
 pub record SinkState : Type 0 where
   pub held : List ℕ
-  pub room : ℕ
+  pub rest : List ℕ
   pub most : ℕ
   pub before_error : Option ℕ
   pub failed : Bool
 
 -- how many bytes of a piece of so many a write takes, where it answers no error
 abbrev pub taken_count : SinkState → ℕ → ℕ
-taken_count s size = min (min s.room size) (call_limit s.most s.before_error)
+taken_count s size = min (min (length s.rest) size) (call_limit s.most s.before_error)
 
 -- the sink once it has taken n bytes of a piece; it has failed where these are none of a piece that
 -- is not empty
 abbrev pub taken_state : SinkState → List ℕ → ℕ → SinkState
 taken_state s piece n = record s {
   held = s.held ++ take n piece;
-  room = s.room - n;
+  rest = drop n s.rest;
   before_error = before_error_after s.before_error n;
   failed = s.failed || (n == 0 && nat_lt 0 (length piece));
 }

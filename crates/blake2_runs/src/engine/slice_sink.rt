@@ -9,7 +9,8 @@ use super::device::{DeviceError, Sink};
 use std::marker::Model;
 
 /// A slice as a sink: at most so many bytes a call, and an error once so many have passed. No call
-/// takes a byte past the error; a full slice takes none.
+/// takes a byte past the error; a full slice takes none. The bytes that were taken stand at the
+/// front of the slice, in their order, and those behind them stay as they were.
 #[derive(Drop)]
 pub struct SliceSink<'a> {
     room: &'a mut [u8],
@@ -21,14 +22,14 @@ pub struct SliceSink<'a> {
 }
 
 impl<'a> Model for SliceSink<'a> {
-    ghost use Rattle.std.specs.Prelude.{◌≤◌, ◌-◌, length, take};
+    ghost use Rattle.std.specs.Prelude.{◌≤◌, length, take, drop};
     ghost use Rattle.blake2_runs.specs.Devices.{SinkState};
 
     ghost Value = { SinkState };
 
     ghost view = { λ s. record {
       held = take s.at s.room.now;
-      room = length s.room.now - s.at;
+      rest = drop s.at s.room.now;
       most = s.most;
       before_error = s.before_error;
       failed = s.has_failed;
@@ -44,7 +45,7 @@ impl<'a> SliceSink<'a> {
         requires { 1 ≤ most }
         ensures { result ≡ record {
           held = [];
-          room = length room.old;
+          rest = room.old;
           most = most;
           before_error = fail_at;
           failed = false;
