@@ -112,6 +112,15 @@ pub(crate) fn reading<const S: usize>(
     })
 }
 
+/// The input that a reading tells.
+pub(crate) fn read_input<'a, const S: usize>(read: &'a Reading<S>) -> Input<'a> {
+    let key = match &read.key {
+        Some(key) => Some(key.as_slice()),
+        None => None,
+    };
+    input(key, &read.salt, &read.persona, read.message.as_slice())
+}
+
 /// Takes a short piece, where few bytes are counted so far, and checks the new count.
 pub(crate) fn take<S: Update>(rt: &impl Abort, state: &mut S, piece: &[u8]) {
     let before = state.counted();

@@ -11,6 +11,8 @@ mod cores;
 #[cfg(test)]
 mod derives;
 #[cfg(test)]
+mod forged;
+#[cfg(test)]
 mod hashers;
 #[cfg(test)]
 mod inputs;

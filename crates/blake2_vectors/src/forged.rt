@@ -1,0 +1,318 @@
+//! Long transcripts, and those that were changed in one place: the reader answers nothing, or an
+//! input that has just the changed transcript. How many are read is what
+//! `tools/expected_values.py` finds, under `forged`, and the digests of long ones are its, under
+//! `transcripts`.
+ghost use Rattle.std.specs.Prelude.{◌≤◌};
+
+use crate::inputs::{count_up, input, read_input, take, transcript};
+use blake2::steps::{Entry, Input, Transcript};
+use blake2::{Blake2b256, Blake2bVarCore, Blake2sVarCore, Digest};
+use std::alloc::{AllocError, Global};
+use std::process::Abort;
+
+// The transcripts of a family, whose words are W, in blocks of B bytes.
+trait Steps<W, const B: usize> {
+    // The words with a bit of one of them turned.
+    fn turned(words: &[W; 8], place: usize, bit: usize) -> [W; 8];
+
+    // The transcript of an input that is accepted, at the greatest size.
+    fn written(
+        rt: &impl Abort,
+        alloc: Global,
+        input: &Input<'_>,
+    ) -> Result<Transcript<W, B>, AllocError>;
+
+    // Whether the transcript is read. It is then checked to be that of the input that is read.
+    fn is_read(rt: &impl Abort, alloc: Global, told: &Transcript<W, B>) -> Result<bool, AllocError>;
+}
+
+impl Steps<u64, 128> for Blake2bVarCore {
+    fn turned(words: &[u64; 8], place: usize, bit: usize) -> [u64; 8] {
+        let mut turned = *words;
+        if let Some(word) = turned.get_mut(place) {
+            *word ^= 1u64.wrapping_shl((bit % 64) as u32);
+        }
+        turned
+    }
+
+    fn written(
+        rt: &impl Abort,
+        alloc: Global,
+        input: &Input<'_>,
+    ) -> Result<Transcript<u64, 128>, AllocError> {
+        assert!(rt; Blake2bVarCore::accepts(input));
+        Blake2bVarCore::transcript(alloc, input, 64)
+    }
+
+    fn is_read(
+        rt: &impl Abort,
+        alloc: Global,
+        told: &Transcript<u64, 128>,
+    ) -> Result<bool, AllocError> {
+        let Some(read) = Blake2bVarCore::read_transcript(alloc, told)? else {
+            return Ok(false);
+        };
+        let input = read_input(&read);
+        assert!(rt; Blake2bVarCore::accepts(&input) && read.output_size <= 64);
+        let written = Blake2bVarCore::transcript(alloc, &input, read.output_size)?;
+        assert!(rt; written == *told, "{told:?}");
+        Ok(true)
+    }
+}
+
+impl Steps<u32, 64> for Blake2sVarCore {
+    fn turned(words: &[u32; 8], place: usize, bit: usize) -> [u32; 8] {
+        let mut turned = *words;
+        if let Some(word) = turned.get_mut(place) {
+            *word ^= 1u32.wrapping_shl((bit % 32) as u32);
+        }
+        turned
+    }
+
+    fn written(
+        rt: &impl Abort,
+        alloc: Global,
+        input: &Input<'_>,
+    ) -> Result<Transcript<u32, 64>, AllocError> {
+        assert!(rt; Blake2sVarCore::accepts(input));
+        Blake2sVarCore::transcript(alloc, input, 32)
+    }
+
+    fn is_read(
+        rt: &impl Abort,
+        alloc: Global,
+        told: &Transcript<u32, 64>,
+    ) -> Result<bool, AllocError> {
+        let Some(read) = Blake2sVarCore::read_transcript(alloc, told)? else {
+            return Ok(false);
+        };
+        let input = read_input(&read);
+        assert!(rt; Blake2sVarCore::accepts(&input) && read.output_size <= 32);
+        let written = Blake2sVarCore::transcript(alloc, &input, read.output_size)?;
+        assert!(rt; written == *told, "{told:?}");
+        Ok(true)
+    }
+}
+
+// Whether the transcript is read under these words, with another entry at this place.
+fn is_read_with<C: Steps<W, B>, W: Copy + Drop, const B: usize>(
+    rt: &impl Abort,
+    alloc: Global,
+    told: &Transcript<W, B>,
+    words: [W; 8],
+    place: usize,
+    entry: Entry<B>,
+) -> Result<bool, AllocError>
+    requires { B ≤ 128 }
+{
+    let mut changed = transcript(alloc, words, told.entries.as_slice())?;
+    if let Some(other) = changed.entries.get_mut(place) {
+        *other = entry;
+    }
+    C::is_read(rt, alloc, &changed)
+}
+
+// Whether the transcript is read with the entries at two places in each other's.
+fn is_read_swapped<C: Steps<W, B>, W: Copy + Drop, const B: usize>(
+    rt: &impl Abort,
+    alloc: Global,
+    told: &Transcript<W, B>,
+    i: usize,
+    j: usize,
+) -> Result<bool, AllocError>
+    requires { B ≤ 128 }
+{
+    let mut changed = transcript(alloc, told.words, told.entries.as_slice())?;
+    let entries = changed.entries.as_mut_slice();
+    if i < entries.len() && j < entries.len() {
+        entries.swap(i, j);
+    }
+    C::is_read(rt, alloc, &changed)
+}
+
+// How many transcripts are read of those with one bit of a word turned: of the sizes that the
+// first word begins with, and of the words of salt and persona. The words between are checked
+// alone. A word has B / 2 bits, since a block has sixteen words.
+fn read_words<C: Steps<W, B>, W: Copy + Drop, const B: usize>(
+    rt: &impl Abort,
+    alloc: Global,
+    told: &Transcript<W, B>,
+) -> Result<(u32, u32), AllocError>
+    requires { B ≤ 128 }
+{
+    let mut sizes = 0u32;
+    let mut texts = 0u32;
+    let Some(first) = told.entries.first() else {
+        return Ok((0, 0));
+    };
+    for place in 0..8 {
+        for bit in 0..B / 2 {
+            let words = C::turned(&told.words, place, bit);
+            let is_read = is_read_with::<C, W, B>(rt, alloc, told, words, 0, *first)?;
+            sizes = sizes.saturating_add(u32::from(is_read && place == 0 && bit < 16));
+            texts = texts.saturating_add(u32::from(is_read && place >= 4));
+        }
+    }
+    Ok((sizes, texts))
+}
+
+// How many transcripts are read of those with one bit of an entry turned: of a counter, of a flag,
+// and of a block.
+fn read_entries<C: Steps<W, B>, W: Copy + Drop, const B: usize>(
+    rt: &impl Abort,
+    alloc: Global,
+    told: &Transcript<W, B>,
+) -> Result<(u32, u32, u32), AllocError>
+    requires { B ≤ 128 }
+{
+    let (mut counters, mut flags, mut blocks) = (0u32, 0u32, 0u32);
+    for (place, entry) in told.entries.iter().enumerate() {
+        for bit in 0..64 {
+            let mut other = *entry;
+            other.counter ^= 1u64.wrapping_shl(bit);
+            let is_read = is_read_with::<C, W, B>(rt, alloc, told, told.words, place, other)?;
+            counters = counters.saturating_add(u32::from(is_read));
+        }
+        let mut other = *entry;
+        other.last = !entry.last;
+        let is_read = is_read_with::<C, W, B>(rt, alloc, told, told.words, place, other)?;
+        flags = flags.saturating_add(u32::from(is_read));
+        for bit in 0..8 * B {
+            let mut other = *entry;
+            if let Some(byte) = other.block.get_mut(bit / 8) {
+                *byte ^= 1u8.wrapping_shl((bit % 8) as u32);
+            }
+            let is_read = is_read_with::<C, W, B>(rt, alloc, told, told.words, place, other)?;
+            blocks = blocks.saturating_add(u32::from(is_read));
+        }
+    }
+    Ok((counters, flags, blocks))
+}
+
+// Checks that no other list of the same entries is read: none that lacks its first or its last
+// ones, none that has one of them twice, and none that has two of them in each other's place.
+fn check_other_lists<C: Steps<W, B>, W: Copy + Drop, const B: usize>(
+    rt: &impl Abort,
+    alloc: Global,
+    told: &Transcript<W, B>,
+) -> Result<(), AllocError>
+    requires { B ≤ 128 }
+{
+    let entries = told.entries.as_slice();
+    for (i, first) in entries.iter().enumerate() {
+        let beginning = transcript(alloc, told.words, &entries[..i])?;
+        assert!(rt; !C::is_read(rt, alloc, &beginning)?);
+        let end = transcript(alloc, told.words, &entries[i + 1..])?;
+        assert!(rt; !C::is_read(rt, alloc, &end)?);
+        let mut longer = transcript(alloc, told.words, entries)?;
+        longer.entries.push(*first)?;
+        assert!(rt; !C::is_read(rt, alloc, &longer)?);
+        for j in 0..i {
+            assert!(rt; !is_read_swapped::<C, W, B>(rt, alloc, told, i, j)?);
+        }
+    }
+    Ok(())
+}
+
+// Checks a transcript that is read and all its changes, and how many of these are read.
+fn check_changes<C: Steps<W, B>, W: Copy + Drop, const B: usize>(
+    rt: &impl Abort,
+    alloc: Global,
+    told: &Transcript<W, B>,
+    words: (u32, u32),
+    entries: (u32, u32, u32),
+) -> Result<(), AllocError>
+    requires { B ≤ 128 }
+{
+    assert!(rt; C::is_read(rt, alloc, told)?);
+    assert_eq!(rt; read_words::<C, W, B>(rt, alloc, told)?, words);
+    assert_eq!(rt; read_entries::<C, W, B>(rt, alloc, told)?, entries);
+    check_other_lists::<C, W, B>(rt, alloc, told)
+}
+
+#[test]
+fn read_changed_transcripts(rt: HostRuntime) -> Result<(), AllocError> {
+    let message = [0x2a; 200];
+    for (key, salt, persona, length, words, entries) in [
+        (None, "", "", 128, (1, 256), (0, 0, 1024)),
+        (None, "", "", 129, (1, 256), (6, 0, 1032)),
+        (
+            Some(&[1u8][..]),
+            "abc",
+            "0123456789abcdef",
+            200,
+            (7, 256),
+            (5, 0, 1608),
+        ),
+    ] {
+        assert!(rt; length <= 200);
+        let input = input(key, salt.as_bytes(), persona.as_bytes(), &message[..length]);
+        let told = Blake2bVarCore::written(&rt, rt.alloc(), &input)?;
+        check_changes::<Blake2bVarCore, u64, 128>(&rt, rt.alloc(), &told, words, entries)?;
+    }
+    for (key, salt, persona, length, words, entries) in [
+        (None, "", "", 64, (1, 128), (0, 0, 512)),
+        (None, "", "", 65, (1, 128), (5, 0, 520)),
+        (
+            Some(&[1u8][..]),
+            "abc",
+            "01234567",
+            100,
+            (6, 128),
+            (4, 0, 808),
+        ),
+    ] {
+        assert!(rt; length <= 200);
+        let input = input(key, salt.as_bytes(), persona.as_bytes(), &message[..length]);
+        let told = Blake2sVarCore::written(&rt, rt.alloc(), &input)?;
+        check_changes::<Blake2sVarCore, u32, 64>(&rt, rt.alloc(), &told, words, entries)?;
+    }
+    Ok(())
+}
+
+// The digest of all entries: of each the counter, low byte first, the flag and the block.
+fn digest_of_entries<const B: usize>(
+    rt: &impl Abort,
+    alloc: Global,
+    entries: &[Entry<B>],
+) -> Result<String, AllocError>
+    requires { B ≤ 128 }
+{
+    let mut hasher = Blake2b256::new();
+    for entry in entries {
+        take(rt, &mut hasher, &entry.counter.to_le_bytes());
+        take(rt, &mut hasher, &[u8::from(entry.last)]);
+        take(rt, &mut hasher, &entry.block);
+    }
+    hex::encode(alloc, &hasher.finalize()[..])
+}
+
+#[test]
+fn read_long_transcripts(rt: HostRuntime) -> Result<(), AllocError> {
+    let alloc = rt.alloc();
+    let mut message = [0; 5000];
+    count_up(&mut message);
+    for (key, of_blake2b, of_blake2s) in [
+        (
+            None,
+            "627c8498d916e3c73578b3d3a0867789b206876e18b85c6df87fd17b6ef61cf2",
+            "c41cdc40bb9aa198750f6166224cf6da97940a05281ff7770bc948b695cdf0ed",
+        ),
+        (
+            Some(&b"key"[..]),
+            "39dfbca685e20c68df095466a71ddbe744b8709eceb51e17c600634eeeade99c",
+            "b3c7f5521bfe970ac92d42852d1a70abbce5df9be93269d4ed4797656fa93b21",
+        ),
+    ] {
+        let input = input(key, b"abc", b"", &message);
+        let told = Blake2bVarCore::written(&rt, alloc, &input)?;
+        assert!(rt; Blake2bVarCore::is_read(&rt, alloc, &told)?);
+        let digest = digest_of_entries(&rt, alloc, told.entries.as_slice())?;
+        assert_eq!(rt; digest.as_str(), of_blake2b);
+        let told = Blake2sVarCore::written(&rt, alloc, &input)?;
+        assert!(rt; Blake2sVarCore::is_read(&rt, alloc, &told)?);
+        let digest = digest_of_entries(&rt, alloc, told.entries.as_slice())?;
+        assert_eq!(rt; digest.as_str(), of_blake2s);
+    }
+    Ok(())
+}
