@@ -118,7 +118,10 @@ pub(crate) fn read_input<'a, const S: usize>(read: &'a Reading<S>) -> Input<'a> 
         Some(key) => Some(key.as_slice()),
         None => None,
     };
-    input(key, &read.salt, &read.persona, read.message.as_slice())
+    Input {
+        tree: read.tree,
+        ..input(key, &read.salt, &read.persona, read.message.as_slice())
+    }
 }
 
 /// Takes a short piece, where few bytes are counted so far, and checks the new count.

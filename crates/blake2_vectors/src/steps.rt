@@ -161,7 +161,8 @@ fn read_no_input_from_other_words(rt: HostRuntime) -> Result<(), AllocError> {
     let entries = [entry(&[0x2a; 128], 128, true)];
     for (first, second, is_read) in [
         (0x01010040, 0, true),
-        (0x01010040, 1, false),
+        // the node offset 1 of a tree
+        (0x01010040, 1, true),
         (0x01014140, 0, false),
     ] {
         let words = [first, second, 0, 0, 0, 0, 0, 0];
