@@ -1,11 +1,11 @@
 -- Runs from a parameter block that is given as bytes, whatever stands in its fields.
 use Rattle.std.specs.Prelude.{◌≡◌, ℕ, ◌*◌, ◌<◌, ◌≢◌, ◌⊎◌, List, length, take, slice_index}
-use Rattle.blake2_rows.specs.Family.{Family, word_bytes, output_bytes, key_bytes, start_words}
+use Rattle.blake2_rows.specs.Family.{Family, word_bytes, output_bytes, key_bytes, iv}
 use Rattle.blake2_words.specs.Hash.{words_of, xor_words, bytes_of, last_chain, final}
 
 -- h[0..7] before the first block: the words of the block xored into the IV (RFC 7693, 3.3)
 abbrev pub block_start : Family → List ℕ → List ℕ
-block_start f block = xor_words (start_words f) (words_of f 8 block)
+block_start f block = xor_words (iv f) (words_of f 8 block)
 
 -- the digest of the data z, in which a key's block stands first, of as many bytes as the block's
 -- first byte says
