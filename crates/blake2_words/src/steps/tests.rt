@@ -1,20 +1,39 @@
-//! Each call once, with ample memory. The expected words are those of the parameter block (the BLAKE2
-//! document, 2.8), byte by byte.
+//! Each call once, with ample memory. The expected words are those of the parameter block (the
+//! BLAKE2 document, 2.8), byte by byte.
 
-use super::{Entry, Input, Reading, Transcript, blake2b, blake2s};
+use super::{Entry, Input, Transcript, blake2b, blake2s};
 use crate::laws;
 use std::process::Abort;
 use std::test::Fail;
 
+// An input of these parts.
+fn input<'a>(
+    key: Option<&'a [u8]>,
+    salt: &'a [u8],
+    persona: &'a [u8],
+    message: &'a [u8],
+) -> Input<'a> {
+    Input {
+        salt,
+        persona,
+        key,
+        message,
+    }
+}
+
+// An entry of these parts.
+fn entry(block: [u8; 128], counter: u64, last: bool) -> Entry<128> {
+    Entry {
+        block,
+        counter,
+        last,
+    }
+}
+
 #[test]
 fn keyed_blake2b_and_back(rt: HostRuntime) -> Result<(), Fail> {
     let message = [0x2a; 200];
-    let input = Input {
-        salt: b"abc",
-        persona: b"0123456789abcdef",
-        key: Some(&[1]),
-        message: &message,
-    };
+    let input = input(Some(&[1]), b"abc", b"0123456789abcdef", &message);
     assert!(rt; blake2b::accepts(&input));
     let written = blake2b::transcript(rt.alloc(), &input, 64)?;
     assert_eq!(rt;
@@ -43,15 +62,8 @@ fn keyed_blake2b_and_back(rt: HostRuntime) -> Result<(), Fail> {
     assert_eq!(rt; read.output_size, 64);
     assert_eq!(rt; read.salt, *b"abc\0\0\0\0\0\0\0\0\0\0\0\0\0");
     assert_eq!(rt; read.persona, *b"0123456789abcdef");
-    let Reading {
-        output_size: _,
-        salt: _,
-        persona: _,
-        key,
-        message: read_message,
-    } = read;
-    assert_eq!(rt; read_message.as_slice(), message.as_slice());
-    let Some(key) = key else {
+    assert_eq!(rt; read.message.as_slice(), message.as_slice());
+    let Some(key) = &read.key else {
         return Err(Fail::from("no key"));
     };
     assert_eq!(rt; key.as_slice(), [1].as_slice());
@@ -64,12 +76,7 @@ fn keyed_blake2s_and_back(rt: HostRuntime) -> Result<(), Fail> {
     for (i, byte) in key.iter_mut().enumerate() {
         *byte = i as u8;
     }
-    let input = Input {
-        salt: b"",
-        persona: b"personal",
-        key: Some(&key),
-        message: b"",
-    };
+    let input = input(Some(&key), b"", b"personal", b"");
     assert!(rt; blake2s::accepts(&input));
     let written = blake2s::transcript(rt.alloc(), &input, 32)?;
     assert_eq!(rt;
@@ -100,19 +107,11 @@ fn of_two_blocks(
     counter: u64,
 ) -> Result<Transcript<u64, 128>, Fail> {
     let mut entries = Vec::new(rt.alloc());
-    entries.push(Entry {
-        block: [0x2a; 128],
-        counter: 128,
-        last: both_last,
-    })?;
+    entries.push(entry([0x2a; 128], 128, both_last))?;
     let mut block = [0; 128];
     block[0] = 0x2a;
     block[127] = last_byte;
-    entries.push(Entry {
-        block,
-        counter,
-        last: true,
-    })?;
+    entries.push(entry(block, counter, true))?;
     Ok(Transcript {
         words: [0x01010040, 0, 0, 0, 0, 0, 0, 0],
         entries,
