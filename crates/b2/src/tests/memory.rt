@@ -65,8 +65,13 @@ fn check_refusals(
     let mut refused = 0u32;
     let mut last_status = 1;
     for tries in 0..1024usize {
-        let (status, written) =
-            run_with_memory(rt.alloc(), words.as_slice(), input, &mut room, 16 * tries)?;
+        let (status, written) = run_with_memory(
+            rt.alloc(),
+            words.as_slice(),
+            input,
+            &mut room,
+            16 * tries,
+        )?;
         last_status = status;
         let printed = str::from_utf8(room.get(..written).unwrap_or(b""))?;
         if status == 1 {
