@@ -1,6 +1,7 @@
-//! Inputs at once against the digests of Python's hashlib, each of 16 bytes, as a number, high byte first.
+//! Inputs at once against the digests of Python's hashlib, each of 16 bytes, as a number, high byte
+//! first.
 use crate::many::blake2b::{accepts_four, hash_four};
-use crate::steps::Input;
+use crate::steps::{Input, Tree};
 
 // The bytes of text j: they count up from 40j, and begin anew after 250.
 fn text(j: u8) -> [u8; 4096] {
@@ -11,22 +12,27 @@ fn text(j: u8) -> [u8; 4096] {
     text
 }
 
-fn unkeyed<'a>(salt: &'a [u8], persona: &'a [u8], message: &'a [u8]) -> Input<'a> {
+fn input<'a>(
+    key: Option<&'a [u8]>,
+    salt: &'a [u8],
+    persona: &'a [u8],
+    message: &'a [u8],
+) -> Input<'a> {
     Input {
         salt,
         persona,
-        key: None,
+        key,
+        tree: Tree::sequential(),
         message,
     }
 }
 
+fn unkeyed<'a>(salt: &'a [u8], persona: &'a [u8], message: &'a [u8]) -> Input<'a> {
+    input(None, salt, persona, message)
+}
+
 fn keyed<'a>(key: &'a [u8], message: &'a [u8]) -> Input<'a> {
-    Input {
-        salt: b"",
-        persona: b"",
-        key: Some(key),
-        message,
-    }
+    input(Some(key), b"", b"", message)
 }
 
 // The digests, where the inputs are accepted.
@@ -217,30 +223,15 @@ fn hash_four_with_keys(rt: HostRuntime) {
     ] {
         assert!(rt; n <= 4096);
         let inputs = [
-            Input {
-                salt: b"",
-                persona: b"",
-                key: Some(&key[0..]),
-                message: &a[..n],
-            },
-            Input {
-                salt: b"salt",
-                persona: b"",
-                key: Some(&key[1..]),
-                message: &b[..n],
-            },
-            Input {
-                salt: b"",
-                persona: b"persona",
-                key: Some(&key[2..]),
-                message: &c[..n],
-            },
-            Input {
-                salt: b"0123456789abcdef",
-                persona: b"fedcba9876543210",
-                key: Some(&key[3..]),
-                message: &d[..n],
-            },
+            input(Some(&key[0..]), b"", b"", &a[..n]),
+            input(Some(&key[1..]), b"salt", b"", &b[..n]),
+            input(Some(&key[2..]), b"", b"persona", &c[..n]),
+            input(
+                Some(&key[3..]),
+                b"0123456789abcdef",
+                b"fedcba9876543210",
+                &d[..n],
+            ),
         ];
         assert_eq!(rt; digests(&inputs), Some(expected));
     }
