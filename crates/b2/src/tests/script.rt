@@ -1,13 +1,16 @@
 //! `b2 script`.
-use super::memory::run_with_memory;
-use super::{prints, refuses, run_over, stops_at_each_byte, words_of};
-use std::alloc::{AllocError, Global};
+use super::{check_prints, check_run, run_over};
+use std::process::Abort;
 use std::test::Fail;
 
-// Whether `script b512` over these lines prints this line alone and answers status 2.
-fn is_wrong(alloc: Global, lines: &str, line: &str) -> Result<bool, AllocError> {
-    let (status, output) = run_over(alloc, "script b512", lines.as_bytes(), None)?;
-    Ok(status == 2 && output.as_slice() == line.as_bytes())
+// Checks that `script b512` over these lines prints this line alone, with status 2.
+pub(super) fn check_wrong(
+    rt: &(impl Abort + AllocGlobal),
+    lines: &[u8],
+    line: &str,
+) -> Result<(), Fail> {
+    let run = run_over(rt.alloc(), "script b512", lines, None)?;
+    check_run(rt, "script b512", run, 2, line)
 }
 
 const NOTHING: &str =
@@ -18,23 +21,13 @@ const ABC: &str =
 
 #[test]
 fn prints_digests_of_hashers(rt: HostRuntime) -> Result<(), Fail> {
-    let alloc = rt.alloc();
     let lines = b"u 0 6162\nc 0\nu 0 63\nd 0\nu 1 63\nf 1\nf 0\n";
-    assert!(rt;
-        prints(alloc, "script b512", lines, &[(ABC, 2), (NOTHING, 1)])?,
-        "two slots"
-    );
+    check_prints(&rt, "script b512", lines, &[(ABC, 2), (NOTHING, 1)])?;
     let lines = b"c 0\nf 0\nu 1 616263\nf 1";
-    assert!(rt;
-        prints(alloc, "script b512", lines, &[(NOTHING, 1), (ABC, 1)])?,
-        "a copy first"
-    );
-    assert!(rt; prints(alloc, "script b512", b"", &[])?, "no lines");
+    check_prints(&rt, "script b512", lines, &[(NOTHING, 1), (ABC, 1)])?;
+    check_prints(&rt, "script b512", b"", &[])?;
     let lines = b"u 0 -\nu 0 61\nu 0 -\nu 0 6263\nf 0\n";
-    assert!(rt;
-        prints(alloc, "script b512", lines, &[(ABC, 1)])?,
-        "updates of no bytes"
-    );
+    check_prints(&rt, "script b512", lines, &[(ABC, 1)])?;
     let lines = b"u 0 61\nr 0\nu 0 616263\nd 0\nf 0";
     let digests = [
         (
@@ -46,62 +39,53 @@ fn prints_digests_of_hashers(rt: HostRuntime) -> Result<(), Fail> {
             1,
         ),
     ];
-    assert!(rt; prints(alloc, "script b256", lines, &digests)?, "a reset");
+    check_prints(&rt, "script b256", lines, &digests)?;
     Ok(())
 }
 
 #[test]
 fn prints_digests_of_macs(rt: HostRuntime) -> Result<(), Fail> {
     let alloc = rt.alloc();
-    assert!(rt;
-        prints(
-            alloc,
-            "script s256 key=000102030405060708090a0b0c0d0e0f101112131415161718191a1b1c1d1e1f persona=706572736f6e616c",
-            b"u 0 61\nr 0\nd 0\nc 0\nf 1\n",
-            &[(
-                "25a4ee63b594aed3f88a971e1877ef7099534f9097291f88fb86c79b5e70d022\n",
-                2
-            )],
-        )?,
-        "a key and a persona"
-    );
+    check_prints(
+        &rt,
+        "script s256 key=000102030405060708090a0b0c0d0e0f101112131415161718191a1b1c1d1e1f persona=706572736f6e616c",
+        b"u 0 61\nr 0\nd 0\nc 0\nf 1\n",
+        &[(
+            "25a4ee63b594aed3f88a971e1877ef7099534f9097291f88fb86c79b5e70d022\n",
+            2,
+        )],
+    )?;
     // 129 bytes and one in two slots, where the key's block is counted again after each reset.
     let mut lines = Vec::from_slice(alloc, b"u 0 ")?;
     for _ in 0..129 {
         lines.extend_from_slice(b"2A")?;
     }
     lines.extend_from_slice(b"\nc 0\nu 1 61\nd 1\nd 1\nu 1 616263\nf 1\n")?;
-    assert!(rt;
-        prints(
-            alloc,
-            "script b128 key=0102 salt=73616c74 persona=706572736f6e61",
-            lines.as_slice(),
-            &[
-                ("f055cd4f78d84ef3b1c58a2cb973a879\n", 1),
-                ("9a490e8f665edbf75387b5f17a336560\n", 1),
-                ("64e477c9f5c0ba5bd0d2d41455c1fb48\n", 1),
-            ],
-        )?,
-        "all options"
-    );
+    check_prints(
+        &rt,
+        "script b128 key=0102 salt=73616c74 persona=706572736f6e61",
+        lines.as_slice(),
+        &[
+            ("f055cd4f78d84ef3b1c58a2cb973a879\n", 1),
+            ("9a490e8f665edbf75387b5f17a336560\n", 1),
+            ("64e477c9f5c0ba5bd0d2d41455c1fb48\n", 1),
+        ],
+    )?;
     let mut lines = Vec::from_slice(alloc, b"u 0 ")?;
     for _ in 0..65 {
         lines.extend_from_slice(b"2a")?;
     }
     lines.extend_from_slice(b"\nc 0\nu 1 2b\nf 0\nd 1\nf 1")?;
-    assert!(rt;
-        prints(
-            alloc,
-            "script s128 key=0102",
-            lines.as_slice(),
-            &[
-                ("b82a29201f546a895fc507144be994dc\n", 1),
-                ("f812936ed5d452b46bb462084ebfaeb4\n", 1),
-                ("289fffba168826124638ec07d7383848\n", 1),
-            ],
-        )?,
-        "a key"
-    );
+    check_prints(
+        &rt,
+        "script s128 key=0102",
+        lines.as_slice(),
+        &[
+            ("b82a29201f546a895fc507144be994dc\n", 1),
+            ("f812936ed5d452b46bb462084ebfaeb4\n", 1),
+            ("289fffba168826124638ec07d7383848\n", 1),
+        ],
+    )?;
     Ok(())
 }
 
@@ -144,33 +128,27 @@ fn names_wrong_lines(rt: HostRuntime) -> Result<(), Fail> {
         "uu 0 61",
         "cf 0",
     ] {
-        assert!(rt; names_line(rt.alloc(), line)?, "{line}");
+        check_line(&rt, line)?;
     }
     // Wrong lines are found before any call.
-    assert!(rt; is_wrong(rt.alloc(), "f 0\nf 0\nx 0", "b2: line 3: wrong line\n")?);
-    assert!(rt; is_wrong(rt.alloc(), "f 0\n\n", "b2: line 2: wrong line\n")?);
-    assert!(rt; is_wrong(rt.alloc(), "\n", "b2: line 1: wrong line\n")?);
+    check_wrong(&rt, b"f 0\nf 0\nx 0", "b2: line 3: wrong line\n")?;
+    check_wrong(&rt, b"f 0\n\n", "b2: line 2: wrong line\n")?;
+    check_wrong(&rt, b"\n", "b2: line 1: wrong line\n")?;
     Ok(())
 }
 
-// Whether the line is the wrong one where it stands first, and where eleven lines stand before it.
-fn names_line(alloc: Global, line: &str) -> Result<bool, AllocError> {
-    let mut text = Vec::from_slice(alloc, line.as_bytes())?;
-    text.extend_from_slice(b"\nf 0\n")?;
-    let (first_status, first) = run_over(alloc, "script s256", text.as_slice(), None)?;
-    let mut text = Vec::new(alloc);
+// Checks that the line is the wrong one where it stands first, and where eleven lines stand before
+// it.
+fn check_line(rt: &(impl Abort + AllocGlobal), line: &str) -> Result<(), Fail> {
+    let first = format!(in rt.alloc(); "{line}\nf 0\n")?;
+    check_wrong(rt, first.as_bytes(), "b2: line 1: wrong line\n")?;
+    let mut later = String::new(rt.alloc());
     for _ in 0..11 {
-        text.extend_from_slice(b"c 0\n")?;
+        later.push_str("c 0\n")?;
     }
-    text.extend_from_slice(line.as_bytes())?;
-    text.extend_from_slice(b"\nx 0\n")?;
-    let (status, output) = run_over(alloc, "script s256", text.as_slice(), None)?;
-    Ok(
-        first_status == 2
-            && first.as_slice() == "b2: line 1: wrong line\n".as_bytes()
-            && status == 2
-            && output.as_slice() == "b2: line 12: wrong line\n".as_bytes(),
-    )
+    later.push_str(line)?;
+    later.push_str("\nx 0\n")?;
+    check_wrong(rt, later.as_bytes(), "b2: line 12: wrong line\n")
 }
 
 #[test]
@@ -186,77 +164,7 @@ fn names_absent_slots(rt: HostRuntime) -> Result<(), Fail> {
             "b2: line 5: no such slot\n",
         ),
     ] {
-        assert!(rt; is_wrong(rt.alloc(), lines, line)?, "{lines}");
+        check_wrong(&rt, lines.as_bytes(), line)?;
     }
-    Ok(())
-}
-
-#[test]
-fn refuses_words(rt: HostRuntime) -> Result<(), Fail> {
-    for (words, line) in [
-        ("script", "b2: wrong words\n"),
-        ("script b0", "b2: wrong words\n"),
-        ("script b512 foo", "b2: wrong words\n"),
-        ("script b512 key=01 key=02", "b2: wrong words\n"),
-        ("script b512 key=1", "b2: wrong hex\n"),
-        ("script b512 key=", "b2: wrong length\n"),
-        ("script s256 salt=000000000000000000", "b2: wrong length\n"),
-        (
-            "script b128 persona=0000000000000000000000000000000000",
-            "b2: wrong length\n",
-        ),
-    ] {
-        assert!(rt; refuses(rt.alloc(), words, line)?, "{words}");
-    }
-    Ok(())
-}
-
-#[test]
-fn input_fails(rt: HostRuntime) -> Result<(), Fail> {
-    let (status, output) = run_over(rt.alloc(), "script b512", b"f 0\nf 0\n", Some(4))?;
-    assert_eq!(rt; output.as_slice(), "b2: read failed\n".as_bytes());
-    assert_eq!(rt; status, 1);
-    Ok(())
-}
-
-#[test]
-fn output_fails(rt: HostRuntime) -> Result<(), Fail> {
-    let lines = b"u 0 6162\nc 0\nu 0 63\nd 0\nu 1 63\nf 1\nf 0\n";
-    assert!(rt; stops_at_each_byte(rt.alloc(), "script b512", lines)?);
-    assert!(rt; stops_at_each_byte(rt.alloc(), "script b128", b"d 0\nu 0 61\nf 0\n")?);
-    assert!(rt; stops_at_each_byte(rt.alloc(), "script s128 key=01", b"d 0\nf 0\n")?);
-    assert!(rt; stops_at_each_byte(rt.alloc(), "script s128", b"f 0\nf 0\n")?);
-    assert!(rt; stops_at_each_byte(rt.alloc(), "script s128", b"f 0\nx 0\n")?);
-    Ok(())
-}
-
-#[test]
-fn each_request_for_memory_refused(rt: HostRuntime) -> Result<(), Fail> {
-    let words = words_of(rt.alloc(), "script b128")?;
-    let mut refused = 0u32;
-    for step in 0..64usize {
-        let mut room = [0u8; 128];
-        let (status, written) = run_with_memory(
-            rt.alloc(),
-            words.as_slice(),
-            b"u 0 616263\nd 0\nu 0 616263\nf 0\n",
-            &mut room,
-            128 * step,
-        )?;
-        let printed = room.get(..written);
-        if status == 1 {
-            assert_eq!(rt; printed, Some("b2: no memory\n".as_bytes()));
-            refused = refused.saturating_add(1);
-        } else {
-            assert_eq!(rt; status, 0);
-            assert_eq!(rt;
-                printed,
-                Some(
-                    "cf4ab791c62b8d2b2109c90275287816\ncf4ab791c62b8d2b2109c90275287816\n".as_bytes()
-                )
-            );
-        }
-    }
-    assert!(rt; 0 < refused && refused < 64, "{refused} refused");
     Ok(())
 }

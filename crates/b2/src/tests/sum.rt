@@ -1,6 +1,5 @@
 //! `b2 sum`.
-use super::memory::run_with_memory;
-use super::{run_over, stops_at_each_byte, words_of};
+use super::{check_run, run_over};
 use std::test::Fail;
 
 #[test]
@@ -69,98 +68,8 @@ fn prints_digests(rt: HostRuntime) -> Result<(), Fail> {
             "305503b3fd96fc116777b5540ba5a752f7990bed41eb996fecf5cd6179a8d38c\n",
         ),
     ] {
-        let (status, output) = run_over(rt.alloc(), words, input.as_bytes(), None)?;
-        assert_eq!(rt; output.as_slice(), line.as_bytes(), "{words}");
-        assert_eq!(rt; status, 0, "{words}");
+        let run = run_over(rt.alloc(), words, input.as_bytes(), None)?;
+        check_run(&rt, words, run, 0, line)?;
     }
-    Ok(())
-}
-
-#[test]
-fn refuses_words(rt: HostRuntime) -> Result<(), Fail> {
-    for (words, line) in [
-        ("", "b2: wrong words\n"),
-        ("sum", "b2: wrong words\n"),
-        ("add b512", "b2: wrong words\n"),
-        ("sum foo", "b2: wrong words\n"),
-        ("sum b0", "b2: wrong words\n"),
-        ("sum b999", "b2: wrong words\n"),
-        ("sum B512", "b2: wrong words\n"),
-        ("sum b512 foo", "b2: wrong words\n"),
-        ("sum b512 key", "b2: wrong words\n"),
-        ("sum b512 Key=01", "b2: wrong words\n"),
-        ("sum b512 =01", "b2: wrong words\n"),
-        ("sum b512 key=01 key=02", "b2: wrong words\n"),
-        ("sum b512 key=01 key=0", "b2: wrong words\n"),
-        ("sum b512 key= foo", "b2: wrong words\n"),
-        ("sum b512 salt=1", "b2: wrong hex\n"),
-        ("sum b512 salt=1 foo", "b2: wrong hex\n"),
-        ("sum b512 salt=0g", "b2: wrong hex\n"),
-        ("sum b512 persona=01=2", "b2: wrong hex\n"),
-        ("sum b512 key=", "b2: wrong length\n"),
-        ("sum s256 salt=000000000000000000", "b2: wrong length\n"),
-        ("sum s256 persona=000000000000000000", "b2: wrong length\n"),
-        (
-            "sum s256 key=000102030405060708090a0b0c0d0e0f101112131415161718191a1b1c1d1e1f20",
-            "b2: wrong length\n",
-        ),
-        (
-            "sum b512 salt=0000000000000000000000000000000000",
-            "b2: wrong length\n",
-        ),
-    ] {
-        // An input that fails at once shows that it is not read.
-        let (status, output) = run_over(rt.alloc(), words, b"", Some(0))?;
-        assert_eq!(rt; output.as_slice(), line.as_bytes(), "{words}");
-        assert_eq!(rt; status, 2, "{words}");
-    }
-    Ok(())
-}
-
-#[test]
-fn input_fails(rt: HostRuntime) -> Result<(), Fail> {
-    let (status, output) = run_over(rt.alloc(), "sum b512", &[b'a'; 200], Some(100))?;
-    assert_eq!(rt; output.as_slice(), "b2: read failed\n".as_bytes());
-    assert_eq!(rt; status, 1);
-    Ok(())
-}
-
-#[test]
-fn output_fails(rt: HostRuntime) -> Result<(), Fail> {
-    assert!(rt; stops_at_each_byte(rt.alloc(), "sum b512", b"abc")?);
-    assert!(rt; stops_at_each_byte(rt.alloc(), "sum s128 key=01", b"abc")?);
-    assert!(rt; stops_at_each_byte(rt.alloc(), "sum b999", b"abc")?);
-    Ok(())
-}
-
-#[test]
-fn each_request_for_memory_refused(rt: HostRuntime) -> Result<(), Fail> {
-    let words = words_of(
-        rt.alloc(),
-        "sum b128 key=0102 salt=73616c74 persona=706572736f6e61",
-    )?;
-    let mut refused = 0u32;
-    for step in 0..16usize {
-        let mut room = [0u8; 64];
-        let (status, written) = run_with_memory(
-            rt.alloc(),
-            words.as_slice(),
-            b"abc",
-            &mut room,
-            16 * step,
-        )?;
-        let printed = room.get(..written);
-        if status == 1 {
-            assert_eq!(rt; printed, Some("b2: no memory\n".as_bytes()));
-            refused = refused.saturating_add(1);
-        } else {
-            assert_eq!(rt; status, 0);
-            assert_eq!(rt;
-                printed,
-                Some("64e477c9f5c0ba5bd0d2d41455c1fb48\n".as_bytes())
-            );
-        }
-    }
-    assert!(rt; 0 < refused && refused < 16, "{refused} refused");
     Ok(())
 }

@@ -1,0 +1,84 @@
+//! Inputs of more than a MiB, and scripts of ten thousand lines. The lines and digests over the
+//! input are those of `tools/expected_values.py`, under `large`.
+use super::script::check_wrong;
+use super::{check_run, run_over};
+use blake2::{Blake2b256, Digest};
+use std::alloc::{AllocError, Global};
+use std::process::Abort;
+use std::test::Fail;
+
+// The bytes of the input.
+const INPUT_BYTES: usize = (1 << 20) + 1;
+
+// KIND; the line of `sum` over the input; and the digest of what `steps` prints over it.
+const DIGESTS: &str = "\
+b512|25cc597182fb9b2840c188ae8a2007569ec0b11ca2dfd9447d5eb94b15f9a0c791f40cff82758849a753b43d04f5f526916a7f22f58d6e1fa821a18d1b0cea15|ba782512d614cdf586cde39246f29debda06e28076897c476d3b91edb15dc6f2\n\
+s256|5b6a9e00d9e93e5e5702a6a6f6853905a79f10243d6883f9d49b5e32c43ff310|f506f03008633ed93b4adae5c5ca1cbb9a51ec0ae2958ae4766f69c7cc268be9\n\
+";
+
+// Byte i is i modulo 251.
+fn large_input(alloc: Global) -> Result<Vec<u8>, AllocError> {
+    let mut input = Vec::with_capacity(alloc, INPUT_BYTES)?;
+    for i in 0..INPUT_BYTES {
+        input.push((i % 251) as u8)?;
+    }
+    Ok(input)
+}
+
+#[test]
+fn takes_a_large_input(rt: HostRuntime) -> Result<(), Fail> {
+    let alloc = rt.alloc();
+    let input = large_input(alloc)?;
+    let digits = hex::encode(alloc, input.as_slice())?;
+    let script = format!(in alloc; "u 0 {digits}\nf 0\n")?;
+    for row in DIGESTS.lines() {
+        let (kind, digests) = row.split_once('|').ok_or("a row without digests")?;
+        let (digest, steps_digest) = digests.split_once('|').ok_or("a row with one digest")?;
+        let line = format!(in alloc; "{digest}\n")?;
+        let words = format!(in alloc; "sum {kind}")?;
+        let run = run_over(alloc, words.as_str(), input.as_slice(), None)?;
+        check_run(&rt, words.as_str(), run, 0, line.as_str())?;
+        let words = format!(in alloc; "script {kind}")?;
+        let run = run_over(alloc, words.as_str(), script.as_bytes(), None)?;
+        check_run(&rt, words.as_str(), run, 0, line.as_str())?;
+        let words = format!(in alloc; "steps {kind}")?;
+        let (status, output) = run_over(alloc, words.as_str(), input.as_slice(), None)?;
+        let found = hex::encode(alloc, &Blake2b256::digest(output.as_slice())[..])?;
+        assert_eq!(rt; found.as_str(), steps_digest, "b2 {words}");
+        assert_eq!(rt; status, 0, "b2 {words}");
+    }
+    let words = format!(in alloc; "witness b512 {digits} {digits}")?;
+    let run = run_over(alloc, words.as_str(), b"", None)?;
+    check_run(&rt, "witness b512", run, 0, "none\n")
+}
+
+// A script of ten thousand lines, of which the one at this place, from 0, is another.
+fn script_with(alloc: Global, place: usize, line: &str, other: &str) -> Result<String, AllocError> {
+    let mut script = String::new(alloc);
+    for i in 0..10_000 {
+        script.push_str(if i == place { other } else { line })?;
+        script.push_str("\n")?;
+    }
+    Ok(script)
+}
+
+#[test]
+fn names_a_line_of_ten_thousand(rt: HostRuntime) -> Result<(), Fail> {
+    let alloc = rt.alloc();
+    for place in [
+        0, 1, 8, 9, 98, 99, 999, 1023, 1024, 4095, 4096, 5000, 8999, 9998, 9999,
+    ] {
+        for (line, other, cause) in [
+            ("u 0 61", "u 0 6", "wrong line"),
+            ("d 0", "", "wrong line"),
+            ("c 0", "c 00", "wrong line"),
+            ("u 0 6162", "u 10001 61", "no such slot"),
+            ("r 0", "f 99999", "no such slot"),
+        ] {
+            let script = script_with(alloc, place, line, other)?;
+            let fault = format!(in alloc; "b2: line {}: {cause}\n", place + 1)?;
+            check_wrong(&rt, script.as_bytes(), fault.as_str())?;
+        }
+    }
+    Ok(())
+}
