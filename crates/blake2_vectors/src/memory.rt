@@ -131,7 +131,7 @@ fn read_no_input_without_memory(rt: HostRuntime) -> Result<(), Fail> {
         told.push(transcript(alloc, words, &[entry(&block, 128, first_is_last), last])?)?;
     }
     for words in [
-        [0x01010040, 1, 0, 0, 0, 0, 0, 0],
+        [0x01010040, 0, 0x10000, 0, 0, 0, 0, 0],
         [0x01014140, 0, 0, 0, 0, 0, 0, 0],
     ] {
         told.push(transcript(alloc, words, &[entry(&block, 128, true)])?)?;
