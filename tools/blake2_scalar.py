@@ -15,7 +15,7 @@ class Words:
     """The numbers of a family that its computation needs (2.1, 2.6; the BLAKE2 document, 2.8)."""
     bits: int
     rounds: int
-    turns: tuple  # R1 to R4
+    rotations: tuple  # by how many bits G rotates, in its order (2.1)
     start: tuple  # IV
     code: str  # of a word, for struct
     offset: str  # the code of the node offset
@@ -66,7 +66,7 @@ def mix(words, v, places, x, y):
     def turned(word, by):
         return (word >> by | word << words.bits - by) & mask
 
-    for term, by_d, by_b in ((x, *words.turns[:2]), (y, *words.turns[2:])):
+    for term, by_d, by_b in ((x, *words.rotations[:2]), (y, *words.rotations[2:])):
         v[a] = (v[a] + v[b] + term) & mask
         v[d] = turned(v[d] ^ v[a], by_d)
         v[c] = (v[c] + v[d]) & mask

@@ -1,5 +1,6 @@
-//! Several messages of one length at once, one in each lane of the vectors: on a processor with vectors of
-//! 256 bits four take little longer than one.
+//! Several messages of one length at once, one in each lane of the vectors: on a processor with
+//! vectors of 256 bits (x86-64-v3) four took about two thirds of the time of one after the other.
+//! With vectors of 128 bits there is no gain.
 //!
 //! ```rust
 //! use blake2::many;

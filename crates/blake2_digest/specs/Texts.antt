@@ -1,5 +1,5 @@
--- Texts: lists of bytes. A number of a definition has no upper bound, so that a list has bytes only is said of it. A byte has 8
--- bits (RFC 7693, section 2.4).
+-- Texts: lists of bytes. A number of a definition has no upper bound, so that a list has bytes
+-- only is said of it. A byte has 8 bits (RFC 7693, section 2.4).
 use Rattle.std.specs.Prelude.{ℕ, ◌-◌, ◌<◌, List, ◌++◌, length, replicate, slice_index}
 
 -- every element is a byte

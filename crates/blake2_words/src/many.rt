@@ -1,5 +1,5 @@
-//! Several messages of one length at once, one in each lane of the vectors: a processor computes them in
-//! little more time than one, since the steps of a single compression wait for each other.
+//! Several messages of one length at once, one in each lane of the vectors. The steps of a single
+//! compression wait for each other; those of several messages don't.
 
 pub mod blake2b;
 
