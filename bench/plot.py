@@ -1,5 +1,5 @@
-"""A plot of speed by the length of the message as SVG, written without a plotting library. No program of
-its own: bench/speed.py hands it what it has measured.
+"""A plot of speed by lengths as SVG, written without a plotting library. No program of its own:
+bench/speed.py and bench/callers.py hand it what they have measured.
 """
 from xml.sax.saxutils import escape
 
@@ -8,6 +8,8 @@ from xml.sax.saxutils import escape
 STYLES = {
     "ours: `blake2`, x86-64-v3": ("#d55e00", 3, ""),
     "ours: `blake2`, x86-64-v2": ("#d55e00", 3, "8 4"),
+    "ours from C": ("#d55e00", 3, ""),
+    "ours from Rust": ("#d55e00", 3, "8 4"),
     "blake2_simd": ("#0072b2", 2, ""),
     "libb2": ("#009e73", 2, ""),
     "OpenSSL's EVP": ("#cc79a7", 2, ""),
@@ -46,8 +48,9 @@ def curve(points, style):
             'stroke-linejoin="round"/>')
 
 
-def panel(left, title, lengths, speeds, most):
-    """The axes of one hash function, and a line for each candidate that is measured at all lengths.
+def panel(left, title, below, lengths, speeds, most):
+    """The axes of one hash function, with the text below, and a line for each candidate that is measured at
+    all lengths.
 
     The lengths are powers of two, at even distances; speeds go from 0 to `most` tenths of GB/s.
     """
@@ -62,7 +65,7 @@ def panel(left, title, lengths, speeds, most):
         if place % 2 == 0:
             x, _ = at(place, 0)
             parts += [line(x, TOP, x, TOP + HEIGHT), text(x, TOP + HEIGHT + 18, length_text(length))]
-    parts.append(text(left + PANEL / 2, TOP + HEIGHT + 38, "bytes of the message"))
+    parts.append(text(left + PANEL / 2, TOP + HEIGHT + 38, below))
     for name, style in reversed(STYLES.items()):
         if name in speeds:
             parts.append(curve([at(place, speeds[name][length]) for place, length in enumerate(lengths)], style))
@@ -82,8 +85,9 @@ def legend(names, width):
     return parts
 
 
-def svg(lengths, panels):
-    """The plot: for each title of a panel the speeds in GB/s by the names of candidates and by lengths."""
+def svg(lengths, panels, below):
+    """The plot: for each title of a panel the speeds in GB/s by the names of candidates and by lengths. The
+    text below the axes says what has these lengths."""
     most = max(speed for speeds in panels.values() for by_length in speeds.values() for speed in by_length.values())
     most = 2 * int(most * 5 + 1)
     width = LEFT + len(panels) * PANEL + (len(panels) - 1) * GAP + 24
@@ -91,7 +95,7 @@ def svg(lengths, panels):
     parts = [f'<rect width="{width}" height="{height}" fill="white"/>',
              text(16, TOP + HEIGHT / 2, "GB/s", more=f' transform="rotate(-90 16 {TOP + HEIGHT / 2:.0f})"')]
     for place, (title, speeds) in enumerate(panels.items()):
-        parts += panel(LEFT + place * (PANEL + GAP), title, lengths, speeds, most)
+        parts += panel(LEFT + place * (PANEL + GAP), title, below, lengths, speeds, most)
     parts += legend({name for speeds in panels.values() for name in speeds}, width)
     inside = "\n".join(parts)
     return (f'<svg xmlns="http://www.w3.org/2000/svg" viewBox="0 0 {width} {height}" width="{width}" '

@@ -8,6 +8,10 @@ Tables, as Markdown on standard output, and a plot:
   no start of Python.
 - kernel: one message of 1 MiB in memory, digested again and again.
 - short: messages of 0, 64 and 1,024 bytes in memory, digested again and again.
+- several: four messages of BLAKE2b-512 and eight of BLAKE2s-256, each of 64, 1,024 and 4,096 bytes, digested
+  one after another and at once, by this project and by blake2_simd (hash_many).
+- tree: the roots of trees with leaves of 4 KiB, 64 KiB and 1 MiB over one message of 16 MiB in memory, beside
+  one stream over it; blake2_simd's root hashes its leaves by `hash_many`.
 - plot: messages of 64 bytes to 1 MiB in memory, at each power of two.
 
 With --write all of them go into the documents: the tables to docs/SPEED.md, between its two marks, and the
@@ -30,7 +34,7 @@ libssl-dev, and librust-blake2b-simd-dev with librust-blake2s-simd-dev.
 
 It needs Python 3.11 or later, whose hashlib has file_digest.
 
-usage: bench/speed.py [--mebibytes N] [--turns N] [--only long|kernel|short | --write]
+usage: bench/speed.py [--mebibytes N] [--turns N] [--only long|kernel|short|several|tree | --write]
 """
 import ctypes
 import functools
@@ -49,6 +53,7 @@ from typing import Callable
 TOP = os.path.dirname(os.path.dirname(os.path.abspath(__file__)))
 sys.path.insert(0, os.path.join(TOP, "tools"))
 from blake2_kinds import FAMILIES, KINDS, Parser, at_least  # noqa: E402
+from blake2_tree import tree_root  # noqa: E402
 import plot  # noqa: E402
 
 PAGE = os.path.join(TOP, "docs", "SPEED.md")
@@ -59,9 +64,15 @@ OUT = os.path.join(TOP, "bench", "out")
 CPUS = ("x86-64-v2", "x86-64-v3")
 KERNEL_BYTES = 1 << 20
 SHORT_BYTES = (0, 64, 1024)
+SEVERAL_BYTES = (64, 1024, 4096)
+SEVERAL = {"b512": 4, "s256": 8}  # how many messages at once
+TREE_MEBIBYTES = 16  # of the message
+TREE_LEAVES = (1 << 12, 1 << 16, 1 << 20)
+SEVERAL_CRATES = ("blake2_digest", "blake2_rows", "blake2_words", "blake2_runs", "blake2")
 PLOT_BYTES = tuple(1 << power for power in range(6, 21))
 TURN_NANOSECONDS = 2e6  # of one timing in memory, at least
 MEMORY_TURNS = 50  # timings in memory for each turn over the file, at the lengths of the tables
+TREE_TURNS = 2  # timings of roots for each turn over the file
 PLOT_TURNS = 25  # and at the lengths of the plot alone
 DEBIAN_CRATES = ["--config", 'source.crates-io.replace-with="debian"',
                  "--config", 'source.debian.directory="/usr/share/cargo/registry"']
@@ -133,6 +144,33 @@ def built(crate, verb, words, made, cpu):
     if not good:
         sys.exit(f"speed: {crate} was not built: " + (output.splitlines() or [""])[-1])
     return shutil.copy(os.path.join(folder, "out", made), os.path.join(OUT, f"{cpu}-{made}"))
+
+
+def several_built(cpu):
+    """Builds the library of several messages (peers/several.rt.in) for the processor, over a copy of the
+    crates in bench/out, and answers the path of a shared library."""
+    say(f"proving and building several messages at once for {cpu} (minutes, where nothing is kept of the proof)")
+    root = os.path.join(OUT, "several")
+    for crate in SEVERAL_CRATES:
+        kept, copy = os.path.join(TOP, "crates", crate), os.path.join(root, "crates", crate)
+        for part in ("src", "specs", "proofs"):
+            shutil.rmtree(os.path.join(copy, part), ignore_errors=True)
+            shutil.copytree(os.path.join(kept, part), os.path.join(copy, part))
+        if os.path.isdir(os.path.join(kept, "out")) and not os.path.isdir(os.path.join(copy, "out")):
+            shutil.copytree(os.path.join(kept, "out"), os.path.join(copy, "out"))
+    folder = os.path.join(root, "crates", "several")
+    for part in ("src", "specs", "proofs"):
+        os.makedirs(os.path.join(folder, part), exist_ok=True)
+    shutil.copy(os.path.join(PEERS, "several.rt.in"), os.path.join(folder, "src", "lib.rt"))
+    with open(os.path.join(TOP, "crates.txt")) as file:
+        lines = [line for line in file if line.split(":")[0] in SEVERAL_CRATES]
+    with open(os.path.join(root, "crates.txt"), "w") as file:
+        file.writelines(lines + ["several staticlib: blake2 blake2_digest blake2_rows blake2_words\n"])
+    good, output = outcome(["rt", "lib", "--cpu", cpu], folder)
+    if not good:
+        sys.exit("speed: several messages were not built: " + (output.splitlines() or [""])[-1])
+    archive = os.path.join(folder, "out", "libseveral.a")
+    return shared(cpu + "-several.so", ["-Wl,--whole-archive", archive, "-Wl,--no-whole-archive"])
 
 
 def compiled(name, words):
@@ -325,19 +363,31 @@ def python_loop(kind, message):
     return loop
 
 
+@functools.cache
+def clock_in_c():
+    """The function in C that times a loop of digests."""
+    path = shared("clock.so", [os.path.join(PEERS, "clock.c")])
+    if path is None:
+        sys.exit("speed: the tables in memory need a C compiler (cc)")
+    clock = ctypes.CDLL(path).nanoseconds
+    clock.restype = ctypes.c_double
+    clock.argtypes = [ctypes.c_void_p, ctypes.c_void_p, ctypes.c_size_t, ctypes.c_char_p, ctypes.c_long]
+    return clock
+
+
+def through_python(kind, message):
+    """The timer of hashlib's digests of a message as a Python program gets them."""
+    return {"hashlib through Python": loop_timer(python_loop(kind, message))}
+
+
 class Memory:
     """What is timed in memory, and the clock in C that times it."""
 
-    def __init__(self, turns):
-        path = shared("clock.so", [os.path.join(PEERS, "clock.c")])
-        if path is None:
-            sys.exit("speed: the tables in memory need a C compiler (cc)")
-        self.clock = ctypes.CDLL(path).nanoseconds
-        self.clock.restype = ctypes.c_double
-        self.clock.argtypes = [ctypes.c_void_p, ctypes.c_void_p, ctypes.c_size_t, ctypes.c_char_p,
-                               ctypes.c_long]
+    def __init__(self, turns, found, beside=lambda kind, message: {}):
+        self.clock = clock_in_c()
         self.turns = turns
-        self.libraries = libraries()
+        self.libraries = found
+        self.beside = beside  # from a kind and a message to more timers by their names
         self.measured = {}
 
     def loop(self, name, kind, message, length):
@@ -366,7 +416,7 @@ class Memory:
         message = mmap.mmap(-1, max(length, 1))
         message[:] = os.urandom(len(message))
         timers = {name: loop_timer(self.loop(name, kind, message, length)) for name in self.libraries}
-        timers["hashlib through Python"] = loop_timer(python_loop(kind, message[:length]))
+        timers |= self.beside(kind, message[:length])
         in_a_table = length in SHORT_BYTES or length == KERNEL_BYTES
         return best_of(self.turns * (MEMORY_TURNS if in_a_table else PLOT_TURNS), timers)
 
@@ -448,23 +498,116 @@ def short_table(kind, memory):
     return table(f"one {kind.title} digest", columns)
 
 
-def picture(memory):
-    """The plot of speed by length as SVG."""
+def several_functions():
+    """The functions that write the digests of several messages, by their names and their kinds' words."""
+    found = {}
+    for cpu in CPUS:
+        path = several_built(cpu)
+        found[f"ours: one after another, {cpu}"] = functions_of(path, "each_")
+        found[f"ours: at once, {cpu}"] = functions_of(path, "several_")
+    path = blake2_simd()[1]
+    if path:
+        found["blake2_simd: one after another"] = functions_of(path, "each_")
+        found["blake2_simd: `hash_many`"] = functions_of(path, "several_")
+    return found
+
+
+def several_loop(clock, name, function, kind, messages):
+    """The loop in C over the digests of several messages, once they are seen to be right."""
+    count, size = SEVERAL[kind.word], kind.bits // 8
+    length = len(messages) // count
+    address = ctypes.addressof(ctypes.c_char.from_buffer(messages))
+    out = ctypes.create_string_buffer(count * size)
+
+    def loop(turns):
+        return clock(ctypes.cast(function, ctypes.c_void_p), address, len(messages), out, turns)
+    loop(1)
+    parts = (messages[j * length:(j + 1) * length] for j in range(count))
+    if out.raw != b"".join(hashlib.new(kind.algorithm, part).digest() for part in parts):
+        sys.exit(f"speed: {name} gave other digests of {count} messages of {length} bytes")
+    return loop
+
+
+def several_table(kind, clock, functions, turns):
+    """The table of several messages at once."""
+    columns = []
+    for length in SEVERAL_BYTES:
+        say(f"timing several messages at {kind.title} of {length:,} bytes")
+        messages = bytearray(os.urandom(SEVERAL[kind.word] * length))
+        timers = {name: loop_timer(several_loop(clock, name, found[kind.word], kind, messages))
+                  for name, found in functions.items()}
+        best = best_of(turns * MEMORY_TURNS, timers)
+        columns.append(Column(f"{length:,} bytes, ns", best, "{:.0f}".format))
+    return table(f"{SEVERAL[kind.word]} messages of {kind.title}", columns)
+
+
+def tree_functions():
+    """The functions that write a digest of a message, by their names: roots of trees and single digests."""
+    roots, single = {}, {}
+    for cpu in CPUS:
+        archive = built("blake2_c", "lib", [], "libblake2_c.a", cpu)
+        path = shared(cpu + "-tree.so", [os.path.join(PEERS, "tree.c"), "-Wl,--whole-archive", archive,
+                                         "-Wl,--no-whole-archive"])
+        roots[f"ours: root, {cpu}"] = ctypes.CDLL(path)
+        single[f"ours: one stream, {cpu}"] = ctypes.CDLL(path).blake2_c_blake2b512
+    path = blake2_simd()[1]
+    if path:
+        roots["blake2_simd: root by `hash_many`"] = ctypes.CDLL(path)
+        single["blake2_simd: one stream"] = ctypes.CDLL(path).blake2b512
+    return roots, single
+
+
+def tree_timer(name, function, message, wanted):
+    """The timer of a function in C over a message, once it is seen to give the wanted digest."""
+    address = ctypes.addressof(ctypes.c_char.from_buffer(message))
+    out = ctypes.create_string_buffer(64)
+
+    def timer():
+        return clock_in_c()(ctypes.cast(function, ctypes.c_void_p), address, len(message), out, 1)
+    timer()
+    if out.raw != wanted:
+        sys.exit(f"speed: {name} gave another digest")
+    return timer
+
+
+def tree_table(turns):
+    """The table of roots of trees of BLAKE2b beside one stream, over one message."""
+    roots, single = tree_functions()
+    columns = []
+    with random_file(TREE_MEBIBYTES) as file:
+        file.seek(0)
+        message = bytearray(file.read())
+        digest = hashlib.blake2b(message).digest()
+        timers = {name: tree_timer(name, function, message, digest) for name, function in single.items()}
+        if shutil.which("b2sum"):
+            timers["`b2sum` over the file, with its start"] = program_timer(["b2sum"], file)
+        for leaf in TREE_LEAVES:
+            say(f"timing roots over leaves of {leaf:,} bytes")
+            root = tree_root(bytes(message), leaf, 64)
+            for name, library in roots.items():
+                library.set_leaf(ctypes.c_size_t(leaf))
+                timers[name] = tree_timer(name, library.tree_blake2b512, message, root)
+            columns.append(Column(f"leaves of {leaf:,} bytes, GB/s", best_of(turns, timers), rate(len(message))))
+    return table(f"{TREE_MEBIBYTES} MiB", columns)
+
+
+def picture(places, label, bytes_at, best_at):
+    """A plot of speed as SVG: of each kind at each place, so many bytes in the best time of each candidate."""
     panels = {}
     for kind in TIMED:
-        best = {length: memory.best(kind, length) for length in PLOT_BYTES}
-        panels[kind.title] = {name: {length: length / best[length][name] for length in PLOT_BYTES}
-                              for name in best[PLOT_BYTES[0]]}
-    return plot.svg(PLOT_BYTES, panels)
+        best = {place: best_at(kind, place) for place in places}
+        panels[kind.title] = {name: {place: bytes_at(place) / best[place][name] for place in places}
+                              for name in best[places[0]]}
+    return plot.svg(places, panels, label)
 
 
-def write_page(parts):
-    """Puts the parts between the marks of docs/SPEED.md."""
+def write_page(parts, marks):
+    """Puts the parts between these marks of docs/SPEED.md."""
     with open(PAGE) as file:
-        before, rest = file.read().split(MARKS[0])
-        _, after = rest.split(MARKS[1])
+        before, rest = file.read().split(marks[0])
+        _, after = rest.split(marks[1])
     with open(PAGE, "w") as file:
-        file.write(before + MARKS[0] + "\n" + "\n".join(parts) + "\n" + MARKS[1] + after)
+        file.write(before + marks[0] + "\n" + "\n".join(parts) + "\n" + marks[1] + after)
 
 
 def machine():
@@ -491,7 +634,7 @@ def options_given():
     parser.add_argument("--mebibytes", type=at_least(1), default=512, help="the size of the file (512)")
     parser.add_argument("--turns", type=at_least(1), default=6, help="how often each program is timed (6)")
     which = parser.add_mutually_exclusive_group()
-    which.add_argument("--only", choices=("long", "kernel", "short"), help="one part alone")
+    which.add_argument("--only", choices=("long", "kernel", "short", "several", "tree"), help="one part alone")
     which.add_argument("--write", action="store_true", help="put all into docs/SPEED.md and docs/speed.svg")
     return parser.parse_args()
 
@@ -501,20 +644,24 @@ def parts_of(options):
     yield heading(options)
     if options.only in (None, "long"):
         yield with_load(long_table(options))
-    if options.only == "long":
-        return
-    memory = Memory(options.turns)
+    if options.only in (None, "kernel", "short"):
+        memory = Memory(options.turns, libraries(), through_python)
     if options.only in (None, "kernel"):
         yield with_load(kernel_table(memory))
     if options.only in (None, "short"):
         yield from (with_load(short_table(kind, memory)) for kind in TIMED)
+    if options.only in (None, "several"):
+        functions = several_functions()
+        yield from (with_load(several_table(kind, clock_in_c(), functions, options.turns)) for kind in TIMED)
+    if options.only in (None, "tree"):
+        yield with_load(tree_table(options.turns * TREE_TURNS))
     if options.write:
         with open(PICTURE, "w") as file:
-            file.write(picture(memory))
+            file.write(picture(PLOT_BYTES, "bytes of the message", lambda length: length, memory.best))
 
 
-def main():
-    options = options_given()
+def run(options, parts_of, marks):
+    """Measures the parts, prints each, and with --write puts them into the page."""
     if not shutil.which("rt"):
         sys.exit("speed: the toolchain's command rt is not on the PATH")
     if sys.version_info < (3, 11):
@@ -525,7 +672,11 @@ def main():
         print(part, flush=True)
         parts.append(part)
     if options.write:
-        write_page(parts)
+        write_page(parts, marks)
+
+
+def main():
+    run(options_given(), parts_of, MARKS)
 
 
 if __name__ == "__main__":

@@ -1,23 +1,24 @@
 #!/usr/bin/env bash
 # Tests the library as its callers in C, C++, Python and Rust meet it:
 #
-#   c/run_tests.sh [--cpu CPU] [--library FILE]
+#   c/run_tests.sh [--cpu CPU] [--after-ci] [--library FILE]
 #
-# It installs the library in a folder of its own (c/install.sh), or takes the archive FILE. A test whose
-# tool is absent is skipped, and a line says so. The last line counts, and the status is 0 where no test
-# failed.
+# It installs the library in a folder of its own (c/install.sh, which says what the first two words are),
+# or takes the archive FILE. A test whose tool is absent is skipped, and a line says so. The last line
+# counts, and the status is 0 where no test failed.
 set -u
 top=$(dirname "$(dirname "$(readlink -f "$0")")")
 work=$(mktemp -d)
 trap 'rm -rf "$work"' EXIT
 prefix=$work/prefix
 passed=0 failed=0 skipped=0
-words=() library=
+cpu=() after_ci=() library=
 while [ $# -gt 0 ]; do
     case $1 in
-        --cpu) words=(--cpu "$2"); shift 2 ;;
+        --cpu) cpu=(--cpu "$2"); shift 2 ;;
+        --after-ci) after_ci=(--after-ci); shift ;;
         --library) library=$(readlink -f "$2"); shift 2 ;;
-        *) echo "usage: c/run_tests.sh [--cpu CPU] [--library FILE]" >&2; exit 2 ;;
+        *) echo "usage: c/run_tests.sh [--cpu CPU] [--after-ci] [--library FILE]" >&2; exit 2 ;;
     esac
 done
 
@@ -81,6 +82,8 @@ compile_and_run() {
 # A hundred cases of each kind, which valgrind takes in seconds.
 run_in_valgrind() {
     { grep ^h "$work/cases_$family" | awk 'NR % 8 == 0' | head -80
+      grep ^n "$work/cases_$family" | head -20
+      grep ^r "$work/cases_$family" | head -20
       grep ^t "$work/cases_$family" | head -20; } >"$work/few"
     compile "$work/test_plain" -O1 $(family_words "$family") &&
         valgrind -q --error-exitcode=9 --leak-check=full "$work/test_plain" "$work/few"
@@ -102,14 +105,38 @@ wanted_of_readme() {
     python3 -c 'import hashlib; print(hashlib.blake2b(b"hello world", digest_size=32, key=b"key").hexdigest())'
 }
 
-c_example() {
-    block_of_readme c >"$work/hello.c"
+# Compiles and links a program as its author would, by pkg-config where that is there.
+link_by_pkg_config() {
     local words=(-I"$include" "$archive")
     if has pkg-config && [ -z "$library" ]; then
-        words=($(PKG_CONFIG_PATH=$prefix/lib/pkgconfig pkg-config --cflags --libs blake2_c))
+        words=($(PKG_CONFIG_PATH=$prefix/lib/pkgconfig pkg-config --cflags --libs blake2_c)) || return 1
     fi
-    cc "$work/hello.c" "${words[@]}" -o "$work/hello" && "$work/hello" >"$work/said" &&
+    cc -O2 "${warnings[@]}" "$1" "${words[@]}" -o "$2"
+}
+
+c_example() {
+    block_of_readme c >"$work/hello.c"
+    link_by_pkg_config "$work/hello.c" "$work/hello" && "$work/hello" >"$work/said" &&
         diff "$work/said" <(wanted_of_readme)
+}
+
+# The lines of b2sum for these files.
+wanted_of_sum() {
+    python3 -c 'import hashlib, sys
+for name in sys.argv[1:]:
+    print(hashlib.blake2b(open(name, "rb").read()).hexdigest(), "", name)' "$@"
+}
+
+# The program of c/examples over files of several lengths, over standard input, and over what can't be read.
+sum_example() {
+    local length sum=$work/sum
+    link_by_pkg_config "$top/c/examples/sum.c" "$sum" && mkdir -p "$work/sums" && cd "$work/sums" || return 1
+    for length in 0 1 128 129 65536 65537 200000; do
+        head -c $length /dev/urandom >file_$length || return 1
+    done
+    "$sum" file_* >said && wanted_of_sum file_* >wanted && diff said wanted || return 1
+    "$sum" <file_200000 >said && sed -n 's/file_200000$/-/p' wanted | diff said - || return 1
+    ! "$sum" file_1 absent . file_0 >said && wanted_of_sum file_1 file_0 | diff said -
 }
 
 python_example() {
@@ -151,7 +178,7 @@ rust_tests() {
 if [ -n "$library" ]; then
     check "the archive $library" take_archive || finish
 elif has rt; then
-    check "install.sh" "$top/c/install.sh" "${words[@]}" "$prefix" || finish
+    check "install.sh" "$top/c/install.sh" "${cpu[@]}" "${after_ci[@]}" "$prefix" || finish
 else
     skip "all tests" "the toolchain's command rt is not on the PATH"
     finish
@@ -174,7 +201,7 @@ else
         skip "the headers in C++" "no C++ compiler c++"
     fi
     if ! has python3; then
-        skip "the known answers and the examples of c/README.md" "no python3"
+        skip "the known answers and the examples" "no python3"
     else
         echo 'int main(void) { return 0; }' >"$work/empty.c"
         for family in b s; do
@@ -191,8 +218,9 @@ else
                 skip "test.c, blake2$family, in valgrind" "no valgrind"
             fi
         done
-        check "the example in C" c_example
-        check "the example in Python" python_example
+        check "the example in C of c/README.md" c_example
+        check "the program c/examples/sum.c" sum_example
+        check "the example in Python of c/README.md" python_example
     fi
     if ! has apt-get; then
         skip "libb2's own tests" "no apt-get to fetch its source with"
@@ -205,10 +233,10 @@ fi
 
 # ---- Rust
 
-if ! [ -d "$top/rust" ]; then
-    :
-elif ! has cargo; then
+if ! has cargo; then
     skip "the crate in Rust" "no cargo"
+elif ! has cc; then
+    skip "the crate in Rust" "no C compiler cc to link with"
 elif ! [ -s "$work/cases_b" ]; then
     skip "the crate in Rust" "no python3 for its known answers"
 else

@@ -50,12 +50,27 @@ MIXINGS = ((0, 4, 8, 12), (1, 5, 9, 13), (2, 6, 10, 14), (3, 7, 11, 15),
 
 
 @dataclass(frozen=True)
+class Tree:
+    """The place of a hash in a tree (the BLAKE2 document, 2.10): at first that of a hash which is the whole tree."""
+    fanout: int = 1
+    depth: int = 1
+    leaf_length: int = 0
+    node_offset: int = 0
+    node_depth: int = 0
+    inner_length: int = 0
+
+
+SEQUENTIAL = Tree()
+
+
+@dataclass(frozen=True)
 class Step:
-    """What one compression is given: the eight chaining words, the counter, the final flag and the block."""
+    """What one compression is given: the eight chaining words, the counter, the flags and the block."""
     chain: tuple
     counter: int
     last: bool
     block: bytes
+    last_node: bool = False
 
 
 def mix(words, v, places, x, y):
@@ -82,6 +97,7 @@ def compress(family, step):
     v[12] ^= step.counter & mask
     v[13] ^= step.counter >> words.bits
     v[14] ^= mask if step.last else 0
+    v[15] ^= mask if step.last_node else 0
     for i in range(words.rounds):
         row = SIGMA[i % 10]
         for j, places in enumerate(MIXINGS):
@@ -89,11 +105,13 @@ def compress(family, step):
     return tuple(h ^ low ^ high for h, low, high in zip(step.chain, v[:8], v[8:]))
 
 
-def parameter_words(family, size, key=b"", salt=b"", persona=b""):
-    """The eight words of the parameter block of sequential use (2.5; the BLAKE2 document, 2.8)."""
+def parameter_words(family, size, key=b"", salt=b"", persona=b"", tree=SEQUENTIAL):
+    """The eight words of the parameter block (2.5; the BLAKE2 document, 2.8)."""
     words, texts = WORDS[family], f"{FAMILIES[family].salt}s" * 2
     block = struct.pack(f"<BBBBI{words.offset}BB{words.reserved}x{texts}",
-                        size, len(key), 1, 1, 0, b"", 0, 0, salt, persona)
+                        size, len(key), tree.fanout, tree.depth, tree.leaf_length,
+                        tree.node_offset.to_bytes(8, "little"), tree.node_depth, tree.inner_length,
+                        salt, persona)
     return struct.unpack("<8" + words.code, block)
 
 
@@ -108,30 +126,49 @@ def blocks(family, key, message):
         yield counter, last, data[place * width:counter].ljust(width, b"\0")
 
 
-def steps(family, size, message, key=b"", salt=b"", persona=b""):
+def steps(family, size, message, key=b"", salt=b"", persona=b"", tree=SEQUENTIAL, last_node=False):
     """The steps that make a digest of so many bytes, and the chaining words behind the last of them (3.3)."""
     chain = tuple(iv ^ word for iv, word in zip(WORDS[family].start,
-                                                parameter_words(family, size, key, salt, persona)))
+                                                parameter_words(family, size, key, salt, persona, tree)))
     made = []
     for counter, last, block in blocks(family, key, message):
-        made.append(Step(chain, counter, last, block))
+        made.append(Step(chain, counter, last, block, last and last_node))
         chain = compress(family, made[-1])
     return made, chain
 
 
-def digest(family, size, message, key=b"", salt=b"", persona=b""):
+def digest(family, size, message, key=b"", salt=b"", persona=b"", tree=SEQUENTIAL, last_node=False):
     """BLAKE2 (3.3)."""
-    _, chain = steps(family, size, message, key, salt, persona)
+    _, chain = steps(family, size, message, key, salt, persona, tree, last_node)
     return struct.pack("<8" + WORDS[family].code, *chain)[:size]
 
 
+def hashlib_tree(tree, last_node):
+    """The same place under the names that hashlib's functions take."""
+    return {"fanout": tree.fanout, "depth": tree.depth, "leaf_size": tree.leaf_length,
+            "node_offset": tree.node_offset, "node_depth": tree.node_depth, "inner_size": tree.inner_length,
+            "last_node": last_node}
+
+
+def random_tree(source, family):
+    """A place in a tree, each number as large as its field of the parameter block."""
+    return Tree(source.randrange(256), source.randrange(1, 256), source.randrange(2**32),
+                source.randrange(2**(8 * int(WORDS[family].offset[0]))), source.randrange(256),
+                source.randint(0, FAMILIES[family].key))
+
+
 def check(source):
-    """Ends the program where a digest differs from hashlib's, over random inputs at every size of digest."""
+    """Ends the program where a digest differs from hashlib's, over random inputs and places in trees at every
+    size of digest."""
     for family, numbers in FAMILIES.items():
         for size in range(1, numbers.key + 1):
             message = source.randbytes(source.randrange(4 * numbers.block))
             key = source.randbytes(source.randint(0, numbers.key))
             salt, persona = (source.randbytes(source.randint(0, numbers.salt)) for _ in range(2))
-            wanted = numbers.function(message, digest_size=size, key=key, salt=salt, person=persona)
-            if digest(family, size, message, key, salt, persona) != wanted.digest():
+            tree, last_node = random_tree(source, family), source.random() < 0.5
+            for place, is_last in ((SEQUENTIAL, False), (tree, last_node)):
+                wanted = numbers.function(message, digest_size=size, key=key, salt=salt, person=persona,
+                                          **hashlib_tree(place, is_last))
+                if digest(family, size, message, key, salt, persona, place, is_last) == wanted.digest():
+                    continue
                 sys.exit(f"blake2_scalar: another digest than hashlib's, BLAKE2{family} of {size} bytes")

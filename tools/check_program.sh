@@ -71,6 +71,9 @@ long_key=$(printf '42%.0s' {1..64})
 zeros=$(printf '00%.0s' {1..127})
 start="s 6a09e667f2bdc908 bb67ae8584caa73b 3c6ef372fe94f82b a54ff53a5f1d36f1"
 start="$start 510e527fade682d1 9b05688c2b3e6c1f 1f83d9abfb41bd6b 5be0cd19137e2179"
+root=14b0752e3ca5c2b4f5df98dcb4fab97caeda23424260d531f9b0b52310bb58ee
+root=${root}cb6e13211a8298c3e52d543a21efa545053f3006100629ff6bd181611b38f8c8
+root_of_parts=ece6ceb0305d1bf7a0dce3f6a9abe1720d59d063c8b5d7f1def3f93b0196ae44
 words="w 0000000001010040$(printf ' 0000000000000000%.0s' {1..7})"
 
 # Each command, with status 0.
@@ -84,6 +87,9 @@ says 0 "" script s256
 over a 0 "$words\ne 1 1 61$zeros" steps b512
 says 0 "$start 1 1 61$zeros\n$start 1 1 62$zeros" witness b0 61 62
 says 0 none witness b512 616263 -
+over abcde 0 "$root" tree b512 4
+over abcde 0 "$root_of_parts" tree b256 4 persona=70 salt=0102
+says 0 5abb265af975bd803708b70db42bd302 tree b128 4
 
 # Wrong words: none, empty ones, unknown ones, one missing, one more than are taken.
 says 2 "b2: wrong words"
@@ -114,6 +120,17 @@ done
 # The first wrong word is the one that is told, wherever it stands.
 says 2 "b2: wrong words" sum b512 key=01 salt=02 persona=03 1 2 3 4 5
 says 2 "b2: wrong hex" sum b512 key=01 salt=02 persona=0 1 2 3 4 5
+says 2 "b2: wrong words" tree
+says 2 "b2: wrong words" tree s256 4
+says 2 "b2: wrong words" tree b512
+for leaf in 0 04 4294967296 -1 4k ""; do
+    says 2 "b2: wrong words" tree b512 "$leaf"
+done
+says 2 "b2: wrong words" tree b512 4 key=01
+says 2 "b2: wrong words" tree b512 4 salt=01 salt=02
+says 2 "b2: wrong hex" tree b512 4 salt=1
+says 2 "b2: wrong length" tree b512 4 salt="$(printf '00%.0s' {1..17})"
+says 2 "b2: wrong length" tree b512 4294967295 persona="$(printf '00%.0s' {1..17})"
 says 2 "b2: wrong words" witness
 says 2 "b2: wrong words" witness b512
 says 2 "b2: wrong words" witness b512 61
@@ -140,6 +157,8 @@ for command in sum script steps; do
     "$program" "$command" s256 key=01 <"$room" >"$room/output" 2>"$room/errors"
     ended "b2 $command s256 key=01, its input a directory" "$?" 1 "b2: read failed"
 done
+"$program" tree b512 4 <&- >"$room/output" 2>"$room/errors"
+ended "b2 tree b512 4, its input closed" "$?" 1 "b2: read failed"
 # `witness` and wrong words read no input.
 "$program" witness b512 61 62 <&- >"$room/output" 2>"$room/errors"
 ended "b2 witness b512 61 62, its input closed" "$?" 0 none
@@ -148,7 +167,7 @@ ended "b2 sum b512 foo, its input closed" "$?" 2 "b2: wrong words"
 
 # An output that takes nothing: a full one, and a closed one. Nothing more is printed.
 : >"$room/output"
-for words in "sum b512" "script b512" "steps s256" "witness b512 61 62" "sum" "add"; do
+for words in "sum b512" "script b512" "steps s256" "tree b512 4" "witness b512 61 62" "sum" "add"; do
     # shellcheck disable=SC2086
     printf 'f 0\n' | "$program" $words >/dev/full 2>"$room/errors"
     ended "b2 $words, its output full" "$?" 1 ""

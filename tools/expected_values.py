@@ -12,7 +12,8 @@ import itertools
 import struct
 
 from blake2_kinds import FAMILIES, KINDS, Parser
-from blake2_scalar import WORDS, blocks, parameter_words
+from blake2_scalar import WORDS, Tree, blocks, hashlib_tree, parameter_words
+from blake2_tree import tree_root
 from compare_steps import lines
 
 ALPHABET = bytes(i % 251 for i in range(6000))
@@ -103,11 +104,13 @@ def options():
 
 def large():
     """large: over 1,048,577 bytes, byte i being i modulo 251: the line of `sum`, and the digest of what
-    `steps` prints."""
+    `steps` prints; and the line of `tree b256` for each length of a leaf."""
     message = bytes(i % 251 for i in range(2**20 + 1))
     for kind, (family, size) in KINDS.items():
         text = transcript_text(family, size, message)
         print(f"  {kind}: {blake2(family, size, message).hex()}, {len(text)} bytes, {digest(text)}")
+    for leaf in (1, 64, 1000, 4096, 20000, 2**20, 2**20 + 1, 2**26):
+        print(f"  {leaf}: {tree_root(message, leaf, 32).hex()}")
 
 
 def collisions():
@@ -123,20 +126,27 @@ def collisions():
 
 
 def reading(family, words, entries):
-    """What a transcript is read as (size, key, salt, persona, message); None where it is of no input."""
+    """What a transcript is read as (size, key, salt, persona, message, last node), where it is of a hash which
+    is the whole tree; None where it is of no such input."""
     numbers = FAMILIES[family]
     block = struct.pack("<8" + WORDS[family].code, *words)
     size, key_size, texts = block[0], block[1], block[-2 * numbers.salt:]
     if size > numbers.key or key_size > numbers.key or not entries:
         return None
-    data = b"".join(block for _, _, block in entries)[:entries[-1][0]]
+    data = b"".join(block for _, _, _, block in entries)[:entries[-1][0]]
     key, message = (data[:key_size], data[numbers.block:]) if key_size else (b"", data)
     salt, persona = texts[:numbers.salt], texts[numbers.salt:]
     if len(key) < key_size or parameter_words(family, size, key, salt, persona) != tuple(words):
         return None
-    if list(blocks(family, key, message)) != entries:
+    last_node = entries[-1][2]
+    if flagged(blocks(family, key, message), last_node) != entries:
         return None
-    return size, key, salt, persona, message
+    return size, key, salt, persona, message, last_node
+
+
+def flagged(cut, last_node):
+    """The entries of these blocks: counter, final flag, last-node flag and bytes of each."""
+    return [(counter, last, last and last_node, block) for counter, last, block in cut]
 
 
 def with_bit(number, bit):
@@ -155,26 +165,26 @@ def changed_words(family, words, entries):
 def changed_entries(family, words, entries):
     """The same of each bit of the counters, of the flags and of the blocks."""
     counters = flags = changed_blocks = 0
-    for place, (counter, last, block) in enumerate(entries):
+    for place, (counter, last, last_node, block) in enumerate(entries):
         def is_read(*entry):
             return reading(family, words, [*entries[:place], entry, *entries[place + 1:]]) is not None
-        counters += sum(is_read(with_bit(counter, bit), last, block) for bit in range(64))
-        flags += is_read(counter, not last, block)
+        counters += sum(is_read(with_bit(counter, bit), last, last_node, block) for bit in range(64))
+        flags += is_read(counter, not last, last_node, block) + is_read(counter, last, not last_node, block)
         number = int.from_bytes(block, "little")
-        changed_blocks += sum(is_read(counter, last, with_bit(number, bit).to_bytes(len(block), "little"))
+        changed_blocks += sum(is_read(counter, last, last_node, with_bit(number, bit).to_bytes(len(block), "little"))
                               for bit in range(8 * len(block)))
     return counters, flags, changed_blocks
 
 
 def forged():
     """forged: of the transcripts with one bit changed, how many have a reading: by one of the first 16 bits
-    of word 0, by one of words 4 to 7, of a counter, of a flag and of a block."""
+    of word 0, by one of words 4 to 7, of a counter, of the two flags and of a block."""
     for family, length, persona in (("b", 200, b"0123456789abcdef"), ("s", 100, b"01234567")):
         width, size = FAMILIES[family].block, FAMILIES[family].key
         for key, salt, persona, length in ((b"", b"", b"", width), (b"", b"", b"", width + 1),
                                            (b"\x01", b"abc", persona, length)):
             words = list(parameter_words(family, size, key, salt, persona))
-            entries = list(blocks(family, key, b"\x2a" * length))
+            entries = flagged(blocks(family, key, b"\x2a" * length), False)
             assert reading(family, words, entries) is not None
             sizes, texts = changed_words(family, words, entries)
             counters, flags, changed_blocks = changed_entries(family, words, entries)
@@ -182,8 +192,48 @@ def forged():
                   f"counters {counters}, flags {flags}, blocks {changed_blocks}")
 
 
+def tree_nodes():
+    """64 nodes of trees for each family, in their order."""
+    for family, numbers in FAMILIES.items():
+        offset_bits = 8 * int(WORDS[family].offset[0])
+        for i in range(64):
+            tree = Tree(37 * i % 256, 1 + 11 * i % 255, 0x9e3779b1 * i % 2**32,
+                        0x9e3779b97f4a7c15 * i % 2**64 >> 64 - offset_bits, 5 * i % 256, i % (numbers.key + 1))
+            salt, persona = ALPHABET[:i % (numbers.salt + 1)], ALPHABET[:2 * i % (numbers.salt + 1)]
+            yield family, salt, persona, tree, i % 3 == 0, ALPHABET[:5 * i]
+
+
+def nodes():
+    """nodes: of each family, the digest of the longest outputs of its nodes, and that of their transcripts: of
+    each the words, and then of each entry the counter, the two flags and the block; numbers low byte first."""
+    outputs, transcripts_of = {"b": b"", "s": b""}, {"b": b"", "s": b""}
+    for family, salt, persona, tree, last_node, message in tree_nodes():
+        numbers = FAMILIES[family]
+        outputs[family] += numbers.function(message, salt=salt, person=persona,
+                                            **hashlib_tree(tree, last_node)).digest()
+        words = parameter_words(family, numbers.key, b"", salt, persona, tree)
+        transcripts_of[family] += struct.pack("<8" + WORDS[family].code, *words)
+        for counter, last, is_last_node, block in flagged(blocks(family, b"", message), last_node):
+            transcripts_of[family] += struct.pack("<Q??", counter, last, is_last_node) + block
+    for family in FAMILIES:
+        print(f"  {family}: {digest(outputs[family])} {digest(transcripts_of[family])}")
+
+
+def trees():
+    """trees: the roots of 64 bytes over the beginnings of `abcdefghi`, with leaves of 4 bytes; that of `abc`
+    as one leaf of the greatest length, in 20 bytes; and the digest of the roots of 32 bytes under a salt and
+    a persona, of messages around each number of leaves, for each length of a leaf."""
+    for length in (0, 4, 5, 8, 9):
+        print(f"  {length}: {tree_root(b'abcdefghi'[:length], 4, 64).hex()}")
+    print(f"  abc: {tree_root(b'abc', 2**32 - 1, 20, b'0123456789abcdef', b'fedcba9876543210').hex()}")
+    for leaf in (1, 2, 3, 64, 127, 128, 129, 200):
+        roots = b"".join(tree_root(ALPHABET[:leaf * leaves + more], leaf, 32, b"salt", b"persona")
+                         for leaves in (0, 1, 3, 4, 5, 8, 9) for more in (0, 1, leaf - 1))
+        print(f"  {leaf}: {digest(roots)}")
+
+
 TABLES = {table.__name__: table for table in (
-    copies, keys, cores, lengths, replays, transcripts, options, large, collisions, forged)}
+    copies, keys, cores, lengths, replays, transcripts, options, large, collisions, forged, nodes, trees)}
 
 
 def main():

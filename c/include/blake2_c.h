@@ -24,6 +24,7 @@
 
 #include <stddef.h>
 #include <stdint.h>
+#include <string.h>
 
 #ifdef __cplusplus
 extern "C" {
@@ -54,6 +55,7 @@ typedef struct vulfsjor_blake2b_state {
     size_t pending_length;   /* how many bytes are pending, 0 to 128 */
     size_t start_length;     /* how many a reset leaves pending: those of a key's block, or none */
     size_t output_size;      /* the bytes of the digest, 1 to 64; 0 in the state of zeros */
+    size_t last_node;        /* the last-node flag: 0 is off */
     uint8_t pending[128];    /* the pending bytes, at the beginning */
     uint8_t start_block[128]; /* those that a reset leaves pending, at the beginning */
 } vulfsjor_blake2b_state;
@@ -66,6 +68,7 @@ typedef struct vulfsjor_blake2s_state {
     size_t pending_length;   /* 0 to 64 */
     size_t start_length;
     size_t output_size;      /* 1 to 32 */
+    size_t last_node;
     uint8_t pending[64];
     uint8_t start_block[64];
 } vulfsjor_blake2s_state;
@@ -100,9 +103,20 @@ typedef struct vulfsjor_blake2s_param {
     uint8_t personal[8];
 } vulfsjor_blake2s_param;
 
+/* The place of a hash in a tree of hashes (the BLAKE2 document, 2.10). A hash that is the whole
+ * tree has fanout and depth 1, and 0 in all other fields. */
+typedef struct vulfsjor_tree {
+    uint64_t node_offset; /* the place of this node in its level; below 2^48 in BLAKE2s */
+    uint32_t leaf_length; /* the bytes of a leaf at most; 0 is no limit */
+    uint8_t fanout;       /* the children of a node at most; 0 is no limit */
+    uint8_t depth;        /* the levels of the tree, 1 to 255 */
+    uint8_t node_depth;   /* the level of this node, from 0, that of the leaves */
+    uint8_t inner_length; /* the bytes of an inner node's digest, up to 64 (BLAKE2s: 32) */
+} vulfsjor_tree;
+
 /* The library is built for 64 bits, and knows these layouts. */
-typedef char vulfsjor_layouts[sizeof(size_t) == 8 && sizeof(vulfsjor_blake2b_state) == 416 &&
-                              sizeof(vulfsjor_blake2s_state) == 224 &&
+typedef char vulfsjor_layouts[sizeof(size_t) == 8 && sizeof(vulfsjor_blake2b_state) == 424 &&
+                              sizeof(vulfsjor_blake2s_state) == 232 &&
                               sizeof(vulfsjor_blake2b_param) == 64 &&
                               sizeof(vulfsjor_blake2s_param) == 32 ? 1 : -1];
 
@@ -111,6 +125,14 @@ typedef char vulfsjor_layouts[sizeof(size_t) == 8 && sizeof(vulfsjor_blake2b_sta
 /* Writes the digest of the message under no key, of 64 bytes and of 32. */
 void blake2_c_blake2b512(const uint8_t *message, size_t length, uint8_t *out);
 void blake2_c_blake2s256(const uint8_t *message, size_t length, uint8_t *out);
+
+/* Writes the root of a tree of hashes, in 64 bytes and in 32: vulfsjor_tree_root says of which. */
+int32_t blake2_c_tree_root512(const uint8_t *message, size_t length, const uint8_t *salt,
+                              size_t salt_length, const uint8_t *persona, size_t persona_length,
+                              uint32_t leaf_length, uint8_t *out);
+int32_t blake2_c_tree_root256(const uint8_t *message, size_t length, const uint8_t *salt,
+                              size_t salt_length, const uint8_t *persona, size_t persona_length,
+                              uint32_t leaf_length, uint8_t *out);
 
 /* The rest does what is said of vulfsjor_* below. init_at and init_block_at answer nothing: the
  * output_size that they leave is 0 where the arguments were refused, and there alone. */
@@ -122,6 +144,12 @@ int32_t blake2_c_blake2b(uint8_t *out, size_t out_length, const uint8_t *input, 
 void blake2_c_blake2b_init_at(vulfsjor_blake2b_state *at, size_t output_size, const uint8_t *key,
                               size_t key_length, const uint8_t *salt, size_t salt_length,
                               const uint8_t *persona, size_t persona_length);
+int32_t blake2_c_blake2b_init_node(vulfsjor_blake2b_state *state, size_t output_size,
+                                   const uint8_t *key, size_t key_length, const uint8_t *salt,
+                                   size_t salt_length, const uint8_t *persona,
+                                   size_t persona_length, uint8_t fanout, uint8_t depth,
+                                   uint32_t leaf_length, uint64_t node_offset, uint8_t node_depth,
+                                   uint8_t inner_length);
 void blake2_c_blake2b_init_block_at(vulfsjor_blake2b_state *at, const uint8_t *block,
                                     size_t block_length);
 int32_t blake2_c_blake2b_update(vulfsjor_blake2b_state *state, const uint8_t *input,
@@ -129,6 +157,7 @@ int32_t blake2_c_blake2b_update(vulfsjor_blake2b_state *state, const uint8_t *in
 int32_t blake2_c_blake2b_final(vulfsjor_blake2b_state *state, uint8_t *out, size_t out_length);
 int32_t blake2_c_blake2b_verify(vulfsjor_blake2b_state *state, const uint8_t *tag,
                                 size_t tag_length);
+int32_t blake2_c_blake2b_set_last_node(vulfsjor_blake2b_state *state, uint32_t on);
 int32_t blake2_c_blake2b_reset(vulfsjor_blake2b_state *state);
 void blake2_c_blake2b_wipe(vulfsjor_blake2b_state *state);
 
@@ -137,6 +166,12 @@ int32_t blake2_c_blake2s(uint8_t *out, size_t out_length, const uint8_t *input, 
 void blake2_c_blake2s_init_at(vulfsjor_blake2s_state *at, size_t output_size, const uint8_t *key,
                               size_t key_length, const uint8_t *salt, size_t salt_length,
                               const uint8_t *persona, size_t persona_length);
+int32_t blake2_c_blake2s_init_node(vulfsjor_blake2s_state *state, size_t output_size,
+                                   const uint8_t *key, size_t key_length, const uint8_t *salt,
+                                   size_t salt_length, const uint8_t *persona,
+                                   size_t persona_length, uint8_t fanout, uint8_t depth,
+                                   uint32_t leaf_length, uint64_t node_offset, uint8_t node_depth,
+                                   uint8_t inner_length);
 void blake2_c_blake2s_init_block_at(vulfsjor_blake2s_state *at, const uint8_t *block,
                                     size_t block_length);
 int32_t blake2_c_blake2s_update(vulfsjor_blake2s_state *state, const uint8_t *input,
@@ -144,6 +179,7 @@ int32_t blake2_c_blake2s_update(vulfsjor_blake2s_state *state, const uint8_t *in
 int32_t blake2_c_blake2s_final(vulfsjor_blake2s_state *state, uint8_t *out, size_t out_length);
 int32_t blake2_c_blake2s_verify(vulfsjor_blake2s_state *state, const uint8_t *tag,
                                 size_t tag_length);
+int32_t blake2_c_blake2s_set_last_node(vulfsjor_blake2s_state *state, uint32_t on);
 int32_t blake2_c_blake2s_reset(vulfsjor_blake2s_state *state);
 void blake2_c_blake2s_wipe(vulfsjor_blake2s_state *state);
 
@@ -190,6 +226,21 @@ static inline int vulfsjor_blake2b_init_key(vulfsjor_blake2b_state *S, size_t ou
     return vulfsjor_blake2b_init_salt_personal(S, outlen, key, keylen, 0, 0, 0, 0);
 }
 
+/* Begins the run of a node of a tree of hashes, at this place (the BLAKE2 document, 2.10), with
+ * digest length, key, salt and persona as above. Its last-node flag is off. -1 also where there is
+ * no such place: a depth of 0, or a number above those that the struct names. */
+static inline int vulfsjor_blake2b_init_tree(
+    vulfsjor_blake2b_state *S, size_t outlen, const void *key, size_t keylen, const void *salt,
+    size_t saltlen, const void *personal, size_t personallen, const vulfsjor_tree *tree) {
+    if (!S) return -1;
+    memset(S, 0, sizeof *S);
+    if (!tree || (!key && keylen) || (!salt && saltlen) || (!personal && personallen)) return -1;
+    return blake2_c_blake2b_init_node(S, outlen, vulfsjor_text(key), keylen, vulfsjor_text(salt),
+                                       saltlen, vulfsjor_text(personal), personallen, tree->fanout,
+                                       tree->depth, tree->leaf_length, tree->node_offset,
+                                       tree->node_depth, tree->inner_length);
+}
+
 /* Begins a run from a parameter block, as it stands: the words of its bytes are xored into the
  * IV. Where it names a key, the first 128 bytes of input have to be the key with zeros behind
  * it. -1 where digest_length is not 1 to 64, or key_length more than 64; no other field is
@@ -225,7 +276,16 @@ static inline int vulfsjor_blake2b_verify(vulfsjor_blake2b_state *S, const void 
     return blake2_c_blake2b_verify(S, vulfsjor_text(tag), taglen);
 }
 
-/* Goes back to the start: no input is taken, and digest length, key, salt and persona are kept. */
+/* Sets the last-node flag, or clears it where on is 0: it says that this is the last node of its
+ * level in a tree of hashes (the BLAKE2 document, 2.10). It can be set at any time before the
+ * digest. */
+static inline int vulfsjor_blake2b_set_last_node(vulfsjor_blake2b_state *S, int on) {
+    if (!S) return -1;
+    return blake2_c_blake2b_set_last_node(S, on != 0);
+}
+
+/* Goes back to the start: no input is taken, and digest length, key, salt, persona, place in a
+ * tree and last-node flag are kept. */
 static inline int vulfsjor_blake2b_reset(vulfsjor_blake2b_state *S) {
     if (!S) return -1;
     return blake2_c_blake2b_reset(S);
@@ -241,8 +301,33 @@ static inline void vulfsjor_blake2b_wipe(vulfsjor_blake2b_state *S) {
 static inline int vulfsjor_blake2b(void *out, size_t outlen, const void *in, size_t inlen,
                                    const void *key, size_t keylen) {
     if (!out || (!in && inlen) || (!key && keylen)) return -1;
+    if (!keylen && outlen == VULFSJOR_BLAKE2B_OUTBYTES) {
+        blake2_c_blake2b512(vulfsjor_text(in), inlen, (uint8_t *)out);
+        return 0;
+    }
     return blake2_c_blake2b((uint8_t *)out, outlen, vulfsjor_text(in), inlen, vulfsjor_text(key),
                             keylen);
+}
+
+/* The root of a tree of hashes with two levels (the BLAKE2 document, 2.10), in outlen bytes, 32 or
+ * 64: the input is cut into leaves of leaf_length bytes, the last of which may be shorter, and the
+ * root hashes their digests of 64 bytes. All nodes have the salt and the persona, fanout 0, depth 2,
+ * this leaf length and inner length 64; the last leaf and the root have the last-node flag. -1 where
+ * outlen is another, leaf_length is 0, salt or persona have more than 16 bytes, or the input has 2^58
+ * or more. */
+static inline int vulfsjor_tree_root(void *out, size_t outlen, const void *in, size_t inlen,
+                                     const void *salt, size_t saltlen, const void *personal,
+                                     size_t personallen, uint32_t leaf_length) {
+    if (!out || (!in && inlen) || (!salt && saltlen) || (!personal && personallen)) return -1;
+    if (outlen == 64)
+        return blake2_c_tree_root512(vulfsjor_text(in), inlen, vulfsjor_text(salt), saltlen,
+                                     vulfsjor_text(personal), personallen, leaf_length,
+                                     (uint8_t *)out);
+    if (outlen == 32)
+        return blake2_c_tree_root256(vulfsjor_text(in), inlen, vulfsjor_text(salt), saltlen,
+                                     vulfsjor_text(personal), personallen, leaf_length,
+                                     (uint8_t *)out);
+    return -1;
 }
 
 /* -- BLAKE2s: the same, with digests and keys of up to 32 bytes, salts and personas of up to 8,
@@ -269,6 +354,18 @@ static inline int vulfsjor_blake2s_init_key(vulfsjor_blake2s_state *S, size_t ou
     return vulfsjor_blake2s_init_salt_personal(S, outlen, key, keylen, 0, 0, 0, 0);
 }
 
+static inline int vulfsjor_blake2s_init_tree(
+    vulfsjor_blake2s_state *S, size_t outlen, const void *key, size_t keylen, const void *salt,
+    size_t saltlen, const void *personal, size_t personallen, const vulfsjor_tree *tree) {
+    if (!S) return -1;
+    memset(S, 0, sizeof *S);
+    if (!tree || (!key && keylen) || (!salt && saltlen) || (!personal && personallen)) return -1;
+    return blake2_c_blake2s_init_node(S, outlen, vulfsjor_text(key), keylen, vulfsjor_text(salt),
+                                       saltlen, vulfsjor_text(personal), personallen, tree->fanout,
+                                       tree->depth, tree->leaf_length, tree->node_offset,
+                                       tree->node_depth, tree->inner_length);
+}
+
 static inline int vulfsjor_blake2s_init_param(vulfsjor_blake2s_state *S,
                                               const vulfsjor_blake2s_param *P) {
     if (!S) return -1;
@@ -293,6 +390,11 @@ static inline int vulfsjor_blake2s_verify(vulfsjor_blake2s_state *S, const void 
     return blake2_c_blake2s_verify(S, vulfsjor_text(tag), taglen);
 }
 
+static inline int vulfsjor_blake2s_set_last_node(vulfsjor_blake2s_state *S, int on) {
+    if (!S) return -1;
+    return blake2_c_blake2s_set_last_node(S, on != 0);
+}
+
 static inline int vulfsjor_blake2s_reset(vulfsjor_blake2s_state *S) {
     if (!S) return -1;
     return blake2_c_blake2s_reset(S);
@@ -305,6 +407,10 @@ static inline void vulfsjor_blake2s_wipe(vulfsjor_blake2s_state *S) {
 static inline int vulfsjor_blake2s(void *out, size_t outlen, const void *in, size_t inlen,
                                    const void *key, size_t keylen) {
     if (!out || (!in && inlen) || (!key && keylen)) return -1;
+    if (!keylen && outlen == VULFSJOR_BLAKE2S_OUTBYTES) {
+        blake2_c_blake2s256(vulfsjor_text(in), inlen, (uint8_t *)out);
+        return 0;
+    }
     return blake2_c_blake2s((uint8_t *)out, outlen, vulfsjor_text(in), inlen, vulfsjor_text(key),
                             keylen);
 }

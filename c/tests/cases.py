@@ -1,8 +1,11 @@
 #!/usr/bin/env python3
 """Writes the cases that test.c reads, with the digests that Python's hashlib gives: cases.py b|s
 
-A line `h SIZE KEY SALT PERSONA MESSAGE DIGEST` is a hash, and a line `t BLOCK MESSAGE DIGEST` one from a
-parameter block with the numbers of a tree. All but SIZE is hexadecimal, and `-` is no bytes.
+A line `h SIZE KEY SALT PERSONA MESSAGE DIGEST` is a hash, a line `n SIZE KEY SALT PERSONA NUMBERS MESSAGE
+DIGEST` that of a node of a tree, and a line `t BLOCK MESSAGE DIGEST` one from a parameter block with the numbers
+of a tree. A line `r SIZE SALT PERSONA LEAF MESSAGE DIGEST` is the root of a tree of two levels with leaves of LEAF bytes.
+NUMBERS are fanout, depth, leaf length, node offset, node depth, inner length and last-node flag, with
+commas between them. All else but SIZE and LEAF is hexadecimal, and `-` is no bytes.
 
 The first 512 cases are the messages of the official known answers: 0 to 255 bytes counting from 0,
 without a key and under the longest key, of bytes counting from 0.
@@ -33,8 +36,32 @@ def hash_case(size, key, salt, persona, message):
     print("h", size, *map(hexadecimal, (key, salt, persona, message, digest)))
 
 
+def node_case(message):
+    """A line of a node of a tree, under random parameters and numbers, the least and greatest among them."""
+    def number(least, most):
+        return RANDOM.choice([least, most, RANDOM.randint(least, most)])
+    numbers = [number(0, 255), number(1, 255), number(0, 2**32 - 1), number(0, 2**(8 * OFFSET) - 1), number(0, 255),
+               number(0, MAX), number(0, 1)]
+    names = ("fanout", "depth", "leaf_size", "node_offset", "node_depth", "inner_size", "last_node")
+    size, key, salt, persona = number(1, MAX), text(number(0, MAX)), text(number(0, SALT)), text(number(0, SALT))
+    digest = HASH(message, digest_size=size, key=key, salt=salt, person=persona, **dict(zip(names, numbers))).digest()
+    fields = ",".join(map(str, numbers))
+    print("n", size, *map(hexadecimal, (key, salt, persona)), fields, *map(hexadecimal, (message, digest)))
+
+
+def root_case(size, leaf, message):
+    """A line of the root of a message, hashed node by node."""
+    salt, persona = text(RANDOM.randint(0, SALT)), text(RANDOM.randint(0, SALT))
+    shared = dict(salt=salt, person=persona, fanout=0, depth=2, leaf_size=leaf, inner_size=64)
+    leaves = [message[i:i + leaf] for i in range(0, len(message), leaf)] or [b""]
+    digests = b"".join(HASH(bytes, digest_size=64, node_offset=i, last_node=i + 1 == len(leaves), **shared).digest()
+                       for i, bytes in enumerate(leaves))
+    root = HASH(digests, digest_size=size, node_depth=1, last_node=True, **shared).digest()
+    print("r", size, *map(hexadecimal, (salt, persona)), leaf, *map(hexadecimal, (message, root)))
+
+
 def tree_case(message):
-    """A line of a node of a tree, under random numbers."""
+    """A line of a node of a tree from its parameter block, under random numbers."""
     size, fanout, depth, leaf = RANDOM.randint(1, MAX), RANDOM.randint(0, 255), RANDOM.randint(1, 255), RANDOM.getrandbits(32)
     offset, node_depth, inner = RANDOM.getrandbits(8 * OFFSET), RANDOM.randint(0, 255), RANDOM.randint(0, MAX)
     salt, persona = text(SALT), text(SALT)
@@ -52,6 +79,13 @@ for length in range(0, 400, 3):
     key = text(RANDOM.choice([0, 1, MAX // 2, MAX]))
     hash_case(RANDOM.randint(1, MAX), key, text(RANDOM.randint(0, SALT)), text(RANDOM.randint(0, SALT)), text(length))
     tree_case(text(length))
+    node_case(text(length))
 for length in (1023, 1024, 1025, 4096, 10000, 65536, 65537):
     hash_case(MAX, b"", b"", b"", text(length))
     hash_case(MAX // 2, text(MAX), text(SALT), text(SALT), text(length))
+
+for size in (32, 64) if not SMALL else ():
+    for leaf in (1, 64, 127, 128, 129, 1000, 2**32 - 1):
+        for length in (0, 1, leaf - 1, leaf, leaf + 1, 4 * leaf, 4 * leaf + 1, 5 * leaf, 9 * leaf + 3):
+            if length < 10000:
+                root_case(size, leaf, text(length))

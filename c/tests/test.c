@@ -91,6 +91,7 @@ static void gives(const state_t *state, text wanted) {
     CHECK(!memcmp(out, wanted.bytes, wanted.length));
     CHECK(is_zero(&copy));
     CHECK(BLAKE(update)(&copy, out, 1) == -1 && BLAKE(reset)(&copy) == -1);
+    CHECK(BLAKE(set_last_node)(&copy, 1) == -1 && is_zero(&copy));
     CHECK(BLAKE(final)(&copy, out, wanted.length) == -1);
     CHECK(BLAKE(verify)(&copy, out, wanted.length) == -1);
     free(out);
@@ -178,6 +179,83 @@ static void hash_case(size_t size, text key, text salt, text persona, text messa
     free(state);
 }
 
+static vulfsjor_tree read_numbers(const char *field, int *last_node) {
+    unsigned fanout, depth, node_depth, inner_length;
+    unsigned long leaf_length;
+    unsigned long long node_offset;
+    CHECK(sscanf(field, "%u,%u,%lu,%llu,%u,%u,%d", &fanout, &depth, &leaf_length, &node_offset,
+                 &node_depth, &inner_length, last_node) == 7);
+    vulfsjor_tree tree = {.fanout = (uint8_t)fanout, .depth = (uint8_t)depth,
+                          .leaf_length = (uint32_t)leaf_length, .node_offset = node_offset,
+                          .node_depth = (uint8_t)node_depth, .inner_length = (uint8_t)inner_length};
+    return tree;
+}
+
+/* A node of a tree: its numbers with key, salt and persona, and its flag, whenever it is set. */
+static void node_case(size_t size, text key, text salt, text persona, const char *numbers, text message,
+                      text wanted) {
+    state_t *state = malloc(sizeof *state);
+    int last_node;
+    vulfsjor_tree tree = read_numbers(numbers, &last_node);
+    CHECK(BLAKE(init_tree)(state, size, or_null(key), key.length, or_null(salt), salt.length,
+                           or_null(persona), persona.length, &tree) == 0);
+    CHECK(state->last_node == 0);
+    if (last_node) CHECK(BLAKE(set_last_node)(state, 1) == 0);
+    take(state, message, 0, message.length / 2);
+    CHECK(BLAKE(set_last_node)(state, !last_node) == 0 && BLAKE(set_last_node)(state, last_node * 7) == 0);
+    take(state, message, message.length / 2, message.length);
+    gives(state, wanted);
+    CHECK(BLAKE(reset)(state) == 0);
+    runs(state, message, wanted);
+    free(state);
+}
+
+#ifndef TEST_S
+/* The digest of a node of the tree below in the bytes of its own. */
+static void node_of_root(uint8_t *out, size_t size, text salt, text persona, vulfsjor_tree tree, int last,
+                         const uint8_t *bytes, size_t length) {
+    state_t state;
+    CHECK(BLAKE(init_tree)(&state, size, 0, 0, salt.bytes, salt.length, persona.bytes, persona.length, &tree) == 0);
+    CHECK(BLAKE(set_last_node)(&state, last) == 0);
+    CHECK(BLAKE(update)(&state, bytes, length) == 0 && BLAKE(final)(&state, out, size) == 0);
+}
+
+/* The root of a message in one call, and node by node. */
+static void root_case(size_t size, text salt, text persona, uint32_t leaf, text message, text wanted) {
+    uint8_t out[MAX + 1];
+    memset(out, 0xaa, sizeof out);
+    CHECK(vulfsjor_tree_root(out, size, or_null(message), message.length, or_null(salt), salt.length,
+                             or_null(persona), persona.length, leaf) == 0);
+    CHECK(!memcmp(out, wanted.bytes, size) && out[size] == 0xaa);
+    vulfsjor_tree tree = {.fanout = 0, .depth = 2, .leaf_length = leaf, .inner_length = MAX};
+    size_t leaves = message.length ? (message.length - 1) / leaf + 1 : 1;
+    uint8_t *digests = malloc(leaves * MAX);
+    for (size_t i = 0; i < leaves; i++) {
+        size_t from = i * leaf, left = message.length - from;
+        tree.node_offset = i;
+        node_of_root(digests + i * MAX, MAX, salt, persona, tree, i + 1 == leaves, message.bytes + from,
+                     left < leaf ? left : leaf);
+    }
+    tree.node_offset = 0;
+    tree.node_depth = 1;
+    node_of_root(out, size, salt, persona, tree, 1, digests, leaves * MAX);
+    CHECK(!memcmp(out, wanted.bytes, size));
+    free(digests);
+}
+
+static void root_refusals(void) {
+    uint8_t out[MAX], bytes[SALT + 1] = {0};
+    memset(out, 0xaa, sizeof out);
+    CHECK(vulfsjor_tree_root(out, MAX, bytes, 1, 0, 0, 0, 0, 0) == -1);
+    CHECK(vulfsjor_tree_root(out, MAX - 1, bytes, 1, 0, 0, 0, 0, 1) == -1);
+    CHECK(vulfsjor_tree_root(out, MAX, bytes, 1, bytes, SALT + 1, 0, 0, 1) == -1);
+    CHECK(vulfsjor_tree_root(out, MAX / 2, bytes, 1, 0, 0, bytes, SALT + 1, 1) == -1);
+    CHECK(vulfsjor_tree_root(out, MAX, NULL, 1, 0, 0, 0, 0, 1) == -1);
+    CHECK(vulfsjor_tree_root(NULL, MAX, bytes, 1, 0, 0, 0, 0, 1) == -1);
+    CHECK(out[0] == 0xaa && out[MAX - 1] == 0xaa);
+}
+#endif
+
 static void tree_case(text block, text message, text wanted) {
     BLAKE(param) param;
     state_t *state = malloc(sizeof *state);
@@ -189,18 +267,24 @@ static void tree_case(text block, text message, text wanted) {
 }
 
 static int read_cases(const char *name) {
-    static char kind[3], field[6][200000];
+    static char kind[3], field[7][200000];
     FILE *file = fopen(name, "r");
     if (!file) return 0;
     int cases = 0;
     for (; fscanf(file, "%2s", kind) == 1; cases++) {
-        int fields = kind[0] == 'h' ? 6 : 3;
-        text t[6];
+        int fields = kind[0] == 'h' || kind[0] == 'r' ? 6 : kind[0] == 'n' ? 7 : 3;
+        text t[7];
         for (int i = 0; i < fields; i++) {
             if (fscanf(file, "%199999s", field[i]) != 1) return 0;
-            t[i] = from_hex(kind[0] == 'h' && i == 0 ? "-" : field[i]);
+            int is_number = (kind[0] != 't' && i == 0) || (kind[0] == 'n' && i == 4) || (kind[0] == 'r' && i == 3);
+            t[i] = from_hex(is_number ? "-" : field[i]);
         }
         if (kind[0] == 'h') hash_case((size_t)atoi(field[0]), t[1], t[2], t[3], t[4], t[5]);
+        else if (kind[0] == 'n') node_case((size_t)atoi(field[0]), t[1], t[2], t[3], field[4], t[5], t[6]);
+#ifndef TEST_S
+        else if (kind[0] == 'r')
+            root_case((size_t)atoi(field[0]), t[1], t[2], (uint32_t)strtoul(field[3], NULL, 10), t[4], t[5]);
+#endif
         else tree_case(t[0], t[1], t[2]);
         for (int i = 0; i < fields; i++) free(t[i].bytes);
     }
@@ -238,6 +322,28 @@ static void refusals(void) {
     param.digest_length = MAX;
     param.key_length = MAX + 1;
     REFUSED(BLAKE(init_param)(&state, &param));
+    vulfsjor_tree tree = {.fanout = 2, .depth = 2, .inner_length = MAX};
+    CHECK(BLAKE(init_tree)(&state, MAX, 0, 0, 0, 0, 0, 0, &tree) == 0);
+    REFUSED(BLAKE(init_tree)(&state, MAX, 0, 0, 0, 0, 0, 0, NULL));
+    REFUSED(BLAKE(init_tree)(&state, 0, 0, 0, 0, 0, 0, 0, &tree));
+    REFUSED(BLAKE(init_tree)(&state, MAX, bytes, MAX + 1, 0, 0, 0, 0, &tree));
+    REFUSED(BLAKE(init_tree)(&state, MAX, NULL, 1, 0, 0, 0, 0, &tree));
+    REFUSED(BLAKE(init_tree)(&state, MAX, 0, 0, bytes, SALT + 1, 0, 0, &tree));
+    REFUSED(BLAKE(init_tree)(&state, MAX, 0, 0, 0, 0, bytes, SALT + 1, &tree));
+    tree.depth = 0;
+    REFUSED(BLAKE(init_tree)(&state, MAX, 0, 0, 0, 0, 0, 0, &tree));
+    tree.depth = 2;
+    tree.inner_length = MAX + 1;
+    REFUSED(BLAKE(init_tree)(&state, MAX, 0, 0, 0, 0, 0, 0, &tree));
+    tree.inner_length = MAX;
+    tree.node_offset = (uint64_t)1 << 48;
+#ifdef TEST_S
+    REFUSED(BLAKE(init_tree)(&state, MAX, 0, 0, 0, 0, 0, 0, &tree));
+#else
+    CHECK(BLAKE(init_tree)(&state, MAX, 0, 0, 0, 0, 0, 0, &tree) == 0);
+#endif
+    CHECK(BLAKE(init_tree)(NULL, MAX, 0, 0, 0, 0, 0, 0, &tree) == -1);
+    CHECK(BLAKE(set_last_node)(NULL, 1) == -1);
     CHECK(BLAKE(init)(NULL, MAX) == -1 && BLAKE(init_key)(NULL, MAX, bytes, 1) == -1);
     CHECK(BLAKE(init_param)(NULL, &param) == -1 && BLAKE(reset)(NULL) == -1);
     CHECK(BLAKE(update)(NULL, bytes, 1) == -1 && BLAKE(final)(NULL, out, MAX) == -1);
@@ -281,6 +387,8 @@ static void random_states(void) {
             if (i % 4 == 1) state.counter = ~(uint64_t)0 - random_number() % (2 * BLOCK);
         }
         int updated = BLAKE(update)(&state, bytes, i % sizeof bytes);
+        int set = BLAKE(set_last_node)(&state, i % 7);
+        CHECK(set == 0 || set == -1);
         int reset = i % 3 ? 0 : BLAKE(reset)(&state);
         int ended = i % 5 ? BLAKE(final)(&state, out, MAX) : BLAKE(verify)(&state, out, MAX);
         CHECK((updated == 0 || updated == -1) && (reset == 0 || reset == -1) && (ended == 0 || ended == -1));
@@ -291,6 +399,9 @@ int main(int argc, char **argv) {
     int cases = argc > 1 ? read_cases(argv[1]) : 0;
     CHECK(cases > 0);
     refusals();
+#ifndef TEST_S
+    root_refusals();
+#endif
     long_counts();
     random_states();
     printf("%d cases, %d checks, %d failures\n", cases, checks, fails);

@@ -40,6 +40,18 @@
 //! # Ok::<(), vulfsjor::InvalidLength>(())
 //! ```
 //!
+//! A node of a tree of hashes, here the last of its level:
+//!
+//! ```
+//! use vulfsjor::{Params, Tree};
+//!
+//! let place = Tree { fanout: 2, depth: 2, leaf_length: 4096, node_offset: 1, node_depth: 0, inner_length: 64 };
+//! let mut leaf = Params::new().tree(place).last_node(true).blake2b()?;
+//! leaf.update(b"the second leaf");
+//! assert_eq!(leaf.finalize().as_bytes().len(), 64);
+//! # Ok::<(), vulfsjor::InvalidLength>(())
+//! ```
+//!
 //! A stream, through [`std::io::Write`]:
 //!
 //! ```
@@ -53,7 +65,7 @@
 use std::fmt;
 use std::io;
 
-/// A size, key, salt or persona has a length that the family does not take.
+/// A size, key, salt or persona has a length that the family does not take, or a tree a number.
 #[derive(Clone, Copy, Debug, PartialEq, Eq)]
 pub struct InvalidLength;
 
@@ -79,6 +91,52 @@ impl std::error::Error for MacError {}
 
 extern "C" {
     fn blake2_c_is_same(a: *const u8, a_length: usize, b: *const u8, b_length: usize) -> i32;
+    fn blake2_c_tree_root512(
+        message: *const u8,
+        length: usize,
+        salt: *const u8,
+        salt_length: usize,
+        persona: *const u8,
+        persona_length: usize,
+        leaf_length: u32,
+        out: *mut u8,
+    ) -> i32;
+}
+
+/// The root of a message in a tree of hashes with two levels over BLAKE2b, in 64 bytes: the message is cut
+/// into leaves of `leaf_length` bytes, and the root hashes their digests of 64 bytes. All nodes have the salt
+/// and the persona, fanout 0, depth 2, this leaf length and inner length 64; the last leaf and the root have
+/// the last-node flag (the BLAKE2 document, 2.10). Refused exactly where `leaf_length` is 0, salt or persona
+/// have more than 16 bytes, or the message has 2^58 or more.
+pub fn tree_root(
+    message: impl AsRef<[u8]>,
+    salt: &[u8],
+    persona: &[u8],
+    leaf_length: u32,
+) -> Result<Digest, InvalidLength> {
+    let message = message.as_ref();
+    let mut root = Digest {
+        bytes: [0; 64],
+        size: 64,
+    };
+    // Safety: the pointers come from slices of these lengths, and the output of 64 bytes is apart from them.
+    let status = unsafe {
+        blake2_c_tree_root512(
+            message.as_ptr(),
+            message.len(),
+            salt.as_ptr(),
+            salt.len(),
+            persona.as_ptr(),
+            persona.len(),
+            leaf_length,
+            root.bytes.as_mut_ptr(),
+        )
+    };
+    if status == 0 {
+        Ok(root)
+    } else {
+        Err(InvalidLength)
+    }
 }
 
 /// A digest of 1 to 64 bytes. Two are compared over all bytes, wherever they differ.
@@ -126,13 +184,45 @@ impl fmt::Debug for Digest {
     }
 }
 
-/// What a hash is made with: by itself the longest digest, no key, no salt and no persona.
+/// The place of a hash in a tree of hashes (the BLAKE2 document, 2.10).
+#[derive(Clone, Copy, Debug, PartialEq, Eq)]
+pub struct Tree {
+    /// How many children a node has at most; 0 is without a limit.
+    pub fanout: u8,
+    /// How many levels the tree has, 1 at least.
+    pub depth: u8,
+    /// How many bytes of the message a leaf takes at most; 0 is without a limit.
+    pub leaf_length: u32,
+    /// The place of this node in its level, from 0; less than 2^48 in BLAKE2s.
+    pub node_offset: u64,
+    /// The level of this node, from 0, that of the leaves.
+    pub node_depth: u8,
+    /// The bytes of an inner node's digest, at most 64 in BLAKE2b and 32 in BLAKE2s.
+    pub inner_length: u8,
+}
+
+impl Tree {
+    /// That of a hash which is the whole tree: fanout and depth are 1, all else is 0.
+    pub const SEQUENTIAL: Tree = Tree {
+        fanout: 1,
+        depth: 1,
+        leaf_length: 0,
+        node_offset: 0,
+        node_depth: 0,
+        inner_length: 0,
+    };
+}
+
+/// What a hash is made with: by itself the longest digest, no key, no salt and no persona, and the hash is
+/// the whole tree.
 #[derive(Clone, Copy)]
 pub struct Params<'a> {
     output_size: Option<usize>,
     key: &'a [u8],
     salt: &'a [u8],
     persona: &'a [u8],
+    tree: Tree,
+    last_node: bool,
 }
 
 impl<'a> Params<'a> {
@@ -143,6 +233,8 @@ impl<'a> Params<'a> {
             key: b"",
             salt: b"",
             persona: b"",
+            tree: Tree::SEQUENTIAL,
+            last_node: false,
         }
     }
 
@@ -169,6 +261,16 @@ impl<'a> Params<'a> {
         Params { persona, ..self }
     }
 
+    /// A place in a tree of hashes, whose numbers are within what [`Tree`] says of them.
+    pub fn tree(self, tree: Tree) -> Self {
+        Params { tree, ..self }
+    }
+
+    /// Whether the hash is the last node of its level in a tree of hashes (the BLAKE2 document, 2.10).
+    pub fn last_node(self, last_node: bool) -> Self {
+        Params { last_node, ..self }
+    }
+
     /// A BLAKE2b hasher of these.
     pub fn blake2b(&self) -> Result<Blake2b, InvalidLength> {
         Blake2b::with_params(self)
@@ -189,8 +291,9 @@ impl Default for Params<'_> {
 // What both families have, over the state and the functions of `c/include/blake2_c.h`.
 macro_rules! family {
     (
-        $family:literal, $hasher:ident, $mac:ident, $state:ident, $word:ty, $block:literal, $max:literal,
-        $init:ident, $update:ident, $end:ident, $verify:ident, $reset:ident, $wipe:ident
+        $family:literal, $hasher:ident, $mac:ident, $state:ident, $zeros:ident, $word:ty, $block:literal, $max:literal,
+        $one_call:ident, $init:ident, $init_node:ident, $update:ident, $end:ident, $verify:ident,
+        $set_last_node:ident, $reset:ident, $wipe:ident
     ) => {
         // The fields of the C struct. Every value of them is valid.
         #[repr(C)]
@@ -202,11 +305,26 @@ macro_rules! family {
             pending_length: usize,
             start_length: usize,
             output_size: usize,
+            last_node: usize,
             pending: [u8; $block],
             start_block: [u8; $block],
         }
 
+        // The state of zeros, which no call but the inits and the wipe takes.
+        const $zeros: $state = $state {
+            chain: [0; 8],
+            first: [0; 8],
+            counter: 0,
+            pending_length: 0,
+            start_length: 0,
+            output_size: 0,
+            last_node: 0,
+            pending: [0; $block],
+            start_block: [0; $block],
+        };
+
         extern "C" {
+            fn $one_call(message: *const u8, length: usize, out: *mut u8);
             fn $init(
                 at: *mut $state,
                 output_size: usize,
@@ -217,6 +335,23 @@ macro_rules! family {
                 persona: *const u8,
                 persona_length: usize,
             );
+            fn $init_node(
+                state: &mut $state,
+                output_size: usize,
+                key: *const u8,
+                key_length: usize,
+                salt: *const u8,
+                salt_length: usize,
+                persona: *const u8,
+                persona_length: usize,
+                fanout: u8,
+                depth: u8,
+                leaf_length: u32,
+                node_offset: u64,
+                node_depth: u8,
+                inner_length: u8,
+            ) -> i32;
+            fn $set_last_node(state: &mut $state, on: u32) -> i32;
             fn $update(state: &mut $state, input: *const u8, length: usize) -> i32;
             fn $end(state: &mut $state, out: *mut u8, length: usize) -> i32;
             fn $verify(state: &mut $state, tag: *const u8, length: usize) -> i32;
@@ -234,9 +369,23 @@ macro_rules! family {
                 Self::with_params(&Params::new()).expect("lengths of the family")
             }
 
-            /// One of these parameters. Refused exactly where a length is not the family's.
+            /// One of these parameters. Refused exactly where a length, or a number of the tree, is not
+            /// the family's.
             pub fn with_params(params: &Params<'_>) -> Result<Self, InvalidLength> {
-                let Params { output_size, key, salt, persona } = *params;
+                let mut hasher = if params.tree == Tree::SEQUENTIAL {
+                    Self::whole(params)?
+                } else {
+                    Self::node(params)?
+                };
+                if params.last_node {
+                    hasher.set_last_node(true);
+                }
+                Ok(hasher)
+            }
+
+            // A hasher whose hash is the whole tree.
+            fn whole(params: &Params<'_>) -> Result<Self, InvalidLength> {
+                let Params { output_size, key, salt, persona, .. } = *params;
                 let mut state = std::mem::MaybeUninit::<$state>::uninit();
                 // Safety: the pointers come from slices of these lengths, and none is null; the state
                 // overlaps none of them, and the call writes all of it.
@@ -256,11 +405,49 @@ macro_rules! family {
                 if state.output_size == 0 { Err(InvalidLength) } else { Ok($hasher(state)) }
             }
 
-            /// The digest of a message in one call.
+            // A hasher of a node of a tree.
+            fn node(params: &Params<'_>) -> Result<Self, InvalidLength> {
+                let Params { output_size, key, salt, persona, tree, .. } = *params;
+                let mut state = $zeros;
+                // Safety: the pointers come from slices of these lengths, and none is null; the state
+                // overlaps none of them.
+                let status = unsafe {
+                    $init_node(
+                        &mut state,
+                        output_size.unwrap_or($max),
+                        key.as_ptr(),
+                        key.len(),
+                        salt.as_ptr(),
+                        salt.len(),
+                        persona.as_ptr(),
+                        persona.len(),
+                        tree.fanout,
+                        tree.depth,
+                        tree.leaf_length,
+                        tree.node_offset,
+                        tree.node_depth,
+                        tree.inner_length,
+                    )
+                };
+                if status == 0 { Ok($hasher(state)) } else { Err(InvalidLength) }
+            }
+
+            /// Sets or clears the last-node flag (the BLAKE2 document, 2.10), at any time before the
+            /// digest. A reset keeps it.
+            pub fn set_last_node(&mut self, on: bool) {
+                // Safety: the state is one.
+                let status = unsafe { $set_last_node(&mut self.0, u32::from(on)) };
+                assert_eq!(status, 0, "a state that new has made");
+            }
+
+            #[doc = concat!("The digest of a message in ", stringify!($max), " bytes, in one call.")]
             pub fn digest(message: impl AsRef<[u8]>) -> Digest {
-                let mut hasher = Self::new();
-                hasher.update(message);
-                hasher.finalize()
+                let message = message.as_ref();
+                let mut digest = Digest { bytes: [0; 64], size: $max };
+                // Safety: the message's pointer comes from a slice of this length, and the output is apart
+                // from it and has 64 bytes, no fewer than the call writes.
+                unsafe { $one_call(message.as_ptr(), message.len(), digest.bytes.as_mut_ptr()) };
+                digest
             }
 
             /// Takes the input after all that was taken before.
@@ -386,13 +573,17 @@ family!(
     Blake2b,
     Blake2bMac,
     Blake2bState,
+    BLAKE2B_ZEROS,
     u64,
     128,
     64,
+    blake2_c_blake2b512,
     blake2_c_blake2b_init_at,
+    blake2_c_blake2b_init_node,
     blake2_c_blake2b_update,
     blake2_c_blake2b_final,
     blake2_c_blake2b_verify,
+    blake2_c_blake2b_set_last_node,
     blake2_c_blake2b_reset,
     blake2_c_blake2b_wipe
 );
@@ -402,13 +593,17 @@ family!(
     Blake2s,
     Blake2sMac,
     Blake2sState,
+    BLAKE2S_ZEROS,
     u32,
     64,
     32,
+    blake2_c_blake2s256,
     blake2_c_blake2s_init_at,
+    blake2_c_blake2s_init_node,
     blake2_c_blake2s_update,
     blake2_c_blake2s_final,
     blake2_c_blake2s_verify,
+    blake2_c_blake2s_set_last_node,
     blake2_c_blake2s_reset,
     blake2_c_blake2s_wipe
 );

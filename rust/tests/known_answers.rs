@@ -1,7 +1,7 @@
 //! The cases of `c/tests/cases.py`, which hashlib computes, in pieces; tags, resets and refusals.
 use std::io::Write;
 use std::process::Command;
-use vulfsjor::{Blake2b, Blake2bMac, Blake2s, Blake2sMac, InvalidLength, MacError, Params};
+use vulfsjor::{Blake2b, Blake2bMac, Blake2s, Blake2sMac, InvalidLength, MacError, Params, Tree};
 
 fn bytes(digits: &str) -> Vec<u8> {
     let digits = if digits == "-" { "" } else { digits };
@@ -11,19 +11,88 @@ fn bytes(digits: &str) -> Vec<u8> {
         .collect()
 }
 
-// The lines of a family's hashes, field by field.
-fn cases(family: &str) -> Vec<Vec<String>> {
+// A hash: what it is of, its place in a tree and last-node flag, and its digest.
+struct Case {
+    size: usize,
+    key: Vec<u8>,
+    salt: Vec<u8>,
+    persona: Vec<u8>,
+    tree: Tree,
+    last_node: bool,
+    message: Vec<u8>,
+    wanted: Vec<u8>,
+}
+
+// The place that a line names, and the flag.
+fn place(numbers: &str) -> (Tree, bool) {
+    let numbers: Vec<u64> = numbers.split(',').map(|n| n.parse().unwrap()).collect();
+    let tree = Tree {
+        fanout: numbers[0] as u8,
+        depth: numbers[1] as u8,
+        leaf_length: numbers[2] as u32,
+        node_offset: numbers[3],
+        node_depth: numbers[4] as u8,
+        inner_length: numbers[5] as u8,
+    };
+    (tree, numbers[6] == 1)
+}
+
+// The hash of a line, where it is not one from a parameter block.
+fn case(line: &str) -> Option<Case> {
+    let mut fields: Vec<&str> = line.split(' ').collect();
+    let (tree, last_node) = match fields[0] {
+        "h" => (Tree::SEQUENTIAL, false),
+        "n" => place(fields.remove(5)),
+        _ => return None,
+    };
+    let [key, salt, persona, message, wanted] = [2, 3, 4, 5, 6].map(|field| bytes(fields[field]));
+    let size = fields[1].parse().unwrap();
+    Some(Case {
+        size,
+        key,
+        salt,
+        persona,
+        tree,
+        last_node,
+        message,
+        wanted,
+    })
+}
+
+// The lines of a family.
+fn lines(family: &str) -> String {
     let script = concat!(env!("CARGO_MANIFEST_DIR"), "/../c/tests/cases.py");
     let output = Command::new("python3")
         .args([script, family])
         .output()
         .expect("python3");
     assert!(output.status.success());
-    let text = String::from_utf8(output.stdout).unwrap();
-    let hashes = text.lines().filter(|line| line.starts_with("h "));
-    hashes
-        .map(|line| line.split(' ').skip(1).map(String::from).collect())
-        .collect()
+    String::from_utf8(output.stdout).unwrap()
+}
+
+// The hashes of a family.
+fn cases(family: &str) -> Vec<Case> {
+    lines(family).lines().filter_map(case).collect()
+}
+
+#[test]
+fn roots() {
+    let lines = lines("b");
+    let roots = lines.lines().filter(|line| line.starts_with("r 64 "));
+    let mut count = 0;
+    for line in roots {
+        let fields: Vec<&str> = line.split(' ').collect();
+        let [salt, persona, message, wanted] = [2, 3, 5, 6].map(|field| bytes(fields[field]));
+        let leaf_length = fields[4].parse().unwrap();
+        let root = vulfsjor::tree_root(message, &salt, &persona, leaf_length).unwrap();
+        assert_eq!(root.as_bytes(), wanted);
+        count += 1;
+    }
+    assert!(count >= 40);
+    let long = [0; 17];
+    assert_eq!(vulfsjor::tree_root(b"", b"", b"", 0), Err(InvalidLength));
+    assert_eq!(vulfsjor::tree_root(b"", &long, b"", 1), Err(InvalidLength));
+    assert_eq!(vulfsjor::tree_root(b"", b"", &long, 1), Err(InvalidLength));
 }
 
 macro_rules! family {
@@ -32,29 +101,45 @@ macro_rules! family {
         fn $test() {
             let cases = cases($letter);
             assert!(cases.len() >= 512);
+            assert!(cases.iter().filter(|case| case.last_node).count() >= 20);
             for (i, case) in cases.iter().enumerate() {
-                let size: usize = case[0].parse().unwrap();
-                let [key, salt, persona, message, wanted] =
-                    [1, 2, 3, 4, 5].map(|field| bytes(&case[field]));
+                let Case {
+                    size,
+                    key,
+                    salt,
+                    persona,
+                    tree,
+                    last_node,
+                    message,
+                    wanted,
+                } = case;
+                let (size, is_plain) = (*size, *tree == Tree::SEQUENTIAL);
                 let params = Params::new()
                     .output_size(size)
-                    .key(&key)
-                    .salt(&salt)
-                    .persona(&persona);
+                    .key(key)
+                    .salt(salt)
+                    .persona(persona)
+                    .tree(*tree)
+                    .last_node(*last_node);
                 let mut hasher = params.$make().unwrap();
                 for piece in message.chunks(1 + i % 200) {
                     hasher.update(piece);
                 }
                 assert_eq!(hasher.finalize_reset().as_bytes(), wanted);
-                hasher.write_all(&message).unwrap();
+                hasher.set_last_node(!last_node);
+                hasher.write_all(message).unwrap();
+                assert_ne!(hasher.clone().finalize().as_bytes(), wanted);
+                hasher.set_last_node(*last_node);
                 assert_eq!(hasher.clone().finalize().as_bytes(), wanted);
                 hasher.reset();
-                assert_eq!(
-                    hasher.update(&message).clone().finalize().as_bytes(),
-                    wanted
-                );
-                if key.is_empty() && salt.is_empty() && persona.is_empty() && size == $max {
-                    assert_eq!($hasher::digest(&message).as_bytes(), wanted);
+                assert_eq!(hasher.update(message).clone().finalize().as_bytes(), wanted);
+                if is_plain
+                    && key.is_empty()
+                    && salt.is_empty()
+                    && persona.is_empty()
+                    && size == $max
+                {
+                    assert_eq!($hasher::digest(message).as_bytes(), wanted);
                 }
                 if key.is_empty() {
                     assert_eq!($mac::with_params(&params).err(), Some(InvalidLength));
@@ -63,9 +148,9 @@ macro_rules! family {
                 let mut mac = $mac::with_params(&params).unwrap();
                 mac.update(b"other");
                 mac.reset();
-                mac.update(&message);
+                mac.update(message);
                 assert_eq!(mac.clone().finalize().as_bytes(), wanted);
-                assert_eq!(mac.clone().verify(&wanted), Ok(()));
+                assert_eq!(mac.clone().verify(wanted), Ok(()));
                 let mut wrong = wanted.clone();
                 wrong[i % size] ^= 1;
                 assert_eq!(mac.clone().verify(&wrong), Err(MacError));
@@ -77,6 +162,14 @@ macro_rules! family {
                 Params::new().key(&[0; $max + 1]),
                 Params::new().salt(&[0; $salt + 1]),
                 Params::new().persona(&[0; $salt + 1]),
+                Params::new().tree(Tree {
+                    depth: 0,
+                    ..Tree::SEQUENTIAL
+                }),
+                Params::new().tree(Tree {
+                    inner_length: $max + 1,
+                    ..Tree::SEQUENTIAL
+                }),
             ] {
                 assert_eq!(params.$make().err(), Some(InvalidLength));
             }
@@ -95,3 +188,17 @@ macro_rules! family {
 
 family!(blake2b, "b", Blake2b, Blake2bMac, blake2b, 64, 16);
 family!(blake2s, "s", Blake2s, Blake2sMac, blake2s, 32, 8);
+
+#[test]
+fn node_offsets_of_blake2s_have_48_bits() {
+    let at = |node_offset| {
+        Params::new()
+            .tree(Tree {
+                node_offset,
+                ..Tree::SEQUENTIAL
+            })
+            .blake2s()
+    };
+    assert!(at((1 << 48) - 1).is_ok());
+    assert_eq!(at(1 << 48).err(), Some(InvalidLength));
+}

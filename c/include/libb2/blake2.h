@@ -2,7 +2,7 @@
  * where the compiler looks for headers, so that `#include <blake2.h>` finds this file, and link
  * with libblake2_c.a instead of libb2. What blake2_c.h says of a call holds here too.
  *
- * Not here: blake2sp and blake2bp, and the fields of libb2's states. */
+ * Not here: blake2sp and blake2bp, and the fields of libb2's states but last_node. */
 #ifndef VULFSJOR_LIBB2_BLAKE2_H
 #define VULFSJOR_LIBB2_BLAKE2_H
 

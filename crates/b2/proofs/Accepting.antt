@@ -1,5 +1,8 @@
--- Which inputs are accepted, in terms of what the options of a MAC refuse and of how much is counted.
-use Rattle.std.proofs.Common.{◌≡◌, ℕ, ◌+◌, ◌-◌, ◌<◌, ◌≤◌, ◌^◌, List, [], ◌++◌, length, replicate, Option, None, Some, inl, inr, refl, arith, length-append, lit<, subst, sym, IfSome}
+-- Which inputs are accepted, in terms of what the options of a MAC refuse and of how much is
+-- counted.
+use Rattle.std.proofs.Common.{◌≡◌, ℕ, ◌+◌, ◌-◌, ◌<◌, ◌≤◌, ◌^◌, List, [], ◌++◌, length, replicate}
+use Rattle.std.proofs.Common.{Option, None, Some, inl, inr, refl, arith, length-append, lit<, subst}
+use Rattle.std.proofs.Common.{sym, IfSome}
 use Rattle.std.proofs.lemmas.List.{length-replicate}
 use Rattle.std.specs.Prelude.{◌⊎◌}
 use Rattle.std.proofs.lemmas.Bool.{cases_lt}
@@ -16,21 +19,29 @@ key_in_block blake2b n h = omega arith
 key_in_block blake2s n h = omega arith
 
 -- a key that is padded to n bytes counts these and the message
-padded_counts : (n : ℕ) (key message : List ℕ) → length key ≤ n → length (padded n key ++ message) ≡ n + length message
+padded_counts : (n : ℕ) (key message : List ℕ) → length key ≤ n
+    → length (padded n key ++ message) ≡ n + length message
 unfolding padded
 padded_counts n key message h =
     let zeros : List ℕ = replicate (n - length key) 0 in
-    omega (arith, length-append (key ++ zeros) message, length-append key zeros, length-replicate {A = ℕ} (n - length key) 0)
+    omega (
+      arith,
+      length-append (key ++ zeros) message,
+      length-append key zeros,
+      length-replicate {A = ℕ} (n - length key) 0,
+    )
 
 -- the data of a key that fits counts the key's block and the message
 counted : (f : Family) (key : Option (List ℕ)) (message : List ℕ) → KeyFits f key
     → length (key_block f key ++ message) ≡ key_count f key + length message
 unfolding key_block
 counted f None message fits = omega arith
-counted f (Some key) message fits = padded_counts (block_bytes f) key message (key_in_block f (length key) fits.1)
+counted f (Some key) message fits = padded_counts (block_bytes f) key message
+    (key_in_block f (length key) fits.1)
 
 -- a key that fits is not refused
-fits_or_refused : (f : Family) (key : Option (List ℕ)) → IsKeyOfBytes key → KeyFits f key ⊎ IsRefusedKey f key
+fits_or_refused : (f : Family) (key : Option (List ℕ)) → IsKeyOfBytes key
+    → KeyFits f key ⊎ IsRefusedKey f key
 fits_or_refused f None bytes = inl tt
 fits_or_refused f (Some key) bytes =
     elim (cases_lt 0 (length key)) [
@@ -47,7 +58,8 @@ not_refused_key f (Some key) fits (inl empty) = omega (arith, fits.0, empty)
 not_refused_key f (Some key) fits (inr long) = omega (arith, fits.1, long)
 
 -- an accepted input has no key, salt or persona that a MAC refuses
-pub not_refused : (f : Family) (a b : Input) → a ≡ b → Accepts f a → IsRefused f b.key b.salt b.persona → ⊥
+pub not_refused : (f : Family) (a b : Input) → a ≡ b → Accepts f a
+    → IsRefused f b.key b.salt b.persona → ⊥
 not_refused f a b same accepts = go (subst (Accepts f) same accepts)
   where
     go : Accepts f b → IsRefused f b.key b.salt b.persona → ⊥
@@ -81,7 +93,8 @@ sequential_admitted f a whole = subst (AdmitsTree f) (sym whole) (go f)
 
 -- an input of bytes is refused for its lengths, or counts too much, or is accepted
 refused_or_counts : (f : Family) (a : Input) → IsOfBytes a → a.tree ≡ sequential
-    → IsRefused f a.key a.salt a.persona ⊎ ((2 ^ 64 ≤ key_count f a.key + length a.message) ⊎ Accepts f a)
+    → IsRefused f a.key a.salt a.persona ⊎ ((2 ^ 64 ≤ key_count f a.key
+    + length a.message) ⊎ Accepts f a)
 refused_or_counts f a bytes whole =
     elim (fits_or_refused f a.key bytes.key) [
       | inr key ↦ inl (inl key)
@@ -126,7 +139,8 @@ refused_without_message f a b same bytes whole empty not =
 
 -- an input that is not accepted, though its lengths are, counts 2^64 bytes or more
 pub too_long : (f : Family) (a b : Input) → a ≡ b → IsOfBytes a → b.tree ≡ sequential
-    → (IsRefused f b.key b.salt b.persona → ⊥) → (Accepts f a → ⊥) → 2 ^ 64 ≤ key_count f b.key + length b.message
+    → (IsRefused f b.key b.salt b.persona → ⊥) → (Accepts f a → ⊥)
+    → 2 ^ 64 ≤ key_count f b.key + length b.message
 too_long f a b same bytes whole allowed not =
     elim (refused_or_counts f b (subst IsOfBytes same bytes) whole) [
       | inl refused ↦ absurd (allowed refused)
@@ -135,13 +149,15 @@ too_long f a b same bytes whole allowed not =
     ]
 
 -- what is counted of a message is counted of all that a source had left, where the message is that
-pub counts_all : (left : Option (List ℕ)) (message : List ℕ) (n : ℕ) → IfSome left (λ all. message ≡ all)
+pub counts_all : (left : Option (List ℕ)) (message : List ℕ) (n : ℕ)
+    → IfSome left (λ all. message ≡ all)
     → 2 ^ 64 ≤ n + length message → IfSome left (λ all. 2 ^ 64 ≤ n + length all)
 counts_all None message n is long = tt
 counts_all (Some all) message n is long = subst (λ (m : List ℕ). 2 ^ 64 ≤ n + length m) is long
 
 -- an unkeyed message without salt and persona is accepted
-pub unkeyed_accepted : (f : Family) (a : Input) (message : List ℕ) → a ≡ input [] [] None message → AreBytes message → length message < 2 ^ 64 → Accepts f a
+pub unkeyed_accepted : (f : Family) (a : Input) (message : List ℕ) → a ≡ input [] [] None message
+    → AreBytes message → length message < 2 ^ 64 → Accepts f a
 unkeyed_accepted f a message is bytes short =
     subst (Accepts f) (sym is) (record {
       salt_fits = omega arith;

@@ -1,11 +1,14 @@
 -- How the printing of a hash function or MAC ends its task.
-use Rattle.std.proofs.Common.{◌≡◌, ℕ, ◌+◌, ◌<◌, ◌^◌, Bool, true, false, List, length, Option, Some, None, Result, Ok, Err, IfSome, refl, arith}
+use Rattle.std.proofs.Common.{◌≡◌, ℕ, ◌+◌, ◌<◌, ◌^◌, Bool, true, false, List, length, Option, Some}
+use Rattle.std.proofs.Common.{None, Result, Ok, Err, IfSome, refl, arith}
 use Rattle.std.specs.Prelude.{◌↔◌, IsErrOf, IsTrue}
 use Rattle.std.specs.Io.KnownBytes.{Appends}
 use Rattle.blake2.specs.Keys.{key_count}
 use Rattle.blake2.specs.Streams.{line_of}
 use Rattle.b2.specs.declared.fault.Fault.{Fault}
-use Rattle.b2.specs.declared.fault.Fault.TheVariants.{WrongWords, WrongHex, WrongLength, WrongLine, NoSuchSlot, LineTooLong, TooLong, ReadFailed, NoMemory, WriteFailed}
+use Rattle.b2.specs.declared.fault.Fault.TheVariants.{WrongWords, WrongHex, WrongLength, WrongLine}
+use Rattle.b2.specs.declared.fault.Fault.TheVariants.{NoSuchSlot, LineTooLong, TooLong, ReadFailed}
+use Rattle.b2.specs.declared.fault.Fault.TheVariants.{NoMemory, WriteFailed}
 use Rattle.b2.specs.declared.hash.Output.{Output}
 use Rattle.b2.specs.declared.hash.Output.TheVariants.{Digest, Digests}
 use Rattle.b2.specs.declared.words.Kind.{Kind}
@@ -16,12 +19,15 @@ use Rattle.b2.specs.Ends.{EndsTask}
 use Rattle.b2.specs.Hashes.{hash_task, EndsFor}
 
 -- what the printing by one family says, with a kind of that family
-pub record Printed (output : Output) (kind : Kind) (given : Given) (result : Result (Unit {0}) Fault) (left : Option (List ℕ)) (read_failed write_failed : Bool) (old new : Option (List ℕ)) : Type 0 where
+pub record Printed (output : Output) (kind : Kind) (given : Given)
+    (result : Result (Unit {0}) Fault) (left : Option (List ℕ)) (read_failed write_failed : Bool)
+    (old new : Option (List ℕ)) : Type 0 where
   pub refuses : IsErrOf result WrongLength ↔ IsRefusedBy (family_of kind) given
   pub read : IsErrOf result ReadFailed ↔ IsTrue read_failed
   pub write : IsErrOf result WriteFailed ↔ IsTrue write_failed
   pub memory : output ≡ Digest → result ≡ Err NoMemory → ⊥
-  pub ends : EndsFor output (digest_with (family_of kind) (size_of kind) given) (key_count (family_of kind) given.key) result left old new
+  pub ends : EndsFor output (digest_with (family_of kind) (size_of kind) given)
+      (key_count (family_of kind) given.key) result left old new
 
 -- no script is too long
 never_too_long : (left : Option (List ℕ)) → IfSome left (λ _. ⊥ → ⊥)
@@ -29,19 +35,27 @@ never_too_long None = tt
 never_too_long (Some input) = λ long. long
 
 -- what does not hold is false
-unfailed : (b : Bool) → (IsTrue b → ⊥) → b ≡ false
+pub unfailed : (b : Bool) → (IsTrue b → ⊥) → b ≡ false
 unfailed true never = absurd (never refl)
 unfailed false never = refl
 
 -- a digest that is printed is that of the whole input, which is not too long
-sum_done : (kind : Kind) (given : Given) (left old new : Option (List ℕ)) → (IsRefusedBy (family_of kind) given → ⊥)
-    → IfSome left (λ bytes. (key_count (family_of kind) given.key + length bytes < 2 ^ 64) × Appends old new (line_of (digest_with (family_of kind) (size_of kind) given bytes)))
+sum_done : (kind : Kind) (given : Given) (left old new : Option (List ℕ))
+    → (IsRefusedBy (family_of kind) given → ⊥)
+    → IfSome left (λ bytes. (key_count (family_of kind) given.key + length bytes < 2 ^ 64)
+    × Appends old new (line_of (digest_with (family_of kind) (size_of kind) given bytes)))
     → IsDone (to_sum kind given) left old new
-sum_done kind given None old new allowed printed = record { not_refused = allowed; fits = tt; output = tt }
+sum_done kind given None old new allowed printed =
+    record { not_refused = allowed; fits = tt; output = tt }
 sum_done kind given (Some input) old new allowed printed =
-    record { not_refused = allowed; fits = λ long. omega (arith, long, printed.0); output = printed.1 }
+    record {
+      not_refused = allowed;
+      fits = λ long. omega (arith, long, printed.0);
+      output = printed.1;
+    }
 
-pub hash_ends : (output : Output) (kind : Kind) (given : Given) (result : Result (Unit {0}) Fault) (left : Option (List ℕ)) (read_failed write_failed : Bool) (old new : Option (List ℕ))
+pub hash_ends : (output : Output) (kind : Kind) (given : Given) (result : Result (Unit {0}) Fault)
+    (left : Option (List ℕ)) (read_failed write_failed : Bool) (old new : Option (List ℕ))
     → Printed output kind given result left read_failed write_failed old new
     → EndsTask (hash_task output kind given) result left read_failed write_failed old new
 hash_ends Digest kind given (Ok _) left rf wf old new p = record {
@@ -52,7 +66,13 @@ hash_ends Digest kind given (Ok _) left rf wf old new p = record {
   unprinted = tt;
 }
 hash_ends Digest kind given (Err WrongLength) left rf wf old new p =
-    record { read = p.read; write = p.write; done = tt; cause = p.refuses.0 refl; unprinted = λ _. p.ends }
+    record {
+      read = p.read;
+      write = p.write;
+      done = tt;
+      cause = p.refuses.0 refl;
+      unprinted = λ _. p.ends;
+    }
 hash_ends Digest kind given (Err TooLong) left rf wf old new p = record {
   read = p.read;
   write = p.write;
@@ -92,7 +112,13 @@ hash_ends Digests kind given (Ok _) left rf wf old new p = record {
   unprinted = tt;
 }
 hash_ends Digests kind given (Err WrongLength) left rf wf old new p =
-    record { read = p.read; write = p.write; done = tt; cause = p.refuses.0 refl; unprinted = λ _. p.ends }
+    record {
+      read = p.read;
+      write = p.write;
+      done = tt;
+      cause = p.refuses.0 refl;
+      unprinted = λ _. p.ends;
+    }
 hash_ends Digests kind given (Err (WrongLine number)) left rf wf old new p = record {
   read = p.read;
   write = p.write;

@@ -1,7 +1,9 @@
 mod Accepting
 mod CutLemmas
+mod Filling
 mod Hashing
 mod LineLemmas
 mod Printing
+mod Rooting
 mod ScriptLemmas
 mod WordLemmas

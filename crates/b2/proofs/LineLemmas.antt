@@ -1,5 +1,6 @@
 -- The lines of a script, a line at a time.
-use Rattle.std.proofs.Common.{◌≡◌, ℕ, ◌+◌, List, [], ◌∷◌, ◌++◌, append_assoc, Result, Ok, Err, refl, sym, ap, ◌∙◌}
+use Rattle.std.proofs.Common.{◌≡◌, ℕ, ◌+◌, List, [], ◌∷◌, ◌++◌, append_assoc, Result, Ok, Err, refl}
+use Rattle.std.proofs.Common.{sym, ap, ◌∙◌}
 use Rattle.blake2_runs.specs.declared.calls.Call.{Call}
 use Rattle.b2.specs.declared.fault.Fault.{Fault}
 use Rattle.b2.specs.Scripts.{call_at, calls_from}
@@ -21,8 +22,12 @@ one_more : (calls : List Call) (call : Call) (later : Result (List Call) Fault)
 one_more calls call (Ok more) = ap Ok (sym (append_assoc calls (call ∷ []) more))
 one_more calls call (Err fault) = refl
 
--- the next line has a call: the calls of all lines are the earlier ones with it, and then those of the later lines
-pub read_on : (all : Result (List Call) Fault) (calls : List Call) (call : Call) (number : ℕ) (line : List ℕ) (lines rest : List (List ℕ)) → all ≡ behind calls (calls_from number rest) → rest ≡ line ∷ lines
-    → call_at number line ≡ Ok call → all ≡ behind (calls ++ call ∷ []) (calls_from (number + 1) lines)
+-- the next line has a call: the calls of all lines are the earlier ones with it, and then those of
+-- the later lines
+pub read_on : (all : Result (List Call) Fault) (calls : List Call) (call : Call) (number : ℕ)
+    (line : List ℕ) (lines rest : List (List ℕ)) → all ≡ behind calls (calls_from number rest)
+    → rest ≡ line ∷ lines
+    → call_at number line ≡ Ok call → all ≡ behind (calls ++ call ∷ [])
+    (calls_from (number + 1) lines)
 read_on all calls call number line lines rest is first read =
     is ∙ rw (first, read) (one_more calls call (calls_from (number + 1) lines))

@@ -11,8 +11,18 @@ use Rattle.b2.specs.Lines.{step_line}
 use Rattle.b2.specs.Witnesses.{PrintsWitness}
 
 -- the lines of two steps that make a witness, one after the other
-pub pair_printed : (f : Family) (n : ℕ) (a b : Input) (x y : Step) (old mid new : Option (List ℕ)) (r : Result (Unit {0}) Fault)
-    → Collide f n a b → IsWitness f a b n x y → Appends old mid (step_line f x) → OnOk r (Appends mid new (step_line f y))
+pub pair_printed : (f : Family) (n : ℕ) (a b : Input) (x y : Step) (old mid new : Option (List ℕ))
+    (r : Result (Unit {0}) Fault)
+    → Collide f n a b → IsWitness f a b n x y → Appends old mid (step_line f x)
+    → OnOk r (Appends mid new (step_line f y))
     → OnOk r (PrintsWitness f n a b old new)
 pair_printed f n a b x y old mid new r collide pair first second =
-    on_ok_weaker r (λ last. inl (collide, (x, y, pair, Appends-trans old mid new (step_line f x) (step_line f y) first last))) second
+    on_ok_weaker r (λ last. inl (
+      collide,
+      (
+        x,
+        y,
+        pair,
+        Appends-trans old mid new (step_line f x) (step_line f y) first last,
+      ),
+    )) second

@@ -9,5 +9,6 @@ pub mod Options
 pub mod Reading
 pub mod Scripts
 pub mod Tasks
+pub mod Trees
 pub mod Witnesses
 pub mod Words

@@ -1,6 +1,6 @@
 -- What the tasks of the program take and print.
-use Rattle.std.specs.Prelude.{◌≡◌, ℕ, ◌+◌, ◌≤◌, ◌^◌, ⊤, List, [], length, Option, unwrap_or, IfSome}
-use Rattle.std.specs.Prelude.{Result, Err, IsOkAnd}
+use Rattle.std.specs.Prelude.{◌≡◌, ℕ, ◌+◌, ◌<◌, ◌≤◌, ◌^◌, ◌⊎◌, ⊤, List, [], length, Option}
+use Rattle.std.specs.Prelude.{unwrap_or, IfSome, Result, Err, IsOkAnd}
 use Rattle.std.specs.List.{flat_map}
 use Rattle.std.specs.Io.KnownBytes.{Appends}
 use Rattle.blake2.specs.Family.{Family, blake2b, blake2s}
@@ -8,15 +8,18 @@ use Rattle.blake2.specs.Hash.{Input}
 use Rattle.blake2.specs.Keys.{key_count, IsRefused}
 use Rattle.blake2.specs.States.{digest_of, input as input_of_parts}
 use Rattle.blake2.specs.Streams.{line_of}
+use Rattle.blake2_tree.specs.TreeRoot.{tree_parameters, tree_root}
 use Rattle.b2.specs.declared.fault.Fault.{Fault}
 use Rattle.b2.specs.declared.words.Kind.{Kind}
 use Rattle.b2.specs.declared.words.Kind.TheVariants.{Blake2b128, Blake2b256, Blake2b512, Blake2s128}
 use Rattle.b2.specs.declared.words.Kind.TheVariants.{Blake2s256}
+use Rattle.b2.specs.declared.tree_request.TreeKind.{TreeKind}
+use Rattle.b2.specs.declared.tree_request.TreeKind.TheVariants as tree
 use Rattle.b2.specs.declared.witness.WitnessKind.{WitnessKind}
 use Rattle.b2.specs.declared.witness.WitnessKind.TheVariants.{Common, Blake2b0, Blake2b8, Blake2s0}
 use Rattle.b2.specs.declared.witness.WitnessKind.TheVariants.{Blake2s8}
 use Rattle.b2.specs.Words.{Given, nothing_given, Task}
-use Rattle.b2.specs.Words.Task.{to_sum, to_script, to_steps, to_witness}
+use Rattle.b2.specs.Words.Task.{to_sum, to_script, to_steps, to_witness, to_tree}
 use Rattle.b2.specs.Lines.{transcript_lines}
 use Rattle.b2.specs.Scripts.{script_digests}
 use Rattle.b2.specs.Witnesses.{PrintsWitness}
@@ -53,9 +56,26 @@ compared_size Blake2b8 = 1
 compared_size Blake2s0 = 0
 compared_size Blake2s8 = 1
 
+-- the bytes of a root of `tree`
+abbrev pub root_size : TreeKind → ℕ
+root_size tree.Blake2b128 = 16
+root_size tree.Blake2b256 = 32
+root_size tree.Blake2b512 = 64
+
 -- a key, a salt or a persona that is given has a length that the family does not take
 abbrev pub IsRefusedBy : Family → Given → Type 0
 IsRefusedBy f given = IsRefused f given.key (unwrap_or given.salt []) (unwrap_or given.persona [])
+
+-- a salt or a persona that is given has more bytes than a tree takes
+abbrev pub IsRefusedByTree : Given → Type 0
+IsRefusedByTree given =
+    (16 < length (unwrap_or given.salt [])) ⊎ (16 < length (unwrap_or given.persona []))
+
+-- the root of n bytes with the salt and the persona that are given, as a function of the message
+abbrev pub root_with : ℕ → ℕ → Given → List ℕ → List ℕ
+root_with n leaf_length given message =
+    tree_root n
+    (tree_parameters (unwrap_or given.salt []) (unwrap_or given.persona []) leaf_length) message
 
 -- BLAKE2 of n bytes with the salt, the persona and the key that are given, as a function of the
 -- message
@@ -74,23 +94,27 @@ IsRefusedTask (to_sum kind given) = IsRefusedBy (family_of kind) given
 IsRefusedTask (to_script kind given) = IsRefusedBy (family_of kind) given
 IsRefusedTask (to_steps kind given) = IsRefusedBy (family_of kind) given
 IsRefusedTask (to_witness kind a b) = ⊥
+IsRefusedTask (to_tree kind leaf_length given) = IsRefusedByTree given
 
 -- the bytes of an input, with those of a key's block, would be 2^64 or more
 abbrev pub IsTooLongBy : Family → Given → List ℕ → Type 0
 IsTooLongBy f given input = 2 ^ 64 ≤ key_count f given.key + length input
 
--- so they would be for a task. A script counts the bytes of each slot, and `witness` reads no input
+-- so they would be for a task. A script counts the bytes of each slot, `witness` reads no input,
+-- and a tree takes fewer than 2^58 bytes
 abbrev pub IsTooLongFor : Task → List ℕ → Type 0
 IsTooLongFor (to_sum kind given) input = IsTooLongBy (family_of kind) given input
 IsTooLongFor (to_script kind given) input = ⊥
 IsTooLongFor (to_steps kind given) input = IsTooLongBy (family_of kind) given input
 IsTooLongFor (to_witness kind a b) input = ⊥
+IsTooLongFor (to_tree kind leaf_length given) input = 2 ^ 58 ≤ length input
 
--- a task takes memory once its words are read: `script` and `steps` hold the input, `sum` passes it
--- on in pieces, and `witness` needs none
+-- a task takes memory once its words are read: `script` and `steps` hold the input, and `tree` a
+-- piece of it; `sum` passes it on in pieces of a fixed length, and `witness` needs none
 abbrev pub TakesMemory : Task → Type 0
 TakesMemory (to_script kind given) = ⊤
 TakesMemory (to_steps kind given) = ⊤
+TakesMemory (to_tree kind leaf_length given) = ⊤
 TakesMemory task = ⊥
 
 -- the digests that a script answers with what is given
@@ -118,6 +142,9 @@ Outputs (to_steps kind given) left old new =
 Outputs (to_witness kind a b) left old new =
     PrintsWitness (compared_family kind) (compared_size kind)
     (input_with nothing_given a) (input_with nothing_given b) old new
+Outputs (to_tree kind leaf_length given) left old new =
+    IfSome left (λ input. Appends old new
+    (line_of (root_with (root_size kind) leaf_length given input)))
 
 -- a task was done: it is not refused, the input that a source had left is not too long for it, and
 -- a sink took the whole output

@@ -1,14 +1,19 @@
 -- What the words of the command line ask for. They are looked at from left to right, and the first
 -- fault is the answer.
-use Rattle.std.specs.Prelude.{◌≡◌, ⊤, ℕ, ◌==◌, if◌then◌else◌, List, [], ◌∷◌, codes, Option, Some}
-use Rattle.std.specs.Prelude.{None, is_some, position, Result, Ok, Err}
-use Rattle.std.specs.List.{before_first, after_first}
+use Rattle.std.specs.Prelude.{◌≡◌, ⊤, ℕ, ◌^◌, ◌==◌, ◌&&◌, not, nat_lt, Bool, true, false}
+use Rattle.std.specs.Prelude.{if◌then◌else◌, List, [], ◌∷◌, length, slice_index, codes, Option}
+use Rattle.std.specs.Prelude.{Some, None, is_some, position, Result, Ok, Err}
+use Rattle.std.specs.Char.{is_ascii_digit}
+use Rattle.std.specs.List.{before_first, after_first, list_all}
 use Rattle.std.specs.Result.{result_map_both}
 use Rattle.std.specs.Str.{bytes_eq}
+use Rattle.std.specs.Str.Parse.{digits_value}
 use Rattle.hex.specs.Hex.{decode_of}
 use Rattle.b2.specs.declared.words.Kind.{Kind}
 use Rattle.b2.specs.declared.words.Kind.TheVariants.{Blake2b128, Blake2b256, Blake2b512, Blake2s128}
 use Rattle.b2.specs.declared.words.Kind.TheVariants.{Blake2s256}
+use Rattle.b2.specs.declared.tree_request.TreeKind.{TreeKind}
+use Rattle.b2.specs.declared.tree_request.TreeKind.TheVariants as tree
 use Rattle.b2.specs.declared.witness.WitnessKind.{WitnessKind}
 use Rattle.b2.specs.declared.witness.WitnessKind.TheVariants.{Common, Blake2b0, Blake2b8, Blake2s0}
 use Rattle.b2.specs.declared.witness.WitnessKind.TheVariants.{Blake2s8}
@@ -50,6 +55,27 @@ witness_kind_of word =
     else if bytes_eq word (codes "s8") then Ok Blake2s8
     else and_then (kind_of word) (λ kind. Ok (Common kind))
 
+-- the kind of root that `tree` prints, which a word names
+abbrev pub tree_kind_of : List ℕ → Result TreeKind Fault
+tree_kind_of word =
+    if bytes_eq word (codes "b128") then Ok tree.Blake2b128
+    else if bytes_eq word (codes "b256") then Ok tree.Blake2b256
+    else if bytes_eq word (codes "b512") then Ok tree.Blake2b512
+    else Err WrongWords
+
+-- whether a word is a number of 1 to 2^32 - 1, in decimal digits without a leading zero (48)
+abbrev pub is_leaf_length : List ℕ → Bool
+is_leaf_length digits =
+    nat_lt 0 (length digits) &&
+    (nat_lt (length digits) 11 &&
+    (not (slice_index digits 0 == 48) &&
+    (list_all is_ascii_digit digits && nat_lt (digits_value 10 digits) (2 ^ 32))))
+
+-- the bytes of a leaf that the word LEAF names
+abbrev pub leaf_value : List ℕ → Result ℕ Fault
+leaf_value digits =
+    if is_leaf_length digits then Ok (digits_value 10 digits) else Err WrongWords
+
 -- the bytes of HEX as a message: two or more hexadecimal digits, an even number, or `-` for none
 abbrev pub message_value : List ℕ → Result (List ℕ) Fault
 message_value word =
@@ -73,13 +99,13 @@ first_value None digits = hex_value digits
 first_value (Some bytes) digits = Err WrongWords
 
 -- what is given with one word NAME=HEX more: its name is looked at first, and its HEX next (61 is
--- `=`)
-abbrev pub with_word : Given → List ℕ → Result Given Fault
-with_word given word =
+-- `=`). `key` is a name where a key is taken
+abbrev pub with_word : Bool → Given → List ℕ → Result Given Fault
+with_word takes_key given word =
     let name = before_first (λ b. b == 61) word in
     let digits = after_first (λ b. b == 61) word in
     if is_some (position (λ b. b == 61) word) then (
-    if bytes_eq name (codes "key") then and_then (first_value given.key digits)
+    if takes_key && bytes_eq name (codes "key") then and_then (first_value given.key digits)
     (λ bytes. Ok (record given { key = Some bytes }))
     else if bytes_eq name (codes "salt") then and_then (first_value given.salt digits)
     (λ bytes. Ok (record given { salt = Some bytes }))
@@ -89,9 +115,10 @@ with_word given word =
     ) else Err WrongWords
 
 -- what is given with all of the words more
-abbrev pub with_words : Given → List (List ℕ) → Result Given Fault
-with_words given [] = Ok given
-with_words given (word ∷ words) = and_then (with_word given word) (λ more. with_words more words)
+abbrev pub with_words : Bool → Given → List (List ℕ) → Result Given Fault
+with_words takes_key given [] = Ok given
+with_words takes_key given (word ∷ words) =
+    and_then (with_word takes_key given word) (λ more. with_words takes_key more words)
 
 -- what a command line asks for
 pub data Task : Type 0 where
@@ -103,13 +130,15 @@ pub data Task : Type 0 where
   to_steps : Kind → Given → Task
   -- `witness KIND HEX HEX`
   to_witness : WitnessKind → List ℕ → List ℕ → Task
+  -- `tree KIND LEAF [salt=HEX] [persona=HEX]`
+  to_tree : TreeKind → ℕ → Given → Task
 
 -- the task of the words behind a command's name, KIND and what is given
 abbrev pub given_task : (Kind → Given → Task) → List (List ℕ) → Result Task Fault
 given_task to [] = Err WrongWords
 given_task to (kind ∷ words) =
     and_then (kind_of kind)
-    (λ k. and_then (with_words nothing_given words) (λ given. Ok (to k given)))
+    (λ k. and_then (with_words true nothing_given words) (λ given. Ok (to k given)))
 
 -- the task of the words behind `witness`, where the kind and the messages before them are told
 abbrev pub rest_task : WitnessKind → List ℕ → List ℕ → List (List ℕ) → Result Task Fault
@@ -128,6 +157,17 @@ abbrev pub witness_task : List (List ℕ) → Result Task Fault
 witness_task [] = Err WrongWords
 witness_task (word ∷ words) = and_then (witness_kind_of word) (λ kind. first_task kind words)
 
+-- the task of the words behind `tree`, and of those behind its KIND
+abbrev pub leaf_task : TreeKind → List (List ℕ) → Result Task Fault
+leaf_task kind [] = Err WrongWords
+leaf_task kind (leaf ∷ words) =
+    and_then (leaf_value leaf)
+    (λ n. and_then (with_words false nothing_given words) (λ given. Ok (to_tree kind n given)))
+
+abbrev pub tree_task : List (List ℕ) → Result Task Fault
+tree_task [] = Err WrongWords
+tree_task (word ∷ words) = and_then (tree_kind_of word) (λ kind. leaf_task kind words)
+
 -- the task of a command line
 abbrev pub task_of : List (List ℕ) → Result Task Fault
 task_of [] = Err WrongWords
@@ -136,4 +176,5 @@ task_of (command ∷ words) =
     else if bytes_eq command (codes "script") then given_task to_script words
     else if bytes_eq command (codes "steps") then given_task to_steps words
     else if bytes_eq command (codes "witness") then witness_task words
+    else if bytes_eq command (codes "tree") then tree_task words
     else Err WrongWords

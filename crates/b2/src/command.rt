@@ -13,6 +13,8 @@ ghost use Rattle.b2.specs.Ends.{EndsTask};
 use crate::fault::Fault;
 use crate::hash::{Output, hash};
 use crate::steps::steps;
+use crate::tree::tree;
+use crate::tree_request::TreeRequest;
 use crate::witness::{Comparison, witness};
 use crate::words::{Kind, Options};
 use blake2::engine::{Sink, Source};
@@ -29,6 +31,8 @@ enum Command {
     Steps(Kind, Options),
     /// `witness KIND HEX HEX`: the pair of steps that two messages with one digest come to.
     Witness(Comparison),
+    /// `tree KIND LEAF [salt=HEX] [persona=HEX]`: the root of a tree of hashes over the input.
+    Tree(TreeRequest),
 }
 
 impl Command {
@@ -55,6 +59,7 @@ impl Command {
                 Ok(Command::Steps(kind, options))
             }
             "witness" => Ok(Command::Witness(Comparison::from_words(alloc, words)?)),
+            "tree" => Ok(Command::Tree(TreeRequest::from_words(alloc, words)?)),
             _ => Err(Fault::WrongWords),
         }
     }
@@ -70,7 +75,7 @@ fn kind_and_options(alloc: Global, words: &[String]) -> Result<(Kind, Options), 
 {
     let (kind, words) = words.split_first().ok_or(Fault::WrongWords)?;
     let kind = Kind::from_word(kind.as_str())?;
-    Ok((kind, Options::from_words(alloc, words)?))
+    Ok((kind, Options::from_words(alloc, true, words)?))
 }
 
 /// Does what the words say, without the program's name, to the source and the sink, and answers the
@@ -118,5 +123,6 @@ fn execute<S: Source, K: Sink>(
         }
         Command::Steps(kind, options) => steps(alloc, kind, &options, source, sink),
         Command::Witness(comparison) => witness(alloc, &comparison, sink),
+        Command::Tree(request) => tree(alloc, &request, source, sink),
     }
 }

@@ -1,5 +1,5 @@
 //! `b2 sum` and `b2 script`: the hash function where no option is given, and the MAC where one is.
-ghost use Rattle.std.specs.Prelude.{◌≡◌, ◌≢◌, ◌≤◌, ◌↔◌, ℕ, List, false, IsTrue};
+ghost use Rattle.std.specs.Prelude.{◌≡◌, ◌≢◌, ◌≤◌, ◌↔◌, ℕ, Bool, List, false, IsTrue};
 ghost use Rattle.std.specs.Result.{IsErrOf};
 ghost use Rattle.blake2.specs.States.{Fresh};
 ghost use Rattle.blake2.specs.Family.{blake2b, blake2s};
@@ -130,8 +130,9 @@ where
     ensures read { IsErrOf result Fault.ReadFailed ↔ IsTrue (S.failed source.new) }
     ensures write { IsErrOf result Fault.WriteFailed ↔ IsTrue (K.failed sink.new) }
     ensures memory { output ≡ Output.Digest → result ≢ Err Fault.NoMemory }
-    ensures ends { (digest : List ℕ → List ℕ) (n : ℕ) → Fresh H.meaning digest n hasher
-        → EndsFor output digest n result (S.left source.old) (K.held sink.old) (K.held sink.new) }
+    ensures ends { (digest : Bool → List ℕ → List ℕ) (n : ℕ) → Fresh H.meaning digest n hasher
+        → EndsFor output (digest false) n result
+        (S.left source.old) (K.held sink.old) (K.held sink.new) }
 {
     match output {
         Output::Digest => sum(hasher, source, sink),

@@ -122,9 +122,9 @@ fn slot_of(digits: &[u8]) -> Option<usize>
     number_of(digits)
 }
 
-// The number that at most 9 decimal digits write.
-fn number_of(digits: &[u8]) -> Option<usize>
-    requires { length digits.now ≤ 9 }
+/// The number that at most 10 decimal digits write.
+pub(crate) fn number_of(digits: &[u8]) -> Option<usize>
+    requires { length digits.now ≤ 10 }
     ensures { result ≡
         (if list_all is_ascii_digit digits.now then Some (digits_value 10 digits.now) else None) }
 {

@@ -14,6 +14,8 @@ mod steps;
 mod sum;
 #[cfg(test)]
 mod tests;
+mod tree;
+mod tree_request;
 mod witness;
 mod words;
 

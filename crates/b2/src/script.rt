@@ -1,5 +1,6 @@
 //! `b2 script`: the digests that the input's calls answer.
-ghost use Rattle.std.specs.Prelude.{◌≡◌, ◌≢◌, ◌≤◌, ◌↔◌, ℕ, List, false, IsTrue, OnOk, IsOkUnless};
+ghost use Rattle.std.specs.Prelude.{◌≡◌, ◌≢◌, ◌≤◌, ◌↔◌, ℕ, Bool, List, false, IsTrue, OnOk};
+ghost use Rattle.std.specs.Prelude.{IsOkUnless};
 ghost use Rattle.std.specs.List.{flat_map};
 ghost use Rattle.std.specs.Result.{IsErrOf};
 ghost use Rattle.std.specs.Io.KnownBytes.{Appends};
@@ -37,8 +38,8 @@ where
     ensures length { result ≢ Err Fault.WrongLength }
     ensures read { IsErrOf result Fault.ReadFailed ↔ IsTrue (S.failed source.new) }
     ensures write { IsErrOf result Fault.WriteFailed ↔ IsTrue (K.failed sink.new) }
-    ensures ends { (digest : List ℕ → List ℕ) (n : ℕ) → Fresh H.meaning digest n first
-        → EndsByDigests (script_digests digest n) result (S.left source.old)
+    ensures ends { (digest : Bool → List ℕ → List ℕ) (n : ℕ) → Fresh H.meaning digest n first
+        → EndsByDigests (script_digests (digest false) n) result (S.left source.old)
         (K.held sink.old) (K.held sink.new) }
 {
     let text = read_all(alloc, source)?;

@@ -145,6 +145,7 @@ fn input_under<'a>(options: &'a Options, message: &'a [u8]) -> Input<'a>
         persona: options.persona(),
         key: options.key(),
         tree: Tree::sequential(),
+        last_node: false,
         message,
     };
     tell_bytes(input.salt);

@@ -1,6 +1,7 @@
 //! `b2 sum`: the digest of the input.
 ghost use Rattle.std.specs.Prelude.{◌≡◌, ◌≢◌, ◌≤◌, ◌↔◌, false, IsTrue};
 ghost use Rattle.std.specs.Result.{IsErrOf};
+ghost use Rattle.blake2.specs.States.{digest_after};
 ghost use Rattle.blake2.specs.Streams.{line_of};
 ghost use Rattle.b2.specs.Ends.{EndsBy};
 
@@ -25,7 +26,7 @@ where
     ensures read { IsErrOf result Fault.ReadFailed ↔ IsTrue (S.failed source.new) }
     ensures write { IsErrOf result Fault.WriteFailed ↔ IsTrue (K.failed sink.new) }
     ensures memory { result ≢ Err Fault.NoMemory }
-    ensures ends { EndsBy (λ message. line_of (H.meaning.future hasher message))
+    ensures ends { EndsBy (λ message. line_of (digest_after H.meaning hasher message))
         (H.meaning.count hasher) result
         (S.left source.old) (K.held sink.old) (K.held sink.new) }
 {

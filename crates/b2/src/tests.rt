@@ -10,6 +10,7 @@ mod refusals;
 mod script;
 mod steps;
 mod sum;
+mod tree;
 mod witness;
 
 use crate::run;

@@ -174,6 +174,7 @@ fn unkeyed(message: &[u8]) -> Input<'_>
         persona: &[],
         key: None,
         tree: Tree::sequential(),
+        last_node: false,
         message,
     }
 }

@@ -55,11 +55,18 @@ impl Options {
     ghost use Rattle.b2.specs.Words.{nothing_given, with_word, with_words, IsReadingFault};
 
     /// Reads the words in any order, each at most once: for each its name first and its HEX next.
-    pub(crate) fn from_words(alloc: Global, words: &[String]) -> Result<Options, Fault>
+    /// `key` is a name where a key is taken.
+    pub(crate) fn from_words(
+        alloc: Global,
+        takes_key: bool,
+        words: &[String],
+    ) -> Result<Options, Fault>
         ensures read { IfOk result (λ options.
-            with_words nothing_given (map string_bytes words.now) ≡ Ok (given_of options)) }
+            with_words takes_key nothing_given (map string_bytes words.now)
+            ≡ Ok (given_of options)) }
         ensures fault { IfErr result (λ fault.
-            IsReadingFault fault (with_words nothing_given (map string_bytes words.now))) }
+            IsReadingFault fault
+            (with_words takes_key nothing_given (map string_bytes words.now))) }
         ensures memory { result ≡ Err Fault.NoMemory → 0 < length words.now }
     {
         let mut options = Options {
@@ -68,21 +75,23 @@ impl Options {
             persona: None,
         };
         for word in words {
-            options.take_word(alloc, word.as_str())?;
+            options.take_word(alloc, takes_key, word.as_str())?;
         }
         Ok(options)
     }
 
     // Takes the word NAME=HEX, whose name no word before it had.
-    fn take_word(&mut self, alloc: Global, word: &str) -> Result<(), Fault>
+    fn take_word(&mut self, alloc: Global, takes_key: bool, word: &str) -> Result<(), Fault>
         ensures taken { OnOk result
-            (with_word (given_of self.old) word.now ≡ Ok (given_of self.new)) }
+            (with_word takes_key (given_of self.old) word.now ≡ Ok (given_of self.new)) }
         ensures fault { IfErr result (λ fault.
-            IsReadingFault fault (with_word (given_of self.old) word.now)) }
+            IsReadingFault fault (with_word takes_key (given_of self.old) word.now)) }
     {
         let (name, digits) = word.split_once('=').ok_or(Fault::WrongWords)?;
         match name {
-            "key" if self.key.is_none() => self.key = Some(bytes_of(alloc, digits.as_bytes())?),
+            "key" if takes_key && self.key.is_none() => {
+                self.key = Some(bytes_of(alloc, digits.as_bytes())?)
+            }
             "salt" if self.salt.is_none() => self.salt = Some(bytes_of(alloc, digits.as_bytes())?),
             "persona" if self.persona.is_none() => self.persona = Some(bytes_of(
                 alloc,

@@ -1,14 +1,19 @@
--- The promises of constructors, updates, resets and finalising calls, from the states that they leave.
-use Rattle.std.proofs.Common.{◌≡◌, ℕ, ◌+◌, ◌-◌, ◌*◌, ◌^◌, ◌<◌, ◌≤◌, List, [], ◌++◌, length, take, Option, Some, None, refl, sym, ap, ◌∙◌, arith, zero-add, append-nil, append_assoc, length-append}
+-- The promises of constructors, updates, resets and finalising calls, from the states that they
+-- leave.
+use Rattle.std.proofs.Common.{◌≡◌, ℕ, ◌+◌, ◌-◌, ◌*◌, ◌^◌, ◌<◌, ◌≤◌, List, [], ◌++◌, length, take}
+use Rattle.std.proofs.Common.{Bool, Option, Some, None, refl, sym, ap, ◌∙◌, arith, zero-add}
+use Rattle.std.proofs.Common.{append-nil, append_assoc, length-append}
 use Rattle.std.proofs.lemmas.List.{take_all}
 use Rattle.blake2_rows.specs.Family.{Family, blake2b, blake2s, block_bytes, key_bytes}
-use Rattle.blake2_words.specs.Hash.{parameters_of, final, cut, chain, last_chain, block_count, key_size, key_block, digest}
+use Rattle.blake2_words.specs.Hash.{Tree, final, cut, chain, last_chain, block_count, key_size}
+use Rattle.blake2_words.specs.Hash.{key_block, digest}
 use Rattle.blake2_words.proofs.Sizes.{length-padded}
 use Rattle.blake2_digest.specs.Blocks.{handed_on, held_back}
-use Rattle.blake2_digest.specs.States.{Updated, Fresh}
+use Rattle.blake2_digest.specs.States.{Meaning, Updated, Fresh, NodeSet}
 use Rattle.blake2_digest.proofs.Cutting.{handed_and_held, length-handed_on, length-held_back}
-use Rattle.blake2.specs.Cores.{CoreState, absorbed, last_output}
-use Rattle.blake2.specs.States.{tail, State, future, started, count, start_count, meaning_by, fresh, digest_of}
+use Rattle.blake2.specs.Cores.{CoreState, node_parameters, absorbed, last_output}
+use Rattle.blake2.specs.States.{tail, State, future, started, count, start_count, meaning_by}
+use Rattle.blake2.specs.States.{unflagged, fresh, node_set, node_digest_of}
 use Rattle.blake2.specs.CoreLaws.{count-absorbed}
 use Rattle.blake2.proofs.Streaming.{tail_handed}
 
@@ -25,25 +30,43 @@ pub block_positive : (f : Family) → 0 < block_bytes f
 block_positive blake2b = omega arith
 block_positive blake2s = omega arith
 
-future-updated : (f : Family) (n : ℕ) (s : State) (x y : List ℕ) → future f n (updated f s x) y ≡ future f n s (x ++ y)
+future-updated : (f : Family) (n : ℕ) (s : State) (x : List ℕ) (flag : Bool) (y : List ℕ)
+    → future f n (updated f s x) flag y ≡ future f n s flag (x ++ y)
 unfolding future
-future-updated f n s x y =
-    ap (take n) (tail_handed f final s.core (s.pending ++ x) y ∙ ap (λ (z : List ℕ). tail f s.core.h s.core.count z final) (append_assoc s.pending x y))
+future-updated f n s x flag y =
+    let assoc = ap (λ (z : List ℕ). tail f s.core.h s.core.count z (final flag))
+    (append_assoc s.pending x y) in
+    ap (take n) (tail_handed f (final flag) s.core (s.pending ++ x) y ∙ assoc)
 
-started-updated : (f : Family) (n : ℕ) (s : State) (x y : List ℕ) → started f n (updated f s x) y ≡ started f n s y
+started-updated : (f : Family) (n : ℕ) (s : State) (x : List ℕ) (flag : Bool) (y : List ℕ)
+    → started f n (updated f s x) flag y ≡ started f n s flag y
 unfolding started absorbed
-started-updated f n s x y = refl
+started-updated f n s x flag y = refl
 
-pub count-updated : (f : Family) (s : State) (x : List ℕ) → count (updated f s x) ≡ count s + length x
+last_node-updated : (f : Family) (s : State) (x : List ℕ)
+    → (updated f s x).core.last_node ≡ s.core.last_node
+unfolding absorbed
+last_node-updated f s x = refl
+
+pub count-updated : (f : Family) (s : State) (x : List ℕ)
+    → count (updated f s x) ≡ count s + length x
 count-updated f s x =
-    omega (arith, count-absorbed f s.core (handed_on (block_bytes f) (s.pending ++ x)), handed_and_held (block_bytes f) (s.pending ++ x) (block_positive f), length-append s.pending x)
+    omega (
+      arith,
+      count-absorbed f s.core (handed_on (block_bytes f) (s.pending ++ x)),
+      handed_and_held (block_bytes f) (s.pending ++ x) (block_positive f),
+      length-append s.pending x,
+    )
 
 -- an update keeps its promise
-pub Updated_by : {S : Type 0} (f : Family) (n : ℕ) (state_of : S → State) (old : S) (x : List ℕ) (new : S)
+pub Updated_by : {S : Type 0} (f : Family) (n : ℕ) (state_of : S → State) (old : S) (x : List ℕ)
+    (new : S)
     → state_of new ≡ updated f (state_of old) x → Updated (meaning_by f n state_of) old x new
 Updated_by f n state_of old x new e = record {
-  future = λ y. ap (λ s. future f n s y) e ∙ future-updated f n (state_of old) x y;
-  started = λ y. ap (λ s. started f n s y) e ∙ started-updated f n (state_of old) x y;
+  future = λ flag y. ap (λ s. future f n s flag y) e ∙ future-updated f n (state_of old) x flag y;
+  started = λ flag y. ap (λ s. started f n s flag y) e
+      ∙ started-updated f n (state_of old) x flag y;
+  last_node = ap (λ s. s.core.last_node) e ∙ last_node-updated f (state_of old) x;
   count = ap count e ∙ count-updated f (state_of old) x;
   start_count = ap start_count e;
 }
@@ -54,43 +77,116 @@ Updated_by f n state_of old x new e = record {
 abbrev pub IsLazy : Family → State → Type 0
 IsLazy f s = s.core.count ≡ block_bytes f * (block_count f (count s) - 1)
 
-pub within-updated : (f : Family) (s : State) (x : List ℕ) → length (updated f s x).pending ≤ block_bytes f
+pub within-updated : (f : Family) (s : State) (x : List ℕ)
+    → length (updated f s x).pending ≤ block_bytes f
 within-updated f s x = length-held_back (block_bytes f) (s.pending ++ x) (block_positive f)
 
 pub IsLazy-updated : (f : Family) (s : State) (x : List ℕ) → IsLazy f s → IsLazy f (updated f s x)
 IsLazy-updated blake2b s x h =
-    omega (arith, count-absorbed blake2b s.core (handed_on 128 (s.pending ++ x)), handed_and_held 128 (s.pending ++ x) (omega arith), length-append s.pending x, length-held_back 128 (s.pending ++ x) (omega arith), length-handed_on 128 (s.pending ++ x))
+    omega (
+      arith,
+      count-absorbed blake2b s.core (handed_on 128 (s.pending ++ x)),
+      handed_and_held 128 (s.pending ++ x) (omega arith),
+      length-append s.pending x,
+      length-held_back 128 (s.pending ++ x) (omega arith),
+      length-handed_on 128 (s.pending ++ x),
+    )
 IsLazy-updated blake2s s x h =
-    omega (arith, count-absorbed blake2s s.core (handed_on 64 (s.pending ++ x)), handed_and_held 64 (s.pending ++ x) (omega arith), length-append s.pending x, length-held_back 64 (s.pending ++ x) (omega arith), length-handed_on 64 (s.pending ++ x))
+    omega (
+      arith,
+      count-absorbed blake2s s.core (handed_on 64 (s.pending ++ x)),
+      handed_and_held 64 (s.pending ++ x) (omega arith),
+      length-append s.pending x,
+      length-held_back 64 (s.pending ++ x) (omega arith),
+      length-handed_on 64 (s.pending ++ x),
+    )
 
 -- what holds of every hasher and MAC holds after an update
-pub kept-updated : (f : Family) (s new : State) (x : List ℕ) → new ≡ updated f s x → IsLazy f s → count s + length x < 2 ^ 64
+pub kept-updated : (f : Family) (s new : State) (x : List ℕ) → new ≡ updated f s x → IsLazy f s
+    → count s + length x < 2 ^ 64
     → (length new.pending ≤ block_bytes f) × (count new < 2 ^ 64) × IsLazy f new
 kept-updated f s new x e one_left fits =
     rw e (within-updated f s x, omega (arith, count-updated f s x), IsLazy-updated f s x one_left)
 
 -- ---- constructors
 
-future-fresh : (f : Family) (n : ℕ) (salt persona : List ℕ) (key : Option (List ℕ)) (y : List ℕ)
-    → future f n (fresh f (parameters_of n (key_size key) salt persona) key) y ≡ digest_of f n salt persona key y
+future-fresh : (f : Family) (n : ℕ) (salt persona : List ℕ) (key : Option (List ℕ)) (tree : Tree)
+    (flag : Bool) (y : List ℕ)
+    → future f n (fresh f (node_parameters n (key_size key) salt persona tree) key) flag y
+    ≡ node_digest_of f n salt persona key tree flag y
 unfolding future digest
-future-fresh f n salt persona key y = refl
+future-fresh f n salt persona key tree flag y = refl
 
-started-fresh : (f : Family) (n : ℕ) (salt persona : List ℕ) (key : Option (List ℕ)) (y : List ℕ)
-    → started f n (fresh f (parameters_of n (key_size key) salt persona) key) y ≡ digest_of f n salt persona key y
+started-fresh : (f : Family) (n : ℕ) (salt persona : List ℕ) (key : Option (List ℕ)) (tree : Tree)
+    (flag : Bool) (y : List ℕ)
+    → started f n (fresh f (node_parameters n (key_size key) salt persona tree) key) flag y
+    ≡ node_digest_of f n salt persona key tree flag y
 unfolding started digest
-started-fresh f n salt persona key y = refl
+started-fresh f n salt persona key tree flag y = refl
 
 -- a constructor keeps its promise: the digests are BLAKE2
-pub Fresh_by : {S : Type 0} (f : Family) (n : ℕ) (state_of : S → State) (salt persona : List ℕ) (key : Option (List ℕ)) (counted : ℕ) (new : S)
-    → length (key_block f key) ≡ counted → state_of new ≡ fresh f (parameters_of n (key_size key) salt persona) key
-    → Fresh (meaning_by f n state_of) (digest_of f n salt persona key) counted new
-Fresh_by f n state_of salt persona key counted new counts e = record {
-  future = λ y. ap (λ s. future f n s y) e ∙ future-fresh f n salt persona key y;
-  started = λ y. ap (λ s. started f n s y) e ∙ started-fresh f n salt persona key y;
+pub Fresh_by : {S : Type 0} (f : Family) (n : ℕ) (state_of : S → State) (salt persona : List ℕ)
+    (key : Option (List ℕ)) (tree : Tree) (counted : ℕ) (new : S)
+    → length (key_block f key) ≡ counted → state_of new
+    ≡ fresh f (node_parameters n (key_size key) salt persona tree) key
+    → Fresh (meaning_by f n state_of) (node_digest_of f n salt persona key tree) counted new
+Fresh_by f n state_of salt persona key tree counted new counts e = record {
+  future = λ flag y. ap (λ s. future f n s flag y) e
+      ∙ future-fresh f n salt persona key tree flag y;
+  started = λ flag y. ap (λ s. started f n s flag y) e
+      ∙ started-fresh f n salt persona key tree flag y;
+  last_node = ap (λ s. s.core.last_node) e;
   count = ap count e ∙ zero-add (length (key_block f key)) ∙ counts;
   start_count = ap start_count e ∙ counts;
 }
+
+-- ---- the last-node flag
+
+future-node_set : (f : Family) (n : ℕ) (s : State) (on flag : Bool) (y : List ℕ)
+    → future f n (node_set s on) flag y ≡ future f n s flag y
+unfolding future
+future-node_set f n s on flag y = refl
+
+started-node_set : (f : Family) (n : ℕ) (s : State) (on flag : Bool) (y : List ℕ)
+    → started f n (node_set s on) flag y ≡ started f n s flag y
+unfolding started
+started-node_set f n s on flag y = refl
+
+-- setting the flag keeps its promise
+pub NodeSet_by : {S : Type 0} (f : Family) (n : ℕ) (state_of : S → State) (old : S) (on : Bool)
+    (new : S)
+    → state_of new ≡ node_set (state_of old) on → NodeSet (meaning_by f n state_of) old on new
+NodeSet_by f n state_of old on new e = record {
+  future = λ flag y. ap (λ s. future f n s flag y) e ∙ future-node_set f n (state_of old) on flag y;
+  started = λ flag y. ap (λ s. started f n s flag y) e
+      ∙ started-node_set f n (state_of old) on flag y;
+  last_node = ap (λ s. s.core.last_node) e;
+  count = ap count e;
+  start_count = ap start_count e;
+}
+
+-- where it is always off, a constructor and an update keep their promises too
+pub Fresh_unflagged : {S : Type 0} (m : Meaning S) (digest : Bool → List ℕ → List ℕ) (counted : ℕ)
+    (new : S) → Fresh m digest counted new → Fresh (unflagged m) digest counted new
+Fresh_unflagged m digest counted new made = record {
+  future = made.future;
+  started = made.started;
+  last_node = refl;
+  count = made.count;
+  start_count = made.start_count;
+}
+
+pub Updated_unflagged : {S : Type 0} (m : Meaning S) (old : S) (x : List ℕ) (new : S)
+    → Updated m old x new → Updated (unflagged m) old x new
+Updated_unflagged m old x new kept = record {
+  future = kept.future;
+  started = kept.started;
+  last_node = refl;
+  count = kept.count;
+  start_count = kept.start_count;
+}
+
+-- ---- keys
 
 -- no key counts for nothing, and a key for a block
 pub length-key_block_none : (f : Family) → length (key_block f None) ≡ 0
@@ -101,9 +197,11 @@ key_fits_block : (f : Family) → key_bytes f ≤ block_bytes f
 key_fits_block blake2b = omega arith
 key_fits_block blake2s = omega arith
 
-pub length-key_block_some : (f : Family) (key : List ℕ) → length key ≤ key_bytes f → length (key_block f (Some key)) ≡ block_bytes f
+pub length-key_block_some : (f : Family) (key : List ℕ) → length key ≤ key_bytes f
+    → length (key_block f (Some key)) ≡ block_bytes f
 unfolding key_block
-length-key_block_some f key fits = length-padded (block_bytes f) key (omega (arith, key_fits_block f))
+length-key_block_some f key fits = length-padded (block_bytes f) key
+    (omega (arith, key_fits_block f))
 
 -- ---- finalising calls
 
@@ -112,7 +210,8 @@ one_block blake2b n fits = omega arith
 one_block blake2s n fits = omega arith
 
 -- the pending bytes alone are the last block
-pub last_chain-pending : (f : Family) (core : CoreState) (p : List ℕ) → length p ≤ block_bytes f → tail f core.h core.count (p ++ []) final ≡ last_output f core p
+pub last_chain-pending : (f : Family) (core : CoreState) (p : List ℕ) → length p ≤ block_bytes f
+    → tail f core.h core.count (p ++ []) (final core.last_node) ≡ last_output f core p
 unfolding last_chain cut chain
 last_chain-pending f core p fits =
     let one : block_count f (length p) ≡ 1 = one_block f (length p) fits in
@@ -120,6 +219,7 @@ last_chain-pending f core p fits =
     rw (append-nil p, one, whole) refl
 
 -- a finalising call keeps its promise
-pub future-nothing : (f : Family) (n : ℕ) (s : State) → length s.pending ≤ block_bytes f → take n (last_output f s.core s.pending) ≡ future f n s []
+pub future-nothing : (f : Family) (n : ℕ) (s : State) → length s.pending ≤ block_bytes f
+    → take n (last_output f s.core s.pending) ≡ future f n s s.core.last_node []
 unfolding future
 future-nothing f n s fits = ap (take n) (sym (last_chain-pending f s.core s.pending fits))

@@ -1,5 +1,7 @@
 -- What an update moves from the pending bytes to the chaining words changes no digest.
-use Rattle.std.proofs.Common.{◌≡◌, ℕ, zero, suc, ◌+◌, ◌-◌, ◌*◌, ◌<◌, ◌≤◌, ◌⊎◌, inl, inr, List, ◌++◌, length, take, drop, refl, sym, ap, arith, append-nil, length-append, length-drop}
+use Rattle.std.proofs.Common.{◌≡◌, ℕ, zero, suc, ◌+◌, ◌-◌, ◌*◌, ◌<◌, ◌≤◌, ◌⊎◌, inl, inr, List, ◌++◌}
+use Rattle.std.proofs.Common.{length, take, drop, refl, sym, ap, arith, append-nil, length-append}
+use Rattle.std.proofs.Common.{length-drop}
 use Rattle.std.proofs.lemmas.List.{length-take-le, drop-append-le}
 use Rattle.std.specs.Simd.{first_chunks}
 use Rattle.blake2_rows.specs.Family.{Family, blake2b, blake2s, block_bytes}
@@ -15,14 +17,16 @@ abbrev pub handed_count : Family → List ℕ → ℕ
 handed_count f y = block_count f (length y) - 1
 
 -- chunks that a text fills are its blocks
-first_chunks-cut : (f : Family) (k : ℕ) (y : List ℕ) → k * block_bytes f ≤ length y → first_chunks (block_bytes f) k y ≡ cut f k y
+first_chunks-cut : (f : Family) (k : ℕ) (y : List ℕ) → k * block_bytes f ≤ length y
+    → first_chunks (block_bytes f) k y ≡ cut f k y
 unfolding cut padded
 first_chunks-cut f zero y h = refl
 first_chunks-cut f (suc k) y h =
     let b : ℕ = block_bytes f in
     let len : length (take b y) ≡ b = length-take-le b y (omega arith) in
     let full : b - length (take b y) ≡ 0 = omega arith in
-    let rest : first_chunks b k (drop b y) ≡ cut f k (drop b y) = first_chunks-cut f k (drop b y) (omega (arith, length-drop b y)) in
+    let rest : first_chunks b k (drop b y) ≡ cut f k (drop b y) =
+    first_chunks-cut f k (drop b y) (omega (arith, length-drop b y)) in
     rw (full, append-nil (take b y), rest) refl
 
 -- what is handed on is there
@@ -40,11 +44,13 @@ zero_or_positive zero = inl refl
 zero_or_positive (suc n) = inr (omega arith)
 
 -- where something is handed on, something is held back
-handed_less : (f : Family) (y : List ℕ) → 0 < handed_count f y → handed_count f y * block_bytes f < length y
+handed_less : (f : Family) (y : List ℕ) → 0 < handed_count f y
+    → handed_count f y * block_bytes f < length y
 handed_less blake2b y h = omega arith
 handed_less blake2s y h = omega arith
 
-held_some : (f : Family) (y : List ℕ) → (handed_count f y ≡ 0) ⊎ (0 < length (held_back (block_bytes f) y))
+held_some : (f : Family) (y : List ℕ) → (handed_count f y ≡ 0) ⊎
+    (0 < length (held_back (block_bytes f) y))
 unfolding held_back
 held_some f y = elim (zero_or_positive (handed_count f y)) [
   | inl e ↦ inl e
@@ -52,11 +58,14 @@ held_some f y = elim (zero_or_positive (handed_count f y)) [
 ]
 
 -- with the first k blocks of y compressed and the rest pending, the tail is as before
-tail_cut : (f : Family) (flags : Flags) (h : List ℕ) (c k : ℕ) (y z : List ℕ) → k * block_bytes f ≤ length y
+tail_cut : (f : Family) (flags : Flags) (h : List ℕ) (c k : ℕ) (y z : List ℕ)
+    → k * block_bytes f ≤ length y
     → (k ≡ 0) ⊎ (0 < length (drop (k * block_bytes f) y))
-    → tail f (chain f h c (cut f k y) k) (c + k * block_bytes f) (drop (k * block_bytes f) y ++ z) flags ≡ tail f h c (y ++ z) flags
+    → tail f (chain f h c (cut f k y) k) (c + k * block_bytes f)
+    (drop (k * block_bytes f) y ++ z) flags ≡ tail f h c (y ++ z) flags
 tail_cut f flags h c k y z whole some =
-    let rest : drop (k * block_bytes f) (y ++ z) ≡ drop (k * block_bytes f) y ++ z = drop-append-le (k * block_bytes f) y z whole in
+    let rest : drop (k * block_bytes f) (y ++ z) ≡ drop (k * block_bytes f) y ++ z =
+    drop-append-le (k * block_bytes f) y z whole in
     let same : cut f k (y ++ z) ≡ cut f k y = cut-prefix f k y z whole in
     let more : (k ≡ 0) ⊎ (0 < length (drop (k * block_bytes f) (y ++ z))) = elim some [
       | inl e ↦ inl e
@@ -67,12 +76,14 @@ tail_cut f flags h c k y z whole some =
 
 -- with the blocks that the buffer hands on compressed and the rest pending, the tail is as before
 pub tail_handed : (f : Family) (flags : Flags) (core : CoreState) (y z : List ℕ)
-    → tail f (absorbed f core (handed_on (block_bytes f) y)).h (absorbed f core (handed_on (block_bytes f) y)).count (held_back (block_bytes f) y ++ z) flags
+    → tail f (absorbed f core (handed_on (block_bytes f) y)).h
+    (absorbed f core (handed_on (block_bytes f) y)).count (held_back (block_bytes f) y ++ z) flags
     ≡ tail f core.h core.count (y ++ z) flags
 unfolding absorbed held_back
 tail_handed f flags core y z =
     let k : ℕ = handed_count f y in
     let number : length (handed_on (block_bytes f) y) ≡ k = length-handed_on (block_bytes f) y in
     let order : block_bytes f * k ≡ k * block_bytes f = omega arith in
-    let cut_off = tail_cut f flags core.h core.count k y z (handed_fits f y) (unfold held_back in held_some f y) in
+    let cut_off = tail_cut f flags core.h core.count k y z (handed_fits f y)
+    (unfold held_back in held_some f y) in
     rw (number, handed_on-cut f y, order) cut_off

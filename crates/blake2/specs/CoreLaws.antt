@@ -19,14 +19,14 @@ absorbed-append f core xs ys =
     let bytes : core.count + block_bytes f * length (xs ++ ys)
     ≡ core.count + block_bytes f * length xs + block_bytes f * length ys =
     rw number (omega arith) in
-    λ i. record { h = words i; start = core.start; count = bytes i }
+    λ i. record core { h = words i; count = bytes i }
 
 -- no blocks change nothing
 pub absorbed-nil : (f : Family) (core : CoreState) → absorbed f core [] ≡ core
 unfolding absorbed chain
 absorbed-nil f core =
     let none : core.count + block_bytes f * 0 ≡ core.count = omega arith in
-    λ i. record { h = core.h; start = core.start; count = none i }
+    λ i. record core { count = none i }
 
 -- the count grows by the bytes of each block
 pub count-absorbed : (f : Family) (core : CoreState) (xs : List (List ℕ))

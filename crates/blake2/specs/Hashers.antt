@@ -7,7 +7,7 @@ use Rattle.blake2.specs.declared.hashers.blake2s.Blake2s.{Blake2s}
 use Rattle.blake2.specs.declared.macs.blake2b.Blake2bMac.{Blake2bMac}
 use Rattle.blake2.specs.declared.macs.blake2s.Blake2sMac.{Blake2sMac}
 use Rattle.blake2.specs.Contexts.{blake2b_context_state, blake2s_context_state}
-use Rattle.blake2.specs.States.{State, meaning_by}
+use Rattle.blake2.specs.States.{State, meaning_by, unflagged}
 
 -- a hasher holds a context, and starts with nothing pending
 abbrev pub blake2b_state : {n : ℕ} → Blake2b n → State
@@ -30,9 +30,10 @@ blake2b_mac_state s = blake2b_context_state s.key_block s.context
 abbrev pub blake2s_mac_state : {n : ℕ} → Blake2sMac n → State
 blake2s_mac_state s = blake2s_context_state s.key_block s.context
 
--- the outputs of n bytes that a MAC will give, and the bytes that it counts
+-- the outputs of n bytes that a MAC will give, and the bytes that it counts: no call
+-- sets the last-node flag of a MAC, which is off
 abbrev pub blake2b_mac_meaning : (n : ℕ) → Meaning (Blake2bMac n)
-blake2b_mac_meaning n = meaning_by blake2b n blake2b_mac_state
+blake2b_mac_meaning n = unflagged (meaning_by blake2b n blake2b_mac_state)
 
 abbrev pub blake2s_mac_meaning : (n : ℕ) → Meaning (Blake2sMac n)
-blake2s_mac_meaning n = meaning_by blake2s n blake2s_mac_state
+blake2s_mac_meaning n = unflagged (meaning_by blake2s n blake2s_mac_state)

@@ -1,10 +1,11 @@
 -- What the state of a hasher or MAC means: the digests that it will give.
-use Rattle.std.specs.Prelude.{◌≡◌, ℕ, ◌+◌, List, ◌++◌, length, take, replicate, Option}
+use Rattle.std.specs.Prelude.{◌≡◌, ℕ, ◌+◌, Bool, false, List, ◌++◌, length, take, replicate}
+use Rattle.std.specs.Prelude.{Option}
 use Rattle.blake2_rows.specs.Family.{Family}
 use Rattle.blake2_words.specs.Hash.{Flags, final, bytes_of, last_chain, Parameters, key_block}
-use Rattle.blake2_words.specs.Hash.{Input, digest, sequential}
-use Rattle.blake2.specs.Cores.{CoreState, core_made, core_restarted, core_wiped}
-pub use Rattle.blake2_digest.specs.States.{Fresh, Meaning}
+use Rattle.blake2_words.specs.Hash.{Input, Tree, digest, sequential}
+use Rattle.blake2.specs.Cores.{CoreState, core_made, core_restarted, core_node_set, core_wiped}
+pub use Rattle.blake2_digest.specs.States.{Fresh, Meaning, NodeSet, digest_after}
 
 -- the core, the pending bytes, and the start block, which stands before every message: the padded
 -- key block, or nothing
@@ -18,13 +19,15 @@ pub record State : Type 0 where
 abbrev pub tail : Family → List ℕ → ℕ → List ℕ → Flags → List ℕ
 tail f h c z flags = bytes_of f (last_chain f h c z flags)
 
--- the digest of n bytes that the state gives once it has taken y too
-unfoldable pub future : Family → ℕ → State → List ℕ → List ℕ
-future f n s y = take n (tail f s.core.h s.core.count (s.pending ++ y) final)
+-- the digest of n bytes that the state gives once it has taken y too, under this last-node flag
+unfoldable pub future : Family → ℕ → State → Bool → List ℕ → List ℕ
+future f n s last_node y =
+    take n (tail f s.core.h s.core.count (s.pending ++ y) (final last_node))
 
--- the digest of n bytes that the state gives of y after a reset
-unfoldable pub started : Family → ℕ → State → List ℕ → List ℕ
-started f n s y = take n (tail f s.core.start 0 (s.start_block ++ y) final)
+-- the digest of n bytes that the state gives of y after a reset, under this last-node flag
+unfoldable pub started : Family → ℕ → State → Bool → List ℕ → List ℕ
+started f n s last_node y =
+    take n (tail f s.core.start 0 (s.start_block ++ y) (final last_node))
 
 -- the bytes counted since the last start
 abbrev pub count : State → ℕ
@@ -34,14 +37,19 @@ count s = s.core.count + length s.pending
 abbrev pub start_count : State → ℕ
 start_count s = length s.start_block
 
--- what is said of a type whose values hold a state each
+-- what is said of a type whose values hold a state each, with the last-node flag of its core
 abbrev pub meaning_by : {S : Type 0} → Family → ℕ → (S → State) → Meaning S
 meaning_by f n state_of = record {
   future = λ s. future f n (state_of s);
   started = λ s. started f n (state_of s);
+  last_node = λ s. (state_of s).core.last_node;
   count = λ s. count (state_of s);
   start_count = λ s. start_count (state_of s);
 }
+
+-- what is said of a type whose last-node flag is always off
+abbrev pub unflagged : {S : Type 0} → Meaning S → Meaning S
+unflagged m = record m { last_node = λ _. false }
 
 -- a state as it is made with these parameters, and a key or none
 abbrev pub fresh : Family → Parameters → Option (List ℕ) → State
@@ -51,9 +59,13 @@ fresh f p key = record {
   start_block = key_block f key;
 }
 
--- a state as it was made
+-- a state as it was made, with the last-node flag that it has
 abbrev pub restarted : State → State
 restarted s = record s { core = core_restarted s.core; pending = s.start_block }
+
+-- a state with this last-node flag
+abbrev pub node_set : State → Bool → State
+node_set s on = record s { core = core_node_set s.core on }
 
 -- the second value is the first, at its start again
 abbrev pub IsRestarted : {S : Type 0} → (S → State) → S → S → Type 0
@@ -64,10 +76,27 @@ abbrev pub IsWiped : State → Type 0
 IsWiped s = (s.core ≡ core_wiped) × (s.pending ≡ replicate (length s.pending) 0)
     × (s.start_block ≡ replicate (length s.start_block) 0)
 
--- the input of a salt, a persona, a key or none, and a message, of a hash which is the whole tree
+-- the input of a salt, a persona, a key or none, a node's place in a tree, its last-node flag, and
+-- a message
+abbrev pub node_input : List ℕ → List ℕ → Option (List ℕ) → Tree → Bool → List ℕ → Input
+node_input salt persona key tree last_node message = record {
+  salt = salt;
+  persona = persona;
+  key = key;
+  tree = tree;
+  last_node = last_node;
+  message = message;
+}
+
+-- that of a hash which is the whole tree, and has the flag off
 abbrev pub input : List ℕ → List ℕ → Option (List ℕ) → List ℕ → Input
-input salt persona key message =
-    record { salt = salt; persona = persona; key = key; tree = sequential; message = message }
+input salt persona key message = node_input salt persona key sequential false message
+
+-- BLAKE2 of n bytes at a place in a tree, as a function of the last-node flag and the message
+abbrev pub node_digest_of : Family → ℕ → List ℕ → List ℕ → Option (List ℕ) → Tree → Bool → List ℕ
+    → List ℕ
+node_digest_of f n salt persona key tree last_node message =
+    digest f n (node_input salt persona key tree last_node message)
 
 -- BLAKE2 of n bytes, as a function of the message
 abbrev pub digest_of : Family → ℕ → List ℕ → List ℕ → Option (List ℕ) → List ℕ → List ℕ

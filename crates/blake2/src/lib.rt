@@ -9,6 +9,26 @@
 //! hasher.update(b"world");
 //! let digest: [u8; 64] = hasher.finalize();
 //! ```
+//!
+//! A node of a tree of hashes (the BLAKE2 document, 2.10) is hashed at its place in the tree, and
+//! the last node of each level is told that it is:
+//!
+//! ```rust
+//! use blake2::{Blake2b512, Digest, LastNode, Tree};
+//!
+//! let place = Tree {
+//!     fanout: 0,
+//!     depth: 2,
+//!     leaf_length: 4096,
+//!     node_offset: 0,
+//!     node_depth: 1,
+//!     inner_length: 64,
+//! };
+//! let mut root = Blake2b512::new_with_tree(b"", b"", &place);
+//! root.set_last_node(true);
+//! root.update(digests_of_leaves);
+//! let digest: [u8; 64] = root.finalize();
+//! ```
 #![tactic(auto)]
 
 mod contexts;
@@ -21,10 +41,11 @@ pub mod steps;
 mod tests;
 
 pub use blake2_digest as digest;
-pub use blake2_digest::Digest;
+pub use blake2_digest::{Digest, LastNode};
 pub use blake2_rows::rows;
 pub use blake2_runs::{calls, engine};
 pub use blake2_words::laws;
+pub use blake2_words::params::Tree;
 pub use cores::blake2b::Blake2bVarCore;
 pub use cores::blake2s::Blake2sVarCore;
 pub use hashers::blake2b::Blake2b;

@@ -1,6 +1,7 @@
-//! Several messages of one length at once, one in each lane of the vectors: on a processor with
-//! vectors of 256 bits (x86-64-v3) four took about two thirds of the time of one after the other.
-//! With vectors of 128 bits there is no gain.
+//! Several messages of one length at once, one in each lane of the vectors. Built for a processor
+//! with vectors of 256 bits (x86-64-v3), four of BLAKE2b took 0.54 of the time of one after
+//! another, and eight of BLAKE2s 0.36, at 1,024 bytes. With vectors of 128 bits BLAKE2b gains next
+//! to nothing and BLAKE2s a quarter.
 //!
 //! ```rust
 //! use blake2::many;
@@ -13,3 +14,4 @@
 //! ```
 
 pub mod blake2b;
+pub mod blake2s;

@@ -1,5 +1,6 @@
 //! States that no caller reaches in a test's time, and the words that hashers start from.
 
+mod nodes;
 mod scalar;
 
 use crate::calls::{Call, ReplayFault, replay};

@@ -1,18 +1,23 @@
 //! BLAKE2s with sizes that are chosen as the program runs.
-ghost use Rattle.std.specs.Prelude.{◌≡◌, ◌≢◌, ◌++◌, ◌⊎◌, ◌↔◌, [], length, drop, slice_index, pos, negsuc};
+ghost use Rattle.std.specs.Prelude.{◌≡◌, ◌≢◌, ◌++◌, ◌⊎◌, ◌↔◌, [], length, drop, slice_index, pos};
+ghost use Rattle.std.specs.Prelude.{negsuc};
 ghost use Rattle.std.specs.Borrow.{full_share, sem};
 ghost use Rattle.std.specs.Ptr.{lies_at, room_at};
 ghost use Rattle.blake2.specs.Family.{blake2s};
-ghost use Rattle.blake2.specs.States.{digest_of};
-ghost use Rattle.blake2_digest.specs.States.{Updated, StartedAgain, digest_now};
+ghost use Rattle.blake2.specs.States.{digest_of, node_digest_of};
+ghost use Rattle.blake2_words.specs.Hash.{AdmitsTree, sequential};
+ghost use Rattle.blake2_digest.specs.States.{Fresh, NodeSet, Updated, StartedAgain, digest_now};
 ghost use Rattle.blake2_plain.specs.Arguments.{given_key, given_count, IsRefused};
 ghost use Rattle.blake2_plain.specs.Blake2s.{IsReady, meaning, zeros};
 ghost use Rattle.blake2_plain.specs.Blocks.{block_digest, IsRefusedBlock};
+ghost use Rattle.blake2_plain.specs.States.{is_on};
 ghost use Rattle.blake2_plain.specs.contracts.blake2s.State.{the_row};
 ghost use Rattle.blake2_plain.specs.declared.blake2s.State.{State as Made};
 ghost use Rattle.blake2_c.specs.Blake2s.{IsMade};
 ghost use Rattle.blake2_c.specs.Status.{Answers, IsTooLong, IsUntakable, IsUngivable};
+ghost use Rattle.blake2_c.specs.Trees.{place};
 
+use blake2::Tree;
 use blake2_plain::blake2s::State;
 
 /// Writes the digest of the input in as many bytes as `out` has, 1 to 32, under a key of up to 32
@@ -42,7 +47,7 @@ pub extern "C" fn blake2_c_blake2s(out: &mut [u8], input: &[u8], key: &[u8]) -> 
 // The state of these parameters, or that of zeros.
 fn made(output_size: usize, key: &[u8], salt: &[u8], persona: &[u8]) -> State
     ensures { IsMade (IsRefused blake2s output_size key.now salt.now persona.now) output_size
-        (digest_of blake2s output_size salt.now persona.now (given_key key.now))
+        (node_digest_of blake2s output_size salt.now persona.now (given_key key.now) sequential)
         (given_count blake2s key.now) result }
 {
     match State::new(output_size, key, salt, persona) {
@@ -51,10 +56,10 @@ fn made(output_size: usize, key: &[u8], salt: &[u8], persona: &[u8]) -> State
     }
 }
 
-/// Puts a state of these parameters that has taken nothing into memory, which may hold nothing yet: a
-/// digest of 1 to 32 bytes, a key of up to 32 (none is no key), a salt and a persona of up to 8 each.
-/// Where a length is not among these, it puts the state of zeros there, which no other call takes; its
-/// size is 0, and that of no other state is.
+/// Puts a state of these parameters that has taken nothing into memory, which may hold nothing yet:
+/// a digest of 1 to 32 bytes, a key of up to 32 (none is no key), a salt and a persona of up to 8
+/// each. Where a length is not among these, it puts the state of zeros there, which no other call
+/// takes; its size is 0, and that of no other state is.
 #[unsafe(no_mangle)]
 pub unsafe extern "C" fn blake2_c_blake2s_init_at(
     at: *mut State,
@@ -66,10 +71,61 @@ pub unsafe extern "C" fn blake2_c_blake2s_init_at(
     requires* { sem 𝓛 (room_at the_row at) }
     ensures* { ∃ₛ (λ (s : Made). sem 𝓛 (lies_at the_row full_share at s)
         ∗ ⌜ IsMade (IsRefused blake2s output_size key.now salt.now persona.now) output_size
-        (digest_of blake2s output_size salt.now persona.now (given_key key.now))
+        (node_digest_of blake2s output_size salt.now persona.now (given_key key.now) sequential)
         (given_count blake2s key.now) s ⌝) }
 {
     at.write(made(output_size, key, salt, persona));
+}
+
+/// Begins a run of a node of a tree of hashes in this state, whatever it was: of the parameters of
+/// `blake2_c_blake2s_init_at`, at the place of these numbers (the BLAKE2 document, 2.8 and 2.10).
+/// The last-node flag is off. Answers 0, or -1 where a length is not among those, the depth is 0,
+/// or the inner length more than 32, or the node offset is 2^48 or more; the state is then that of
+/// zeros.
+#[unsafe(no_mangle)]
+pub extern "C" fn blake2_c_blake2s_init_node(
+    state: &mut State,
+    output_size: usize,
+    key: &[u8],
+    salt: &[u8],
+    persona: &[u8],
+    fanout: u8,
+    depth: u8,
+    leaf_length: u32,
+    node_offset: u64,
+    node_depth: u8,
+    inner_length: u8,
+) -> i32
+    ensures status { Answers result (IsRefused blake2s output_size key.now salt.now persona.now
+        ⊎ (¬ AdmitsTree blake2s
+        (place fanout depth leaf_length node_offset node_depth inner_length))) }
+    ensures ready { result ≡ pos 0 → IsReady state.new }
+    ensures size { result ≡ pos 0 → state.new.output_size ≡ output_size }
+    ensures fresh { result ≡ pos 0 → Fresh meaning
+        (node_digest_of blake2s output_size salt.now persona.now (given_key key.now)
+        (place fanout depth leaf_length node_offset node_depth inner_length))
+        (given_count blake2s key.now) state.new }
+    ensures zeros { result ≡ negsuc 0 → state.new ≡ zeros }
+{
+    let tree = Tree {
+        fanout,
+        depth,
+        leaf_length,
+        node_offset,
+        node_depth,
+        inner_length,
+    };
+    state.wipe();
+    if !State::admits_tree(&tree) {
+        return -1;
+    }
+    match State::new_with_tree(output_size, key, salt, persona, &tree) {
+        Ok(made) => {
+            *state = made;
+            0
+        }
+        Err(_) => -1,
+    }
 }
 
 // The state of this parameter block, or that of zeros.
@@ -84,8 +140,8 @@ fn made_from_block(block: &[u8]) -> State
 }
 
 /// The same of a parameter block of 32 bytes (the BLAKE2 document, 2.8), whatever stands in its
-/// fields but a digest of 0 or more than 32 bytes or a key of more than 32. Where it names a key, the
-/// key's block, padded with zeros to 64 bytes, is the caller's to give as the first input.
+/// fields but a digest of 0 or more than 32 bytes or a key of more than 32. Where it names a key,
+/// the key's block, padded with zeros to 64 bytes, is the caller's to give as the first input.
 #[unsafe(no_mangle)]
 pub unsafe extern "C" fn blake2_c_blake2s_init_block_at(at: *mut State, block: &[u8])
     requires* { sem 𝓛 (room_at the_row at) }
@@ -96,8 +152,8 @@ pub unsafe extern "C" fn blake2_c_blake2s_init_block_at(at: *mut State, block: &
     at.write(made_from_block(block));
 }
 
-/// Takes the input after all that was taken before. Answers 0, or -1 where the state is not ready or
-/// its count would reach 2^64; the state then stays as it is.
+/// Takes the input after all that was taken before. Answers 0, or -1 where the state is not ready
+/// or its count would reach 2^64; the state then stays as it is.
 #[unsafe(no_mangle)]
 pub extern "C" fn blake2_c_blake2s_update(state: &mut State, input: &[u8]) -> i32
     ensures status { Answers result
@@ -117,9 +173,9 @@ pub extern "C" fn blake2_c_blake2s_update(state: &mut State, input: &[u8]) -> i3
     0
 }
 
-/// Writes the digest at the beginning of `out`, and wipes the state, which is then not ready. Answers
-/// 0, or -1 where the state is not ready or `out` has less room than the digest; nothing is then
-/// written, and the state stays as it is.
+/// Writes the digest at the beginning of `out`, and wipes the state, which is then not ready.
+/// Answers 0, or -1 where the state is not ready or `out` has less room than the digest; nothing is
+/// then written, and the state stays as it is.
 #[unsafe(no_mangle)]
 pub extern "C" fn blake2_c_blake2s_final(state: &mut State, out: &mut [u8]) -> i32
     ensures status { Answers result
@@ -138,8 +194,8 @@ pub extern "C" fn blake2_c_blake2s_final(state: &mut State, out: &mut [u8]) -> i
     0
 }
 
-/// Whether the tag is the whole digest: 0, or -1 where it is not or the state is not ready. It looks
-/// at all bytes of a tag of the digest's length. A state that was ready is then wiped.
+/// Whether the tag is the whole digest: 0, or -1 where it is not or the state is not ready. It
+/// looks at all bytes of a tag of the digest's length. A state that was ready is then wiped.
 #[unsafe(no_mangle)]
 pub extern "C" fn blake2_c_blake2s_verify(state: &mut State, tag: &[u8]) -> i32
     ensures status { Answers result
@@ -155,8 +211,27 @@ pub extern "C" fn blake2_c_blake2s_verify(state: &mut State, tag: &[u8]) -> i32
     if is_digest { 0 } else { -1 }
 }
 
-/// Brings the state back to its start: it has then taken nothing, under the same parameters and key.
-/// Answers 0, or -1 where the state is not ready, and then stays as it is.
+/// Sets the last-node flag of the state, or clears it where `on` is 0: it says that this is the
+/// last node of its level in a tree of hashes (the BLAKE2 document, 2.10). A reset keeps it.
+/// Answers 0, or
+/// -1 where the state is not ready, and then stays as it is.
+#[unsafe(no_mangle)]
+pub extern "C" fn blake2_c_blake2s_set_last_node(state: &mut State, on: u32) -> i32
+    ensures status { Answers result (¬ IsReady state.old) }
+    ensures ready { result ≡ pos 0 → IsReady state.new }
+    ensures size { state.new.output_size ≡ state.old.output_size }
+    ensures set { result ≡ pos 0 → NodeSet meaning state.old (is_on on) state.new }
+    ensures same { result ≡ negsuc 0 → state.new ≡ state.old }
+{
+    if !state.is_ready() {
+        return -1;
+    }
+    state.set_last_node(on != 0);
+    0
+}
+
+/// Brings the state back to its start: it has then taken nothing, under the same parameters, key
+/// and last-node flag. Answers 0, or -1 where the state is not ready, and then stays as it is.
 #[unsafe(no_mangle)]
 pub extern "C" fn blake2_c_blake2s_reset(state: &mut State) -> i32
     ensures status { Answers result (¬ IsReady state.old) }

@@ -1,11 +1,11 @@
-//! BLAKE2b and BLAKE2s (RFC 7693) as a static library for C: the digest of a message in one call, or
-//! step by step with a state that the caller keeps. `c/include/blake2_c.h` declares these functions
-//! and says what a caller owes; C programs use the functions `vulfsjor_*` of that header, which take
-//! null pointers too.
+//! BLAKE2b and BLAKE2s (RFC 7693) as a static library for C: the digest of a message in one call,
+//! or step by step with a state that the caller keeps. `c/include/blake2_c.h` declares these
+//! functions and says what a caller owes; C programs use the functions `vulfsjor_*` of that header,
+//! which take null pointers too.
 //!
-//! No pointer is null, not even that of no bytes, each text is as long as its length says, and what a
-//! function writes overlaps nothing else that it is given. A text is a pointer and a length in bytes,
-//! and the pointer of `*mut State` may be to memory that holds nothing yet.
+//! No pointer is null, not even that of no bytes, each text is as long as its length says, and what
+//! a function writes overlaps nothing else that it is given. A text is a pointer and a length in
+//! bytes, and the pointer of `*mut State` may be to memory that holds nothing yet.
 #![tactic(auto)]
 
 ghost use Rattle.std.specs.Prelude.{◌≡◌, ◌≢◌, [], None};
@@ -17,9 +17,10 @@ mod blake2b;
 mod blake2s;
 #[cfg(test)]
 mod tests;
+mod trees;
 
 use blake2::{Blake2b512, Blake2s256, Digest};
-use blake2_plain::compare::is_same;
+use blake2_digest::is_same;
 
 /// Writes the BLAKE2b digest of the message in 64 bytes (RFC 7693, 3.3).
 #[unsafe(no_mangle)]

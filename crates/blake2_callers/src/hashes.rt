@@ -1,5 +1,5 @@
 //! Callers of the hash functions.
-ghost use Rattle.std.specs.Prelude.{◌≡◌, ◌+◌, ◌*◌, ◌^◌, ◌<◌, ◌++◌, [], length, None};
+ghost use Rattle.std.specs.Prelude.{◌≡◌, ◌+◌, ◌*◌, ◌^◌, ◌<◌, ◌++◌, false, [], length, None};
 ghost use Rattle.blake2_rows.specs.Family.{blake2b, blake2s};
 ghost use Rattle.blake2.specs.States.{digest_of};
 ghost use Rattle.blake2_callers.specs.Pieces.{joined};
@@ -48,7 +48,7 @@ pub fn digests_in_turn(first: &[u8], second: &[u8]) -> ([u8; 64], [u8; 64])
 pub fn digest_by<D: Digest<N> + Drop, const N: usize>(message: &[u8]) -> [u8; N]
     requires supported { D.is_supported }
     requires fits { length message.now < 2 ^ 64 }
-    ensures { result ≡ D.digest_of message.now }
+    ensures { result ≡ D.digest_of false message.now }
 {
     let mut hasher = D::new();
     Digest::update(&mut hasher, message);

@@ -6,3 +6,4 @@ mod hashes;
 mod macs;
 mod parts;
 mod sizes;
+mod trees;

@@ -1,5 +1,6 @@
 -- Where two lists of numbers differ, bit by bit.
-use Rattle.std.proofs.Common.{◌≡◌, ℕ, ◌<◌, ◌↔◌, List, length, get_or, bit_or, bit_xor, ap, sym, ◌∙◌, arith}
+use Rattle.std.proofs.Common.{◌≡◌, ℕ, ◌<◌, ◌↔◌, List, length, get_or, bit_or, bit_xor, ap, sym, ◌∙◌}
+use Rattle.std.proofs.Common.{arith}
 use Rattle.std.proofs.lemmas.Nat.{le_or_l, le_or_r}
 use Rattle.std.proofs.lemmas.List.Prefix.{front_from_reads}
 use Rattle.std.proofs.lemmas.Grind.{common_steps}
@@ -8,16 +9,22 @@ use lib.Bits.{or_zero_l, xor_zero_l, xor_zero_r, xor_self, xor_assoc}
 -- numbers whose bits differ nowhere are equal
 xor_cancel : (x y : ℕ) → bit_xor x y ≡ 0 → x ≡ y
 xor_cancel x y e =
-    sym (xor_zero_r x) ∙ ap (bit_xor x) (sym (xor_self y)) ∙ sym (xor_assoc x y y) ∙ ap (λ z. bit_xor z y) e ∙ xor_zero_l y
+    sym (xor_zero_r x) ∙ ap (bit_xor x) (sym (xor_self y)) ∙ sym (xor_assoc x y y)
+    ∙ ap (λ z. bit_xor z y) e ∙ xor_zero_l y
 
 -- the bits in which two numbers differ, beside others: there are none exactly where there are no
 -- others and the two are equal
 pub none_differ : (d x y : ℕ) → (bit_or d (bit_xor x y) ≡ 0) ↔ ((d ≡ 0) × (x ≡ y))
 none_differ d x y = (
-  λ h. (omega (arith, le_or_l d (bit_xor x y)), xor_cancel x y (omega (arith, le_or_r d (bit_xor x y)))),
+  λ h. (
+    omega (arith, le_or_l d (bit_xor x y)),
+    xor_cancel x y (omega (arith, le_or_r d (bit_xor x y))),
+  ),
   λ h. ap (λ z. bit_or z (bit_xor x y)) h.0 ∙ or_zero_l _ ∙ ap (bit_xor x) (sym h.1) ∙ xor_self x,
 )
 
 -- lists of one length are equal where all their numbers are
-pub equal_by_reads : (xs ys : List ℕ) → length xs ≡ length ys → ((k : ℕ) → k < length ys → get_or xs k 0 ≡ get_or ys k 0) → xs ≡ ys
-equal_by_reads xs ys e h = let s = front_from_reads 0 xs ys (omega arith) h in grind (arith, common_steps)
+pub equal_by_reads : (xs ys : List ℕ) → length xs ≡ length ys
+    → ((k : ℕ) → k < length ys → get_or xs k 0 ≡ get_or ys k 0) → xs ≡ ys
+equal_by_reads xs ys e h = let s = front_from_reads 0 xs ys (omega arith) h in
+    grind (arith, common_steps)

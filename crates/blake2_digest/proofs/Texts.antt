@@ -1,5 +1,6 @@
 -- Texts, one after the other, and texts with zeros behind them.
-use Rattle.std.proofs.Common.{◌≡◌, ℕ, zero, suc, ◌-◌, List, [], ◌∷◌, ◌++◌, length, take, drop, replicate, refl, ap}
+use Rattle.std.proofs.Common.{◌≡◌, ℕ, zero, suc, ◌-◌, List, [], ◌∷◌, ◌++◌, length, take, drop}
+use Rattle.std.proofs.Common.{replicate, refl, ap}
 use Rattle.std.proofs.lemmas.List.{drop-replicate, take_at}
 use Rattle.std.proofs.Math.Seq.{drop-append_seam}
 use Rattle.blake2_digest.specs.Texts.{AreBytes, padded}
@@ -21,6 +22,7 @@ unfolding padded
 take-padded n xs = take_at xs (replicate (n - length xs) 0) (length xs) refl
 
 -- and the zeros behind it
-pub drop-padded : (n : ℕ) (xs : List ℕ) → drop (length xs) (padded n xs) ≡ replicate (n - length xs) 0
+pub drop-padded : (n : ℕ) (xs : List ℕ) → drop (length xs) (padded n xs)
+    ≡ replicate (n - length xs) 0
 unfolding padded
 drop-padded n xs = drop-append_seam xs (replicate (n - length xs) 0)

@@ -1,5 +1,6 @@
 //! Block cores: what takes whole blocks and leaves it to a buffer to cut the input.
-ghost use Rattle.std.specs.Prelude.{◌≡◌, ℕ, ◌+◌, ◌*◌, ◌^◌, ◌<◌, ◌≤◌, ◌↔◌, List, [], ◌++◌, length, IfOk, IsErr};
+ghost use Rattle.std.specs.Prelude.{◌≡◌, ℕ, ◌+◌, ◌*◌, ◌^◌, ◌<◌, ◌≤◌, ◌↔◌, List, [], ◌++◌, length};
+ghost use Rattle.std.specs.Prelude.{IfOk, IsErr};
 
 use crate::buffer::LazyBuffer;
 use crate::faults::InvalidOutputSize;
@@ -54,13 +55,15 @@ pub trait UpdateCore<const B: usize> {
         ensures { result ≡ count self.now };
 
     // Two lists in turn are their join.
-    ghost absorb_join: { (core : Self) (xs ys : List (List ℕ)) → absorb core (xs ++ ys) ≡ absorb (absorb core xs) ys };
+    ghost absorb_join: { (core : Self) (xs ys : List (List ℕ))
+        → absorb core (xs ++ ys) ≡ absorb (absorb core xs) ys };
 
     // No blocks change nothing.
     ghost absorb_nothing: { (core : Self) → absorb core [] ≡ core };
 
     // The count grows by the bytes of each block.
-    ghost count_grows: { (core : Self) (xs : List (List ℕ)) → count (absorb core xs) ≡ count core + B * length xs };
+    ghost count_grows: { (core : Self) (xs : List (List ℕ))
+        → count (absorb core xs) ≡ count core + B * length xs };
 }
 
 /// Cores with outputs of every size up to `M` bytes.

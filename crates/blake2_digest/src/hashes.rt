@@ -1,5 +1,5 @@
 //! Hash functions.
-ghost use Rattle.std.specs.Prelude.{◌≡◌, ℕ, ◌+◌, ◌^◌, ◌<◌, List, length};
+ghost use Rattle.std.specs.Prelude.{◌≡◌, ℕ, ◌+◌, ◌^◌, ◌<◌, Bool, false, List, length};
 ghost use Rattle.blake2_digest.specs.States.{digest_now, Updated, Fresh};
 
 use crate::state::{FixedOutput, FixedOutputReset, Reset, Update};
@@ -12,8 +12,8 @@ pub trait CustomizedInit: Update {
     // The customization and the output size are within the type's limits.
     ghost can_customize: { List ℕ → Type 0 };
 
-    // The digest of a message under a customization.
-    ghost customized: { List ℕ → List ℕ → List ℕ };
+    // The digest of a message under a customization and a last-node flag.
+    ghost customized: { List ℕ → Bool → List ℕ → List ℕ };
 
     /// A state that has taken nothing, with this customization.
     fn new_customized(customization: &[u8]) -> Self
@@ -26,8 +26,8 @@ pub trait Digest<const N: usize>: FixedOutputReset<N> {
     // The output size is within the type's limit.
     ghost is_supported: { Type 0 };
 
-    // The digest of a message.
-    ghost digest_of: { List ℕ → List ℕ };
+    // The digest of a message under a last-node flag.
+    ghost digest_of: { Bool → List ℕ → List ℕ };
 
     /// A hasher that has taken nothing.
     fn new() -> Self
@@ -84,7 +84,7 @@ pub trait Digest<const N: usize>: FixedOutputReset<N> {
     fn digest(input: &[u8]) -> [u8; N]
         requires supported { is_supported }
         requires fits { length input.now < 2 ^ 64 }
-        ensures { result ≡ digest_of input.now }
+        ensures { result ≡ digest_of false input.now }
     {
         let mut state = Self::new();
         Update::update(&mut state, input);

@@ -1,5 +1,6 @@
 //! Message authentication codes.
-ghost use Rattle.std.specs.Prelude.{◌≡◌, ℕ, ◌+◌, ◌^◌, ◌<◌, ◌↔◌, ◌⊎◌, List, length, IfOk, IsErr, IsOk, IsTrue};
+ghost use Rattle.std.specs.Prelude.{◌≡◌, ℕ, ◌+◌, ◌^◌, ◌<◌, ◌↔◌, ◌⊎◌, Bool, List, length, IfOk};
+ghost use Rattle.std.specs.Prelude.{IsErr, IsOk, IsTrue};
 ghost use Rattle.blake2_digest.specs.States.{digest_now, Updated, Fresh};
 
 use crate::faults::{InvalidLength, MacError};
@@ -7,9 +8,10 @@ use crate::state::{FixedOutput, Update};
 use crate::wiping::settle;
 use std::marker::Model;
 
-// Whether the two are equal. All bytes are compared, wherever they differ: no branch here depends
-// on a byte.
-fn is_same(a: &[u8], b: &[u8]) -> bool
+/// Whether the texts are equal: the comparison for tags. All bytes of texts of one length are
+/// compared, wherever they differ, and no branch here depends on one. Only the answer is promised,
+/// and not the time that compiled code takes for it.
+pub fn is_same(a: &[u8], b: &[u8]) -> bool
     ensures { IsTrue result ↔ (a.now ≡ b.now) }
 {
     if a.len() != b.len() {
@@ -36,8 +38,8 @@ pub trait KeyInit<const K: usize>: Update {
     // The output size is within the type's limit.
     ghost is_supported: { Type 0 };
 
-    // The digest of a message under a key.
-    ghost keyed: { List ℕ → List ℕ → List ℕ };
+    // The digest of a message under a key and a last-node flag.
+    ghost keyed: { List ℕ → Bool → List ℕ → List ℕ };
 
     // The bytes that a key counts for.
     ghost key_count: { ℕ };

@@ -1,8 +1,8 @@
 //! Zeros that a compiler keeps.
 //!
-//! A contract speaks of values, and a compiler may leave out what is written to a value that nothing
-//! reads afterwards. So that memory is zero is no promise here: docs/WIPING.md of the repository says
-//! what was seen in the machine code, and how to look again.
+//! A contract speaks of values, and a compiler may leave out what is written to a value that
+//! nothing reads afterwards. So that memory is zero is no promise here: docs/WIPING.md of the
+//! repository says what was seen in the machine code, and how to look again.
 
 use std::hint;
 
@@ -39,8 +39,8 @@ fn scrub_stack() {
     settle(&zeros);
 }
 
-/// The answer of the call, whose frames on the stack are then overwritten with 4,096 bytes of zeros:
-/// copies of a key that calls left there, as those of a MAC that is moved, are gone.
+/// The answer of the call, whose frames on the stack are then overwritten with 4,096 bytes of
+/// zeros: copies of a key that calls left there, as those of a MAC that is moved, are gone.
 ///
 /// What the call reached further down the stack stays, as do the registers, the answer itself, and
 /// all that the call refers to: a state that lies in a frame above is for its `wipe`. A MAC of this

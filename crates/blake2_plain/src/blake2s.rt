@@ -1,18 +1,23 @@
 //! BLAKE2s, with a state of plain numbers.
-ghost use Rattle.std.specs.Prelude.{◌≡◌, ℕ, ◌+◌, ◌*◌, ◌^◌, ◌<◌, ◌≤◌, ◌↔◌, List, [], ◌++◌, length, take, drop, slice_index, None, Some, IfOk, IsErr, IsTrue};
+ghost use Rattle.std.specs.Prelude.{◌≡◌, ℕ, ◌+◌, ◌*◌, ◌^◌, ◌<◌, ◌≤◌, ◌↔◌, List, [], ◌∷◌, ◌++◌};
+ghost use Rattle.std.specs.Prelude.{length, take, drop, slice_index, None, Some, IfOk, IsErr};
+ghost use Rattle.std.specs.Prelude.{IsTrue};
 ghost use Rattle.blake2_rows.specs.Family.{blake2s};
 ghost use Rattle.blake2_rows.specs.Rows.{eight};
-ghost use Rattle.blake2_words.specs.Hash.{words_of, xor_words};
-ghost use Rattle.blake2_digest.specs.States.{Fresh, Updated, StartedAgain, digest_now};
+ghost use Rattle.blake2_words.specs.Hash.{AdmitsTree, sequential, words_of, xor_words};
+ghost use Rattle.blake2_words.specs.Views.{tree_of};
+ghost use Rattle.blake2_digest.specs.States.{Fresh, NodeSet, Updated, StartedAgain, digest_now};
 ghost use Rattle.blake2.specs.Cores.{CoreState};
-ghost use Rattle.blake2.specs.States.{digest_of};
+ghost use Rattle.blake2.specs.States.{node_digest_of};
 ghost use Rattle.blake2_plain.specs.Arguments.{given_key, given_count, IsRefused};
 ghost use Rattle.blake2_plain.specs.Blocks.{block_start, block_digest, IsRefusedBlock};
 ghost use Rattle.blake2_plain.specs.Blake2s.{IsReady, meaning, zeros};
+ghost use Rattle.blake2_plain.specs.States.{is_on};
 
-use crate::compare::is_same;
-use blake2::Blake2sVarCore;
-use blake2_digest::{InvalidLength, LazyBuffer, UpdateCore, VariableOutputCore, digest_into};
+use blake2::{Blake2sVarCore, Tree};
+use blake2_digest::{
+    InvalidLength, LastNode, LazyBuffer, UpdateCore, VariableOutputCore, digest_into, is_same,
+};
 use blake2_rows::rows::u32x4;
 use blake2_words::consts::BLAKE2S_IV;
 use blake2_words::words::blake2s::{to_rows, to_words};
@@ -34,6 +39,8 @@ pub struct State {
     pub start_length: usize,
     /// The bytes of the digest, 1 to 32.
     pub output_size: usize,
+    /// The last-node flag (the BLAKE2 document, 2.10): 0 is off, and all else on.
+    pub last_node: usize,
     /// The pending bytes, at the beginning.
     pub pending: [u8; 64],
     /// The bytes that a start leaves pending, at the beginning.
@@ -60,8 +67,8 @@ fn xor_rows(a: [u32x4; 2], b: [u32x4; 2]) -> [u32x4; 2]
     [a[0] ^ b[0], a[1] ^ b[1]]
 }
 
-// The chaining words before the first block (RFC 7693, 3.3): the words of this parameter block xored
-// into the IV.
+// The chaining words before the first block (RFC 7693, 3.3): the words of this parameter block
+// xored into the IV.
 fn start_of(block: &[u8]) -> [u32; 8]
     requires { length block.now ≡ 32 }
     ensures { result ≡ block_start blake2s block.now }
@@ -92,6 +99,7 @@ impl State {
             pending_length: 0,
             start_length: 0,
             output_size: 0,
+            last_node: 0,
             pending: [0; 64],
             start_block: [0; 64],
         }
@@ -116,39 +124,45 @@ impl State {
             pending_length: 0,
             start_length: 0,
             output_size,
+            last_node: 0,
             pending: [0; 64],
             start_block: [0; 64],
         }
     }
 
     // A state of these parameters that has taken nothing, under no key.
-    fn unkeyed(output_size: usize, salt: &[u8], persona: &[u8]) -> Self
+    fn unkeyed(output_size: usize, salt: &[u8], persona: &[u8], tree: &Tree) -> Self
         requires least { 1 ≤ output_size }
         requires most { output_size ≤ 32 }
         requires salt { length salt.now ≤ 8 }
         requires persona { length persona.now ≤ 8 }
+        requires tree { AdmitsTree blake2s (tree_of tree.now) }
         ensures ready { IsReady result }
         ensures size { result.output_size ≡ output_size }
         ensures fresh { Fresh meaning
-            (digest_of blake2s output_size salt.now persona.now None) 0 result }
+            (node_digest_of blake2s output_size salt.now persona.now None (tree_of tree.now))
+            0 result }
     {
-        let core = Blake2sVarCore::new_with_params(salt, persona, 0, output_size);
+        let core = Blake2sVarCore::new_with_tree(salt, persona, 0, output_size, tree);
         Self::starting_from(core.first_words(), output_size)
     }
 
     // A state under this key that has taken nothing else.
-    fn under_key(output_size: usize, key: &[u8], salt: &[u8], persona: &[u8]) -> Self
+    fn under_key(output_size: usize, key: &[u8], salt: &[u8], persona: &[u8], tree: &Tree) -> Self
         requires least { 1 ≤ output_size }
         requires most { output_size ≤ 32 }
         requires key { length key.now ≤ 32 }
         requires salt { length salt.now ≤ 8 }
         requires persona { length persona.now ≤ 8 }
+        requires tree { AdmitsTree blake2s (tree_of tree.now) }
         ensures ready { IsReady result }
         ensures size { result.output_size ≡ output_size }
         ensures fresh { Fresh meaning
-            (digest_of blake2s output_size salt.now persona.now (Some key.now)) 64 result }
+            (node_digest_of blake2s output_size salt.now persona.now (Some key.now)
+            (tree_of tree.now))
+            64 result }
     {
-        let core = Blake2sVarCore::new_with_params(salt, persona, key.len(), output_size);
+        let core = Blake2sVarCore::new_with_tree(salt, persona, key.len(), output_size, tree);
         let first = core.first_words();
         let block = LazyBuffer::<64>::new(key).padded();
         State {
@@ -158,13 +172,15 @@ impl State {
             pending_length: 64,
             start_length: 64,
             output_size,
+            last_node: 0,
             pending: block,
             start_block: block,
         }
     }
 
-    /// A state of these parameters that has taken nothing: a digest of 1 to 32 bytes, a key of up to
-    /// 32 (none is no key), a salt and a persona of up to 8 each. Refused exactly for other lengths.
+    /// A state of these parameters that has taken nothing: a digest of 1 to 32 bytes, a key of up
+    /// to 32 (none is no key), a salt and a persona of up to 8 each. Refused exactly for other
+    /// lengths.
     pub fn new(
         output_size: usize,
         key: &[u8],
@@ -176,7 +192,39 @@ impl State {
         ensures ready { IfOk result (λ s. IsReady s) }
         ensures size { IfOk result (λ s. s.output_size ≡ output_size) }
         ensures fresh { IfOk result (λ s. Fresh meaning
-            (digest_of blake2s output_size salt.now persona.now (given_key key.now))
+            (node_digest_of blake2s output_size salt.now persona.now (given_key key.now)
+            sequential)
+            (given_count blake2s key.now) s) }
+    {
+        Self::new_with_tree(output_size, key, salt, persona, &Tree::sequential())
+    }
+
+    /// Whether BLAKE2s takes this place in a tree of hashes: at least one level, an inner node's
+    /// digest of at most 32 bytes (the BLAKE2 document, 2.8 and 2.10).
+    pub fn admits_tree(tree: &Tree) -> bool
+        ensures { IsTrue result ↔ AdmitsTree blake2s (tree_of tree.now) }
+    {
+        Blake2sVarCore::admits_tree(tree)
+    }
+
+    /// A state of a node of a tree of hashes that has taken nothing: of the parameters of `new`, at
+    /// this place in the tree, one that `admits_tree` takes (the BLAKE2 document, 2.10). Its
+    /// last-node flag is off. Refused exactly for the lengths that `new` refuses.
+    pub fn new_with_tree(
+        output_size: usize,
+        key: &[u8],
+        salt: &[u8],
+        persona: &[u8],
+        tree: &Tree,
+    ) -> Result<Self, InvalidLength>
+        requires tree { AdmitsTree blake2s (tree_of tree.now) }
+        ensures refused { IsErr result
+            ↔ IsRefused blake2s output_size key.now salt.now persona.now }
+        ensures ready { IfOk result (λ s. IsReady s) }
+        ensures size { IfOk result (λ s. s.output_size ≡ output_size) }
+        ensures fresh { IfOk result (λ s. Fresh meaning
+            (node_digest_of blake2s output_size salt.now persona.now (given_key key.now)
+            (tree_of tree.now))
             (given_count blake2s key.now) s) }
     {
         if output_size == 0 || output_size > 32 {
@@ -186,15 +234,16 @@ impl State {
             return Err(InvalidLength);
         }
         if key.is_empty() {
-            return Ok(Self::unkeyed(output_size, salt, persona));
+            return Ok(Self::unkeyed(output_size, salt, persona, tree));
         }
-        Ok(Self::under_key(output_size, key, salt, persona))
+        Ok(Self::under_key(output_size, key, salt, persona, tree))
     }
 
     /// The state of a parameter block (the BLAKE2 document, 2.8) that has taken nothing, of as many
-    /// bytes as the block says. Where the block names a key, the key's block, padded with zeros to 64
-    /// bytes, is the caller's to give as the first input. Refused exactly for a block that has not 32
-    /// bytes, and for one that names a digest of 0 or more than 32 bytes or a key of more than 32.
+    /// bytes as the block says. Where the block names a key, the key's block, padded with zeros to
+    /// 64 bytes, is the caller's to give as the first input. Refused exactly for a block that has
+    /// not 32 bytes, and for one that names a digest of 0 or more than 32 bytes or a key of more
+    /// than 32.
     pub fn from_block(block: &[u8]) -> Result<Self, InvalidLength>
         ensures refused { IsErr result ↔ IsRefusedBlock blake2s block.now }
         ensures ready { IfOk result (λ s. IsReady s) }
@@ -217,9 +266,24 @@ impl State {
           h = self.now.chain;
           start = self.now.first;
           count = self.now.counter;
+          last_node = is_on self.now.last_node;
         } }
     {
-        Blake2sVarCore::from_words(&self.chain, &self.first, self.counter)
+        let mut core = Blake2sVarCore::from_words(&self.chain, &self.first, self.counter);
+        core.set_last_node(self.last_node != 0);
+        core
+    }
+
+    /// Sets the last-node flag, which says that this is the last node of its level in a tree of
+    /// hashes (the BLAKE2 document, 2.10). It can be set at any time before the digest, and a reset
+    /// keeps it.
+    pub fn set_last_node(&mut self, on: bool)
+        requires { IsReady self.old }
+        ensures ready { IsReady self.new }
+        ensures size { self.new.output_size ≡ self.old.output_size }
+        ensures set { NodeSet meaning self.old on self.new }
+    {
+        self.last_node = if on { 1 } else { 0 };
     }
 
     /// How many bytes the state has counted since its last start.
@@ -228,6 +292,21 @@ impl State {
         ensures { result ≡ meaning.count self.now }
     {
         self.counter + self.pending_length as u64
+    }
+
+    // Takes one byte that the pending block has room for.
+    #[inline(always)]
+    fn keep_byte(&mut self, byte: u8)
+        requires ready { IsReady self.old }
+        requires room { self.old.pending_length < 64 }
+        requires counted { meaning.count self.old + 1 < 2 ^ 64 }
+        ensures ready { IsReady self.new }
+        ensures size { self.new.output_size ≡ self.old.output_size }
+        ensures updated { Updated meaning self.old (byte ∷ []) self.new }
+    {
+        let pos = self.pending_length;
+        self.pending[pos] = byte;
+        self.pending_length = pos + 1;
     }
 
     // Takes an input that the pending block has room for.
@@ -245,9 +324,7 @@ impl State {
         self.pending_length = end;
     }
 
-    // Takes any input. It stays a call of its own, so that `update` saves no registers for it where a
-    // few bytes come.
-    #[inline(never)]
+    // Takes any input.
     fn absorb(&mut self, input: &[u8])
         requires ready { IsReady self.old }
         requires counted { meaning.count self.old + length input.now < 2 ^ 64 }
@@ -263,6 +340,24 @@ impl State {
         self.counter = core.counted();
     }
 
+    // Takes any input, by the shorter way where the pending block has room for it: that needs no
+    // core, whose words would move to rows and back. It stays a call of its own, so that `update`
+    // saves no registers where one byte comes.
+    #[inline(never)]
+    fn take(&mut self, input: &[u8])
+        requires ready { IsReady self.old }
+        requires counted { meaning.count self.old + length input.now < 2 ^ 64 }
+        ensures ready { IsReady self.new }
+        ensures size { self.new.output_size ≡ self.old.output_size }
+        ensures updated { Updated meaning self.old input.now self.new }
+    {
+        if input.len() <= 64 - self.pending_length {
+            self.keep(input);
+        } else {
+            self.absorb(input);
+        }
+    }
+
     /// Takes the input after all that was taken before.
     pub fn update(&mut self, input: &[u8])
         requires ready { IsReady self.old }
@@ -271,15 +366,15 @@ impl State {
         ensures size { self.new.output_size ≡ self.old.output_size }
         ensures updated { Updated meaning self.old input.now self.new }
     {
-        // A few bytes need no core, whose words would move to rows and back.
-        if input.len() <= 64 - self.pending_length {
-            self.keep(input);
+        // To copy a single byte by a call would cost more than all the rest.
+        if input.len() == 1 && self.pending_length < 64 {
+            self.keep_byte(input[0]);
         } else {
-            self.absorb(input);
+            self.take(input);
         }
     }
 
-    /// Goes back to the start: parameters and key are kept.
+    /// Goes back to the start: parameters, key and last-node flag are kept.
     pub fn reset(&mut self)
         requires { IsReady self.old }
         ensures ready { IsReady self.new }
@@ -292,8 +387,8 @@ impl State {
         self.pending = self.start_block;
     }
 
-    /// Writes the digest of what was taken since the last start at the beginning of `out`. The state
-    /// stays as it is, and can take more.
+    /// Writes the digest of what was taken since the last start at the beginning of `out`. The
+    /// state stays as it is, and can take more.
     pub fn write_digest(&self, out: &mut [u8])
         requires ready { IsReady self.now }
         requires room { self.now.output_size ≤ length out.old }

@@ -1,7 +1,9 @@
 -- Rotating a word to the right and then to the left by as many bits gives it back, and so does the
 -- other order.
-use Rattle.std.proofs.Common.{◌≡◌, ◌≢◌, ℕ, ◌+◌, ◌-◌, ◌*◌, ◌/◌, ◌%◌, ◌^◌, ◌<◌, ◌≤◌, inl, inr, bit_or, sym, ap, subst, ◌∙◌, arith, mod-lt, pow_pos, pow-add, lit<}
-use Rattle.std.proofs.Math.Nat.{mul-lt-mul_of_pos_right, mod-eq_of_lt, mod_self, div-one, sub-zero, mul-one}
+use Rattle.std.proofs.Common.{◌≡◌, ◌≢◌, ℕ, ◌+◌, ◌-◌, ◌*◌, ◌/◌, ◌%◌, ◌^◌, ◌<◌, ◌≤◌, inl, inr, bit_or}
+use Rattle.std.proofs.Common.{sym, ap, subst, ◌∙◌, arith, mod-lt, pow_pos, pow-add, lit<}
+use Rattle.std.proofs.Math.Nat.{mul-lt-mul_of_pos_right, mod-eq_of_lt, mod_self, div-one, sub-zero}
+use Rattle.std.proofs.Math.Nat.{mul-one}
 use Rattle.std.proofs.lemmas.Bool.{cases_eq}
 use Rattle.std.proofs.lemmas.Nat.{mod-mul-add, or_comm, shr_below, shr_high, shr_split}
 use Rattle.std.specs.Int.{rotate_left, rotate_right}
@@ -20,12 +22,15 @@ scaled_lt j k l low =
     omega (arith, grown, pow-add 2 j k)
 
 -- the high j bits h and the low k bits l change places
-places_changed : (j k h l : ℕ) → l < 2 ^ k → h < 2 ^ j → rotated (j + k) (h * 2 ^ k + l) k ≡ l * 2 ^ j + h
+places_changed : (j k h l : ℕ) → l < 2 ^ k → h < 2 ^ j
+    → rotated (j + k) (h * 2 ^ k + l) k ≡ l * 2 ^ j + h
 places_changed j k h l low high =
-    let whole : (h * 2 ^ k + l) * 2 ^ j ≡ h * 2 ^ (j + k) + l * 2 ^ j = rw (pow-add 2 j k) (omega arith) in
+    let whole : (h * 2 ^ k + l) * 2 ^ j ≡ h * 2 ^ (j + k) + l * 2 ^ j =
+    rw (pow-add 2 j k) (omega arith) in
     let rest : j + k - k ≡ j = omega arith in
     let kept : (h * 2 ^ k + l) * 2 ^ (j + k - k) % 2 ^ (j + k) ≡ l * 2 ^ j =
-    rw rest (ap (λ (x : ℕ). x % 2 ^ (j + k)) whole ∙ mod-mul-add h (2 ^ (j + k)) (l * 2 ^ j) (scaled_lt j k l low)) in
+    rw rest (ap (λ (x : ℕ). x % 2 ^ (j + k)) whole
+    ∙ mod-mul-add h (2 ^ (j + k)) (l * 2 ^ j) (scaled_lt j k l low)) in
     rw (shr_high h k l low, kept) (or_shifted_r l j h high)
 
 -- rotated by k bits, a number is its low k bits above the others
@@ -36,16 +41,21 @@ rotated-sum w n k le fits =
     let high : n / 2 ^ k < 2 ^ j = shr_below n j k (subst (λ (i : ℕ). n < 2 ^ i) width fits) in
     let low : n % 2 ^ k < 2 ^ k = mod-lt n (pow_pos k) in
     let parts : n / 2 ^ k * 2 ^ k + n % 2 ^ k ≡ n = shr_split n k in
-    ap (λ (x : ℕ). rotated w x k) (sym parts) ∙ ap (λ (i : ℕ). rotated i (n / 2 ^ k * 2 ^ k + n % 2 ^ k) k) width ∙ places_changed j k (n / 2 ^ k) (n % 2 ^ k) low high
+    ap (λ (x : ℕ). rotated w x k) (sym parts) ∙ ap
+    (λ (i : ℕ). rotated i (n / 2 ^ k * 2 ^ k + n % 2 ^ k) k) width
+    ∙ places_changed j k (n / 2 ^ k) (n % 2 ^ k) low high
 
 -- rotated by k bits and then by the rest of the width, a number is itself again
 rotated_back : (w n k : ℕ) → k ≤ w → n < 2 ^ w → rotated w (rotated w n k) (w - k) ≡ n
 rotated_back w n k le fits =
     let j : ℕ = w - k in
     let swapped_width : w ≡ k + j = omega arith in
-    let high : n / 2 ^ k < 2 ^ j = shr_below n j k (subst (λ (i : ℕ). n < 2 ^ i) (omega arith) fits) in
+    let high : n / 2 ^ k < 2 ^ j = shr_below n j k
+    (subst (λ (i : ℕ). n < 2 ^ i) (omega arith) fits) in
     let low : n % 2 ^ k < 2 ^ k = mod-lt n (pow_pos k) in
-    ap (λ (x : ℕ). rotated w x j) (rotated-sum w n k le fits) ∙ ap (λ (i : ℕ). rotated i (n % 2 ^ k * 2 ^ j + n / 2 ^ k) j) swapped_width ∙ places_changed k j (n % 2 ^ k) (n / 2 ^ k) high low ∙ shr_split n k
+    ap (λ (x : ℕ). rotated w x j) (rotated-sum w n k le fits)
+    ∙ ap (λ (i : ℕ). rotated i (n % 2 ^ k * 2 ^ j + n / 2 ^ k) j) swapped_width
+    ∙ places_changed k j (n % 2 ^ k) (n / 2 ^ k) high low ∙ shr_split n k
 
 -- a word has bits
 bits_pos : (f : Family) → 0 < bits (word f)
@@ -91,7 +101,8 @@ left_by-zero w n fits =
 left_by-right_by : (w n k : ℕ) → k < w → n < 2 ^ w → left_by w (right_by w n k) k ≡ n
 left_by-right_by w n k low fits = elim (cases_eq k 0) [
   | inl none ↦ rw (none, right_by-zero w n fits) (left_by-zero w n fits)
-  | inr some ↦ left_by-rotated w (right_by w n k) k some low ∙ rw (right_by-rotated w n k some low) (rotated_back w n k (omega arith) fits)
+  | inr some ↦ left_by-rotated w (right_by w n k) k some low
+      ∙ rw (right_by-rotated w n k some low) (rotated_back w n k (omega arith) fits)
 ]
 
 -- first to the left, then to the right
@@ -107,12 +118,16 @@ right_by-left_by w n k low fits = elim (cases_eq k 0) [
 ]
 
 -- a word rotated to the right by r bits and then to the left by as many is itself again
-pub rotate_left-rotate_right : (f : Family) (n r : ℕ) → n < 2 ^ bits (word f) → rotate_left (word f) (rotate_right (word f) n r) r ≡ n
-rotate_left-rotate_right f n r fits = left_by-right_by (bits (word f)) n (r % bits (word f)) (mod-lt r (bits_pos f)) fits
+pub rotate_left-rotate_right : (f : Family) (n r : ℕ) → n < 2 ^ bits (word f)
+    → rotate_left (word f) (rotate_right (word f) n r) r ≡ n
+rotate_left-rotate_right f n r fits = left_by-right_by (bits (word f)) n (r % bits (word f))
+    (mod-lt r (bits_pos f)) fits
 
 -- and in the other order
-pub rotate_right-rotate_left : (f : Family) (n r : ℕ) → n < 2 ^ bits (word f) → rotate_right (word f) (rotate_left (word f) n r) r ≡ n
-rotate_right-rotate_left f n r fits = right_by-left_by (bits (word f)) n (r % bits (word f)) (mod-lt r (bits_pos f)) fits
+pub rotate_right-rotate_left : (f : Family) (n r : ℕ) → n < 2 ^ bits (word f)
+    → rotate_right (word f) (rotate_left (word f) n r) r ≡ n
+rotate_right-rotate_left f n r fits = right_by-left_by (bits (word f)) n (r % bits (word f))
+    (mod-lt r (bits_pos f)) fits
 
 -- a word rotated to the right by r bits, as a sum: its low r bits above the others
 pub rotate_right-sum : (f : Family) (n r : ℕ) → 0 < r → r < bits (word f) → n < 2 ^ bits (word f)
@@ -120,4 +135,5 @@ pub rotate_right-sum : (f : Family) (n r : ℕ) → 0 < r → r < bits (word f) 
 rotate_right-sum f n r some low fits =
     let w : ℕ = bits (word f) in
     let within : r % w ≡ r = mod-eq_of_lt low in
-    ap (λ (k : ℕ). right_by w n k) within ∙ right_by-rotated w n r (omega arith) low ∙ rotated-sum w n r (omega arith) fits
+    ap (λ (k : ℕ). right_by w n k) within ∙ right_by-rotated w n r (omega arith) low
+    ∙ rotated-sum w n r (omega arith) fits

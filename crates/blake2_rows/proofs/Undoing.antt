@@ -1,6 +1,8 @@
 -- Each assignment of G can be undone in a list of words; so G and a round can be, and a round takes
 -- different lists of words to different ones.
-use Rattle.std.proofs.Common.{◌≡◌, ◌≢◌, ℕ, zero, suc, ◌+◌, ◌-◌, ◌%◌, ◌^◌, ◌<◌, List, [], ◌∷◌, length, set, bit_xor, slice_index, refl, sym, ap, ◌∙◌, arith, lit<, pow_pos, mod-lt}
+use Rattle.std.proofs.Common.{◌≡◌, ◌≢◌, ℕ, zero, suc, ◌+◌, ◌-◌, ◌%◌, ◌^◌, ◌<◌, List, [], ◌∷◌}
+use Rattle.std.proofs.Common.{length, set, bit_xor, slice_index, refl, sym, ap, ◌∙◌, arith, lit<}
+use Rattle.std.proofs.Common.{pow_pos, mod-lt}
 use Rattle.std.proofs.lemmas.List.{length-set, set-get_or, get_or-set_same, get_or-set_other}
 use Rattle.std.proofs.lemmas.Nat.{xor_lt}
 use Rattle.std.specs.Int.{rotate_left, rotate_right}
@@ -16,11 +18,13 @@ use Rattle.blake2_rows.proofs.Words.{AreWords-set, AreWords-plus, AreWords-rotat
 
 -- v[a] := (v[a] - v[b] - x) mod 2^w
 abbrev pub minus : Family → List ℕ → ℕ → ℕ → ℕ → List ℕ
-minus f v a b x = set v a (((slice_index v a + (2 ^ bits (word f) - slice_index v b)) % 2 ^ bits (word f) + (2 ^ bits (word f) - x)) % 2 ^ bits (word f))
+minus f v a b x = set v a (((slice_index v a + (2 ^ bits (word f) - slice_index v b)) % 2 ^ bits
+    (word f) + (2 ^ bits (word f) - x)) % 2 ^ bits (word f))
 
 -- v[c] := (v[c] - v[d]) mod 2^w
 abbrev pub less : Family → List ℕ → ℕ → ℕ → List ℕ
-less f v c d = set v c ((slice_index v c + (2 ^ bits (word f) - slice_index v d)) % 2 ^ bits (word f))
+less f v c d = set v c ((slice_index v c + (2 ^ bits (word f) - slice_index v d)) % 2 ^ bits
+    (word f))
 
 -- v[d] := (v[d] <<< r) ^ v[a]
 abbrev pub unrotate : Family → List ℕ → ℕ → ℕ → ℕ → List ℕ
@@ -39,14 +43,18 @@ set-set (z ∷ l) zero x y = refl
 set-set (z ∷ l) (suc i) x y = ap (λ t. z ∷ t) (set-set l i x y)
 
 -- a sum of three words, less the second and the third
-sum_undone : (f : Family) (a b x : ℕ) → a < 2 ^ bits (word f) → b < 2 ^ bits (word f) → x < 2 ^ bits (word f)
-    → (((a + b + x) % 2 ^ bits (word f) + (2 ^ bits (word f) - b)) % 2 ^ bits (word f) + (2 ^ bits (word f) - x)) % 2 ^ bits (word f) ≡ a
+sum_undone : (f : Family) (a b x : ℕ) → a < 2 ^ bits (word f) → b < 2 ^ bits (word f)
+    → x < 2 ^ bits (word f)
+    → (((a + b + x) % 2 ^ bits (word f) + (2 ^ bits (word f) - b)) % 2 ^ bits (word f)
+    + (2 ^ bits (word f) - x)) % 2 ^ bits (word f) ≡ a
 sum_undone blake2b a b x ha hb hx = omega arith
 sum_undone blake2s a b x ha hb hx = omega arith
 
 -- what is left of a word less two others, and those two
-difference_undone : (f : Family) (a b x : ℕ) → a < 2 ^ bits (word f) → b < 2 ^ bits (word f) → x < 2 ^ bits (word f)
-    → (((a + (2 ^ bits (word f) - b)) % 2 ^ bits (word f) + (2 ^ bits (word f) - x)) % 2 ^ bits (word f) + b + x) % 2 ^ bits (word f) ≡ a
+difference_undone : (f : Family) (a b x : ℕ) → a < 2 ^ bits (word f) → b < 2 ^ bits (word f)
+    → x < 2 ^ bits (word f)
+    → (((a + (2 ^ bits (word f) - b)) % 2 ^ bits (word f) + (2 ^ bits (word f) - x)) % 2 ^ bits
+    (word f) + b + x) % 2 ^ bits (word f) ≡ a
 difference_undone blake2b a b x ha hb hx = omega arith
 difference_undone blake2s a b x ha hb hx = omega arith
 
@@ -68,35 +76,43 @@ xor_twice a b = xor_assoc a b b ∙ ap (bit_xor a) (xor_self b) ∙ xor_zero_r a
 
 -- a second write at the place of the first, of a number x made of the first one and another place
 rewritten : (f : Family) (v : List ℕ) (a b p : ℕ) (g : ℕ → ℕ → ℕ) → a < length v → b ≢ a
-    → set (set v a p) a (g (slice_index (set v a p) a) (slice_index (set v a p) b)) ≡ set v a (g p (slice_index v b))
+    → set (set v a p) a (g (slice_index (set v a p) a) (slice_index (set v a p) b))
+    ≡ set v a (g p (slice_index v b))
 rewritten f v a b p g fits other =
-    rw (get_or-set_same v a p 0 fits, get_or-set_other v a b p 0 other) (set-set v a p (g p (slice_index v b)))
+    rw (get_or-set_same v a p 0 fits, get_or-set_other v a b p 0 other)
+    (set-set v a p (g p (slice_index v b)))
 
 -- the same, where that number is the one that stood there
-restored : (f : Family) (v : List ℕ) (a b p : ℕ) (g : ℕ → ℕ → ℕ) → a < length v → b ≢ a → g p (slice_index v b) ≡ slice_index v a
+restored : (f : Family) (v : List ℕ) (a b p : ℕ) (g : ℕ → ℕ → ℕ) → a < length v → b ≢ a
+    → g p (slice_index v b) ≡ slice_index v a
     → set (set v a p) a (g (slice_index (set v a p) a) (slice_index (set v a p) b)) ≡ v
-restored f v a b p g fits other same = rewritten f v a b p g fits other ∙ ap (set v a) same ∙ set-get_or v a 0
+restored f v a b p g fits other same = rewritten f v a b p g fits other ∙ ap (set v a) same
+    ∙ set-get_or v a 0
 
 -- v[a] := v[a] + v[b] + x is undone by `minus`
-plus_step : (f : Family) (v : List ℕ) (a b x : ℕ) → AreWords f v → x < 2 ^ bits (word f) → a < length v → b ≢ a
+plus_step : (f : Family) (v : List ℕ) (a b x : ℕ) → AreWords f v → x < 2 ^ bits (word f)
+    → a < length v → b ≢ a
     → Step f v (plus f v a b x) (λ w. minus f w a b x)
 plus_step f v a b x words low fits other =
     let m : ℕ = 2 ^ bits (word f) in
     record {
       words = AreWords-plus f v a b x words;
       long = length-set v a _;
-      undone = restored f v a b _ (λ p q. ((p + (m - q)) % m + (m - x)) % m) fits other (sum_undone f _ _ x (words a) (words b) low);
+      undone = restored f v a b _ (λ p q. ((p + (m - q)) % m + (m - x)) % m) fits other
+          (sum_undone f _ _ x (words a) (words b) low);
     }
 
 -- `minus` is undone by v[a] := v[a] + v[b] + x
-minus_step : (f : Family) (v : List ℕ) (a b x : ℕ) → AreWords f v → x < 2 ^ bits (word f) → a < length v → b ≢ a
+minus_step : (f : Family) (v : List ℕ) (a b x : ℕ) → AreWords f v → x < 2 ^ bits (word f)
+    → a < length v → b ≢ a
     → Step f v (minus f v a b x) (λ w. plus f w a b x)
 minus_step f v a b x words low fits other =
     let m : ℕ = 2 ^ bits (word f) in
     record {
       words = AreWords-set f v a _ words (mod-lt _ (pow_pos (bits (word f))));
       long = length-set v a _;
-      undone = restored f v a b _ (λ p q. (p + q + x) % m) fits other (difference_undone f _ _ x (words a) (words b) low);
+      undone = restored f v a b _ (λ p q. (p + q + x) % m) fits other
+          (difference_undone f _ _ x (words a) (words b) low);
     }
 
 -- v[c] := v[c] + v[d] is undone by `less`
@@ -107,7 +123,8 @@ single_plus_step f v c d words fits other =
     record {
       words = AreWords-plus f v c d 0 words;
       long = length-set v c _;
-      undone = restored f v c d _ (λ p q. (p + (m - q)) % m) fits other (single_sum_undone f _ _ (words c) (words d));
+      undone = restored f v c d _ (λ p q. (p + (m - q)) % m) fits other
+          (single_sum_undone f _ _ (words c) (words d));
     }
 
 -- `less` is undone by v[c] := v[c] + v[d]
@@ -118,7 +135,8 @@ less_step f v c d words fits other =
     record {
       words = AreWords-set f v c _ words (mod-lt _ (pow_pos (bits (word f))));
       long = length-set v c _;
-      undone = restored f v c d _ (λ p q. (p + q + 0) % m) fits other (single_difference_undone f _ _ (words c) (words d));
+      undone = restored f v c d _ (λ p q. (p + q + 0) % m) fits other
+          (single_difference_undone f _ _ (words c) (words d));
     }
 
 -- v[d] := (v[d] ^ v[a]) >>> r is undone by `unrotate`
@@ -131,7 +149,8 @@ rotate_step f v d a r words fits other =
       words = AreWords-rotate f v d a r words;
       long = length-set v d _;
       undone = restored f v d a _ (λ p q. bit_xor (rotate_left (word f) p r) q) fits other
-          (ap (λ p. bit_xor p y) (rotate_left-rotate_right f (bit_xor x y) r (xor_lt (bits (word f)) x y (words d) (words a))) ∙ xor_twice x y);
+          (ap (λ p. bit_xor p y) (rotate_left-rotate_right f (bit_xor x y) r
+          (xor_lt (bits (word f)) x y (words d) (words a))) ∙ xor_twice x y);
     }
 
 -- `unrotate` is undone by v[d] := (v[d] ^ v[a]) >>> r
@@ -141,17 +160,24 @@ unrotate_step f v d a r words fits other =
     let x : ℕ = slice_index v d in
     let y : ℕ = slice_index v a in
     record {
-      words = AreWords-set f v d _ words (xor_lt (bits (word f)) _ y (rotate_left-lt f x r (words d)) (words a));
+      words = AreWords-set f v d _ words (xor_lt (bits (word f)) _ y
+          (rotate_left-lt f x r (words d)) (words a));
       long = length-set v d _;
       undone = restored f v d a _ (λ p q. rotate_right (word f) (bit_xor p q) r) fits other
-          (ap (λ p. rotate_right (word f) p r) (xor_twice (rotate_left (word f) x r) y) ∙ rotate_right-rotate_left f x r (words d));
+          (ap (λ p. rotate_right (word f) p r) (xor_twice (rotate_left (word f) x r) y)
+          ∙ rotate_right-rotate_left f x r (words d));
     }
 
 -- ---- G
 
 -- two steps, undone the last first
-and_then : (f : Family) {u v w : List ℕ} {g h : List ℕ → List ℕ} → Step f u v g → Step f v w h → Step f u w (λ z. g (h z))
-and_then f {g = g} s t = record { words = t.words; long = t.long ∙ s.long; undone = ap g t.undone ∙ s.undone }
+and_then : (f : Family) {u v w : List ℕ} {g h : List ℕ → List ℕ} → Step f u v g → Step f v w h
+    → Step f u w (λ z. g (h z))
+and_then f {g = g} s t = record {
+  words = t.words;
+  long = t.long ∙ s.long;
+  undone = ap g t.undone ∙ s.undone;
+}
 
 -- the eight assignments of G undone, the last first
 unfoldable pub unmix : Family → List ℕ → ℕ → ℕ → ℕ → ℕ → ℕ → ℕ → List ℕ
@@ -166,8 +192,10 @@ unmix f v a b c d x y =
     minus f v1 a b x
 
 -- G is undone by `unmix`
-mix_step : (f : Family) (v : List ℕ) (a b c d x y : ℕ) → AreWords f v → x < 2 ^ bits (word f) → y < 2 ^ bits (word f)
-    → a < b → b < c → c < d → d < length v → Step f v (mix f v a b c d x y) (λ w. unmix f w a b c d x y)
+mix_step : (f : Family) (v : List ℕ) (a b c d x y : ℕ) → AreWords f v → x < 2 ^ bits (word f)
+    → y < 2 ^ bits (word f)
+    → a < b → b < c → c < d → d < length v → Step f v (mix f v a b c d x y)
+    (λ w. unmix f w a b c d x y)
 unfolding mix unmix
 mix_step f v a b c d x y words lx ly ab bc cd fits =
     let r : ℕ → ℕ = λ i. slice_index (rotations f) i in
@@ -178,20 +206,25 @@ mix_step f v a b c d x y words lx ly ab bc cd fits =
     let v3 = plus f v2 c d 0 in
     let s3 = single_plus_step f v2 c d s2.words (omega (arith, s1.long, s2.long)) (omega arith) in
     let v4 = rotate f v3 b c (r 1) in
-    let s4 = rotate_step f v3 b c (r 1) s3.words (omega (arith, s1.long, s2.long, s3.long)) (omega arith) in
+    let s4 = rotate_step f v3 b c (r 1) s3.words (omega (arith, s1.long, s2.long, s3.long))
+    (omega arith) in
     let t4 = and_then f s1 (and_then f s2 (and_then f s3 s4)) in
     let v5 = plus f v4 a b y in
     let s5 = plus_step f v4 a b y s4.words ly (omega (arith, t4.long)) (omega arith) in
     let v6 = rotate f v5 d a (r 2) in
     let s6 = rotate_step f v5 d a (r 2) s5.words (omega (arith, t4.long, s5.long)) (omega arith) in
     let v7 = plus f v6 c d 0 in
-    let s7 = single_plus_step f v6 c d s6.words (omega (arith, t4.long, s5.long, s6.long)) (omega arith) in
-    let s8 = rotate_step f v7 b c (r 3) s7.words (omega (arith, t4.long, s5.long, s6.long, s7.long)) (omega arith) in
+    let s7 = single_plus_step f v6 c d s6.words (omega (arith, t4.long, s5.long, s6.long))
+    (omega arith) in
+    let s8 = rotate_step f v7 b c (r 3) s7.words (omega (arith, t4.long, s5.long, s6.long, s7.long))
+    (omega arith) in
     and_then f t4 (and_then f s5 (and_then f s6 (and_then f s7 s8)))
 
 -- `unmix` is undone by G
-unmix_step : (f : Family) (v : List ℕ) (a b c d x y : ℕ) → AreWords f v → x < 2 ^ bits (word f) → y < 2 ^ bits (word f)
-    → a < b → b < c → c < d → d < length v → Step f v (unmix f v a b c d x y) (λ w. mix f w a b c d x y)
+unmix_step : (f : Family) (v : List ℕ) (a b c d x y : ℕ) → AreWords f v → x < 2 ^ bits (word f)
+    → y < 2 ^ bits (word f)
+    → a < b → b < c → c < d → d < length v → Step f v (unmix f v a b c d x y)
+    (λ w. mix f w a b c d x y)
 unfolding mix unmix
 unmix_step f v a b c d x y words lx ly ab bc cd fits =
     let r : ℕ → ℕ = λ i. slice_index (rotations f) i in
@@ -200,23 +233,29 @@ unmix_step f v a b c d x y words lx ly ab bc cd fits =
     let v6 = less f v7 c d in
     let s6 = less_step f v7 c d s7.words (omega (arith, s7.long)) (omega arith) in
     let v5 = unrotate f v6 d a (r 2) in
-    let s5 = unrotate_step f v6 d a (r 2) s6.words (omega (arith, s7.long, s6.long)) (omega arith) in
+    let s5 = unrotate_step f v6 d a (r 2) s6.words (omega (arith, s7.long, s6.long))
+    (omega arith) in
     let v4 = minus f v5 a b y in
-    let s4 = minus_step f v5 a b y s5.words ly (omega (arith, s7.long, s6.long, s5.long)) (omega arith) in
+    let s4 = minus_step f v5 a b y s5.words ly (omega (arith, s7.long, s6.long, s5.long))
+    (omega arith) in
     let t4 = and_then f s7 (and_then f s6 (and_then f s5 s4)) in
     let v3 = unrotate f v4 b c (r 1) in
     let s3 = unrotate_step f v4 b c (r 1) s4.words (omega (arith, t4.long)) (omega arith) in
     let v2 = less f v3 c d in
     let s2 = less_step f v3 c d s3.words (omega (arith, t4.long, s3.long)) (omega arith) in
     let v1 = unrotate f v2 d a (r 0) in
-    let s1 = unrotate_step f v2 d a (r 0) s2.words (omega (arith, t4.long, s3.long, s2.long)) (omega arith) in
-    let s0 = minus_step f v1 a b x s1.words lx (omega (arith, t4.long, s3.long, s2.long, s1.long)) (omega arith) in
+    let s1 = unrotate_step f v2 d a (r 0) s2.words (omega (arith, t4.long, s3.long, s2.long))
+    (omega arith) in
+    let s0 = minus_step f v1 a b x s1.words lx (omega (arith, t4.long, s3.long, s2.long, s1.long))
+    (omega arith) in
     and_then f t4 (and_then f s3 (and_then f s2 (and_then f s1 s0)))
 
 -- what G undone leaves, G takes to the words that were given
-pub mix-unmix : (f : Family) (v : List ℕ) (a b c d x y : ℕ) → AreWords f v → x < 2 ^ bits (word f) → y < 2 ^ bits (word f)
+pub mix-unmix : (f : Family) (v : List ℕ) (a b c d x y : ℕ) → AreWords f v → x < 2 ^ bits (word f)
+    → y < 2 ^ bits (word f)
     → a < b → b < c → c < d → d < length v → mix f (unmix f v a b c d x y) a b c d x y ≡ v
-mix-unmix f v a b c d x y words lx ly ab bc cd fits = (unmix_step f v a b c d x y words lx ly ab bc cd fits).undone
+mix-unmix f v a b c d x y words lx ly ab bc cd fits =
+    (unmix_step f v a b c d x y words lx ly ab bc cd fits).undone
 
 -- ---- the round
 
@@ -234,33 +273,47 @@ unround f m s v =
     unmix f v1 0 4 8 12 (at 0) (at 1)
 
 -- a mixing of a round, with the words of m at places i and j of s
-drawn_step : (f : Family) (v m s : List ℕ) (a b c d i j : ℕ) → AreWords f v → AreWords f m → a < b → b < c → c < d → d < 16 → length v ≡ 16
-    → Step f v (mix f v a b c d (slice_index m (slice_index s i)) (slice_index m (slice_index s j))) (λ w. unmix f w a b c d (slice_index m (slice_index s i)) (slice_index m (slice_index s j)))
-drawn_step f v m s a b c d i j words from_m ab bc cd low long = mix_step f v a b c d _ _ words (from_m _) (from_m _) ab bc cd (omega arith)
+drawn_step : (f : Family) (v m s : List ℕ) (a b c d i j : ℕ) → AreWords f v → AreWords f m → a < b
+    → b < c → c < d → d < 16 → length v ≡ 16
+    → Step f v (mix f v a b c d (slice_index m (slice_index s i)) (slice_index m (slice_index s j)))
+    (λ w. unmix f w a b c d (slice_index m (slice_index s i)) (slice_index m (slice_index s j)))
+drawn_step f v m s a b c d i j words from_m ab bc cd low long =
+    mix_step f v a b c d _ _ words (from_m _) (from_m _) ab bc cd (omega arith)
 
 -- a round is undone by `unround`
-round_step : (f : Family) (v m s : List ℕ) → AreWords f v → AreWords f m → length v ≡ 16 → Step f v (round f v m s) (unround f m s)
+round_step : (f : Family) (v m s : List ℕ) → AreWords f v → AreWords f m → length v ≡ 16
+    → Step f v (round f v m s) (unround f m s)
 unfolding round unround
 round_step f v m s words from_m long =
     let at = λ (j : ℕ). slice_index m (slice_index s j) in
     let v1 = mix f v 0 4 8 12 (at 0) (at 1) in
-    let s1 = drawn_step f v m s 0 4 8 12 0 1 words from_m (lit< tt) (lit< tt) (lit< tt) (lit< tt) long in
+    let s1 = drawn_step f v m s 0 4 8 12 0 1 words from_m (lit< tt) (lit< tt) (lit< tt)
+    (lit< tt) long in
     let v2 = mix f v1 1 5 9 13 (at 2) (at 3) in
-    let s2 = and_then f s1 (drawn_step f v1 m s 1 5 9 13 2 3 s1.words from_m (lit< tt) (lit< tt) (lit< tt) (lit< tt) (s1.long ∙ long)) in
+    let s2 = and_then f s1 (drawn_step f v1 m s 1 5 9 13 2 3 s1.words from_m (lit< tt) (lit< tt)
+    (lit< tt) (lit< tt) (s1.long ∙ long)) in
     let v3 = mix f v2 2 6 10 14 (at 4) (at 5) in
-    let s3 = and_then f s2 (drawn_step f v2 m s 2 6 10 14 4 5 s2.words from_m (lit< tt) (lit< tt) (lit< tt) (lit< tt) (s2.long ∙ long)) in
+    let s3 = and_then f s2 (drawn_step f v2 m s 2 6 10 14 4 5 s2.words from_m (lit< tt) (lit< tt)
+    (lit< tt) (lit< tt) (s2.long ∙ long)) in
     let v4 = mix f v3 3 7 11 15 (at 6) (at 7) in
-    let s4 = and_then f s3 (drawn_step f v3 m s 3 7 11 15 6 7 s3.words from_m (lit< tt) (lit< tt) (lit< tt) (lit< tt) (s3.long ∙ long)) in
+    let s4 = and_then f s3 (drawn_step f v3 m s 3 7 11 15 6 7 s3.words from_m (lit< tt) (lit< tt)
+    (lit< tt) (lit< tt) (s3.long ∙ long)) in
     let v5 = mix f v4 0 5 10 15 (at 8) (at 9) in
-    let s5 = and_then f s4 (drawn_step f v4 m s 0 5 10 15 8 9 s4.words from_m (lit< tt) (lit< tt) (lit< tt) (lit< tt) (s4.long ∙ long)) in
+    let s5 = and_then f s4 (drawn_step f v4 m s 0 5 10 15 8 9 s4.words from_m (lit< tt) (lit< tt)
+    (lit< tt) (lit< tt) (s4.long ∙ long)) in
     let v6 = mix f v5 1 6 11 12 (at 10) (at 11) in
-    let s6 = and_then f s5 (drawn_step f v5 m s 1 6 11 12 10 11 s5.words from_m (lit< tt) (lit< tt) (lit< tt) (lit< tt) (s5.long ∙ long)) in
+    let s6 = and_then f s5 (drawn_step f v5 m s 1 6 11 12 10 11 s5.words from_m (lit< tt) (lit< tt)
+    (lit< tt) (lit< tt) (s5.long ∙ long)) in
     let v7 = mix f v6 2 7 8 13 (at 12) (at 13) in
-    let s7 = and_then f s6 (drawn_step f v6 m s 2 7 8 13 12 13 s6.words from_m (lit< tt) (lit< tt) (lit< tt) (lit< tt) (s6.long ∙ long)) in
-    and_then f s7 (drawn_step f v7 m s 3 4 9 14 14 15 s7.words from_m (lit< tt) (lit< tt) (lit< tt) (lit< tt) (s7.long ∙ long))
+    let s7 = and_then f s6 (drawn_step f v6 m s 2 7 8 13 12 13 s6.words from_m (lit< tt) (lit< tt)
+    (lit< tt) (lit< tt) (s6.long ∙ long)) in
+    and_then f s7 (drawn_step f v7 m s 3 4 9 14 14 15 s7.words from_m (lit< tt) (lit< tt) (lit< tt)
+    (lit< tt) (s7.long ∙ long))
 
 -- for given m and s, a round takes different lists of sixteen words to different lists
-pub round_injective : (f : Family) (u v m s : List ℕ) → AreWords f u → AreWords f v → AreWords f m → length u ≡ 16 → length v ≡ 16
+pub round_injective : (f : Family) (u v m s : List ℕ) → AreWords f u → AreWords f v → AreWords f m
+    → length u ≡ 16 → length v ≡ 16
     → round f u m s ≡ round f v m s → u ≡ v
 round_injective f u v m s words_u words_v from_m long_u long_v same =
-    sym ((round_step f u m s words_u from_m long_u).undone) ∙ ap (unround f m s) same ∙ (round_step f v m s words_v from_m long_v).undone
+    sym ((round_step f u m s words_u from_m long_u).undone) ∙ ap (unround f m s) same
+    ∙ (round_step f v m s words_v from_m long_v).undone

@@ -1,6 +1,8 @@
 -- The definitions take a list of words to one that is as long.
-use Rattle.std.proofs.Common.{◌≡◌, ℕ, zero, suc, ◌+◌, ◌-◌, ◌%◌, ◌^◌, ◌<◌, inl, inr, List, [], ◌∷◌, length, get_or, drop, set, refl, sym, arith, pow_pos, mod-lt}
-use Rattle.std.proofs.lemmas.List.{length-set, get_or-set_same, get_or-set_other, set_past, drop_all, drop_more}
+use Rattle.std.proofs.Common.{◌≡◌, ℕ, zero, suc, ◌+◌, ◌-◌, ◌%◌, ◌^◌, ◌<◌, inl, inr, List, [], ◌∷◌}
+use Rattle.std.proofs.Common.{length, get_or, drop, set, refl, sym, arith, pow_pos, mod-lt}
+use Rattle.std.proofs.lemmas.List.{length-set, get_or-set_same, get_or-set_other, set_past}
+use Rattle.std.proofs.lemmas.List.{drop_all, drop_more}
 use Rattle.std.proofs.lemmas.Nat.{xor_lt, or_lt, shr_le}
 use Rattle.std.proofs.lemmas.Bool.{cases_eq, cases_lt}
 use Rattle.std.specs.Int.{rotate_left, rotate_right}
@@ -9,7 +11,8 @@ use Rattle.blake2_rows.specs.Family.{Family, word}
 use Rattle.blake2_rows.specs.Round.{AreWords, plus, rotate, mix, round}
 
 -- a list stays one of words where a word is written over another
-pub AreWords-set : (f : Family) (v : List ℕ) (i x : ℕ) → AreWords f v → x < 2 ^ bits (word f) → AreWords f (set v i x)
+pub AreWords-set : (f : Family) (v : List ℕ) (i x : ℕ) → AreWords f v → x < 2 ^ bits (word f)
+    → AreWords f (set v i x)
 AreWords-set f v i x a lt k = elim (cases_lt i (length v)) [
   | inr past ↦ rw (set_past v i x past) (a k)
   | inl fits ↦ elim (cases_eq k i) [
@@ -19,32 +22,43 @@ AreWords-set f v i x a lt k = elim (cases_lt i (length v)) [
 ]
 
 -- a word rotated to the right is a word
-pub rotate_right-lt : (f : Family) (n r : ℕ) → n < 2 ^ bits (word f) → rotate_right (word f) n r < 2 ^ bits (word f)
-rotate_right-lt f n r lt = or_lt (bits (word f)) _ _ (omega (arith, shr_le n (r % bits (word f)))) (mod-lt _ (pow_pos (bits (word f))))
+pub rotate_right-lt : (f : Family) (n r : ℕ) → n < 2 ^ bits (word f)
+    → rotate_right (word f) n r < 2 ^ bits (word f)
+rotate_right-lt f n r lt = or_lt (bits (word f)) _ _ (omega (arith, shr_le n (r % bits (word f))))
+    (mod-lt _ (pow_pos (bits (word f))))
 
 -- a word rotated to the left is a word
-pub rotate_left-lt : (f : Family) (n r : ℕ) → n < 2 ^ bits (word f) → rotate_left (word f) n r < 2 ^ bits (word f)
-rotate_left-lt f n r lt = or_lt (bits (word f)) _ _ (mod-lt _ (pow_pos (bits (word f)))) (omega (arith, shr_le n ((bits (word f) - r % bits (word f)) % bits (word f))))
+pub rotate_left-lt : (f : Family) (n r : ℕ) → n < 2 ^ bits (word f)
+    → rotate_left (word f) n r < 2 ^ bits (word f)
+rotate_left-lt f n r lt = or_lt (bits (word f)) _ _ (mod-lt _ (pow_pos (bits (word f))))
+    (omega (arith, shr_le n ((bits (word f) - r % bits (word f)) % bits (word f))))
 
 -- G keeps the length
-pub length-mix : (f : Family) (v : List ℕ) (a b c d x y : ℕ) → length (mix f v a b c d x y) ≡ length v
+pub length-mix : (f : Family) (v : List ℕ) (a b c d x y : ℕ)
+    → length (mix f v a b c d x y) ≡ length v
 unfolding mix
 length-mix f v a b c d x y = simp length-set
 
 -- a sum modulo 2^w is a word
-pub AreWords-plus : (f : Family) (v : List ℕ) (a b x : ℕ) → AreWords f v → AreWords f (plus f v a b x)
+pub AreWords-plus : (f : Family) (v : List ℕ) (a b x : ℕ) → AreWords f v
+    → AreWords f (plus f v a b x)
 AreWords-plus f v a b x h = AreWords-set f v a _ h (mod-lt _ (pow_pos (bits (word f))))
 
 -- an exclusive or of words, rotated, is a word
-pub AreWords-rotate : (f : Family) (v : List ℕ) (d a r : ℕ) → AreWords f v → AreWords f (rotate f v d a r)
-AreWords-rotate f v d a r h = AreWords-set f v d _ h (rotate_right-lt f _ r (xor_lt (bits (word f)) _ _ (h d) (h a)))
+pub AreWords-rotate : (f : Family) (v : List ℕ) (d a r : ℕ) → AreWords f v
+    → AreWords f (rotate f v d a r)
+AreWords-rotate f v d a r h = AreWords-set f v d _ h
+    (rotate_right-lt f _ r (xor_lt (bits (word f)) _ _ (h d) (h a)))
 
 -- G leaves words
-pub AreWords-mix : (f : Family) (v : List ℕ) (a b c d x y : ℕ) → AreWords f v → AreWords f (mix f v a b c d x y)
+pub AreWords-mix : (f : Family) (v : List ℕ) (a b c d x y : ℕ) → AreWords f v
+    → AreWords f (mix f v a b c d x y)
 unfolding mix
 AreWords-mix f v a b c d x y h =
-    AreWords-rotate f _ b c _ (AreWords-plus f _ c d 0 (AreWords-rotate f _ d a _ (AreWords-plus f _ a b y
-    (AreWords-rotate f _ b c _ (AreWords-plus f _ c d 0 (AreWords-rotate f _ d a _ (AreWords-plus f v a b x h)))))))
+    AreWords-rotate f _ b c _ (AreWords-plus f _ c d 0
+    (AreWords-rotate f _ d a _ (AreWords-plus f _ a b y
+    (AreWords-rotate f _ b c _ (AreWords-plus f _ c d 0
+    (AreWords-rotate f _ d a _ (AreWords-plus f v a b x h)))))))
 
 -- a round keeps the length
 pub length-round : (f : Family) (v m s : List ℕ) → length (round f v m s) ≡ length v
@@ -55,8 +69,10 @@ length-round f v m s = simp length-mix
 pub AreWords-round : (f : Family) (v m s : List ℕ) → AreWords f v → AreWords f (round f v m s)
 unfolding round
 AreWords-round f v m s h =
-    AreWords-mix f _ 3 4 9 14 _ _ (AreWords-mix f _ 2 7 8 13 _ _ (AreWords-mix f _ 1 6 11 12 _ _ (AreWords-mix f _ 0 5 10 15 _ _
-    (AreWords-mix f _ 3 7 11 15 _ _ (AreWords-mix f _ 2 6 10 14 _ _ (AreWords-mix f _ 1 5 9 13 _ _ (AreWords-mix f v 0 4 8 12 _ _ h)))))))
+    AreWords-mix f _ 3 4 9 14 _ _ (AreWords-mix f _ 2 7 8 13 _ _
+    (AreWords-mix f _ 1 6 11 12 _ _ (AreWords-mix f _ 0 5 10 15 _ _
+    (AreWords-mix f _ 3 7 11 15 _ _ (AreWords-mix f _ 2 6 10 14 _ _
+    (AreWords-mix f _ 1 5 9 13 _ _ (AreWords-mix f v 0 4 8 12 _ _ h)))))))
 
 -- n elements of l, from place i on
 abbrev pub cells : List ℕ → ℕ → ℕ → List ℕ

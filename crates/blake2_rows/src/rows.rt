@@ -4,11 +4,17 @@
 //! Four rows hold the sixteen words of a compression, row r being words 4r to 4r + 3 (RFC 7693,
 //! section 3.2). `round` mixes the columns at once, moves the diagonals to the columns, mixes
 //! these, and moves them back.
+//!
+//! Sixteen rows hold several states, one a lane: four of BLAKE2b in [`u64x4`], eight of BLAKE2s in
+//! [`u32x8`]. `round_each` mixes all of them at once, and no lane moves.
 mod u32_lanes;
+mod u32_states;
+mod u32_wide;
 mod u64_lanes;
 mod u64_states;
 
 pub use u32_lanes::u32x4;
+pub use u32_wide::u32x8;
 pub use u64_lanes::u64x4;
 
 #[cfg(test)]

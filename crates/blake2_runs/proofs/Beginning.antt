@@ -1,52 +1,79 @@
 -- A list of calls on a state that was just made.
-use Rattle.std.proofs.Common.{◌≡◌, ℕ, ◌+◌, ◌^◌, List, [], ◌∷◌, length, Option, Some, None, Result, Ok, Err, if◌then◌else◌, nat_lt, get_or, refl, ap, ◌∙◌}
+use Rattle.std.proofs.Common.{◌≡◌, ℕ, ◌+◌, ◌^◌, List, [], ◌∷◌, length, Bool, false, Option, Some}
+use Rattle.std.proofs.Common.{None, Result, Ok, Err, if◌then◌else◌}
+use Rattle.std.proofs.Common.{nat_lt, get_or, refl, ap, ◌∙◌}
 use Rattle.std.proofs.Math.ListN.{set}
 use Rattle.blake2_digest.specs.States.{Meaning, Fresh}
 use Rattle.blake2_runs.specs.declared.calls.Call.{Call}
-use Rattle.blake2_runs.specs.declared.calls.Call.TheVariants.{Update, Clone, Reset, Finalize, FinalizeReset}
+use Rattle.blake2_runs.specs.declared.calls.Call.TheVariants.{Update, Clone, Reset, Finalize}
+use Rattle.blake2_runs.specs.declared.calls.Call.TheVariants.{FinalizeReset}
 use Rattle.blake2_runs.specs.declared.calls.ReplayFault.{ReplayFault}
 use Rattle.blake2_runs.specs.declared.calls.ReplayFault.TheVariants.{TooLong}
-use Rattle.blake2_runs.specs.Play.{Taken, since_beginning, since_reset, Slots, Outcome, at_slot, and_more, digest_of, count_of, leaves, play_call, and_then, after, play, play_from, fresh_meaning, play_fresh}
+use Rattle.blake2_runs.specs.Play.{Taken, since_beginning, since_reset, Slots, Outcome, at_slot}
+use Rattle.blake2_runs.specs.Play.{and_more, digest_of, count_of, leaves}
+use Rattle.blake2_runs.specs.Play.{play_call, and_then, after, play, play_from, fresh_meaning}
+use Rattle.blake2_runs.specs.Play.{play_fresh}
 
 -- what is done to a slot may be told in another way
-at_slot_same : (i : ℕ) (slot : Option Taken) (f g : Taken → Result Outcome ReplayFault) → ((taken : Taken) → f taken ≡ g taken) → at_slot i slot f ≡ at_slot i slot g
+at_slot_same : (i : ℕ) (slot : Option Taken) (f g : Taken → Result Outcome ReplayFault)
+    → ((taken : Taken) → f taken ≡ g taken)
+    → at_slot i slot f ≡ at_slot i slot g
 at_slot_same i None f g e = refl
 at_slot_same i (Some taken) f g e = e taken
 
 -- and so may what comes of the slots
-and_then_same : (r : Result Outcome ReplayFault) (f g : Slots → Result (List (List ℕ)) ReplayFault) → ((next : Slots) → f next ≡ g next) → and_then r f ≡ and_then r g
+and_then_same : (r : Result Outcome ReplayFault) (f g : Slots → Result (List (List ℕ)) ReplayFault)
+    → ((next : Slots) → f next ≡ g next)
+    → and_then r f ≡ and_then r g
 and_then_same (Ok left) f g e = ap (after left.digests) (e left.slots)
 and_then_same (Err fault) f g e = refl
 
-module _ {S : Type 0} (m : Meaning S) (first : S) (digest : List ℕ → List ℕ) (n : ℕ) (fresh : Fresh m digest n first) where
+module _ {S : Type 0} (m : Meaning S) (first : S) (digest : Bool → List ℕ → List ℕ) (n : ℕ)
+    (fresh : Fresh m digest n first) where
+  -- what is said of a state that was just made, whose flag is off
+  abbrev made : Meaning (Unit {0})
+  made = fresh_meaning (digest false) n
+
   -- each slot has the digest of what it has taken, whatever its mark
-  digest_same : (taken : Taken) → digest_of m first taken ≡ digest_of (fresh_meaning digest n) tt taken
-  digest_same (since_beginning x) = fresh.future x
-  digest_same (since_reset x) = fresh.started x
+  digest_same : (taken : Taken) → digest_of m first taken ≡ digest_of made tt taken
+  digest_same (since_beginning x) = ap (λ (flag : Bool). m.future first flag x) fresh.last_node
+      ∙ fresh.future false x
+  digest_same (since_reset x) = ap (λ (flag : Bool). m.started first flag x) fresh.last_node
+      ∙ fresh.started false x
 
   -- and counts from n
-  count_same : (taken : Taken) → count_of m first taken ≡ count_of (fresh_meaning digest n) tt taken
+  count_same : (taken : Taken) → count_of m first taken ≡ count_of made tt taken
   count_same (since_beginning x) = ap (λ (k : ℕ). k + length x) fresh.count
   count_same (since_reset x) = ap (λ (k : ℕ). k + length x) fresh.start_count
 
   -- one call
-  call_same : (slots : Slots) (i : ℕ) (call : Call) → play_call m first slots i call ≡ play_call (fresh_meaning digest n) tt slots i call
+  call_same : (slots : Slots) (i : ℕ) (call : Call)
+      → play_call m first slots i call ≡ play_call made tt slots i call
   call_same slots i (Update k x) =
       at_slot_same i (get_or slots k None) _ _
-      (λ taken. ap (λ (l : ℕ). if nat_lt (l + length x.now) (2 ^ 64) then leaves (set slots k (Some (and_more taken x.now))) [] else Err (TooLong i)) (count_same taken))
+      (λ taken. ap (λ (l : ℕ). if nat_lt (l + length x.now) (2 ^ 64) then leaves
+      (set slots k (Some (and_more taken x.now))) [] else Err
+      (TooLong i)) (count_same taken))
   call_same slots i (Clone k) = refl
   call_same slots i (Reset k) = refl
-  call_same slots i (Finalize k) = at_slot_same i (get_or slots k None) _ _ (λ taken. ap (λ (d : List ℕ). leaves (set slots k None) (d ∷ [])) (digest_same taken))
+  call_same slots i (Finalize k) =
+      at_slot_same i (get_or slots k None) _ _ (λ taken.
+      ap (λ (d : List ℕ). leaves (set slots k None) (d ∷ [])) (digest_same taken))
   call_same slots i (FinalizeReset k) =
-      at_slot_same i (get_or slots k None) _ _ (λ taken. ap (λ (d : List ℕ). leaves (set slots k (Some (since_reset []))) (d ∷ [])) (digest_same taken))
+      at_slot_same i (get_or slots k None) _ _ (λ taken.
+      ap (λ (d : List ℕ). leaves (set slots k (Some (since_reset []))) (d ∷ []))
+      (digest_same taken))
 
   -- a list of calls
-  play_from_same : (calls : List Call) (slots : Slots) (i : ℕ) → play_from m first calls slots i ≡ play_from (fresh_meaning digest n) tt calls slots i
+  play_from_same : (calls : List Call) (slots : Slots) (i : ℕ)
+      → play_from m first calls slots i ≡ play_from made tt calls slots i
   play_from_same [] slots i = refl
   play_from_same (call ∷ calls) slots i =
-      ap (λ (r : Result Outcome ReplayFault). and_then r (λ (next : Slots). play_from m first calls next (i + 1))) (call_same slots i call)
-      ∙ and_then_same (play_call (fresh_meaning digest n) tt slots i call) _ _ (λ next. play_from_same calls next (i + 1))
+      ap (λ (r : Result Outcome ReplayFault). and_then r
+      (λ (next : Slots). play_from m first calls next (i + 1))) (call_same slots i call)
+      ∙ and_then_same (play_call made tt slots i call) _ _
+      (λ next. play_from_same calls next (i + 1))
 
   -- on a state that was just made
-  pub play_same : (calls : List Call) → play m first calls ≡ play_fresh digest n calls
+  pub play_same : (calls : List Call) → play m first calls ≡ play_fresh (digest false) n calls
   play_same calls = play_from_same calls (Some (since_beginning []) ∷ []) 0

@@ -1,11 +1,17 @@
 -- The place that a fault names is that of the first bad call.
-use Rattle.std.proofs.Common.{◌≡◌, ℕ, suc, ◌+◌, ◌^◌, ◌<◌, List, [], ◌∷◌, length, take, Bool, true, false, Option, Some, None, Result, Ok, Err, IsOk, IsErr, if◌then◌else◌, nat_lt, get_or, add-one, ◌⊎◌, inl, inr, refl, ap, subst, ◌∙◌, arith}
+use Rattle.std.proofs.Common.{◌≡◌, ℕ, suc, ◌+◌, ◌^◌, ◌<◌, List, [], ◌∷◌, length, take, Bool, true}
+use Rattle.std.proofs.Common.{false, Option, Some, None, Result, Ok}
+use Rattle.std.proofs.Common.{Err, IsOk, IsErr, if◌then◌else◌, nat_lt, get_or, add-one, ◌⊎◌, inl}
+use Rattle.std.proofs.Common.{inr, refl, ap, subst, ◌∙◌, arith}
 use Rattle.blake2_digest.specs.States.{Meaning}
 use Rattle.blake2_runs.specs.declared.calls.Call.{Call}
-use Rattle.blake2_runs.specs.declared.calls.Call.TheVariants.{Update, Clone, Reset, Finalize, FinalizeReset}
+use Rattle.blake2_runs.specs.declared.calls.Call.TheVariants.{Update, Clone, Reset, Finalize}
+use Rattle.blake2_runs.specs.declared.calls.Call.TheVariants.{FinalizeReset}
 use Rattle.blake2_runs.specs.declared.calls.ReplayFault.{ReplayFault}
 use Rattle.blake2_runs.specs.declared.calls.ReplayFault.TheVariants.{NoSuchSlot, TooLong, Memory}
-use Rattle.blake2_runs.specs.Play.{Taken, since_beginning, Slots, Outcome, count_of, slot_of, at_slot, play_live, play_call, and_then, after, play_from, play, IsFirstBad, NamesFirstBad}
+use Rattle.blake2_runs.specs.Play.{Taken, since_beginning, Slots, Outcome, count_of, slot_of}
+use Rattle.blake2_runs.specs.Play.{at_slot, play_live, play_call, and_then}
+use Rattle.blake2_runs.specs.Play.{after, play_from, play, IsFirstBad, NamesFirstBad}
 
 -- what a list of calls answers: its digests, or the fault of its first bad call
 abbrev Played : Type 0
@@ -18,17 +24,22 @@ IsAt i (TooLong j) = j ≡ i
 IsAt i Memory = ⊥
 
 -- an update's fault names its place
-if_fault : (b : Bool) (i : ℕ) (left : Outcome) (fault : ReplayFault) → if b then Ok left else Err (TooLong i) ≡ Err fault → IsAt i fault
+if_fault : (b : Bool) (i : ℕ) (left : Outcome) (fault : ReplayFault)
+    → if b then Ok left else Err (TooLong i) ≡ Err fault → IsAt i fault
 if_fault true i left fault e = cc
 if_fault false i left fault e = let same : TooLong i ≡ fault = cc in subst (IsAt i) same refl
 
 -- a fault of a call names its place, where it does so on each slot that is there
-at_fault : (i : ℕ) (slot : Option Taken) (f : Taken → Result Outcome ReplayFault) (fault : ReplayFault) → ((taken : Taken) → f taken ≡ Err fault → IsAt i fault) → at_slot i slot f ≡ Err fault → IsAt i fault
+at_fault : (i : ℕ) (slot : Option Taken) (f : Taken → Result Outcome ReplayFault)
+    (fault : ReplayFault)
+    → ((taken : Taken) → f taken ≡ Err fault → IsAt i fault) → at_slot i slot f ≡ Err fault
+    → IsAt i fault
 at_fault i None f fault h e = let same : NoSuchSlot i ≡ fault = cc in subst (IsAt i) same refl
 at_fault i (Some taken) f fault h e = h taken e
 
 -- a fault behind earlier digests is the fault
-fault_after : (earlier : List (List ℕ)) (p : Played) (fault : ReplayFault) → after earlier p ≡ Err fault → p ≡ Err fault
+fault_after : (earlier : List (List ℕ)) (p : Played) (fault : ReplayFault)
+    → after earlier p ≡ Err fault → p ≡ Err fault
 fault_after earlier (Ok later) fault e = cc
 fault_after earlier (Err other) fault e = e
 
@@ -44,16 +55,21 @@ err_after earlier (Err fault) bad = refl
 
 module _ {S : Type 0} (m : Meaning S) (first : S) where
   -- a fault of a call whose slot is there names its place
-  live_fault : (slots : Slots) (i : ℕ) (call : Call) (taken : Taken) (fault : ReplayFault) → play_live m first slots i call taken ≡ Err fault → IsAt i fault
-  live_fault slots i (Update k x) taken fault e = if_fault (nat_lt (count_of m first taken + length x.now) (2 ^ 64)) i _ fault e
+  live_fault : (slots : Slots) (i : ℕ) (call : Call) (taken : Taken) (fault : ReplayFault)
+      → play_live m first slots i call taken ≡ Err fault → IsAt i fault
+  live_fault slots i (Update k x) taken fault e =
+      if_fault (nat_lt (count_of m first taken + length x.now) (2 ^ 64)) i _ fault e
   live_fault slots i (Clone k) taken fault e = cc
   live_fault slots i (Reset k) taken fault e = cc
   live_fault slots i (Finalize k) taken fault e = cc
   live_fault slots i (FinalizeReset k) taken fault e = cc
 
   -- a bad call's fault names its place
-  call_fault : (slots : Slots) (i : ℕ) (call : Call) (fault : ReplayFault) → play_call m first slots i call ≡ Err fault → IsAt i fault
-  call_fault slots i call fault e = at_fault i (get_or slots (slot_of call) None) (play_live m first slots i call) fault (λ taken. live_fault slots i call taken fault) e
+  call_fault : (slots : Slots) (i : ℕ) (call : Call) (fault : ReplayFault)
+      → play_call m first slots i call ≡ Err fault → IsAt i fault
+  call_fault slots i call fault e =
+      at_fault i (get_or slots (slot_of call) None) (play_live m first slots i call) fault
+      (λ taken. live_fault slots i call taken fault) e
 
   -- n calls from place i on answer digests, and one more does not
   record StopsAfter (calls : List Call) (slots : Slots) (i : ℕ) (fault : ReplayFault) : Type 0 where
@@ -64,51 +80,75 @@ module _ {S : Type 0} (m : Meaning S) (first : S) where
     place : IsAt (i + count) fault
 
   -- the first call is bad
-  stops_here : (call : Call) (calls : List Call) (slots : Slots) (i : ℕ) (fault : ReplayFault) → play_call m first slots i call ≡ Err fault → StopsAfter (call ∷ calls) slots i fault
+  stops_here : (call : Call) (calls : List Call) (slots : Slots) (i : ℕ) (fault : ReplayFault)
+      → play_call m first slots i call ≡ Err fault
+      → StopsAfter (call ∷ calls) slots i fault
   stops_here call calls slots i fault is = record {
     count = 0;
     within = omega arith;
     before = refl;
     bad = rw is refl;
-    place = let here : i ≡ i + 0 = omega arith in subst (λ (j : ℕ). IsAt j fault) here (call_fault slots i call fault is);
+    place = let here : i ≡ i + 0 = omega arith in
+        subst (λ (j : ℕ). IsAt j fault) here (call_fault slots i call fault is);
   }
 
   -- the first call goes on, and a later one is bad
-  stops_later : (call : Call) (calls : List Call) (slots : Slots) (i : ℕ) (fault : ReplayFault) (left : Outcome) → play_call m first slots i call ≡ Ok left → StopsAfter calls left.slots (i + 1) fault
+  stops_later : (call : Call) (calls : List Call) (slots : Slots) (i : ℕ) (fault : ReplayFault)
+      (left : Outcome)
+      → play_call m first slots i call ≡ Ok left → StopsAfter calls left.slots (i + 1) fault
       → StopsAfter (call ∷ calls) slots i fault
   stops_later call calls slots i fault left is rest = record {
     count = suc rest.count;
     within = omega (arith, rest.within);
     before = rw is (ok_after left.digests _ rest.before);
     bad = rw is (err_after left.digests _ rest.bad);
-    place = let there : i + 1 + rest.count ≡ i + suc rest.count = omega arith in subst (λ (j : ℕ). IsAt j fault) there rest.place;
+    place = let there : i + 1 + rest.count ≡ i + suc rest.count = omega arith in
+        subst (λ (j : ℕ). IsAt j fault) there rest.place;
   }
 
   -- so the list stops, whatever its first call does
-  stops_by : (call : Call) (calls : List Call) (slots : Slots) (i : ℕ) (fault : ReplayFault) (r : Result Outcome ReplayFault) → play_call m first slots i call ≡ r
-      → ((next : Slots) → play_from m first calls next (i + 1) ≡ Err fault → StopsAfter calls next (i + 1) fault) → and_then r (λ next. play_from m first calls next (i + 1)) ≡ Err fault
+  stops_by : (call : Call) (calls : List Call) (slots : Slots) (i : ℕ) (fault : ReplayFault)
+      (r : Result Outcome ReplayFault)
+      → play_call m first slots i call ≡ r
+      → ((next : Slots) → play_from m first calls next (i + 1) ≡ Err fault
+      → StopsAfter calls next (i + 1) fault)
+      → and_then r (λ next. play_from m first calls next (i + 1)) ≡ Err fault
       → StopsAfter (call ∷ calls) slots i fault
-  stops_by call calls slots i fault (Err other) is later e = let same : other ≡ fault = cc in stops_here call calls slots i fault (is ∙ ap Err same)
-  stops_by call calls slots i fault (Ok left) is later e = stops_later call calls slots i fault left is (later left.slots (fault_after left.digests _ fault e))
+  stops_by call calls slots i fault (Err other) is later e =
+      let same : other ≡ fault = cc in stops_here call calls slots i fault (is ∙ ap Err same)
+  stops_by call calls slots i fault (Ok left) is later e =
+      stops_later call calls slots i fault left is (later left.slots
+      (fault_after left.digests _ fault e))
 
   -- a list that answers a fault stops at some call, and the fault names the place of that one
-  stops : (calls : List Call) (slots : Slots) (i : ℕ) (fault : ReplayFault) → play_from m first calls slots i ≡ Err fault → StopsAfter calls slots i fault
+  stops : (calls : List Call) (slots : Slots) (i : ℕ) (fault : ReplayFault)
+      → play_from m first calls slots i ≡ Err fault
+      → StopsAfter calls slots i fault
   stops [] slots i fault e = cc
-  stops (call ∷ calls) slots i fault e = stops_by call calls slots i fault (play_call m first slots i call) refl (λ next. stops calls next (i + 1) fault) e
+  stops (call ∷ calls) slots i fault e =
+      stops_by call calls slots i fault (play_call m first slots i call) refl
+      (λ next. stops calls next (i + 1) fault) e
 
   -- n calls from the first on are those before place n
-  first_bad : (calls : List Call) (j n : ℕ) → j ≡ 0 + n → n < length calls → IsOk (play m first (take n calls)) → IsErr (play m first (take (suc n) calls)) → IsFirstBad m first calls j
+  first_bad : (calls : List Call) (j n : ℕ) → j ≡ 0 + n → n < length calls
+      → IsOk (play m first (take n calls))
+      → IsErr (play m first (take (suc n) calls)) → IsFirstBad m first calls j
   first_bad calls j n at within before bad =
       let same : j ≡ n = omega arith in
       record { within = rw same within; before = rw same before; bad = rw (same, add-one) bad }
 
   -- the place that a fault names is where the list stops
-  placed : (calls : List Call) (fault : ReplayFault) → StopsAfter calls (Some (since_beginning []) ∷ []) 0 fault → NamesFirstBad m first calls fault
+  placed : (calls : List Call) (fault : ReplayFault)
+      → StopsAfter calls (Some (since_beginning []) ∷ []) 0 fault
+      → NamesFirstBad m first calls fault
   placed calls (NoSuchSlot j) s = first_bad calls j s.count s.place s.within s.before s.bad
   placed calls (TooLong j) s = first_bad calls j s.count s.place s.within s.before s.bad
   placed calls Memory s = tt
 
   -- a fault that is not want of memory names the place of the first bad call
-  pub names_first_bad : (calls : List Call) (fault : ReplayFault) → (fault ≡ Memory) ⊎ (play m first calls ≡ Err fault) → NamesFirstBad m first calls fault
+  pub names_first_bad : (calls : List Call) (fault : ReplayFault)
+      → (fault ≡ Memory) ⊎ (play m first calls ≡ Err fault)
+      → NamesFirstBad m first calls fault
   names_first_bad calls fault (inl memory) = rw memory tt
-  names_first_bad calls fault (inr e) = placed calls fault (stops calls (Some (since_beginning []) ∷ []) 0 fault e)
+  names_first_bad calls fault (inr e) = placed calls fault
+      (stops calls (Some (since_beginning []) ∷ []) 0 fault e)

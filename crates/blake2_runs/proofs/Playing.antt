@@ -1,5 +1,8 @@
 -- One call of a list of calls, and the rest.
-use Rattle.std.proofs.Common.{◌≡◌, ℕ, ◌+◌, ◌<◌, ◌≤◌, List, [], ◌∷◌, ◌++◌, length, drop, get_or, add-one, drop-cons, Option, Result, Ok, Err, IsOk, ◌⊎◌, inl, inr, refl, sym, ap, ◌∙◌, append_assoc}
+use Rattle.std.proofs.Common.{◌≡◌, ℕ, ◌+◌, ◌<◌, ◌≤◌, List, [], ◌∷◌, ◌++◌, length, drop, get_or}
+use Rattle.std.proofs.Common.{add-one, drop-cons}
+use Rattle.std.proofs.Common.{Option, Result, Ok, Err, IsOk, ◌⊎◌, inl, inr, refl, sym, ap, ◌∙◌}
+use Rattle.std.proofs.Common.{append_assoc}
 use Rattle.std.proofs.lemmas.List.{append-nil, drop_all}
 use Rattle.blake2_digest.specs.States.{Meaning}
 use Rattle.blake2_runs.specs.declared.calls.Call.{Call}
@@ -23,13 +26,17 @@ after_none (Ok xs) = refl
 after_none (Err fault) = refl
 
 -- a fault that is not want of memory would be that of a list of calls that answers digests
-pub memory_alone : (p : Played) (fault : ReplayFault) → (fault ≡ Memory) ⊎ (p ≡ Err fault) → IsOk p → fault ≡ Memory
+pub memory_alone : (p : Played) (fault : ReplayFault) → (fault ≡ Memory) ⊎ (p ≡ Err fault) → IsOk p
+    → fault ≡ Memory
 memory_alone p fault (inl e) good = e
 memory_alone (Ok xs) fault (inr e) good = cc
 memory_alone (Err other) fault (inr e) good = cc
 
--- before the call at place i: the states stand for slots from which the calls that are left answer the rest of the digests
-pub record Underway {S : Type 0} (m : Meaning S) (first : S) (calls : List Call) (states : List (Option S)) (digests : List (List ℕ)) (i : ℕ) : Type 0 where
+-- before the call at place i: the states stand for slots from which the calls that are left answer
+-- the rest of the digests
+pub record Underway {S : Type 0} (m : Meaning S) (first : S) (calls : List Call)
+    (states : List (Option S))
+    (digests : List (List ℕ)) (i : ℕ) : Type 0 where
   pub slots : Slots
   pub held : AllHold m first slots states
   pub rest : play m first calls ≡ after digests (play_from m first (drop i calls) slots i)
@@ -37,30 +44,45 @@ pub record Underway {S : Type 0} (m : Meaning S) (first : S) (calls : List Call)
 module _ {S : Type 0} (m : Meaning S) (first : S) where
   -- the list from the call at place i on: that call, and then the later ones
   play_at : (call : Call) (calls : List Call) (slots : Slots) (i : ℕ) → i < length calls
-      → play_from m first (drop i calls) slots i ≡ and_then (play_call m first slots i (get_or calls i call)) (λ next. play_from m first (drop (i + 1) calls) next (i + 1))
+      → play_from m first (drop i calls) slots i
+      ≡ and_then (play_call m first slots i (get_or calls i call))
+      (λ next. play_from m first (drop (i + 1) calls) next (i + 1))
   play_at call calls slots i h =
-      let e : drop i calls ≡ get_or calls i call ∷ drop (i + 1) calls = rw add-one (drop-cons calls i call h) in
+      let e : drop i calls ≡ get_or calls i call ∷ drop (i + 1) calls =
+      rw add-one (drop-cons calls i call h) in
       ap (λ (cs : List Call). play_from m first cs slots i) e
 
   -- the call at place i went on
-  pub play_on : (call : Call) (calls : List Call) (slots : Slots) (left : Outcome) (earlier digests : List (List ℕ)) (i : ℕ) (p : Played) → i < length calls
-      → p ≡ after earlier (play_from m first (drop i calls) slots i) → play_call m first slots i (get_or calls i call) ≡ Ok left → digests ≡ earlier ++ left.digests
+  pub play_on : (call : Call) (calls : List Call) (slots : Slots) (left : Outcome)
+      (earlier digests : List (List ℕ)) (i : ℕ)
+      (p : Played) → i < length calls → p ≡ after earlier (play_from m first (drop i calls) slots i)
+      → play_call m first slots i (get_or calls i call) ≡ Ok left
+      → digests ≡ earlier ++ left.digests
       → p ≡ after digests (play_from m first (drop (i + 1) calls) left.slots (i + 1))
   play_on call calls slots left earlier digests i p h e on added =
       let later : Slots → Played = λ next. play_from m first (drop (i + 1) calls) next (i + 1) in
-      e ∙ ap (after earlier) (play_at call calls slots i h ∙ ap (λ (r : Result Outcome ReplayFault). and_then r later) on)
-      ∙ sym (after-after earlier left.digests (later left.slots)) ∙ ap (λ (ds : List (List ℕ)). after ds (later left.slots)) (sym added)
+      e ∙ ap (after earlier) (play_at call calls slots i h
+      ∙ ap (λ (r : Result Outcome ReplayFault). and_then r later) on)
+      ∙ sym (after-after earlier left.digests (later left.slots))
+      ∙ ap (λ (ds : List (List ℕ)). after ds (later left.slots)) (sym added)
 
   -- the call at place i was refused
-  pub play_stops : (call : Call) (calls : List Call) (slots : Slots) (earlier : List (List ℕ)) (i : ℕ) (p : Played) (fault : ReplayFault) → i < length calls
-      → p ≡ after earlier (play_from m first (drop i calls) slots i) → (fault ≡ Memory) ⊎ (play_call m first slots i (get_or calls i call) ≡ Err fault) → (fault ≡ Memory) ⊎ (p ≡ Err fault)
+  pub play_stops : (call : Call) (calls : List Call) (slots : Slots) (earlier : List (List ℕ))
+      (i : ℕ) (p : Played)
+      (fault : ReplayFault) → i < length calls → p ≡ after earlier
+      (play_from m first (drop i calls) slots i)
+      → (fault ≡ Memory) ⊎ (play_call m first slots i (get_or calls i call) ≡ Err fault)
+      → (fault ≡ Memory) ⊎ (p ≡ Err fault)
   play_stops call calls slots earlier i p fault h e (inl memory) = inl memory
   play_stops call calls slots earlier i p fault h e (inr bad) =
       let later : Slots → Played = λ next. play_from m first (drop (i + 1) calls) next (i + 1) in
-      inr (e ∙ ap (after earlier) (play_at call calls slots i h ∙ ap (λ (r : Result Outcome ReplayFault). and_then r later) bad))
+      inr (e ∙ ap (after earlier) (play_at call calls slots i h
+      ∙ ap (λ (r : Result Outcome ReplayFault). and_then r later) bad))
 
   -- all calls went on
-  pub play_ends : (calls : List Call) (slots : Slots) (digests : List (List ℕ)) (i : ℕ) (p : Played) → length calls ≤ i
+  pub play_ends : (calls : List Call) (slots : Slots) (digests : List (List ℕ)) (i : ℕ) (p : Played)
+      → length calls ≤ i
       → p ≡ after digests (play_from m first (drop i calls) slots i) → p ≡ Ok digests
   play_ends calls slots digests i p h e =
-      e ∙ ap (λ (cs : List Call). after digests (play_from m first cs slots i)) (drop_all i calls h) ∙ ap Ok (append-nil digests)
+      e ∙ ap (λ (cs : List Call). after digests (play_from m first cs slots i)) (drop_all i calls h)
+      ∙ ap Ok (append-nil digests)

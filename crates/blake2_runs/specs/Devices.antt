@@ -41,9 +41,9 @@ abbrev pub given_state : SourceState → ℕ → SourceState
 given_state s n =
     record s { rest = drop n s.rest; before_error = before_error_after s.before_error n }
 
--- a sink over memory: the bytes that it holds at the front of the memory, those behind them, which it
--- has not written over, the most that a call takes, how many bytes pass before the error (none: it
--- never comes), and whether a write has failed
+-- a sink over memory: the bytes that it holds at the front of the memory, those behind them, which
+-- it has not written over, the most that a call takes, how many bytes pass before the error (none:
+-- it never comes), and whether a write has failed
 pub record SinkState : Type 0 where
   pub held : List ℕ
   pub rest : List ℕ

@@ -1,16 +1,19 @@
 -- How states stand for slots, and what one call does to them.
-use Rattle.std.specs.Prelude.{◌≡◌, ⊤, ℕ, List, [], ◌∷◌, ◌++◌, ◌⊎◌, Option, Some, None, Result, Ok}
-use Rattle.std.specs.Prelude.{Err}
+use Rattle.std.specs.Prelude.{◌≡◌, ⊤, ℕ, Bool, List, [], ◌∷◌, ◌++◌, ◌⊎◌, Option, Some, None}
+use Rattle.std.specs.Prelude.{Result, Ok, Err}
 use Rattle.blake2_digest.specs.States.{Meaning}
-use Rattle.blake2_runs.specs.Play.{Taken, Slots, Outcome, digest_of, count_of, and_more, play_call}
+use Rattle.blake2_runs.specs.Play.{Taken, Slots, Outcome, digest_under, count_of, and_more}
+use Rattle.blake2_runs.specs.Play.{play_call}
 use Rattle.blake2_runs.specs.declared.calls.Call.{Call}
 use Rattle.blake2_runs.specs.declared.calls.ReplayFault.{ReplayFault}
 use Rattle.blake2_runs.specs.declared.calls.ReplayFault.TheVariants.{Memory}
 
 -- the state h is that of a slot that has taken this, where the first slot began as `first`
 pub record StandsFor {S : Type 0} (m : Meaning S) (first : S) (taken : Taken) (h : S) : Type 0 where
-  pub future : (y : List ℕ) → m.future h y ≡ digest_of m first (and_more taken y)
-  pub started : (y : List ℕ) → m.started h y ≡ m.started first y
+  pub future : (flag : Bool) (y : List ℕ)
+      → m.future h flag y ≡ digest_under m first flag (and_more taken y)
+  pub started : (flag : Bool) (y : List ℕ) → m.started h flag y ≡ m.started first flag y
+  pub last_node : m.last_node h ≡ m.last_node first
   pub count : m.count h ≡ count_of m first taken
   pub start_count : m.start_count h ≡ m.start_count first
 

@@ -3,7 +3,7 @@
 -- The definition knows the first slot's state by its meaning alone. A slot is what it has taken:
 -- its digest is the one that the first state gives after those bytes, or, once the slot was reset,
 -- the one that the first state gives after a reset and those bytes. No slot holds a state.
-use Rattle.std.specs.Prelude.{⊤, ℕ, ◌+◌, ◌^◌, ◌<◌, List, [], ◌∷◌, ◌++◌, length, nat_lt}
+use Rattle.std.specs.Prelude.{⊤, ℕ, ◌+◌, ◌^◌, ◌<◌, Bool, false, List, [], ◌∷◌, ◌++◌, length, nat_lt}
 use Rattle.std.specs.Prelude.{if◌then◌else◌, Option, Some, None, Result, Ok, Err, IsOk, IsErr, take}
 use Rattle.std.specs.Prelude.{slice_index_or, slice_set}
 use Rattle.blake2_digest.specs.States.{Meaning}
@@ -23,10 +23,14 @@ abbrev pub and_more : Taken → List ℕ → Taken
 and_more (since_beginning x) y = since_beginning (x ++ y)
 and_more (since_reset x) y = since_reset (x ++ y)
 
--- the digest of a slot, where the first slot began as this state
+-- the digest of a slot under a last-node flag, where the first slot began as this state
+abbrev pub digest_under : {S : Type 0} → Meaning S → S → Bool → Taken → List ℕ
+digest_under m first flag (since_beginning x) = m.future first flag x
+digest_under m first flag (since_reset x) = m.started first flag x
+
+-- the digest of a slot: no call of a list sets the flag, so it is that of the first state
 abbrev pub digest_of : {S : Type 0} → Meaning S → S → Taken → List ℕ
-digest_of m first (since_beginning x) = m.future first x
-digest_of m first (since_reset x) = m.started first x
+digest_of m first taken = digest_under m first (m.last_node first) taken
 
 -- the bytes that a slot has counted
 abbrev pub count_of : {S : Type 0} → Meaning S → S → Taken → ℕ
@@ -121,10 +125,15 @@ NamesFirstBad m first calls (TooLong i) = IsFirstBad m first calls i
 NamesFirstBad m first calls Memory = ⊤
 
 -- the meaning of a state that was just made, whose digest of y is `digest y` and which begins with
--- n counted bytes
+-- n counted bytes; its last-node flag is off
 abbrev pub fresh_meaning : (List ℕ → List ℕ) → ℕ → Meaning (Unit {0})
-fresh_meaning digest n =
-    record { future = λ _. digest; started = λ _. digest; count = λ _. n; start_count = λ _. n }
+fresh_meaning digest n = record {
+  future = λ _ _. digest;
+  started = λ _ _. digest;
+  last_node = λ _. false;
+  count = λ _. n;
+  start_count = λ _. n;
+}
 
 -- a list of calls on such a state: each digest is that of the bytes since its slot's last start
 abbrev pub play_fresh : (List ℕ → List ℕ) → ℕ → List Call → Result (List (List ℕ)) ReplayFault

@@ -1,6 +1,6 @@
 //! Lists of calls on several states of one hasher or MAC.
-ghost use Rattle.std.specs.Prelude.{◌≡◌, ℕ, List, [], ◌∷◌, ◌++◌, ◌⊎◌, OnOk, IfOk, IfErr, IsOk};
-ghost use Rattle.std.specs.Prelude.{IsErr, IsOkUnless, Ok, Err};
+ghost use Rattle.std.specs.Prelude.{◌≡◌, ℕ, Bool, false, List, [], ◌∷◌, ◌++◌, ◌⊎◌, OnOk, IfOk};
+ghost use Rattle.std.specs.Prelude.{IfErr, IsOk, IsErr, IsOkUnless, Ok, Err};
 ghost use Rattle.blake2_digest.specs.States.{Fresh};
 ghost use Rattle.blake2_runs.specs.Play.{play, NamesFirstBad, play_fresh, slot_of};
 ghost use Rattle.blake2_runs.specs.Holding.{PlaysCall};
@@ -133,12 +133,13 @@ where
     ensures bad_call { IsErr (play H.meaning first calls.now) → IsErr result }
 
     // Of a state that was just made each digest is the constructor's, of the bytes since the last
-    // start of the slot; and the fault is that of such a state.
-    ensures fresh { (digest : List ℕ → List ℕ) (n : ℕ) → Fresh H.meaning digest n first
-        → IfOk result (λ digests. play_fresh digest n calls.now ≡ Ok digests.items) }
-    ensures fresh_fault { (digest : List ℕ → List ℕ) (n : ℕ) → Fresh H.meaning digest n first
+    // start of the slot, with the last-node flag off; and the fault is that of such a state.
+    ensures fresh { (digest : Bool → List ℕ → List ℕ) (n : ℕ) → Fresh H.meaning digest n first
+        → IfOk result (λ digests. play_fresh (digest false) n calls.now ≡ Ok digests.items) }
+    ensures fresh_fault { (digest : Bool → List ℕ → List ℕ) (n : ℕ)
+        → Fresh H.meaning digest n first
         → IfErr result (λ fault.
-        (fault ≡ ReplayFault.Memory) ⊎ (play_fresh digest n calls.now ≡ Err fault)) }
+        (fault ≡ ReplayFault.Memory) ⊎ (play_fresh (digest false) n calls.now ≡ Err fault)) }
 {
     let mut states: Vec<Option<H>> = Vec::new(alloc);
     push(&mut states, Some(first))?;

@@ -6,7 +6,7 @@ use blake2::calls::{Call, ReplayFault};
 use blake2::digest::{InvalidLength, InvalidOutputSize, Lazy, MacError, TruncSide};
 use blake2::engine::{DeviceError, StreamFault};
 use blake2::rows::{u32x4, u64x4};
-use blake2::steps::{Entry, Reading, Step};
+use blake2::steps::{Entry, Input, Reading, Step, Tree};
 use std::alloc::AllocError;
 use std::process::Abort;
 use std::test::Fail;
@@ -57,22 +57,64 @@ fn copy_faults(rt: HostRuntime) -> Result<(), Fail> {
 
 #[test]
 fn copy_entries_and_steps(rt: HostRuntime) -> Result<(), Fail> {
-    let entries: [Entry<64>; 4] = [
+    let entries: [Entry<64>; 5] = [
         entry(b"a", 1, true),
         entry(b"b", 1, true),
         entry(b"a", 2, true),
         entry(b"a", 1, false),
+        Entry {
+            last_node: true,
+            ..entry(b"a", 1, true)
+        },
     ];
     check_copies(&rt, &entries)?;
     let chain = [1, 2, 3, 4, 5, 6, 7, 8];
-    let steps: [Step<u64, 128>; 5] = [
+    let steps: [Step<u64, 128>; 6] = [
         step(chain, &[9; 128], 10, false),
         step([1, 2, 3, 4, 5, 6, 7, 9], &[9; 128], 10, false),
         step(chain, &[9; 127], 10, false),
         step(chain, &[9; 128], 11, false),
         step(chain, &[9; 128], 10, true),
+        Step {
+            last_node: true,
+            ..step(chain, &[9; 128], 10, true)
+        },
     ];
     check_copies(&rt, &steps)?;
+    Ok(())
+}
+
+// Places in trees, each of which differs from the first in one number at most.
+fn places() -> [Tree; 7] {
+    let whole = Tree::sequential();
+    [
+        whole,
+        Tree { fanout: 2, ..whole },
+        Tree { depth: 2, ..whole },
+        Tree {
+            leaf_length: 1,
+            ..whole
+        },
+        Tree {
+            node_offset: 1,
+            ..whole
+        },
+        Tree {
+            node_depth: 1,
+            ..whole
+        },
+        Tree {
+            inner_length: 1,
+            ..whole
+        },
+    ]
+}
+
+#[test]
+fn copy_places_in_trees(rt: HostRuntime) -> Result<(), Fail> {
+    check_copies(&rt, &places())?;
+    let text = format!(in rt.alloc(); "{:?}", Tree::sequential())?;
+    assert!(rt; text.as_str().starts_with("Tree"));
     Ok(())
 }
 
@@ -90,13 +132,22 @@ fn copy_lanes_calls_and_inputs(rt: HostRuntime) -> Result<(), Fail> {
     let copy = call;
     assert!(rt; matches!(copy, Call::Update(7, b"abc")));
     assert!(rt; matches!(call.clone()?, Call::Update(7, b"abc")));
-    let given = input(Some(b"key"), b"salt", b"persona", b"message");
+    let given = Input {
+        tree: Tree {
+            node_offset: 1,
+            ..Tree::sequential()
+        },
+        last_node: true,
+        ..input(Some(b"key"), b"salt", b"persona", b"message")
+    };
     let copy = given;
     for input in [given, copy, given.clone()?] {
         assert_eq!(rt; input.key.map(|key| key == b"key".as_slice()), Some(true));
         assert_eq!(rt; input.salt, b"salt".as_slice());
         assert_eq!(rt; input.persona, b"persona".as_slice());
         assert_eq!(rt; input.message, b"message".as_slice());
+        assert_eq!(rt; input.tree.node_offset, 1);
+        assert!(rt; input.last_node);
     }
     Ok(())
 }
@@ -115,13 +166,26 @@ fn compare_transcripts_and_readings(rt: HostRuntime) -> Result<(), Fail> {
             transcript(alloc, words, &[entries[1], entries[0]])?,
         ],
     );
-    let readings: [Reading<8>; 6] = [
+    let node = Input {
+        tree: Tree {
+            node_depth: 1,
+            ..Tree::sequential()
+        },
+        ..unkeyed(b"message")
+    };
+    let last_node = Input {
+        last_node: true,
+        ..unkeyed(b"message")
+    };
+    let readings: [Reading<8>; 8] = [
         reading(alloc, &unkeyed(b"message"), 32)?,
         reading(alloc, &unkeyed(b"message"), 31)?,
         reading(alloc, &unkeyed(b"messages"), 32)?,
         reading(alloc, &input(None, b"salt", b"", b"message"), 32)?,
         reading(alloc, &input(None, b"", b"persona", b"message"), 32)?,
         reading(alloc, &input(Some(&[0]), b"", b"", b"message"), 32)?,
+        reading(alloc, &node, 32)?,
+        reading(alloc, &last_node, 32)?,
     ];
     check_different(&rt, &readings);
     Ok(())

@@ -156,8 +156,8 @@ fn read_words<C: Steps<W, B>, W: Copy + Drop, const B: usize>(
     Ok((sizes, texts))
 }
 
-// How many transcripts are read of those with one bit of an entry turned: of a counter, of a flag,
-// and of a block.
+// How many transcripts are read of those with one bit of an entry turned: of a counter, of one of
+// the two flags, and of a block.
 fn read_entries<C: Steps<W, B>, W: Copy + Drop, const B: usize>(
     rt: &impl Abort,
     alloc: Global,
@@ -175,6 +175,10 @@ fn read_entries<C: Steps<W, B>, W: Copy + Drop, const B: usize>(
         }
         let mut other = *entry;
         other.last = !entry.last;
+        let is_read = is_read_with::<C, W, B>(rt, alloc, told, told.words, place, other)?;
+        flags = flags.saturating_add(u32::from(is_read));
+        let mut other = *entry;
+        other.last_node = !entry.last_node;
         let is_read = is_read_with::<C, W, B>(rt, alloc, told, told.words, place, other)?;
         flags = flags.saturating_add(u32::from(is_read));
         for bit in 0..8 * B {
@@ -234,15 +238,15 @@ fn check_changes<C: Steps<W, B>, W: Copy + Drop, const B: usize>(
 fn read_changed_transcripts(rt: HostRuntime) -> Result<(), AllocError> {
     let message = [0x2a; 200];
     for (key, salt, persona, length, words, entries) in [
-        (None, "", "", 128, (1, 256), (0, 0, 1024)),
-        (None, "", "", 129, (1, 256), (6, 0, 1032)),
+        (None, "", "", 128, (1, 256), (0, 1, 1024)),
+        (None, "", "", 129, (1, 256), (6, 1, 1032)),
         (
             Some(&[1u8][..]),
             "abc",
             "0123456789abcdef",
             200,
             (7, 256),
-            (5, 0, 1608),
+            (5, 1, 1608),
         ),
     ] {
         assert!(rt; length <= 200);
@@ -251,15 +255,15 @@ fn read_changed_transcripts(rt: HostRuntime) -> Result<(), AllocError> {
         check_changes::<Blake2bVarCore, u64, 128>(&rt, rt.alloc(), &told, words, entries)?;
     }
     for (key, salt, persona, length, words, entries) in [
-        (None, "", "", 64, (1, 128), (0, 0, 512)),
-        (None, "", "", 65, (1, 128), (5, 0, 520)),
+        (None, "", "", 64, (1, 128), (0, 1, 512)),
+        (None, "", "", 65, (1, 128), (5, 1, 520)),
         (
             Some(&[1u8][..]),
             "abc",
             "01234567",
             100,
             (6, 128),
-            (4, 0, 808),
+            (4, 1, 808),
         ),
     ] {
         assert!(rt; length <= 200);

@@ -24,7 +24,7 @@ pub(crate) fn count_up(bytes: &mut [u8]) {
     }
 }
 
-/// An input of these parts, of a hash which is the whole tree.
+/// An input of these parts, of a hash which is the whole tree, with the last-node flag off.
 pub(crate) fn input<'a>(
     key: Option<&'a [u8]>,
     salt: &'a [u8],
@@ -39,6 +39,7 @@ pub(crate) fn input<'a>(
         persona,
         key,
         tree: Tree::sequential(),
+        last_node: false,
         message,
     }
 }
@@ -51,7 +52,7 @@ pub(crate) fn unkeyed<'a>(message: &'a [u8]) -> Input<'a>
     input(None, b"", b"", message)
 }
 
-/// An entry whose block goes on with zeros behind these bytes.
+/// An entry whose block goes on with zeros behind these bytes, with the last-node flag off.
 pub(crate) fn entry<const B: usize>(beginning: &[u8], counter: u64, last: bool) -> Entry<B>
     requires { length beginning.now ≤ B }
 {
@@ -59,6 +60,7 @@ pub(crate) fn entry<const B: usize>(beginning: &[u8], counter: u64, last: bool) 
         block: padded(beginning),
         counter,
         last,
+        last_node: false,
     }
 }
 
@@ -72,7 +74,7 @@ pub(crate) fn transcript<W: Drop, const B: usize>(
     Ok(Transcript { words, entries })
 }
 
-/// A step whose block goes on with zeros behind these bytes.
+/// A step whose block goes on with zeros behind these bytes, with the last-node flag off.
 pub(crate) fn step<W: Drop, const B: usize>(
     chain: [W; 8],
     beginning: &[u8],
@@ -86,6 +88,7 @@ pub(crate) fn step<W: Drop, const B: usize>(
         block: padded(beginning),
         counter,
         last,
+        last_node: false,
     }
 }
 
@@ -108,6 +111,7 @@ pub(crate) fn reading<const S: usize>(
         persona: padded(input.persona),
         key,
         tree: input.tree,
+        last_node: input.last_node,
         message: input.message.to_vec(alloc)?,
     })
 }
@@ -120,6 +124,7 @@ pub(crate) fn read_input<'a, const S: usize>(read: &'a Reading<S>) -> Input<'a> 
     };
     Input {
         tree: read.tree,
+        last_node: read.last_node,
         ..input(key, &read.salt, &read.persona, read.message.as_slice())
     }
 }

@@ -25,6 +25,8 @@ mod macs;
 #[cfg(test)]
 mod memory;
 #[cfg(test)]
+mod nodes;
+#[cfg(test)]
 mod selftest;
 #[cfg(test)]
 mod sizes;

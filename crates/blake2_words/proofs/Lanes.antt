@@ -1,51 +1,82 @@
--- Several messages side by side: their words, and what the last step of a compression makes of them.
-use Rattle.std.proofs.Common.{◌≡◌, ℕ, suc, ◌+◌, ◌-◌, ◌*◌, ◌%◌, ◌<◌, List, [], ◌∷◌, length, get_or, slice_index, slice_index_or, bit_xor, map, take, drop, refl, sym, ap, ◌∙◌, arith}
+-- Several messages side by side: their words, and what the last step of a compression makes of
+-- them.
+use Rattle.std.proofs.Common.{false, ◌≡◌, ℕ, zero, suc, ◌+◌, ◌-◌, ◌*◌, ◌%◌, ◌<◌, List, [], ◌∷◌}
+use Rattle.std.proofs.Common.{length, get_or, slice_index, slice_index_or, bit_xor, replicate, map}
+use Rattle.std.proofs.Common.{take, drop, refl, sym, ap, ◌∙◌, arith}
 use Rattle.std.proofs.lemmas.List.{get_or-map}
 use Rattle.std.specs.Borrow.{Bor}
 use Rattle.blake2_rows.specs.Family.{Family, sigma, block_bytes}
 use Rattle.blake2_rows.specs.Round.{round}
 use Rattle.blake2_rows.specs.Rows.{four}
-use Rattle.blake2_rows.proofs.Lanes.{lane_of_four}
+use Rattle.blake2_rows.proofs.Lanes.{lane_of, lanes}
 use Rattle.blake2_rows.proofs.Words.{cells, cells-drop}
-use Rattle.blake2_words.specs.Hash.{Flags, Input, after_rounds, block_count, blocks, bytes_of, chain, compress, digest, final, inner, input_data, input_start, last_chain, xor_words}
+use Rattle.blake2_words.specs.Hash.{Flags, Input, after_rounds, block_count, blocks, bytes_of}
+use Rattle.blake2_words.specs.Hash.{chain, compress, digest, inner, input_data, input_flags}
+use Rattle.blake2_words.specs.Hash.{input_start, last_chain, xor_words}
 use Rattle.blake2_rows.specs.Lanes.{in_lane}
-use Rattle.blake2_words.specs.Lanes.{texts}
+use Rattle.blake2_words.specs.Lanes.{flags_at, texts}
 
 -- word k of the state in a lane
-pub lane_word : (rows : List (List ℕ)) (j k : ℕ) (d : List ℕ) → k < length rows → slice_index (get_or rows k d) j ≡ slice_index (in_lane j rows) k
+pub lane_word : (rows : List (List ℕ)) (j k : ℕ) (d : List ℕ) → k < length rows
+    → slice_index (get_or rows k d) j ≡ slice_index (in_lane j rows) k
 lane_word rows j k d h = sym (get_or-map (λ (row : List ℕ). slice_index row j) rows k d 0 h)
 
 -- block j of several
-pub text_at : (blocks : List (Bor (List ℕ))) (j : ℕ) (d : Bor (List ℕ)) → j < length blocks → (get_or blocks j d).now ≡ slice_index_or (texts blocks) j []
+pub text_at : (blocks : List (Bor (List ℕ))) (j : ℕ) (d : Bor (List ℕ)) → j < length blocks
+    → (get_or blocks j d).now ≡ slice_index_or (texts blocks) j []
 text_at blocks j d h = sym (get_or-map (λ b. b.now) blocks j d [] h)
 
 -- one round more
-pub next_round : (f : Family) (n : ℕ) (v m u w : List ℕ) → w ≡ round f u m (slice_index_or sigma (n % 10) []) → u ≡ after_rounds f v m n → w ≡ after_rounds f v m (n + 1)
+pub next_round : (f : Family) (n : ℕ) (v m u w : List ℕ)
+    → w ≡ round f u m (slice_index_or sigma (n % 10) []) → u ≡ after_rounds f v m n
+    → w ≡ after_rounds f v m (n + 1)
 unfolding after_rounds
 next_round f n v m u w e so_far =
     let next : suc n ≡ n + 1 = omega arith in
-    e ∙ ap (λ l. round f l m (slice_index_or sigma (n % 10) [])) so_far ∙ ap (after_rounds f v m) next
+    e ∙ ap (λ l. round f l m (slice_index_or sigma (n % 10) [])) so_far
+    ∙ ap (after_rounds f v m) next
 
 -- eight words xored with both halves of sixteen
 pub xored : (h v : List ℕ) → length h ≡ 8 → length v ≡ 16
-    → (let x : ℕ → ℕ = λ k. bit_xor (bit_xor (slice_index h k) (slice_index v k)) (slice_index v (8 + k)) in
-    x 0 ∷ x 1 ∷ x 2 ∷ x 3 ∷ x 4 ∷ x 5 ∷ x 6 ∷ x 7 ∷ []) ≡ xor_words (xor_words h (take 8 v)) (drop 8 v)
+    → (let x : ℕ → ℕ = λ k. bit_xor (bit_xor (slice_index h k) (slice_index v k))
+    (slice_index v (8 + k)) in
+    x 0 ∷ x 1 ∷ x 2 ∷ x 3 ∷ x 4 ∷ x 5 ∷ x 6 ∷ x 7 ∷ [])
+    ≡ xor_words (xor_words h (take 8 v)) (drop 8 v)
 unfolding xor_words
 xored h v lh lv =
     (λ i. xor_words (xor_words (cells h 0 8) (take 8 (cells v 0 16))) (drop 8 (cells v 0 16)))
-    ∙ (λ i. xor_words (xor_words (cells-drop h 0 8 lh i) (take 8 (cells-drop v 0 16 lv i))) (drop 8 (cells-drop v 0 16 lv i)))
+    ∙ (λ i. xor_words (xor_words (cells-drop h 0 8 lh i) (take 8 (cells-drop v 0 16 lv i)))
+    (drop 8 (cells-drop v 0 16 lv i)))
 
 -- the exclusive or of three words of a lane
-pub words_xored : (h v : List (List ℕ)) (j k l : ℕ) (a b c : List ℕ) → k < length h → k < length v → l < length v
-    → bit_xor (bit_xor (slice_index (get_or h k a) j) (slice_index (get_or v k b) j)) (slice_index (get_or v l c) j)
-    ≡ bit_xor (bit_xor (slice_index (in_lane j h) k) (slice_index (in_lane j v) k)) (slice_index (in_lane j v) l)
-words_xored h v j k l a b c hk vk vl = λ i. bit_xor (bit_xor (lane_word h j k a hk i) (lane_word v j k b vk i)) (lane_word v j l c vl i)
+pub words_xored : (h v : List (List ℕ)) (j k l : ℕ) (a b c : List ℕ) → k < length h → k < length v
+    → l < length v
+    → bit_xor (bit_xor (slice_index (get_or h k a) j) (slice_index (get_or v k b) j))
+    (slice_index (get_or v l c) j)
+    ≡ bit_xor (bit_xor (slice_index (in_lane j h) k) (slice_index (in_lane j v) k))
+    (slice_index (in_lane j v) l)
+words_xored h v j k l a b c hk vk vl = λ i. bit_xor
+    (bit_xor (lane_word h j k a hk i) (lane_word v j k b vk i)) (lane_word v j l c vl i)
 
 -- word k of the state in a lane, from the words of row k
-pub lane_read_of_four : (rows : List (List ℕ)) (j k : ℕ) (d w : List ℕ) → w ≡ four (λ i. slice_index (get_or rows k d) i) → j < 4 → k < length rows
+pub lane_read : (rows : List (List ℕ)) (j k : ℕ) (d w : List ℕ) → w ≡ get_or rows k d
+    → k < length rows → slice_index w j ≡ slice_index (in_lane j rows) k
+lane_read rows j k d w e lt = ap (λ l. slice_index l j) e ∙ lane_word rows j k d lt
+
+-- the same from their list of four
+pub lane_read_of_four : (rows : List (List ℕ)) (j k : ℕ) (d w : List ℕ)
+    → w ≡ four (λ i. slice_index (get_or rows k d) i) → j < 4 → k < length rows
     → slice_index w j ≡ slice_index (in_lane j rows) k
 lane_read_of_four rows j k d w e h lt =
-    ap (λ l. slice_index l j) e ∙ lane_of_four (λ i. slice_index (get_or rows k d) i) j h ∙ lane_word rows j k d lt
+    ap (λ l. slice_index l j) e ∙ lane_of 4 (λ i. slice_index (get_or rows k d) i) j h
+    ∙ lane_word rows j k d lt
+
+-- the flags of a block that others follow are off, whichever the message
+pub inner_at : (n j : ℕ) → flags_at (replicate n (record { last = false; last_node = false })) j
+    ≡ inner
+inner_at zero j = refl
+inner_at (suc n) zero = refl
+inner_at (suc n) (suc j) = inner_at n j
 
 -- a run before its first block
 pub no_block : (f : Family) (h : List ℕ) (d : List (List ℕ)) (n : ℕ) → n ≡ 0 → h ≡ chain f h 0 d n
@@ -53,8 +84,10 @@ unfolding chain
 no_block f h d n e = sym (ap (chain f h 0 d) e)
 
 -- one block more
-pub block_more : (f : Family) (h : List ℕ) (d : List (List ℕ)) (i t : ℕ) (old new block : List ℕ) → old ≡ chain f h 0 d i
-    → new ≡ compress f old block t inner → block ≡ slice_index_or d i [] → t ≡ (i + 1) * block_bytes f → new ≡ chain f h 0 d (i + 1)
+pub block_more : (f : Family) (h : List ℕ) (d : List (List ℕ)) (i t : ℕ) (old new block : List ℕ)
+    → old ≡ chain f h 0 d i
+    → new ≡ compress f old block t inner → block ≡ slice_index_or d i []
+    → t ≡ (i + 1) * block_bytes f → new ≡ chain f h 0 d (i + 1)
 unfolding chain
 block_more f h d i t old new block before compressed is_block counted =
     let next : suc i ≡ i + 1 = omega arith in
@@ -62,27 +95,31 @@ block_more f h d i t old new block before compressed is_block counted =
     compressed ∙ (λ k. compress f (before k) (is_block k) (at k) inner) ∙ ap (chain f h 0 d) next
 
 -- the last block
-pub run_end : (f : Family) (h z : List ℕ) (n t : ℕ) (old new block : List ℕ) (flags : Flags) → old ≡ chain f h 0 (blocks f z) n → n ≡ block_count f (length z) - 1
-    → new ≡ compress f old block t flags → block ≡ slice_index_or (blocks f z) n [] → t ≡ length z → new ≡ last_chain f h 0 z flags
+pub run_end : (f : Family) (h z : List ℕ) (n t : ℕ) (old new block : List ℕ) (flags : Flags)
+    → old ≡ chain f h 0 (blocks f z) n → n ≡ block_count f (length z) - 1
+    → new ≡ compress f old block t flags → block ≡ slice_index_or (blocks f z) n [] → t ≡ length z
+    → new ≡ last_chain f h 0 z flags
 unfolding last_chain
 run_end f h z n t old new block flags before last compressed is_block counted =
     let at : t ≡ 0 + length z = omega arith in
     compressed ∙ (λ k. compress f (before k) (is_block k) (at k) flags)
-    ∙ ap (λ m. compress f (chain f h 0 (blocks f z) m) (slice_index_or (blocks f z) m []) (0 + length z) flags) last
+    ∙ ap (λ m. compress f (chain f h 0 (blocks f z) m) (slice_index_or (blocks f z) m [])
+    (0 + length z) flags) last
 
 -- the first bytes of the last chaining words are the digest
-pub digest_of_run : (f : Family) (size : ℕ) (a : Input) (first last out : List ℕ) → out ≡ take size (bytes_of f last)
-    → last ≡ last_chain f first 0 (input_data f a) final → first ≡ input_start f size a → out ≡ digest f size a
+pub digest_of_run : (f : Family) (size : ℕ) (a : Input) (first last out : List ℕ)
+    → out ≡ take size (bytes_of f last)
+    → last ≡ last_chain f first 0 (input_data f a) (input_flags a) → first ≡ input_start f size a
+    → out ≡ digest f size a
 unfolding digest
 digest_of_run f size a first last out e run begun =
-    e ∙ ap (λ h. take size (bytes_of f h)) (run ∙ ap (λ h. last_chain f h 0 (input_data f a) final) begun)
+    e ∙ ap (λ h. take size (bytes_of f h)) (run ∙ ap
+    (λ h. last_chain f h 0 (input_data f a) (input_flags a)) begun)
 
--- a list of four, mapped
-pub mapped_four : {X : Type 0} (g : X → List ℕ) (d : X) (xs : List X) → length xs ≡ 4
-    → g (get_or xs 0 d) ∷ g (get_or xs 1 d) ∷ g (get_or xs 2 d) ∷ g (get_or xs 3 d) ∷ [] ≡ map g xs
-mapped_four g d [] h = absurd (omega arith)
-mapped_four g d (a ∷ []) h = absurd (omega arith)
-mapped_four g d (a ∷ b ∷ []) h = absurd (omega arith)
-mapped_four g d (a ∷ b ∷ c ∷ []) h = absurd (omega arith)
-mapped_four g d (a ∷ b ∷ c ∷ e ∷ []) h = refl
-mapped_four g d (a ∷ b ∷ c ∷ e ∷ x ∷ xs) h = absurd (omega arith)
+-- n items, each mapped
+pub mapped : {X : Type 0} (n : ℕ) (g : X → List ℕ) (d : X) (xs : List X) → length xs ≡ n
+    → lanes n (λ j. g (get_or xs j d)) ≡ map g xs
+mapped zero g d [] long = refl
+mapped zero g d (x ∷ xs) long = absurd (omega arith)
+mapped (suc n) g d [] long = absurd (omega arith)
+mapped (suc n) g d (x ∷ xs) long = λ i. g x ∷ mapped n g d xs (omega arith) i

@@ -1,6 +1,8 @@
 -- Lists with zeros at their end.
-use Rattle.std.proofs.Common.{◌≡◌, ℕ, zero, suc, ◌-◌, ◌<◌, ◌≤◌, inl, inr, List, ◌++◌, length, take, replicate, refl, sym, ap, ◌∙◌, arith, get_or}
-use Rattle.std.proofs.lemmas.List.{get_or-take, get_or-append_right, get_or_append_left, get_or_past, length-take-le, append-nil}
+use Rattle.std.proofs.Common.{◌≡◌, ℕ, zero, suc, ◌-◌, ◌<◌, ◌≤◌, inl, inr, List, ◌++◌, length, take}
+use Rattle.std.proofs.Common.{replicate, refl, sym, ap, ◌∙◌, arith, get_or}
+use Rattle.std.proofs.lemmas.List.{get_or-take, get_or-append_right, get_or_append_left}
+use Rattle.std.proofs.lemmas.List.{get_or_past, length-take-le, append-nil}
 use Rattle.std.proofs.lemmas.Grind.{same_number_lists}
 use Rattle.std.proofs.lemmas.Bool.{cases_lt}
 use Rattle.std.specs.Int.{from_le_bytes, w32, w64}
@@ -10,7 +12,8 @@ use Rattle.blake2_words.proofs.Sizes.{length-padded}
 -- past the list there are zeros
 pub padded-past : (n : ℕ) (z : List ℕ) (i : ℕ) → length z ≤ i → get_or (padded n z) i 0 ≡ 0
 unfolding padded
-padded-past n z i h = get_or-append_right z (replicate (n - length z) 0) (length z) i 0 refl h ∙ zero_at (n - length z) (i - length z)
+padded-past n z i h = get_or-append_right z (replicate (n - length z) 0) (length z) i 0 refl h
+    ∙ zero_at (n - length z) (i - length z)
   where
     zero_at : (m k : ℕ) → get_or (replicate {A = ℕ} m 0) k 0 ≡ 0
     zero_at zero k = refl
@@ -18,7 +21,8 @@ padded-past n z i h = get_or-append_right z (replicate (n - length z) 0) (length
     zero_at (suc m) (suc k) = zero_at m k
 
 -- before them there is the list
-pub padded-before : (n : ℕ) (z : List ℕ) (i : ℕ) → i < length z → get_or (padded n z) i 0 ≡ get_or z i 0
+pub padded-before : (n : ℕ) (z : List ℕ) (i : ℕ) → i < length z
+    → get_or (padded n z) i 0 ≡ get_or z i 0
 unfolding padded
 padded-before n z i h = get_or_append_left z (replicate (n - length z) 0) 0 i h
 
@@ -30,12 +34,15 @@ padded-whole n xs h =
     ap (λ (k : ℕ). xs ++ replicate k 0) none ∙ append-nil xs
 
 -- a list that is zero from place k on
-pub zeros_after : (xs : List ℕ) (k : ℕ) → k ≤ length xs → ((i : ℕ) → k ≤ i → get_or xs i 0 ≡ 0) → xs ≡ padded (length xs) (take k xs)
+pub zeros_after : (xs : List ℕ) (k : ℕ) → k ≤ length xs → ((i : ℕ) → k ≤ i → get_or xs i 0 ≡ 0)
+    → xs ≡ padded (length xs) (take k xs)
 zeros_after xs k h zeros =
     let front : length (take k xs) ≡ k = length-take-le k xs h in
-    same_number_lists xs (padded (length xs) (take k xs)) (sym (length-padded (length xs) (take k xs) (omega arith)))
+    same_number_lists xs (padded (length xs) (take k xs))
+    (sym (length-padded (length xs) (take k xs) (omega arith)))
     (λ i l. elim (cases_lt i k) [
-      | inl below ↦ sym (padded-before (length xs) (take k xs) i (omega arith) ∙ get_or-take k xs i 0 below)
+      | inl below ↦ sym (padded-before (length xs) (take k xs) i (omega arith)
+          ∙ get_or-take k xs i 0 below)
       | inr past ↦ zeros i past ∙ sym (padded-past (length xs) (take k xs) i (omega arith))
     ])
 

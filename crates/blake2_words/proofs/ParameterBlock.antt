@@ -1,5 +1,6 @@
 -- The parameter block, as its fields are written over zeros.
-use Rattle.std.proofs.Common.{◌≡◌, ℕ, ◌+◌, ◌-◌, ◌≤◌, List, [], ◌∷◌, ◌++◌, length, drop, take, replicate}
+use Rattle.std.proofs.Common.{◌≡◌, ℕ, ◌+◌, ◌-◌, ◌≤◌, List, [], ◌∷◌, ◌++◌, length, drop, take}
+use Rattle.std.proofs.Common.{replicate}
 use Rattle.std.proofs.Common.{refl, sym, ap, ◌∙◌, arith, length-append}
 use Rattle.std.proofs.lemmas.List.{take_at, drop_at, append_assoc, length-replicate, drop-replicate}
 use Rattle.std.proofs.lemmas.List.{length-take-le}
@@ -63,7 +64,8 @@ fields_written n o r s a b c d salt persona la lb lc ld fits_salt fits_persona t
     let put_offset = λ (z : List ℕ). put_mid 8 (8 + o - 8) z c in
     let put_node = λ (z : List ℕ). put_mid (8 + o) (10 + o - (8 + o)) z d in
     let put_salt = λ (z : List ℕ). put_mid t (t + length salt - t) z salt in
-    let put_persona = λ (z : List ℕ). put_mid (t + s) (t + s + length persona - (t + s)) z persona in
+    let put_persona = λ (z : List ℕ). put_mid (t + s)
+    (t + s + length persona - (t + s)) z persona in
     let with_leaf : put_leaf (a ++ drop 4 (replicate n 0)) ≡ padded n (a ++ b) =
     ap put_leaf lengths ∙ written n 4 4 a b la lb (omega arith) in
     let with_offset = ap put_offset with_leaf
@@ -72,12 +74,14 @@ fields_written n o r s a b c d salt persona la lb lc ld fits_salt fits_persona t
     ∙ written n (8 + o) (10 + o - (8 + o)) (a ++ b ++ c) d node_ends (omega arith) (omega arith) in
     let with_zeros = with_node ∙ sym (padded-append_zeros n inner r (omega arith)) in
     let with_salt = ap put_salt with_zeros
-    ∙ text_written n t (t + length salt - t) s front salt front_ends (omega arith) (omega arith) (omega arith) in
+    ∙ text_written n t (t + length salt - t) s front salt front_ends (omega arith) (omega arith)
+    (omega arith) in
     let with_persona = ap put_persona with_salt
     ∙ text_written n (t + s) (t + s + length persona - (t + s)) s salted persona salted_ends
     (omega arith) (omega arith) (omega arith) in
     with_persona
-    ∙ padded-whole n (salted ++ padded s persona) (omega (arith, length-append salted (padded s persona)))
+    ∙ padded-whole n (salted ++ padded s persona)
+    (omega (arith, length-append salted (padded s persona)))
 
 -- the block, of fields of these lengths
 pub block_written : (f : Family) (n o r s : ℕ) (p : Parameters) → offset_bytes f ≡ o → o ≤ 8
@@ -85,7 +89,8 @@ pub block_written : (f : Family) (n o r s : ℕ) (p : Parameters) → offset_byt
     → put_mid (8 + o + 2 + r + s) (8 + o + 2 + r + s + length p.persona - (8 + o + 2 + r + s))
     (put_mid (8 + o + 2 + r) (8 + o + 2 + r + length p.salt - (8 + o + 2 + r))
     (put_mid (8 + o) (10 + o - (8 + o)) (put_mid 8 (8 + o - 8)
-    (put_mid 4 4 ((p.size ∷ p.key_size ∷ p.tree.fanout ∷ p.tree.depth ∷ []) ++ drop 4 (replicate n 0))
+    (put_mid 4 4 ((p.size ∷ p.key_size ∷ p.tree.fanout ∷ p.tree.depth ∷ [])
+    ++ drop 4 (replicate n 0))
     (to_le_bytes w32 p.tree.leaf_length)) (take o (to_le_bytes w64 p.tree.node_offset)))
     (p.tree.node_depth ∷ p.tree.inner_length ∷ [])) p.salt) p.persona ≡ parameter_block f p
 unfolding parameter_block
@@ -99,6 +104,7 @@ block_written f n o r s p offset room reserved salt table fits =
     let reserved_is : r ≡ reserved_bytes f = sym reserved in
     let texts_are : s ≡ salt_bytes f = sym salt in
     fields_written n o r s lengths leaf (take o bytes) node p.salt p.persona refl refl
-    (length-take-le o bytes room) refl (omega (arith, fits.salt)) (omega (arith, fits.persona)) table
+    (length-take-le o bytes room) refl (omega (arith, fits.salt))
+    (omega (arith, fits.persona)) table
     ∙ (λ i. lengths ++ leaf ++ take (offset_is i) bytes ++ node ++ replicate (reserved_is i) 0
     ++ padded (texts_are i) p.salt ++ padded (texts_are i) p.persona)

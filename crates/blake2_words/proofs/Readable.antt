@@ -1,18 +1,27 @@
 -- Words and entries are the transcript of some input exactly where the reader's tests hold.
-use Rattle.std.proofs.Common.{◌≡◌, ℕ, zero, suc, ◌+◌, ◌-◌, ◌*◌, ◌^◌, ◌<◌, ◌≤◌, inl, inr, List, ◌++◌, length, take, drop, refl, sym, ap, subst, ◌∙◌, arith, get_or, length-append, Option, Some, None}
-use Rattle.std.proofs.lemmas.List.{take_at, drop_at, get_or-take, get_or_append_left, length-take-le, take-append-drop, get_or_default}
+use Rattle.std.proofs.Common.{Bool, ◌≡◌, ℕ, zero, suc, ◌+◌, ◌-◌, ◌*◌, ◌^◌, ◌<◌, ◌≤◌, inl, inr, List}
+use Rattle.std.proofs.Common.{◌++◌, length, take, drop, refl, sym, ap, subst, ◌∙◌, arith, get_or}
+use Rattle.std.proofs.Common.{length-append, Option, Some, None}
+use Rattle.std.proofs.lemmas.List.{take_at, drop_at, get_or-take, get_or_append_left}
+use Rattle.std.proofs.lemmas.List.{length-take-le, take-append-drop, get_or_default}
 use Rattle.std.proofs.lemmas.Grind.{same_number_lists}
 use Rattle.std.proofs.lemmas.Bool.{cases_lt}
 use Rattle.std.proofs.lemmas.Nat.{from_le_bytes-to_le_bytes_4, from_le_bytes-to_le_bytes_8}
-use Rattle.std.specs.Int.{from_le_bytes, to_le_bytes, w32, w64}
-use Rattle.blake2_rows.specs.Family.{Family, blake2b, blake2s, block_bytes, key_bytes, offset_bytes, reserved_bytes, salt_bytes}
-use Rattle.blake2_words.specs.Hash.{AreBytes, Fits, Input, Parameters, bytes_of, words_of, block_count, padded, parameter_block, parameter_words, input_parameters, input_data, data_bytes, key_block, key_size}
+use Rattle.std.specs.Int.{from_le_bytes, to_le_bytes, w64}
+use Rattle.blake2_rows.specs.Family.{Family, blake2b, blake2s, block_bytes, key_bytes, offset_bytes}
+use Rattle.blake2_rows.specs.Family.{reserved_bytes, salt_bytes}
+use Rattle.blake2_words.specs.Hash.{AreBytes, Fits, Flags, flags, Input, Parameters, bytes_of}
+use Rattle.blake2_words.specs.Hash.{words_of, block_count, padded, parameter_block, parameter_words}
+use Rattle.blake2_words.specs.Hash.{input_parameters, input_data, data_bytes, key_block, key_size}
 use Rattle.blake2_words.specs.Inputs.{KeyFits}
 use Rattle.blake2_words.specs.Transcript.{Entry, joined, Reads, ReadsOnly, IsOfSomeInput}
 use Rattle.blake2_words.specs.Run.{no_entry}
-use Rattle.blake2_words.specs.Reader.{told_count, parameters_in, IsReadable, told_key, told_message, told_input, AreTyped}
-use Rattle.blake2_words.proofs.Sizes.{AreParameters, key_bytes_fit, length-padded, AreBytes-padded, AreBytes-take, AreBytes-drop, AreBytes-bytes_of}
-use Rattle.blake2_words.proofs.Determined.{block_count-fits, bytes_of-parameter_words, transcripts_determine, accepted-parameters}
+use Rattle.blake2_words.specs.Reader.{last_entry, told_count, parameters_in, IsReadable, told_key}
+use Rattle.blake2_words.specs.Reader.{told_message, told_input, AreTyped}
+use Rattle.blake2_words.proofs.Sizes.{AreParameters, key_bytes_fit, length-padded, AreBytes-padded}
+use Rattle.blake2_words.proofs.Sizes.{AreBytes-take, AreBytes-drop, AreBytes-bytes_of}
+use Rattle.blake2_words.proofs.Determined.{block_count-fits, bytes_of-parameter_words}
+use Rattle.blake2_words.proofs.Determined.{transcripts_determine, accepted-parameters}
 use Rattle.blake2_words.proofs.Streaming.{block_count-pos}
 use Rattle.blake2_words.proofs.ParameterTexts.{parameter_block-texts}
 use Rattle.blake2_words.proofs.Padding.{padded-past, padded-before, padded-whole, zeros_after}
@@ -22,7 +31,10 @@ use Rattle.blake2_words.proofs.RunEntries.{joined-length, joined-bytes}
 
 -- parameters with zeros up to S bytes behind salt and persona
 abbrev whole : Family → Parameters → Parameters
-whole f p = record p { salt = padded (salt_bytes f) p.salt; persona = padded (salt_bytes f) p.persona }
+whole f p = record p {
+  salt = padded (salt_bytes f) p.salt;
+  persona = padded (salt_bytes f) p.persona;
+}
 
 -- they fit where the parameters do
 whole-fits : (f : Family) (p : Parameters) → Fits f p → Fits f (whole f p)
@@ -35,7 +47,8 @@ whole-fits f p h = record {
 }
 
 -- and have the same words
-whole-words : (f : Family) (p : Parameters) → Fits f p → parameter_words f (whole f p) ≡ parameter_words f p
+whole-words : (f : Family) (p : Parameters) → Fits f p
+    → parameter_words f (whole f p) ≡ parameter_words f p
 unfolding parameter_words
 whole-words f p h =
     ap (words_of f 8) (parameter_block-texts f p _ _
@@ -47,12 +60,15 @@ six_bytes : (n : ℕ) → n < 2 ^ 48 → from_le_bytes w64 (take 6 (to_le_bytes 
 six_bytes n h = omega (arith, h)
 
 -- a parameter block names them
-parameters_in-block : (f : Family) (p : Parameters) → Fits f p → parameters_in f (parameter_block f p) ≡ whole f p
+parameters_in-block : (f : Family) (p : Parameters) → Fits f p
+    → parameters_in f (parameter_block f p) ≡ whole f p
 unfolding parameter_block
 parameters_in-block blake2b p h =
     let front : length (padded 16 p.salt) ≡ 16 = length-padded 16 p.salt h.salt in
-    let salt : take 16 (padded 16 p.salt ++ padded 16 p.persona) ≡ padded 16 p.salt = take_at (padded 16 p.salt) (padded 16 p.persona) 16 front in
-    let persona : drop 16 (padded 16 p.salt ++ padded 16 p.persona) ≡ padded 16 p.persona = drop_at (padded 16 p.salt) (padded 16 p.persona) 16 front in
+    let salt : take 16 (padded 16 p.salt ++ padded 16 p.persona) ≡ padded 16 p.salt =
+    take_at (padded 16 p.salt) (padded 16 p.persona) 16 front in
+    let persona : drop 16 (padded 16 p.salt ++ padded 16 p.persona) ≡ padded 16 p.persona =
+    drop_at (padded 16 p.salt) (padded 16 p.persona) 16 front in
     let leaf = from_le_bytes-to_le_bytes_4 p.tree.leaf_length h.tree.leaf_length in
     let offset = from_le_bytes-to_le_bytes_8 p.tree.node_offset h.tree.node_offset in
     λ i. record {
@@ -64,8 +80,10 @@ parameters_in-block blake2b p h =
     }
 parameters_in-block blake2s p h =
     let front : length (padded 8 p.salt) ≡ 8 = length-padded 8 p.salt h.salt in
-    let salt : take 8 (padded 8 p.salt ++ padded 8 p.persona) ≡ padded 8 p.salt = take_at (padded 8 p.salt) (padded 8 p.persona) 8 front in
-    let persona : drop 8 (padded 8 p.salt ++ padded 8 p.persona) ≡ padded 8 p.persona = drop_at (padded 8 p.salt) (padded 8 p.persona) 8 front in
+    let salt : take 8 (padded 8 p.salt ++ padded 8 p.persona) ≡ padded 8 p.salt =
+    take_at (padded 8 p.salt) (padded 8 p.persona) 8 front in
+    let persona : drop 8 (padded 8 p.salt ++ padded 8 p.persona) ≡ padded 8 p.persona =
+    drop_at (padded 8 p.salt) (padded 8 p.persona) 8 front in
     let leaf = from_le_bytes-to_le_bytes_4 p.tree.leaf_length h.tree.leaf_length in
     let offset = six_bytes p.tree.node_offset h.tree.node_offset in
     λ i. record {
@@ -77,13 +95,17 @@ parameters_in-block blake2s p h =
     }
 
 -- THE LAW: so the bytes of parameter words name the parameters, with those zeros
-parameters_in-words : (f : Family) (p : Parameters) → AreParameters f p → parameters_in f (bytes_of f (parameter_words f p)) ≡ whole f p
-parameters_in-words f p h = ap (parameters_in f) (bytes_of-parameter_words f p h) ∙ parameters_in-block f p h.fits
+parameters_in-words : (f : Family) (p : Parameters) → AreParameters f p
+    → parameters_in f (bytes_of f (parameter_words f p)) ≡ whole f p
+parameters_in-words f p h = ap (parameters_in f) (bytes_of-parameter_words f p h)
+    ∙ parameters_in-block f p h.fits
 
 -- the texts that bytes of words name are bytes
-named_texts : (f : Family) (p : Parameters) (words : List ℕ) → p ≡ parameters_in f (bytes_of f words) → AreBytes p.salt × AreBytes p.persona
+named_texts : (f : Family) (p : Parameters) (words : List ℕ)
+    → p ≡ parameters_in f (bytes_of f words) → AreBytes p.salt × AreBytes p.persona
 named_texts f p words named =
-    let texts = AreBytes-drop (8 + offset_bytes f + 2 + reserved_bytes f) _ (AreBytes-bytes_of f words) in
+    let texts = AreBytes-drop (8 + offset_bytes f + 2 + reserved_bytes f) _
+    (AreBytes-bytes_of f words) in
     subst (λ (q : Parameters). AreBytes q.salt × AreBytes q.persona) (sym named)
     (AreBytes-take (salt_bytes f) _ texts, AreBytes-drop (salt_bytes f) _ texts)
 
@@ -108,8 +130,10 @@ key_data f (suc k) z fits counted zeros =
     same_number_lists (padded b (take n z)) (take b z) (lp ∙ sym lb)
     (λ i l. let in_b : i < b = omega arith in
     elim (cases_lt i n) [
-      | inl below ↦ padded-before b (take n z) i (omega arith) ∙ get_or-take n z i 0 below ∙ sym (get_or-take b z i 0 in_b)
-      | inr past ↦ padded-past b (take n z) i (omega arith) ∙ sym (zeros some i past in_b) ∙ sym (get_or-take b z i 0 in_b)
+      | inl below ↦ padded-before b (take n z) i (omega arith) ∙ get_or-take n z i 0 below
+          ∙ sym (get_or-take b z i 0 in_b)
+      | inr past ↦ padded-past b (take n z) i (omega arith) ∙ sym (zeros some i past in_b)
+          ∙ sym (get_or-take b z i 0 in_b)
     ]) in
     (λ i. front i ++ drop b z) ∙ take-append-drop b z
 
@@ -119,7 +143,8 @@ told_key-size zero z h = refl
 told_key-size (suc n) z h = length-take-le (suc n) z h
 
 -- it fits
-told_key-fits : (f : Family) (n : ℕ) (z : List ℕ) → AreBytes z → n ≤ length z → n ≤ key_bytes f → KeyFits f (told_key n z)
+told_key-fits : (f : Family) (n : ℕ) (z : List ℕ) → AreBytes z → n ≤ length z → n ≤ key_bytes f
+    → KeyFits f (told_key n z)
 told_key-fits f zero z are h fits = tt
 told_key-fits f (suc n) z are h fits =
     let l : length (take (suc n) z) ≡ suc n = length-take-le (suc n) z h in
@@ -131,7 +156,8 @@ told_message-bytes f zero z are = are
 told_message-bytes f (suc n) z are = AreBytes-drop (block_bytes f) z are
 
 -- THE LAW: where the tests hold, the words and entries are the transcript of what is read
-readable_reads : (f : Family) (p : Parameters) (words : List ℕ) (entries : List Entry) → p ≡ parameters_in f (bytes_of f words) → AreTyped f entries → IsReadable f p words entries
+readable_reads : (f : Family) (p : Parameters) (words : List ℕ) (entries : List Entry)
+    → p ≡ parameters_in f (bytes_of f words) → AreTyped f entries → IsReadable f p words entries
     → Reads f words entries p.size (told_input f p entries)
 readable_reads f p words entries named typed test =
     let b : ℕ = block_bytes f in
@@ -149,9 +175,11 @@ readable_reads f p words entries named typed test =
     let short : kk ≤ key_bytes f = test.fits.key_size in
     let counted : 0 < kk → b ≤ length z = λ some. rw lz (test.key some).counted in
     let zeros : 0 < kk → (i : ℕ) → kk ≤ i → i < b → get_or z i 0 ≡ 0 =
-    λ some i past below. get_or-take c j i 0 (omega (arith, (test.key some).counted)) ∙ (test.key some).zeros i past below in
+    λ some i past below. get_or-take c j i 0 (omega (arith, (test.key some).counted))
+    ∙ (test.key some).zeros i past below in
     let data_is : input_data f a ≡ z = key_data f kk z short counted zeros in
-    let within : kk ≤ length z = elim (cases_lt 0 kk) [ inl some ↦ omega (arith, counted some, limits, short) | inr none ↦ omega arith ] in
+    let within : kk ≤ length z = elim (cases_lt 0 kk)
+    [ inl some ↦ omega (arith, counted some, limits, short) | inr none ↦ omega arith ] in
     let ld : length (input_data f a) ≡ c = ap length data_is ∙ lz in
     let zeros_fit = whole-fits f p test.fits in
     let texts = named_texts f p words named in
@@ -174,13 +202,21 @@ readable_reads f p words entries named typed test =
         number = test.run.number ∙ ap (block_count f) (sym ld);
         below = λ i d h.
             let here = test.run.below i h in
-            let at : get_or entries i d ≡ get_or entries i no_entry = get_or_default entries i d no_entry (omega arith) in
-            (ap (λ (e : Entry). e.counter) at ∙ here.counter, ap (λ (e : Entry). e.flags) at ∙ here.flags);
+            let at : get_or entries i d ≡ get_or entries i no_entry =
+            get_or_default entries i d no_entry (omega arith) in (
+              ap (λ (e : Entry). e.counter) at ∙ here.counter,
+              ap (λ (e : Entry). e.flags) at ∙ here.flags,
+            );
         ends = λ d.
             let lt : n - 1 < length entries = omega (arith, test.run.number, block_count-pos f c) in
-            let at : get_or entries (n - 1) d ≡ get_or entries (n - 1) no_entry = get_or_default entries (n - 1) d no_entry lt in
-            (ap (λ (e : Entry). e.counter) at ∙ sym ld, ap (λ (e : Entry). e.flags) at ∙ test.run.last);
-        blocks = zeros_after j c room test.run.zeros ∙ ap (λ (m : ℕ). padded m z) lj ∙ ap (padded (n * b)) (sym data_is);
+            let at : get_or entries (n - 1) d ≡ get_or entries (n - 1) no_entry =
+            get_or_default entries (n - 1) d no_entry lt in (
+              ap (λ (e : Entry). e.counter) at ∙ sym ld,
+              ap (λ (e : Entry). e.flags) at
+                  ∙ ap (λ (b : Bool). flags b (last_entry entries).flags.last_node) test.run.last,
+            );
+        blocks = zeros_after j c room test.run.zeros ∙ ap (λ (m : ℕ). padded m z) lj
+            ∙ ap (padded (n * b)) (sym data_is);
       };
     }
 
@@ -188,7 +224,8 @@ readable_reads f p words entries named typed test =
 
 -- the data with a key begins with the key, and zeros up to a block
 keyed_data : (f : Family) (key : Option (List ℕ)) (m : List ℕ) → KeyFits f key → 0 < key_size key
-    → (block_bytes f ≤ length (data_bytes f key m)) × ((i : ℕ) → key_size key ≤ i → i < block_bytes f → get_or (data_bytes f key m) i 0 ≡ 0)
+    → (block_bytes f ≤ length (data_bytes f key m))
+    × ((i : ℕ) → key_size key ≤ i → i < block_bytes f → get_or (data_bytes f key m) i 0 ≡ 0)
 unfolding key_block
 keyed_data f None m fits some = absurd (omega arith)
 keyed_data f (Some k) m fits some =
@@ -198,8 +235,10 @@ keyed_data f (Some k) m fits some =
       λ i past below. get_or_append_left (padded b k) m 0 i (omega arith) ∙ padded-past b k i past,
     )
 
--- THE LAW: the transcript of an accepted input passes the tests, under the parameters that its words name
-reads_readable : (f : Family) (words : List ℕ) (entries : List Entry) (size : ℕ) (a : Input) → Reads f words entries size a
+-- THE LAW: the transcript of an accepted input passes the tests, under the parameters that its
+-- words name
+reads_readable : (f : Family) (words : List ℕ) (entries : List Entry) (size : ℕ) (a : Input)
+    → Reads f words entries size a
     → IsReadable f (parameters_in f (bytes_of f words)) words entries
 reads_readable f words entries size a r =
     let b : ℕ = block_bytes f in
@@ -207,7 +246,8 @@ reads_readable f words entries size a r =
     let p : Parameters = input_parameters size a in
     let good : AreParameters f p = accepted-parameters f size a r.accepted r.fits in
     let named : parameters_in f (bytes_of f words) ≡ whole f p =
-    ap (λ (ws : List ℕ). parameters_in f (bytes_of f ws)) r.is.parameters ∙ parameters_in-words f p good in
+    ap (λ (ws : List ℕ). parameters_in f (bytes_of f ws)) r.is.parameters
+    ∙ parameters_in-words f p good in
     let count_is : told_count entries ≡ length z = (r.is.ends no_entry).0 in
     let blocks : joined entries ≡ padded (length entries * b) z = r.is.blocks in
     let test : IsReadable f (whole f p) words entries = record {
@@ -215,36 +255,52 @@ reads_readable f words entries size a r =
       words_are = r.is.parameters ∙ sym (whole-words f p good.fits);
       run = record {
         number = r.is.number ∙ ap (block_count f) (sym count_is);
-        below = λ i h. record { counter = (r.is.below i no_entry h).0; flags = (r.is.below i no_entry h).1 };
-        last = (r.is.ends no_entry).1;
-        zeros = λ i past. ap (λ (l : List ℕ). get_or l i 0) blocks ∙ padded-past (length entries * b) z i (omega arith);
+        below = λ i h. record {
+          counter = (r.is.below i no_entry h).0;
+          flags = (r.is.below i no_entry h).1;
+        };
+        last = ap (λ (g : Flags). g.last) (r.is.ends no_entry).1;
+        zeros = λ i past. ap (λ (l : List ℕ). get_or l i 0) blocks
+            ∙ padded-past (length entries * b) z i (omega arith);
       };
       key = λ some.
           let keyed = keyed_data f a.key a.message r.accepted.key_fits some in
           record {
             counted = omega (arith, keyed.0);
             zeros = λ i past below. ap (λ (l : List ℕ). get_or l i 0) blocks
-                ∙ padded-before (length entries * b) z i (omega (arith, keyed.0)) ∙ keyed.1 i past below;
+                ∙ padded-before (length entries * b) z i (omega (arith, keyed.0))
+                ∙ keyed.1 i past below;
           };
     } in
     subst (λ (q : Parameters). IsReadable f q words entries) (sym named) test
 
 -- THE LAW: where the tests hold some input has this transcript
-pub some_input : (f : Family) (p : Parameters) (words : List ℕ) (entries : List Entry) → p ≡ parameters_in f (bytes_of f words)
+pub some_input : (f : Family) (p : Parameters) (words : List ℕ) (entries : List Entry)
+    → p ≡ parameters_in f (bytes_of f words)
     → AreTyped f entries → IsReadable f p words entries → IsOfSomeInput f words entries
-some_input f p words entries named typed test = (p.size, told_input f p entries, readable_reads f p words entries named typed test)
+some_input f p words entries named typed test =
+    (p.size, told_input f p entries, readable_reads f p words entries named typed test)
 
 -- and only there
-pub input_readable : (f : Family) (p : Parameters) (words : List ℕ) (entries : List Entry) → p ≡ parameters_in f (bytes_of f words)
+pub input_readable : (f : Family) (p : Parameters) (words : List ℕ) (entries : List Entry)
+    → p ≡ parameters_in f (bytes_of f words)
     → IsOfSomeInput f words entries → IsReadable f p words entries
 input_readable f p words entries named (size, a, r) =
-    subst (λ (q : Parameters). IsReadable f q words entries) (sym named) (reads_readable f words entries size a r)
+    subst (λ (q : Parameters). IsReadable f q words entries) (sym named)
+    (reads_readable f words entries size a r)
 
 -- THE LAW: what is read is an input of this transcript, and no other is
-pub reads_told : (f : Family) (p : Parameters) (words : List ℕ) (entries : List Entry) (size : ℕ) (x : Input) → p ≡ parameters_in f (bytes_of f words)
-    → AreTyped f entries → IsReadable f p words entries → size ≡ p.size → x ≡ told_input f p entries → ReadsOnly f words entries size x
+pub reads_told : (f : Family) (p : Parameters) (words : List ℕ) (entries : List Entry) (size : ℕ)
+    (x : Input) → p ≡ parameters_in f (bytes_of f words)
+    → AreTyped f entries → IsReadable f p words entries → size ≡ p.size → x ≡ told_input f p entries
+    → ReadsOnly f words entries size x
 reads_told f p words entries size x named typed test size_is told =
     let reads : Reads f words entries size x =
     subst (λ (k : ℕ). Reads f words entries k x) (sym size_is)
-    (subst (Reads f words entries p.size) (sym told) (readable_reads f p words entries named typed test)) in
-    record { reads = reads; only = λ other b s. transcripts_determine f words entries size other x b reads s }
+    (subst (Reads f words entries p.size) (sym told)
+    (readable_reads f p words entries named typed test)) in
+    record {
+      reads = reads;
+      only = λ other b s. transcripts_determine f words entries size other x b
+          reads s;
+    }

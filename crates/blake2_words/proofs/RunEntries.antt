@@ -1,6 +1,10 @@
 -- Lists of entries, of which a run is made: the bytes of their blocks, and a run's last entry.
-use Rattle.std.proofs.Common.{◌≡◌, ℕ, zero, suc, ◌+◌, ◌-◌, ◌*◌, ◌<◌, ◌≤◌, inl, inr, List, [], ◌∷◌, ◌++◌, length, map, take, drop, refl, sym, ap, subst, ◌∙◌, arith, get_or, length-append, length-drop, EachIndex, Some}
-use Rattle.std.proofs.lemmas.List.{get_or_append_left, get_or-append_right, get_or_past, get_or-drop, length-take, append-nil, map-append, drop_at, drop-take, take-append-le, take_all, take-take}
+use Rattle.std.proofs.Common.{◌≡◌, ℕ, zero, suc, ◌+◌, ◌-◌, ◌*◌, ◌<◌, ◌≤◌, inl, inr, List, [], ◌∷◌}
+use Rattle.std.proofs.Common.{◌++◌, length, map, take, drop, refl, sym, ap, subst, ◌∙◌, arith}
+use Rattle.std.proofs.Common.{get_or, length-append, length-drop, EachIndex, Some}
+use Rattle.std.proofs.lemmas.List.{get_or_append_left, get_or-append_right, get_or_past}
+use Rattle.std.proofs.lemmas.List.{get_or-drop, length-take, append-nil, map-append, drop_at}
+use Rattle.std.proofs.lemmas.List.{drop-take, take-append-le, take_all, take-take}
 use Rattle.std.proofs.lemmas.List.Folds.{concat-append}
 use Rattle.std.proofs.lemmas.Bool.{cases_lt}
 use Rattle.std.proofs.Math.Seq.{take-append-add}
@@ -9,7 +13,9 @@ use Rattle.blake2_rows.specs.Family.{Family, blake2b, blake2s, block_bytes}
 use Rattle.blake2_words.specs.Hash.{AreBytes, block_count}
 use Rattle.blake2_words.specs.Transcript.{Entry, joined}
 use Rattle.blake2_words.specs.Run.{no_entry}
-use Rattle.blake2_words.specs.Reader.{told_count, last_entry, told_key, told_message, AreInner, IsInner, AreWhole, IsWhole, IsRun, HasKey, EndsRun, IsZeroFrom}
+use Rattle.blake2_words.specs.Reader.{told_count, last_entry, told_key, told_message, AreInner}
+use Rattle.blake2_words.specs.Reader.{IsInner, AreWhole, IsWhole, IsRun, HasKey, EndsRun}
+use Rattle.blake2_words.specs.Reader.{IsZeroFrom}
 use Rattle.blake2_rows.proofs.Texts.{AreBytes-append}
 
 -- ---- the bytes of blocks joined
@@ -22,21 +28,26 @@ joined-append xs ys =
 
 -- one more entry
 pub joined-snoc : (xs : List Entry) (e : Entry) → joined (xs ++ e ∷ []) ≡ joined xs ++ e.block
-joined-snoc xs e = joined-append xs (e ∷ []) ∙ ap (λ (l : List ℕ). joined xs ++ l) (append-nil e.block)
+joined-snoc xs e = joined-append xs (e ∷ []) ∙ ap (λ (l : List ℕ). joined xs ++ l)
+    (append-nil e.block)
 
 -- blocks of B bytes make so many bytes
-pub joined-length : (f : Family) (es : List Entry) → AreWhole f es → length (joined es) ≡ length es * block_bytes f
+pub joined-length : (f : Family) (es : List Entry) → AreWhole f es
+    → length (joined es) ≡ length es * block_bytes f
 joined-length f [] whole = omega arith
 joined-length f (e ∷ es) whole =
     let here : length e.block ≡ block_bytes f = (whole 0 (omega arith)).length_is in
-    let rest : length (joined es) ≡ length es * block_bytes f = joined-length f es (λ i h. whole (suc i) (omega arith)) in
-    let more : suc (length es) * block_bytes f ≡ block_bytes f + length es * block_bytes f = omega arith in
+    let rest : length (joined es) ≡ length es * block_bytes f =
+    joined-length f es (λ i h. whole (suc i) (omega arith)) in
+    let more : suc (length es) * block_bytes f ≡ block_bytes f + length es * block_bytes f =
+    omega arith in
     length-append e.block (joined es) ∙ omega arith
 
 -- bytes they are
 pub joined-bytes : (f : Family) (es : List Entry) → AreWhole f es → AreBytes (joined es)
 joined-bytes f [] whole = λ i. omega arith
-joined-bytes f (e ∷ es) whole = AreBytes-append e.block (joined es) (whole 0 (omega arith)).bytes (joined-bytes f es (λ i h. whole (suc i) (omega arith)))
+joined-bytes f (e ∷ es) whole = AreBytes-append e.block (joined es) (whole 0 (omega arith)).bytes
+    (joined-bytes f es (λ i h. whole (suc i) (omega arith)))
 
 -- ---- a list with one more entry behind it
 
@@ -45,22 +56,26 @@ pub last_entry-snoc : (xs : List Entry) (e : Entry) → last_entry (xs ++ e ∷ 
 last_entry-snoc xs e =
     let at : length (xs ++ e ∷ []) - 1 ≡ length xs = omega (arith, length-append xs (e ∷ [])) in
     let first : length xs - length xs ≡ 0 = omega arith in
-    ap (λ (i : ℕ). get_or (xs ++ e ∷ []) i no_entry) at ∙ get_or-append_right xs (e ∷ []) (length xs) (length xs) no_entry refl (omega arith)
+    ap (λ (i : ℕ). get_or (xs ++ e ∷ []) i no_entry) at
+    ∙ get_or-append_right xs (e ∷ []) (length xs) (length xs) no_entry refl (omega arith)
     ∙ ap (λ (i : ℕ). get_or (e ∷ []) i no_entry) first
 
 -- what holds of each entry of xs, and of e, holds of each of both
-snoc_each : (xs : List Entry) (e : Entry) (P : Entry → Type 0) → ((i : ℕ) → i < length xs → P (get_or xs i no_entry)) → P e
+snoc_each : (xs : List Entry) (e : Entry) (P : Entry → Type 0)
+    → ((i : ℕ) → i < length xs → P (get_or xs i no_entry)) → P e
     → (i : ℕ) → i < length (xs ++ e ∷ []) → P (get_or (xs ++ e ∷ []) i no_entry)
 snoc_each xs e P each here i h = elim (cases_lt i (length xs)) [
   | inl below ↦ subst P (sym (get_or_append_left xs (e ∷ []) no_entry i below)) (each i below)
   | inr past ↦
       (let total = length-append xs (e ∷ []) in
       let at : length (xs ++ e ∷ []) - 1 ≡ i = omega arith in
-      subst P (sym (last_entry-snoc xs e) ∙ ap (λ (k : ℕ). get_or (xs ++ e ∷ []) k no_entry) at) here)
+      subst P (sym (last_entry-snoc xs e) ∙ ap (λ (k : ℕ). get_or (xs ++ e
+      ∷ []) k no_entry) at) here)
 ]
 
 -- its blocks are whole
-pub whole-snoc : (f : Family) (xs : List Entry) (e : Entry) → AreWhole f xs → IsWhole f e → AreWhole f (xs ++ e ∷ [])
+pub whole-snoc : (f : Family) (xs : List Entry) (e : Entry) → AreWhole f xs → IsWhole f e
+    → AreWhole f (xs ++ e ∷ [])
 whole-snoc f xs e front here = snoc_each xs e (IsWhole f) front here
 
 -- ---- a run from its last entry and those before
@@ -71,18 +86,21 @@ before_last blake2b n c e = omega arith
 before_last blake2s n c e = omega arith
 
 -- a run's last entry ends it
-pub run_ends : (f : Family) (xs : List Entry) (e : Entry) → IsRun f (xs ++ e ∷ []) → EndsRun f (length xs) e
+pub run_ends : (f : Family) (xs : List Entry) (e : Entry) → IsRun f (xs ++ e ∷ [])
+    → EndsRun f (length xs) e
 run_ends f xs e run =
     let at : last_entry (xs ++ e ∷ []) ≡ e = last_entry-snoc xs e in
     record {
-      number = sym (length-append xs (e ∷ [])) ∙ run.number ∙ ap (λ (x : Entry). block_count f x.counter) at;
-      flags = sym (ap (λ (x : Entry). x.flags) at) ∙ run.last;
+      number = sym (length-append xs (e ∷ [])) ∙ run.number
+          ∙ ap (λ (x : Entry). block_count f x.counter) at;
+      last = sym (ap (λ (x : Entry). x.flags.last) at) ∙ run.last;
     }
 
 -- others follow those before it
 pub run_inner : (f : Family) (xs : List Entry) (e : Entry) → IsRun f (xs ++ e ∷ []) → AreInner f xs
 run_inner f xs e run i h =
-    subst (IsInner f i) (get_or_append_left xs (e ∷ []) no_entry i h) (run.below i (omega (arith, length-append xs (e ∷ []))))
+    subst (IsInner f i) (get_or_append_left xs (e ∷ []) no_entry i h)
+    (run.below i (omega (arith, length-append xs (e ∷ []))))
 
 -- its block is zero past the counted bytes
 pub run_zeros : (f : Family) (xs : List Entry) (e : Entry) → AreWhole f xs → IsRun f (xs ++ e ∷ [])
@@ -90,14 +108,17 @@ pub run_zeros : (f : Family) (xs : List Entry) (e : Entry) → AreWhole f xs →
 run_zeros f xs e whole run j past =
     let n : ℕ = length xs * block_bytes f in
     let low : n ≤ e.counter = before_last f (length xs) e.counter (run_ends f xs e run).number in
-    let counts : told_count (xs ++ e ∷ []) ≡ e.counter = ap (λ (x : Entry). x.counter) (last_entry-snoc xs e) in
+    let counts : told_count (xs ++ e ∷ []) ≡ e.counter =
+    ap (λ (x : Entry). x.counter) (last_entry-snoc xs e) in
     let at : n + j - n ≡ j = omega arith in
     sym (ap (λ (l : List ℕ). get_or l (n + j) 0) (joined-snoc xs e)
-    ∙ get_or-append_right (joined xs) e.block n (n + j) 0 (joined-length f xs whole) (omega arith) ∙ ap (λ (k : ℕ). get_or e.block k 0) at)
+    ∙ get_or-append_right (joined xs) e.block n (n + j) 0 (joined-length f xs whole) (omega arith)
+    ∙ ap (λ (k : ℕ). get_or e.block k 0) at)
     ∙ run.zeros (n + j) (omega arith)
 
 -- and these three make a run
-pub run_from : (f : Family) (xs : List Entry) (e : Entry) → AreWhole f xs → EndsRun f (length xs) e → AreInner f xs
+pub run_from : (f : Family) (xs : List Entry) (e : Entry) → AreWhole f xs → EndsRun f (length xs) e
+    → AreInner f xs
     → IsZeroFrom (e.counter - length xs * block_bytes f) e.block → IsRun f (xs ++ e ∷ [])
 run_from f xs e whole end inners zeros =
     let n : ℕ = length xs * block_bytes f in
@@ -107,36 +128,43 @@ run_from f xs e whole end inners zeros =
     let low : n ≤ e.counter = before_last f (length xs) e.counter end.number in
     record {
       number = total ∙ end.number ∙ ap (block_count f) (sym counts);
-      below = λ i h. subst (IsInner f i) (sym (get_or_append_left xs (e ∷ []) no_entry i (omega arith))) (inners i (omega arith));
-      last = ap (λ (x : Entry). x.flags) at ∙ end.flags;
+      below = λ i h. subst (IsInner f i) (sym (get_or_append_left xs (e
+          ∷ []) no_entry i (omega arith))) (inners i (omega arith));
+      last = ap (λ (x : Entry). x.flags.last) at ∙ end.last;
       zeros = λ i past. ap (λ (l : List ℕ). get_or l i 0) (joined-snoc xs e)
-          ∙ get_or-append_right (joined xs) e.block n i 0 (joined-length f xs whole) (omega arith) ∙ zeros (i - n) (omega arith);
+          ∙ get_or-append_right (joined xs) e.block n i 0 (joined-length f xs whole) (omega arith)
+          ∙ zeros (i - n) (omega arith);
     }
 
 -- ---- zeros at the end of a block
 
 -- a list is zero from place n on where the rest of it is zero
-pub zero_rest : (xs : List ℕ) (n : ℕ) → n ≤ length xs → EachIndex (drop n xs) (λ i. get_or (drop n xs) i 0 ≡ 0) → IsZeroFrom n xs
+pub zero_rest : (xs : List ℕ) (n : ℕ) → n ≤ length xs
+    → EachIndex (drop n xs) (λ i. get_or (drop n xs) i 0 ≡ 0) → IsZeroFrom n xs
 zero_rest xs n fits each i past = elim (cases_lt i (length xs)) [
   | inr out ↦ get_or_past xs i 0 out
   | inl within ↦
       (let at : n + (i - n) ≡ i = omega arith in
-      ap (λ (k : ℕ). get_or xs k 0) (sym at) ∙ sym (get_or-drop n xs (i - n) 0) ∙ each (i - n) (omega (arith, length-drop n xs)))
+      ap (λ (k : ℕ). get_or xs k 0) (sym at) ∙ sym (get_or-drop n xs (i - n) 0)
+      ∙ each (i - n) (omega (arith, length-drop n xs)))
 ]
 
 -- and the other way
-pub rest_zero : (xs : List ℕ) (n : ℕ) → IsZeroFrom n xs → EachIndex (drop n xs) (λ i. get_or (drop n xs) i 0 ≡ 0)
+pub rest_zero : (xs : List ℕ) (n : ℕ) → IsZeroFrom n xs
+    → EachIndex (drop n xs) (λ i. get_or (drop n xs) i 0 ≡ 0)
 rest_zero xs n zeros i h = get_or-drop n xs i 0 ∙ zeros (n + i) (omega arith)
 
 -- ---- the block of a key at the beginning
 
 -- the first bytes are those of the first block
-pub joined-first : (f : Family) (e : Entry) (es : List Entry) (i : ℕ) → length e.block ≡ block_bytes f → i < block_bytes f
+pub joined-first : (f : Family) (e : Entry) (es : List Entry) (i : ℕ)
+    → length e.block ≡ block_bytes f → i < block_bytes f
     → get_or (joined (e ∷ es)) i 0 ≡ get_or e.block i 0
 joined-first f e es i whole lt = get_or_append_left e.block (joined es) 0 i (omega arith)
 
 -- the first block is that of a key where it is zero behind the key
-pub has_key : (f : Family) (n : ℕ) (e : Entry) (es : List Entry) → length e.block ≡ block_bytes f → block_bytes f ≤ told_count (e ∷ es)
+pub has_key : (f : Family) (n : ℕ) (e : Entry) (es : List Entry) → length e.block ≡ block_bytes f
+    → block_bytes f ≤ told_count (e ∷ es)
     → IsZeroFrom n e.block → HasKey f n (e ∷ es)
 has_key f n e es whole counted zeros = record {
   counted = counted;
@@ -144,7 +172,8 @@ has_key f n e es whole counted zeros = record {
 }
 
 -- and only there
-pub key_zeros : (f : Family) (n : ℕ) (e : Entry) (es : List Entry) → length e.block ≡ block_bytes f → HasKey f n (e ∷ es) → IsZeroFrom n e.block
+pub key_zeros : (f : Family) (n : ℕ) (e : Entry) (es : List Entry) → length e.block ≡ block_bytes f
+    → HasKey f n (e ∷ es) → IsZeroFrom n e.block
 key_zeros f n e es whole key i past = elim (cases_lt i (block_bytes f)) [
   | inl below ↦ sym (joined-first f e es i whole below) ∙ key.zeros i past below
   | inr out ↦ get_or_past e.block i 0 (omega arith)
@@ -153,30 +182,37 @@ key_zeros f n e es whole key i past = elim (cases_lt i (block_bytes f)) [
 -- ---- the beginning of lists
 
 -- the beginning of a list, where one more part is known
-pub take-append : (n : ℕ) (xs ys : List ℕ) → take n (xs ++ ys) ≡ take n xs ++ take (n - length (take n xs)) ys
+pub take-append : (n : ℕ) (xs ys : List ℕ) → take n (xs ++ ys)
+    ≡ take n xs ++ take (n - length (take n xs)) ys
 take-append n xs ys = elim (cases_lt n (length xs)) [
   | inl less ↦
       (let none : n - length (take n xs) ≡ 0 = omega (arith, length-take n xs) in
-      take-append-le n xs ys (omega arith) ∙ sym (append-nil (take n xs)) ∙ ap (λ (k : ℕ). take n xs ++ take k ys) (sym none))
+      take-append-le n xs ys (omega arith) ∙ sym (append-nil (take n xs))
+      ∙ ap (λ (k : ℕ). take n xs ++ take k ys) (sym none))
   | inr all ↦
       (let split : length xs + (n - length xs) ≡ n = omega arith in
       let whole : xs ≡ take n xs = sym (take_all n xs all) in
-      ap (λ (k : ℕ). take k (xs ++ ys)) (sym split) ∙ take-append-add xs ys (n - length xs) ∙ (λ i. whole i ++ take (n - length (whole i)) ys))
+      ap (λ (k : ℕ). take k (xs ++ ys)) (sym split) ∙ take-append-add xs ys (n - length xs)
+      ∙ (λ i. whole i ++ take (n - length (whole i)) ys))
 ]
 
 -- ---- key and message at the beginning of the data
 
 -- a key stands at the beginning of the first block
-pub key_told : (n c : ℕ) (block rest : List ℕ) → 0 < n → n ≤ length block → n ≤ c → told_key n (take c (block ++ rest)) ≡ Some (take n block)
+pub key_told : (n c : ℕ) (block rest : List ℕ) → 0 < n → n ≤ length block → n ≤ c
+    → told_key n (take c (block ++ rest)) ≡ Some (take n block)
 key_told zero c block rest some short within = absurd (omega arith)
 key_told (suc k) c block rest some short within =
-    ap (λ (l : List ℕ). Some l) (take-take (suc k) c (block ++ rest) within ∙ take-append-le (suc k) block rest short)
+    ap (λ (l : List ℕ). Some l) (take-take (suc k) c (block ++ rest) within
+    ∙ take-append-le (suc k) block rest short)
 
 -- the message stands behind it
-pub message_told : (f : Family) (n c : ℕ) (block rest : List ℕ) → 0 < n → length block ≡ block_bytes f → block_bytes f ≤ c
+pub message_told : (f : Family) (n c : ℕ) (block rest : List ℕ) → 0 < n
+    → length block ≡ block_bytes f → block_bytes f ≤ c
     → told_message f n (take c (block ++ rest)) ≡ take (c - block_bytes f) rest
 message_told f zero c block rest some whole within = absurd (omega arith)
 message_told f (suc k) c block rest some whole within =
     let b : ℕ = block_bytes f in
     let more : b + (c - b) ≡ c = omega arith in
-    ap (λ (m : ℕ). drop b (take m (block ++ rest))) (sym more) ∙ drop-take b (c - b) (block ++ rest) ∙ ap (take (c - b)) (drop_at block rest b whole)
+    ap (λ (m : ℕ). drop b (take m (block ++ rest))) (sym more) ∙ drop-take b (c - b) (block ++ rest)
+    ∙ ap (take (c - b)) (drop_at block rest b whole)

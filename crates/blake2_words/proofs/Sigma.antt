@@ -1,5 +1,6 @@
 -- Each number of SIGMA is below 16.
-use Rattle.std.proofs.Common.{◌≡◌, ℕ, zero, suc, ◌<◌, true, List, [], ◌∷◌, get_or, nat_lt, refl, arith}
+use Rattle.std.proofs.Common.{◌≡◌, ℕ, zero, suc, ◌<◌, true, List, [], ◌∷◌, get_or, nat_lt, refl}
+use Rattle.std.proofs.Common.{arith}
 use Rattle.std.proofs.lemmas.Bool.{and_parts}
 use Rattle.std.specs.List.{list_all}
 use borrow.Author.Tests.{ltb-true}
@@ -12,7 +13,8 @@ row_below (x ∷ xs) h zero = ltb-true x 16 (and_parts _ _ h).0
 row_below (x ∷ xs) h (suc k) = row_below xs (and_parts _ _ h).1 k
 
 -- and so has each row of a table that does
-rows_below : (xs : List (List ℕ)) → list_all (λ (row : List ℕ). list_all (λ x. nat_lt x 16) row) xs ≡ true → (r k : ℕ) → get_or (get_or xs r []) k 0 < 16
+rows_below : (xs : List (List ℕ)) → list_all (λ (row : List ℕ). list_all (λ x. nat_lt x 16) row) xs
+    ≡ true → (r k : ℕ) → get_or (get_or xs r []) k 0 < 16
 rows_below [] h r k = omega arith
 rows_below (x ∷ xs) h zero k = row_below x (and_parts _ _ h).0 k
 rows_below (x ∷ xs) h (suc r) k = rows_below xs (and_parts _ _ h).1 r k

@@ -1,17 +1,26 @@
 -- Worked digests, by computation, so that a definition with a wrong constant or rule does not
 -- check. Those of `abc` stand in RFC 7693, appendices A and B; the others are those of Python's
 -- hashlib.
-use Rattle.std.proofs.Common.{◌≡◌, ℕ, List, [], ◌∷◌, codes, Some, None, replicate, refl}
+use Rattle.std.proofs.Common.{true, false, ◌≡◌, ℕ, List, [], ◌∷◌, codes, Some, None, replicate}
+use Rattle.std.proofs.Common.{refl}
 use Rattle.std.specs.List.{range_with_len}
 use Rattle.blake2_rows.specs.Family.{blake2b, blake2s}
 use Rattle.blake2_rows.specs.Round.{mix, round}
 use Rattle.blake2_words.specs.Hash.{words_of, bytes_of, xor_words, padded, after_rounds}
 use Rattle.blake2_words.specs.Hash.{before_rounds, compress, parameter_block, parameter_words}
-use Rattle.blake2_words.specs.Hash.{start, key_block, cut, chain, last_chain, Input, digest, sequential}
+use Rattle.blake2_words.specs.Hash.{start, key_block, cut, chain, last_chain, Input, Tree, digest}
+use Rattle.blake2_words.specs.Hash.{sequential}
 
 -- an input without salt, persona and key
 abbrev no_key : List ℕ → Input
-no_key m = record { salt = []; persona = []; key = None; tree = sequential; message = m }
+no_key m = record {
+  salt = [];
+  persona = [];
+  key = None;
+  tree = sequential;
+  last_node = false;
+  message = m;
+}
 
 -- a key of the bytes 0 to 31 and the persona `personal`
 abbrev keyed_with_persona : Input
@@ -20,16 +29,46 @@ keyed_with_persona = record {
   persona = codes "personal";
   key = Some (range_with_len 0 32);
   tree = sequential;
+  last_node = false;
   message = [];
 }
 
 -- the message `abc` with the persona `personal` and this salt
 abbrev salted : List ℕ → Input
-salted salt = record { salt = salt; persona = codes "personal"; key = None; tree = sequential; message = codes "abc" }
+salted salt = record {
+  salt = salt;
+  persona = codes "personal";
+  key = None;
+  tree = sequential;
+  last_node = false;
+  message = codes "abc";
+}
+
+-- so many bytes 42 under the last node of its level in a tree of three levels: node 5 of the
+-- second, of inner digests of that length
+abbrev last_node_of : ℕ → ℕ → Input
+last_node_of inner_length n =
+    let place : Tree = record {
+      fanout = 2;
+      depth = 3;
+      leaf_length = 4096;
+      node_offset = 5;
+      node_depth = 1;
+      inner_length = inner_length;
+    } in
+    record {
+      salt = [];
+      persona = [];
+      key = None;
+      tree = place;
+      last_node = true;
+      message = replicate n 42;
+    }
 
 -- what a digest is computed by
 computed : ℕ
-unfolding words_of bytes_of xor_words padded mix round after_rounds before_rounds compress parameter_block parameter_words start key_block cut chain last_chain digest
+unfolding words_of bytes_of xor_words padded mix round after_rounds before_rounds compress
+    parameter_block parameter_words start key_block cut chain last_chain digest
 computed = 0
 
 -- BLAKE2b of `abc` (RFC 7693, appendix A)
@@ -141,3 +180,25 @@ pub salted_s : digest blake2s 32 (salted (codes "012345")) ≡
     0x51 ∷ 0x9b ∷ 0xa5 ∷ 0x4c ∷ 0x01 ∷ 0x43 ∷ 0xc8 ∷ 0x1f ∷ []
 unfolding computed
 salted_s = refl
+
+-- BLAKE2b of a last node: two blocks, of which the last alone has its flag
+pub last_node_b : digest blake2b 64 (last_node_of 64 129) ≡
+    0x84 ∷ 0xf6 ∷ 0x46 ∷ 0x6b ∷ 0x6e ∷ 0xf4 ∷ 0x27 ∷ 0xf9 ∷
+    0x11 ∷ 0x27 ∷ 0x9c ∷ 0xc3 ∷ 0xf4 ∷ 0x5d ∷ 0x03 ∷ 0x82 ∷
+    0x9b ∷ 0x8c ∷ 0xd6 ∷ 0xda ∷ 0xf5 ∷ 0x2b ∷ 0x9e ∷ 0x95 ∷
+    0x85 ∷ 0x11 ∷ 0xaa ∷ 0xe5 ∷ 0x65 ∷ 0xe9 ∷ 0x32 ∷ 0x26 ∷
+    0x9a ∷ 0xa0 ∷ 0xad ∷ 0x71 ∷ 0x35 ∷ 0xda ∷ 0x55 ∷ 0x0d ∷
+    0x55 ∷ 0xd7 ∷ 0x76 ∷ 0x85 ∷ 0x69 ∷ 0x1e ∷ 0xd5 ∷ 0x72 ∷
+    0x3a ∷ 0x1a ∷ 0xcc ∷ 0xdf ∷ 0x69 ∷ 0xd6 ∷ 0x9d ∷ 0x31 ∷
+    0xd1 ∷ 0x0e ∷ 0x86 ∷ 0x08 ∷ 0x73 ∷ 0xfe ∷ 0x5f ∷ 0xa8 ∷ []
+unfolding computed
+last_node_b = refl
+
+-- the same of BLAKE2s
+pub last_node_s : digest blake2s 32 (last_node_of 32 65) ≡
+    0xe8 ∷ 0xe1 ∷ 0x8a ∷ 0x36 ∷ 0x54 ∷ 0x5b ∷ 0x8c ∷ 0xa8 ∷
+    0xf9 ∷ 0xc1 ∷ 0x0f ∷ 0xac ∷ 0xaf ∷ 0xe8 ∷ 0xc3 ∷ 0xe4 ∷
+    0x42 ∷ 0x6e ∷ 0x6a ∷ 0x5b ∷ 0x70 ∷ 0xaa ∷ 0xcf ∷ 0x52 ∷
+    0x27 ∷ 0xc6 ∷ 0xe7 ∷ 0xd5 ∷ 0x14 ∷ 0x50 ∷ 0x5a ∷ 0xfb ∷ []
+unfolding computed
+last_node_s = refl

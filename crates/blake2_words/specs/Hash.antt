@@ -38,27 +38,30 @@ unfoldable pub after_rounds : Family → List ℕ → List ℕ → ℕ → List 
 after_rounds f v m zero = v
 after_rounds f v m (suc n) = round f (after_rounds f v m n) m (slice_index_or sigma (n % 10) [])
 
--- the flags of a compression
+-- the flags of a compression: f, on for the last block (3.2), and f1, on for the last block of the
+-- last node of its level in a tree of hashes (the BLAKE2 document, 2.10)
 pub record Flags : Type 0 where
   pub last : Bool
+  pub last_node : Bool
 
-abbrev pub flags : Bool → Flags
-flags last = record { last = last }
+abbrev pub flags : Bool → Bool → Flags
+flags last last_node = record { last = last; last_node = last_node }
 
 -- of a block that others follow
 abbrev pub inner : Flags
-inner = flags false
+inner = flags false false
 
 -- of the last block
-abbrev pub final : Flags
-final = flags true
+abbrev pub final : Bool → Flags
+final last_node = flags true last_node
 
--- v before the first round, for the counter t and the flags (3.2)
+-- v before the first round, for the counter t and the flags (3.2; the BLAKE2 document, 2.10)
 unfoldable pub before_rounds : Family → List ℕ → ℕ → Flags → List ℕ
 before_rounds f h t flags =
     let w = bits (word f) in
-    let ones = if flags.last then 2 ^ w - 1 else 0 in
-    h ++ xor_words (iv f) (0 ∷ 0 ∷ 0 ∷ 0 ∷ t % 2 ^ w ∷ t / 2 ^ w ∷ ones ∷ 0 ∷ [])
+    let last = if flags.last then 2 ^ w - 1 else 0 in
+    let last_node = if flags.last_node then 2 ^ w - 1 else 0 in
+    h ++ xor_words (iv f) (0 ∷ 0 ∷ 0 ∷ 0 ∷ t % 2 ^ w ∷ t / 2 ^ w ∷ last ∷ last_node ∷ [])
 
 -- F (3.2)
 unfoldable pub compress : Family → List ℕ → List ℕ → ℕ → Flags → List ℕ
@@ -195,6 +198,7 @@ pub record Input : Type 0 where
   pub persona : List ℕ
   pub key : Option (List ℕ)
   pub tree : Tree
+  pub last_node : Bool
   pub message : List ℕ
 
 -- the bytes that are cut into its blocks
@@ -213,7 +217,7 @@ input_parameters size a = record {
 
 -- the flags of its last compression
 abbrev pub input_flags : Input → Flags
-input_flags a = final
+input_flags a = final a.last_node
 
 -- h[0..7] before its first block
 abbrev pub input_start : Family → ℕ → Input → List ℕ

@@ -27,4 +27,5 @@ pub record Same (f : Family) (a b : Input) : Type 0 where
   pub persona : padded (salt_bytes f) a.persona ≡ padded (salt_bytes f) b.persona
   pub key : a.key ≡ b.key
   pub tree : a.tree ≡ b.tree
+  pub last_node : a.last_node ≡ b.last_node
   pub message : a.message ≡ b.message

@@ -1,12 +1,13 @@
 -- Several messages side by side.
-use Rattle.std.specs.Prelude.{◌≡◌, ℕ, ◌<◌, List, [], length, map, slice_index_or, None}
+use Rattle.std.specs.Prelude.{◌≡◌, ℕ, ◌<◌, List, [], false, length, map, slice_index_or, None}
 use Rattle.std.specs.Borrow.{Bor}
 use Rattle.blake2_words.specs.declared.params.Tree as GivenTree
 use Rattle.blake2_words.specs.declared.steps.Input as GivenInput
+use Rattle.blake2_words.specs.declared.words.Flags as GivenFlags
 use Rattle.blake2_rows.specs.Family.{Family}
-use Rattle.blake2_words.specs.Hash.{Input, input_data}
+use Rattle.blake2_words.specs.Hash.{Flags, Input, input_data}
 use Rattle.blake2_words.specs.Inputs.{Accepts}
-use Rattle.blake2_words.specs.Views.{input_of}
+use Rattle.blake2_words.specs.Views.{given_flags, input_of}
 
 -- what stands behind each of several references
 abbrev pub texts : List (Bor (List ℕ)) → List (List ℕ)
@@ -24,13 +25,25 @@ no_input =
       node_depth = 0;
       inner_length = 0;
     } in
-    record { salt = nothing; persona = nothing; key = None; message = nothing; tree = nowhere }
+    record {
+      salt = nothing;
+      persona = nothing;
+      key = None;
+      tree = nowhere;
+      last_node = false;
+      message = nothing;
+    }
 
 -- input j of several
 abbrev pub input_at : List GivenInput.Input → ℕ → Input
 input_at inputs j = input_of (slice_index_or inputs j no_input)
 
+-- the flags of message j, of several that each have their own
+abbrev pub flags_at : List GivenFlags.Flags → ℕ → Flags
+flags_at flags j = given_flags (slice_index_or flags j (record { last = false; last_node = false }))
+
 -- n inputs that are hashed at once: each is accepted, and of each as many bytes are counted
 pub record AcceptsAtOnce (f : Family) (n : ℕ) (inputs : List GivenInput.Input) : Type 0 where
   pub accepted : (j : ℕ) → j < n → Accepts f (input_at inputs j)
-  pub same_count : (j : ℕ) → j < n → length (input_data f (input_at inputs j)) ≡ length (input_data f (input_at inputs 0))
+  pub same_count : (j : ℕ) → j < n → length (input_data f (input_at inputs j))
+      ≡ length (input_data f (input_at inputs 0))

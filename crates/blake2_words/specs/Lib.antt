@@ -10,3 +10,4 @@ pub mod Run
 pub mod Reader
 pub mod Laws
 pub mod Lanes
+pub mod Pieces

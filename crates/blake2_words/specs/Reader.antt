@@ -1,10 +1,10 @@
 -- What shows that words and entries are the transcript of an input, and what they tell of it.
 -- Section numbers are those of RFC 7693.
 use Rattle.std.specs.Prelude.{◌≡◌, ℕ, zero, suc, ◌+◌, ◌-◌, ◌*◌, ◌^◌, ◌<◌, ◌≤◌, List, length, take}
-use Rattle.std.specs.Prelude.{drop, slice_index, slice_index_or, Option, Some, None}
+use Rattle.std.specs.Prelude.{drop, slice_index, slice_index_or, Option, Some, None, IsTrue}
 use Rattle.std.specs.Int.{from_le_bytes, w32, w64}
 use Rattle.blake2_rows.specs.Family.{Family, block_bytes, offset_bytes, reserved_bytes, salt_bytes}
-use Rattle.blake2_words.specs.Hash.{AreBytes, Input, inner, final, block_count, padded}
+use Rattle.blake2_words.specs.Hash.{AreBytes, Input, inner, block_count, padded}
 use Rattle.blake2_words.specs.Hash.{Fits, Parameters, parameter_words, Tree}
 use Rattle.blake2_words.specs.Transcript.{Entry, joined}
 use Rattle.blake2_words.specs.Run.{no_entry}
@@ -56,7 +56,7 @@ AreInner f entries = (i : ℕ) → i < length entries → IsInner f i (slice_ind
 -- the entry is the last, after so many others
 pub record EndsRun (f : Family) (before : ℕ) (e : Entry) : Type 0 where
   pub number : before + 1 ≡ block_count f e.counter
-  pub flags : e.flags ≡ final
+  pub last : IsTrue e.flags.last
 
 -- xs is zero from place n on
 abbrev pub IsZeroFrom : ℕ → List ℕ → Type 0
@@ -66,7 +66,7 @@ IsZeroFrom n xs = (i : ℕ) → n ≤ i → slice_index xs i ≡ 0
 pub record IsRun (f : Family) (entries : List Entry) : Type 0 where
   pub number : length entries ≡ block_count f (told_count entries)
   pub below : (i : ℕ) → i + 1 < length entries → IsInner f i (slice_index_or entries i no_entry)
-  pub last : (last_entry entries).flags ≡ final
+  pub last : IsTrue (last_entry entries).flags.last
   pub zeros : IsZeroFrom (told_count entries) (joined entries)
 
 -- the data begins with the block of a key of n bytes
@@ -104,6 +104,7 @@ told_input f p entries = record {
   persona = padded (salt_bytes f) p.persona;
   key = told_key p.key_size (told_data entries);
   tree = p.tree;
+  last_node = (last_entry entries).flags.last_node;
   message = told_message f p.key_size (told_data entries);
 }
 

@@ -27,8 +27,8 @@ joined entries = concat (map (λ (e : Entry). e.block) entries)
 
 -- words and entries are those of the input at this output size, place by place and without F
 -- (3.3): the parameter words; an entry for each block; before the last, counters (i+1)·B and no
--- final flag; at the last, the counted length and the input's flags; and blocks that joined are
--- the data and then zeros
+-- flag; at the last, the counted length and the input's flags; and blocks that joined are the data
+-- and then zeros
 pub record IsTranscript (f : Family) (words : List ℕ) (entries : List Entry) (size : ℕ) (a : Input)
     : Type 0 where
   pub parameters : words ≡ parameter_words f (input_parameters size a)

@@ -36,7 +36,7 @@ given_parameters p = record {
 
 -- the flags of a compression
 abbrev pub given_flags : GivenFlags.Flags → Flags
-given_flags f = record { last = f.last }
+given_flags f = flags f.last f.last_node
 
 -- the bytes behind a key, if there is one
 abbrev pub key_of : Option (Bor (List ℕ)) → Option (List ℕ)
@@ -50,16 +50,26 @@ input_of a = record {
   persona = a.persona.now;
   key = key_of a.key;
   tree = tree_of a.tree;
+  last_node = a.last_node;
   message = a.message.now;
 }
 
 -- an entry
 abbrev pub entry_of : {B : ℕ} → GivenEntry.Entry B → Entry
-entry_of e = record { block = e.block; counter = e.counter; flags = flags e.last }
+entry_of e = record {
+  block = e.block;
+  counter = e.counter;
+  flags = flags e.last e.last_node;
+}
 
 -- a step
 abbrev pub step_of : {B : ℕ} → GivenStep.Step ℕ B → Step
-step_of s = record { chain = s.chain; block = s.block; counter = s.counter; flags = flags s.last }
+step_of s = record {
+  chain = s.chain;
+  block = s.block;
+  counter = s.counter;
+  flags = flags s.last s.last_node;
+}
 
 -- the entries of a transcript
 abbrev pub entries_of : {B : ℕ} → GivenTranscript.Transcript ℕ B → List Entry
@@ -77,5 +87,6 @@ reading_of r = record {
   persona = r.persona;
   key = items_of r.key;
   tree = tree_of r.tree;
+  last_node = r.last_node;
   message = r.message.items;
 }

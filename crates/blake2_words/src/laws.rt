@@ -2,6 +2,7 @@
 
 pub mod blake2b;
 pub mod blake2s;
+pub mod pieces;
 pub mod transcripts;
 
 #[cfg(test)]

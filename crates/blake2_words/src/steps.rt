@@ -24,6 +24,9 @@ pub struct Input<'a> {
     pub key: Option<&'a [u8]>,
     /// The place in a tree; [`Tree::sequential`] for a hash which is the whole tree.
     pub tree: Tree,
+    /// Whether this is the last node on its level of a tree (the BLAKE2 document, 2.10); `false`
+    /// for a hash which is the whole tree.
+    pub last_node: bool,
     /// Any bytes, such that with the key's block there are less than 2^64.
     pub message: &'a [u8],
 }
@@ -37,6 +40,8 @@ pub struct Entry<const B: usize> {
     pub counter: u64,
     /// The final flag: no block follows.
     pub last: bool,
+    /// The last-node flag: no block follows, and no other node on this level of the tree.
+    pub last_node: bool,
 }
 
 /// All that a run compresses and starts from.
@@ -61,6 +66,8 @@ pub struct Step<W, const B: usize> {
     pub counter: u64,
     /// The final flag: no block follows.
     pub last: bool,
+    /// The last-node flag: no block follows, and no other node on this level of the tree.
+    pub last_node: bool,
 }
 
 /// What a transcript is read as.
@@ -76,6 +83,8 @@ pub struct Reading<const S: usize> {
     pub key: Option<Vec<u8>>,
     /// The place in a tree.
     pub tree: Tree,
+    /// Whether it is the last node on its level of the tree.
+    pub last_node: bool,
     /// The message.
     pub message: Vec<u8>,
 }

@@ -12,8 +12,24 @@ const INPUT_BYTES: usize = (1 << 20) + 1;
 
 // KIND; the line of `sum` over the input; and the digest of what `steps` prints over it.
 const DIGESTS: &str = "\
-b512|25cc597182fb9b2840c188ae8a2007569ec0b11ca2dfd9447d5eb94b15f9a0c791f40cff82758849a753b43d04f5f526916a7f22f58d6e1fa821a18d1b0cea15|ba782512d614cdf586cde39246f29debda06e28076897c476d3b91edb15dc6f2\n\
-s256|5b6a9e00d9e93e5e5702a6a6f6853905a79f10243d6883f9d49b5e32c43ff310|f506f03008633ed93b4adae5c5ca1cbb9a51ec0ae2958ae4766f69c7cc268be9\n\
+b512|25cc597182fb9b2840c188ae8a2007569ec0b11ca2dfd9447d5eb94b15f9a0c7\
+91f40cff82758849a753b43d04f5f526916a7f22f58d6e1fa821a18d1b0cea15|\
+ba782512d614cdf586cde39246f29debda06e28076897c476d3b91edb15dc6f2\n\
+s256|5b6a9e00d9e93e5e5702a6a6f6853905a79f10243d6883f9d49b5e32c43ff310|\
+f506f03008633ed93b4adae5c5ca1cbb9a51ec0ae2958ae4766f69c7cc268be9\n\
+";
+
+// LEAF, and the line of `tree b256` over the input: leaves of which many are read at once, few, and
+// none.
+const ROOTS: &str = "\
+1|f407bf53d3409f308fe0e894fdb3a448e5542b8c651cf28e9d2e90d145595883\n\
+64|1b6af88dbba72489483c4756533e1050f6c780af2f42784787c398987a7c71f5\n\
+1000|4f9e0d1124250152879c91ffa01a972c39f0260fa25ae8f0bc335c1c4659d11e\n\
+4096|a8552846bf0459c5db94f3734e1c20cb4c20cc41d11c96f33157c366f744d3b9\n\
+20000|ca12a7f82ecf90cedba466868b36f5babdd02fbcf6db0f83d2b1f1c545f75289\n\
+1048576|c246c4c8659b40d2c1900d2dd16ea16cdbedcb7791b32d6c2ef052348be2b6d1\n\
+1048577|07b740dbfd566e58e8e09c7d1d04598861d0664b6ff20973dc37331a60531c16\n\
+67108864|fdfeaf6df7e020f83b31b41a2b244efbcb97f99a917a024d2480e86d104f4248\n\
 ";
 
 // Byte i is i modulo 251.
@@ -50,6 +66,20 @@ fn takes_a_large_input(rt: HostRuntime) -> Result<(), Fail> {
     let words = format!(in alloc; "witness b512 {digits} {digits}")?;
     let run = run_over(alloc, words.as_str(), b"", None)?;
     check_run(&rt, "witness b512", run, 0, "none\n")
+}
+
+#[test]
+fn takes_a_large_input_as_a_tree(rt: HostRuntime) -> Result<(), Fail> {
+    let alloc = rt.alloc();
+    let input = large_input(alloc)?;
+    for row in ROOTS.lines() {
+        let (leaf, root) = row.split_once('|').ok_or("a row without a root")?;
+        let line = format!(in alloc; "{root}\n")?;
+        let words = format!(in alloc; "tree b256 {leaf}")?;
+        let run = run_over(alloc, words.as_str(), input.as_slice(), None)?;
+        check_run(&rt, words.as_str(), run, 0, line.as_str())?;
+    }
+    Ok(())
 }
 
 // A script of ten thousand lines, of which the one at this place, from 0, is another.

@@ -80,6 +80,8 @@ fn stop_at_their_first_failure(rt: HostRuntime) -> Result<(), Fail> {
         ("steps b512", "", 0),
         ("steps b512", "", 138),
         ("steps s256", "", 200),
+        ("tree b512 4", "abcde", 0),
+        ("tree b128 4", "abcde", 32),
         ("witness b0 61 62", "", 0),
         ("witness s0 61 62", "", 208),
         ("witness b512 61 62", "", 0),

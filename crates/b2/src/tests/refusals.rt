@@ -63,6 +63,33 @@ witness b512 6 62 63|wrong hex\n\
 witness b512 61 6g|wrong hex\n\
 witness b512 -- 61|wrong hex\n\
 witness b512 key=01 61|wrong hex\n\
+tree|wrong words\n\
+tree s256 4|wrong words\n\
+tree b0 4|wrong words\n\
+tree b512|wrong words\n\
+tree b512 0|wrong words\n\
+tree b512 04|wrong words\n\
+tree b512 00|wrong words\n\
+tree b512 +4|wrong words\n\
+tree b512 -4|wrong words\n\
+tree b512 4a|wrong words\n\
+tree b512 0x4|wrong words\n\
+tree b512 salt=00|wrong words\n\
+tree b512 4294967296|wrong words\n\
+tree b512 9999999999|wrong words\n\
+tree b512 18446744073709551620|wrong words\n\
+tree b512 4 key=01|wrong words\n\
+tree b512 4 key=|wrong words\n\
+tree b512 4 key=0|wrong words\n\
+tree b512 4 4|wrong words\n\
+tree b512 4 salt=01 key=01 salt=1|wrong words\n\
+tree b512 4 salt=01 salt=02|wrong words\n\
+tree b512 4 persona= persona=|wrong words\n\
+tree b512 4 salt=1|wrong hex\n\
+tree b512 4 salt=1 key=01|wrong hex\n\
+tree b512 4 persona=0g foo|wrong hex\n\
+tree b512 4 salt=0000000000000000000000000000000000|wrong length\n\
+tree b512 4 persona=0000000000000000000000000000000000|wrong length\n\
 ";
 
 #[test]

@@ -13,11 +13,11 @@ pub(super) fn check_wrong(
     check_run(rt, "script b512", run, 2, line)
 }
 
-const NOTHING: &str =
-    "786a02f742015903c6c6fd852552d272912f4740e15847618a86e217f71f5419d25e1031afee585313896444934eb04b903a685b1448b755d56f701afe9be2ce\n";
+const NOTHING: &str = "786a02f742015903c6c6fd852552d272912f4740e15847618a86e217f71f5419\
+    d25e1031afee585313896444934eb04b903a685b1448b755d56f701afe9be2ce\n";
 
-const ABC: &str =
-    "ba80a53f981c4d0d6a2797b69f12f6e94c212f14685ac4b74b12bb6fdbffa2d17d87c5392aab792dc252d5de4533cc9518d38aa8dbf1925ab92386edd4009923\n";
+const ABC: &str = "ba80a53f981c4d0d6a2797b69f12f6e94c212f14685ac4b74b12bb6fdbffa2d1\
+    7d87c5392aab792dc252d5de4533cc9518d38aa8dbf1925ab92386edd4009923\n";
 
 #[test]
 fn prints_digests_of_hashers(rt: HostRuntime) -> Result<(), Fail> {
@@ -48,7 +48,8 @@ fn prints_digests_of_macs(rt: HostRuntime) -> Result<(), Fail> {
     let alloc = rt.alloc();
     check_prints(
         &rt,
-        "script s256 key=000102030405060708090a0b0c0d0e0f101112131415161718191a1b1c1d1e1f persona=706572736f6e616c",
+        "script s256 key=000102030405060708090a0b0c0d0e0f101112131415161718191a1b1c1d1e1f \
+        persona=706572736f6e616c",
         b"u 0 61\nr 0\nd 0\nc 0\nf 1\n",
         &[(
             "25a4ee63b594aed3f88a971e1877ef7099534f9097291f88fb86c79b5e70d022\n",

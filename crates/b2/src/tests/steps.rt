@@ -65,7 +65,8 @@ fn prints_keyed_transcripts(rt: HostRuntime) -> Result<(), Fail> {
     )?;
     check_prints(
         &rt,
-        "steps s256 key=000102030405060708090a0b0c0d0e0f101112131415161718191a1b1c1d1e1f persona=706572736f6e616c",
+        "steps s256 key=000102030405060708090a0b0c0d0e0f101112131415161718191a1b1c1d1e1f \
+        persona=706572736f6e616c",
         b"",
         &[
             (

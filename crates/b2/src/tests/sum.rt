@@ -8,12 +8,14 @@ fn prints_digests(rt: HostRuntime) -> Result<(), Fail> {
         (
             "sum b512",
             "abc",
-            "ba80a53f981c4d0d6a2797b69f12f6e94c212f14685ac4b74b12bb6fdbffa2d17d87c5392aab792dc252d5de4533cc9518d38aa8dbf1925ab92386edd4009923\n",
+            "ba80a53f981c4d0d6a2797b69f12f6e94c212f14685ac4b74b12bb6fdbffa2d1\
+            7d87c5392aab792dc252d5de4533cc9518d38aa8dbf1925ab92386edd4009923\n",
         ),
         (
             "sum b512",
             "",
-            "786a02f742015903c6c6fd852552d272912f4740e15847618a86e217f71f5419d25e1031afee585313896444934eb04b903a685b1448b755d56f701afe9be2ce\n",
+            "786a02f742015903c6c6fd852552d272912f4740e15847618a86e217f71f5419\
+            d25e1031afee585313896444934eb04b903a685b1448b755d56f701afe9be2ce\n",
         ),
         ("sum b128", "abc", "cf4ab791c62b8d2b2109c90275287816\n"),
         (
@@ -30,7 +32,8 @@ fn prints_digests(rt: HostRuntime) -> Result<(), Fail> {
         (
             "sum b512 salt=",
             "abc",
-            "ba80a53f981c4d0d6a2797b69f12f6e94c212f14685ac4b74b12bb6fdbffa2d17d87c5392aab792dc252d5de4533cc9518d38aa8dbf1925ab92386edd4009923\n",
+            "ba80a53f981c4d0d6a2797b69f12f6e94c212f14685ac4b74b12bb6fdbffa2d1\
+            7d87c5392aab792dc252d5de4533cc9518d38aa8dbf1925ab92386edd4009923\n",
         ),
         (
             "sum b128 persona=706572736f6e616c",
@@ -38,7 +41,8 @@ fn prints_digests(rt: HostRuntime) -> Result<(), Fail> {
             "5a5eb0aecc053af1ce6de25354c1c761\n",
         ),
         (
-            "sum s256 key=000102030405060708090A0B0C0D0E0F101112131415161718191a1b1c1d1e1f persona=706572736f6e616c",
+            "sum s256 key=000102030405060708090A0B0C0D0E0F101112131415161718191a1b1c1d1e1f \
+            persona=706572736f6e616c",
             "",
             "25a4ee63b594aed3f88a971e1877ef7099534f9097291f88fb86c79b5e70d022\n",
         ),
@@ -55,7 +59,8 @@ fn prints_digests(rt: HostRuntime) -> Result<(), Fail> {
         (
             "sum b512 salt=73616c74 persona=706572736f6e61 key=0102",
             "abc",
-            "8c19fe11f5256e230d9ec4157525ba0bec4d1964b519e03ee9cde9359702e09d9dc8a66d4233d379015791f4b8235f700d4489c0ed0801ea1cdbd492d3517e40\n",
+            "8c19fe11f5256e230d9ec4157525ba0bec4d1964b519e03ee9cde9359702e09d\
+            9dc8a66d4233d379015791f4b8235f700d4489c0ed0801ea1cdbd492d3517e40\n",
         ),
         (
             "sum s128 salt=73616c74 key=0102 persona=706572736f6e61",

@@ -4,7 +4,8 @@ use std::test::Fail;
 
 // The letter and the chaining words of the only step of a message, where the digest has no bytes.
 const B0: &str =
-    "s 6a09e667f2bdc908 bb67ae8584caa73b 3c6ef372fe94f82b a54ff53a5f1d36f1 510e527fade682d1 9b05688c2b3e6c1f 1f83d9abfb41bd6b 5be0cd19137e2179 ";
+    "s 6a09e667f2bdc908 bb67ae8584caa73b 3c6ef372fe94f82b a54ff53a5f1d36f1 510e527fade682d1 \
+    9b05688c2b3e6c1f 1f83d9abfb41bd6b 5be0cd19137e2179 ";
 
 const S0: &str = "s 6b08e667 bb67ae85 3c6ef372 a54ff53a 510e527f 9b05688c 1f83d9ab 5be0cd19 ";
 
@@ -63,7 +64,8 @@ fn prints_pairs(rt: HostRuntime) -> Result<(), Fail> {
 #[test]
 fn prints_pairs_of_equal_bytes(rt: HostRuntime) -> Result<(), Fail> {
     let b8 =
-        "s 6a09e667f2bdc909 bb67ae8584caa73b 3c6ef372fe94f82b a54ff53a5f1d36f1 510e527fade682d1 9b05688c2b3e6c1f 1f83d9abfb41bd6b 5be0cd19137e2179 2 1 ";
+        "s 6a09e667f2bdc909 bb67ae8584caa73b 3c6ef372fe94f82b a54ff53a5f1d36f1 510e527fade682d1 \
+        9b05688c2b3e6c1f 1f83d9abfb41bd6b 5be0cd19137e2179 2 1 ";
     check_prints(
         &rt,
         "witness b8 000b 000d",

@@ -3,10 +3,11 @@ ghost use Rattle.std.specs.Prelude.{◌≡◌, ℕ, ◌+◌, ◌-◌, ◌*◌, �
 ghost use Rattle.std.specs.Prelude.{replicate};
 ghost use Rattle.blake2_rows.specs.Family.{blake2b};
 ghost use Rattle.blake2_digest.specs.Blocks.{block_count};
-ghost use Rattle.blake2.specs.Cores.{completed, last_output, core_restarted, core_wiped};
+ghost use Rattle.blake2.specs.Cores.{completed, last_output, core_restarted, core_node_set};
+ghost use Rattle.blake2.specs.Cores.{core_wiped};
 
 use crate::cores::blake2b::Blake2bVarCore;
-use blake2_digest::{Duplicate, LazyBuffer, Reset, UpdateCore, VariableOutputCore, Wipe};
+use blake2_digest::{Duplicate, LastNode, LazyBuffer, Reset, UpdateCore, VariableOutputCore, Wipe};
 
 // Takes the pending bytes as the last block, and writes the first `N` bytes of the output.
 fn write_output<const N: usize>(
@@ -99,6 +100,14 @@ impl Blake2bContext {
         write_output(&mut self.core, &mut self.buffer, out);
         self.core.reset();
         self.buffer = start_block;
+    }
+
+    /// Sets the last-node flag, and changes nothing else.
+    pub(crate) fn set_last_node(&mut self, on: bool)
+        ensures core { self.new.core ≡ core_node_set self.old.core on }
+        ensures pending { self.new.buffer ≡ self.old.buffer }
+    {
+        self.core.set_last_node(on);
     }
 
     /// Makes a compiler keep the zeros of `wipe`, as [`blake2_digest::settle`] does.

@@ -1,15 +1,16 @@
 //! The block core of BLAKE2b.
-ghost use Rattle.std.specs.Prelude.{◌≡◌, ⊤, ℕ, ◌+◌, ◌^◌, ◌<◌, ◌≤◌, ◌↔◌, List, [], ◌∷◌, length};
-ghost use Rattle.std.specs.Prelude.{IfOk, IsErr};
+ghost use Rattle.std.specs.Prelude.{◌≡◌, ⊤, ℕ, ◌+◌, ◌^◌, ◌<◌, ◌≤◌, ◌↔◌, false, List, [], ◌∷◌};
+ghost use Rattle.std.specs.Prelude.{length, IfOk, IsErr, IsTrue};
 ghost use Rattle.blake2_rows.specs.Family.{blake2b};
-ghost use Rattle.blake2_words.specs.Hash.{parameters_of};
+ghost use Rattle.blake2_words.specs.Hash.{AdmitsTree, parameters_of};
+ghost use Rattle.blake2_words.specs.Views.{tree_of};
 ghost use Rattle.blake2.specs.Cores.{CoreState, absorbed, completed, last_output, core_made};
-ghost use Rattle.blake2.specs.Cores.{core_restarted, core_wiped};
+ghost use Rattle.blake2.specs.Cores.{node_parameters, core_restarted, core_node_set, core_wiped};
 ghost use Rattle.blake2.specs.CoreLaws.{absorbed-append, absorbed-nil, count-absorbed};
 
 use blake2_digest::{
-    AlgorithmName, BlockSizeUser, BufferKindUser, Duplicate, HashMarker, InvalidOutputSize, Lazy,
-    LazyBuffer, OutputSizeUser, Reset, TruncSide, UpdateCore, VariableOutputCore,
+    AlgorithmName, BlockSizeUser, BufferKindUser, Duplicate, HashMarker, InvalidOutputSize,
+    LastNode, Lazy, LazyBuffer, OutputSizeUser, Reset, TruncSide, UpdateCore, VariableOutputCore,
     VariableOutputCoreCustomized, Wipe, ZeroizeOnDrop,
 };
 use blake2_rows::rows::u64x4;
@@ -27,6 +28,8 @@ pub struct Blake2bVarCore {
     start: [u64x4; 2],
     // The bytes of the blocks that were compressed.
     counter: u64,
+    // Whether this is the last node of its level in a tree of hashes.
+    last_node: bool,
 }
 
 impl Model for Blake2bVarCore {
@@ -35,14 +38,26 @@ impl Model for Blake2bVarCore {
 
     ghost Value = { CoreState };
 
-    ghost view = { λ core.
-        record { h = eight core.h; start = eight core.start; count = core.counter } };
+    ghost view = { λ core. record {
+      h = eight core.h;
+      start = eight core.start;
+      count = core.counter;
+      last_node = core.last_node;
+    } };
 }
 
 impl Blake2bVarCore {
+    /// Whether BLAKE2b takes this place in a tree of hashes: at least one level, an inner node's
+    /// digest of at most 64 bytes (the BLAKE2 document, 2.8 and 2.10).
+    pub fn admits_tree(tree: &Tree) -> bool
+        ensures { IsTrue result ↔ AdmitsTree blake2b (tree_of tree.now) }
+    {
+        params::admits_tree(tree)
+    }
+
     /// A core under these parameters: a salt and a persona of up to 16 bytes each, the length in
     /// bytes of a key of up to 64, and that of outputs of up to 64. The key's block is the caller's
-    /// to give.
+    /// to give. The hash is the whole tree.
     pub fn new_with_params(salt: &[u8], persona: &[u8], key_size: usize, output_size: usize) -> Self
         requires salt { length salt.now ≤ 16 }
         requires persona { length persona.now ≤ 16 }
@@ -51,30 +66,55 @@ impl Blake2bVarCore {
         ensures { result
             ≡ core_made blake2b (parameters_of output_size key_size salt.now persona.now) }
     {
+        let tree = Tree::sequential();
+        Self::new_with_tree(salt, persona, key_size, output_size, &tree)
+    }
+
+    /// A core of a node of a tree of hashes: under the parameters of `new_with_params`, and at this
+    /// place in the tree, one that `admits_tree` takes (the BLAKE2 document, 2.10). The last-node
+    /// flag is off.
+    pub fn new_with_tree(
+        salt: &[u8],
+        persona: &[u8],
+        key_size: usize,
+        output_size: usize,
+        tree: &Tree,
+    ) -> Self
+        requires salt { length salt.now ≤ 16 }
+        requires persona { length persona.now ≤ 16 }
+        requires key_size { key_size ≤ 64 }
+        requires output_size { output_size ≤ 64 }
+        requires tree { AdmitsTree blake2b (tree_of tree.now) }
+        ensures { result ≡ core_made blake2b
+            (node_parameters output_size key_size salt.now persona.now (tree_of tree.now)) }
+    {
         let start = params::start_rows(&Parameters {
             output_size,
             key_size,
             salt,
             persona,
-            tree: Tree::sequential(),
+            tree: *tree,
         });
         Blake2bVarCore {
             h: start,
             start,
             counter: 0,
+            last_node: false,
         }
     }
 
     /// The core that holds these chaining words, was started from those, and has counted so many
-    /// bytes.
+    /// bytes. Its last-node flag is off.
     #[inline]
     pub fn from_words(h: &[u64; 8], start: &[u64; 8], counter: u64) -> Self
-        ensures { result ≡ record { h = h.now; start = start.now; count = counter } }
+        ensures { result
+            ≡ record { h = h.now; start = start.now; count = counter; last_node = false } }
     {
         Blake2bVarCore {
             h: words::to_rows(h),
             start: words::to_rows(start),
             counter,
+            last_node: false,
         }
     }
 
@@ -177,7 +217,8 @@ impl VariableOutputCore<128, 64> for Blake2bVarCore {
         self.counter += buffer.get_pos() as u64;
         let counter = self.counter;
         let block = buffer.padded();
-        words::compress(&mut self.h, &block, counter, Flags::FINAL);
+        let flags = Flags::last_block(self.last_node);
+        words::compress(&mut self.h, &block, counter, flags);
         buffer.reset();
         *out = words::to_bytes(&self.h);
     }
@@ -198,6 +239,16 @@ impl VariableOutputCoreCustomized for Blake2bVarCore {
     }
 }
 
+impl LastNode for Blake2bVarCore {
+    ghost is_node_set = { λ old on new. new ≡ core_node_set old on };
+
+    fn set_last_node(&mut self, on: bool)
+        ensures { self.new ≡ core_node_set self.old on }
+    {
+        self.last_node = on;
+    }
+}
+
 impl Reset for Blake2bVarCore {
     ghost is_reset = { λ old new. new ≡ core_restarted old };
 
@@ -213,6 +264,7 @@ impl Duplicate for Blake2bVarCore {
             h: self.h,
             start: self.start,
             counter: self.counter,
+            last_node: self.last_node,
         }
     }
 }
@@ -236,6 +288,7 @@ impl Wipe for Blake2bVarCore {
         self.h = wiped;
         self.start = wiped;
         self.counter = 0;
+        self.last_node = false;
     }
 }
 
@@ -246,6 +299,7 @@ impl Drop for Blake2bVarCore {
             h: _,
             start: _,
             counter: _,
+            last_node: _,
         } = self;
     }
 }

@@ -3,15 +3,18 @@ ghost use Rattle.std.specs.Prelude.{◌≡◌, ⊤, ℕ, ◌+◌, ◌-◌, ◌*�
 ghost use Rattle.std.specs.Prelude.{None};
 ghost use Rattle.std.proofs.Common.{arith};
 ghost use Rattle.blake2_rows.specs.Family.{blake2s};
+ghost use Rattle.blake2_words.specs.Hash.{AdmitsTree, sequential};
+ghost use Rattle.blake2_words.specs.Views.{tree_of};
 ghost use Rattle.blake2_digest.specs.Blocks.{block_count};
-ghost use Rattle.blake2.specs.States.{digest_of as blake2_of};
+ghost use Rattle.blake2.specs.States.{node_digest_of};
 
 use crate::contexts::blake2s::Blake2sContext;
 use crate::cores::blake2s::Blake2sVarCore;
 use blake2_digest::{
     BlockSizeUser, CustomizedInit, Digest, Duplicate, FixedOutput, FixedOutputReset, HashMarker,
-    LazyBuffer, OutputSizeUser, Reset, Update, Wipe, ZeroizeOnDrop,
+    LastNode, LazyBuffer, OutputSizeUser, Reset, Update, Wipe, ZeroizeOnDrop,
 };
+use blake2_words::params::Tree;
 use std::alloc::AllocError;
 
 /// BLAKE2s with digests of `N` bytes, at most 32, as the unkeyed hash function.
@@ -25,16 +28,32 @@ impl<const N: usize> Blake2s<N> {
     ghost use Rattle.blake2.specs.Hashers.{blake2s_meaning};
     ghost use Rattle.blake2_digest.specs.States.{Fresh};
 
-    // A hasher with this persona that has taken nothing.
-    fn with_persona(persona: &[u8]) -> Self
+    /// A hasher of a node of a tree of hashes that has taken nothing: with a salt and a persona of
+    /// up to 8 bytes each, at this place in the tree, one that `Blake2sVarCore::admits_tree` takes
+    /// (the BLAKE2 document, 2.10). Its last-node flag is off; [`LastNode::set_last_node`] sets it.
+    pub fn new_with_tree(salt: &[u8], persona: &[u8], tree: &Tree) -> Self
         requires supported { N ≤ 32 }
+        requires salt { length salt.now ≤ 8 }
         requires persona { length persona.now ≤ 8 }
-        ensures { Fresh (blake2s_meaning N) (blake2_of blake2s N [] persona.now None) 0 result }
+        requires tree { AdmitsTree blake2s (tree_of tree.now) }
+        ensures { Fresh (blake2s_meaning N)
+            (node_digest_of blake2s N salt.now persona.now None (tree_of tree.now)) 0 result }
     {
-        let core = Blake2sVarCore::new_with_params(&[], persona, 0, N);
+        let core = Blake2sVarCore::new_with_tree(salt, persona, 0, N, tree);
         Blake2s {
             context: Blake2sContext::new(core, LazyBuffer::default()),
         }
+    }
+
+    // A hasher with this persona that has taken nothing, of a hash which is the whole tree.
+    fn with_persona(persona: &[u8]) -> Self
+        requires supported { N ≤ 32 }
+        requires persona { length persona.now ≤ 8 }
+        ensures { Fresh (blake2s_meaning N)
+            (node_digest_of blake2s N [] persona.now None sequential) 0 result }
+    {
+        let tree = Tree::sequential();
+        Self::new_with_tree(&[], persona, &tree)
     }
 }
 
@@ -70,6 +89,19 @@ impl<const N: usize> FixedOutput<N> for Blake2s<N> {
     ghost output_fits = { λ s. Prim.omega (arith, s.supported) };
 }
 
+impl<const N: usize> LastNode for Blake2s<N> {
+    ghost use Rattle.blake2.specs.Hashers.{blake2s_meaning};
+    ghost use Rattle.blake2_digest.specs.States.{NodeSet};
+
+    ghost is_node_set = { NodeSet (blake2s_meaning N) };
+
+    fn set_last_node(&mut self, on: bool)
+        ensures { NodeSet (blake2s_meaning N) self.old on self.new }
+    {
+        self.context.set_last_node(on);
+    }
+}
+
 impl<const N: usize> Reset for Blake2s<N> {
     ghost use Rattle.blake2.specs.States.{IsRestarted};
     ghost use Rattle.blake2.specs.Hashers.{blake2s_state};
@@ -98,13 +130,13 @@ impl<const N: usize> CustomizedInit for Blake2s<N> {
 
     ghost can_customize = { λ persona. (N ≤ 32) × (length persona ≤ 8) };
 
-    ghost customized = { λ persona. blake2_of blake2s N [] persona None };
+    ghost customized = { λ persona. node_digest_of blake2s N [] persona None sequential };
 
     fn new_customized(customization: &[u8]) -> Self
         requires supported { N ≤ 32 }
         requires persona { length customization.now ≤ 8 }
         ensures { Fresh (blake2s_meaning N)
-            (blake2_of blake2s N [] customization.now None) 0 result }
+            (node_digest_of blake2s N [] customization.now None sequential) 0 result }
     {
         Self::with_persona(customization)
     }
@@ -116,11 +148,12 @@ impl<const N: usize> Digest<N> for Blake2s<N> {
 
     ghost is_supported = { N ≤ 32 };
 
-    ghost digest_of = { blake2_of blake2s N [] [] None };
+    ghost digest_of = { node_digest_of blake2s N [] [] None sequential };
 
     fn new() -> Self
         requires { N ≤ 32 }
-        ensures { Fresh (blake2s_meaning N) (blake2_of blake2s N [] [] None) 0 result }
+        ensures { Fresh (blake2s_meaning N)
+            (node_digest_of blake2s N [] [] None sequential) 0 result }
     {
         Self::with_persona(&[])
     }

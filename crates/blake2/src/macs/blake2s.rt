@@ -1,11 +1,12 @@
 //! The MAC of BLAKE2s.
 ghost use Rattle.std.specs.Prelude.{◌≡◌, ⊤, ℕ, ◌+◌, ◌-◌, ◌*◌, ◌^◌, ◌<◌, ◌≤◌, ◌↔◌, ◌⊎◌, List, []};
-ghost use Rattle.std.specs.Prelude.{length, None, Some, IfOk, IsErr};
+ghost use Rattle.std.specs.Prelude.{length, false, None, Some, IfOk, IsErr};
 ghost use Rattle.std.proofs.Common.{arith};
 ghost use Rattle.blake2_rows.specs.Family.{blake2s};
+ghost use Rattle.blake2_words.specs.Hash.{sequential};
 ghost use Rattle.blake2_words.specs.Views.{key_of};
 ghost use Rattle.blake2.specs.Keys.{key_count, IsRefused};
-ghost use Rattle.blake2.specs.States.{digest_of as blake2_of};
+ghost use Rattle.blake2.specs.States.{node_digest_of};
 
 use crate::contexts::blake2s::Blake2sContext;
 use crate::cores::blake2s::Blake2sVarCore;
@@ -24,6 +25,8 @@ pub struct Blake2sMac<const N: usize> {
     key_block: LazyBuffer<64>,
     ghost supported: { N ≤ 32 },
     ghost key_within_a_block: { length key_block ≤ 64 },
+    // A MAC is no node of a tree of hashes.
+    ghost no_last_node: { context.core.last_node ≡ false },
 }
 
 impl<const N: usize> Blake2sMac<N> {
@@ -41,7 +44,7 @@ impl<const N: usize> Blake2sMac<N> {
         requires { N ≤ 32 }
         ensures refused { IsErr result ↔ IsRefused blake2s (key_of key.entry) salt.now persona.now }
         ensures made { IfOk result (λ mac. Fresh (blake2s_mac_meaning N)
-            (blake2_of blake2s N salt.now persona.now (key_of key.entry))
+            (node_digest_of blake2s N salt.now persona.now (key_of key.entry) sequential)
             (key_count blake2s (key_of key.entry)) mac) }
     {
         if salt.len() > 8 || persona.len() > 8 {
@@ -65,7 +68,7 @@ impl<const N: usize> Blake2sMac<N> {
         requires salt { length salt.now ≤ 8 }
         requires persona { length persona.now ≤ 8 }
         ensures { Fresh (blake2s_mac_meaning N)
-            (blake2_of blake2s N salt.now persona.now (Some key.now)) 64 result }
+            (node_digest_of blake2s N salt.now persona.now (Some key.now) sequential) 64 result }
     {
         let mut block = padded::<64>(key);
         let core = Blake2sVarCore::new_with_params(salt, persona, key.len(), N);
@@ -84,7 +87,7 @@ impl<const N: usize> Blake2sMac<N> {
         requires salt { length salt.now ≤ 8 }
         requires persona { length persona.now ≤ 8 }
         ensures { Fresh (blake2s_mac_meaning N)
-            (blake2_of blake2s N salt.now persona.now None) 0 result }
+            (node_digest_of blake2s N salt.now persona.now None sequential) 0 result }
     {
         let core = Blake2sVarCore::new_with_params(salt, persona, 0, N);
         Blake2sMac {
@@ -110,14 +113,14 @@ impl<const N: usize> KeyInit<32> for Blake2sMac<N> {
 
     ghost is_supported = { N ≤ 32 };
 
-    ghost keyed = { λ key. blake2_of blake2s N [] [] (Some key) };
+    ghost keyed = { λ key. node_digest_of blake2s N [] [] (Some key) sequential };
 
     ghost key_count = { 64 };
 
     fn new(key: &[u8; 32]) -> Self
         requires { N ≤ 32 }
         ensures { Fresh (blake2s_mac_meaning N)
-            (blake2_of blake2s N [] [] (Some key.now)) 64 result }
+            (node_digest_of blake2s N [] [] (Some key.now) sequential) 64 result }
     {
         Self::under_key(key, &[], &[])
     }
@@ -126,7 +129,8 @@ impl<const N: usize> KeyInit<32> for Blake2sMac<N> {
         requires { N ≤ 32 }
         ensures refused { IsErr result ↔ ((length key.now ≡ 0) ⊎ (32 < length key.now)) }
         ensures made { IfOk result (λ mac.
-            Fresh (blake2s_mac_meaning N) (blake2_of blake2s N [] [] (Some key.now)) 64 mac) }
+            Fresh (blake2s_mac_meaning N)
+            (node_digest_of blake2s N [] [] (Some key.now) sequential) 64 mac) }
     {
         Self::new_with_salt_and_personal(Some(key), &[], &[])
     }
@@ -167,13 +171,14 @@ impl<const N: usize> Reset for Blake2sMac<N> {
 
 impl<const N: usize> FixedOutputReset<N> for Blake2sMac<N> {
     ghost use Rattle.blake2.specs.Hashers.{blake2s_mac_state};
-    ghost use Rattle.blake2.specs.Restarts.{StartedAgain_by};
+    ghost use Rattle.blake2.specs.Restarts.{StartedAgain_by, StartedAgain_unflagged};
 
     fn finalize_into_reset(&mut self, out: &mut [u8; N]) {
         self.context.finish_reset(self.key_block.duplicate(), out);
     }
 
-    ghost reset_starts_again = { StartedAgain_by blake2s N blake2s_mac_state };
+    ghost reset_starts_again = { λ old new reset. StartedAgain_unflagged _ old new
+        (StartedAgain_by blake2s N blake2s_mac_state old new reset) };
 }
 
 impl<const N: usize> Mac<N> for Blake2sMac<N> {}

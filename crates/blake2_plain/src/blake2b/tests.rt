@@ -20,6 +20,26 @@ fn give(state: &State, out: &mut [u8]) -> bool {
     true
 }
 
+// Sets the last-node flag where the state gives digests.
+fn mark(state: &mut State, on: bool) -> bool {
+    if !state.is_ready() {
+        return false;
+    }
+    state.set_last_node(on);
+    true
+}
+
+// A keyed node at this place, where the family has it.
+fn node(tree: &Tree) -> Option<State> {
+    if !State::admits_tree(tree) {
+        return None;
+    }
+    match State::new_with_tree(20, b"key", b"salt", b"persona", tree) {
+        Ok(state) => Some(state),
+        Err(_) => None,
+    }
+}
+
 // Goes back to the start where the state has one.
 fn start_again(state: &mut State) -> bool {
     if !state.is_ready() {
@@ -79,6 +99,35 @@ fn from_a_node_of_a_tree(rt: HostRuntime) -> Result<(), AllocError> {
     let wanted = "89ac394621e9b04625bc4da49cd8976f9feec66402217e136b26c7e9f40f08be\
         4ba126114472d1aea920e9c6a2f2d3ad577c1e7aedd5d5ac266b3b177dcbb444";
     assert_eq!(rt; hex::encode(rt.alloc(), &out[..])?.as_str(), wanted);
+    Ok(())
+}
+
+#[test]
+fn a_keyed_node_of_a_tree(rt: HostRuntime) -> Result<(), AllocError> {
+    let mut tree = Tree {
+        fanout: 2,
+        depth: 3,
+        leaf_length: 4096,
+        node_offset: 5,
+        node_depth: 1,
+        inner_length: 64,
+    };
+    let Some(mut state) = node(&tree) else {
+        assert!(rt; false);
+        return Ok(());
+    };
+    let mut out = [0; 20];
+    assert!(rt; take(&mut state, b"abc") && give(&state, &mut out));
+    let wanted = "175b5f9bce20ac14476a90f58f14b6495b14ae81";
+    assert_eq!(rt; hex::encode(rt.alloc(), &out[..])?.as_str(), wanted);
+    // The last node of its level, also after a reset, which keeps the flag.
+    let wanted = "12442b5f86379fe8f3a95801253b0b71e42bcacd";
+    assert!(rt; mark(&mut state, true) && give(&state, &mut out));
+    assert_eq!(rt; hex::encode(rt.alloc(), &out[..])?.as_str(), wanted);
+    assert!(rt; start_again(&mut state) && take(&mut state, b"abc") && give(&state, &mut out));
+    assert_eq!(rt; hex::encode(rt.alloc(), &out[..])?.as_str(), wanted);
+    tree.depth = 0;
+    assert!(rt; node(&tree).is_none());
     Ok(())
 }
 

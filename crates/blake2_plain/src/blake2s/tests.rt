@@ -20,6 +20,26 @@ fn give(state: &State, out: &mut [u8]) -> bool {
     true
 }
 
+// Sets the last-node flag where the state gives digests.
+fn mark(state: &mut State, on: bool) -> bool {
+    if !state.is_ready() {
+        return false;
+    }
+    state.set_last_node(on);
+    true
+}
+
+// A keyed node at this place, where the family has it.
+fn node(tree: &Tree) -> Option<State> {
+    if !State::admits_tree(tree) {
+        return None;
+    }
+    match State::new_with_tree(20, b"key", b"salt", b"persona", tree) {
+        Ok(state) => Some(state),
+        Err(_) => None,
+    }
+}
+
 // Goes back to the start where the state has one.
 fn start_again(state: &mut State) -> bool {
     if !state.is_ready() {
@@ -78,6 +98,35 @@ fn from_a_node_of_a_tree(rt: HostRuntime) -> Result<(), AllocError> {
     assert!(rt; take(&mut state, b"abc") && give(&state, &mut out));
     let wanted = "4e3f59091cd7e7a9fed4ff8c600e8b6f834d33efb2ebaabe2a1cc11ee44378ee";
     assert_eq!(rt; hex::encode(rt.alloc(), &out[..])?.as_str(), wanted);
+    Ok(())
+}
+
+#[test]
+fn a_keyed_node_of_a_tree(rt: HostRuntime) -> Result<(), AllocError> {
+    let mut tree = Tree {
+        fanout: 2,
+        depth: 3,
+        leaf_length: 4096,
+        node_offset: 5,
+        node_depth: 1,
+        inner_length: 32,
+    };
+    let Some(mut state) = node(&tree) else {
+        assert!(rt; false);
+        return Ok(());
+    };
+    let mut out = [0; 20];
+    assert!(rt; take(&mut state, b"abc") && give(&state, &mut out));
+    let wanted = "55e4285ff1ff765463e13a3e9a7a826dc915fd78";
+    assert_eq!(rt; hex::encode(rt.alloc(), &out[..])?.as_str(), wanted);
+    // The last node of its level, also after a reset, which keeps the flag.
+    let wanted = "244118f9b5727c41d2c3bda67bcb465d9df59cc4";
+    assert!(rt; mark(&mut state, true) && give(&state, &mut out));
+    assert_eq!(rt; hex::encode(rt.alloc(), &out[..])?.as_str(), wanted);
+    assert!(rt; start_again(&mut state) && take(&mut state, b"abc") && give(&state, &mut out));
+    assert_eq!(rt; hex::encode(rt.alloc(), &out[..])?.as_str(), wanted);
+    tree.depth = 0;
+    assert!(rt; node(&tree).is_none());
     Ok(())
 }
 

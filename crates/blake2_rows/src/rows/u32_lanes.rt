@@ -213,8 +213,8 @@ impl u32x4 {
         }
     }
 
-    // G in each lane, but for the last rotation of row d, by R3 bits: lane j of the six rows has the
-    // words of the j-th mixing.
+    // G in each lane, but for the last rotation of row d, by R3 bits: lane j of the six rows has
+    // the words of the j-th mixing.
     #[inline(always)]
     fn mix(a: Self, b: Self, c: Self, d: Self, x: Self, y: Self) -> (Self, Self, Self, Self)
         ensures { (j : ℕ) → j < 4 → in_lane j (rows_rotated blake2s result)

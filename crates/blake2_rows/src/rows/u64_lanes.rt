@@ -4,8 +4,9 @@ ghost use Rattle.std.specs.Prelude.{slice_index};
 ghost use mir.Val.{bits};
 ghost use Rattle.blake2_rows.specs.Family.{blake2b, word};
 ghost use Rattle.blake2_rows.specs.Round.{AreWords, mix, round};
-ghost use Rattle.blake2_rows.specs.Lanes.{in_lane};
-ghost use Rattle.blake2_rows.specs.Rows.{four, lane_sums, lane_xors, lane_rotations, shuffle_left};
+ghost use Rattle.blake2_rows.specs.Lanes.{columns_of_four, in_lane};
+ghost use Rattle.blake2_rows.specs.Rows.{four, lane, lane_sums, lane_xors, lane_rotations};
+ghost use Rattle.blake2_rows.specs.Rows.{shuffle_left};
 ghost use Rattle.blake2_rows.specs.Rows.{shuffle_right, word_at, lane_bytes, sixteen, columns};
 ghost use Rattle.blake2_rows.specs.Rows.{rows_rotated, last_row_rotated, shuffled_rows};
 
@@ -188,6 +189,21 @@ impl u64x4 {
         self.lanes.to_array()
     }
 
+    // Each lane rotated to the right by R3 bits, which are two whole bytes: a choice of its bytes.
+    #[inline(always)]
+    pub(super) fn rotate_bytes(self) -> Self
+        ensures { result ≡ lane_rotations blake2b self 16 }
+    {
+        let bytes = self.lanes.to_le_bytes();
+        let chosen = bytes.swizzle([
+            2, 3, 4, 5, 6, 7, 0, 1, 10, 11, 12, 13, 14, 15, 8, 9, 18, 19, 20, 21, 22, 23, 16, 17,
+            26, 27, 28, 29, 30, 31, 24, 25,
+        ]);
+        Self {
+            lanes: Simd::<u64, 4>::from_le_bytes(chosen),
+        }
+    }
+
     // Each lane rotated to the right by R3 bits, which are two whole bytes, and the lanes then
     // moved two places to the left: both at once, as one choice of bytes.
     #[inline(always)]
@@ -204,6 +220,40 @@ impl u64x4 {
         }
     }
 
+    /// Rows as columns: lane j of row k is lane k of the given row j.
+    #[inline(always)]
+    pub fn transpose(rows: [Self; 4]) -> [Self; 4]
+        ensures { (j k : ℕ) → j < 4 → k < 4 → lane result k j ≡ lane rows j k }
+    {
+        let [a, b, c, d] = rows;
+        Self::columns_of(a, b, c, d)
+    }
+
+    // The columns of four rows. Words are exchanged within halves of the vectors, and halves then.
+    #[inline(always)]
+    fn columns_of(a: Self, b: Self, c: Self, d: Self) -> [Self; 4]
+        ensures { result ≡ columns_of_four a b c d }
+    {
+        let ab_even = a.lanes.shuffle(b.lanes, [0, 4, 2, 6]);
+        let ab_odd = a.lanes.shuffle(b.lanes, [1, 5, 3, 7]);
+        let cd_even = c.lanes.shuffle(d.lanes, [0, 4, 2, 6]);
+        let cd_odd = c.lanes.shuffle(d.lanes, [1, 5, 3, 7]);
+        [
+            Self {
+                lanes: ab_even.shuffle(cd_even, [0, 1, 4, 5]),
+            },
+            Self {
+                lanes: ab_odd.shuffle(cd_odd, [0, 1, 4, 5]),
+            },
+            Self {
+                lanes: ab_even.shuffle(cd_even, [2, 3, 6, 7]),
+            },
+            Self {
+                lanes: ab_odd.shuffle(cd_odd, [2, 3, 6, 7]),
+            },
+        ]
+    }
+
     // The sum of three rows, lane by lane, modulo 2^64.
     #[inline(always)]
     fn sum_of(a: Self, b: Self, x: Self) -> Self
@@ -216,8 +266,8 @@ impl u64x4 {
         }
     }
 
-    // G in each lane, but for the last rotation of row d, by R3 bits: lane j of the six rows has the
-    // words of the j-th mixing.
+    // G in each lane, but for the last rotation of row d, by R3 bits: lane j of the six rows has
+    // the words of the j-th mixing.
     #[inline(always)]
     pub(super) fn mix(
         a: Self,

@@ -1,21 +1,14 @@
-//! Four states of BLAKE2b at once, one a lane: sixteen rows hold them, row k having word k of each.
+//! Four states of BLAKE2b at once, one a lane: sixteen rows hold them, row k having word k of
+//! each.
 ghost use Rattle.std.specs.Prelude.{◌≡◌, ℕ, ◌<◌, slice_index};
 ghost use Rattle.blake2_rows.specs.Family.{blake2b};
 ghost use Rattle.blake2_rows.specs.Round;
 ghost use Rattle.blake2_rows.specs.Round.{mix};
 ghost use Rattle.blake2_rows.specs.Lanes.{in_lane};
 
-use super::u64_lanes::{R3, u64x4};
+use super::u64_lanes::u64x4;
 
 impl u64x4 {
-    /// The row with this word in each lane.
-    #[inline(always)]
-    pub fn splat(word: u64) -> Self
-        ensures { (j : ℕ) → j < 4 → slice_index result j ≡ word }
-    {
-        Self::new(word, word, word, word)
-    }
-
     // G at the places `a`, `b`, `c` and `d` of each state, with lane j of `x` and of `y` in lane j
     // (RFC 7693, section 3.1).
     #[inline(always)]
@@ -28,11 +21,12 @@ impl u64x4 {
         v[a] = va;
         v[b] = vb;
         v[c] = vc;
-        v[d] = vd.rotate_right_const(R3);
+        v[d] = vd.rotate_bytes();
     }
 
-    /// One round on each of four states: row k of `v` has their words k, and row k of `m` the words k
-    /// of their blocks, taken in the order `s`, sixteen numbers below 16 (RFC 7693, section 3.2).
+    /// One round on each of four states: row k of `v` has their words k, and row k of `m` the
+    /// words k of their blocks, taken in the order `s`, sixteen numbers below 16 (RFC 7693,
+    /// section 3.2).
     #[inline(always)]
     pub fn round_each(v: &mut [Self; 16], m: &[Self; 16], s: &[usize; 16])
         requires { (j : ℕ) → j < 16 → slice_index s.now j < 16 }

@@ -1,5 +1,6 @@
 //! Lists of calls on a hasher whose digest is its count.
-ghost use Rattle.std.specs.Prelude.{◌≡◌, ℕ, ◌+◌, ◌%◌, ◌^◌, ◌<◌, List, [], ◌∷◌, ◌++◌, length, refl};
+ghost use Rattle.std.specs.Prelude.{◌≡◌, ℕ, ◌+◌, ◌%◌, ◌^◌, ◌<◌, false, List, [], ◌∷◌, ◌++◌, length};
+ghost use Rattle.std.specs.Prelude.{refl};
 ghost use Rattle.std.proofs.Common.{arith, rules, length-append};
 
 use super::*;
@@ -22,8 +23,9 @@ impl Drop for Tally {
 
 impl Update for Tally {
     ghost meaning = { record {
-      future = λ s y. (s.counted + length y) % 256 ∷ [];
-      started = λ s y. (s.start + length y) % 256 ∷ [];
+      future = λ s _ y. (s.counted + length y) % 256 ∷ [];
+      started = λ s _ y. (s.start + length y) % 256 ∷ [];
+      last_node = λ _. false;
       count = λ s. s.counted;
       start_count = λ s. s.start;
     } };
@@ -60,8 +62,9 @@ impl FixedOutputReset<1> for Tally {
     }
 
     ghost reset_starts_again = { λ old new reset. record {
-      future = λ y. Prim.rw reset.0 refl;
-      started = λ y. Prim.rw reset.1 refl;
+      future = λ _ y. Prim.rw reset.0 refl;
+      started = λ _ y. Prim.rw reset.1 refl;
+      last_node = refl;
       count = reset.0;
       start_count = reset.1;
     } };

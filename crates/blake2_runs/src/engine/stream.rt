@@ -3,7 +3,7 @@ ghost use Rattle.std.specs.Prelude.{◌≡◌, ◌≢◌, ◌↔◌, ℕ, ◌+�
 ghost use Rattle.std.specs.Prelude.{false, IsTrue, IsErr, IfOk, IfSome, OnOk, OnErr};
 ghost use Rattle.std.specs.Result.{IsErrOf};
 ghost use Rattle.std.specs.Io.KnownBytes.{Consumes, Appends, Keeps};
-ghost use Rattle.blake2_digest.specs.States.{Updated};
+ghost use Rattle.blake2_digest.specs.States.{Updated, digest_after};
 ghost use Rattle.blake2_digest.specs.Texts.{AreBytes};
 ghost use Rattle.blake2_runs.specs.Streams.{GivesAll, TakesPart, line_of};
 
@@ -57,7 +57,8 @@ where
     ensures whole { IfOk result (λ n. (bytes : List ℕ) × (length bytes ≡ n)
         × GivesAll (S.left source.old) (S.left source.new) bytes
         × (H.meaning.count hasher + n < 2 ^ 64)
-        × Appends (K.held sink.old) (K.held sink.new) (line_of (H.meaning.future hasher bytes))) }
+        × Appends (K.held sink.old) (K.held sink.new)
+        (line_of (digest_after H.meaning hasher bytes))) }
     ensures after_read { IsErrOf result StreamFault.Read
         → Keeps (K.held sink.old) (K.held sink.new) }
     ensures after_too_long { IsErrOf result StreamFault.TooLong → (bytes : List ℕ) × AreBytes bytes
@@ -67,7 +68,8 @@ where
     ensures after_write { IsErrOf result StreamFault.Write → (bytes : List ℕ)
         × GivesAll (S.left source.old) (S.left source.new) bytes
         × (H.meaning.count hasher + length bytes < 2 ^ 64)
-        × TakesPart (K.held sink.old) (K.held sink.new) (line_of (H.meaning.future hasher bytes)) }
+        × TakesPart (K.held sink.old) (K.held sink.new)
+        (line_of (digest_after H.meaning hasher bytes)) }
 {
     let total = absorb(source, &mut hasher)?;
     let mut digest = [0u8; N];

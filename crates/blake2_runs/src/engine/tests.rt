@@ -1,6 +1,6 @@
 //! The engine over devices that give little or fail, with a hash function of the tests' own: the
 //! value of the bytes as the digits of a number in base 31, modulo 2^32.
-ghost use Rattle.std.specs.Prelude.{◌≡◌, ◌+◌, ◌*◌, ◌%◌, ◌^◌, fold, IfOk};
+ghost use Rattle.std.specs.Prelude.{◌≡◌, ◌+◌, ◌*◌, ◌%◌, ◌^◌, false, fold, IfOk};
 ghost use Rattle.std.proofs.Common.{arith};
 ghost use Rattle.std.specs.Int.{to_be_bytes, w32};
 ghost use Rattle.blake2_runs.specs.Streams.{line_of};
@@ -23,8 +23,9 @@ struct Base31 {
 
 impl Update for Base31 {
     ghost meaning = { record {
-      future = λ s y. to_be_bytes w32 (fold (λ a b. (a * 31 % 2 ^ 32 + b) % 2 ^ 32) s.value y);
-      started = λ s y. to_be_bytes w32 (fold (λ a b. (a * 31 % 2 ^ 32 + b) % 2 ^ 32) 0 y);
+      future = λ s _ y. to_be_bytes w32 (fold (λ a b. (a * 31 % 2 ^ 32 + b) % 2 ^ 32) s.value y);
+      started = λ s _ y. to_be_bytes w32 (fold (λ a b. (a * 31 % 2 ^ 32 + b) % 2 ^ 32) 0 y);
+      last_node = λ _. false;
       count = λ s. s.count;
       start_count = λ s. 0;
     } };

@@ -37,6 +37,7 @@ fn step_at(chain: &[u32x4; 2], entry: &Entry<64>) -> Step<u32, 64>
         block: entry.block,
         counter: entry.counter,
         last: entry.last,
+        last_node: entry.last_node,
     }
 }
 
@@ -46,7 +47,10 @@ fn output_of(chain: &[u32x4; 2], entry: &Entry<64>) -> [u32x4; 2]
         ≡ output blake2s (Transcript.step_at (eight chain.now) (entry_of entry.now)) }
 {
     let mut after = *chain;
-    let flags = Flags { last: entry.last };
+    let flags = Flags {
+        last: entry.last,
+        last_node: entry.last_node,
+    };
     words::compress(&mut after, &entry.block, entry.counter, flags);
     after
 }

@@ -8,7 +8,8 @@ ghost use Rattle.blake2_words.specs.Views.{input_of};
 use crate::steps::Input;
 use blake2_rows::padded;
 
-// Salts and personas, with zeros up to S bytes, keys, trees and messages are equal.
+// Salts and personas, with zeros up to S bytes, keys, trees, last-node flags and messages are
+// equal.
 pub(crate) fn same<const S: usize>(a: &Input<'_>, b: &Input<'_>) -> bool
     ghost f: { Family }
     requires salt { salt_bytes f ≡ S }
@@ -20,6 +21,7 @@ pub(crate) fn same<const S: usize>(a: &Input<'_>, b: &Input<'_>) -> bool
     let personas = padded::<S>(a.persona) == padded::<S>(b.persona);
     let keys = a.key == b.key;
     let trees = a.tree == b.tree;
+    let last_nodes = a.last_node == b.last_node;
     let messages = a.message == b.message;
-    salts && personas && keys && trees && messages
+    salts && personas && keys && trees && last_nodes && messages
 }

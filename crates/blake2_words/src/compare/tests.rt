@@ -2,7 +2,7 @@
 //! 2.5).
 
 use super::{blake2b, blake2s};
-use crate::steps::{self, Input, Tree};
+use crate::steps::{self, Input, Step, Tree};
 use std::process::Abort;
 use std::test::Fail;
 
@@ -12,6 +12,7 @@ fn unkeyed<'a>(message: &'a [u8]) -> Input<'a> {
         persona: b"",
         key: None,
         tree: Tree::sequential(),
+        last_node: false,
         message,
     }
 }
@@ -38,6 +39,50 @@ fn witnesses_of_blake2b(rt: HostRuntime) -> Result<(), Fail> {
     assert_eq!(rt; (x.counter, y.counter), (128, 129));
     assert_eq!(rt; (x.last, y.last), (true, true));
     assert_eq!(rt; (y.block[0], y.block[1]), (0x2a, 0));
+    Ok(())
+}
+
+// Two inputs that differ in their place in a tree alone: in the last-node flag, and in the node
+// offset.
+#[test]
+fn witnesses_in_trees_of_blake2b(rt: HostRuntime) -> Result<(), Fail> {
+    let a = unkeyed(b"a");
+    let last = Input {
+        last_node: true,
+        ..a
+    };
+    let next = Input {
+        tree: Tree {
+            node_offset: 1,
+            ..Tree::sequential()
+        },
+        ..a
+    };
+    assert!(rt; steps::blake2b::accepts(&a));
+    assert!(rt; steps::blake2b::accepts(&last) && steps::blake2b::accepts(&next));
+    let Some((x, y)) = blake2b::witness(rt.alloc(), &a, &last, 0)? else {
+        return Err(Fail::from("no witness of the flag"));
+    };
+    assert_eq!(rt;
+        (x.counter, x.block[0], x.last, x.last_node),
+        (1, 0x61, true, false)
+    );
+    assert!(rt;
+        y == Step {
+            last_node: true,
+            ..x
+        }
+    );
+    let Some((x, y)) = blake2b::witness(rt.alloc(), &a, &next, 0)? else {
+        return Err(Fail::from("no witness of the offset"));
+    };
+    assert_eq!(rt;
+        (x.chain[1], y.chain[1]),
+        (0xbb67ae8584caa73b, 0xbb67ae8584caa73a)
+    );
+    let mut chain = x.chain;
+    chain[1] = 0xbb67ae8584caa73a;
+    assert!(rt; y == Step { chain, ..x });
     Ok(())
 }
 

@@ -1,17 +1,19 @@
 //! Four messages of BLAKE2b: eight rows hold their chaining words, row k having word k of each.
 
-ghost use Rattle.std.specs.Prelude.{◌≡◌, ◌↔◌, ◌<◌, ◌≤◌, ◌-◌, ℕ, List, [], ◌++◌, IsTrue, length};
-ghost use Rattle.std.specs.Prelude.{bit_xor, map, take, drop, slice_index, slice_index_or};
-ghost use Rattle.blake2_rows.specs.Family.{blake2b, output_bytes};
+ghost use Rattle.std.specs.Prelude.{◌≡◌, ◌↔◌, ◌<◌, ◌≤◌, ◌+◌, ◌-◌, ◌%◌, ℕ, List, [], ◌++◌};
+ghost use Rattle.std.specs.Prelude.{IsTrue, length, bit_xor, map, take, drop};
+ghost use Rattle.std.specs.Prelude.{slice_index, slice_index_or};
+ghost use Rattle.blake2_rows.specs.Family.{blake2b, output_bytes, sigma};
 ghost use Rattle.blake2_rows.specs.Lanes.{in_lane};
-ghost use Rattle.blake2_rows.specs.Rows.{eight};
+ghost use Rattle.blake2_rows.specs.Round;
+ghost use Rattle.blake2_rows.specs.Rows.{eight, lane};
 ghost use Rattle.blake2_words.specs.Hash;
 ghost use Rattle.blake2_words.specs.Hash.{after_rounds, before_rounds, blocks, bytes_of, chain};
 ghost use Rattle.blake2_words.specs.Hash.{digest};
-ghost use Rattle.blake2_words.specs.Hash.{final, input_data, input_start, last_chain, words_of};
-ghost use Rattle.blake2_words.specs.Hash.{xor_words};
+ghost use Rattle.blake2_words.specs.Hash.{input_data, input_flags, input_start, last_chain};
+ghost use Rattle.blake2_words.specs.Hash.{words_of, xor_words};
 ghost use Rattle.blake2_words.specs.Inputs.{Accepts};
-ghost use Rattle.blake2_words.specs.Lanes.{AcceptsAtOnce, input_at, texts};
+ghost use Rattle.blake2_words.specs.Lanes.{AcceptsAtOnce, flags_at, input_at, texts};
 ghost use Rattle.blake2_words.specs.Run;
 ghost use Rattle.blake2_words.specs.Views.{given_flags, input_of};
 
@@ -35,6 +37,30 @@ fn row<const N: usize>(words: &[[u64; N]; 4], k: usize) -> u64x4
     u64x4::new(words[0][k], words[1][k], words[2][k], words[3][k])
 }
 
+// The four words of a block from word k on.
+#[inline(always)]
+fn four_words(words: &[u64; 16], k: usize) -> u64x4
+    requires { k ≤ 12 }
+    ensures { (i : ℕ) → i < 4 → slice_index result i ≡ slice_index words.now (k + i) }
+{
+    u64x4::new(words[k], words[k + 1], words[k + 2], words[k + 3])
+}
+
+// Row i of the answer has the words k + i of four blocks.
+#[inline(always)]
+fn rows_from(words: &[[u64; 16]; 4], k: usize) -> [u64x4; 4]
+    requires { k ≤ 12 }
+    ensures { (i j : ℕ) → i < 4 → j < 4
+        → lane result i j ≡ slice_index (slice_index_or words.now j []) (k + i) }
+{
+    u64x4::transpose([
+        four_words(&words[0], k),
+        four_words(&words[1], k),
+        four_words(&words[2], k),
+        four_words(&words[3], k),
+    ])
+}
+
 // The rows of the words of four blocks.
 #[inline(always)]
 fn block_rows(blocks: &[&[u8; 128]; 4]) -> [u64x4; 16]
@@ -47,45 +73,53 @@ fn block_rows(blocks: &[&[u8; 128]; 4]) -> [u64x4; 16]
         block_words(blocks[2]),
         block_words(blocks[3]),
     ];
+    let a = rows_from(&m, 0);
+    let b = rows_from(&m, 4);
+    let c = rows_from(&m, 8);
+    let d = rows_from(&m, 12);
     [
-        row(&m, 0),
-        row(&m, 1),
-        row(&m, 2),
-        row(&m, 3),
-        row(&m, 4),
-        row(&m, 5),
-        row(&m, 6),
-        row(&m, 7),
-        row(&m, 8),
-        row(&m, 9),
-        row(&m, 10),
-        row(&m, 11),
-        row(&m, 12),
-        row(&m, 13),
-        row(&m, 14),
-        row(&m, 15),
+        a[0], a[1], a[2], a[3], b[0], b[1], b[2], b[3], c[0], c[1], c[2], c[3], d[0], d[1], d[2],
+        d[3],
     ]
 }
 
-// The words 8 to 15 before the first round: IV with the counter xored into its fifth and sixth word,
-// which for 64 bits is into the fifth alone, and all ones into its seventh in the last block.
+// The words 8 to 15 before the first round: IV with the counter xored into its fifth and sixth
+// word, which for 64 bits is into the fifth alone, and all ones into its seventh where the final
+// flag is on, and into its eighth where the last-node flag is.
 #[tactic(auto, unfolding(crate::specs::Hash::before_rounds, crate::specs::Hash::xor_words))]
 #[inline(always)]
 fn last_words(counter: u64, flags: Flags) -> [u64; 8]
     ensures { (h : List ℕ) → h ++ result ≡ before_rounds blake2b h counter (given_flags flags) }
 {
     let [v8, v9, v10, v11, v12, v13, v14, v15] = BLAKE2B_IV;
-    let ones = if flags.last { u64::MAX } else { 0 };
-    [v8, v9, v10, v11, v12 ^ counter, v13, v14 ^ ones, v15]
+    let last = if flags.last { u64::MAX } else { 0 };
+    let last_node = if flags.last_node { u64::MAX } else { 0 };
+    [
+        v8,
+        v9,
+        v10,
+        v11,
+        v12 ^ counter,
+        v13,
+        v14 ^ last,
+        v15 ^ last_node,
+    ]
 }
 
-// The rows before the first round: the chaining words, and the same last words in each lane.
+// The rows before the first round: the chaining words, and in each lane the last words under its
+// flags.
 #[inline(always)]
-fn begin(h: &[u64x4; 8], counter: u64, flags: Flags) -> [u64x4; 16]
+fn begin(h: &[u64x4; 8], counter: u64, flags: &[Flags; 4]) -> [u64x4; 16]
     ensures { (j : ℕ) → j < 4
-        → in_lane j result ≡ before_rounds blake2b (in_lane j h.now) counter (given_flags flags) }
+        → in_lane j result
+        ≡ before_rounds blake2b (in_lane j h.now) counter (flags_at flags.now j) }
 {
-    let w = last_words(counter, flags);
+    let w = [
+        last_words(counter, flags[0]),
+        last_words(counter, flags[1]),
+        last_words(counter, flags[2]),
+        last_words(counter, flags[3]),
+    ];
     [
         h[0],
         h[1],
@@ -95,26 +129,49 @@ fn begin(h: &[u64x4; 8], counter: u64, flags: Flags) -> [u64x4; 16]
         h[5],
         h[6],
         h[7],
-        u64x4::splat(w[0]),
-        u64x4::splat(w[1]),
-        u64x4::splat(w[2]),
-        u64x4::splat(w[3]),
-        u64x4::splat(w[4]),
-        u64x4::splat(w[5]),
-        u64x4::splat(w[6]),
-        u64x4::splat(w[7]),
+        row(&w, 0),
+        row(&w, 1),
+        row(&w, 2),
+        row(&w, 3),
+        row(&w, 4),
+        row(&w, 5),
+        row(&w, 6),
+        row(&w, 7),
     ]
 }
 
-// The rounds, each with the words in the order of a row of SIGMA (RFC 7693, 2.7).
+// The round that comes after `i` others, which takes the words of the blocks in the order of a row
+// of SIGMA (RFC 7693, 2.7).
+#[inline(always)]
+fn round_at(v: &mut [u64x4; 16], m: &[u64x4; 16], i: usize)
+    ensures { (j : ℕ) → j < 4 → in_lane j v.new
+        ≡ Round.round blake2b (in_lane j v.old) (in_lane j m.now)
+        (slice_index_or sigma (i % 10) []) }
+{
+    u64x4::round_each(v, m, &SIGMA[i % 10]);
+}
+
+// The twelve rounds. They are written out, since a loop would look up in SIGMA, as it runs, where
+// each word of the blocks stands, and work on rows of its own, which stay in registers.
 #[inline(always)]
 fn rounds(v: &mut [u64x4; 16], m: &[u64x4; 16])
     ensures { (j : ℕ) → j < 4
         → in_lane j v.new ≡ after_rounds blake2b (in_lane j v.old) (in_lane j m.now) 12 }
 {
-    for i in 0..12 {
-        u64x4::round_each(v, m, &SIGMA[i % 10]);
-    }
+    let mut rows = *v;
+    round_at(&mut rows, m, 0);
+    round_at(&mut rows, m, 1);
+    round_at(&mut rows, m, 2);
+    round_at(&mut rows, m, 3);
+    round_at(&mut rows, m, 4);
+    round_at(&mut rows, m, 5);
+    round_at(&mut rows, m, 6);
+    round_at(&mut rows, m, 7);
+    round_at(&mut rows, m, 8);
+    round_at(&mut rows, m, 9);
+    round_at(&mut rows, m, 10);
+    round_at(&mut rows, m, 11);
+    *v = rows;
 }
 
 // The exclusive or of three rows.
@@ -130,7 +187,8 @@ fn xor(a: u64x4, b: u64x4, c: u64x4) -> u64x4
 #[inline(always)]
 fn finish(h: &[u64x4; 8], v: &[u64x4; 16]) -> [u64x4; 8]
     ensures { (j : ℕ) → j < 4 → in_lane j result
-        ≡ xor_words (xor_words (in_lane j h.now) (take 8 (in_lane j v.now))) (drop 8 (in_lane j v.now)) }
+        ≡ xor_words (xor_words (in_lane j h.now) (take 8 (in_lane j v.now)))
+        (drop 8 (in_lane j v.now)) }
 {
     [
         xor(h[0], v[0], v[8]),
@@ -144,13 +202,14 @@ fn finish(h: &[u64x4; 8], v: &[u64x4; 16]) -> [u64x4; 8]
     ]
 }
 
-/// F, the compression (RFC 7693, 3.2), of four messages at once: `h` holds their chaining words, and
-/// block j is the next 128 bytes of message j. `counter` is the number of bytes counted of each of
-/// them up to and with its block, padding aside.
+/// F, the compression (RFC 7693, 3.2), of four messages at once: `h` holds their chaining words,
+/// and block j is the next 128 bytes of message j, under flags j. `counter` is the number of bytes
+/// counted of each of them up to and with its block, padding aside.
 #[inline]
-pub fn compress(h: &mut [u64x4; 8], blocks: &[&[u8; 128]; 4], counter: u64, flags: Flags)
+pub fn compress(h: &mut [u64x4; 8], blocks: &[&[u8; 128]; 4], counter: u64, flags: &[Flags; 4])
     ensures { (j : ℕ) → j < 4 → in_lane j h.new
-        ≡ Hash.compress blake2b (in_lane j h.old) (slice_index_or (texts blocks.now) j []) counter (given_flags flags) }
+        ≡ Hash.compress blake2b (in_lane j h.old) (slice_index_or (texts blocks.now) j [])
+        counter (flags_at flags.now j) }
 {
     let m = block_rows(blocks);
     let mut v = begin(h, counter, flags);
@@ -184,11 +243,19 @@ fn start(output_size: usize, inputs: &[Input<'_>; 4]) -> [u64x4; 8]
 }
 
 // Block i of each of four inputs, and their compression.
-fn compress_at(h: &mut [u64x4; 8], inputs: &[Input<'_>; 4], i: usize, counter: u64, flags: Flags)
+fn compress_at(
+    h: &mut [u64x4; 8],
+    inputs: &[Input<'_>; 4],
+    i: usize,
+    counter: u64,
+    flags: &[Flags; 4],
+)
     requires accepted { (j : ℕ) → j < 4 → Accepts blake2b (input_at inputs.now j) }
     requires within { (j : ℕ) → j < 4 → i < Run.step_count blake2b (input_at inputs.now j) }
     ensures { (j : ℕ) → j < 4 → in_lane j h.new
-        ≡ Hash.compress blake2b (in_lane j h.old) (slice_index_or (blocks blake2b (input_data blake2b (input_at inputs.now j))) i []) counter (given_flags flags) }
+        ≡ Hash.compress blake2b (in_lane j h.old)
+        (slice_index_or (blocks blake2b (input_data blake2b (input_at inputs.now j))) i [])
+        counter (flags_at flags.now j) }
 {
     let b0 = block_at(&inputs[0], i);
     let b1 = block_at(&inputs[1], i);
@@ -202,15 +269,19 @@ fn compress_at(h: &mut [u64x4; 8], inputs: &[Input<'_>; 4], i: usize, counter: u
 fn absorb_inner(h: &mut [u64x4; 8], inputs: &[Input<'_>; 4])
     requires accepted { (j : ℕ) → j < 4 → Accepts blake2b (input_at inputs.now j) }
     requires same_number { (j : ℕ) → j < 4
-        → Run.step_count blake2b (input_at inputs.now j) ≡ Run.step_count blake2b (input_at inputs.now 0) }
+        → Run.step_count blake2b (input_at inputs.now j)
+        ≡ Run.step_count blake2b (input_at inputs.now 0) }
     ensures { (j : ℕ) → j < 4 → in_lane j h.new
-        ≡ chain blake2b (in_lane j h.old) 0 (blocks blake2b (input_data blake2b (input_at inputs.now j))) (Run.step_count blake2b (input_at inputs.now 0) - 1) }
+        ≡ chain blake2b (in_lane j h.old) 0
+        (blocks blake2b (input_data blake2b (input_at inputs.now j)))
+        (Run.step_count blake2b (input_at inputs.now 0) - 1) }
 {
     let count = step_count::<128>(&inputs[0]);
     if count == 1 {
         return;
     }
-    compress_at(h, inputs, 0, 128, Flags::INNER);
+    let flags = [Flags::INNER; 4];
+    compress_at(h, inputs, 0, 128, &flags);
     let p0 = later_blocks(&inputs[0]);
     let p1 = later_blocks(&inputs[1]);
     let p2 = later_blocks(&inputs[2]);
@@ -220,22 +291,37 @@ fn absorb_inner(h: &mut [u64x4; 8], inputs: &[Input<'_>; 4])
             h,
             &[&p0[i], &p1[i], &p2[i], &p3[i]],
             (i as u64 + 2) * 128,
-            Flags::INNER,
+            &flags,
         );
     }
+}
+
+// The flags of the last compression of four inputs.
+fn last_flags(inputs: &[Input<'_>; 4]) -> [Flags; 4]
+    ensures { (j : ℕ) → j < 4 → flags_at result j ≡ input_flags (input_at inputs.now j) }
+{
+    [
+        Flags::last_block(inputs[0].last_node),
+        Flags::last_block(inputs[1].last_node),
+        Flags::last_block(inputs[2].last_node),
+        Flags::last_block(inputs[3].last_node),
+    ]
 }
 
 // Compresses all blocks of four inputs.
 fn absorb(h: &mut [u64x4; 8], inputs: &[Input<'_>; 4])
     requires accepted { (j : ℕ) → j < 4 → Accepts blake2b (input_at inputs.now j) }
     requires same_count { (j : ℕ) → j < 4
-        → length (input_data blake2b (input_at inputs.now j)) ≡ length (input_data blake2b (input_at inputs.now 0)) }
+        → length (input_data blake2b (input_at inputs.now j))
+        ≡ length (input_data blake2b (input_at inputs.now 0)) }
     ensures { (j : ℕ) → j < 4 → in_lane j h.new
-        ≡ last_chain blake2b (in_lane j h.old) 0 (input_data blake2b (input_at inputs.now j)) final }
+        ≡ last_chain blake2b (in_lane j h.old) 0 (input_data blake2b (input_at inputs.now j))
+        (input_flags (input_at inputs.now j)) }
 {
     absorb_inner(h, inputs);
     let last = step_count::<128>(&inputs[0]) as usize - 1;
-    compress_at(h, inputs, last, counted::<128>(&inputs[0]), Flags::FINAL);
+    let flags = last_flags(inputs);
+    compress_at(h, inputs, last, counted::<128>(&inputs[0]), &flags);
 }
 
 // The chaining words of message `j`.
@@ -273,8 +359,8 @@ fn output<const N: usize>(h: &[u64x4; 8], j: usize) -> [u8; N]
     bytes
 }
 
-/// Whether `hash_four` takes these inputs: each is one that `accepts` takes, and of each as many bytes are
-/// counted, those of its message and 128 where it has a key.
+/// Whether `hash_four` takes these inputs: each is one that `accepts` takes, and of each as many
+/// bytes are counted, those of its message and 128 where it has a key.
 pub fn accepts_four(inputs: &[Input<'_>; 4]) -> bool
     ensures { IsTrue result ↔ AcceptsAtOnce blake2b 4 inputs.now }
 {
@@ -293,8 +379,8 @@ pub fn accepts_four(inputs: &[Input<'_>; 4]) -> bool
     true
 }
 
-/// BLAKE2b of four inputs at once, in their order, N bytes of digest each, at most 64 (RFC 7693, 3.3).
-/// No memory is taken.
+/// BLAKE2b of four inputs at once, in their order, N bytes of digest each, at most 64 (RFC 7693,
+/// 3.3). No memory is taken.
 pub fn hash_four<const N: usize>(inputs: &[Input<'_>; 4]) -> [[u8; N]; 4]
     requires size { N ≤ output_bytes blake2b }
     requires accepted { AcceptsAtOnce blake2b 4 inputs.now }

@@ -109,6 +109,7 @@ pub(crate) fn entry_at<const B: usize>(input: &Input<'_>, i: u64) -> Entry<B>
             (i + 1) * B as u64
         },
         last,
+        last_node: last && input.last_node,
     }
 }
 

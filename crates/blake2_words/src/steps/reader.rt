@@ -42,7 +42,7 @@ fn is_inner<const B: usize>(entry: Entry<B>, i: u64) -> bool
     ensures inner { IsTrue result ↔ IsInner f i (entry_of entry.entry) }
     ensures whole { IsWhole f (entry_of entry.entry) }
 {
-    !entry.last && entry.counter == (i + 1) * B as u64
+    !entry.last && !entry.last_node && entry.counter == (i + 1) * B as u64
 }
 
 // Each entry is one that others follow.
@@ -169,6 +169,7 @@ pub(crate) fn reading<const B: usize, const S: usize>(
         persona: padded(told.persona),
         key,
         tree: told.tree,
+        last_node: entries[entries.len() - 1].last_node,
         message,
     })
 }

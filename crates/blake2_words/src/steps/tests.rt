@@ -5,6 +5,7 @@ ghost use Rattle.std.specs.Prelude.{◌<◌};
 
 use super::{Entry, Input, Reading, Transcript, Tree, blake2b, blake2s};
 use crate::laws;
+use crate::words::Flags;
 use std::process::Abort;
 use std::test::Fail;
 
@@ -16,6 +17,7 @@ fn keyed_blake2b_and_back(rt: HostRuntime) -> Result<(), Fail> {
         persona: b"0123456789abcdef",
         key: Some(&[1]),
         tree: Tree::sequential(),
+        last_node: false,
         message: &message,
     };
     assert!(rt; blake2b::accepts(&input));
@@ -52,10 +54,12 @@ fn keyed_blake2b_and_back(rt: HostRuntime) -> Result<(), Fail> {
         persona: _,
         key,
         tree,
+        last_node,
         message: read_message,
     } = read;
     assert_eq!(rt; read_message.as_slice(), message.as_slice());
     assert_eq!(rt; tree, Tree::sequential());
+    assert!(rt; !last_node);
     let Some(key) = key else {
         return Err(Fail::from("no key"));
     };
@@ -74,6 +78,7 @@ fn keyed_blake2s_and_back(rt: HostRuntime) -> Result<(), Fail> {
         persona: b"personal",
         key: Some(&key),
         tree: Tree::sequential(),
+        last_node: false,
         message: b"",
     };
     assert!(rt; blake2s::accepts(&input));
@@ -102,14 +107,15 @@ fn keyed_blake2s_and_back(rt: HostRuntime) -> Result<(), Fail> {
 fn of_two_blocks(
     rt: &HostRuntime,
     last_byte: u8,
-    both_last: bool,
+    first: Flags,
     counter: u64,
 ) -> Result<Transcript<u64, 128>, Fail> {
     let mut entries = Vec::new(rt.alloc());
     entries.push(Entry {
         block: [0x2a; 128],
         counter: 128,
-        last: both_last,
+        last: first.last,
+        last_node: first.last_node,
     })?;
     let mut block = [0; 128];
     block[0] = 0x2a;
@@ -118,6 +124,7 @@ fn of_two_blocks(
         block,
         counter,
         last: true,
+        last_node: false,
     })?;
     Ok(Transcript {
         words: [0x01010040, 0, 0, 0, 0, 0, 0, 0],
@@ -127,21 +134,79 @@ fn of_two_blocks(
 
 #[test]
 fn transcripts_of_no_input(rt: HostRuntime) -> Result<(), Fail> {
+    let of_last_node = Flags {
+        last: false,
+        last_node: true,
+    };
     let cases = [
-        (0, false, 129, true),
-        (1, false, 129, false),
-        (0, true, 129, false),
-        (0, false, 128, false),
+        (0, Flags::INNER, 129, true),
+        (1, Flags::INNER, 129, false),
+        (0, Flags::last_block(false), 129, false),
+        (0, of_last_node, 129, false),
+        (0, Flags::INNER, 128, false),
     ];
-    for (last_byte, both_last, counter, is_one) in cases {
-        let transcript = of_two_blocks(&rt, last_byte, both_last, counter)?;
+    for (last_byte, first, counter, is_one) in cases {
+        let transcript = of_two_blocks(&rt, last_byte, first, counter)?;
         let read = blake2b::read_transcript(rt.alloc(), &transcript)?;
+        let Flags { last, last_node } = first;
         assert_eq!(rt;
             read.is_some(),
             is_one,
-            "at {last_byte} {both_last} {counter}"
+            "at {last_byte} {last} {last_node} {counter}"
         );
     }
+    Ok(())
+}
+
+// The message `abc`, unkeyed, in a node that is the last on its level, or not.
+#[test]
+fn last_nodes_of_transcripts(rt: HostRuntime) -> Result<(), Fail> {
+    let mut block = [0; 128];
+    block[..3].copy_from_slice(b"abc");
+    for last_node in [false, true] {
+        let mut entries = Vec::new(rt.alloc());
+        entries.push(Entry {
+            block,
+            counter: 3,
+            last: true,
+            last_node,
+        })?;
+        let transcript = Transcript {
+            words: [0x01010040, 0, 0, 0, 0, 0, 0, 0],
+            entries,
+        };
+        let Some(read) = blake2b::read_transcript(rt.alloc(), &transcript)? else {
+            return Err(Fail::from("no reading"));
+        };
+        assert_eq!(rt; read.last_node, last_node);
+        assert_eq!(rt; read.tree, Tree::sequential());
+        assert_eq!(rt; read.message.as_slice(), b"abc".as_slice());
+    }
+    Ok(())
+}
+
+// The last entry alone has the flag of the last node.
+#[test]
+fn last_node_of_blake2s_and_back(rt: HostRuntime) -> Result<(), Fail> {
+    let input = Input {
+        salt: b"",
+        persona: b"",
+        key: None,
+        tree: Tree::sequential(),
+        last_node: true,
+        message: &[0x2a; 65],
+    };
+    assert!(rt; blake2s::accepts(&input));
+    let written = blake2s::transcript(rt.alloc(), &input, 32)?;
+    assert_eq!(rt; written.entries.len(), 2);
+    for (entry, is_last) in written.entries.iter().zip([false, true]) {
+        assert_eq!(rt; (entry.last, entry.last_node), (is_last, is_last));
+    }
+    let Some(read) = blake2s::read_transcript(rt.alloc(), &written)? else {
+        return Err(Fail::from("no reading"));
+    };
+    assert!(rt; read.last_node);
+    assert_eq!(rt; read.message.as_slice(), input.message);
     Ok(())
 }
 
@@ -149,7 +214,7 @@ fn transcripts_of_no_input(rt: HostRuntime) -> Result<(), Fail> {
 fn read_changed(rt: &HostRuntime, place: usize, word: u64) -> Result<Option<Tree>, Fail>
     requires { place < 8 }
 {
-    let mut transcript = of_two_blocks(rt, 0, false, 129)?;
+    let mut transcript = of_two_blocks(rt, 0, Flags::INNER, 129)?;
     transcript.words[place] = word;
     let read = blake2b::read_transcript(rt.alloc(), &transcript)?;
     Ok(read.map(|reading| reading.tree))

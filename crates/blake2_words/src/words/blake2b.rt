@@ -29,15 +29,28 @@ pub(crate) fn block_words(block: &[u8; 128]) -> [u64; 16]
 
 // The rows before the first round: the chaining words, and IV with the counter xored into its
 // fifth and sixth word, which for 64 bits is into the fifth alone, and all ones into its seventh
-// in the last block.
-#[tactic(auto, unfolding(crate::specs::Hash::before_rounds, crate::specs::Hash::xor_words))]
+// where the final flag is on, and into its eighth where the last-node flag is.
+//
+// Each flag chooses between two constant rows, which is faster than to choose its word and then
+// to make the row of both flags.
+#[tactic(auto, using(crate::proofs::Marks::xor_nothing), unfolding(crate::specs::Hash::before_rounds, crate::specs::Hash::xor_words))]
 #[inline(always)]
 fn begin(h: [u64x4; 2], counter: u64, flags: Flags) -> [u64x4; 4]
     ensures { sixteen result ≡ before_rounds blake2b (eight h) counter (given_flags flags) }
 {
     let [low, high] = to_rows(&BLAKE2B_IV);
-    let ones = if flags.last { u64::MAX } else { 0 };
-    let marks = u64x4::new(counter, 0, ones, 0);
+    let none = u64x4::new(0, 0, 0, 0);
+    let last = if flags.last {
+        u64x4::new(0, 0, u64::MAX, 0)
+    } else {
+        none
+    };
+    let last_node = if flags.last_node {
+        u64x4::new(0, 0, 0, u64::MAX)
+    } else {
+        none
+    };
+    let marks = u64x4::new(counter, 0, 0, 0) ^ last ^ last_node;
     [h[0], h[1], low, high ^ marks]
 }
 

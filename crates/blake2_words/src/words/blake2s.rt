@@ -28,18 +28,31 @@ pub(crate) fn block_words(block: &[u8; 64]) -> [u32; 16]
 }
 
 // The rows before the first round: the chaining words, and IV with the counter xored into its
-// fifth and sixth word, the low 32 bits and the high ones, and all ones into its seventh in the
-// last block.
-#[tactic(auto, unfolding(crate::specs::Hash::before_rounds, crate::specs::Hash::xor_words))]
+// fifth and sixth word, the low 32 bits and the high ones, and all ones into its seventh where the
+// final flag is on, and into its eighth where the last-node flag is.
+//
+// Each flag chooses between two constant rows, which is faster than to choose its word and then
+// to make the row of both flags.
+#[tactic(auto, using(crate::proofs::Marks::xor_nothing), unfolding(crate::specs::Hash::before_rounds, crate::specs::Hash::xor_words))]
 #[inline(always)]
 fn begin(h: [u32x4; 2], counter: u64, flags: Flags) -> [u32x4; 4]
     ensures { sixteen result ≡ before_rounds blake2s (eight h) counter (given_flags flags) }
 {
     let [low, high] = to_rows(&BLAKE2S_IV);
-    let ones = if flags.last { u32::MAX } else { 0 };
+    let none = u32x4::new(0, 0, 0, 0);
+    let last = if flags.last {
+        u32x4::new(0, 0, u32::MAX, 0)
+    } else {
+        none
+    };
+    let last_node = if flags.last_node {
+        u32x4::new(0, 0, 0, u32::MAX)
+    } else {
+        none
+    };
     let low_count = (counter % (1 << 32)) as u32;
     let high_count = (counter >> 32) as u32;
-    let marks = u32x4::new(low_count, high_count, ones, 0);
+    let marks = u32x4::new(low_count, high_count, 0, 0) ^ last ^ last_node;
     [h[0], h[1], low, high ^ marks]
 }
 

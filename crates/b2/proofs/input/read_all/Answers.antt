@@ -9,5 +9,6 @@ returns-then-count-eq0-clause-whole g c =
     let piece = take c.in-Ok.count c.read.new.buf in
     let nothing : piece ≡ [] = ap (λ n. take n c.read.new.buf) c.if-count-eq0.true in
     let room : 0 < length c.read.new.buf = search rules in
-    Consumes-all _ _ (bytes ++ piece) [] bytes (Consumes-trans _ _ _ bytes piece c.reading.invariant.passed read.bytes.0) (read.bytes.1 c.if-count-eq0.true room)
+    Consumes-all _ _ (bytes ++ piece) [] bytes (Consumes-trans _ _ _ bytes piece
+    c.reading.invariant.passed read.bytes.0) (read.bytes.1 c.if-count-eq0.true room)
     (sym (ap (λ xs. bytes ++ xs) nothing ∙ append-nil bytes))

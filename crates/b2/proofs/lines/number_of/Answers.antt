@@ -13,7 +13,13 @@ loop-digit-preserved c =
     let digit : digit_value (get_or digits i 0) ≡ c.from.result = grind (arith, nat_tests) in
     let power : 10 ^ (i + 1) ≡ 10 ^ i * 10 = rw add-one (pow-suc 10 i) in
     record {
-      value = omega (arith, digits_value_more 10 digits i c.loop-digit-test.true, digit, c.loop-digit.invariant.value);
-      digits = list_all_more is_ascii_digit digits i 0 c.loop-digit-test.true ∙ rw (c.loop-digit.invariant.digits, sym c.if-not-is_ascii_digit.ensures.value) refl;
+      value = omega (
+        arith,
+        digits_value_more 10 digits i c.loop-digit-test.true,
+        digit,
+        c.loop-digit.invariant.value,
+      );
+      digits = list_all_more is_ascii_digit digits i 0 c.loop-digit-test.true
+          ∙ rw (c.loop-digit.invariant.digits, sym c.if-not-is_ascii_digit.ensures.value) refl;
       below = grind (arith, power, c.loop-digit.invariant.below);
     }

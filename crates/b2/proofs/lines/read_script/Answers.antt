@@ -12,7 +12,10 @@ lines-preserved c =
     let line = c.split_line.result.0.now in
     let after = c.split_line.result.1.now in
     let number : c.len.result ≡ length items = search rules in
-    let read : call_at (length items + 1) line ≡ Ok (call_value call) = rw (← number) c.in_ok-call.ensures.call in
+    let read : call_at (length items + 1) line ≡ Ok (call_value call) =
+    rw (← number) c.in_ok-call.ensures.call in
     let pushed : c.push.new.self.items ≡ items ++ call ∷ [] = search rules in
-    let on = read_on (script_calls c.args.text.now) (map call_value items) (call_value call) (length items + 1) line (lines_of after) (lines_of c.lines.rest.now) c.lines.invariant c.split_line.ensures.lines read in
+    let on = read_on (script_calls c.args.text.now) (map call_value items) (call_value call)
+    (length items + 1) line (lines_of after) (lines_of c.lines.rest.now) c.lines.invariant
+    c.split_line.ensures.lines read in
     rw (pushed, map-append call_value items (call ∷ []), length-append items (call ∷ [])) on

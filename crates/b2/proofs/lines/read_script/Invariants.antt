@@ -6,7 +6,8 @@ use Rattle.b2.proofs.lines.read_script.Given as goal
 
 abbrev pub invariant-lines : goal.invariant-lines
 invariant-lines l =
-    script_calls l.text ≡ behind (map call_value l.script.items) (calls_from (length l.script.items + 1) (lines_of l.rest))
+    script_calls l.text ≡ behind (map call_value l.script.items)
+    (calls_from (length l.script.items + 1) (lines_of l.rest))
 
 abbrev pub decreases-lines : goal.decreases-lines
 decreases-lines l = length l.rest

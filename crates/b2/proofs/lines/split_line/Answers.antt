@@ -4,4 +4,5 @@ use Rattle.b2.proofs.lines.split_line.Goals as goal
 
 pub returns-clause-lines : goal.returns-clause-lines
 returns-clause-lines c =
-    first_line_of c.args.text.now c.split_once.result _ c.unwrap_or.result c.requires c.split_once.ensures c.unwrap_or.ensures refl refl
+    first_line_of c.args.text.now c.split_once.result _ c.unwrap_or.result c.requires
+    c.split_once.ensures c.unwrap_or.ensures refl refl

@@ -6,4 +6,9 @@ use Rattle.b2.proofs.script.print_digest.Goals as goal
 pub print-requires-clause-room : goal.print-requires-clause-room
 print-requires-clause-room g c =
     rw (c.push_hex.ensures, c.new-line.ensures)
-    (omega (arith, c.requires.size, c.told-digest, length-encode_with lower_digits c.args.digest.now))
+    (omega (
+      arith,
+      c.requires.size,
+      c.told-digest,
+      length-encode_with lower_digits c.args.digest.now,
+    ))

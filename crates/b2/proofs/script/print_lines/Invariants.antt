@@ -7,5 +7,6 @@ use Rattle.b2.proofs.script.print_lines.Given as goal
 abbrev pub invariant-loop-digest : goal.invariant-loop-digest
 invariant-loop-digest g l = record {
   unfailed : g.K.Sink.failed l.sink ≡ false;
-  printed : Appends (g.K.Sink.held l.fn.sink) (g.K.Sink.held l.sink) (flat_map line_of (take l.digest-index l.digests));
+  printed : Appends (g.K.Sink.held l.fn.sink) (g.K.Sink.held l.sink)
+      (flat_map line_of (take l.digest-index l.digests));
 }

@@ -8,5 +8,6 @@ use Rattle.b2.proofs.steps.print_entries.Given as goal
 abbrev pub invariant-loop-entry : goal.invariant-loop-entry
 invariant-loop-entry g l = record {
   unfailed : g.K.Sink.failed l.sink ≡ false;
-  printed : Appends (g.K.Sink.held l.fn.sink) (g.K.Sink.held l.sink) (flat_map entry_line (map entry_of (take l.entry-index l.entries)));
+  printed : Appends (g.K.Sink.held l.fn.sink) (g.K.Sink.held l.sink)
+      (flat_map entry_line (map entry_of (take l.entry-index l.entries)));
 }

@@ -23,6 +23,7 @@ fn input<'a>(
         persona,
         key,
         tree: Tree::sequential(),
+        last_node: false,
         message,
     }
 }

@@ -6,4 +6,5 @@ pub returns-clause-rest : goal.returns-clause-rest
 returns-clause-rest g c =
     let pos = c.args.pos in
     let end = pos + length c.args.input.now in
-    drop-put_mid pos (end - pos) c.args.bytes.now c.copy_from_slice.new.self end (omega arith) (omega arith) (omega arith)
+    drop-put_mid pos (end - pos) c.args.bytes.now c.copy_from_slice.new.self end (omega arith)
+    (omega arith) (omega arith)

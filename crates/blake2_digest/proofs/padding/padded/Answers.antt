@@ -7,4 +7,5 @@ pub returns : goal.returns
 returns g c =
     let bytes : List ℕ = c.args.bytes.now in
     let copied : c.copy_from_slice.new.self ≡ bytes = search (rules, common_steps) in
-    ap (λ (xs : List ℕ). xs ++ drop (length bytes) (replicate g.row.N 0)) copied ∙ zeros_overwritten g.row.N bytes
+    ap (λ (xs : List ℕ). xs ++ drop (length bytes) (replicate g.row.N 0)) copied
+    ∙ zeros_overwritten g.row.N bytes

@@ -5,7 +5,8 @@ use Rattle.blake2_words.proofs.Loads.{eight_read}
 use Rattle.blake2_plain.proofs.blake2s.block_rows.Goals as goal
 
 pub returns : goal.returns
-returns c = rw (c.from_le_bytes.ensures, c.from_le_bytes-2.ensures) (eight_read blake2s c.args.block.now)
+returns c = rw (c.from_le_bytes.ensures, c.from_le_bytes-2.ensures)
+    (eight_read blake2s c.args.block.now)
 
 pub slice_bounds-from_le_bytes-end : goal.slice_bounds-from_le_bytes-end
 slice_bounds-from_le_bytes-end c = sym (length-take-le 16 c.args.block.now (omega arith))

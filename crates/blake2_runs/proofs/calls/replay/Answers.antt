@@ -1,18 +1,22 @@
-use Rattle.std.proofs.Common.{[], ◌∷◌, Some, sym, ◌∙◌, arith}
+use Rattle.std.proofs.Common.{◌≡◌, [], ◌∷◌, ◌⊎◌, Some, Err, sym, ◌∙◌, arith}
 use Rattle.std.proofs.lemmas.Result.{err_from_is_err_and}
+use Rattle.blake2_runs.specs.declared.calls.ReplayFault.TheVariants.{Memory}
 use Rattle.blake2_runs.specs.Play.{since_beginning, play}
 use Rattle.blake2_runs.proofs.Keeping.{StandsFor-first}
 use Rattle.blake2_runs.proofs.Playing.{after_none, memory_alone, play_on, play_stops, play_ends}
 use Rattle.blake2_runs.proofs.Placing.{names_first_bad}
 use Rattle.blake2_runs.proofs.Beginning.{play_same}
+use Rattle.blake2_runs.proofs.calls.replay.Given.{Over}
 use Rattle.blake2_runs.proofs.calls.replay.Goals as goal
+use Rattle.blake2_runs.proofs.calls.replay.Goals.{In_err-replay_call}
 
 pub calls-init : goal.calls-init
 calls-init g c =
     let m = g.H.Update.meaning in
     record {
       slots = Some (since_beginning []) ∷ [];
-      held = rw (c.in_ok-push.ensures.pushed, c.new-states.ensures.items) (StandsFor-first m c.args.first, tt);
+      held = rw (c.in_ok-push.ensures.pushed, c.new-states.ensures.items)
+          (StandsFor-first m c.args.first, tt);
       rest = rw c.new-digests.ensures.items (after_none (play m c.args.first c.args.calls.now));
     }
 
@@ -24,46 +28,58 @@ calls-preserved g c =
     record {
       slots = on.outcome.slots;
       held = on.held;
-      rest = play_on m c.args.first _ c.args.calls.now now.slots on.outcome c.calls.digests.items c.replay_call.new.digests.items c.calls.place _ c.calls-test.true now.rest on.played_is on.digests_are;
+      rest =
+          play_on m c.args.first _ c.args.calls.now now.slots on.outcome c.calls.digests.items
+          c.replay_call.new.digests.items c.calls.place _
+          c.calls-test.true now.rest on.played_is on.digests_are;
     }
 
 pub returns-clause-fresh : goal.returns-clause-fresh
 returns-clause-fresh g c = λ digest n fresh.
     let m = g.H.Update.meaning in
     let now = c.calls.invariant in
-    sym (play_same m c.args.first digest n fresh c.args.calls.now) ∙ play_ends m c.args.first c.args.calls.now now.slots c.calls.digests.items c.calls.place _ (omega arith) now.rest
+    sym (play_same m c.args.first digest n fresh c.args.calls.now)
+    ∙ play_ends m c.args.first c.args.calls.now now.slots c.calls.digests.items c.calls.place _
+    (omega arith) now.rest
+
+-- the call that was refused wanted memory, or is the first bad one
+stopped : (g : Over) (c : In_err-replay_call g)
+    → (c.in_err-replay_call.field-0.0 ≡ Memory)
+    ⊎ (play g.H.Update.meaning c.args.first c.args.calls.now ≡ Err c.in_err-replay_call.field-0.0)
+stopped g c =
+    let now = c.calls.invariant in
+    play_stops g.H.Update.meaning c.args.first _ c.args.calls.now now.slots c.calls.digests.items
+    c.calls.place _ _
+    c.calls-test.true now.rest (c.in_err-replay_call.ensures c.args.first now.slots now.held)
 
 pub returns-in_err-replay_call-clause-fault : goal.returns-in_err-replay_call-clause-fault
 returns-in_err-replay_call-clause-fault g c =
-    let m = g.H.Update.meaning in
-    let now = c.calls.invariant in
-    let given = err_from_is_err_and c.from_residual-in_err-replay_call.result c.from_residual-in_err-replay_call.ensures.1 in
-    rw (given.1, given.2)
-    (play_stops m c.args.first _ c.args.calls.now now.slots c.calls.digests.items c.calls.place _ _ c.calls-test.true now.rest (c.in_err-replay_call.ensures c.args.first now.slots now.held))
+    let given = err_from_is_err_and c.from_residual-in_err-replay_call.result
+    c.from_residual-in_err-replay_call.ensures.1 in
+    rw (given.1, given.2) (stopped g (goal.at.returns-in_err-replay_call-clause-fault g
+    c).In_err-replay_call)
 
 pub returns-in_err-replay_call-clause-fresh_fault : goal.returns-in_err-replay_call-clause-fresh_fault
 returns-in_err-replay_call-clause-fresh_fault g c =
-    let m = g.H.Update.meaning in
-    let now = c.calls.invariant in
-    let given = err_from_is_err_and c.from_residual-in_err-replay_call.result c.from_residual-in_err-replay_call.ensures.1 in
+    let given = err_from_is_err_and c.from_residual-in_err-replay_call.result
+    c.from_residual-in_err-replay_call.ensures.1 in
+    let stop = stopped g (goal.at.returns-in_err-replay_call-clause-fresh_fault g
+    c).In_err-replay_call in
     rw (given.1, given.2) (λ digest n fresh.
-    rw (← play_same m c.args.first digest n fresh c.args.calls.now)
-    (play_stops m c.args.first _ c.args.calls.now now.slots c.calls.digests.items c.calls.place _ _ c.calls-test.true now.rest (c.in_err-replay_call.ensures c.args.first now.slots now.held)))
+    rw (← play_same g.H.Update.meaning c.args.first digest n fresh c.args.calls.now) stop)
 
 pub returns-in_err-replay_call-clause-place : goal.returns-in_err-replay_call-clause-place
 returns-in_err-replay_call-clause-place g c =
-    let m = g.H.Update.meaning in
-    let now = c.calls.invariant in
-    let given = err_from_is_err_and c.from_residual-in_err-replay_call.result c.from_residual-in_err-replay_call.ensures.1 in
-    rw (given.1, given.2)
-    (names_first_bad m c.args.first c.args.calls.now _
-    (play_stops m c.args.first _ c.args.calls.now now.slots c.calls.digests.items c.calls.place _ _ c.calls-test.true now.rest (c.in_err-replay_call.ensures c.args.first now.slots now.held)))
+    let given = err_from_is_err_and c.from_residual-in_err-replay_call.result
+    c.from_residual-in_err-replay_call.ensures.1 in
+    let stop = stopped g (goal.at.returns-in_err-replay_call-clause-place g c).In_err-replay_call in
+    rw (given.1, given.2) (names_first_bad g.H.Update.meaning c.args.first c.args.calls.now _ stop)
 
 pub returns-in_err-replay_call-clause-no_bad_call : goal.returns-in_err-replay_call-clause-no_bad_call
 returns-in_err-replay_call-clause-no_bad_call g c = λ good.
-    let m = g.H.Update.meaning in
-    let now = c.calls.invariant in
-    let given = err_from_is_err_and c.from_residual-in_err-replay_call.result c.from_residual-in_err-replay_call.ensures.1 in
-    rw (given.1, given.2)
-    (memory_alone (play m c.args.first c.args.calls.now) _
-    (play_stops m c.args.first _ c.args.calls.now now.slots c.calls.digests.items c.calls.place _ _ c.calls-test.true now.rest (c.in_err-replay_call.ensures c.args.first now.slots now.held)) good)
+    let given = err_from_is_err_and c.from_residual-in_err-replay_call.result
+    c.from_residual-in_err-replay_call.ensures.1 in
+    let stop = stopped g (goal.at.returns-in_err-replay_call-clause-no_bad_call g
+    c).In_err-replay_call in
+    rw (given.1, given.2) (memory_alone (play g.H.Update.meaning c.args.first c.args.calls.now) _
+    stop good)

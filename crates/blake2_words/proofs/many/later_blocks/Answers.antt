@@ -14,14 +14,19 @@ returns g c =
     let family : block_bytes g.f ≡ g.row.B = assumption c in
     let accepted : Accepts g.f (input_of c.args.input.now) = assumption c in
     let message : List ℕ = c.args.input.now.message.now in
-    let rest : c.match-input.rest.now ≡ drop g.row.B (input_data g.f (input_of c.args.input.now)) = elim c.match-input.branch [
+    let rest : c.match-input.rest.now ≡ drop g.row.B (input_data g.f (input_of c.args.input.now)) =
+    elim c.match-input.branch [
       | in-None w ↦
-          ap (λ r. r.now) w.rest-is ∙ take_rest message w.min.result ∙ ap (λ (n : ℕ). drop n message) w.min.ensures
+          ap (λ r. r.now) w.rest-is ∙ take_rest message w.min.result
+          ∙ ap (λ (n : ℕ). drop n message) w.min.ensures
           ∙ rest_none g.f g.row.B family _ message (ap key_of w.in-None.is)
-      | in-Some w ↦ ap (λ r. r.now) w.rest-is ∙ rest_some g.f g.row.B family _ _ message (ap key_of w.in-Some.is) accepted.key_fits
+      | in-Some w ↦ ap (λ r. r.now) w.rest-is ∙ rest_some g.f g.row.B family _ _ message
+          (ap key_of w.in-Some.is) accepted.key_fits
     ] in record {
       blocks = λ i lt. ap (λ (l : List (List ℕ)). slice_index_or l i []) c.as_chunks.ensures.front
-          ∙ later_block g.f g.row.B family (input_of c.args.input.now) c.match-input.rest.now rest i lt;
-      enough = subst (λ (n : ℕ). step_count g.f (input_of c.args.input.now) ≤ n + 2) (sym c.as_chunks.ensures.front_len)
+          ∙ later_block g.f g.row.B family (input_of c.args.input.now) c.match-input.rest.now rest i
+          lt;
+      enough = subst (λ (n : ℕ). step_count g.f (input_of c.args.input.now) ≤ n + 2)
+          (sym c.as_chunks.ensures.front_len)
           (later_enough g.f g.row.B family (input_of c.args.input.now) c.match-input.rest.now rest);
     }

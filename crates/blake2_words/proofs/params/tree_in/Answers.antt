@@ -13,7 +13,8 @@ returns g c =
     let leaf : c.from_le_bytes.result ≡ from_le_bytes w32 (take 4 (drop 4 block)) =
     c.from_le_bytes.ensures ∙ ap (λ (xs : List ℕ). from_le_bytes w32 xs) c.padded.ensures
     ∙ read_padded_4 4 (take 4 (drop 4 block)) in
-    let node : c.from_le_bytes-2.result ≡ from_le_bytes w64 (take (offset_bytes g.f) (drop 8 block)) =
+    let node : c.from_le_bytes-2.result ≡ from_le_bytes w64
+    (take (offset_bytes g.f) (drop 8 block)) =
     c.from_le_bytes-2.ensures ∙ ap (λ (xs : List ℕ). from_le_bytes w64 xs) c.padded-2.ensures
     ∙ read_padded_8 8 (take (8 + g.row.O - 8) (drop 8 block))
     ∙ ap (λ (n : ℕ). from_le_bytes w64 (take n (drop 8 block))) room in

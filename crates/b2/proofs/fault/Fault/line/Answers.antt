@@ -1,7 +1,9 @@
 use Rattle.std.proofs.Common.{◌≤◌, ◌++◌, length, length-append, codes, decimal, arith, rules}
 use Rattle.std.proofs.lemmas.Fmt.{length-decimal-le}
 use Rattle.b2.specs.declared.fault.Fault.{Fault}
-use Rattle.b2.specs.declared.fault.Fault.TheVariants.{WrongWords, WrongHex, WrongLength, WrongLine, NoSuchSlot, LineTooLong, TooLong, ReadFailed, NoMemory, WriteFailed}
+use Rattle.b2.specs.declared.fault.Fault.TheVariants.{WrongWords, WrongHex, WrongLength, WrongLine}
+use Rattle.b2.specs.declared.fault.Fault.TheVariants.{NoSuchSlot, LineTooLong, TooLong, ReadFailed}
+use Rattle.b2.specs.declared.fault.Fault.TheVariants.{NoMemory, WriteFailed}
 use Rattle.b2.specs.Faults.{fault_text}
 use Rattle.b2.proofs.fault.Fault.line.Goals as goal
 use Rattle.b2.proofs.fault.Fault.line.Goals.{in-Some, in_default}
@@ -36,7 +38,13 @@ push-requires-2 c =
       | in-Some w ↦
           let number = w.in-Some.number in
           let digits : length (decimal number) ≤ 20 = search (rules, length-decimal-le 20) in
-          rw (w.line-is, w.push-in-Some.ensures, w.push_decimal.ensures, w.push.ensures, c.starting-line.ensures)
+          rw (
+            w.line-is,
+            w.push-in-Some.ensures,
+            w.push_decimal.ensures,
+            w.push.ensures,
+            c.starting-line.ensures,
+          )
           (omega (arith, digits, short c.args.self, length-append (decimal number) (codes ": ")))
       | in_default w ↦ rw (w.line-is, c.starting-line.ensures) (omega (arith, short c.args.self))
     ]
@@ -49,8 +57,21 @@ returns-clause-room c =
       | in-Some w ↦
           let number = w.in-Some.number in
           let digits : length (decimal number) ≤ 20 = search (rules, length-decimal-le 20) in
-          rw (w.line-is, w.push-in-Some.ensures, w.push_decimal.ensures, w.push.ensures, c.starting-line.ensures)
-          (omega (arith, digits, short c.args.self, length-append (decimal number ++ codes ": ") (fault_text c.args.self), length-append (decimal number) (codes ": ")))
+          rw (
+            w.line-is,
+            w.push-in-Some.ensures,
+            w.push_decimal.ensures,
+            w.push.ensures,
+            c.starting-line.ensures,
+          )
+          (omega (
+            arith,
+            digits,
+            short c.args.self,
+            length-append (decimal number ++ codes ": ")
+                (fault_text c.args.self),
+            length-append (decimal number) (codes ": "),
+          ))
       | in_default w ↦ rw (w.line-is, c.starting-line.ensures) (omega (arith, short c.args.self))
     ]
     )

@@ -8,4 +8,9 @@ returns-clause-longer c =
     let line = c.args.self.now in
     let bytes = c.args.bytes.now in
     rw (c.push_hex.ensures, c.push.ensures)
-    (omega (arith, length-append (line ++ 32 ∷ []) (encode_lower bytes), length-append line (32 ∷ []), length-encode_with lower_digits bytes))
+    (omega (
+      arith,
+      length-append (line ++ 32 ∷ []) (encode_lower bytes),
+      length-append line (32 ∷ []),
+      length-encode_with lower_digits bytes,
+    ))

@@ -11,4 +11,9 @@ pub returns-clause-longer : goal.returns-clause-longer
 returns-clause-longer c =
     let short : length (decimal c.args.n) ≤ 20 = search (rules, length-decimal-le 20) in
     rw (c.push_decimal.ensures, c.push.ensures)
-    (omega (arith, short, length-append (c.args.self.now ++ 32 ∷ []) (decimal c.args.n), length-append c.args.self.now (32 ∷ [])))
+    (omega (
+      arith,
+      short,
+      length-append (c.args.self.now ++ 32 ∷ []) (decimal c.args.n),
+      length-append c.args.self.now (32 ∷ []),
+    ))

@@ -5,4 +5,5 @@ use Rattle.b2.specs.Words.{nothing_given, with_words}
 use Rattle.b2.proofs.words.Options.from_words.Given as goal
 
 abbrev pub invariant-loop-word : goal.invariant-loop-word
-invariant-loop-word l = with_words nothing_given (map string_bytes (take l.word-index l.words)) ≡ Ok (given_of l.options)
+invariant-loop-word l = with_words l.takes_key nothing_given
+    (map string_bytes (take l.word-index l.words)) ≡ Ok (given_of l.options)

@@ -11,4 +11,5 @@ invariant_of-result g c =
     )
 
 pub returns : goal.returns
-returns g c = ap (take (length c.args.pending.now)) c.padded.ensures ∙ take-padded g.row.B c.args.pending.now
+returns g c = ap (take (length c.args.pending.now)) c.padded.ensures
+    ∙ take-padded g.row.B c.args.pending.now

@@ -7,5 +7,6 @@ use Rattle.blake2_plain.proofs.blake2b.State.from_block.Goals as goal
 
 pub returns-clause-fresh : goal.returns-clause-fresh
 returns-clause-fresh c =
-    Fresh_block blake2b (λ s. s.output_size) state_of c.args.block.now c.start_of.result _ (ap (λ (s : State). s.output_size) c.starting_from.ensures)
+    Fresh_block blake2b (λ s. s.output_size) state_of c.args.block.now c.start_of.result _
+    (ap (λ (s : State). s.output_size) c.starting_from.ensures)
     (ap state_of c.starting_from.ensures) c.start_of.ensures

@@ -1,4 +1,5 @@
-use Rattle.std.proofs.Common.{◌≡◌, ℕ, ◌+◌, ◌-◌, ◌++◌, ◌≤◌, List, length, take, refl, sym, ap, ◌∙◌, arith, length-append}
+use Rattle.std.proofs.Common.{◌≡◌, ℕ, ◌+◌, ◌-◌, ◌++◌, ◌≤◌, List, length, take, refl, sym, ap, ◌∙◌}
+use Rattle.std.proofs.Common.{arith, length-append}
 use Rattle.std.proofs.lemmas.List.{length-take-le}
 use Rattle.std.proofs.lemmas.Slice.{take-put_mid}
 use Rattle.blake2_rows.specs.Family.{blake2b}
@@ -13,8 +14,16 @@ returns-clause-updated c =
     let n : ℕ = old.pending_length in
     let p : List ℕ = take n old.pending in
     let within : n ≤ length old.pending = omega arith in
-    let room : length (p ++ x) ≤ 128 = omega (arith, length-append p x, length-take-le n old.pending within, c.requires.room) in
+    let room : length (p ++ x) ≤ 128 = omega (
+      arith,
+      length-append p x,
+      length-take-le n old.pending within,
+      c.requires.room,
+    ) in
     let written = c.copy_from_slice.new.self in
-    let end : n + length x ≡ n + length written = ap (λ (z : List ℕ). n + length z) (sym c.copy_from_slice.ensures.after) in
-    Updated_sized blake2b (λ s. s.output_size) state_of old x _ refl (state-kept blake2b (state_of old) x _ room
-    (take-put_mid n (n + length x - n) old.pending written (n + length x) end within ∙ ap (λ (z : List ℕ). p ++ z) c.copy_from_slice.ensures.after))
+    let end : n + length x ≡ n + length written =
+    ap (λ (z : List ℕ). n + length z) (sym c.copy_from_slice.ensures.after) in
+    Updated_sized blake2b (λ s. s.output_size) state_of old x _ refl
+    (state-kept blake2b (state_of old) x _ room
+    (take-put_mid n (n + length x - n) old.pending written (n + length x) end within
+    ∙ ap (λ (z : List ℕ). p ++ z) c.copy_from_slice.ensures.after))

@@ -5,4 +5,5 @@ use Rattle.blake2_plain.proofs.StateLaws.{StartedAgain_sized}
 use Rattle.blake2_plain.proofs.blake2b.State.reset.Goals as goal
 
 pub returns-clause-reset : goal.returns-clause-reset
-returns-clause-reset c = StartedAgain_sized blake2b (λ s. s.output_size) state_of c.args.self.now _ refl refl
+returns-clause-reset c = StartedAgain_sized blake2b
+    (λ s. s.output_size) state_of c.args.self.now _ refl refl

@@ -1,6 +1,8 @@
-use Rattle.std.proofs.Common.{◌≡◌, List, ℕ, None, refl, ap, ◌∙◌}
+use Rattle.std.proofs.Common.{None, refl, ap, ◌∙◌}
 use Rattle.blake2_rows.specs.Family.{blake2s}
-use Rattle.blake2_words.specs.Hash.{parameters_of, key_block}
+use Rattle.blake2_words.specs.Hash.{key_block}
+use Rattle.blake2_words.specs.Views.{tree_of}
+use Rattle.blake2.specs.Cores.{node_parameters}
 use Rattle.blake2.proofs.StateLaws.{length-key_block_none}
 use Rattle.blake2_plain.specs.declared.blake2s.State.{State}
 use Rattle.blake2_plain.specs.Blake2s.{state_of}
@@ -10,7 +12,10 @@ use Rattle.blake2_plain.proofs.blake2s.State.unkeyed.Goals as goal
 pub returns-clause-fresh : goal.returns-clause-fresh
 unfolding key_block
 returns-clause-fresh c =
-    Fresh_sized blake2s (λ s. s.output_size) state_of c.args.output_size c.args.salt.now c.args.persona.now None 0 _ (length-key_block_none blake2s)
+    Fresh_sized blake2s (λ s. s.output_size) state_of c.args.output_size c.args.salt.now
+    c.args.persona.now None (tree_of c.args.tree.now) 0 _ (length-key_block_none blake2s)
     (ap (λ (s : State). s.output_size) c.starting_from.ensures)
-    (ap state_of c.starting_from.ensures ∙ state-made blake2s (parameters_of c.args.output_size 0 c.args.salt.now c.args.persona.now) None c.new_with_params-core.result c.first_words.result _ _
-    c.new_with_params-core.ensures c.first_words.ensures refl refl)
+    (ap state_of c.starting_from.ensures ∙ state-made blake2s
+    (node_parameters c.args.output_size 0 c.args.salt.now c.args.persona.now
+    (tree_of c.args.tree.now)) None c.new_with_tree-core.result c.first_words.result _ _
+    c.new_with_tree-core.ensures c.first_words.ensures refl refl)

@@ -10,5 +10,11 @@ returns c =
     let words : (i : ℕ) → Fits w32 (get_or w i 0) = search rules in
     let long : length w ≡ 16 = omega arith in
     let r = c.requires in
-    rw (c.rotate_left-4.ensures, c.rotate_left-3.ensures, c.rotate_left-2.ensures, c.rotate_left.ensures)
-    (mix-unmix blake2s w c.args.a c.args.b c.args.c c.args.d c.args.x c.args.y (λ i. (words i).fits) c.ranges.x.fits c.ranges.y.fits r.0 r.1 r.2 (omega arith))
+    rw (
+      c.rotate_left-4.ensures,
+      c.rotate_left-3.ensures,
+      c.rotate_left-2.ensures,
+      c.rotate_left.ensures,
+    )
+    (mix-unmix blake2s w c.args.a c.args.b c.args.c c.args.d c.args.x c.args.y
+    (λ i. (words i).fits) c.ranges.x.fits c.ranges.y.fits r.0 r.1 r.2 (omega arith))

@@ -1,4 +1,5 @@
-use Rattle.std.proofs.Common.{◌≡◌, ◌-◌, ◌≤◌, arith, length, length-drop, take, drop, subst, sym, List, ℕ}
+use Rattle.std.proofs.Common.{◌≡◌, ◌-◌, ◌≤◌, arith, length, length-drop, take, drop, subst, sym}
+use Rattle.std.proofs.Common.{List, ℕ}
 use Rattle.std.proofs.Math.Seq.{take-add}
 use Rattle.std.proofs.lemmas.List.{take_all}
 use Rattle.std.proofs.KnownBytes.{Appends-trans}
@@ -16,11 +17,15 @@ writing-preserved g c =
     take_all (length text - at) (drop at text) (omega (arith, length-drop at text)) in
     let fits : n ≤ length (drop at text) = rw whole at wrote.bound in
     record {
-      unfailed = unfailed-more _ _ _ n c.writing.invariant.unfailed c.if-count-eq0.false wrote.fails;
+      unfailed = unfailed-more _ _ _ n c.writing.invariant.unfailed c.if-count-eq0.false
+          wrote.fails;
       in_text = omega (arith, length-drop at text, fits);
       written =
-          let now : Appends (g.K.Sink.held c.writing.sink) (g.K.Sink.held c.write.new.self) (take n (drop at text)) = rw whole at wrote.bytes in
-          subst (λ (bytes : List ℕ). Appends (g.K.Sink.held c.args.sink.now) (g.K.Sink.held c.write.new.self) bytes)
+          let now : Appends (g.K.Sink.held c.writing.sink) (g.K.Sink.held c.write.new.self)
+          (take n (drop at text)) = rw whole at wrote.bytes in
+          subst (λ (bytes : List ℕ). Appends (g.K.Sink.held c.args.sink.now)
+          (g.K.Sink.held c.write.new.self) bytes)
           (sym (take-add at n text))
-          (Appends-trans _ _ _ (take at text) (take n (drop at text)) c.writing.invariant.written now);
+          (Appends-trans _ _ _ (take at text) (take n (drop at text)) c.writing.invariant.written
+          now);
     }

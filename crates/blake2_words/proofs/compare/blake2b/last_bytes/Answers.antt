@@ -7,5 +7,6 @@ use Rattle.blake2_words.proofs.compare.blake2b.last_bytes.Goals as goal
 pub returns : goal.returns
 returns c =
     ap (take c.args.output_size)
-    (c.to_bytes.ensures ∙ ap (bytes_of blake2b) (c.output_of.ensures ∙ ap (output blake2b) c.last_step-chain.ensures))
+    (c.to_bytes.ensures ∙ ap (bytes_of blake2b) (c.output_of.ensures
+    ∙ ap (output blake2b) c.last_step-chain.ensures))
     ∙ last_output blake2b c.args.output_size _

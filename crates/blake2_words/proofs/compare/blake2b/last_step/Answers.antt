@@ -8,7 +8,7 @@ use Rattle.blake2_words.proofs.Front.{first_chain, step_at-chain, next_chain}
 use Rattle.blake2_words.proofs.compare.blake2b.last_step.Goals as goal
 
 pub loop-i-init : goal.loop-i-init
-loop-i-init c = first_chain blake2b _ _ _ c.start-chain.ensures
+loop-i-init c = first_chain blake2b _ (input_of c.args.input.now) _ c.start-chain.ensures
 
 pub loop-i-preserved : goal.loop-i-preserved
 loop-i-preserved c =

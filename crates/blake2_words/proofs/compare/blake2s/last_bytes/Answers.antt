@@ -7,5 +7,6 @@ use Rattle.blake2_words.proofs.compare.blake2s.last_bytes.Goals as goal
 pub returns : goal.returns
 returns c =
     ap (take c.args.output_size)
-    (c.to_bytes.ensures ∙ ap (bytes_of blake2s) (c.output_of.ensures ∙ ap (output blake2s) c.last_step-chain.ensures))
+    (c.to_bytes.ensures ∙ ap (bytes_of blake2s) (c.output_of.ensures
+    ∙ ap (output blake2s) c.last_step-chain.ensures))
     ∙ last_output blake2s c.args.output_size _

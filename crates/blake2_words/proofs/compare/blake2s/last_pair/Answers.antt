@@ -1,4 +1,4 @@
-use Rattle.std.proofs.Common.{◌≡◌, ◌<◌, ℕ, ◌∙◌, arith, true}
+use Rattle.std.proofs.Common.{◌≡◌, ◌<◌, ℕ, arith, true}
 use Rattle.blake2_rows.specs.Family.{blake2s}
 use Rattle.blake2_rows.specs.Rows.{eight}
 use Rattle.blake2_words.specs.Hash.{Input, Step}
@@ -8,12 +8,13 @@ use Rattle.blake2_words.specs.Run.{step_count, run_step}
 use Rattle.blake2_words.proofs.Front.{first_chain, step_at-chain, next_chain}
 use Rattle.blake2_words.proofs.Front.{walk_differs, walk_same, walk_witness}
 use Rattle.blake2_words.proofs.compare.blake2s.last_pair.Goals as goal
-use Rattle.blake2_words.proofs.compare.blake2s.last_pair.Goals.{then-not-same_step, else-not-same_step}
+use Rattle.blake2_words.proofs.compare.blake2s.last_pair.Goals.{then-not-same_step}
+use Rattle.blake2_words.proofs.compare.blake2s.last_pair.Goals.{else-not-same_step}
 
 pub loop-i-init : goal.loop-i-init
 loop-i-init c = record {
-  of_a = λ _. first_chain blake2s _ _ _ c.start-chain_a.ensures;
-  of_b = λ _. first_chain blake2s _ _ _ c.start-chain_b.ensures;
+  of_a = λ _. first_chain blake2s _ (input_of c.args.a.now) _ c.start-chain_a.ensures;
+  of_b = λ _. first_chain blake2s _ (input_of c.args.b.now) _ c.start-chain_b.ensures;
   kept = λ i d h. absurd (omega arith);
 }
 
@@ -37,9 +38,13 @@ loop-i-preserved c =
       kept = elim c.if-not-same_step.branch [
         | then-not-same_step w ↦
             rw w.kept-is
-            (walk_differs blake2s size a b i (w.step_at.result, w.step_at-then-not-same_step.result) x y
+            (walk_differs blake2s size a b i (
+              w.step_at.result,
+              w.step_at-then-not-same_step.result,
+            ) x y
             w.step_at.ensures w.step_at-then-not-same_step.ensures of_a of_b in_a in_b
-            (λ e. let same : c.same_step.result ≡ true = c.same_step.ensures.1 e in cc w.if-not-same_step.true))
+            (λ e. let same : c.same_step.result ≡ true = c.same_step.ensures.1 e in
+            cc w.if-not-same_step.true))
         | else-not-same_step w ↦
             rw w.kept-is
             (walk_same blake2s size a b i x y c.loop-i.kept of_a of_b in_a in_b

@@ -14,7 +14,9 @@ ghost-entry_at a = blake2s
 
 abbrev pub invariant-loop-i : goal.invariant-loop-i
 invariant-loop-i l = record {
-  of_a : l.i < step_count blake2s (input_of l.a) → eight l.chain_a ≡ (run_step blake2s l.output_size (input_of l.a) l.i).chain;
-  of_b : l.i < step_count blake2s (input_of l.b) → eight l.chain_b ≡ (run_step blake2s l.output_size (input_of l.b) l.i).chain;
+  of_a : l.i < step_count blake2s (input_of l.a)
+      → eight l.chain_a ≡ (run_step blake2s l.output_size (input_of l.a) l.i).chain;
+  of_b : l.i < step_count blake2s (input_of l.b)
+      → eight l.chain_b ≡ (run_step blake2s l.output_size (input_of l.b) l.i).chain;
   kept : Kept blake2s l.output_size (input_of l.a) (input_of l.b) l.i l.kept;
 }

@@ -1,12 +1,13 @@
-use Rattle.std.proofs.Common.{◌≡◌, ◌+◌, ◌-◌, ℕ, List, [], length, slice_index_or, refl, ap, ◌∙◌, arith, rules}
+use Rattle.std.proofs.Common.{◌≡◌, ◌+◌, ◌-◌, ℕ, List, [], length, slice_index_or, refl, ap, ◌∙◌}
+use Rattle.std.proofs.Common.{arith, rules}
 use Rattle.std.proofs.lemmas.List.{get_or_default}
 use Rattle.blake2_rows.specs.Family.{blake2b}
 use Rattle.blake2_rows.specs.Lanes.{in_lane}
 use Rattle.blake2_rows.proofs.Lanes.{listed_in_four}
-use Rattle.blake2_words.specs.Hash.{Input, blocks, chain, input_data}
+use Rattle.blake2_words.specs.Hash.{Input, blocks, chain, compress, input_data}
 use Rattle.blake2_words.specs.Lanes.{input_at}
 use Rattle.blake2_words.specs.Run.{step_count}
-use Rattle.blake2_words.proofs.Lanes.{no_block, block_more}
+use Rattle.blake2_words.proofs.Lanes.{no_block, block_more, inner_at}
 use Rattle.blake2_words.proofs.Streaming.{block_count-pos}
 use Rattle.blake2_words.proofs.many.blake2b.absorb_inner.Goals as goal
 
@@ -18,7 +19,9 @@ returns-then-count-eq1 c j h =
 
 pub loop-i-init : goal.loop-i-init
 loop-i-init c j h =
-    block_more blake2b (in_lane j c.args.h.now) _ 0 128 (in_lane j c.args.h.now) _ _ (no_block blake2b _ _ 0 refl) (c.compress_at.ensures j h) refl refl
+    block_more blake2b (in_lane j c.args.h.now) _ 0 128 (in_lane j c.args.h.now) _ _
+    (no_block blake2b _ _ 0 refl)
+    (c.compress_at.ensures j h ∙ ap (compress blake2b _ _ 128) (inner_at 4 j)) refl refl
 
 pub bounds-p0-i : goal.bounds-p0-i
 bounds-p0-i c =
@@ -58,21 +61,27 @@ loop-i-preserved c j h =
     let long : length inputs ≡ 4 = search rules in
     let i : ℕ = c.loop-i.i in
     let first = c.step_count-count.ensures in
-    let block : Input → List ℕ = λ a. slice_index_or (blocks blake2b (input_data blake2b a)) (i + 1) [] in
+    let block : Input → List ℕ = λ a. slice_index_or (blocks blake2b (input_data blake2b a)) (i + 1)
+    [] in
     let at = listed_in_four (λ k. block (input_at inputs k)) _ _ _ _
     (let here = c.requires.same_number 0 (omega arith) in
-    get_or_default c.later_blocks-p0.result.now i _ [] (omega (arith, here, first, c.later_blocks-p0.ensures.enough))
+    get_or_default c.later_blocks-p0.result.now i _ []
+    (omega (arith, here, first, c.later_blocks-p0.ensures.enough))
     ∙ c.later_blocks-p0.ensures.blocks i (omega (arith, here, first)))
     (let here = c.requires.same_number 1 (omega arith) in
-    get_or_default c.later_blocks-p1.result.now i _ [] (omega (arith, here, first, c.later_blocks-p1.ensures.enough))
+    get_or_default c.later_blocks-p1.result.now i _ []
+    (omega (arith, here, first, c.later_blocks-p1.ensures.enough))
     ∙ c.later_blocks-p1.ensures.blocks i (omega (arith, here, first)))
     (let here = c.requires.same_number 2 (omega arith) in
-    get_or_default c.later_blocks-p2.result.now i _ [] (omega (arith, here, first, c.later_blocks-p2.ensures.enough))
+    get_or_default c.later_blocks-p2.result.now i _ []
+    (omega (arith, here, first, c.later_blocks-p2.ensures.enough))
     ∙ c.later_blocks-p2.ensures.blocks i (omega (arith, here, first)))
     (let here = c.requires.same_number 3 (omega arith) in
-    get_or_default c.later_blocks-p3.result.now i _ [] (omega (arith, here, first, c.later_blocks-p3.ensures.enough))
+    get_or_default c.later_blocks-p3.result.now i _ []
+    (omega (arith, here, first, c.later_blocks-p3.ensures.enough))
     ∙ c.later_blocks-p3.ensures.blocks i (omega (arith, here, first))) j h in
-    block_more blake2b (in_lane j c.args.h.now) _ (i + 1) _ _ _ _ (c.loop-i.invariant j h) (c.compress.ensures j h) at (omega arith)
+    block_more blake2b (in_lane j c.args.h.now) _ (i + 1) _ _ _ _ (c.loop-i.invariant j h)
+    (c.compress.ensures j h ∙ ap (compress blake2b _ _ _) (inner_at 4 j)) at (omega arith)
 
 pub returns : goal.returns
 returns c j h =
@@ -80,5 +89,7 @@ returns c j h =
     let long : length inputs ≡ 4 = search rules in
     let first = c.step_count-count.ensures in
     let some = block_count-pos blake2b (length (input_data blake2b (input_at inputs 0))) in
-    let all : c.loop-i.i + 1 ≡ step_count blake2b (input_at inputs 0) - 1 = omega (arith, first, some) in
-    c.loop-i.invariant j h ∙ ap (chain blake2b (in_lane j c.args.h.now) 0 (blocks blake2b (input_data blake2b (input_at inputs j)))) all
+    let all : c.loop-i.i + 1 ≡ step_count blake2b (input_at inputs 0) - 1 =
+    omega (arith, first, some) in
+    c.loop-i.invariant j h ∙ ap (chain blake2b (in_lane j c.args.h.now) 0 (blocks blake2b
+    (input_data blake2b (input_at inputs j)))) all

@@ -13,4 +13,5 @@ ghost-later_blocks a = blake2b
 
 abbrev pub invariant-loop-i : goal.invariant-loop-i
 invariant-loop-i l = (j : ℕ) → j < 4
-    → in_lane j l.h ≡ chain blake2b (in_lane j l.fn.h) 0 (blocks blake2b (input_data blake2b (input_at l.inputs j))) (l.i + 1)
+    → in_lane j l.h ≡ chain blake2b (in_lane j l.fn.h) 0
+    (blocks blake2b (input_data blake2b (input_at l.inputs j))) (l.i + 1)

@@ -11,5 +11,6 @@ ghost-counted a = blake2b
 abbrev pub invariant-loop-j : goal.invariant-loop-j
 invariant-loop-j l = record {
   accepted : (k : ℕ) → k < l.j → Accepts blake2b (input_at l.inputs k);
-  same_count : (k : ℕ) → k < l.j → length (input_data blake2b (input_at l.inputs k)) ≡ length (input_data blake2b (input_at l.inputs 0));
+  same_count : (k : ℕ) → k < l.j → length (input_data blake2b (input_at l.inputs k))
+      ≡ length (input_data blake2b (input_at l.inputs 0));
 }

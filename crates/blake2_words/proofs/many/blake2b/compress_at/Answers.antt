@@ -3,19 +3,20 @@ use Rattle.blake2_rows.specs.Family.{blake2b}
 use Rattle.blake2_rows.specs.Lanes.{in_lane}
 use Rattle.blake2_rows.proofs.Lanes.{listed_in_four}
 use Rattle.blake2_words.specs.Hash.{Input, blocks, compress, input_data}
-use Rattle.blake2_words.specs.Lanes.{input_at}
-use Rattle.blake2_words.specs.Views.{given_flags}
+use Rattle.blake2_words.specs.Lanes.{flags_at, input_at}
 use Rattle.blake2_words.proofs.many.blake2b.compress_at.Goals as goal
 
 pub returns : goal.returns
 returns c j h =
     let inputs = c.args.inputs.now in
     let long : length inputs ≡ 4 = search rules in
-    let block : Input → List ℕ = λ a. slice_index_or (blocks blake2b (input_data blake2b a)) c.args.i [] in
+    let block : Input → List ℕ = λ a. slice_index_or
+    (blocks blake2b (input_data blake2b a)) c.args.i [] in
     let at = listed_in_four (λ k. block (input_at inputs k)) _ _ _ _
     (c.block_at-b0.ensures)
     (c.block_at-b1.ensures)
     (c.block_at-b2.ensures)
     (c.block_at-b3.ensures) j h in
     c.compress.ensures j h
-    ∙ ap (λ b. compress blake2b (in_lane j c.args.h.now) b c.args.counter (given_flags c.args.flags)) at
+    ∙ ap (λ b. compress blake2b (in_lane j c.args.h.now) b c.args.counter
+    (flags_at c.args.flags.now j)) at

@@ -20,4 +20,5 @@ returns c =
     let w7 = lane_read_of_four rows j 7 _ _ c.to_array-8.ensures c.requires (omega arith) in
     rw (c.new.ensures, c.new-2.ensures)
     ((λ i. w0 i ∷ w1 i ∷ w2 i ∷ w3 i ∷ w4 i ∷ w5 i ∷ w6 i ∷ w7 i ∷ [])
-    ∙ cells-drop (in_lane j rows) 0 8 (length-map rows (λ (row : List ℕ). slice_index row j) ∙ long))
+    ∙ cells-drop (in_lane j rows) 0 8 (length-map rows (λ (row : List ℕ). slice_index row j)
+    ∙ long))

@@ -17,6 +17,9 @@ returns c j h =
     (c.start_words-2.ensures ∙ ap (start blake2b) c.parameters_of-2.ensures)
     (c.start_words-3.ensures ∙ ap (start blake2b) c.parameters_of-3.ensures)
     (c.start_words-4.ensures ∙ ap (start blake2b) c.parameters_of-4.ensures) j h in
-    let hs : List (List ℕ) = c.start_words.result ∷ c.start_words-2.result ∷ c.start_words-3.result ∷ c.start_words-4.result ∷ [] in
-    (λ i. c.row.ensures j h i ∷ c.row-2.ensures j h i ∷ c.row-3.ensures j h i ∷ c.row-4.ensures j h i ∷ c.row-5.ensures j h i ∷ c.row-6.ensures j h i ∷ c.row-7.ensures j h i ∷ c.row-8.ensures j h i ∷ [])
+    let hs : List (List ℕ) = c.start_words.result ∷ c.start_words-2.result ∷ c.start_words-3.result
+    ∷ c.start_words-4.result ∷ [] in
+    (λ i. c.row.ensures j h i ∷ c.row-2.ensures j h i ∷ c.row-3.ensures j h i
+    ∷ c.row-4.ensures j h i ∷ c.row-5.ensures j h i ∷ c.row-6.ensures j h i
+    ∷ c.row-7.ensures j h i ∷ c.row-8.ensures j h i ∷ [])
     ∙ cells-drop (slice_index_or hs j []) 0 8 (ap length words ∙ length-start blake2b _) ∙ words

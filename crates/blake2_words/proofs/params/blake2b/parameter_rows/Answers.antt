@@ -9,10 +9,12 @@ pub returns : goal.returns
 unfolding parameter_words
 returns c =
     rw (c.from_le_bytes.ensures, c.from_le_bytes-2.ensures)
-    (eight_read blake2b c.parameter_block-block.result ∙ ap (words_of blake2b 8) c.parameter_block-block.ensures)
+    (eight_read blake2b c.parameter_block-block.result
+    ∙ ap (words_of blake2b 8) c.parameter_block-block.ensures)
 
 pub slice_bounds-from_le_bytes-end : goal.slice_bounds-from_le_bytes-end
-slice_bounds-from_le_bytes-end c = sym (length-take-le 32 c.parameter_block-block.result (omega arith))
+slice_bounds-from_le_bytes-end c = sym (length-take-le 32 c.parameter_block-block.result (omega
+    arith))
 
 pub from_le_bytes-requires : goal.from_le_bytes-requires
 from_le_bytes-requires c = length-take-le 32 c.parameter_block-block.result (omega arith)

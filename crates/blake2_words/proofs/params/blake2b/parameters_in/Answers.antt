@@ -5,7 +5,8 @@ use Rattle.blake2_words.proofs.params.blake2b.parameters_in.Goals as goal
 pub returns : goal.returns
 returns c =
     let block : List ℕ = c.args.block.now in
-    let texts : take 32 (drop 32 block) ≡ drop 32 block = take_all 32 (drop 32 block) (omega (arith, length-drop 32 block)) in
+    let texts : take 32 (drop 32 block) ≡ drop 32 block =
+    take_all 32 (drop 32 block) (omega (arith, length-drop 32 block)) in
     λ i. record {
       size = get_or block 0 0;
       key_size = get_or block 1 0;

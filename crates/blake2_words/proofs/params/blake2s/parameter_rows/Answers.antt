@@ -8,4 +8,5 @@ pub returns : goal.returns
 unfolding parameter_words
 returns c =
     rw (c.from_le_bytes.ensures, c.from_le_bytes-2.ensures)
-    (eight_read blake2s c.parameter_block-block.result ∙ ap (words_of blake2s 8) c.parameter_block-block.ensures)
+    (eight_read blake2s c.parameter_block-block.result
+    ∙ ap (words_of blake2s 8) c.parameter_block-block.ensures)

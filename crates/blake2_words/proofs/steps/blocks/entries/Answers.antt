@@ -16,7 +16,8 @@ loop-i-preserved g c size =
     let count : length (steps g.f size a) ≡ step_count g.f a = length-steps g.f size a in
     let counts = c.step_count-count.ensures in
     let many : length es ≡ length (steps g.f size a) = length-map (steps g.f size a) entry in
-    let here : entry_of c.entry_at.result ≡ get_or es i no_entry = c.entry_at.ensures size ∙ sym (entry-at g.f size a i no_entry (omega arith)) in
+    let here : entry_of c.entry_at.result ≡ get_or es i no_entry =
+    c.entry_at.ensures size ∙ sym (entry-at g.f size a i no_entry (omega arith)) in
     ap (map entry_of) c.in_ok-push.ensures.items ∙ map-append entry_of c.loop-i.entries.items _
     ∙ (λ k. c.loop-i.invariant size k ++ here k ∷ []) ∙ sym (take_more es i no_entry (omega arith))
 

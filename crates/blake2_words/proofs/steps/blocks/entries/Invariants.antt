@@ -11,4 +11,5 @@ abbrev pub ghost-entry_at : goal.ghost-entry_at
 ghost-entry_at g a = g.f
 
 abbrev pub invariant-loop-i : goal.invariant-loop-i
-invariant-loop-i g l = (size : ℕ) → map entry_of l.entries.items ≡ take l.i (map entry (steps g.f size (input_of l.input)))
+invariant-loop-i g l = (size : ℕ) → map entry_of l.entries.items
+    ≡ take l.i (map entry (steps g.f size (input_of l.input)))

@@ -12,6 +12,9 @@ returns g c =
     let within : length key ≤ key_bytes g.f = omega arith in
     let some : 1 ≤ length key = grind (arith, common_steps) in
     let counted = keyed_length g.f key c.args.message.now within in (
-      λ t. ((some, within, c.fits-key_within.ensures.bytes), omega (arith, c.fits.ensures.within.0 t)),
+      λ t. (
+        (some, within, c.fits-key_within.ensures.bytes),
+        omega (arith, c.fits.ensures.within.0 t),
+      ),
       λ p. c.fits.ensures.within.1 (omega (arith, p.1)),
     )

@@ -4,4 +4,5 @@ use Rattle.blake2_words.specs.Views.{entry_of}
 use Rattle.blake2_words.proofs.steps.reader.bytes_of_blocks.Given as goal
 
 abbrev pub invariant-loop-entry : goal.invariant-loop-entry
-invariant-loop-entry g l = l.bytes.items ≡ take l.length (joined (map entry_of (take l.entry-index l.entries)))
+invariant-loop-entry g l = l.bytes.items ≡ take l.length
+    (joined (map entry_of (take l.entry-index l.entries)))

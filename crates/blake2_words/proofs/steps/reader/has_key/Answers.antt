@@ -17,6 +17,8 @@ returns-then-last g c =
     let at_last : last ≡ get_or es (length es - 1) last = assumption c.in-Some-Some.ensures' in
     let whole : length first.block ≡ block_bytes g.f = c.is_zero_from.ensures.whole ∙ sym family in
     let counts : told_count (map entry_of es) ≡ last.counter = given_count es last some at_last in (
-      λ t. given_key g.f c.args.key_size es first some at_first whole (omega arith) (c.is_zero_from.ensures.zero.0 t),
-      λ key. c.is_zero_from.ensures.zero.1 (given_key_zeros g.f c.args.key_size es first some at_first whole key),
+      λ t. given_key g.f c.args.key_size es first some at_first whole (omega arith)
+          (c.is_zero_from.ensures.zero.0 t),
+      λ key. c.is_zero_from.ensures.zero.1 (given_key_zeros g.f c.args.key_size es first some
+          at_first whole key),
     )

@@ -6,5 +6,6 @@ use Rattle.blake2_words.proofs.words.blake2s.to_bytes.Goals as goal
 pub returns : goal.returns
 returns c =
     rows_written blake2s c.args.rows.now _ _ _ _ c.type_inv.rows
-    (c.copy_from_slice.ensures.after ∙ c.to_bytes.ensures) (c.copy_from_slice-2.ensures.after ∙ c.to_bytes-2.ensures)
+    (c.copy_from_slice.ensures.after ∙ c.to_bytes.ensures)
+    (c.copy_from_slice-2.ensures.after ∙ c.to_bytes-2.ensures)
     c.copy_from_slice.ensures.len c.copy_from_slice-2.ensures.len

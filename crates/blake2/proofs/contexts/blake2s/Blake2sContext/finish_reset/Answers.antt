@@ -7,4 +7,5 @@ use Rattle.blake2.proofs.contexts.blake2s.Blake2sContext.finish_reset.Goals as g
 pub returns-clause-output : goal.returns-clause-output
 returns-clause-output g c = λ block.
     c.write_output.ensures.output
-    ∙ future-nothing blake2s g.row.N (blake2s_context_state block c.args.self.now) c.args.self.now.within_a_block
+    ∙ future-nothing blake2s g.row.N (blake2s_context_state block c.args.self.now)
+    c.args.self.now.within_a_block

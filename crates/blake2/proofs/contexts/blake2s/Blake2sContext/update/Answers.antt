@@ -8,7 +8,12 @@ pub invariant_of-self : goal.invariant_of-self
 invariant_of-self c =
     let old = c.args.self.now in
     let kept = kept-updated blake2s (blake2s_context_state [] old) _ c.args.input.now
-    (λ i. record { core = c.digest_blocks.ensures.handed i; pending = c.digest_blocks.ensures.pending i; start_block = [] }) old.one_block_left c.requires in record {
+    (λ i. record {
+      core = c.digest_blocks.ensures.handed i;
+      pending = c.digest_blocks.ensures.pending i;
+      start_block =
+          [];
+    }) old.one_block_left c.requires in record {
       within_a_block = kept.0;
       counted = kept.1;
       one_block_left = kept.2;
@@ -17,4 +22,8 @@ invariant_of-self c =
 pub returns : goal.returns
 returns c = λ n block.
     Updated_by blake2s n (blake2s_context_state block) c.args.self.now c.args.input.now _
-    (λ i. record { core = c.digest_blocks.ensures.handed i; pending = c.digest_blocks.ensures.pending i; start_block = block })
+    (λ i. record {
+      core = c.digest_blocks.ensures.handed i;
+      pending = c.digest_blocks.ensures.pending i;
+      start_block = block;
+    })

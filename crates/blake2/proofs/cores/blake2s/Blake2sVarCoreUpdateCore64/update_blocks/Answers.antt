@@ -12,9 +12,16 @@ each-init c = record { taken = sym (absorbed-nil blake2s c.args.self.now); count
 pub each-preserved : goal.each-preserved
 each-preserved c =
     let taken = c.absorb_block.ensures in record {
-      taken = absorbed-next blake2s c.args.self.now c.each.self c.absorb_block.new.self c.args.blocks.now c.each.block-index c.each-test.true c.each.invariant.taken taken;
-      counted = omega (arith, c.each.invariant.counted, ap (λ (core : CoreState). core.count) taken, count-absorbed blake2s c.each.self (get_or c.args.blocks.now c.each.block-index [] ∷ []));
+      taken = absorbed-next blake2s c.args.self.now c.each.self c.absorb_block.new.self
+          c.args.blocks.now c.each.block-index c.each-test.true c.each.invariant.taken taken;
+      counted = omega (
+        arith,
+        c.each.invariant.counted,
+        ap (λ (core : CoreState). core.count) taken,
+        count-absorbed blake2s c.each.self (get_or c.args.blocks.now c.each.block-index [] ∷ []),
+      );
     }
 
 pub returns : goal.returns
-returns c = c.each.invariant.taken ∙ ap (absorbed blake2s c.args.self.now) (take_all c.each.block-index c.args.blocks.now c.each-test.false)
+returns c = c.each.invariant.taken ∙ ap (absorbed blake2s c.args.self.now)
+    (take_all c.each.block-index c.args.blocks.now c.each-test.false)

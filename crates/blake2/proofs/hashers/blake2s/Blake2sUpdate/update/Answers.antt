@@ -6,6 +6,7 @@ returns g c =
     let kept = c.update.ensures g.row.N [] in record {
       future = kept.future;
       started = kept.started;
+      last_node = kept.last_node;
       count = kept.count;
       start_count = kept.start_count;
     }

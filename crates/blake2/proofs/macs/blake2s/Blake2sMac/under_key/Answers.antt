@@ -1,8 +1,8 @@
 use Rattle.std.proofs.Common.{◌≡◌, Some, ◌∙◌}
 use Rattle.blake2_rows.specs.Family.{blake2s}
-use Rattle.blake2_words.specs.Hash.{key_block}
+use Rattle.blake2_words.specs.Hash.{key_block, sequential}
 use Rattle.blake2.specs.Hashers.{blake2s_mac_state}
-use Rattle.blake2.proofs.StateLaws.{Fresh_by, length-key_block_some}
+use Rattle.blake2.proofs.StateLaws.{Fresh_by, Fresh_unflagged, length-key_block_some}
 use Rattle.blake2.proofs.macs.blake2s.Blake2sMac.under_key.Goals as goal
 
 pub returns : goal.returns
@@ -13,5 +13,7 @@ returns g c =
     let made = c.new-2.ensures.core ∙ c.new_with_params-core.ensures in
     let pending = c.new-2.ensures.pending ∙ c.new.ensures ∙ block in
     let start_block = c.new-3.ensures ∙ block in
-    Fresh_by blake2s g.row.N blake2s_mac_state c.args.salt.now c.args.persona.now (Some key) 64 _ (length-key_block_some blake2s key c.requires.key)
-    (λ i. record { core = made i; pending = pending i; start_block = start_block i })
+    Fresh_unflagged _ _ _ _
+    (Fresh_by blake2s g.row.N blake2s_mac_state c.args.salt.now c.args.persona.now
+    (Some key) sequential 64 _ (length-key_block_some blake2s key c.requires.key)
+    (λ i. record { core = made i; pending = pending i; start_block = start_block i }))

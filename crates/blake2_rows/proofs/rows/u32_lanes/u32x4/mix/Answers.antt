@@ -1,11 +1,11 @@
 use Rattle.std.proofs.Common.{add-zero}
 use Rattle.blake2_rows.specs.Round.{mix}
-use Rattle.blake2_rows.proofs.Lanes.{same_in_four}
+use Rattle.blake2_rows.proofs.Lanes.{same_in_lanes}
 use Rattle.blake2_rows.proofs.rows.u32_lanes.u32x4.mix.Goals as goal
 
 pub returns : goal.returns
 unfolding mix
-returns c = same_in_four _ _ (
+returns c = same_in_lanes 4 _ _ (
     rw (
       c.rotate_right_const-b2.ensures,
       c.bitxor-3.ensures,

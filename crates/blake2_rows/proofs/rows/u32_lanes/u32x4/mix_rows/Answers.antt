@@ -13,5 +13,6 @@ returns c =
     let row1 = get_or_default v 1 c.index-v-1.result [] (omega arith) in
     let row2 = get_or_default v 2 c.index-v-2.result [] (omega arith) in
     let row3 = get_or_default v 3 c.index-v-3.result [] (omega arith) in
-    columns_by_lanes blake2s _ _ _ _ c.args.x c.args.y _ _ _ (lane_rotations blake2s c.mix.result.3 8) c.mix.ensures
+    columns_by_lanes blake2s _ _ _ _ c.args.x c.args.y _ _ _
+    (lane_rotations blake2s c.mix.result.3 8) c.mix.ensures
     ∙ (λ i. columns blake2s (sixteen (row0 i ∷ row1 i ∷ row2 i ∷ row3 i ∷ [])) c.args.x c.args.y)

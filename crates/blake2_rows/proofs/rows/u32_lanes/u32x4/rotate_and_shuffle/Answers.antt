@@ -9,4 +9,5 @@ returns c =
     let lanes = c.self.inside.lanes in
     let long : length lanes ≡ 4 = search rules in
     let fits : (i : ℕ) → Fits w32 (get_or lanes i 0) = search rules in
-    bytes_rotated blake2s 16 lanes refl long (λ i. (fits i).fits) ∙ ap (λ (row : List ℕ). shuffle_left 2 (lane_rotations blake2s row 8)) c.self.view_is
+    bytes_rotated blake2s 16 lanes refl long (λ i. (fits i).fits)
+    ∙ ap (λ (row : List ℕ). shuffle_left 2 (lane_rotations blake2s row 8)) c.self.view_is

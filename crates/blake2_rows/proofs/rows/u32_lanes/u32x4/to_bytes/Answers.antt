@@ -9,4 +9,5 @@ returns c =
     let lanes = c.self.inside.lanes in
     let long : length lanes ≡ 4 = omega arith in
     let fits : (i : ℕ) → Fits w32 (get_or lanes i 0) = search rules in
-    lanes_written blake2s 16 lanes (omega arith) (λ i. (fits i).fits) ∙ ap (lane_bytes blake2s) c.self.view_is
+    lanes_written blake2s 16 lanes (omega arith) (λ i. (fits i).fits)
+    ∙ ap (lane_bytes blake2s) c.self.view_is

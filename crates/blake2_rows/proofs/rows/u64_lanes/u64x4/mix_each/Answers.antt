@@ -9,6 +9,8 @@ returns c j h =
     let v = c.args.v.now in
     let long : length v ≡ 16 = search rules in
     let order = c.requires in
-    ap (λ row. in_lane j (set (set (set (set v c.args.a c.mix-va.result.0) c.args.b c.mix-va.result.1) c.args.c c.mix-va.result.2) c.args.d row)) c.rotate_right_const.ensures
-    ∙ mix_in_lane blake2b v c.args.a c.args.b c.args.c c.args.d _ _ _ _ c.mix-va.result.0 c.mix-va.result.1 c.mix-va.result.2 _ j _ _ (order.0, order.1, order.2, omega arith)
+    ap (λ row. in_lane j (set (set (set (set v c.args.a c.mix-va.result.0) c.args.b
+    c.mix-va.result.1) c.args.c c.mix-va.result.2) c.args.d row)) c.rotate_bytes.ensures
+    ∙ mix_in_lane blake2b v c.args.a c.args.b c.args.c c.args.d _ _ _ _ c.mix-va.result.0
+    c.mix-va.result.1 c.mix-va.result.2 _ j _ _ (order.0, order.1, order.2, omega arith)
     (c.mix-va.ensures j h)

@@ -1,0 +1,209 @@
+#!/usr/bin/env python3
+"""Times BLAKE2b-512 and BLAKE2s-256 as callers in C and in Rust meet them, beside other libraries, in one run.
+
+Tables, as Markdown on standard output, and a plot:
+
+- pieces: a message of 64 KiB in pieces, with the start and the end of the run: one update a piece.
+- once: digests in one call.
+- file: the program c/examples/sum.c over a file of random bytes, beside `b2 sum` and other programs, in
+  turns: the medians of the time by the clock and of the processor's.
+- plot: the message in pieces of 1 byte to 64 KiB, at each power of two.
+
+With --write all of them go into the documents: the tables to docs/SPEED.md, between its two marks for
+callers, and the plot to docs/callers.svg.
+
+The static library blake2_c is built for x86-64-v3. "ours from C" are calls of the header's functions in a
+program in C (callers/callers.c), "ours from Rust" those of the crate in rust/ (callers/rust). In all other
+points bench/speed.py says how it is timed, and which packages have the peers.
+
+usage: bench/callers.py [--mebibytes N] [--turns N] [--only pieces|once|file | --write]
+"""
+import ctypes
+import hashlib
+import os
+import shutil
+import statistics
+import subprocess
+import sys
+import tempfile
+import time
+
+import speed
+from speed import OUT, PEERS, TIMED, TOP, Column, Parser, at_least, say
+
+HERE = os.path.join(TOP, "bench", "callers")
+MARKS = ("<!-- measured by bench/callers.py -->\n", "<!-- end of what bench/callers.py measured -->\n")
+PICTURE = os.path.join(TOP, "docs", "callers.svg")
+CPU = "x86-64-v3"
+MESSAGE_BYTES = 1 << 16
+PIECES = (1, 64, 1024, 65536)
+ONCE_BYTES = (0, 64, 1024, 65536)
+PLOT_PIECES = tuple(1 << power for power in range(17))
+IN_PIECES = "_in_pieces"
+
+
+def installed():
+    """The folder where the library is installed, built for the processor that is timed."""
+    folder = os.path.join(OUT, "installed")
+    say(f"proving and building blake2_c for {CPU} (minutes, where nothing is kept of its proof)")
+    good, output = speed.outcome([os.path.join(TOP, "c", "install.sh"), "--cpu", CPU, folder])
+    if not good:
+        sys.exit("callers: the library was not built: " + output)
+    return folder
+
+
+def words_for(folder):
+    """The words of the C compiler for a program over the library."""
+    return ["-I" + os.path.join(folder, "include", "blake2_c"), os.path.join(folder, "lib", "libblake2_c.a")]
+
+
+def crate_in_rust(folder):
+    """The shared library over the crate in rust/; None where cargo is absent."""
+    command = ["cargo", "build", "--release", "--offline", "--manifest-path", os.path.join(HERE, "rust", "Cargo.toml"),
+               "--target-dir", os.path.join(OUT, "callers")]
+    os.environ["BLAKE2_C_LIB"] = os.path.join(folder, "lib")
+    if not speed.outcome(command)[0]:
+        say("the crate in rust/ is left out, since cargo did not build it")
+        return None
+    return os.path.join(OUT, "callers", "release", "libcallers.so")
+
+
+def libraries(folder):
+    """The shared libraries to time, by their names."""
+    of_c = speed.shared("callers.so", [os.path.join(HERE, "callers.c"), *words_for(folder)])
+    if of_c is None:
+        sys.exit("callers: a C compiler (cc) is needed")
+    found = {"ours from C": of_c, "ours from Rust": crate_in_rust(folder), "libb2": speed.libb2()[1],
+             "blake2_simd": speed.blake2_simd()[1], "OpenSSL's EVP": speed.openssl()}
+    return {name: ctypes.CDLL(path) for name, path in found.items() if path}
+
+
+class Calls:
+    """What is timed in memory: digests in one call, and in pieces."""
+
+    def __init__(self, turns, folder):
+        self.libraries = libraries(folder)
+        self.once = speed.Memory(turns, self.functions(""))
+        self.pieces = speed.Memory(turns, self.functions(IN_PIECES))
+        self.measured = {}
+
+    def functions(self, way):
+        """The functions by the names of the libraries and their kinds' words."""
+        return {name: {kind.word: getattr(library, kind.function + way) for kind in TIMED}
+                for name, library in self.libraries.items()}
+
+    def best_once(self, kind, length):
+        """The best time in nanoseconds of a digest in one call by each library."""
+        return self.once.best(kind, length)
+
+    def best_in_pieces(self, kind, piece):
+        """The best time in nanoseconds of the message in such pieces by each library."""
+        if (kind, piece) not in self.measured:
+            for library in self.libraries.values():
+                library.set_piece(ctypes.c_size_t(piece))
+            self.measured[kind, piece] = self.pieces.timed(kind, MESSAGE_BYTES)
+        return self.measured[kind, piece]
+
+
+def pieces_table(kind, calls):
+    """The table of a message in pieces."""
+    columns = [Column(f"pieces of {piece:,}, GB/s", calls.best_in_pieces(kind, piece), speed.rate(MESSAGE_BYTES))
+               for piece in PIECES]
+    return speed.table(f"{kind.title}, 64 KiB in pieces", columns)
+
+
+def once_table(kind, calls):
+    """The table of digests in one call."""
+    columns = [Column(f"{length:,} bytes, ns", calls.best_once(kind, length), "{:.0f}".format)
+               for length in ONCE_BYTES]
+    return speed.table(f"{kind.title} in one call", columns)
+
+
+def programs(folder):
+    """The commands to time by their names; each reads standard input."""
+    example = speed.compiled("sum", [os.path.join(TOP, "c", "examples", "sum.c"), *words_for(folder)])
+    b2 = speed.built("b2", "run", ["--", "sum", "b512"], "b2", CPU)
+    found = {"ours: `c/examples/sum.c`": [example], "ours: `b2 sum`": [b2, "sum", "b512"]}
+    if shutil.which("b2sum"):
+        found["`b2sum`"] = ["b2sum"]
+    for name, (program, _) in (("libb2", speed.libb2()), ("blake2_simd", speed.blake2_simd())):
+        if program:
+            found[name] = [program, "b512"]
+    return found
+
+
+def times(command, file, wanted):
+    """The seconds of one run over this input, by the clock and of the processor."""
+    file.seek(0)
+    start = time.perf_counter()
+    process = subprocess.Popen(command, stdin=file, stdout=subprocess.PIPE, text=True)
+    printed = process.stdout.read()
+    _, status, used = os.wait4(process.pid, 0)
+    taken = time.perf_counter() - start
+    process.returncode = os.waitstatus_to_exitcode(status)
+    if process.returncode != 0 or wanted not in printed:
+        sys.exit(f"callers: {command[0]} failed, or gave another digest")
+    return taken, used.ru_utime + used.ru_stime
+
+
+def file_table(options, folder):
+    """The table of programs over a file: medians of runs that take turns."""
+    commands = programs(folder)
+    runs = {name: [] for name in commands}
+    with speed.random_file(options.mebibytes) as file:
+        file.seek(0)
+        wanted = hashlib.file_digest(file, "blake2b").hexdigest()
+        say("timing programs")
+        for _ in range(options.turns):
+            for name, command in commands.items():
+                runs[name].append(times(command, file, wanted))
+    titles = ("by the clock, GB/s", "of the processor's time, GB/s")
+    rows = [[f"{options.mebibytes} MiB from a file, BLAKE2b-512"]]
+    for title in titles:
+        rows[0] += [title, "ratio to `b2 sum`"]
+    rows.append(["---"] * len(rows[0]))
+    median = {name: [statistics.median(column) for column in zip(*taken)] for name, taken in runs.items()}
+    for name, taken in median.items():
+        row = [name]
+        for place, seconds in enumerate(taken):
+            row += [speed.rate(options.mebibytes << 20)(seconds * 1e9),
+                    f"{median['ours: `b2 sum`'][place] / seconds:.2f}"]
+        rows.append(row)
+    return "".join(map(speed.row_text, rows))
+
+
+def options_given():
+    """The options of the command line."""
+    parser = Parser(description=__doc__.split("\n\n")[0])
+    parser.add_argument("--mebibytes", type=at_least(1), default=1024, help="the size of the file (1024)")
+    parser.add_argument("--turns", type=at_least(1), default=7, help="how often each program is timed (7)")
+    which = parser.add_mutually_exclusive_group()
+    which.add_argument("--only", choices=("pieces", "once", "file"), help="one part alone")
+    which.add_argument("--write", action="store_true", help="put all into docs/SPEED.md and docs/callers.svg")
+    return parser.parse_args()
+
+
+def parts_of(options):
+    """The heading and the tables, each once it is measured; with --write the plot is drawn last."""
+    folder = installed()
+    yield (f"{speed.machine()}; {speed.versions()}; built for {CPU}; best of {options.turns * speed.PLOT_TURNS} "
+           f"or more in memory, medians of {options.turns} over the file.\n")
+    if options.only in (None, "file"):
+        yield speed.with_load(file_table(options, folder))
+    if options.only == "file":
+        return
+    calls = Calls(options.turns, folder)
+    for name, table in (("pieces", pieces_table), ("once", once_table)):
+        if options.only in (None, name):
+            yield from (speed.with_load(table(kind, calls)) for kind in TIMED)
+    if options.write:
+        with open(PICTURE, "w") as file:
+            file.write(speed.picture(PLOT_PIECES, "bytes of a piece", lambda _: MESSAGE_BYTES, calls.best_in_pieces))
+
+
+def main():
+    speed.run(options_given(), parts_of, MARKS)
+
+
+if __name__ == "__main__":
+    main()

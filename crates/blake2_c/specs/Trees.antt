@@ -1,0 +1,20 @@
+-- What the exports on trees are given.
+use Rattle.std.specs.Prelude.{◌≡◌, ℕ, ◌^◌, ◌<◌, ◌≤◌, ◌⊎◌}
+use Rattle.blake2_words.specs.Hash.{Tree}
+
+-- the place of these numbers, in the order of the parameter block (the BLAKE2 document, 2.8)
+abbrev pub place : ℕ → ℕ → ℕ → ℕ → ℕ → ℕ → Tree
+place fanout depth leaf_length node_offset node_depth inner_length = record {
+  fanout = fanout;
+  depth = depth;
+  leaf_length = leaf_length;
+  node_offset = node_offset;
+  node_depth = node_depth;
+  inner_length = inner_length;
+}
+
+-- a salt or persona of so many bytes, leaves of that length or a message of n bytes are none that
+-- the tree of two levels takes
+abbrev pub IsRefusedTree : ℕ → ℕ → ℕ → ℕ → Type 0
+IsRefusedTree salt persona leaf_length n =
+    (16 < salt) ⊎ (16 < persona) ⊎ (leaf_length ≡ 0) ⊎ (2 ^ 58 ≤ n)

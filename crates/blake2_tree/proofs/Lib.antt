@@ -1,0 +1,3 @@
+mod Leaves
+mod NodeLemmas
+mod Roots

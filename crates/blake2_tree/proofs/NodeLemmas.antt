@@ -1,0 +1,190 @@
+-- The nodes of a tree as inputs.
+use Rattle.std.proofs.Common.{◌≡◌, ◌≢◌, ◌↔◌, ℕ, zero, suc, ◌+◌, ◌*◌, ◌^◌, ◌<◌, ◌≤◌, Bool, List, []}
+use Rattle.std.proofs.Common.{◌++◌, length, take, drop, refl, sym, ap, ◌∙◌, arith, append-nil}
+use Rattle.std.proofs.Common.{append_assoc, length-append}
+use Rattle.std.proofs.lemmas.List.{take_at, drop_at}
+use Rattle.std.proofs.Math.Nat.{eq_of_mul-eq-mul_right}
+use Rattle.std.specs.List.{flat_map, range_with_len}
+use Rattle.blake2_rows.specs.Family.{blake2b}
+use Rattle.blake2_words.specs.Hash.{AreBytes, key_block, digest}
+use Rattle.blake2_words.specs.Inputs.{Accepts}
+use Rattle.blake2_words.proofs.Sizes.{length-digest}
+use Rattle.blake2.specs.declared.hashers.blake2b.Blake2b.{Blake2b}
+use Rattle.blake2_digest.specs.States.{digest_now, Updated, Fresh, NodeSet}
+use Rattle.blake2.specs.Hashers.{blake2b_meaning}
+use Rattle.blake2_words.specs.Witness.{Collide}
+use Rattle.blake2_words.specs.Pieces.{IsFirstDifference}
+use Rattle.blake2_tree.specs.TreeRoot.{TreeParameters, leaf_count, leaf, node, leaf_input}
+use Rattle.blake2_tree.specs.TreeRoot.{leaf_digests, root_over, root_input, tree_root}
+use Rattle.blake2_tree.specs.TreeWitnesses.{RootsCollide}
+
+-- ---- what BLAKE2b takes
+
+-- salt and persona are such as it takes
+pub record AreTaken (s : TreeParameters) : Type 0 where
+  pub salt_fits : length s.salt ≤ 16
+  pub persona_fits : length s.persona ≤ 16
+  pub salt_is : AreBytes s.salt
+  pub persona_is : AreBytes s.persona
+  pub leaf_length : s.leaf_length < 2 ^ 32
+
+-- it takes each node
+pub Accepts-node : (s : TreeParameters) (offset depth : ℕ) (last : Bool) (bytes : List ℕ)
+    → AreTaken s → offset < 2 ^ 64 → depth < 256
+    → length bytes < 2 ^ 64 → AreBytes bytes → Accepts blake2b (node s offset depth last bytes)
+unfolding key_block
+Accepts-node s offset depth last bytes taken offset_fits depth_fits counted bytes_are = record {
+  salt_fits = taken.salt_fits;
+  persona_fits = taken.persona_fits;
+  key_fits = tt;
+  counted = counted;
+  tree = record {
+    fanout = omega arith;
+    depth_given = omega arith;
+    depth = omega arith;
+    leaf_length = taken.leaf_length;
+    node_offset = offset_fits;
+    node_depth =
+        depth_fits;
+    inner_length = omega arith;
+  };
+  salt_bytes = taken.salt_is;
+  persona_bytes = taken.persona_is;
+  message_bytes = bytes_are;
+}
+
+-- ---- lists of one length, joined
+
+-- one more
+flat_map-range_push : {A : Type 0} (f : ℕ → List A) (a n : ℕ)
+    → flat_map f (range_with_len a (suc n)) ≡ flat_map f (range_with_len a n) ++ f (a + n)
+flat_map-range_push f a zero = append-nil (f a) ∙ (let at : a ≡ a + 0 = omega arith in ap f at)
+flat_map-range_push f a (suc n) =
+    let at : a + 1 + n ≡ a + suc n = omega arith in
+    ap (λ rest. f a ++ rest) (flat_map-range_push f (a + 1) n)
+    ∙ sym (append_assoc (f a) (flat_map f (range_with_len (a + 1) n)) (f (a + 1 + n)))
+    ∙ ap (λ i. (f a ++ flat_map f (range_with_len (a + 1) n)) ++ f i) at
+
+-- how long they are
+length-flat_map-range : {A : Type 0} (f : ℕ → List A) (k : ℕ) → ((i : ℕ) → length (f i) ≡ k)
+    → (a n : ℕ) → length (flat_map f (range_with_len a n)) ≡ n * k
+length-flat_map-range f k len a zero = omega arith
+length-flat_map-range f k len a (suc n) =
+    omega (
+      arith,
+      length-append (f a) (flat_map f (range_with_len (a + 1) n)),
+      len a,
+      length-flat_map-range f k len (a + 1) n,
+    )
+
+-- where the joined lists are equal, so is each
+flat_map-range_same : {A : Type 0} (f g : ℕ → List A) (k : ℕ) → ((i : ℕ) → length (f i) ≡ k)
+    → ((i : ℕ) → length (g i) ≡ k) → (a n i : ℕ) → i < n
+    → flat_map f (range_with_len a n) ≡ flat_map g (range_with_len a n) → f (a + i) ≡ g (a + i)
+flat_map-range_same f g k len_f len_g a zero i below same = absurd (omega arith)
+flat_map-range_same f g k len_f len_g a (suc n) zero below same =
+    let at : a + 0 ≡ a = omega arith in
+    rw at (sym (take_at (f a) _ k (len_f a)) ∙ ap (take k) same ∙ take_at (g a) _ k (len_g a))
+flat_map-range_same f g k len_f len_g a (suc n) (suc i) below same =
+    let at : a + suc i ≡ a + 1 + i = omega arith in
+    rw at (flat_map-range_same f g k len_f len_g (a + 1) n i (omega arith)
+    (sym (drop_at (f a) _ k (len_f a)) ∙ ap (drop k) same ∙ drop_at (g a) _ k (len_g a)))
+
+-- ---- the digests of the leaves
+
+-- the digest of leaf i
+abbrev pub leaf_digest : TreeParameters → List ℕ → ℕ → List ℕ
+leaf_digest s message i = digest blake2b 64 (leaf_input s message i)
+
+-- those of the first n leaves, joined
+abbrev pub digests_before : TreeParameters → List ℕ → ℕ → List ℕ
+digests_before s message n = flat_map (leaf_digest s message) (range_with_len 0 n)
+
+pub digests_before-more : (s : TreeParameters) (message : List ℕ) (n : ℕ)
+    → digests_before s message (n + 1) ≡ digests_before s message n ++ leaf_digest s message n
+digests_before-more s message n =
+    let more : n + 1 ≡ suc n = omega arith in
+    let at : 0 + n ≡ n = omega arith in
+    ap (digests_before s message) more ∙ flat_map-range_push (leaf_digest s message) 0 n
+    ∙ ap (λ i. digests_before s message n ++ leaf_digest s message i) at
+
+pub leaf_digests-all : (s : TreeParameters) (message : List ℕ)
+    → digests_before s message (leaf_count s.leaf_length (length message)) ≡ leaf_digests s message
+unfolding leaf_digests
+leaf_digests-all s message = refl
+
+length-leaf_digest : (s : TreeParameters) (message : List ℕ) (i : ℕ)
+    → length (leaf_digest s message i) ≡ 64
+length-leaf_digest s message i = length-digest blake2b 64 (leaf_input s message i) (omega arith)
+
+pub length-leaf_digests : (s : TreeParameters) (message : List ℕ)
+    → length (leaf_digests s message) ≡ leaf_count s.leaf_length (length message) * 64
+length-leaf_digests s message =
+    ap length (sym (leaf_digests-all s message))
+    ∙ length-flat_map-range (leaf_digest s message) 64 (length-leaf_digest s message) 0
+    (leaf_count s.leaf_length (length message))
+
+-- messages whose leaves have the same digests have equally many leaves
+pub leaf_count-same : (s : TreeParameters) (a b : List ℕ) → leaf_digests s a ≡ leaf_digests s b
+    → leaf_count s.leaf_length (length a) ≡ leaf_count s.leaf_length (length b)
+leaf_count-same s a b same =
+    eq_of_mul-eq-mul_right 64 (omega arith) (leaf_count s.leaf_length (length a))
+    (leaf_count s.leaf_length (length b))
+    (sym (length-leaf_digests s a) ∙ ap length same ∙ length-leaf_digests s b)
+
+-- and each leaf of the one has the digest of the other's
+pub leaf_digest-same : (s : TreeParameters) (a b : List ℕ) (i : ℕ)
+    → leaf_digests s a ≡ leaf_digests s b → i < leaf_count s.leaf_length (length a)
+    → leaf_digest s a i ≡ leaf_digest s b i
+leaf_digest-same s a b i same below =
+    let n = leaf_count s.leaf_length (length a) in
+    let joined : digests_before s a n ≡ digests_before s b n =
+    leaf_digests-all s a ∙ same ∙ sym (leaf_digests-all s b)
+    ∙ ap (digests_before s b) (sym (leaf_count-same s a b same)) in
+    let at : 0 + i ≡ i = omega arith in
+    rw at at (flat_map-range_same (leaf_digest s a) (leaf_digest s b) 64 (length-leaf_digest s a)
+    (length-leaf_digest s b) 0 n i below joined)
+
+-- ---- hashing a node
+
+-- a hasher that was just made, with its flag set, once it has taken the node's bytes
+pub digest_now-hashed : {n : ℕ} (of : Bool → List ℕ → List ℕ) (made flagged taken : Blake2b n)
+    (on : Bool) (x : List ℕ) → Fresh (blake2b_meaning n) of 0 made
+    → NodeSet (blake2b_meaning n) made on flagged → Updated (blake2b_meaning n) flagged x taken
+    → digest_now (blake2b_meaning n) taken ≡ of on x
+digest_now-hashed {n} of made flagged taken on x fresh set updated =
+    let flag : (blake2b_meaning n).last_node taken ≡ on = updated.last_node ∙ set.last_node in
+    ap (λ (b : Bool). (blake2b_meaning n).future taken b []) flag ∙ updated.future on []
+    ∙ set.future on (x ++ []) ∙ fresh.future on (x ++ [])
+    ∙ ap (of on) (append-nil x)
+
+-- ---- two messages with one root
+
+-- where the digests of the leaves differ, the roots are what collides
+pub RootsCollide-root : (size : ℕ) (s : TreeParameters) (a b : List ℕ)
+    → leaf_digests s a ≢ leaf_digests s b
+    → Collide blake2b size (root_input s a) (root_input s b) ↔ RootsCollide size s a b
+unfolding tree_root
+RootsCollide-root size s a b differ = (
+  (λ c. record { different = λ e. differ (ap (leaf_digests s) e); roots = c.digests }),
+  (λ c. record { different = λ same. differ same.message; digests = c.roots }),
+)
+
+-- where they are equal, the first leaves that differ collide
+pub Collide-leaf : (s : TreeParameters) (a b : List ℕ) (i : ℕ) → leaf_digests s a ≡ leaf_digests s b
+    → IsFirstDifference s.leaf_length a b i
+    → Collide blake2b 64 (leaf_input s a i) (leaf_input s b i)
+Collide-leaf s a b i same first = record {
+  different = λ c. first.differ c.message;
+  digests = leaf_digest-same s a b i same first.within;
+}
+
+-- and so do the roots
+pub RootsCollide-leaf : (size : ℕ) (s : TreeParameters) (a b : List ℕ) (i : ℕ)
+    → leaf_digests s a ≡ leaf_digests s b → IsFirstDifference s.leaf_length a b i
+    → RootsCollide size s a b
+unfolding tree_root
+RootsCollide-leaf size s a b i same first = record {
+  different = λ e. first.differ (ap (λ m. leaf s.leaf_length m i) e);
+  roots = ap (λ digests. digest blake2b size (root_over s digests)) same;
+}

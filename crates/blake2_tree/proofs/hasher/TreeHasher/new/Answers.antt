@@ -1,0 +1,16 @@
+use Rattle.std.proofs.Common.{ap, ◌∙◌}
+use Rattle.blake2_tree.specs.Nodes.{parameters_of}
+use Rattle.blake2_tree.specs.TreeRoot.{tree_root}
+use Rattle.blake2_tree.specs.TreeHashers.{future}
+use Rattle.blake2_tree.proofs.Roots.{root_to_come-made}
+use Rattle.blake2_tree.proofs.hasher.TreeHasher.new.Goals as goal
+
+pub returns-clause-root : goal.returns-clause-root
+unfolding future
+returns-clause-root g c = λ y.
+    let nodes = c.new-nodes.result in
+    let leaf = c.open_leaf.ensures in
+    root_to_come-made (parameters_of nodes) c.open_root.result c.open_leaf.result y
+    nodes.some_length
+    (record { digests = leaf.future; empty = leaf.count }) c.open_root.ensures.future
+    ∙ ap (λ s. tree_root g.row.N s y) c.new-nodes.ensures

@@ -1,0 +1,35 @@
+use Rattle.std.proofs.Common.{◌∙◌, ◌+◌, arith}
+use Rattle.blake2_tree.specs.Nodes.{parameters_of}
+use Rattle.blake2_tree.specs.TreeHashers.{future}
+use Rattle.blake2_tree.proofs.Roots.{root_to_come-took, IsOpened-updated}
+use Rattle.blake2_tree.proofs.hasher.TreeHasher.update.Goals as goal
+
+pub loop-rest-preserved-then-rest-four : goal.loop-rest-preserved-then-rest-four
+loop-rest-preserved-then-rest-four g c = record {
+  future = λ y. c.close_four-rest.ensures.future y ∙ c.loop-rest.invariant.future y;
+  count = c.close_four-rest.ensures.count ∙ c.loop-rest.invariant.count;
+}
+
+pub loop-rest-preserved : goal.loop-rest-preserved
+loop-rest-preserved g c = record {
+  future = λ y. c.close_leaf-rest.ensures.future y ∙ c.loop-rest.invariant.future y;
+  count = c.close_leaf-rest.ensures.count ∙ c.loop-rest.invariant.count;
+}
+
+pub invariant_of-self-clause-opened : goal.invariant_of-self-clause-opened
+invariant_of-self-clause-opened g c =
+    let left = c.loop-rest.self in
+    IsOpened-updated (parameters_of left.nodes) left.closed left.leaf c.update.new.self
+    c.loop-rest.rest.now left.opened c.update.ensures
+
+pub returns : goal.returns
+unfolding future
+returns g c =
+    let left = c.loop-rest.self in
+    record {
+      future = λ y.
+          root_to_come-took (parameters_of left.nodes) left.root left.leaf c.update.new.self
+          (left.closed + 1) c.loop-rest.rest.now y c.update.ensures (omega arith)
+          ∙ c.loop-rest.invariant.future y;
+      count = omega (arith, c.update.ensures.count, c.loop-rest.invariant.count);
+    }

@@ -1,0 +1,22 @@
+use Rattle.std.proofs.Common.{arith}
+use Rattle.blake2_words.specs.Hash.{AreBytes}
+use Rattle.blake2_tree.specs.Nodes.{parameters_of}
+use Rattle.blake2_tree.proofs.NodeLemmas.{AreTaken, Accepts-node}
+use Rattle.blake2_tree.proofs.nodes.Nodes.node.Goals as goal
+
+pub returns-clause-accepted : goal.returns-clause-accepted
+returns-clause-accepted c =
+    let salt = c.as_slice.ensures in
+    let persona = c.as_slice-2.ensures in
+    let p = parameters_of c.args.self.now in
+    let taken : AreTaken p = record {
+      salt_fits = salt.short;
+      persona_fits = persona.short;
+      salt_is = salt.are;
+      persona_is = persona.are;
+      leaf_length = omega arith;
+    } in
+    let bytes : AreBytes c.args.bytes.now = λ i. omega (arith, c.type_inv.bytes i) in
+    rw (salt.bytes, persona.bytes, c.place.ensures)
+    (Accepts-node p c.args.node_offset c.args.node_depth c.args.last_node c.args.bytes.now taken
+    (omega arith) (omega arith) (omega arith) bytes)

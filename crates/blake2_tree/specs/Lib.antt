@@ -1,0 +1,4 @@
+pub mod Nodes
+pub mod TreeHashers
+pub mod TreeRoot
+pub mod TreeWitnesses

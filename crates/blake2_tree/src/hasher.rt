@@ -1,0 +1,167 @@
+//! The tree over a message that comes in pieces.
+ghost use Rattle.std.specs.Prelude.{◌≡◌, ℕ, ◌+◌, ◌*◌, ◌^◌, ◌<◌, ◌≤◌, List, [], length, false};
+ghost use Rattle.std.specs.List.{concat};
+ghost use Rattle.blake2.specs.Hashers.{blake2b_meaning};
+ghost use Rattle.blake2_digest.specs.States.{Updated};
+ghost use Rattle.blake2_tree.specs.Nodes.{parameters_of, IsOpened};
+ghost use Rattle.blake2_tree.specs.TreeRoot.{tree_parameters, tree_root as root_of};
+
+use crate::nodes::Nodes;
+use blake2::Blake2b;
+use blake2::digest::{FixedOutput, LastNode, Update};
+use std::mem;
+
+/// A tree of hashes with two levels over BLAKE2b, its root of `N` bytes, at most 64. It takes no
+/// memory, and four whole leaves with more input behind them are hashed at once.
+// A full leaf stays open until more input comes, since only the end shows which leaf is the last.
+#[derive(Drop)]
+pub struct TreeHasher<const N: usize> {
+    nodes: Nodes,
+    // How many leaves are closed: the root has taken their digests.
+    closed: u64,
+    // The open leaf, full or not.
+    leaf: Blake2b<64>,
+    root: Blake2b<N>,
+    ghost within_a_leaf: { (blake2b_meaning 64).count leaf ≤ nodes.leaf_length },
+    ghost not_the_last: { (blake2b_meaning 64).last_node leaf ≡ false },
+    ghost counted: { closed * nodes.leaf_length + (blake2b_meaning 64).count leaf < 2 ^ 58 },
+    ghost digests_taken: { (blake2b_meaning N).count root ≡ 64 * closed },
+    // A leaf that has no bytes yet is as it was opened.
+    ghost opened: { (blake2b_meaning 64).count leaf ≡ 0
+        → IsOpened (parameters_of nodes) closed leaf },
+    // The digest of the open leaf still fits the root's count.
+    ghost one_more_fits: { closed + 1 < 2 ^ 58 },
+}
+
+impl<const N: usize> TreeHasher<N> {
+    ghost use Rattle.blake2_tree.specs.TreeHashers.{future, count, room, Took, WentOn};
+
+    /// A hasher that has taken nothing. Salt and persona have at most 16 bytes each, and a leaf has
+    /// `leaf_length` bytes, 1 to 2^32 - 1.
+    pub fn new(salt: &[u8], persona: &[u8], leaf_length: u32) -> Self
+        requires size { N ≤ 64 }
+        requires salt { length salt.now ≤ 16 }
+        requires persona { length persona.now ≤ 16 }
+        requires leaf_length { 1 ≤ leaf_length }
+        ensures root { (y : List ℕ) → future result y
+            ≡ root_of N (tree_parameters salt.now persona.now leaf_length) y }
+        ensures nothing { count result ≡ 0 }
+    {
+        let nodes = Nodes::new(salt, persona, leaf_length);
+        TreeHasher {
+            leaf: nodes.open_leaf(0),
+            root: nodes.open_root(),
+            closed: 0,
+            nodes,
+        }
+    }
+
+    /// Takes the input after all that was taken before; fewer than 2^58 bytes in all.
+    pub fn update(&mut self, input: &[u8])
+        requires { count self.old + length input.now < 2 ^ 58 }
+        ensures { Took self.old input.now self.new }
+    {
+        let mut rest = input;
+        while rest.len() as u64 > self.room() {
+            let four = 4 * self.nodes.leaf_length as usize;
+            rest = if self.leaf.counted() == 0 && rest.len() > four {
+                self.close_four(rest)
+            } else {
+                self.close_leaf(rest)
+            };
+        }
+        self.leaf.update(rest);
+    }
+
+    /// The bytes of the message that it has taken so far.
+    pub fn counted(&self) -> u64
+        ensures { result ≡ count self.now }
+    {
+        self.closed * u64::from(self.nodes.leaf_length) + self.leaf.counted()
+    }
+
+    /// The root of all that was taken.
+    pub fn finalize(self) -> [u8; N]
+        ensures { result ≡ future self.entry [] }
+    {
+        let TreeHasher {
+            nodes: _,
+            closed: _,
+            mut leaf,
+            mut root,
+        } = self;
+        leaf.set_last_node(true);
+        root.update(&leaf.finalize_fixed());
+        root.set_last_node(true);
+        root.finalize_fixed()
+    }
+
+    // The bytes that the open leaf still takes.
+    fn room(&self) -> u64
+        ensures { result ≡ room self.now }
+    {
+        u64::from(self.nodes.leaf_length) - self.leaf.counted()
+    }
+
+    // Fills the open leaf up and closes it; it is not the last, since more follows. Opens the next
+    // one and answers what is left of the input.
+    fn close_leaf<'a>(&mut self, input: &'a [u8]) -> &'a [u8]
+        requires more { room self.old < length input.now }
+        requires fits { count self.old + length input.now < 2 ^ 58 }
+        ensures { WentOn self.old input.now self.new result.now }
+    {
+        let (head, rest) = input.split_at(self.room() as usize);
+        self.leaf.update(head);
+        let next = self.nodes.open_leaf(self.closed + 1);
+        let full = mem::replace(&mut self.leaf, next);
+        self.root.update(&full.finalize_fixed());
+        self.closed += 1;
+        rest
+    }
+
+    // Closes four leaves at once that are whole and not the last: the open one, which is empty, and
+    // the next three. Opens the next one and answers what is left of the input.
+    fn close_four<'a>(&mut self, input: &'a [u8]) -> &'a [u8]
+        requires empty { (blake2b_meaning 64).count self.old.leaf ≡ 0 }
+        requires more { 4 * self.old.nodes.leaf_length < length input.now }
+        requires fits { count self.old + length input.now < 2 ^ 58 }
+        ensures { WentOn self.old input.now self.new result.now }
+    {
+        let digests = self.nodes.hash_four(self.closed, input);
+        take_digests(&mut self.root, &digests);
+        self.closed += 4;
+        self.leaf = self.nodes.open_leaf(self.closed);
+        &input[4 * self.nodes.leaf_length as usize..]
+    }
+}
+
+// Gives a hasher these digests, in order.
+fn take_digests<const N: usize>(root: &mut Blake2b<N>, digests: &[[u8; 64]])
+    requires { (blake2b_meaning N).count root.old + length (concat digests.now) < 2 ^ 64 }
+    ensures { Updated (blake2b_meaning N) root.old (concat digests.now) root.new }
+{
+    for digest in digests {
+        root.update(digest);
+    }
+}
+
+/// The root of a message, as [`TreeHasher`] gives it: `N` bytes, at most 64. Salt and persona have
+/// at most 16 bytes each, a leaf has `leaf_length` bytes, 1 to 2^32 - 1, and the message fewer than
+/// 2^58. It takes no memory.
+pub fn tree_root<const N: usize>(
+    salt: &[u8],
+    persona: &[u8],
+    leaf_length: u32,
+    message: &[u8],
+) -> [u8; N]
+    requires size { N ≤ 64 }
+    requires salt { length salt.now ≤ 16 }
+    requires persona { length persona.now ≤ 16 }
+    requires leaf_length { 1 ≤ leaf_length }
+    requires message { length message.now < 2 ^ 58 }
+    ensures { result ≡ root_of N (tree_parameters salt.now persona.now leaf_length) message.now }
+{
+    let mut hasher = TreeHasher::new(salt, persona, leaf_length);
+    hasher.update(message);
+    hasher.finalize()
+}

@@ -1,0 +1,52 @@
+//! A salt or a persona that is kept.
+ghost use Rattle.std.specs.Prelude.{◌≡◌, ℕ, ◌≤◌, List, length, take};
+ghost use Rattle.blake2_words.specs.Hash.{AreBytes};
+
+use std::marker::Model;
+
+/// At most 16 bytes.
+#[derive(Drop)]
+pub(crate) struct Label {
+    bytes: [u8; 16],
+    length: usize,
+}
+
+impl Model for Label {
+    ghost Value = { List ℕ };
+
+    ghost view = { λ l. take l.length l.bytes };
+
+    ghost invariant = { λ l. l.length ≤ 16 };
+}
+
+impl Label {
+    /// Keeps these bytes.
+    pub(crate) fn new(text: &[u8]) -> Self
+        requires { length text.now ≤ 16 }
+        ensures { result ≡ text.now }
+    {
+        let mut bytes = [0; 16];
+        let (kept, _) = bytes.split_at_mut(text.len());
+        kept.copy_from_slice(text);
+        Label {
+            bytes,
+            length: text.len(),
+        }
+    }
+
+    /// The bytes that are kept.
+    pub(crate) fn as_slice(&self) -> &[u8]
+        ensures bytes { result.now ≡ self.now }
+        ensures short { length self.now ≤ 16 }
+        ensures are { AreBytes self.now }
+    {
+        let kept = &self.bytes[..self.length];
+        tell_bytes(kept);
+        kept
+    }
+}
+
+// Does nothing. Proofs read from the type of the slice that each element is a byte.
+fn tell_bytes(_text: &[u8])
+    ensures { AreBytes _text.now }
+{}

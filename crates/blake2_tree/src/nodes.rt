@@ -1,0 +1,151 @@
+//! The nodes of a tree: hashers and inputs of them, and their digests.
+ghost use Rattle.std.specs.Prelude.{◌≡◌, ◌+◌, ◌*◌, ◌^◌, ◌<◌, ◌≤◌, length, IfOk};
+ghost use Rattle.blake2.specs.Hashers.{blake2b_meaning};
+ghost use Rattle.blake2_digest.specs.States.{Fresh};
+ghost use Rattle.blake2_rows.specs.Family.{blake2b};
+ghost use Rattle.blake2_words.specs.Inputs.{Accepts};
+ghost use Rattle.blake2_words.specs.Views.{tree_of, input_of};
+ghost use Rattle.blake2_tree.specs.TreeRoot.{place, node, leaf_count, leaf_digests, leaf_input};
+ghost use Rattle.blake2_tree.specs.TreeRoot.{root_over, tree_parameters};
+
+use crate::label::Label;
+use blake2::digest::{FixedOutput, LastNode, Update};
+use blake2::laws::pieces::{piece, piece_count};
+use blake2::steps::{Input, Tree};
+use blake2::{Blake2b, many};
+use std::alloc::{AllocError, Global};
+
+// The place of a node in a tree with leaves of this length.
+fn place(leaf_length: u32, node_offset: u64, node_depth: u8) -> Tree
+    ensures { tree_of result ≡ place leaf_length node_offset node_depth }
+{
+    Tree {
+        fanout: 0,
+        depth: 2,
+        leaf_length,
+        node_offset,
+        node_depth,
+        inner_length: 64,
+    }
+}
+
+/// What the nodes of one tree share.
+#[derive(Drop)]
+pub(crate) struct Nodes {
+    salt: Label,
+    persona: Label,
+    pub(crate) leaf_length: u32,
+    ghost some_length: { 1 ≤ leaf_length },
+}
+
+impl Nodes {
+    ghost use Rattle.blake2_tree.specs.Nodes.{parameters_of, node_digest, four_digests};
+
+    /// Keeps what the nodes share.
+    pub(crate) fn new(salt: &[u8], persona: &[u8], leaf_length: u32) -> Self
+        requires salt { length salt.now ≤ 16 }
+        requires persona { length persona.now ≤ 16 }
+        requires leaf_length { 1 ≤ leaf_length }
+        ensures { parameters_of result ≡ tree_parameters salt.now persona.now leaf_length }
+    {
+        Nodes {
+            salt: Label::new(salt),
+            persona: Label::new(persona),
+            leaf_length,
+        }
+    }
+
+    /// A hasher of leaf `i`.
+    pub(crate) fn open_leaf(&self, i: u64) -> Blake2b<64>
+        ensures { Fresh (blake2b_meaning 64)
+            (node_digest 64 (parameters_of self.now) i 0) 0 result }
+    {
+        let place = place(self.leaf_length, i, 0);
+        Blake2b::new_with_tree(self.salt.as_slice(), self.persona.as_slice(), &place)
+    }
+
+    /// A hasher of the root.
+    pub(crate) fn open_root<const N: usize>(&self) -> Blake2b<N>
+        requires { N ≤ 64 }
+        ensures { Fresh (blake2b_meaning N) (node_digest N (parameters_of self.now) 0 1) 0 result }
+    {
+        let place = place(self.leaf_length, 0, 1);
+        Blake2b::new_with_tree(self.salt.as_slice(), self.persona.as_slice(), &place)
+    }
+
+    // A node as an input.
+    fn node<'a>(
+        &'a self,
+        node_offset: u64,
+        node_depth: u8,
+        last_node: bool,
+        bytes: &'a [u8],
+    ) -> Input<'a>
+        ensures is { input_of result
+            ≡ node (parameters_of self.now) node_offset node_depth last_node bytes.now }
+        ensures accepted { Accepts blake2b (input_of result) }
+    {
+        Input {
+            salt: self.salt.as_slice(),
+            persona: self.persona.as_slice(),
+            key: None,
+            tree: place(self.leaf_length, node_offset, node_depth),
+            last_node,
+            message: bytes,
+        }
+    }
+
+    /// Leaf `i` of a message, as an input.
+    pub(crate) fn leaf<'a>(&'a self, message: &'a [u8], i: usize) -> Input<'a>
+        requires { i < leaf_count self.now.leaf_length (length message.now) }
+        ensures is { input_of result ≡ leaf_input (parameters_of self.now) message.now i }
+        ensures accepted { Accepts blake2b (input_of result) }
+    {
+        let length = self.leaf_length as usize;
+        let is_last = i + 1 == piece_count(length, message);
+        self.node(i as u64, 0, is_last, piece(length, message, i))
+    }
+
+    /// The root over the joined digests of the leaves, as an input.
+    pub(crate) fn root<'a>(&'a self, digests: &'a [u8]) -> Input<'a>
+        ensures is { input_of result ≡ root_over (parameters_of self.now) digests.now }
+        ensures accepted { Accepts blake2b (input_of result) }
+    {
+        self.node(0, 1, true, digests)
+    }
+
+    /// The digests of four whole leaves at once, none of them the last: leaf `i` of a message, with
+    /// which the text begins, and the next three.
+    pub(crate) fn hash_four(&self, i: u64, text: &[u8]) -> [[u8; 64]; 4]
+        requires place { i + 3 < 2 ^ 64 }
+        requires whole { 4 * self.now.leaf_length ≤ length text.now }
+        ensures { result ≡ four_digests (parameters_of self.now) i text.now }
+    {
+        let length = self.leaf_length as usize;
+        let leaves = [
+            self.node(i, 0, false, &text[..length]),
+            self.node(i + 1, 0, false, &text[length..2 * length]),
+            self.node(i + 2, 0, false, &text[2 * length..3 * length]),
+            self.node(i + 3, 0, false, &text[3 * length..4 * length]),
+        ];
+        many::blake2b::hash_four(&leaves)
+    }
+
+    /// The joined digests of a message's leaves. Fails only for want of memory.
+    pub(crate) fn leaf_digests(&self, alloc: Global, message: &[u8]) -> Result<Vec<u8>, AllocError>
+        requires { length message.now < 2 ^ 58 }
+        ensures { IfOk result (λ digests.
+            digests.items ≡ leaf_digests (parameters_of self.now) message.now) }
+    {
+        let length = self.leaf_length as usize;
+        let count = piece_count(length, message);
+        let mut digests = Vec::new(alloc);
+        for i in 0..count {
+            let mut leaf = self.open_leaf(i as u64);
+            leaf.set_last_node(i + 1 == count);
+            leaf.update(piece(length, message, i));
+            digests.extend_from_slice(&leaf.finalize_fixed())?;
+        }
+        Ok(digests)
+    }
+}

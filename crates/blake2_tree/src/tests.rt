@@ -1,0 +1,28 @@
+//! Trees against their nodes, and against roots that Python's `hashlib` gives.
+ghost use Rattle.std.specs.Prelude.{◌^◌, ◌<◌, length};
+
+mod memory;
+mod roots;
+mod witness;
+
+use blake2::Blake2b;
+use blake2::digest::{FixedOutput, LastNode, Update};
+use blake2::steps::Tree;
+
+// The digest of a node of a tree with leaves of four bytes, without salt and persona.
+fn node(node_offset: u64, node_depth: u8, last: bool, bytes: &[u8]) -> [u8; 64]
+    requires { length bytes.now < 2 ^ 58 }
+{
+    let tree = Tree {
+        fanout: 0,
+        depth: 2,
+        leaf_length: 4,
+        node_offset,
+        node_depth,
+        inner_length: 64,
+    };
+    let mut hasher = Blake2b::new_with_tree(&[], &[], &tree);
+    hasher.set_last_node(last);
+    hasher.update(bytes);
+    hasher.finalize_fixed()
+}

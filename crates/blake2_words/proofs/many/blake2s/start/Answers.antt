@@ -1,0 +1,30 @@
+use Rattle.std.proofs.Common.{◌≡◌, ℕ, List, [], ◌∷◌, length, slice_index_or, ap, ◌∙◌, rules}
+use Rattle.blake2_rows.specs.Family.{blake2s}
+use Rattle.blake2_rows.proofs.Lanes.{listed_in_eight}
+use Rattle.blake2_rows.proofs.Words.{cells-drop}
+use Rattle.blake2_words.specs.Hash.{start, input_start}
+use Rattle.blake2_words.specs.Lanes.{input_at}
+use Rattle.blake2_words.proofs.Sizes.{length-start}
+use Rattle.blake2_words.proofs.many.blake2s.start.Goals as goal
+
+pub returns : goal.returns
+returns c j h =
+    let inputs = c.args.inputs.now in
+    let size : ℕ = c.args.output_size in
+    let long : length inputs ≡ 8 = search rules in
+    let words = listed_in_eight (λ k. input_start blake2s size (input_at inputs k)) _ _ _ _ _ _ _ _
+    (c.start_words.ensures ∙ ap (start blake2s) c.parameters_of.ensures)
+    (c.start_words-2.ensures ∙ ap (start blake2s) c.parameters_of-2.ensures)
+    (c.start_words-3.ensures ∙ ap (start blake2s) c.parameters_of-3.ensures)
+    (c.start_words-4.ensures ∙ ap (start blake2s) c.parameters_of-4.ensures)
+    (c.start_words-5.ensures ∙ ap (start blake2s) c.parameters_of-5.ensures)
+    (c.start_words-6.ensures ∙ ap (start blake2s) c.parameters_of-6.ensures)
+    (c.start_words-7.ensures ∙ ap (start blake2s) c.parameters_of-7.ensures)
+    (c.start_words-8.ensures ∙ ap (start blake2s) c.parameters_of-8.ensures) j h in
+    let hs : List (List ℕ) = c.start_words.result ∷ c.start_words-2.result ∷ c.start_words-3.result
+    ∷ c.start_words-4.result ∷ c.start_words-5.result ∷ c.start_words-6.result
+    ∷ c.start_words-7.result ∷ c.start_words-8.result ∷ [] in
+    (λ i. c.row.ensures j h i ∷ c.row-2.ensures j h i ∷ c.row-3.ensures j h i
+    ∷ c.row-4.ensures j h i ∷ c.row-5.ensures j h i ∷ c.row-6.ensures j h i
+    ∷ c.row-7.ensures j h i ∷ c.row-8.ensures j h i ∷ [])
+    ∙ cells-drop (slice_index_or hs j []) 0 8 (ap length words ∙ length-start blake2s _) ∙ words

@@ -1,0 +1,447 @@
+//! Eight messages of BLAKE2s: eight rows hold their chaining words, row k having word k of each.
+
+ghost use Rattle.std.specs.Prelude.{◌≡◌, ◌↔◌, ◌<◌, ◌≤◌, ◌+◌, ◌-◌, ◌%◌, ℕ, List, [], ◌++◌};
+ghost use Rattle.std.specs.Prelude.{IsTrue, length, bit_xor, map, take, drop};
+ghost use Rattle.std.specs.Prelude.{slice_index, slice_index_or};
+ghost use Rattle.blake2_rows.specs.Family.{blake2s, output_bytes, sigma};
+ghost use Rattle.blake2_rows.specs.Lanes.{in_lane};
+ghost use Rattle.blake2_rows.specs.Round;
+ghost use Rattle.blake2_rows.specs.Rows.{eight, lane};
+ghost use Rattle.blake2_words.specs.Hash;
+ghost use Rattle.blake2_words.specs.Hash.{after_rounds, before_rounds, blocks, bytes_of, chain};
+ghost use Rattle.blake2_words.specs.Hash.{digest};
+ghost use Rattle.blake2_words.specs.Hash.{input_data, input_flags, input_start, last_chain};
+ghost use Rattle.blake2_words.specs.Hash.{words_of, xor_words};
+ghost use Rattle.blake2_words.specs.Inputs.{Accepts};
+ghost use Rattle.blake2_words.specs.Lanes.{AcceptsAtOnce, flags_at, input_at, texts};
+ghost use Rattle.blake2_words.specs.Run;
+ghost use Rattle.blake2_words.specs.Views.{given_flags, input_of};
+
+use super::later_blocks;
+use crate::consts::{BLAKE2S_IV, SIGMA};
+use crate::params::blake2s::start_words;
+use crate::steps::Input;
+use crate::steps::blake2s::accepts;
+use crate::steps::blocks::{block_at, counted, parameters_of, step_count};
+use crate::words::Flags;
+use crate::words::blake2s::{block_words, to_bytes};
+use blake2_rows::rows::{u32x4, u32x8};
+
+// Row k of several words a lane.
+#[inline(always)]
+fn row<const N: usize>(words: &[[u32; N]; 8], k: usize) -> u32x8
+    requires { k < N }
+    ensures { (j : ℕ) → j < 8
+        → slice_index result j ≡ slice_index (slice_index_or words.now j []) k }
+{
+    u32x8::from_array([
+        words[0][k],
+        words[1][k],
+        words[2][k],
+        words[3][k],
+        words[4][k],
+        words[5][k],
+        words[6][k],
+        words[7][k],
+    ])
+}
+
+// The eight words of a block from word k on.
+#[inline(always)]
+fn eight_words(words: &[u32; 16], k: usize) -> u32x8
+    requires { k ≤ 8 }
+    ensures { (i : ℕ) → i < 8 → slice_index result i ≡ slice_index words.now (k + i) }
+{
+    u32x8::from_array([
+        words[k],
+        words[k + 1],
+        words[k + 2],
+        words[k + 3],
+        words[k + 4],
+        words[k + 5],
+        words[k + 6],
+        words[k + 7],
+    ])
+}
+
+// Row i of the answer has the words k + i of eight blocks.
+#[inline(always)]
+fn rows_from(words: &[[u32; 16]; 8], k: usize) -> [u32x8; 8]
+    requires { k ≤ 8 }
+    ensures { (i j : ℕ) → i < 8 → j < 8
+        → lane result i j ≡ slice_index (slice_index_or words.now j []) (k + i) }
+{
+    u32x8::transpose([
+        eight_words(&words[0], k),
+        eight_words(&words[1], k),
+        eight_words(&words[2], k),
+        eight_words(&words[3], k),
+        eight_words(&words[4], k),
+        eight_words(&words[5], k),
+        eight_words(&words[6], k),
+        eight_words(&words[7], k),
+    ])
+}
+
+// The rows of the words of eight blocks.
+#[inline(always)]
+fn block_rows(blocks: &[&[u8; 64]; 8]) -> [u32x8; 16]
+    ensures { (j : ℕ) → j < 8
+        → in_lane j result ≡ words_of blake2s 16 (slice_index_or (texts blocks.now) j []) }
+{
+    let m = [
+        block_words(blocks[0]),
+        block_words(blocks[1]),
+        block_words(blocks[2]),
+        block_words(blocks[3]),
+        block_words(blocks[4]),
+        block_words(blocks[5]),
+        block_words(blocks[6]),
+        block_words(blocks[7]),
+    ];
+    let a = rows_from(&m, 0);
+    let b = rows_from(&m, 8);
+    [
+        a[0], a[1], a[2], a[3], a[4], a[5], a[6], a[7], b[0], b[1], b[2], b[3], b[4], b[5], b[6],
+        b[7],
+    ]
+}
+
+// The words 8 to 15 before the first round: IV with the counter xored into its fifth and sixth
+// word, the low 32 bits and the high ones, and all ones into its seventh where the final flag is
+// on, and into its eighth where the last-node flag is.
+#[tactic(auto, unfolding(crate::specs::Hash::before_rounds, crate::specs::Hash::xor_words))]
+#[inline(always)]
+fn last_words(counter: u64, flags: Flags) -> [u32; 8]
+    ensures { (h : List ℕ) → h ++ result ≡ before_rounds blake2s h counter (given_flags flags) }
+{
+    let [v8, v9, v10, v11, v12, v13, v14, v15] = BLAKE2S_IV;
+    let last = if flags.last { u32::MAX } else { 0 };
+    let last_node = if flags.last_node { u32::MAX } else { 0 };
+    let low_count = (counter % (1 << 32)) as u32;
+    let high_count = (counter >> 32) as u32;
+    [
+        v8,
+        v9,
+        v10,
+        v11,
+        v12 ^ low_count,
+        v13 ^ high_count,
+        v14 ^ last,
+        v15 ^ last_node,
+    ]
+}
+
+// The rows before the first round: the chaining words, and in each lane the last words under its
+// flags.
+#[inline(always)]
+fn begin(h: &[u32x8; 8], counter: u64, flags: &[Flags; 8]) -> [u32x8; 16]
+    ensures { (j : ℕ) → j < 8
+        → in_lane j result
+        ≡ before_rounds blake2s (in_lane j h.now) counter (flags_at flags.now j) }
+{
+    let w = [
+        last_words(counter, flags[0]),
+        last_words(counter, flags[1]),
+        last_words(counter, flags[2]),
+        last_words(counter, flags[3]),
+        last_words(counter, flags[4]),
+        last_words(counter, flags[5]),
+        last_words(counter, flags[6]),
+        last_words(counter, flags[7]),
+    ];
+    [
+        h[0],
+        h[1],
+        h[2],
+        h[3],
+        h[4],
+        h[5],
+        h[6],
+        h[7],
+        row(&w, 0),
+        row(&w, 1),
+        row(&w, 2),
+        row(&w, 3),
+        row(&w, 4),
+        row(&w, 5),
+        row(&w, 6),
+        row(&w, 7),
+    ]
+}
+
+// The round that comes after `i` others, which takes the words of the blocks in the order of a row
+// of SIGMA (RFC 7693, 2.7).
+#[inline(always)]
+fn round_at(v: &mut [u32x8; 16], m: &[u32x8; 16], i: usize)
+    ensures { (j : ℕ) → j < 8 → in_lane j v.new
+        ≡ Round.round blake2s (in_lane j v.old) (in_lane j m.now)
+        (slice_index_or sigma (i % 10) []) }
+{
+    u32x8::round_each(v, m, &SIGMA[i % 10]);
+}
+
+// The ten rounds. They are written out, since a loop would look up in SIGMA, as it runs, where
+// each word of the blocks stands, and work on rows of its own, which stay in registers.
+#[inline(always)]
+fn rounds(v: &mut [u32x8; 16], m: &[u32x8; 16])
+    ensures { (j : ℕ) → j < 8
+        → in_lane j v.new ≡ after_rounds blake2s (in_lane j v.old) (in_lane j m.now) 10 }
+{
+    let mut rows = *v;
+    round_at(&mut rows, m, 0);
+    round_at(&mut rows, m, 1);
+    round_at(&mut rows, m, 2);
+    round_at(&mut rows, m, 3);
+    round_at(&mut rows, m, 4);
+    round_at(&mut rows, m, 5);
+    round_at(&mut rows, m, 6);
+    round_at(&mut rows, m, 7);
+    round_at(&mut rows, m, 8);
+    round_at(&mut rows, m, 9);
+    *v = rows;
+}
+
+// The exclusive or of three rows.
+#[inline(always)]
+fn xor(a: u32x8, b: u32x8, c: u32x8) -> u32x8
+    ensures { (j : ℕ) → j < 8 → slice_index result j
+        ≡ bit_xor (bit_xor (slice_index a j) (slice_index b j)) (slice_index c j) }
+{
+    a ^ b ^ c
+}
+
+// The chaining words with both halves of the rows xored into them.
+#[inline(always)]
+fn finish(h: &[u32x8; 8], v: &[u32x8; 16]) -> [u32x8; 8]
+    ensures { (j : ℕ) → j < 8 → in_lane j result
+        ≡ xor_words (xor_words (in_lane j h.now) (take 8 (in_lane j v.now)))
+        (drop 8 (in_lane j v.now)) }
+{
+    [
+        xor(h[0], v[0], v[8]),
+        xor(h[1], v[1], v[9]),
+        xor(h[2], v[2], v[10]),
+        xor(h[3], v[3], v[11]),
+        xor(h[4], v[4], v[12]),
+        xor(h[5], v[5], v[13]),
+        xor(h[6], v[6], v[14]),
+        xor(h[7], v[7], v[15]),
+    ]
+}
+
+/// F, the compression (RFC 7693, 3.2), of eight messages at once: `h` holds their chaining words,
+/// and block j is the next 64 bytes of message j, under flags j. `counter` is the number of bytes
+/// counted of each of them up to and with its block, padding aside.
+#[inline]
+pub fn compress(h: &mut [u32x8; 8], blocks: &[&[u8; 64]; 8], counter: u64, flags: &[Flags; 8])
+    ensures { (j : ℕ) → j < 8 → in_lane j h.new
+        ≡ Hash.compress blake2s (in_lane j h.old) (slice_index_or (texts blocks.now) j [])
+        counter (flags_at flags.now j) }
+{
+    let m = block_rows(blocks);
+    let mut v = begin(h, counter, flags);
+    rounds(&mut v, &m);
+    *h = finish(h, &v);
+}
+
+// The chaining words that the inputs start from, at digests of `output_size` bytes.
+fn start(output_size: usize, inputs: &[Input<'_>; 8]) -> [u32x8; 8]
+    requires size { output_size ≤ output_bytes blake2s }
+    requires accepted { (j : ℕ) → j < 8 → Accepts blake2s (input_at inputs.now j) }
+    ensures { (j : ℕ) → j < 8
+        → in_lane j result ≡ input_start blake2s output_size (input_at inputs.now j) }
+{
+    let h = [
+        start_words(&parameters_of(&inputs[0], output_size)),
+        start_words(&parameters_of(&inputs[1], output_size)),
+        start_words(&parameters_of(&inputs[2], output_size)),
+        start_words(&parameters_of(&inputs[3], output_size)),
+        start_words(&parameters_of(&inputs[4], output_size)),
+        start_words(&parameters_of(&inputs[5], output_size)),
+        start_words(&parameters_of(&inputs[6], output_size)),
+        start_words(&parameters_of(&inputs[7], output_size)),
+    ];
+    [
+        row(&h, 0),
+        row(&h, 1),
+        row(&h, 2),
+        row(&h, 3),
+        row(&h, 4),
+        row(&h, 5),
+        row(&h, 6),
+        row(&h, 7),
+    ]
+}
+
+// Block i of each of eight inputs, and their compression.
+fn compress_at(
+    h: &mut [u32x8; 8],
+    inputs: &[Input<'_>; 8],
+    i: usize,
+    counter: u64,
+    flags: &[Flags; 8],
+)
+    requires accepted { (j : ℕ) → j < 8 → Accepts blake2s (input_at inputs.now j) }
+    requires within { (j : ℕ) → j < 8 → i < Run.step_count blake2s (input_at inputs.now j) }
+    ensures { (j : ℕ) → j < 8 → in_lane j h.new
+        ≡ Hash.compress blake2s (in_lane j h.old)
+        (slice_index_or (blocks blake2s (input_data blake2s (input_at inputs.now j))) i [])
+        counter (flags_at flags.now j) }
+{
+    let b0 = block_at(&inputs[0], i);
+    let b1 = block_at(&inputs[1], i);
+    let b2 = block_at(&inputs[2], i);
+    let b3 = block_at(&inputs[3], i);
+    let b4 = block_at(&inputs[4], i);
+    let b5 = block_at(&inputs[5], i);
+    let b6 = block_at(&inputs[6], i);
+    let b7 = block_at(&inputs[7], i);
+    compress(h, &[&b0, &b1, &b2, &b3, &b4, &b5, &b6, &b7], counter, flags);
+}
+
+// Compresses all blocks of eight inputs but the last. Those from the second on are read where they
+// stand.
+fn absorb_inner(h: &mut [u32x8; 8], inputs: &[Input<'_>; 8])
+    requires accepted { (j : ℕ) → j < 8 → Accepts blake2s (input_at inputs.now j) }
+    requires same_number { (j : ℕ) → j < 8
+        → Run.step_count blake2s (input_at inputs.now j)
+        ≡ Run.step_count blake2s (input_at inputs.now 0) }
+    ensures { (j : ℕ) → j < 8 → in_lane j h.new
+        ≡ chain blake2s (in_lane j h.old) 0
+        (blocks blake2s (input_data blake2s (input_at inputs.now j)))
+        (Run.step_count blake2s (input_at inputs.now 0) - 1) }
+{
+    let count = step_count::<64>(&inputs[0]);
+    if count == 1 {
+        return;
+    }
+    let flags = [Flags::INNER; 8];
+    compress_at(h, inputs, 0, 64, &flags);
+    let p0 = later_blocks(&inputs[0]);
+    let p1 = later_blocks(&inputs[1]);
+    let p2 = later_blocks(&inputs[2]);
+    let p3 = later_blocks(&inputs[3]);
+    let p4 = later_blocks(&inputs[4]);
+    let p5 = later_blocks(&inputs[5]);
+    let p6 = later_blocks(&inputs[6]);
+    let p7 = later_blocks(&inputs[7]);
+    for i in 0..count as usize - 2 {
+        compress(
+            h,
+            &[
+                &p0[i], &p1[i], &p2[i], &p3[i], &p4[i], &p5[i], &p6[i], &p7[i],
+            ],
+            (i as u64 + 2) * 64,
+            &flags,
+        );
+    }
+}
+
+// The flags of the last compression of eight inputs.
+fn last_flags(inputs: &[Input<'_>; 8]) -> [Flags; 8]
+    ensures { (j : ℕ) → j < 8 → flags_at result j ≡ input_flags (input_at inputs.now j) }
+{
+    [
+        Flags::last_block(inputs[0].last_node),
+        Flags::last_block(inputs[1].last_node),
+        Flags::last_block(inputs[2].last_node),
+        Flags::last_block(inputs[3].last_node),
+        Flags::last_block(inputs[4].last_node),
+        Flags::last_block(inputs[5].last_node),
+        Flags::last_block(inputs[6].last_node),
+        Flags::last_block(inputs[7].last_node),
+    ]
+}
+
+// Compresses all blocks of eight inputs.
+fn absorb(h: &mut [u32x8; 8], inputs: &[Input<'_>; 8])
+    requires accepted { (j : ℕ) → j < 8 → Accepts blake2s (input_at inputs.now j) }
+    requires same_count { (j : ℕ) → j < 8
+        → length (input_data blake2s (input_at inputs.now j))
+        ≡ length (input_data blake2s (input_at inputs.now 0)) }
+    ensures { (j : ℕ) → j < 8 → in_lane j h.new
+        ≡ last_chain blake2s (in_lane j h.old) 0 (input_data blake2s (input_at inputs.now j))
+        (input_flags (input_at inputs.now j)) }
+{
+    absorb_inner(h, inputs);
+    let last = step_count::<64>(&inputs[0]) as usize - 1;
+    let flags = last_flags(inputs);
+    compress_at(h, inputs, last, counted::<64>(&inputs[0]), &flags);
+}
+
+// The chaining words of message `j`.
+#[inline(always)]
+fn lane(h: &[u32x8; 8], j: usize) -> [u32x4; 2]
+    requires { j < 8 }
+    ensures { eight result ≡ in_lane j h.now }
+{
+    [
+        u32x4::new(
+            h[0].to_array()[j],
+            h[1].to_array()[j],
+            h[2].to_array()[j],
+            h[3].to_array()[j],
+        ),
+        u32x4::new(
+            h[4].to_array()[j],
+            h[5].to_array()[j],
+            h[6].to_array()[j],
+            h[7].to_array()[j],
+        ),
+    ]
+}
+
+// The first N bytes of the chaining words of message `j`.
+fn output<const N: usize>(h: &[u32x8; 8], j: usize) -> [u8; N]
+    requires lane { j < 8 }
+    requires size { N ≤ output_bytes blake2s }
+    ensures { result ≡ take N (bytes_of blake2s (in_lane j h.now)) }
+{
+    let whole = to_bytes(&lane(h, j));
+    let mut bytes = [0; N];
+    let out = &mut bytes[..];
+    out.copy_from_slice(&whole[..N]);
+    bytes
+}
+
+/// Whether `hash_eight` takes these inputs: each is one that `accepts` takes, and of each as many
+/// bytes are counted, those of its message and 64 where it has a key.
+pub fn accepts_eight(inputs: &[Input<'_>; 8]) -> bool
+    ensures { IsTrue result ↔ AcceptsAtOnce blake2s 8 inputs.now }
+{
+    if !accepts(&inputs[0]) {
+        return false;
+    }
+    let count = counted::<64>(&inputs[0]);
+    for j in 1..8 {
+        if !accepts(&inputs[j]) {
+            return false;
+        }
+        if counted::<64>(&inputs[j]) != count {
+            return false;
+        }
+    }
+    true
+}
+
+/// BLAKE2s of eight inputs at once, in their order, N bytes of digest each, at most 32 (RFC 7693,
+/// 3.3). No memory is taken.
+pub fn hash_eight<const N: usize>(inputs: &[Input<'_>; 8]) -> [[u8; N]; 8]
+    requires size { N ≤ output_bytes blake2s }
+    requires accepted { AcceptsAtOnce blake2s 8 inputs.now }
+    ensures { result ≡ map (λ input. digest blake2s N (input_of input)) inputs.now }
+{
+    let mut h = start(N, inputs);
+    absorb(&mut h, inputs);
+    [
+        output(&h, 0),
+        output(&h, 1),
+        output(&h, 2),
+        output(&h, 3),
+        output(&h, 4),
+        output(&h, 5),
+        output(&h, 6),
+        output(&h, 7),
+    ]
+}
