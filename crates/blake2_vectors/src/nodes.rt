@@ -417,9 +417,41 @@ fn witness_nodes_of_blake2s(rt: HostRuntime) -> Result<(), Fail> {
     Ok(())
 }
 
+// Checks that a state that has taken `ab` gives the digest of `abc` at the byte `c`, and again after
+// each of the two calls that start it again.
+fn check_starts<H, const N: usize>(rt: &impl Abort, state: &mut H, digest: [u8; N])
+where
+    H: FixedOutputReset<N>,
+{
+    take(rt, state, b"c");
+    assert_eq!(rt; state.finalize_fixed_reset(), digest);
+    take(rt, state, b"dropped");
+    state.reset();
+    take(rt, state, b"abc");
+    assert_eq!(rt; state.finalize_fixed_reset(), digest);
+}
+
+// Checks that the last call that sets the flag counts, wherever it comes: `flags` are set before `ab`
+// and before `c`.
+fn check_last_call<H, const N: usize>(
+    rt: &impl Abort,
+    state: &mut H,
+    flags: (bool, bool),
+    digest: [u8; N],
+)
+where
+    H: FixedOutputReset<N> + LastNode,
+{
+    state.set_last_node(flags.0);
+    take(rt, state, b"ab");
+    state.set_last_node(flags.1);
+    take(rt, state, b"c");
+    assert_eq!(rt; state.finalize_fixed_reset(), digest);
+}
+
 // Checks that the flag of the last node is kept by all calls but the one that sets it: `off` and
 // `on` are the digests of `abc` without it and with it.
-fn check_flag<H, const N: usize>(rt: &impl Abort, fresh: H, off: &[u8; N], on: &[u8; N])
+fn check_flag<H, const N: usize>(rt: &impl Abort, fresh: H, off: [u8; N], on: [u8; N])
 where
     H: FixedOutputReset<N> + Duplicate + LastNode + Drop,
 {
@@ -428,20 +460,12 @@ where
     let mut copy = hasher.duplicate();
     hasher.set_last_node(true);
     let mut flagged = hasher.duplicate();
-    for (state, digest) in [(&mut copy, off), (&mut flagged, on), (&mut hasher, on)] {
-        take(rt, state, b"c");
-        assert_eq!(rt; state.finalize_fixed_reset(), *digest);
-        take(rt, state, b"dropped");
-        state.reset();
-        take(rt, state, b"abc");
-        assert_eq!(rt; state.finalize_fixed_reset(), *digest);
-    }
-    for (first, then, digest) in [(false, true, on), (true, false, off), (true, true, on)] {
-        hasher.set_last_node(first);
-        take(rt, &mut hasher, b"ab");
-        hasher.set_last_node(then);
-        take(rt, &mut hasher, b"c");
-        assert_eq!(rt; hasher.finalize_fixed_reset(), *digest);
+    check_starts(rt, &mut copy, off);
+    check_starts(rt, &mut flagged, on);
+    check_starts(rt, &mut hasher, on);
+    for first in [false, true] {
+        check_last_call(rt, &mut hasher, (first, false), off);
+        check_last_call(rt, &mut hasher, (first, true), on);
     }
 }
 
@@ -450,11 +474,11 @@ fn keep_the_last_node(rt: HostRuntime) -> Result<(), Fail> {
     check_flag(
         &rt,
         Blake2b128::new(),
-        &[
+        [
             0xcf, 0x4a, 0xb7, 0x91, 0xc6, 0x2b, 0x8d, 0x2b, 0x21, 0x09, 0xc9, 0x02, 0x75, 0x28,
             0x78, 0x16,
         ],
-        &[
+        [
             0x82, 0x75, 0x61, 0x86, 0x01, 0xff, 0x91, 0x1f, 0xb1, 0xd3, 0xbb, 0xaa, 0xe5, 0xa9,
             0x27, 0x6d,
         ],
@@ -462,11 +486,11 @@ fn keep_the_last_node(rt: HostRuntime) -> Result<(), Fail> {
     check_flag(
         &rt,
         Blake2s128::new(),
-        &[
+        [
             0xaa, 0x49, 0x38, 0x11, 0x9b, 0x1d, 0xc7, 0xb8, 0x7c, 0xba, 0xd0, 0xff, 0xd2, 0x00,
             0xd0, 0xae,
         ],
-        &[
+        [
             0x64, 0xd3, 0x2c, 0x26, 0xd5, 0xbd, 0xe2, 0x03, 0xfc, 0x15, 0x55, 0x91, 0x8c, 0x32,
             0x5a, 0x57,
         ],
