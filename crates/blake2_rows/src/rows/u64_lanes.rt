@@ -287,7 +287,8 @@ impl u64x4 {
         let b1 = (b ^ c1).rotate_right_const(R2);
         let a2 = Self::sum_of(a1, b1, y);
         let d2 = d1 ^ a2;
-        let c2 = c1 + d2.rotate_right_const(R3);
+        // `mix_each` turns row d by the same choice of bytes, which is then made once for both.
+        let c2 = c1 + d2.rotate_bytes();
         let b2 = (b1 ^ c2).rotate_right_const(R4);
         (a2, b2, c2, d2)
     }
