@@ -39,19 +39,27 @@ same_in_lanes (suc n) p q e zero h = λ i. slice_index_or (e i) 0 []
 same_in_lanes (suc n) p q e (suc j) h = same_in_lanes n (λ k. p (suc k)) (λ k. q (suc k))
     (λ i. rest (e i)) j (omega arith)
 
+-- what holds of each of four lanes
+pub in_four : (P : ℕ → Type 0) → P 0 → P 1 → P 2 → P 3 → (j : ℕ) → j < 4 → P j
+in_four P a b c d = in_each 4 P (a, (b, (c, (d, tt))))
+
+-- what holds of each of eight lanes
+pub in_eight : (P : ℕ → Type 0) → P 0 → P 1 → P 2 → P 3 → P 4 → P 5 → P 6 → P 7
+    → (j : ℕ) → j < 8 → P j
+in_eight P a b c d e f g h = in_each 8 P (a, (b, (c, (d, (e, (f, (g, (h, tt))))))))
+
 -- what four lists are, each in its lane
-pub listed_in_four : (p : ℕ → List ℕ) (a b c d : List ℕ) → a ≡ p 0 → b ≡ p 1 → c ≡ p 2 → d ≡ p 3
+pub listed_in_four : {X : Type 0} (p : ℕ → List X) (a b c d : List X)
+    → a ≡ p 0 → b ≡ p 1 → c ≡ p 2 → d ≡ p 3
     → (j : ℕ) → j < 4 → slice_index_or (a ∷ b ∷ c ∷ d ∷ []) j [] ≡ p j
-listed_in_four p a b c d ea eb ec ed = in_each 4
-    (λ j. slice_index_or (a ∷ b ∷ c ∷ d ∷ []) j [] ≡ p j) (ea, (eb, (ec, (ed, tt))))
+listed_in_four p a b c d = in_four (λ j. slice_index_or (a ∷ b ∷ c ∷ d ∷ []) j [] ≡ p j)
 
 -- what eight lists are
-pub listed_in_eight : (p : ℕ → List ℕ) (a b c d e f g h : List ℕ) → a ≡ p 0 → b ≡ p 1 → c ≡ p 2
-    → d ≡ p 3 → e ≡ p 4 → f ≡ p 5 → g ≡ p 6 → h ≡ p 7
+pub listed_in_eight : {X : Type 0} (p : ℕ → List X) (a b c d e f g h : List X)
+    → a ≡ p 0 → b ≡ p 1 → c ≡ p 2 → d ≡ p 3 → e ≡ p 4 → f ≡ p 5 → g ≡ p 6 → h ≡ p 7
     → (j : ℕ) → j < 8 → slice_index_or (a ∷ b ∷ c ∷ d ∷ e ∷ f ∷ g ∷ h ∷ []) j [] ≡ p j
-listed_in_eight p a b c d e f g h ea eb ec ed ee ef eg eh =
-    in_each 8 (λ j. slice_index_or (a ∷ b ∷ c ∷ d ∷ e ∷ f ∷ g ∷ h ∷ []) j [] ≡ p j)
-    (ea, (eb, (ec, (ed, (ee, (ef, (eg, (eh, tt))))))))
+listed_in_eight p a b c d e f g h =
+    in_eight (λ j. slice_index_or (a ∷ b ∷ c ∷ d ∷ e ∷ f ∷ g ∷ h ∷ []) j [] ≡ p j)
 
 -- rows whose lanes are those of a, b, c and d, each mixed, have the columns of these, mixed
 pub columns_by_lanes : (f : Family) (a b c d x y p q r s : List ℕ)

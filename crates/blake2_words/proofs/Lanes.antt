@@ -3,7 +3,7 @@
 use Rattle.std.proofs.Common.{false, ◌≡◌, ℕ, zero, suc, ◌+◌, ◌-◌, ◌*◌, ◌%◌, ◌<◌, List, [], ◌∷◌}
 use Rattle.std.proofs.Common.{length, get_or, slice_index, slice_index_or, bit_xor, replicate, map}
 use Rattle.std.proofs.Common.{take, drop, refl, sym, ap, ◌∙◌, arith}
-use Rattle.std.proofs.lemmas.List.{get_or-map}
+use Rattle.std.proofs.lemmas.List.{get_or-map, get_or_default}
 use Rattle.std.specs.Borrow.{Bor}
 use Rattle.blake2_rows.specs.Family.{Family, sigma, block_bytes}
 use Rattle.blake2_rows.specs.Round.{round}
@@ -14,7 +14,7 @@ use Rattle.blake2_words.specs.Hash.{Flags, Input, after_rounds, block_count, blo
 use Rattle.blake2_words.specs.Hash.{chain, compress, digest, inner, input_data, input_flags}
 use Rattle.blake2_words.specs.Hash.{input_start, last_chain, xor_words}
 use Rattle.blake2_rows.specs.Lanes.{in_lane}
-use Rattle.blake2_words.specs.Lanes.{flags_at, texts}
+use Rattle.blake2_words.specs.Lanes.{after_blocks, block_lists, flags_at, texts}
 
 -- word k of the state in a lane
 pub lane_word : (rows : List (List ℕ)) (j k : ℕ) (d : List ℕ) → k < length rows
@@ -25,6 +25,57 @@ lane_word rows j k d h = sym (get_or-map (λ (row : List ℕ). slice_index row j
 pub text_at : (blocks : List (Bor (List ℕ))) (j : ℕ) (d : Bor (List ℕ)) → j < length blocks
     → (get_or blocks j d).now ≡ slice_index_or (texts blocks) j []
 text_at blocks j d h = sym (get_or-map (λ b. b.now) blocks j d [] h)
+
+-- the blocks of message j, of several
+pub blocks_at : (lists : List (Bor (List (List ℕ)))) (j : ℕ) (d : Bor (List (List ℕ)))
+    → j < length lists → (get_or lists j d).now ≡ slice_index_or (block_lists lists) j []
+blocks_at lists j d h = sym (get_or-map (λ b. b.now) lists j d [] h)
+
+-- block i of message j
+pub block_in_list : (lists : List (Bor (List (List ℕ)))) (j i : ℕ) (d : Bor (List (List ℕ)))
+    (e : List ℕ) → j < length lists → i < length (get_or lists j d).now
+    → get_or (get_or lists j d).now i e
+    ≡ slice_index_or (slice_index_or (block_lists lists) j []) i []
+block_in_list lists j i d e here within =
+    get_or_default (get_or lists j d).now i e [] within
+    ∙ ap (λ l. slice_index_or l i []) (blocks_at lists j d here)
+
+-- no block yet
+pub none_after : (f : Family) (h : List ℕ) (d : List (List ℕ)) (t : ℕ) (flags : Flags)
+    → h ≡ after_blocks f h d t flags 0
+unfolding after_blocks
+none_after f h d t flags = refl
+
+-- one block more, of several under the same flags
+pub one_more_after : (f : Family) (h : List ℕ) (d : List (List ℕ)) (t : ℕ) (flags : Flags)
+    (i u : ℕ) (old new block : List ℕ) → old ≡ after_blocks f h d t flags i
+    → new ≡ compress f old block u flags → block ≡ slice_index_or d i []
+    → u ≡ t + i * block_bytes f → new ≡ after_blocks f h d t flags (i + 1)
+unfolding after_blocks
+one_more_after f h d t flags i u old new block before compressed is_block counted =
+    let next : suc i ≡ i + 1 = omega arith in
+    compressed ∙ (λ k. compress f (before k) (is_block k) (counted k) flags)
+    ∙ ap (after_blocks f h d t flags) next
+
+-- a single block
+pub single_after : (f : Family) (h block : List ℕ) (t : ℕ) (flags : Flags)
+    → after_blocks f h (block ∷ []) t flags 1 ≡ compress f h block t flags
+unfolding after_blocks
+single_after f h block t flags = ap (λ (u : ℕ). compress f h block u flags) (omega arith)
+
+-- all blocks but the first, behind it
+pub later_after : (f : Family) (h first : List ℕ) (d later : List (List ℕ)) (n : ℕ)
+    → first ≡ chain f h 0 d 1
+    → ((i : ℕ) → i < n → slice_index_or later i [] ≡ slice_index_or d (i + 1) [])
+    → after_blocks f first later (2 * block_bytes f) inner n ≡ chain f h 0 d (n + 1)
+unfolding after_blocks chain
+later_after f h first d later zero begun same = begun
+later_after f h first d later (suc n) begun same =
+    let before = later_after f h first d later n begun (λ i lt. same i (omega arith)) in
+    let next : suc (n + 1) ≡ suc n + 1 = omega arith in
+    let counted : 2 * block_bytes f + n * block_bytes f ≡ 0 + (n + 1 + 1) * block_bytes f = omega arith in
+    (λ k. compress f (before k) (same n (omega arith) k) (counted k) inner)
+    ∙ ap (chain f h 0 d) next
 
 -- one round more
 pub next_round : (f : Family) (n : ℕ) (v m u w : List ℕ)

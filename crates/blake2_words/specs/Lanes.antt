@@ -1,17 +1,30 @@
 -- Several messages side by side.
-use Rattle.std.specs.Prelude.{◌≡◌, ℕ, ◌<◌, List, [], false, length, map, slice_index_or, None}
+use Rattle.std.specs.Prelude.{◌≡◌, ℕ, zero, suc, ◌+◌, ◌*◌, ◌<◌, List, [], false, length, map}
+use Rattle.std.specs.Prelude.{slice_index_or, None}
 use Rattle.std.specs.Borrow.{Bor}
 use Rattle.blake2_words.specs.declared.params.Tree as GivenTree
 use Rattle.blake2_words.specs.declared.steps.Input as GivenInput
 use Rattle.blake2_words.specs.declared.words.Flags as GivenFlags
-use Rattle.blake2_rows.specs.Family.{Family}
-use Rattle.blake2_words.specs.Hash.{Flags, Input, input_data}
+use Rattle.blake2_rows.specs.Family.{Family, block_bytes}
+use Rattle.blake2_words.specs.Hash.{Flags, Input, compress, input_data}
 use Rattle.blake2_words.specs.Inputs.{Accepts}
 use Rattle.blake2_words.specs.Views.{given_flags, input_of}
 
 -- what stands behind each of several references
 abbrev pub texts : List (Bor (List ℕ)) → List (List ℕ)
 texts = map (λ b. b.now)
+
+-- the blocks behind each of several references
+abbrev pub block_lists : List (Bor (List (List ℕ))) → List (List (List ℕ))
+block_lists = map (λ b. b.now)
+
+-- the chaining words after n of these blocks, all under the same flags: with the first of them
+-- `counter` bytes are counted, and a block's more with each that follows
+unfoldable pub after_blocks : Family → List ℕ → List (List ℕ) → ℕ → Flags → ℕ → List ℕ
+after_blocks f h blocks counter flags zero = h
+after_blocks f h blocks counter flags (suc i) =
+    compress f (after_blocks f h blocks counter flags i) (slice_index_or blocks i [])
+    (counter + i * block_bytes f) flags
 
 -- what a list of inputs has at the places where it has none
 abbrev pub no_input : GivenInput.Input

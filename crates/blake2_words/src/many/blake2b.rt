@@ -1,7 +1,7 @@
 //! Four messages of BLAKE2b: eight rows hold their chaining words, row k having word k of each.
 
-ghost use Rattle.std.specs.Prelude.{◌≡◌, ◌↔◌, ◌<◌, ◌≤◌, ◌+◌, ◌-◌, ◌%◌, ℕ, List, [], ◌++◌};
-ghost use Rattle.std.specs.Prelude.{IsTrue, length, bit_xor, map, take, drop};
+ghost use Rattle.std.specs.Prelude.{◌≡◌, ◌↔◌, ◌<◌, ◌≤◌, ◌+◌, ◌-◌, ◌*◌, ◌^◌, ◌%◌, ℕ, List, []};
+ghost use Rattle.std.specs.Prelude.{◌++◌, IsTrue, length, bit_xor, map, take, drop};
 ghost use Rattle.std.specs.Prelude.{slice_index, slice_index_or};
 ghost use Rattle.blake2_rows.specs.Family.{blake2b, output_bytes, sigma};
 ghost use Rattle.blake2_rows.specs.Lanes.{in_lane};
@@ -13,7 +13,8 @@ ghost use Rattle.blake2_words.specs.Hash.{digest};
 ghost use Rattle.blake2_words.specs.Hash.{input_data, input_flags, input_start, last_chain};
 ghost use Rattle.blake2_words.specs.Hash.{words_of, xor_words};
 ghost use Rattle.blake2_words.specs.Inputs.{Accepts};
-ghost use Rattle.blake2_words.specs.Lanes.{AcceptsAtOnce, flags_at, input_at, texts};
+ghost use Rattle.blake2_words.specs.Lanes.{AcceptsAtOnce, after_blocks, block_lists, flags_at};
+ghost use Rattle.blake2_words.specs.Lanes.{input_at, texts};
 ghost use Rattle.blake2_words.specs.Run;
 ghost use Rattle.blake2_words.specs.Views.{given_flags, input_of};
 
@@ -242,6 +243,29 @@ fn start(output_size: usize, inputs: &[Input<'_>; 4]) -> [u64x4; 8]
     ]
 }
 
+// Compresses blocks of each of four messages, one after another, as many of each, all under flags j:
+// with the first of them `counter` bytes are counted, and 128 more with each that follows. The loop
+// has the only call of `compress`, so that the compiler lays it out there, and works on rows of its
+// own, so that what is the same for all blocks is computed once.
+fn compress_blocks(h: &mut [u64x4; 8], blocks: &[&[[u8; 128]]; 4], counter: u64, flags: &[Flags; 4])
+    requires same_number { (j : ℕ) → j < 4
+        → length (slice_index_or (block_lists blocks.now) j [])
+        ≡ length (slice_index_or (block_lists blocks.now) 0 []) }
+    requires counted { counter + 128 * length (slice_index_or (block_lists blocks.now) 0 [])
+        ≤ 2 ^ 64 + 127 }
+    ensures { (j : ℕ) → j < 4 → in_lane j h.new
+        ≡ after_blocks blake2b (in_lane j h.old) (slice_index_or (block_lists blocks.now) j [])
+        counter (flags_at flags.now j) (length (slice_index_or (block_lists blocks.now) 0 [])) }
+{
+    let [p0, p1, p2, p3] = *blocks;
+    let mut rows = *h;
+    for i in 0..p0.len() {
+        let here = [&p0[i], &p1[i], &p2[i], &p3[i]];
+        compress(&mut rows, &here, counter + 128 * i as u64, flags);
+    }
+    *h = rows;
+}
+
 // Block i of each of four inputs, and their compression.
 fn compress_at(
     h: &mut [u64x4; 8],
@@ -257,11 +281,11 @@ fn compress_at(
         (slice_index_or (blocks blake2b (input_data blake2b (input_at inputs.now j))) i [])
         counter (flags_at flags.now j) }
 {
-    let b0 = block_at(&inputs[0], i);
-    let b1 = block_at(&inputs[1], i);
-    let b2 = block_at(&inputs[2], i);
-    let b3 = block_at(&inputs[3], i);
-    compress(h, &[&b0, &b1, &b2, &b3], counter, flags);
+    let b0 = [block_at(&inputs[0], i)];
+    let b1 = [block_at(&inputs[1], i)];
+    let b2 = [block_at(&inputs[2], i)];
+    let b3 = [block_at(&inputs[3], i)];
+    compress_blocks(h, &[&b0[..], &b1[..], &b2[..], &b3[..]], counter, flags);
 }
 
 // Compresses all blocks of four inputs but the last. Those from the second on are read where they
@@ -276,24 +300,17 @@ fn absorb_inner(h: &mut [u64x4; 8], inputs: &[Input<'_>; 4])
         (blocks blake2b (input_data blake2b (input_at inputs.now j)))
         (Run.step_count blake2b (input_at inputs.now 0) - 1) }
 {
-    let count = step_count::<128>(&inputs[0]);
+    let count = step_count::<128>(&inputs[0]) as usize;
     if count == 1 {
         return;
     }
     let flags = [Flags::INNER; 4];
     compress_at(h, inputs, 0, 128, &flags);
-    let p0 = later_blocks(&inputs[0]);
-    let p1 = later_blocks(&inputs[1]);
-    let p2 = later_blocks(&inputs[2]);
-    let p3 = later_blocks(&inputs[3]);
-    for i in 0..count as usize - 2 {
-        compress(
-            h,
-            &[&p0[i], &p1[i], &p2[i], &p3[i]],
-            (i as u64 + 2) * 128,
-            &flags,
-        );
-    }
+    let p0 = &later_blocks(&inputs[0])[..count - 2];
+    let p1 = &later_blocks(&inputs[1])[..count - 2];
+    let p2 = &later_blocks(&inputs[2])[..count - 2];
+    let p3 = &later_blocks(&inputs[3])[..count - 2];
+    compress_blocks(h, &[p0, p1, p2, p3], 256, &flags);
 }
 
 // The flags of the last compression of four inputs.

@@ -1,13 +1,13 @@
-use Rattle.std.proofs.Common.{◌≡◌, ◌+◌, ◌-◌, ℕ, List, [], length, slice_index_or, refl, ap, ◌∙◌}
-use Rattle.std.proofs.Common.{arith, rules}
-use Rattle.std.proofs.lemmas.List.{get_or_default}
+use Rattle.std.proofs.Common.{◌≡◌, ◌+◌, ◌-◌, ◌<◌, ◌≤◌, ℕ, List, [], ◌∷◌, length, take}
+use Rattle.std.proofs.Common.{slice_index_or, refl, ap, ◌∙◌, arith, rules}
+use Rattle.std.proofs.lemmas.List.{get_or-take, length-take-le}
 use Rattle.blake2_rows.specs.Family.{blake2s}
 use Rattle.blake2_rows.specs.Lanes.{in_lane}
-use Rattle.blake2_rows.proofs.Lanes.{listed_in_eight}
-use Rattle.blake2_words.specs.Hash.{Input, blocks, chain, compress, input_data}
-use Rattle.blake2_words.specs.Lanes.{input_at}
+use Rattle.blake2_rows.proofs.Lanes.{in_eight}
+use Rattle.blake2_words.specs.Hash.{blocks, chain, compress, input_data}
+use Rattle.blake2_words.specs.Lanes.{after_blocks, input_at}
 use Rattle.blake2_words.specs.Run.{step_count}
-use Rattle.blake2_words.proofs.Lanes.{no_block, block_more, inner_at}
+use Rattle.blake2_words.proofs.Lanes.{no_block, block_more, inner_at, later_after}
 use Rattle.blake2_words.proofs.Streaming.{block_count-pos}
 use Rattle.blake2_words.proofs.many.blake2s.absorb_inner.Goals as goal
 
@@ -17,127 +17,88 @@ returns-then-count-eq1 c j h =
     let long : length inputs ≡ 8 = search rules in
     no_block blake2s _ _ _ (omega (arith, c.step_count-count.ensures))
 
-pub loop-i-init : goal.loop-i-init
-loop-i-init c j h =
-    block_more blake2s (in_lane j c.args.h.now) _ 0 64 (in_lane j c.args.h.now) _ _
-    (no_block blake2s _ _ 0 refl)
-    (c.compress_at.ensures j h ∙ ap (compress blake2s _ _ 64) (inner_at 8 j)) refl refl
-
-pub bounds-p0-i : goal.bounds-p0-i
-bounds-p0-i c =
+pub compress_blocks-requires-clause-same_number : goal.compress_blocks-requires-clause-same_number
+compress_blocks-requires-clause-same_number c j h =
     let inputs = c.args.inputs.now in
     let long : length inputs ≡ 8 = search rules in
-    let here = c.requires.same_number 0 (omega arith) in
+    let n : ℕ = c.step_count-count.result - 2 in
+    let p0 = c.later_blocks.result.now in
+    let p1 = c.later_blocks-2.result.now in
+    let p2 = c.later_blocks-3.result.now in
+    let p3 = c.later_blocks-4.result.now in
+    let p4 = c.later_blocks-5.result.now in
+    let p5 = c.later_blocks-6.result.now in
+    let p6 = c.later_blocks-7.result.now in
+    let p7 = c.later_blocks-8.result.now in
     let first = c.step_count-count.ensures in
-    omega (arith, here, first, c.later_blocks-p0.ensures.enough)
-
-pub bounds-p1-i : goal.bounds-p1-i
-bounds-p1-i c =
-    let inputs = c.args.inputs.now in
-    let long : length inputs ≡ 8 = search rules in
-    let here = c.requires.same_number 1 (omega arith) in
-    let first = c.step_count-count.ensures in
-    omega (arith, here, first, c.later_blocks-p1.ensures.enough)
-
-pub bounds-p2-i : goal.bounds-p2-i
-bounds-p2-i c =
-    let inputs = c.args.inputs.now in
-    let long : length inputs ≡ 8 = search rules in
-    let here = c.requires.same_number 2 (omega arith) in
-    let first = c.step_count-count.ensures in
-    omega (arith, here, first, c.later_blocks-p2.ensures.enough)
-
-pub bounds-p3-i : goal.bounds-p3-i
-bounds-p3-i c =
-    let inputs = c.args.inputs.now in
-    let long : length inputs ≡ 8 = search rules in
-    let here = c.requires.same_number 3 (omega arith) in
-    let first = c.step_count-count.ensures in
-    omega (arith, here, first, c.later_blocks-p3.ensures.enough)
-
-pub bounds-p4-i : goal.bounds-p4-i
-bounds-p4-i c =
-    let inputs = c.args.inputs.now in
-    let long : length inputs ≡ 8 = search rules in
-    let here = c.requires.same_number 4 (omega arith) in
-    let first = c.step_count-count.ensures in
-    omega (arith, here, first, c.later_blocks-p4.ensures.enough)
-
-pub bounds-p5-i : goal.bounds-p5-i
-bounds-p5-i c =
-    let inputs = c.args.inputs.now in
-    let long : length inputs ≡ 8 = search rules in
-    let here = c.requires.same_number 5 (omega arith) in
-    let first = c.step_count-count.ensures in
-    omega (arith, here, first, c.later_blocks-p5.ensures.enough)
-
-pub bounds-p6-i : goal.bounds-p6-i
-bounds-p6-i c =
-    let inputs = c.args.inputs.now in
-    let long : length inputs ≡ 8 = search rules in
-    let here = c.requires.same_number 6 (omega arith) in
-    let first = c.step_count-count.ensures in
-    omega (arith, here, first, c.later_blocks-p6.ensures.enough)
-
-pub bounds-p7-i : goal.bounds-p7-i
-bounds-p7-i c =
-    let inputs = c.args.inputs.now in
-    let long : length inputs ≡ 8 = search rules in
-    let here = c.requires.same_number 7 (omega arith) in
-    let first = c.step_count-count.ensures in
-    omega (arith, here, first, c.later_blocks-p7.ensures.enough)
-
-pub loop-i-preserved : goal.loop-i-preserved
-loop-i-preserved c j h =
-    let inputs = c.args.inputs.now in
-    let long : length inputs ≡ 8 = search rules in
-    let i : ℕ = c.loop-i.i in
-    let first = c.step_count-count.ensures in
-    let block : Input → List ℕ = λ a. slice_index_or (blocks blake2s (input_data blake2s a)) (i + 1)
-    [] in
-    let at = listed_in_eight (λ k. block (input_at inputs k)) _ _ _ _ _ _ _ _
-    (let here = c.requires.same_number 0 (omega arith) in
-    get_or_default c.later_blocks-p0.result.now i _ []
-    (omega (arith, here, first, c.later_blocks-p0.ensures.enough))
-    ∙ c.later_blocks-p0.ensures.blocks i (omega (arith, here, first)))
-    (let here = c.requires.same_number 1 (omega arith) in
-    get_or_default c.later_blocks-p1.result.now i _ []
-    (omega (arith, here, first, c.later_blocks-p1.ensures.enough))
-    ∙ c.later_blocks-p1.ensures.blocks i (omega (arith, here, first)))
-    (let here = c.requires.same_number 2 (omega arith) in
-    get_or_default c.later_blocks-p2.result.now i _ []
-    (omega (arith, here, first, c.later_blocks-p2.ensures.enough))
-    ∙ c.later_blocks-p2.ensures.blocks i (omega (arith, here, first)))
-    (let here = c.requires.same_number 3 (omega arith) in
-    get_or_default c.later_blocks-p3.result.now i _ []
-    (omega (arith, here, first, c.later_blocks-p3.ensures.enough))
-    ∙ c.later_blocks-p3.ensures.blocks i (omega (arith, here, first)))
-    (let here = c.requires.same_number 4 (omega arith) in
-    get_or_default c.later_blocks-p4.result.now i _ []
-    (omega (arith, here, first, c.later_blocks-p4.ensures.enough))
-    ∙ c.later_blocks-p4.ensures.blocks i (omega (arith, here, first)))
-    (let here = c.requires.same_number 5 (omega arith) in
-    get_or_default c.later_blocks-p5.result.now i _ []
-    (omega (arith, here, first, c.later_blocks-p5.ensures.enough))
-    ∙ c.later_blocks-p5.ensures.blocks i (omega (arith, here, first)))
-    (let here = c.requires.same_number 6 (omega arith) in
-    get_or_default c.later_blocks-p6.result.now i _ []
-    (omega (arith, here, first, c.later_blocks-p6.ensures.enough))
-    ∙ c.later_blocks-p6.ensures.blocks i (omega (arith, here, first)))
-    (let here = c.requires.same_number 7 (omega arith) in
-    get_or_default c.later_blocks-p7.result.now i _ []
-    (omega (arith, here, first, c.later_blocks-p7.ensures.enough))
-    ∙ c.later_blocks-p7.ensures.blocks i (omega (arith, here, first))) j h in
-    block_more blake2s (in_lane j c.args.h.now) _ (i + 1) _ _ _ _ (c.loop-i.invariant j h)
-    (c.compress.ensures j h ∙ ap (compress blake2s _ _ _) (inner_at 8 j)) at (omega arith)
+    let taken : (k : ℕ) (p : List (List ℕ)) → k < 8
+    → step_count blake2s (input_at inputs k) ≤ length p + 2 → length (take n p) ≡ n =
+    λ k p lt enough.
+    length-take-le n p (omega (arith, first, enough, c.requires.same_number k lt)) in
+    let all = taken 0 p0 (omega arith) c.later_blocks.ensures.enough in
+    let lists =
+    take n p0 ∷ take n p1 ∷ take n p2 ∷ take n p3 ∷ take n p4 ∷ take n p5 ∷ take n p6 ∷ take n p7
+    ∷ [] in
+    in_eight (λ k. length (slice_index_or lists k []) ≡ length (take n p0)) refl
+    (omega (arith, all, taken 1 p1 (omega arith) c.later_blocks-2.ensures.enough))
+    (omega (arith, all, taken 2 p2 (omega arith) c.later_blocks-3.ensures.enough))
+    (omega (arith, all, taken 3 p3 (omega arith) c.later_blocks-4.ensures.enough))
+    (omega (arith, all, taken 4 p4 (omega arith) c.later_blocks-5.ensures.enough))
+    (omega (arith, all, taken 5 p5 (omega arith) c.later_blocks-6.ensures.enough))
+    (omega (arith, all, taken 6 p6 (omega arith) c.later_blocks-7.ensures.enough))
+    (omega (arith, all, taken 7 p7 (omega arith) c.later_blocks-8.ensures.enough)) j h
 
 pub returns : goal.returns
 returns c j h =
     let inputs = c.args.inputs.now in
     let long : length inputs ≡ 8 = search rules in
+    let n : ℕ = c.step_count-count.result - 2 in
+    let p0 = c.later_blocks.result.now in
+    let p1 = c.later_blocks-2.result.now in
+    let p2 = c.later_blocks-3.result.now in
+    let p3 = c.later_blocks-4.result.now in
+    let p4 = c.later_blocks-5.result.now in
+    let p5 = c.later_blocks-6.result.now in
+    let p6 = c.later_blocks-7.result.now in
+    let p7 = c.later_blocks-8.result.now in
     let first = c.step_count-count.ensures in
+    let lists =
+    take n p0 ∷ take n p1 ∷ take n p2 ∷ take n p3 ∷ take n p4 ∷ take n p5 ∷ take n p6 ∷ take n p7
+    ∷ [] in
+    let in_input : ℕ → ℕ → List ℕ = λ k i. slice_index_or
+    (blocks blake2s (input_data blake2s (input_at inputs k))) i [] in
+    let same = in_eight
+    (λ k. (i : ℕ) → i < n → slice_index_or (slice_index_or lists k []) i [] ≡ in_input k (i + 1))
+    (λ i lt. get_or-take n p0 i [] lt ∙ c.later_blocks.ensures.blocks i
+    (omega (arith, first, lt, c.requires.same_number 0 (omega arith))))
+    (λ i lt. get_or-take n p1 i [] lt ∙ c.later_blocks-2.ensures.blocks i
+    (omega (arith, first, lt, c.requires.same_number 1 (omega arith))))
+    (λ i lt. get_or-take n p2 i [] lt ∙ c.later_blocks-3.ensures.blocks i
+    (omega (arith, first, lt, c.requires.same_number 2 (omega arith))))
+    (λ i lt. get_or-take n p3 i [] lt ∙ c.later_blocks-4.ensures.blocks i
+    (omega (arith, first, lt, c.requires.same_number 3 (omega arith))))
+    (λ i lt. get_or-take n p4 i [] lt ∙ c.later_blocks-5.ensures.blocks i
+    (omega (arith, first, lt, c.requires.same_number 4 (omega arith))))
+    (λ i lt. get_or-take n p5 i [] lt ∙ c.later_blocks-6.ensures.blocks i
+    (omega (arith, first, lt, c.requires.same_number 5 (omega arith))))
+    (λ i lt. get_or-take n p6 i [] lt ∙ c.later_blocks-7.ensures.blocks i
+    (omega (arith, first, lt, c.requires.same_number 6 (omega arith))))
+    (λ i lt. get_or-take n p7 i [] lt ∙ c.later_blocks-8.ensures.blocks i
+    (omega (arith, first, lt, c.requires.same_number 7 (omega arith)))) j h in
     let some = block_count-pos blake2s (length (input_data blake2s (input_at inputs 0))) in
-    let all : c.loop-i.i + 1 ≡ step_count blake2s (input_at inputs 0) - 1 =
-    omega (arith, first, some) in
-    c.loop-i.invariant j h ∙ ap (chain blake2s (in_lane j c.args.h.now) 0 (blocks blake2s
-    (input_data blake2s (input_at inputs j)))) all
+    let count = length-take-le n p0
+    (omega (arith, first, c.later_blocks.ensures.enough, c.requires.same_number 0 (omega arith)))
+    in
+    let all : n + 1 ≡ step_count blake2s (input_at inputs 0) - 1 =
+    omega (arith, first, some, c.if-count-eq1.false) in
+    let all_blocks = blocks blake2s (input_data blake2s (input_at inputs j)) in
+    let begun : in_lane j c.compress_at.new.h
+    ≡ chain blake2s (in_lane j c.args.h.now) 0 all_blocks 1 =
+    block_more blake2s (in_lane j c.args.h.now) _ 0 64 (in_lane j c.args.h.now) _ _
+    (no_block blake2s _ _ 0 refl)
+    (c.compress_at.ensures j h ∙ ap (compress blake2s _ _ 64) (inner_at 8 j)) refl refl in
+    c.compress_blocks.ensures j h
+    ∙ (λ k. after_blocks blake2s (in_lane j c.compress_at.new.h) (slice_index_or lists j []) 128
+    (inner_at 8 j k) (count k))
+    ∙ later_after blake2s (in_lane j c.args.h.now) _ _ (slice_index_or lists j []) n begun same
+    ∙ ap (chain blake2s (in_lane j c.args.h.now) 0 all_blocks) all
