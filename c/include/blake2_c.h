@@ -114,9 +114,22 @@ typedef struct vulfsjor_tree {
     uint8_t inner_length; /* the bytes of an inner node's digest, up to 64 (BLAKE2s: 32) */
 } vulfsjor_tree;
 
+/* A run of a tree of hashes with two levels over BLAKE2b, to be kept as a run of BLAKE2b is. */
+typedef struct vulfsjor_tree_state {
+    vulfsjor_blake2b_state leaf; /* the open leaf, full or not */
+    vulfsjor_blake2b_state root; /* the root, which has taken the digests of the closed leaves */
+    uint64_t closed;             /* how many leaves are closed */
+    uint64_t leaf_length;        /* the bytes of a leaf, 1 to 2^32 - 1 */
+    size_t salt_length;          /* the bytes of the salt, 0 to 16 */
+    size_t persona_length;       /* the bytes of the persona, 0 to 16 */
+    uint8_t salt[16];            /* the salt, at the beginning */
+    uint8_t persona[16];         /* the persona, at the beginning */
+} vulfsjor_tree_state;
+
 /* The library is built for 64 bits, and knows these layouts. */
 typedef char vulfsjor_layouts[sizeof(size_t) == 8 && sizeof(vulfsjor_blake2b_state) == 424 &&
                               sizeof(vulfsjor_blake2s_state) == 232 &&
+                              sizeof(vulfsjor_tree_state) == 912 &&
                               sizeof(vulfsjor_blake2b_param) == 64 &&
                               sizeof(vulfsjor_blake2s_param) == 32 ? 1 : -1];
 
@@ -133,6 +146,13 @@ int32_t blake2_c_tree_root512(const uint8_t *message, size_t length, const uint8
 int32_t blake2_c_tree_root256(const uint8_t *message, size_t length, const uint8_t *salt,
                               size_t salt_length, const uint8_t *persona, size_t persona_length,
                               uint32_t leaf_length, uint8_t *out);
+
+int32_t blake2_c_tree_init(vulfsjor_tree_state *state, size_t output_size, const uint8_t *salt,
+                           size_t salt_length, const uint8_t *persona, size_t persona_length,
+                           uint32_t leaf_length);
+int32_t blake2_c_tree_update(vulfsjor_tree_state *state, const uint8_t *input, size_t input_length);
+int32_t blake2_c_tree_final(vulfsjor_tree_state *state, uint8_t *out, size_t out_length);
+void blake2_c_tree_wipe(vulfsjor_tree_state *state);
 
 /* The rest does what is said of vulfsjor_* below. init_at and init_block_at answer nothing: the
  * output_size that they leave is 0 where the arguments were refused, and there alone. */
@@ -328,6 +348,37 @@ static inline int vulfsjor_tree_root(void *out, size_t outlen, const void *in, s
                                      vulfsjor_text(personal), personallen, leaf_length,
                                      (uint8_t *)out);
     return -1;
+}
+
+/* Begins a run of that tree, with a root of outlen bytes, 1 to 64. -1 where outlen is another,
+ * leaf_length is 0, or salt or persona have more than 16 bytes. */
+static inline int vulfsjor_tree_init(vulfsjor_tree_state *S, size_t outlen, const void *salt,
+                                     size_t saltlen, const void *personal, size_t personallen,
+                                     uint32_t leaf_length) {
+    if (!S) return -1;
+    memset(S, 0, sizeof *S);
+    if ((!salt && saltlen) || (!personal && personallen)) return -1;
+    return blake2_c_tree_init(S, outlen, vulfsjor_text(salt), saltlen, vulfsjor_text(personal),
+                              personallen, leaf_length);
+}
+
+/* Takes the input after all that was taken before, in pieces of any lengths; where one holds four
+ * whole leaves and more, it hashes four at once. -1 where the bytes of all would be 2^58 or more. */
+static inline int vulfsjor_tree_update(vulfsjor_tree_state *S, const void *in, size_t inlen) {
+    if (!S || (!in && inlen)) return -1;
+    return blake2_c_tree_update(S, vulfsjor_text(in), inlen);
+}
+
+/* Writes the root of all input at the beginning of out, and wipes the state. -1 where outlen, the
+ * bytes that out has room for, is less than the root has. */
+static inline int vulfsjor_tree_final(vulfsjor_tree_state *S, void *out, size_t outlen) {
+    if (!S || !out) return -1;
+    return blake2_c_tree_final(S, (uint8_t *)out, outlen);
+}
+
+/* Sets the state to zeros, whatever it was. */
+static inline void vulfsjor_tree_wipe(vulfsjor_tree_state *S) {
+    if (S) blake2_c_tree_wipe(S);
 }
 
 /* -- BLAKE2s: the same, with digests and keys of up to 32 bytes, salts and personas of up to 8,

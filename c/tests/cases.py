@@ -84,8 +84,8 @@ for length in (1023, 1024, 1025, 4096, 10000, 65536, 65537):
     hash_case(MAX, b"", b"", b"", text(length))
     hash_case(MAX // 2, text(MAX), text(SALT), text(SALT), text(length))
 
-for size in (32, 64) if not SMALL else ():
-    for leaf in (1, 64, 127, 128, 129, 1000, 2**32 - 1):
+for size in (20, 32, 64) if not SMALL else ():
+    for leaf in (1, 7, 64, 127, 128, 129, 1000, 2**32 - 1):
         for length in (0, 1, leaf - 1, leaf, leaf + 1, 4 * leaf, 4 * leaf + 1, 5 * leaf, 9 * leaf + 3):
             if length < 10000:
                 root_case(size, leaf, text(length))

@@ -220,13 +220,78 @@ static void node_of_root(uint8_t *out, size_t size, text salt, text persona, vul
     CHECK(BLAKE(update)(&state, bytes, length) == 0 && BLAKE(final)(&state, out, size) == 0);
 }
 
-/* The root of a message in one call, and node by node. */
+static int is_zero_tree(const vulfsjor_tree_state *state) {
+    static const vulfsjor_tree_state zeros;
+    return !memcmp(state, &zeros, sizeof zeros);
+}
+
+/* Takes bytes from..to of the message, alone in their memory. */
+static void take_in_tree(vulfsjor_tree_state *state, text message, size_t from, size_t to) {
+    text piece = copy_of(message.bytes + from, to - from);
+    CHECK(vulfsjor_tree_update(state, or_null(piece), piece.length) == 0);
+    free(piece.bytes);
+}
+
+/* The root of a copy is the wanted one, and the copy is then zeros, which no call takes. */
+static void gives_root(const vulfsjor_tree_state *state, size_t size, text wanted) {
+    vulfsjor_tree_state copy = *state;
+    uint8_t out[MAX + 1];
+    memset(out, 0xaa, sizeof out);
+    CHECK(vulfsjor_tree_final(&copy, out, size - 1) == -1 && out[0] == 0xaa);
+    CHECK(!memcmp(&copy, state, sizeof copy));
+    CHECK(vulfsjor_tree_final(&copy, out, sizeof out) == 0);
+    CHECK(!memcmp(out, wanted.bytes, size) && out[size] == 0xaa && is_zero_tree(&copy));
+    CHECK(vulfsjor_tree_update(&copy, out, 1) == -1 && vulfsjor_tree_update(&copy, out, 0) == -1);
+    CHECK(vulfsjor_tree_final(&copy, out, sizeof out) == -1 && is_zero_tree(&copy));
+}
+
+/* The root of a message in pieces: at every cut of a short one, at some of a long one, and at random. */
+static void root_of_pieces(size_t size, text salt, text persona, uint32_t leaf, text message, text wanted) {
+    vulfsjor_tree_state *state = malloc(sizeof *state); /* holds nothing yet */
+    size_t step = message.length <= 700 ? 1 : message.length / 50;
+    for (size_t cut = 0; cut <= message.length; cut += step) {
+        CHECK(vulfsjor_tree_init(state, size, or_null(salt), salt.length, or_null(persona), persona.length,
+                                 leaf) == 0);
+        take_in_tree(state, message, 0, cut);
+        take_in_tree(state, message, cut, message.length);
+        gives_root(state, size, wanted);
+    }
+    CHECK(vulfsjor_tree_init(state, size, or_null(salt), salt.length, or_null(persona), persona.length, leaf) == 0);
+    for (size_t at = 0; at < message.length;) {
+        size_t n = random_number() % 3 ? random_number() % 20 : random_number() % 3000;
+        if (n > message.length - at) n = message.length - at;
+        take_in_tree(state, message, at, at + n);
+        at += n;
+    }
+    gives_root(state, size, wanted);
+    vulfsjor_tree_wipe(state);
+    CHECK(is_zero_tree(state));
+    free(state);
+}
+
+/* Messages of more than five leaves in pieces, against their roots in one call. */
+static void roots_of_pieces(void) {
+    static const uint32_t leaves[] = {1, 7, 128, 4096};
+    static uint8_t bytes[5 * 4096 + 3];
+    for (size_t i = 0; i < sizeof bytes; i++) bytes[i] = (uint8_t)(i % 251);
+    for (size_t i = 0; i < sizeof leaves / sizeof *leaves; i++) {
+        uint8_t out[MAX];
+        text message = {bytes, 5 * leaves[i] + 3}, wanted = {out, MAX}, none = {NULL, 0}, salt = {bytes, SALT};
+        CHECK(vulfsjor_tree_root(out, MAX, bytes, message.length, bytes, SALT, 0, 0, leaves[i]) == 0);
+        root_of_pieces(MAX, salt, none, leaves[i], message, wanted);
+    }
+}
+
+/* The root of a message in pieces, in one call where it is one of the sizes for that, and node by node. */
 static void root_case(size_t size, text salt, text persona, uint32_t leaf, text message, text wanted) {
     uint8_t out[MAX + 1];
     memset(out, 0xaa, sizeof out);
-    CHECK(vulfsjor_tree_root(out, size, or_null(message), message.length, or_null(salt), salt.length,
-                             or_null(persona), persona.length, leaf) == 0);
-    CHECK(!memcmp(out, wanted.bytes, size) && out[size] == 0xaa);
+    if (size == MAX || size == MAX / 2) {
+        CHECK(vulfsjor_tree_root(out, size, or_null(message), message.length, or_null(salt), salt.length,
+                                 or_null(persona), persona.length, leaf) == 0);
+        CHECK(!memcmp(out, wanted.bytes, size) && out[size] == 0xaa);
+    }
+    root_of_pieces(size, salt, persona, leaf, message, wanted);
     vulfsjor_tree tree = {.fanout = 0, .depth = 2, .leaf_length = leaf, .inner_length = MAX};
     size_t leaves = message.length ? (message.length - 1) / leaf + 1 : 1;
     uint8_t *digests = malloc(leaves * MAX);
@@ -253,6 +318,107 @@ static void root_refusals(void) {
     CHECK(vulfsjor_tree_root(out, MAX, NULL, 1, 0, 0, 0, 0, 1) == -1);
     CHECK(vulfsjor_tree_root(NULL, MAX, bytes, 1, 0, 0, 0, 0, 1) == -1);
     CHECK(out[0] == 0xaa && out[MAX - 1] == 0xaa);
+}
+
+/* A refused init leaves zeros, which no call takes. */
+#define REFUSED_TREE(call)                                           \
+    do {                                                             \
+        memset(&state, 0x5a, sizeof state);                          \
+        CHECK((call) == -1 && is_zero_tree(&state));                 \
+    } while (0)
+
+static void tree_refusals(void) {
+    vulfsjor_tree_state state;
+    uint8_t out[MAX], bytes[SALT + 1] = {0};
+    REFUSED_TREE(vulfsjor_tree_init(&state, 0, 0, 0, 0, 0, 1));
+    REFUSED_TREE(vulfsjor_tree_init(&state, MAX + 1, 0, 0, 0, 0, 1));
+    REFUSED_TREE(vulfsjor_tree_init(&state, (size_t)1 << 32 | 1, 0, 0, 0, 0, 1));
+    REFUSED_TREE(vulfsjor_tree_init(&state, MAX, bytes, SALT + 1, 0, 0, 1));
+    REFUSED_TREE(vulfsjor_tree_init(&state, MAX, 0, 0, bytes, SALT + 1, 1));
+    REFUSED_TREE(vulfsjor_tree_init(&state, MAX, NULL, 1, 0, 0, 1));
+    REFUSED_TREE(vulfsjor_tree_init(&state, MAX, 0, 0, NULL, 1, 1));
+    REFUSED_TREE(vulfsjor_tree_init(&state, MAX, 0, 0, 0, 0, 0));
+    CHECK(vulfsjor_tree_init(NULL, MAX, 0, 0, 0, 0, 1) == -1);
+    CHECK(vulfsjor_tree_update(NULL, bytes, 1) == -1 && vulfsjor_tree_final(NULL, out, MAX) == -1);
+    vulfsjor_tree_wipe(NULL);
+    CHECK(vulfsjor_tree_init(&state, 1, bytes, SALT, bytes, SALT, ~(uint32_t)0) == 0);
+    vulfsjor_tree_state before = state;
+    CHECK(vulfsjor_tree_update(&state, NULL, 3) == -1 && vulfsjor_tree_final(&state, NULL, MAX) == -1);
+    CHECK(vulfsjor_tree_final(&state, out, 0) == -1 && !memcmp(&state, &before, sizeof state));
+    CHECK(vulfsjor_tree_update(&state, NULL, 0) == 0 && !memcmp(&state, &before, sizeof state));
+}
+
+/* The count may not reach 2^58, and a refused update changes nothing. */
+static void long_trees(void) {
+    vulfsjor_tree_state state;
+    uint8_t out[MAX], bytes[3] = {0};
+    CHECK(vulfsjor_tree_init(&state, MAX, 0, 0, 0, 0, 1) == 0);
+    state.closed = ((uint64_t)1 << 58) - 3;
+    state.root.counter = 64 * state.closed;
+    vulfsjor_tree_state before = state;
+    CHECK(vulfsjor_tree_update(&state, bytes, 3) == -1 && !memcmp(&state, &before, sizeof state));
+    CHECK(vulfsjor_tree_update(&state, bytes, 2) == 0 && vulfsjor_tree_update(&state, bytes, 0) == 0);
+    CHECK(vulfsjor_tree_update(&state, bytes, 1) == -1 && vulfsjor_tree_final(&state, out, MAX) == 0);
+}
+
+/* Each number that a run of the tree can't have is refused. */
+#define UNTAKEN(change)                                              \
+    do {                                                             \
+        vulfsjor_tree_state state = made;                            \
+        change;                                                      \
+        vulfsjor_tree_state before = state;                          \
+        CHECK(vulfsjor_tree_update(&state, bytes, 1) == -1);         \
+        CHECK(vulfsjor_tree_final(&state, bytes, MAX) == -1);        \
+        CHECK(!memcmp(&state, &before, sizeof state));               \
+    } while (0)
+
+static void untaken_trees(void) {
+    vulfsjor_tree_state made;
+    uint8_t bytes[MAX] = {0};
+    CHECK(vulfsjor_tree_init(&made, MAX, 0, 0, 0, 0, 7) == 0 && vulfsjor_tree_update(&made, bytes, 20) == 0);
+    UNTAKEN(state.leaf.output_size = MAX - 1);
+    UNTAKEN(state.leaf.pending_length = BLOCK + 1);
+    UNTAKEN(state.leaf.pending_length = 8);
+    UNTAKEN(state.leaf.counter = ~(uint64_t)0);
+    UNTAKEN(state.root.output_size = 0);
+    UNTAKEN(state.root.output_size = MAX + 1);
+    UNTAKEN(state.root.counter += 1);
+    UNTAKEN(state.closed = 1);
+    UNTAKEN(state.closed = (uint64_t)1 << 58; state.root.counter = 0; state.root.pending_length = 0);
+    UNTAKEN(state.leaf_length = 0);
+    UNTAKEN(state.leaf_length = 5);
+    UNTAKEN(state.leaf_length = (uint64_t)1 << 32);
+    UNTAKEN(state.salt_length = SALT + 1);
+    UNTAKEN(state.persona_length = ~(size_t)0);
+}
+
+/* Random bytes in the fields of a run: every call ends, and writes within its memory. */
+static void random_trees(void) {
+    vulfsjor_tree_state state;
+    uint8_t out[MAX], bytes[3 * BLOCK] = {0};
+    int taken = 0;
+    for (int i = 0; i < 4000; i++) {
+        for (size_t j = 0; j < sizeof state; j++) ((uint8_t *)&state)[j] = (uint8_t)random_number();
+        if (i % 4) {
+            state.leaf.output_size = MAX;
+            state.root.output_size %= MAX + 2;
+            state.leaf.counter = i % 3 ? 0 : BLOCK;
+            state.leaf.pending_length %= BLOCK + 4;
+            state.leaf.start_length %= BLOCK + 4;
+            state.root.start_length %= BLOCK + 4;
+            state.root.pending_length = 64 * (i % 3);
+            state.closed %= i % 5 ? 1000 : (uint64_t)1 << 58;
+            state.root.counter = 64 * state.closed - state.root.pending_length;
+            state.leaf_length = i % 7 ? state.leaf_length % 400 : ~(uint32_t)0;
+            state.salt_length %= SALT + 2;
+            state.persona_length %= SALT + 2;
+        }
+        int updated = vulfsjor_tree_update(&state, bytes, i % sizeof bytes);
+        int ended = vulfsjor_tree_final(&state, out, MAX);
+        CHECK((updated == 0 || updated == -1) && (ended == 0 || ended == -1));
+        taken += updated == 0 && ended == 0;
+    }
+    CHECK(taken >= 100);
 }
 #endif
 
@@ -401,6 +567,11 @@ int main(int argc, char **argv) {
     refusals();
 #ifndef TEST_S
     root_refusals();
+    tree_refusals();
+    long_trees();
+    untaken_trees();
+    random_trees();
+    roots_of_pieces();
 #endif
     long_counts();
     random_states();

@@ -52,6 +52,17 @@
 //! # Ok::<(), vulfsjor::InvalidLength>(())
 //! ```
 //!
+//! The root of a message in a tree of two levels, in pieces:
+//!
+//! ```
+//! use vulfsjor::{tree_root, TreeHasher};
+//!
+//! let mut hasher = TreeHasher::new(b"", b"files", 1 << 20)?;
+//! hasher.update(b"hello ").update(b"world");
+//! assert_eq!(hasher.finalize(), tree_root(b"hello world", b"", b"files", 1 << 20)?);
+//! # Ok::<(), vulfsjor::InvalidLength>(())
+//! ```
+//!
 //! A stream, through [`std::io::Write`]:
 //!
 //! ```
@@ -101,6 +112,18 @@ extern "C" {
         leaf_length: u32,
         out: *mut u8,
     ) -> i32;
+    fn blake2_c_tree_init(
+        state: &mut TreeState,
+        output_size: usize,
+        salt: *const u8,
+        salt_length: usize,
+        persona: *const u8,
+        persona_length: usize,
+        leaf_length: u32,
+    ) -> i32;
+    fn blake2_c_tree_update(state: &mut TreeState, input: *const u8, length: usize) -> i32;
+    fn blake2_c_tree_final(state: &mut TreeState, out: *mut u8, length: usize) -> i32;
+    fn blake2_c_tree_wipe(state: &mut TreeState);
 }
 
 /// The root of a message in a tree of hashes with two levels over BLAKE2b, in 64 bytes: the message is cut
@@ -136,6 +159,123 @@ pub fn tree_root(
         Ok(root)
     } else {
         Err(InvalidLength)
+    }
+}
+
+// The fields of the C struct. Every value of them is valid.
+#[repr(C)]
+#[derive(Clone)]
+struct TreeState {
+    leaf: Blake2bState,
+    root: Blake2bState,
+    closed: u64,
+    leaf_length: u64,
+    salt_length: usize,
+    persona_length: usize,
+    salt: [u8; 16],
+    persona: [u8; 16],
+}
+
+// The state of zeros, which no call but the init and the wipe takes.
+const TREE_ZEROS: TreeState = TreeState {
+    leaf: BLAKE2B_ZEROS,
+    root: BLAKE2B_ZEROS,
+    closed: 0,
+    leaf_length: 0,
+    salt_length: 0,
+    persona_length: 0,
+    salt: [0; 16],
+    persona: [0; 16],
+};
+
+/// The tree of [`tree_root`] over a message that comes in pieces. It takes no memory, and four whole leaves
+/// with more input behind them are hashed at once. A dropped one is wiped.
+#[derive(Clone)]
+pub struct TreeHasher(TreeState);
+
+impl TreeHasher {
+    /// One with a root of 64 bytes. Refused exactly where `leaf_length` is 0, or salt or persona have more
+    /// than 16 bytes.
+    pub fn new(salt: &[u8], persona: &[u8], leaf_length: u32) -> Result<Self, InvalidLength> {
+        Self::with_output_size(64, salt, persona, leaf_length)
+    }
+
+    /// One with a root of this many bytes, 1 to 64. Refused where `new` is, and exactly for other sizes.
+    pub fn with_output_size(
+        bytes: usize,
+        salt: &[u8],
+        persona: &[u8],
+        leaf_length: u32,
+    ) -> Result<Self, InvalidLength> {
+        let mut state = TREE_ZEROS;
+        // Safety: the pointers come from slices of these lengths, and none is null; the state overlaps none of
+        // them.
+        let status = unsafe {
+            blake2_c_tree_init(
+                &mut state,
+                bytes,
+                salt.as_ptr(),
+                salt.len(),
+                persona.as_ptr(),
+                persona.len(),
+                leaf_length,
+            )
+        };
+        if status == 0 {
+            Ok(TreeHasher(state))
+        } else {
+            Err(InvalidLength)
+        }
+    }
+
+    /// Takes the input after all that was taken before.
+    ///
+    /// # Panics
+    ///
+    /// Where the bytes of all would be 2^58 or more.
+    pub fn update(&mut self, input: impl AsRef<[u8]>) -> &mut Self {
+        let input = input.as_ref();
+        // Safety: the pointer comes from a slice of this length, which the state can't overlap.
+        let status = unsafe { blake2_c_tree_update(&mut self.0, input.as_ptr(), input.len()) };
+        assert_eq!(status, 0, "an input of 2^58 bytes");
+        self
+    }
+
+    /// The root of all input.
+    pub fn finalize(mut self) -> Digest {
+        let mut root = Digest {
+            bytes: [0; 64],
+            size: self.0.root.output_size,
+        };
+        // Safety: the output is of this length, and apart from the state.
+        let status = unsafe { blake2_c_tree_final(&mut self.0, root.bytes.as_mut_ptr(), 64) };
+        assert_eq!(status, 0, "a state that new has made");
+        root
+    }
+}
+
+impl fmt::Debug for TreeHasher {
+    fn fmt(&self, f: &mut fmt::Formatter<'_>) -> fmt::Result {
+        f.write_str("TreeHasher { .. }")
+    }
+}
+
+impl Drop for TreeHasher {
+    fn drop(&mut self) {
+        // Safety: the state is one.
+        unsafe { blake2_c_tree_wipe(&mut self.0) };
+    }
+}
+
+/// Takes all that is written.
+impl io::Write for TreeHasher {
+    fn write(&mut self, bytes: &[u8]) -> io::Result<usize> {
+        self.update(bytes);
+        Ok(bytes.len())
+    }
+
+    fn flush(&mut self) -> io::Result<()> {
+        Ok(())
     }
 }
 

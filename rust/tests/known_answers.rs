@@ -1,7 +1,10 @@
 //! The cases of `c/tests/cases.py`, which hashlib computes, in pieces; tags, resets and refusals.
 use std::io::Write;
 use std::process::Command;
-use vulfsjor::{Blake2b, Blake2bMac, Blake2s, Blake2sMac, InvalidLength, MacError, Params, Tree};
+use vulfsjor::{
+    Blake2b, Blake2bMac, Blake2s, Blake2sMac, Digest, InvalidLength, MacError, Params, Tree,
+    TreeHasher,
+};
 
 fn bytes(digits: &str) -> Vec<u8> {
     let digits = if digits == "-" { "" } else { digits };
@@ -75,24 +78,54 @@ fn cases(family: &str) -> Vec<Case> {
     lines(family).lines().filter_map(case).collect()
 }
 
+// The root of a message that comes in pieces of this length, and that of the first half of them.
+fn roots_of_pieces(mut hasher: TreeHasher, message: &[u8], length: usize) -> [Digest; 2] {
+    let (first, second) = message.split_at(message.len() / 2);
+    for piece in first.chunks(length) {
+        hasher.update(piece);
+    }
+    let half = hasher.clone().finalize();
+    for piece in second.chunks(length) {
+        hasher.write_all(piece).unwrap();
+    }
+    [half, hasher.finalize()]
+}
+
 #[test]
 fn roots() {
     let lines = lines("b");
-    let roots = lines.lines().filter(|line| line.starts_with("r 64 "));
     let mut count = 0;
-    for line in roots {
+    for (i, line) in lines
+        .lines()
+        .filter(|line| line.starts_with("r "))
+        .enumerate()
+    {
         let fields: Vec<&str> = line.split(' ').collect();
         let [salt, persona, message, wanted] = [2, 3, 5, 6].map(|field| bytes(fields[field]));
-        let leaf_length = fields[4].parse().unwrap();
-        let root = vulfsjor::tree_root(message, &salt, &persona, leaf_length).unwrap();
+        let (size, leaf_length) = (fields[1].parse().unwrap(), fields[4].parse().unwrap());
+        let hasher = TreeHasher::with_output_size(size, &salt, &persona, leaf_length).unwrap();
+        let [half, root] = roots_of_pieces(hasher, &message, 1 + i % 200);
         assert_eq!(root.as_bytes(), wanted);
-        count += 1;
+        if size == 64 {
+            let root_of =
+                |message| vulfsjor::tree_root(message, &salt, &persona, leaf_length).unwrap();
+            assert_eq!(root_of(&message[..]), root);
+            assert_eq!(root_of(&message[..message.len() / 2]), half);
+            count += 1;
+        }
     }
     assert!(count >= 40);
     let long = [0; 17];
     assert_eq!(vulfsjor::tree_root(b"", b"", b"", 0), Err(InvalidLength));
     assert_eq!(vulfsjor::tree_root(b"", &long, b"", 1), Err(InvalidLength));
     assert_eq!(vulfsjor::tree_root(b"", b"", &long, 1), Err(InvalidLength));
+    assert_eq!(TreeHasher::new(b"", b"", 0).err(), Some(InvalidLength));
+    assert_eq!(TreeHasher::new(&long, b"", 1).err(), Some(InvalidLength));
+    assert_eq!(TreeHasher::new(b"", &long, 1).err(), Some(InvalidLength));
+    for size in [0, 65] {
+        let refused = TreeHasher::with_output_size(size, b"", b"", 1);
+        assert_eq!(refused.err(), Some(InvalidLength));
+    }
 }
 
 macro_rules! family {

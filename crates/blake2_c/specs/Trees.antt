@@ -1,5 +1,5 @@
 -- What the exports on trees are given.
-use Rattle.std.specs.Prelude.{◌≡◌, ℕ, ◌^◌, ◌<◌, ◌≤◌, ◌⊎◌}
+use Rattle.std.specs.Prelude.{◌≡◌, ℕ, ◌+◌, ◌^◌, ◌<◌, ◌≤◌, ◌⊎◌}
 use Rattle.blake2_words.specs.Hash.{Tree}
 
 -- the place of these numbers, in the order of the parameter block (the BLAKE2 document, 2.8)
@@ -18,3 +18,7 @@ place fanout depth leaf_length node_offset node_depth inner_length = record {
 abbrev pub IsRefusedTree : ℕ → ℕ → ℕ → ℕ → Type 0
 IsRefusedTree salt persona leaf_length n =
     (16 < salt) ⊎ (16 < persona) ⊎ (leaf_length ≡ 0) ⊎ (2 ^ 58 ≤ n)
+
+-- a state of the tree gives no root, or can't count n bytes more
+abbrev pub IsUntakableTree : Type 0 → ℕ → ℕ → Type 0
+IsUntakableTree ready count n = (¬ ready) ⊎ (2 ^ 58 ≤ count + n)

@@ -1,9 +1,12 @@
 //! The root of a tree of hashes with two levels over BLAKE2b, as the crate `blake2_tree` has it.
-ghost use Rattle.std.specs.Prelude.{◌≡◌, ◌↔◌, length, pos, negsuc, IsTrue};
+ghost use Rattle.std.specs.Prelude.{◌≡◌, ℕ, ◌↔◌, List, [], ◌++◌, length, drop, pos, negsuc};
+ghost use Rattle.std.specs.Prelude.{IsTrue};
 ghost use Rattle.blake2_tree.specs.TreeRoot.{tree_parameters, tree_root as root_of};
-ghost use Rattle.blake2_c.specs.Status.{Answers};
-ghost use Rattle.blake2_c.specs.Trees.{IsRefusedTree};
+ghost use Rattle.blake2_tree.specs.TreeStates.{IsReady, IsRefused, Took, future, count, zeros};
+ghost use Rattle.blake2_c.specs.Status.{Answers, IsUngivable};
+ghost use Rattle.blake2_c.specs.Trees.{IsRefusedTree, IsUntakableTree};
 
+use blake2_tree::plain::TreeState;
 use blake2_tree::tree_root;
 
 // Whether the tree takes these.
@@ -58,4 +61,85 @@ pub extern "C" fn blake2_c_tree_root256(
     }
     *out = tree_root(salt, persona, leaf_length, message);
     0
+}
+
+/// Begins a run of the tree in this state, whatever it was: a root of 1 to 64 bytes, a salt and a
+/// persona of up to 16 bytes each, and leaves of `leaf_length` bytes, 1 at least (the BLAKE2
+/// document, 2.10). Answers 0, or -1 where a length is not among these; the state is then that of
+/// zeros.
+#[unsafe(no_mangle)]
+pub extern "C" fn blake2_c_tree_init(
+    state: &mut TreeState,
+    output_size: usize,
+    salt: &[u8],
+    persona: &[u8],
+    leaf_length: u32,
+) -> i32
+    ensures status { Answers result
+        (IsRefused output_size (length salt.now) (length persona.now) leaf_length) }
+    ensures ready { result ≡ pos 0 → IsReady state.new }
+    ensures size { result ≡ pos 0 → state.new.root.output_size ≡ output_size }
+    ensures root { result ≡ pos 0 → (y : List ℕ) → future state.new y
+        ≡ root_of output_size (tree_parameters salt.now persona.now leaf_length) y }
+    ensures nothing { result ≡ pos 0 → count state.new ≡ 0 }
+    ensures zeros { result ≡ negsuc 0 → state.new ≡ zeros }
+{
+    state.wipe();
+    match TreeState::new(output_size, salt, persona, leaf_length) {
+        Ok(made) => {
+            *state = made;
+            0
+        }
+        Err(_) => -1,
+    }
+}
+
+/// Takes the input after all that was taken before. Answers 0, or -1 where the state is not ready
+/// or its count would reach 2^58; the state then stays as it is.
+#[unsafe(no_mangle)]
+pub extern "C" fn blake2_c_tree_update(state: &mut TreeState, input: &[u8]) -> i32
+    ensures status { Answers result
+        (IsUntakableTree (IsReady state.old) (count state.old) (length input.now)) }
+    ensures ready { result ≡ pos 0 → IsReady state.new }
+    ensures size { state.new.root.output_size ≡ state.old.root.output_size }
+    ensures taken { result ≡ pos 0 → Took state.old input.now state.new }
+    ensures same { result ≡ negsuc 0 → state.new ≡ state.old }
+{
+    if !state.is_ready() {
+        return -1;
+    }
+    if input.len() as u64 > (1 << 58) - 1 - state.counted() {
+        return -1;
+    }
+    state.update(input);
+    0
+}
+
+/// Writes the root of all that was taken at the beginning of `out`, and wipes the state, which is
+/// then not ready. Answers 0, or -1 where the state is not ready or `out` has less room than the
+/// root; nothing is then written, and the state stays as it is.
+#[unsafe(no_mangle)]
+pub extern "C" fn blake2_c_tree_final(state: &mut TreeState, out: &mut [u8]) -> i32
+    ensures status { Answers result
+        (IsUngivable (IsReady state.old) state.old.root.output_size (length out.old)) }
+    ensures output { result ≡ pos 0
+        → out.new ≡ future state.old [] ++ drop state.old.root.output_size out.old }
+    ensures wiped { result ≡ pos 0 → state.new ≡ zeros }
+    ensures same { result ≡ negsuc 0 → state.new ≡ state.old }
+    ensures nothing { result ≡ negsuc 0 → out.new ≡ out.old }
+{
+    if !state.is_ready() || out.len() < state.root.output_size {
+        return -1;
+    }
+    state.write_root(out);
+    state.wipe();
+    0
+}
+
+/// Sets the state to zeros. It is then not ready.
+#[unsafe(no_mangle)]
+pub extern "C" fn blake2_c_tree_wipe(state: &mut TreeState)
+    ensures { state.new ≡ zeros }
+{
+    state.wipe();
 }

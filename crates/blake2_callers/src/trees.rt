@@ -1,5 +1,6 @@
 //! Callers of nodes of a tree of hashes, and of a whole tree.
-ghost use Rattle.std.specs.Prelude.{◌≡◌, ◌+◌, ◌^◌, ◌<◌, true, [], ◌++◌, length, None};
+ghost use Rattle.std.specs.Prelude.{◌≡◌, ◌+◌, ◌^◌, ◌<◌, ◌↔◌, ◌⊎◌, true, [], ◌++◌, length, None};
+ghost use Rattle.std.specs.Prelude.{OnOk, OnErr, IsErr};
 ghost use Rattle.blake2_rows.specs.Family.{blake2b};
 ghost use Rattle.blake2_words.specs.Hash.{AdmitsTree};
 ghost use Rattle.blake2_words.specs.Views.{tree_of};
@@ -8,6 +9,8 @@ ghost use Rattle.blake2_tree.specs.TreeRoot.{tree_parameters, tree_root as root_
 
 use blake2::digest::{Digest, LastNode};
 use blake2::{Blake2b512, Tree};
+use blake2_digest::InvalidLength;
+use blake2_tree::plain::TreeState;
 use blake2_tree::{TreeHasher, tree_root};
 
 /// The digest of a node at this place in a tree of hashes, the last of its level.
@@ -39,4 +42,20 @@ pub fn root_of_parts(first: &[u8], second: &[u8]) -> [u8; 64]
     hasher.update(first);
     hasher.update(second);
     hasher.finalize()
+}
+
+/// Fills `out` with the root of a message that comes in two pieces, in as many bytes as it has, 1 to
+/// 64.
+pub fn fill_root(out: &mut [u8], first: &[u8], second: &[u8]) -> Result<(), InvalidLength>
+    requires { length first.now + length second.now < 2 ^ 58 }
+    ensures refused { IsErr result ↔ ((length out.old ≡ 0) ⊎ (64 < length out.old)) }
+    ensures filled { OnOk result (out.new
+        ≡ root_of (length out.old) (tree_parameters [] [] 65536) (first.now ++ second.now)) }
+    ensures same { OnErr result (out.new ≡ out.old) }
+{
+    let mut state = TreeState::new(out.len(), b"", b"", 65536)?;
+    state.update(first);
+    state.update(second);
+    state.write_root(out);
+    Ok(())
 }

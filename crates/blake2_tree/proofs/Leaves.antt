@@ -1,11 +1,12 @@
 -- The leaves of a message, one after the other.
 use Rattle.blake2_tree.specs.Nodes.{node_digest, four_digests}
+use Rattle.blake2_words.proofs.Sizes.{length-digest}
 use Rattle.blake2_words.proofs.Pieces.{piece-zero, piece-more}
 use Rattle.std.proofs.Common.{◌≡◌, ℕ, zero, suc, ◌+◌, ◌-◌, ◌*◌, ◌/◌, ◌<◌, ◌≤◌, inl, inr, Bool, true}
 use Rattle.std.proofs.Common.{false, nat_eq, List, [], ◌++◌, length, take, drop, refl, sym, ap, ◌∙◌}
 use Rattle.std.proofs.Common.{arith, zero-add, append-nil, length-append, length-drop, drop-drop}
-use Rattle.std.proofs.Common.{slice_index_or, ◌∷◌, append_assoc}
-use Rattle.std.proofs.lemmas.List.{take_all, take_more, take-append-drop, take-append-le}
+use Rattle.std.proofs.Common.{◌∷◌, append_assoc}
+use Rattle.std.proofs.lemmas.List.{take_all, take-append-le}
 use Rattle.std.proofs.lemmas.List.{drop-append-le}
 use Rattle.std.proofs.lemmas.Bool.{cases_eq, cases_lt, le-leb, lt-leb, eq-eqb, ne_eqb}
 use Rattle.std.proofs.Math.Nat.{div-lt_iff_lt-mul, add-div_left, le-div_iff_mul-le}
@@ -203,6 +204,22 @@ later_digests-four s p x some long =
     ++ later_digests s (p4 k) (ends k)))))
     ∙ sym (concat-four (d p 0) (d (p + 1) 1) (d (p + 2) 2) (d (p + 3) 3)
     (later_digests s (p + 4) (drop (4 * l) x)))
+
+-- those of four leaves have 256 bytes
+pub length-four_digests : (s : TreeParameters) (p : ℕ) (x : List ℕ)
+    → length (concat (four_digests s p x)) ≡ 256
+length-four_digests s p x =
+    let d : ℕ → ℕ → List ℕ = λ place i.
+    node_digest 64 s place 0 false (leaf s.leaf_length x i) in
+    let size : (place i : ℕ) → length (d place i) ≡ 64 = λ place i.
+    length-digest blake2b 64 (node s place 0 false (leaf s.leaf_length x i)) (omega arith) in
+    simp length-append (omega (
+      arith,
+      size p 0,
+      size (p + 1) 1,
+      size (p + 2) 2,
+      size (p + 3) 3,
+    ))
 
 -- they do not read what follows them
 leaf-append : (size i : ℕ) (x y : List ℕ) → i * size + size ≤ length x

@@ -1,4 +1,5 @@
 pub mod Nodes
 pub mod TreeHashers
 pub mod TreeRoot
+pub mod TreeStates
 pub mod TreeWitnesses

@@ -1,7 +1,6 @@
 -- The nodes of a tree, as the code has them.
 use Rattle.std.specs.Prelude.{◌≡◌, ℕ, ◌+◌, Bool, false, List, [], ◌∷◌}
-use Rattle.blake2.specs.declared.hashers.blake2b.Blake2b.{Blake2b}
-use Rattle.blake2.specs.Hashers.{blake2b_meaning}
+use Rattle.blake2_digest.specs.States.{Meaning}
 use Rattle.blake2_rows.specs.Family.{blake2b}
 use Rattle.blake2_words.specs.Hash.{digest}
 use Rattle.blake2_tree.specs.declared.nodes.Nodes.{Nodes}
@@ -16,10 +15,11 @@ abbrev pub node_digest : ℕ → TreeParameters → ℕ → ℕ → Bool → Lis
 node_digest size p offset depth last bytes = digest blake2b size (node p offset depth last bytes)
 
 -- the leaf at this place has just been opened
-pub record IsOpened (p : TreeParameters) (place : ℕ) (leaf : Blake2b 64) : Type 0 where
+pub record IsOpened {S : Type 0} (m : Meaning S) (p : TreeParameters) (place : ℕ) (leaf : S)
+    : Type 0 where
   pub digests : (last : Bool) (z : List ℕ)
-      → (blake2b_meaning 64).future leaf last z ≡ node_digest 64 p place 0 last z
-  pub empty : (blake2b_meaning 64).count leaf ≡ 0
+      → m.future leaf last z ≡ node_digest 64 p place 0 last z
+  pub empty : m.count leaf ≡ 0
 
 -- the digests of four whole leaves from this place on, the first of those that make the text, none
 -- of them the last

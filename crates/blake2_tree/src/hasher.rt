@@ -28,7 +28,7 @@ pub struct TreeHasher<const N: usize> {
     ghost digests_taken: { (blake2b_meaning N).count root ≡ 64 * closed },
     // A leaf that has no bytes yet is as it was opened.
     ghost opened: { (blake2b_meaning 64).count leaf ≡ 0
-        → IsOpened (parameters_of nodes) closed leaf },
+        → IsOpened (blake2b_meaning 64) (parameters_of nodes) closed leaf },
     // The digest of the open leaf still fits the root's count.
     ghost one_more_fits: { closed + 1 < 2 ^ 58 },
 }

@@ -11,6 +11,17 @@ pub(crate) struct Label {
     length: usize,
 }
 
+/// The bytes at the beginning of a field, with zeros behind them.
+pub(crate) fn field_of(text: &[u8]) -> [u8; 16]
+    requires { length text.now ≤ 16 }
+    ensures { take (length text.now) result ≡ text.now }
+{
+    let mut bytes = [0; 16];
+    let (kept, _) = bytes.split_at_mut(text.len());
+    kept.copy_from_slice(text);
+    bytes
+}
+
 impl Model for Label {
     ghost Value = { List ℕ };
 
@@ -25,11 +36,8 @@ impl Label {
         requires { length text.now ≤ 16 }
         ensures { result ≡ text.now }
     {
-        let mut bytes = [0; 16];
-        let (kept, _) = bytes.split_at_mut(text.len());
-        kept.copy_from_slice(text);
         Label {
-            bytes,
+            bytes: field_of(text),
             length: text.len(),
         }
     }

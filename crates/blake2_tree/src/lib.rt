@@ -17,6 +17,7 @@
 mod hasher;
 mod label;
 mod nodes;
+pub mod plain;
 mod witness;
 
 pub use hasher::{TreeHasher, tree_root};

@@ -2,6 +2,7 @@
 ghost use Rattle.std.specs.Prelude.{◌≡◌, ◌+◌, ◌*◌, ◌^◌, ◌<◌, ◌≤◌, length, IfOk};
 ghost use Rattle.blake2.specs.Hashers.{blake2b_meaning};
 ghost use Rattle.blake2_digest.specs.States.{Fresh};
+ghost use Rattle.blake2_plain.specs.Blake2b.{IsReady, meaning};
 ghost use Rattle.blake2_rows.specs.Family.{blake2b};
 ghost use Rattle.blake2_words.specs.Inputs.{Accepts};
 ghost use Rattle.blake2_words.specs.Views.{tree_of, input_of};
@@ -13,6 +14,7 @@ use blake2::digest::{FixedOutput, LastNode, Update};
 use blake2::laws::pieces::{piece, piece_count};
 use blake2::steps::{Input, Tree};
 use blake2::{Blake2b, many};
+use blake2_plain::blake2b::State;
 use std::alloc::{AllocError, Global};
 
 // The place of a node in a tree with leaves of this length.
@@ -71,6 +73,46 @@ impl Nodes {
     {
         let place = place(self.leaf_length, 0, 1);
         Blake2b::new_with_tree(self.salt.as_slice(), self.persona.as_slice(), &place)
+    }
+
+    /// A plain state of leaf `i`.
+    pub(crate) fn leaf_state(&self, i: u64) -> State
+        ensures ready { IsReady result }
+        ensures size { result.output_size ≡ 64 }
+        ensures fresh { Fresh meaning (node_digest 64 (parameters_of self.now) i 0) 0 result }
+    {
+        self.state(64, i, 0)
+    }
+
+    /// A plain state of the root.
+    pub(crate) fn root_state(&self, output_size: usize) -> State
+        requires least { 1 ≤ output_size }
+        requires most { output_size ≤ 64 }
+        ensures ready { IsReady result }
+        ensures size { result.output_size ≡ output_size }
+        ensures fresh { Fresh meaning
+            (node_digest output_size (parameters_of self.now) 0 1) 0 result }
+    {
+        self.state(output_size, 0, 1)
+    }
+
+    // A plain state of a node.
+    fn state(&self, output_size: usize, node_offset: u64, node_depth: u8) -> State
+        requires least { 1 ≤ output_size }
+        requires most { output_size ≤ 64 }
+        ensures ready { IsReady result }
+        ensures size { result.output_size ≡ output_size }
+        ensures fresh { Fresh meaning
+            (node_digest output_size (parameters_of self.now) node_offset node_depth) 0 result }
+    {
+        let place = place(self.leaf_length, node_offset, node_depth);
+        let salt = self.salt.as_slice();
+        let persona = self.persona.as_slice();
+        match State::new_with_tree(output_size, &[], salt, persona, &place) {
+            Ok(state) => state,
+            // Not reached: these lengths are all taken.
+            Err(_) => State::zeros(),
+        }
     }
 
     // A node as an input.

@@ -2,6 +2,7 @@
 ghost use Rattle.std.specs.Prelude.{◌^◌, ◌<◌, length};
 
 mod memory;
+mod plain;
 mod roots;
 mod witness;
 

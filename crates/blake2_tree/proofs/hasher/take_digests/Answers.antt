@@ -1,5 +1,6 @@
 use Rattle.std.proofs.Common.{◌+◌, [], slice_index_or, ap, length, length-append, take, arith}
 use Rattle.std.specs.List.{concat}
+use Rattle.blake2.specs.Hashers.{blake2b_meaning}
 use Rattle.blake2_tree.proofs.Roots.{Updated-append, concat-more, length-concat_part}
 use Rattle.blake2_tree.proofs.hasher.take_digests.Goals as goal
 
@@ -22,5 +23,5 @@ loop-digest-preserved g c =
     let digests = c.args.digests.now in
     let i = c.loop-digest.digest-index in
     rw (concat-more digests i c.loop-digest-test.true)
-    (Updated-append c.args.root.now c.loop-digest.root c.update.new.self (concat (take i digests))
+    (Updated-append (blake2b_meaning g.row.N) c.args.root.now c.loop-digest.root c.update.new.self (concat (take i digests))
     (slice_index_or digests i []) c.loop-digest.invariant c.update.ensures)

@@ -1,5 +1,6 @@
 use Rattle.std.proofs.Common.{◌∙◌, ◌+◌, ◌*◌, ◌++◌, length, length-drop, ap, arith}
 use Rattle.std.proofs.lemmas.List.{take_rest}
+use Rattle.blake2.specs.Hashers.{blake2b_meaning}
 use Rattle.blake2_tree.specs.Nodes.{parameters_of, IsOpened}
 use Rattle.blake2_tree.specs.TreeHashers.{future}
 use Rattle.blake2_tree.proofs.Roots.{root_to_come, root_to_come-four}
@@ -12,15 +13,16 @@ returns g c =
     let input = c.args.input.now in
     let s = parameters_of old.nodes in
     let four = 4 * old.nodes.leaf_length in
-    let opened : IsOpened s (old.closed + 4) c.open_leaf.result =
+    let opened : IsOpened (blake2b_meaning 64) s (old.closed + 4) c.open_leaf.result =
     record { digests = c.open_leaf.ensures.future; empty = c.open_leaf.ensures.count } in
     let taken = rw c.hash_four-digests.ensures at c.take_digests.ensures in
     let rest = take_rest input four in
     record {
       future = λ y.
-          (λ k. root_to_come s c.take_digests.new.root c.open_leaf.result (old.closed + 4 + 1)
+          (λ k. root_to_come (blake2b_meaning g.row.N) (blake2b_meaning 64) s
+          c.take_digests.new.root c.open_leaf.result (old.closed + 4 + 1)
           (rest k ++ y))
-          ∙ root_to_come-four s old.root c.take_digests.new.root old.leaf c.open_leaf.result
+          ∙ root_to_come-four (blake2b_meaning g.row.N) (blake2b_meaning 64) s old.root c.take_digests.new.root old.leaf c.open_leaf.result
           old.closed input y
           old.nodes.some_length c.requires.more (old.opened c.requires.empty) taken opened;
       count = omega (

@@ -13,7 +13,7 @@ returns g c =
     let input = c.args.input.now in
     let s = parameters_of old.nodes in
     let full = c.replace-full.result in
-    let opened : IsOpened s (old.closed + 1) c.open_leaf-next.result =
+    let opened : IsOpened (blake2b_meaning 64) s (old.closed + 1) c.open_leaf-next.result =
     record {
       digests = c.open_leaf-next.ensures.future;
       empty = c.open_leaf-next.ensures.count;
@@ -29,9 +29,10 @@ returns g c =
     let empty = ap (blake2b_meaning 64).count c.replace-full.ensures.after ∙ opened.empty in
     record {
       future = λ y.
-          (λ k. root_to_come s c.update-2.new.self (c.replace-full.ensures.after k)
+          (λ k. root_to_come (blake2b_meaning g.row.N) (blake2b_meaning 64) s
+          c.update-2.new.self (c.replace-full.ensures.after k)
           (old.closed + 1 + 1) (rest k ++ y))
-          ∙ root_to_come-closed s old.root c.update-2.new.self old.leaf full c.open_leaf-next.result
+          ∙ root_to_come-closed (blake2b_meaning g.row.N) (blake2b_meaning 64) s old.root c.update-2.new.self old.leaf full c.open_leaf-next.result
           (old.closed + 1) input y
           old.nodes.some_length old.within_a_leaf old.not_the_last c.requires.more filled closed
           opened;

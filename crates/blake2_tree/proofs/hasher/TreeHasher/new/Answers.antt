@@ -1,4 +1,5 @@
 use Rattle.std.proofs.Common.{ap, ◌∙◌}
+use Rattle.blake2.specs.Hashers.{blake2b_meaning}
 use Rattle.blake2_tree.specs.Nodes.{parameters_of}
 use Rattle.blake2_tree.specs.TreeRoot.{tree_root}
 use Rattle.blake2_tree.specs.TreeHashers.{future}
@@ -10,7 +11,8 @@ unfolding future
 returns-clause-root g c = λ y.
     let nodes = c.new-nodes.result in
     let leaf = c.open_leaf.ensures in
-    root_to_come-made (parameters_of nodes) c.open_root.result c.open_leaf.result y
+    root_to_come-made (blake2b_meaning g.row.N) (blake2b_meaning 64) (parameters_of nodes) g.row.N
+    c.open_root.result c.open_leaf.result y
     nodes.some_length
     (record { digests = leaf.future; empty = leaf.count }) c.open_root.ensures.future
     ∙ ap (λ s. tree_root g.row.N s y) c.new-nodes.ensures

@@ -1,4 +1,5 @@
 use Rattle.std.proofs.Common.{◌∙◌, ◌+◌, arith}
+use Rattle.blake2.specs.Hashers.{blake2b_meaning}
 use Rattle.blake2_tree.specs.Nodes.{parameters_of}
 use Rattle.blake2_tree.specs.TreeHashers.{future}
 use Rattle.blake2_tree.proofs.Roots.{root_to_come-took, IsOpened-updated}
@@ -19,7 +20,7 @@ loop-rest-preserved g c = record {
 pub invariant_of-self-clause-opened : goal.invariant_of-self-clause-opened
 invariant_of-self-clause-opened g c =
     let left = c.loop-rest.self in
-    IsOpened-updated (parameters_of left.nodes) left.closed left.leaf c.update.new.self
+    IsOpened-updated (blake2b_meaning 64) (parameters_of left.nodes) left.closed left.leaf c.update.new.self
     c.loop-rest.rest.now left.opened c.update.ensures
 
 pub returns : goal.returns
@@ -28,7 +29,8 @@ returns g c =
     let left = c.loop-rest.self in
     record {
       future = λ y.
-          root_to_come-took (parameters_of left.nodes) left.root left.leaf c.update.new.self
+          root_to_come-took (blake2b_meaning g.row.N) (blake2b_meaning 64)
+          (parameters_of left.nodes) left.root left.leaf c.update.new.self
           (left.closed + 1) c.loop-rest.rest.now y c.update.ensures (omega arith)
           ∙ c.loop-rest.invariant.future y;
       count = omega (arith, c.update.ensures.count, c.loop-rest.invariant.count);

@@ -1,0 +1,17 @@
+use Rattle.std.proofs.Common.{◌≡◌, ◌+◌, ℕ, List, ◌++◌, length}
+use Rattle.blake2_tree.specs.TreeStates.{IsReady, IsBegun, future, count}
+use Rattle.blake2_tree.proofs.plain.TreeState.take_leaves.Given as goal
+
+-- the open leaf has taken nothing, and what is left of the input is still to come
+abbrev pub invariant-loop-self : goal.invariant-loop-self
+invariant-loop-self l = record {
+  ready : IsReady l.self;
+  begun : IsBegun l.self;
+  size : l.self.root.output_size ≡ l.fn.self.root.output_size;
+  future : (y : List ℕ) → future l.self (l.rest ++ y) ≡ future l.fn.self (l.input ++ y);
+  count : count l.self + length l.rest ≡ count l.fn.self + length l.input;
+}
+
+-- the bytes that are left
+abbrev pub decreases-loop-self : goal.decreases-loop-self
+decreases-loop-self l = length l.rest

@@ -1,0 +1,322 @@
+//! The tree over a message that comes in pieces, with a state of plain numbers: any caller can keep
+//! one anywhere, copy it and hand it over as bytes, and the root's size is chosen as the program
+//! runs. `blake2_c` shows it to C.
+ghost use Rattle.std.specs.Prelude.{◌≡◌, ℕ, ◌+◌, ◌*◌, ◌^◌, ◌<◌, ◌≤◌, ◌↔◌, List, [], ◌++◌, length};
+ghost use Rattle.std.specs.Prelude.{take, drop, IfOk, IsErr, IsTrue};
+ghost use Rattle.std.specs.List.{concat};
+ghost use Rattle.blake2_digest.specs.States.{Updated, digest_now};
+ghost use Rattle.blake2_plain.specs.Blake2b.{IsReady as IsNodeReady, meaning};
+ghost use Rattle.blake2_tree.specs.Nodes.{parameters_of};
+ghost use Rattle.blake2_tree.specs.TreeRoot.{tree_parameters, tree_root as root_of};
+ghost use Rattle.blake2_tree.specs.TreeStates.{HasLengths, HasCounts, IsReady, IsBegun};
+ghost use Rattle.blake2_tree.specs.TreeStates.{IsRefused, Took, WentOn};
+ghost use Rattle.blake2_tree.specs.TreeStates.{parameters, room, future, count, zeros};
+
+use crate::label::field_of;
+use crate::nodes::Nodes;
+use blake2_digest::InvalidLength;
+use blake2_plain::blake2b::State;
+
+/// A run of the tree as plain numbers. Every value of the fields is a state, and none is unsafe; it
+/// gives a root where it is ready ([`TreeState::is_ready`]), as all are that `new` has made.
+// A full leaf stays open until more input comes, since only the end shows which leaf is the last.
+#[repr(C)]
+#[derive(Drop)]
+pub struct TreeState {
+    /// The open leaf, full or not.
+    pub leaf: State,
+    /// The root, which has taken the digests of the closed leaves.
+    pub root: State,
+    /// How many leaves are closed.
+    pub closed: u64,
+    /// The bytes of a leaf, 1 to 2^32 - 1.
+    pub leaf_length: u64,
+    /// The bytes of the salt, 0 to 16.
+    pub salt_length: usize,
+    /// The bytes of the persona, 0 to 16.
+    pub persona_length: usize,
+    /// The salt, at the beginning.
+    pub salt: [u8; 16],
+    /// The persona, at the beginning.
+    pub persona: [u8; 16],
+}
+
+// The same state again.
+fn copy_of(state: &State) -> State
+    ensures { result ≡ state.now }
+{
+    State {
+        chain: state.chain,
+        first: state.first,
+        counter: state.counter,
+        pending_length: state.pending_length,
+        start_length: state.start_length,
+        output_size: state.output_size,
+        last_node: state.last_node,
+        pending: state.pending,
+        start_block: state.start_block,
+    }
+}
+
+// The digest of a leaf.
+fn digest_of(leaf: &State) -> [u8; 64]
+    requires ready { IsNodeReady leaf.now }
+    requires size { leaf.now.output_size ≡ 64 }
+    ensures { result ≡ digest_now meaning leaf.now }
+{
+    let mut digest = [0; 64];
+    leaf.write_digest(&mut digest);
+    digest
+}
+
+// Gives a state these digests, in order.
+fn take_digests(root: &mut State, digests: &[[u8; 64]])
+    requires ready { IsNodeReady root.old }
+    requires counted { meaning.count root.old + length (concat digests.now) < 2 ^ 64 }
+    ensures ready { IsNodeReady root.new }
+    ensures size { root.new.output_size ≡ root.old.output_size }
+    ensures updated { Updated meaning root.old (concat digests.now) root.new }
+{
+    for digest in digests {
+        root.update(digest);
+    }
+}
+
+// Whether the bytes of so many leaves and `taken` more are below 2^58.
+fn is_counted(closed: u64, leaf_length: u64, taken: u64) -> bool
+    requires some { 1 ≤ leaf_length }
+    requires taken { taken < 2 ^ 58 }
+    ensures { IsTrue result ↔ closed * leaf_length + taken < 2 ^ 58 }
+{
+    closed <= ((1 << 58) - 1 - taken) / leaf_length
+}
+
+impl TreeState {
+    /// Whether the state gives a root.
+    pub fn is_ready(&self) -> bool
+        ensures { IsTrue result ↔ IsReady self.now }
+    {
+        self.leaf.is_ready()
+            && self.root.is_ready()
+            && self.leaf.output_size == 64
+            && self.has_lengths()
+            && self.has_counts()
+    }
+
+    // Whether the lengths are those of a tree.
+    fn has_lengths(&self) -> bool
+        ensures { IsTrue result ↔ HasLengths self.now }
+    {
+        self.leaf_length >= 1
+            && self.leaf_length <= u64::from(u32::MAX)
+            && self.salt_length <= 16
+            && self.persona_length <= 16
+    }
+
+    // Whether the counts are those of a tree.
+    fn has_counts(&self) -> bool
+        requires leaf { IsNodeReady self.now.leaf }
+        requires root { IsNodeReady self.now.root }
+        requires lengths { HasLengths self.now }
+        ensures { IsTrue result ↔ HasCounts self.now }
+    {
+        let taken = self.leaf.counted();
+        taken <= self.leaf_length
+            && is_counted(self.closed, self.leaf_length, taken)
+            && self.closed < (1 << 58) - 1
+            && self.root.counted() == 64 * self.closed
+    }
+
+    /// The state of zeros, which is not ready.
+    pub fn zeros() -> Self
+        ensures { result ≡ zeros }
+    {
+        TreeState {
+            leaf: State::zeros(),
+            root: State::zeros(),
+            closed: 0,
+            leaf_length: 0,
+            salt_length: 0,
+            persona_length: 0,
+            salt: [0; 16],
+            persona: [0; 16],
+        }
+    }
+
+    /// Sets everything to zero. The state is then not ready.
+    pub fn wipe(&mut self)
+        ensures { self.new ≡ zeros }
+    {
+        *self = Self::zeros();
+    }
+
+    /// A state that has taken nothing: a root of 1 to 64 bytes, a salt and a persona of up to 16
+    /// each, and leaves of `leaf_length` bytes, 1 at least (the BLAKE2 document, 2.10). Refused
+    /// exactly for other lengths.
+    pub fn new(
+        output_size: usize,
+        salt: &[u8],
+        persona: &[u8],
+        leaf_length: u32,
+    ) -> Result<Self, InvalidLength>
+        ensures refused { IsErr result
+            ↔ IsRefused output_size (length salt.now) (length persona.now) leaf_length }
+        ensures ready { IfOk result (λ t. IsReady t) }
+        ensures size { IfOk result (λ t. t.root.output_size ≡ output_size) }
+        ensures root { IfOk result (λ t. (y : List ℕ) → future t y
+            ≡ root_of output_size (tree_parameters salt.now persona.now leaf_length) y) }
+        ensures nothing { IfOk result (λ t. count t ≡ 0) }
+    {
+        if output_size == 0 || output_size > 64 {
+            return Err(InvalidLength);
+        }
+        if salt.len() > 16 || persona.len() > 16 || leaf_length == 0 {
+            return Err(InvalidLength);
+        }
+        Ok(Self::begun(output_size, salt, persona, leaf_length))
+    }
+
+    // The same where the lengths are taken.
+    fn begun(output_size: usize, salt: &[u8], persona: &[u8], leaf_length: u32) -> Self
+        requires least { 1 ≤ output_size }
+        requires most { output_size ≤ 64 }
+        requires salt { length salt.now ≤ 16 }
+        requires persona { length persona.now ≤ 16 }
+        requires leaf_length { 1 ≤ leaf_length }
+        ensures ready { IsReady result }
+        ensures size { result.root.output_size ≡ output_size }
+        ensures root { (y : List ℕ) → future result y
+            ≡ root_of output_size (tree_parameters salt.now persona.now leaf_length) y }
+        ensures nothing { count result ≡ 0 }
+    {
+        let nodes = Nodes::new(salt, persona, leaf_length);
+        TreeState {
+            leaf: nodes.leaf_state(0),
+            root: nodes.root_state(output_size),
+            closed: 0,
+            leaf_length: u64::from(leaf_length),
+            salt_length: salt.len(),
+            persona_length: persona.len(),
+            salt: field_of(salt),
+            persona: field_of(persona),
+        }
+    }
+
+    // What its nodes share.
+    fn nodes(&self) -> Nodes
+        requires { IsReady self.now }
+        ensures { parameters_of result ≡ parameters self.now }
+    {
+        let salt = &self.salt[..self.salt_length];
+        let persona = &self.persona[..self.persona_length];
+        Nodes::new(salt, persona, self.leaf_length as u32)
+    }
+
+    /// The bytes of the message that it has taken so far.
+    pub fn counted(&self) -> u64
+        requires { IsReady self.now }
+        ensures { result ≡ count self.now }
+    {
+        self.closed * self.leaf_length + self.leaf.counted()
+    }
+
+    // The bytes that the open leaf still takes.
+    fn room(&self) -> u64
+        requires { IsReady self.now }
+        ensures { result ≡ room self.now }
+    {
+        self.leaf_length - self.leaf.counted()
+    }
+
+    /// Takes the input after all that was taken before; fewer than 2^58 bytes in all.
+    pub fn update(&mut self, input: &[u8])
+        requires ready { IsReady self.old }
+        requires counted { count self.old + length input.now < 2 ^ 58 }
+        ensures ready { IsReady self.new }
+        ensures size { self.new.root.output_size ≡ self.old.root.output_size }
+        ensures taken { Took self.old input.now self.new }
+    {
+        if input.len() as u64 <= self.room() {
+            self.leaf.update(input);
+        } else {
+            let rest = self.close_leaf(input);
+            self.take_leaves(rest);
+        }
+    }
+
+    // Takes the input, where the open leaf has taken nothing.
+    fn take_leaves(&mut self, input: &[u8])
+        requires ready { IsReady self.old }
+        requires begun { IsBegun self.old }
+        requires counted { count self.old + length input.now < 2 ^ 58 }
+        ensures ready { IsReady self.new }
+        ensures size { self.new.root.output_size ≡ self.old.root.output_size }
+        ensures taken { Took self.old input.now self.new }
+    {
+        let mut rest = input;
+        while rest.len() as u64 > self.leaf_length {
+            rest = if rest.len() as u64 > 4 * self.leaf_length {
+                self.close_four(rest)
+            } else {
+                self.close_leaf(rest)
+            };
+        }
+        self.leaf.update(rest);
+    }
+
+    // Fills the open leaf up and closes it; it is not the last, since more follows. Opens the next
+    // one and answers what is left of the input.
+    fn close_leaf<'a>(&mut self, input: &'a [u8]) -> &'a [u8]
+        requires ready { IsReady self.old }
+        requires more { room self.old < length input.now }
+        requires fits { count self.old + length input.now < 2 ^ 58 }
+        ensures ready { IsReady self.new }
+        ensures size { self.new.root.output_size ≡ self.old.root.output_size }
+        ensures begun { IsBegun self.new }
+        ensures went_on { WentOn self.old input.now self.new result.now }
+    {
+        let nodes = self.nodes();
+        let (head, rest) = input.split_at(self.room() as usize);
+        self.leaf.set_last_node(false);
+        self.leaf.update(head);
+        self.root.update(&digest_of(&self.leaf));
+        self.closed += 1;
+        self.leaf = nodes.leaf_state(self.closed);
+        rest
+    }
+
+    // Closes four leaves at once that are whole and not the last: the open one, which is empty, and
+    // the next three. Opens the next one and answers what is left of the input.
+    fn close_four<'a>(&mut self, input: &'a [u8]) -> &'a [u8]
+        requires ready { IsReady self.old }
+        requires begun { IsBegun self.old }
+        requires more { 4 * self.old.leaf_length < length input.now }
+        requires fits { count self.old + length input.now < 2 ^ 58 }
+        ensures ready { IsReady self.new }
+        ensures size { self.new.root.output_size ≡ self.old.root.output_size }
+        ensures begun { IsBegun self.new }
+        ensures went_on { WentOn self.old input.now self.new result.now }
+    {
+        let nodes = self.nodes();
+        let digests = nodes.hash_four(self.closed, input);
+        take_digests(&mut self.root, &digests);
+        self.closed += 4;
+        self.leaf = nodes.leaf_state(self.closed);
+        &input[4 * self.leaf_length as usize..]
+    }
+
+    /// Writes the root of all that was taken at the beginning of `out`. The state stays as it is,
+    /// and can take more.
+    pub fn write_root(&self, out: &mut [u8])
+        requires ready { IsReady self.now }
+        requires room { self.now.root.output_size ≤ length out.old }
+        ensures { out.new ≡ future self.now [] ++ drop self.now.root.output_size out.old }
+    {
+        let mut leaf = copy_of(&self.leaf);
+        leaf.set_last_node(true);
+        let mut root = copy_of(&self.root);
+        root.update(&digest_of(&leaf));
+        root.set_last_node(true);
+        root.write_digest(out);
+    }
+}
