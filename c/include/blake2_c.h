@@ -362,8 +362,9 @@ static inline int vulfsjor_tree_init(vulfsjor_tree_state *S, size_t outlen, cons
                               personallen, leaf_length);
 }
 
-/* Takes the input after all that was taken before, in pieces of any lengths; where one holds four
- * whole leaves and more, it hashes four at once. -1 where the bytes of all would be 2^58 or more. */
+/* Takes the input after all that was taken before, of any length. Whole leaves behind the open one
+ * are hashed four at once, where more follows them, so long pieces are faster. -1 where the bytes
+ * of all would be 2^58 or more. */
 static inline int vulfsjor_tree_update(vulfsjor_tree_state *S, const void *in, size_t inlen) {
     if (!S || (!in && inlen)) return -1;
     return blake2_c_tree_update(S, vulfsjor_text(in), inlen);

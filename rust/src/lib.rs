@@ -188,8 +188,8 @@ const TREE_ZEROS: TreeState = TreeState {
     persona: [0; 16],
 };
 
-/// The tree of [`tree_root`] over a message that comes in pieces. It takes no memory, and four whole leaves
-/// with more input behind them are hashed at once. A dropped one is wiped.
+/// The tree of [`tree_root`] over a message that comes in pieces. It takes no memory. Whole leaves behind the
+/// open one are hashed four at once, where more input follows them. A dropped one is wiped.
 #[derive(Clone)]
 pub struct TreeHasher(TreeState);
 

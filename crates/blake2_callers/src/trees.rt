@@ -44,8 +44,7 @@ pub fn root_of_parts(first: &[u8], second: &[u8]) -> [u8; 64]
     hasher.finalize()
 }
 
-/// Fills `out` with the root of a message that comes in two pieces, in as many bytes as it has, 1 to
-/// 64.
+/// Fills `out` with the root of a message in two pieces, in as many bytes as it has, 1 to 64.
 pub fn fill_root(out: &mut [u8], first: &[u8], second: &[u8]) -> Result<(), InvalidLength>
     requires { length first.now + length second.now < 2 ^ 58 }
     ensures refused { IsErr result ↔ ((length out.old ≡ 0) ⊎ (64 < length out.old)) }

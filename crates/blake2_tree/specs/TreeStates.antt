@@ -36,8 +36,8 @@ pub record HasLengths (t : TreeState) : Type 0 where
   pub salt : t.salt_length ≤ 16
   pub persona : t.persona_length ≤ 16
 
--- its counts are those of a tree: the open leaf has at most a leaf's bytes, the root has the digests
--- of the closed leaves, and the bytes and the leaves are below 2^58
+-- its counts are those of a tree: the open leaf has at most a leaf's bytes, the root has taken the
+-- digests of the closed leaves, and the bytes and the leaves are below 2^58
 pub record HasCounts (t : TreeState) : Type 0 where
   pub within_a_leaf : Node.meaning.count t.leaf ≤ t.leaf_length
   pub counted : count t < 2 ^ 58

@@ -22,8 +22,8 @@ returns g c =
           (λ k. root_to_come (blake2b_meaning g.row.N) (blake2b_meaning 64) s
           c.take_digests.new.root c.open_leaf.result (old.closed + 4 + 1)
           (rest k ++ y))
-          ∙ root_to_come-four (blake2b_meaning g.row.N) (blake2b_meaning 64) s old.root c.take_digests.new.root old.leaf c.open_leaf.result
-          old.closed input y
+          ∙ root_to_come-four (blake2b_meaning g.row.N) (blake2b_meaning 64) s old.root
+          c.take_digests.new.root old.leaf c.open_leaf.result old.closed input y
           old.nodes.some_length c.requires.more (old.opened c.requires.empty) taken opened;
       count = omega (
         arith,

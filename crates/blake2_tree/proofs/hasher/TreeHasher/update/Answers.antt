@@ -20,8 +20,8 @@ loop-rest-preserved g c = record {
 pub invariant_of-self-clause-opened : goal.invariant_of-self-clause-opened
 invariant_of-self-clause-opened g c =
     let left = c.loop-rest.self in
-    IsOpened-updated (blake2b_meaning 64) (parameters_of left.nodes) left.closed left.leaf c.update.new.self
-    c.loop-rest.rest.now left.opened c.update.ensures
+    IsOpened-updated (blake2b_meaning 64) (parameters_of left.nodes) left.closed left.leaf
+    c.update.new.self c.loop-rest.rest.now left.opened c.update.ensures
 
 pub returns : goal.returns
 unfolding future

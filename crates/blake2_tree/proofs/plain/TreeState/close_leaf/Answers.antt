@@ -1,4 +1,5 @@
-use Rattle.std.proofs.Common.{◌≡◌, ◌∙◌, ◌+◌, ◌-◌, ◌++◌, take, drop, length, length-drop, ap, sym, arith}
+use Rattle.std.proofs.Common.{◌≡◌, ◌∙◌, ◌+◌, ◌-◌, ◌++◌, take, drop, length, length-drop, ap, sym}
+use Rattle.std.proofs.Common.{arith}
 use Rattle.blake2_digest.specs.States.{Updated}
 use Rattle.blake2_plain.specs.Blake2b.{meaning}
 use Rattle.blake2_tree.specs.Nodes.{IsOpened}
