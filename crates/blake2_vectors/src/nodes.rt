@@ -417,8 +417,8 @@ fn witness_nodes_of_blake2s(rt: HostRuntime) -> Result<(), Fail> {
     Ok(())
 }
 
-// Checks that a state that has taken `ab` gives the digest of `abc` at the byte `c`, and again after
-// each of the two calls that start it again.
+// Checks that a state that has taken `ab` gives the digest of `abc` at the byte `c`, and again
+// after each of the two calls that start it again.
 fn check_starts<H, const N: usize>(rt: &impl Abort, state: &mut H, digest: [u8; N])
 where
     H: FixedOutputReset<N>,
@@ -431,8 +431,8 @@ where
     assert_eq!(rt; state.finalize_fixed_reset(), digest);
 }
 
-// Checks that the last call that sets the flag counts, wherever it comes: `flags` are set before `ab`
-// and before `c`.
+// Checks that the last call that sets the flag counts, wherever it comes: `flags` are set before
+// `ab` and before `c`.
 fn check_last_call<H, const N: usize>(
     rt: &impl Abort,
     state: &mut H,

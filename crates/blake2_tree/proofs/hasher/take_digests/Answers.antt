@@ -24,4 +24,5 @@ loop-digest-preserved g c =
     let i = c.loop-digest.digest-index in
     rw (concat-more digests i c.loop-digest-test.true)
     (Updated-append (blake2b_meaning g.row.N) c.args.root.now c.loop-digest.root
-    c.update.new.self (concat (take i digests)) (slice_index_or digests i []) c.loop-digest.invariant c.update.ensures)
+    c.update.new.self (concat (take i digests)) (slice_index_or digests i [])
+    c.loop-digest.invariant c.update.ensures)
