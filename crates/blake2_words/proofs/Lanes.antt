@@ -73,7 +73,8 @@ later_after f h first d later zero begun same = begun
 later_after f h first d later (suc n) begun same =
     let before = later_after f h first d later n begun (λ i lt. same i (omega arith)) in
     let next : suc (n + 1) ≡ suc n + 1 = omega arith in
-    let counted : 2 * block_bytes f + n * block_bytes f ≡ 0 + (n + 1 + 1) * block_bytes f = omega arith in
+    let counted : 2 * block_bytes f + n * block_bytes f ≡ 0 + (n + 1 + 1) * block_bytes f =
+    omega arith in
     (λ k. compress f (before k) (same n (omega arith) k) (counted k) inner)
     ∙ ap (chain f h 0 d) next
 

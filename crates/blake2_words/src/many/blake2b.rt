@@ -243,10 +243,10 @@ fn start(output_size: usize, inputs: &[Input<'_>; 4]) -> [u64x4; 8]
     ]
 }
 
-// Compresses blocks of each of four messages, one after another, as many of each, all under flags j:
-// with the first of them `counter` bytes are counted, and 128 more with each that follows. The loop
-// has the only call of `compress`, so that the compiler lays it out there, and works on rows of its
-// own, so that what is the same for all blocks is computed once.
+// Compresses blocks of each of four messages, one after another, as many of each, all under flags
+// j: with the first of them `counter` bytes are counted, and 128 more with each that follows. The
+// loop has the only call of `compress`, so that the compiler lays it out there, and works on rows
+// of its own, so that what is the same for all blocks is computed once.
 fn compress_blocks(h: &mut [u64x4; 8], blocks: &[&[[u8; 128]]; 4], counter: u64, flags: &[Flags; 4])
     requires same_number { (j : ℕ) → j < 4
         → length (slice_index_or (block_lists blocks.now) j [])

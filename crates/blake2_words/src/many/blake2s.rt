@@ -275,10 +275,10 @@ fn start(output_size: usize, inputs: &[Input<'_>; 8]) -> [u32x8; 8]
     ]
 }
 
-// Compresses blocks of each of eight messages, one after another, as many of each, all under flags j:
-// with the first of them `counter` bytes are counted, and 64 more with each that follows. The loop
-// has the only call of `compress`, so that the compiler lays it out there, and works on rows of its
-// own, so that what is the same for all blocks is computed once.
+// Compresses blocks of each of eight messages, one after another, as many of each, all under flags
+// j: with the first of them `counter` bytes are counted, and 64 more with each that follows. The
+// loop has the only call of `compress`, so that the compiler lays it out there, and works on rows
+// of its own, so that what is the same for all blocks is computed once.
 fn compress_blocks(h: &mut [u32x8; 8], blocks: &[&[[u8; 64]]; 8], counter: u64, flags: &[Flags; 8])
     requires same_number { (j : ℕ) → j < 8
         → length (slice_index_or (block_lists blocks.now) j [])
