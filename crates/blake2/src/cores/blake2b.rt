@@ -213,6 +213,7 @@ impl VariableOutputCore<128, 64> for Blake2bVarCore {
         Ok(Self::new_with_params(&[], &[], 0, output_size))
     }
 
+    #[inline(always)]
     fn finalize_variable_core(&mut self, buffer: &mut LazyBuffer<128>, out: &mut [u8; 64]) {
         self.counter += buffer.get_pos() as u64;
         let counter = self.counter;

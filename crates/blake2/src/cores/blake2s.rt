@@ -213,6 +213,7 @@ impl VariableOutputCore<64, 32> for Blake2sVarCore {
         Ok(Self::new_with_params(&[], &[], 0, output_size))
     }
 
+    #[inline(always)]
     fn finalize_variable_core(&mut self, buffer: &mut LazyBuffer<64>, out: &mut [u8; 32]) {
         self.counter += buffer.get_pos() as u64;
         let counter = self.counter;

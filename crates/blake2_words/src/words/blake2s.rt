@@ -139,6 +139,7 @@ pub fn to_words(rows: &[u32x4; 2]) -> [u32; 8]
 
 /// The 32 bytes of the eight words of two rows, each word's low byte first (RFC 7693, 2.4). Those
 /// of the last chaining words begin with the digest (3.3).
+#[inline(always)]
 pub fn to_bytes(rows: &[u32x4; 2]) -> [u8; 32]
     ensures { result ≡ bytes_of blake2s (eight rows.now) }
 {
