@@ -1,6 +1,6 @@
-use Rattle.std.proofs.Common.{◌≡◌, ◌++◌, ◌∙◌, [], append-nil, arith, length-append, rules, take}
-use Rattle.std.proofs.KnownBytes.{Consumes-all, Consumes-trans}
-use Rattle.b2.proofs.Filling.{Took-nil, Took-trans, of_all}
+use Rattle.std.proofs.Common.{◌++◌, rules, take}
+use Rattle.std.proofs.KnownBytes.{Consumes-trans}
+use Rattle.b2.proofs.Filling.{Took-trans}
 use Rattle.b2.proofs.tree.absorb.Goals as goal
 
 pub pieces-preserved : goal.pieces-preserved

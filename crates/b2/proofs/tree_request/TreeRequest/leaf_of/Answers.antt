@@ -1,4 +1,4 @@
-use Rattle.std.proofs.Common.{◌≤◌, arith, rules}
+use Rattle.std.proofs.Common.{◌≤◌, rules}
 use Rattle.b2.proofs.Filling.{digits_value-some}
 use Rattle.b2.proofs.tree_request.TreeRequest.leaf_of.Goals as goal
 
