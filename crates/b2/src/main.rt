@@ -3,25 +3,8 @@
 
 ghost use Rattle.std.specs.Prelude.{◌≡◌, false};
 
-mod command;
-mod fault;
-mod hash;
-mod input;
-mod lines;
-mod print;
-mod script;
-mod steps;
-mod sum;
-#[cfg(test)]
-mod tests;
-mod tree;
-mod tree_request;
-mod witness;
-mod words;
-
+use b2_commands::{Fault, run};
 use blake2::engine::{IoSink, IoSource};
-pub use command::run;
-use fault::Fault;
 use std::process::ExitCode;
 use std::rt::Env;
 use std::{env, io};

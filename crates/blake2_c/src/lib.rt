@@ -15,8 +15,6 @@ ghost use Rattle.blake2_c.specs.Status.{Answers};
 
 mod blake2b;
 mod blake2s;
-#[cfg(test)]
-mod tests;
 mod trees;
 
 use blake2::{Blake2b512, Blake2s256, Digest};

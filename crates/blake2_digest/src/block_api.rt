@@ -113,23 +113,3 @@ pub trait AlgorithmName {
     /// Writes the name. Fails only where the writer does.
     fn write_alg_name<W: fmt::Write>(f: &mut fmt::Formatter<W>) -> fmt::Result;
 }
-
-#[cfg(test)]
-mod tests {
-    use super::*;
-    use std::test::Fail;
-
-    #[test]
-    fn derives(rt: HostRuntime) -> Result<(), Fail> {
-        let left = TruncSide::Left;
-        let copy = left;
-        assert_eq!(rt; left.clone()?, copy);
-        assert_ne!(rt; left, TruncSide::Right);
-        let lazy = Lazy;
-        let lazy_copy = lazy;
-        assert_eq!(rt; lazy.clone()?, lazy_copy);
-        let text = format!(in rt.alloc(); "{left:?} {lazy:?}")?;
-        assert_eq!(rt; text.as_str(), "Left Lazy");
-        Ok(())
-    }
-}

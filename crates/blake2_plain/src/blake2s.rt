@@ -412,6 +412,3 @@ impl State {
         is_same(tag, &whole[..self.output_size])
     }
 }
-
-#[cfg(test)]
-mod tests;

@@ -149,6 +149,3 @@ where
     }
     Ok(digests)
 }
-
-#[cfg(test)]
-mod tests;

@@ -14,6 +14,3 @@ pub use io_source::IoSource;
 pub use slice_sink::SliceSink;
 pub use slice_source::SliceSource;
 pub use stream::{StreamFault, hash_stream, write_whole};
-
-#[cfg(test)]
-mod tests;

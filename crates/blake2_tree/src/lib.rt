@@ -22,6 +22,3 @@ mod witness;
 
 pub use hasher::{TreeHasher, tree_root};
 pub use witness::{TreeWitness, tree_witness};
-
-#[cfg(test)]
-mod tests;

@@ -52,6 +52,12 @@ fn copy_faults(rt: HostRuntime) -> Result<(), Fail> {
         text.as_str(),
         "DeviceError [Read, TooLong, Write] [NoSuchSlot(1), NoSuchSlot(2), TooLong(1), Memory]"
     );
+    let lengths = (InvalidOutputSize, InvalidLength, MacError);
+    let text = format!(in rt.alloc(); "{lengths:?} {Lazy:?} {:?}", TruncSide::Left)?;
+    assert_eq!(rt;
+        text.as_str(),
+        "(InvalidOutputSize, InvalidLength, MacError) Lazy Left"
+    );
     Ok(())
 }
 

@@ -3,6 +3,7 @@
 ghost use Rattle.std.specs.Prelude.{◌≤◌};
 
 use crate::inputs::{KEY, entry, input, reading, transcript, unkeyed};
+use blake2::laws::transcripts;
 use blake2::steps::{Entry, Input, Reading, Transcript};
 use blake2::{Blake2bVarCore, Blake2sVarCore};
 use std::alloc::{AllocError, Global};
@@ -21,6 +22,7 @@ fn check_blake2b(
     assert!(rt; Blake2bVarCore::accepts(input));
     let written = Blake2bVarCore::transcript(alloc, input, output_size)?;
     assert!(rt; written == *wanted, "{written:?}");
+    assert!(rt; transcripts::blake2b::equal(&written, wanted));
     let read = Blake2bVarCore::read_transcript(alloc, wanted)?;
     assert_eq!(rt; read, Some(reading(alloc, input, output_size)?));
     Ok(())
@@ -39,6 +41,7 @@ fn check_blake2s(
     assert!(rt; Blake2sVarCore::accepts(input));
     let written = Blake2sVarCore::transcript(alloc, input, output_size)?;
     assert!(rt; written == *wanted, "{written:?}");
+    assert!(rt; transcripts::blake2s::equal(&written, wanted));
     let read = Blake2sVarCore::read_transcript(alloc, wanted)?;
     assert_eq!(rt; read, Some(reading(alloc, input, output_size)?));
     Ok(())

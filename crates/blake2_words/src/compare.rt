@@ -5,5 +5,3 @@
 pub mod blake2b;
 pub mod blake2s;
 mod inputs;
-#[cfg(test)]
-mod tests;

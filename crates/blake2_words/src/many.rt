@@ -3,8 +3,6 @@
 
 pub mod blake2b;
 pub mod blake2s;
-#[cfg(test)]
-mod tests;
 
 ghost use Rattle.std.specs.Prelude.{◌≡◌, ◌+◌, ◌<◌, ◌≤◌, ℕ, [], length, slice_index_or};
 ghost use Rattle.blake2_rows.specs.Family.{Family, block_bytes};

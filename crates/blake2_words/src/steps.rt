@@ -7,8 +7,6 @@ pub mod blake2s;
 pub(crate) mod blocks;
 mod limits;
 mod reader;
-#[cfg(test)]
-mod tests;
 
 pub use crate::params::Tree;
 

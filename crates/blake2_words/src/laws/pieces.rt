@@ -51,26 +51,3 @@ pub fn same_pieces(size: usize, a: &[u8], b: &[u8]) -> bool
 {
     first_difference(size, a, b).is_none()
 }
-
-#[cfg(test)]
-mod tests {
-    use super::{first_difference, piece, piece_count, same_pieces};
-
-    #[test]
-    fn pieces_of_texts(rt: HostRuntime) {
-        for (text, count) in [
-            (b"" as &[u8], 1),
-            (b"abcd", 1),
-            (b"abcde", 2),
-            (b"abcdefgh", 2),
-        ] {
-            assert_eq!(rt; piece_count(4, text), count);
-        }
-        assert_eq!(rt; piece(4, b"abcdefghi", 1), b"efgh" as &[u8]);
-        assert_eq!(rt; piece(4, b"abcdefghi", 2), b"i" as &[u8]);
-        assert_eq!(rt; first_difference(4, b"abcdefghi", b"abcdEfghI"), Some(1));
-        assert_eq!(rt; first_difference(4, b"abcdefghi", b"abcdefghij"), Some(2));
-        assert!(rt; !same_pieces(4, b"abcdefghi", b"abcdefghij"));
-        assert!(rt; same_pieces(4, b"abcdefghi", b"abcdefghi"));
-    }
-}

@@ -1,0 +1,16 @@
+use Rattle.std.proofs.Common.{◌≡◌, ℕ, ◌-◌, ◌^◌, false, List, length}
+use Rattle.std.specs.Io.KnownBytes.{Consumes}
+use Rattle.blake2_tree.specs.TreeHashers.{count, Took}
+use Rattle.b2_commands.proofs.tree.absorb.Given as goal
+
+-- the hasher has taken what the source gave
+abbrev pub invariant-pieces : goal.invariant-pieces
+invariant-pieces g l = record {
+  unfailed : g.S.Source.failed l.source ≡ false;
+  size : length l.buffer ≡ length l.fn.buffer;
+  taken : (bytes : List ℕ) × Consumes (g.S.Source.left l.fn.source) (g.S.Source.left l.source) bytes
+      × Took l.fn.hasher bytes l.hasher;
+}
+
+abbrev pub decreases-pieces : goal.decreases-pieces
+decreases-pieces g l = 2 ^ 58 - count l.hasher

@@ -1,0 +1,97 @@
+-- The faults of the program: their statuses, texts and causes.
+use Rattle.std.specs.Prelude.{◌≡◌, ◌≢◌, ◌<◌, ◌⊎◌, ◌∷◌, ◌++◌, ℕ, Bool, false, List, [], length}
+use Rattle.std.specs.Prelude.{codes, decimal, Option, Some, None, IfSome, IsOkAnd, IsTrue}
+use Rattle.std.specs.Io.KnownBytes.{Appends}
+use Rattle.b2_commands.specs.declared.fault.Fault.{Fault}
+use Rattle.b2_commands.specs.declared.fault.Fault.TheVariants.{WrongWords, WrongHex, WrongLength}
+use Rattle.b2_commands.specs.declared.fault.Fault.TheVariants.{WrongLine}
+use Rattle.b2_commands.specs.declared.fault.Fault.TheVariants.{NoSuchSlot, LineTooLong, TooLong}
+use Rattle.b2_commands.specs.declared.fault.Fault.TheVariants.{ReadFailed, NoMemory, WriteFailed}
+use Rattle.b2_commands.specs.Words.{Task, task_of, IsReadingFault}
+use Rattle.b2_commands.specs.Tasks.{IsRefusedTask, IsTooLongFor, IsFaultOfScript, TakesMemory}
+
+-- the status that a fault ends with: 2 for the words and the input, 1 for the devices and the
+-- memory
+abbrev pub status_of : Fault → ℕ
+status_of WrongWords = 2
+status_of WrongHex = 2
+status_of WrongLength = 2
+status_of (WrongLine number) = 2
+status_of (NoSuchSlot number) = 2
+status_of (LineTooLong number) = 2
+status_of TooLong = 2
+status_of ReadFailed = 1
+status_of NoMemory = 1
+status_of WriteFailed = 1
+
+-- what a fault says
+abbrev pub fault_text : Fault → List ℕ
+fault_text WrongWords = codes "wrong words"
+fault_text WrongHex = codes "wrong hex"
+fault_text WrongLength = codes "wrong length"
+fault_text (WrongLine number) = codes "wrong line"
+fault_text (NoSuchSlot number) = codes "no such slot"
+fault_text (LineTooLong number) = codes "too long"
+fault_text TooLong = codes "too long"
+fault_text ReadFailed = codes "read failed"
+fault_text NoMemory = codes "no memory"
+fault_text WriteFailed = []
+
+-- the line of a script, from 1, that a fault names
+abbrev pub line_number : Fault → Option ℕ
+line_number (WrongLine number) = Some number
+line_number (NoSuchSlot number) = Some number
+line_number (LineTooLong number) = Some number
+line_number fault = None
+
+-- the place that it names, before its text
+abbrev pub place_text : Option ℕ → List ℕ
+place_text None = []
+place_text (Some number) = codes "line " ++ decimal number ++ codes ": "
+
+-- the line that a fault prints, with its newline (10); a failed output takes none
+abbrev pub fault_line : Fault → List ℕ
+fault_line WriteFailed = []
+fault_line fault = codes "b2: " ++ place_text (line_number fault) ++ fault_text fault ++ 10 ∷ []
+
+-- a fault in the script of a task that is not refused
+abbrev pub IsScriptFault : Fault → Task → Option (List ℕ) → Type 0
+IsScriptFault fault task left = (¬ IsRefusedTask task) × IfSome left (IsFaultOfScript fault task)
+
+-- the cause of a fault, once the words are read: what they ask for, then what the source had left,
+-- and whether a read has failed. Lengths are looked at first, and the input is read once they are
+-- right
+abbrev pub IsDue : Fault → Task → Option (List ℕ) → Bool → Type 0
+IsDue WrongLength task left failed = IsRefusedTask task
+IsDue (WrongLine number) task left failed = IsScriptFault (WrongLine number) task left
+IsDue (NoSuchSlot number) task left failed = IsScriptFault (NoSuchSlot number) task left
+IsDue (LineTooLong number) task left failed = IsScriptFault (LineTooLong number) task left
+IsDue TooLong task left failed = (¬ IsRefusedTask task) × IfSome left (IsTooLongFor task)
+IsDue ReadFailed task left failed = (¬ IsRefusedTask task) × IsTrue failed
+IsDue NoMemory task left failed = (¬ IsRefusedTask task) × TakesMemory task × (failed ≡ false)
+IsDue WriteFailed task left failed = ¬ IsRefusedTask task
+IsDue fault task left failed = ⊥
+
+-- the cause of a fault of the words, of which nothing is read: the first wrong one, or memory was
+-- refused for the bytes of HEX, in a word behind a command and its KIND
+pub record IsFaultOfWords (fault : Fault) (words : List (List ℕ)) (left rest : Option (List ℕ))
+    (failed : Bool) : Type 0 where
+  pub reading : IsReadingFault fault (task_of words)
+  pub memory : fault ≡ NoMemory → 2 < length words
+  pub unread : rest ≡ left
+  pub unfailed : failed ≡ false
+
+-- the cause of a fault: it is one of the words, or due for the task that they ask for
+abbrev pub IsCause : Fault → List (List ℕ) → Option (List ℕ) → Option (List ℕ) → Bool → Type 0
+IsCause fault words left rest failed =
+    IsFaultOfWords fault words left rest failed
+    ⊎ IsOkAnd (task_of words) (λ task. IsDue fault task left failed)
+
+-- a fault with its cause gave the status, and a sink took its line
+pub record IsTold (words : List (List ℕ)) (left rest : Option (List ℕ)) (failed : Bool) (status : ℕ)
+    (old new : Option (List ℕ)) : Type 0 where
+  pub fault : Fault
+  pub cause : IsCause fault words left rest failed
+  pub has_line : fault ≢ WriteFailed
+  pub status_is : status ≡ status_of fault
+  pub line : Appends old new (fault_line fault)

@@ -1,0 +1,180 @@
+-- What the words of the command line ask for. They are looked at from left to right, and the first
+-- fault is the answer.
+use Rattle.std.specs.Prelude.{◌≡◌, ⊤, ℕ, ◌^◌, ◌==◌, ◌&&◌, not, nat_lt, Bool, true, false}
+use Rattle.std.specs.Prelude.{if◌then◌else◌, List, [], ◌∷◌, length, slice_index, codes, Option}
+use Rattle.std.specs.Prelude.{Some, None, is_some, position, Result, Ok, Err}
+use Rattle.std.specs.Char.{is_ascii_digit}
+use Rattle.std.specs.List.{before_first, after_first, list_all}
+use Rattle.std.specs.Result.{result_map_both}
+use Rattle.std.specs.Str.{bytes_eq}
+use Rattle.std.specs.Str.Parse.{digits_value}
+use Rattle.hex.specs.Hex.{decode_of}
+use Rattle.b2_commands.specs.declared.words.Kind.{Kind}
+use Rattle.b2_commands.specs.declared.words.Kind.TheVariants.{Blake2b128, Blake2b256, Blake2b512}
+use Rattle.b2_commands.specs.declared.words.Kind.TheVariants.{Blake2s128, Blake2s256}
+use Rattle.b2_commands.specs.declared.tree_request.TreeKind.{TreeKind}
+use Rattle.b2_commands.specs.declared.tree_request.TreeKind.TheVariants as tree
+use Rattle.b2_commands.specs.declared.witness.WitnessKind.{WitnessKind}
+use Rattle.b2_commands.specs.declared.witness.WitnessKind.TheVariants.{Common, Blake2b0, Blake2b8}
+use Rattle.b2_commands.specs.declared.witness.WitnessKind.TheVariants.{Blake2s0, Blake2s8}
+use Rattle.b2_commands.specs.declared.fault.Fault.{Fault}
+use Rattle.b2_commands.specs.declared.fault.Fault.TheVariants.{WrongWords, WrongHex, NoMemory}
+
+-- the second step, where the first has a value
+abbrev pub and_then : {A B : Type 0} → Result A Fault → (A → Result B Fault) → Result B Fault
+and_then (Ok value) next = next value
+and_then (Err fault) next = Err fault
+
+-- a fault that comes of reading words is the one expected, or memory was refused
+abbrev pub IsReadingFault : {A : Type 0} → Fault → Result A Fault → Type 0
+IsReadingFault WrongWords expected = expected ≡ Err WrongWords
+IsReadingFault WrongHex expected = expected ≡ Err WrongHex
+IsReadingFault NoMemory expected = ⊤
+IsReadingFault fault expected = ⊥
+
+-- the kind that a word names
+abbrev pub kind_of : List ℕ → Result Kind Fault
+kind_of word =
+    if bytes_eq word (codes "b128") then Ok Blake2b128
+    else if bytes_eq word (codes "b256") then Ok Blake2b256
+    else if bytes_eq word (codes "b512") then Ok Blake2b512
+    else if bytes_eq word (codes "s128") then Ok Blake2s128
+    else if bytes_eq word (codes "s256") then Ok Blake2s256
+    else Err WrongWords
+
+-- the bytes of HEX: an even number of hexadecimal digits of either case, perhaps none
+abbrev pub hex_value : List ℕ → Result (List ℕ) Fault
+hex_value digits = result_map_both (λ bytes. bytes) (λ _. WrongHex) (decode_of digits)
+
+-- the kind of digests that `witness` compares, which a word names
+abbrev pub witness_kind_of : List ℕ → Result WitnessKind Fault
+witness_kind_of word =
+    if bytes_eq word (codes "b0") then Ok Blake2b0
+    else if bytes_eq word (codes "b8") then Ok Blake2b8
+    else if bytes_eq word (codes "s0") then Ok Blake2s0
+    else if bytes_eq word (codes "s8") then Ok Blake2s8
+    else and_then (kind_of word) (λ kind. Ok (Common kind))
+
+-- the kind of root that `tree` prints, which a word names
+abbrev pub tree_kind_of : List ℕ → Result TreeKind Fault
+tree_kind_of word =
+    if bytes_eq word (codes "b128") then Ok tree.Blake2b128
+    else if bytes_eq word (codes "b256") then Ok tree.Blake2b256
+    else if bytes_eq word (codes "b512") then Ok tree.Blake2b512
+    else Err WrongWords
+
+-- whether a word is a number of 1 to 2^32 - 1, in decimal digits without a leading zero (48)
+abbrev pub is_leaf_length : List ℕ → Bool
+is_leaf_length digits =
+    nat_lt 0 (length digits) &&
+    (nat_lt (length digits) 11 &&
+    (not (slice_index digits 0 == 48) &&
+    (list_all is_ascii_digit digits && nat_lt (digits_value 10 digits) (2 ^ 32))))
+
+-- the bytes of a leaf that the word LEAF names
+abbrev pub leaf_value : List ℕ → Result ℕ Fault
+leaf_value digits =
+    if is_leaf_length digits then Ok (digits_value 10 digits) else Err WrongWords
+
+-- the bytes of HEX as a message: two or more hexadecimal digits, an even number, or `-` for none
+abbrev pub message_value : List ℕ → Result (List ℕ) Fault
+message_value word =
+    if bytes_eq word (codes "-") then Ok []
+    else if bytes_eq word [] then Err WrongHex
+    else hex_value word
+
+-- the bytes of `key=HEX`, `salt=HEX` and `persona=HEX`, where they are given
+pub record Given : Type 0 where
+  pub key : Option (List ℕ)
+  pub salt : Option (List ℕ)
+  pub persona : Option (List ℕ)
+
+-- none is given
+abbrev pub nothing_given : Given
+nothing_given = record { key = None; salt = None; persona = None }
+
+-- the bytes of HEX, as a value that was not given before
+abbrev pub first_value : Option (List ℕ) → List ℕ → Result (List ℕ) Fault
+first_value None digits = hex_value digits
+first_value (Some bytes) digits = Err WrongWords
+
+-- what is given with one word NAME=HEX more: its name is looked at first, and its HEX next (61 is
+-- `=`). `key` is a name where a key is taken
+abbrev pub with_word : Bool → Given → List ℕ → Result Given Fault
+with_word takes_key given word =
+    let name = before_first (λ b. b == 61) word in
+    let digits = after_first (λ b. b == 61) word in
+    if is_some (position (λ b. b == 61) word) then (
+    if takes_key && bytes_eq name (codes "key") then and_then (first_value given.key digits)
+    (λ bytes. Ok (record given { key = Some bytes }))
+    else if bytes_eq name (codes "salt") then and_then (first_value given.salt digits)
+    (λ bytes. Ok (record given { salt = Some bytes }))
+    else if bytes_eq name (codes "persona") then and_then (first_value given.persona digits)
+    (λ bytes. Ok (record given { persona = Some bytes }))
+    else Err WrongWords
+    ) else Err WrongWords
+
+-- what is given with all of the words more
+abbrev pub with_words : Bool → Given → List (List ℕ) → Result Given Fault
+with_words takes_key given [] = Ok given
+with_words takes_key given (word ∷ words) =
+    and_then (with_word takes_key given word) (λ more. with_words takes_key more words)
+
+-- what a command line asks for
+pub data Task : Type 0 where
+  -- `sum KIND [key=HEX] [salt=HEX] [persona=HEX]`
+  to_sum : Kind → Given → Task
+  -- `script KIND [key=HEX] [salt=HEX] [persona=HEX]`
+  to_script : Kind → Given → Task
+  -- `steps KIND [key=HEX] [salt=HEX] [persona=HEX]`
+  to_steps : Kind → Given → Task
+  -- `witness KIND HEX HEX`
+  to_witness : WitnessKind → List ℕ → List ℕ → Task
+  -- `tree KIND LEAF [salt=HEX] [persona=HEX]`
+  to_tree : TreeKind → ℕ → Given → Task
+
+-- the task of the words behind a command's name, KIND and what is given
+abbrev pub given_task : (Kind → Given → Task) → List (List ℕ) → Result Task Fault
+given_task to [] = Err WrongWords
+given_task to (kind ∷ words) =
+    and_then (kind_of kind)
+    (λ k. and_then (with_words true nothing_given words) (λ given. Ok (to k given)))
+
+-- the task of the words behind `witness`, where the kind and the messages before them are told
+abbrev pub rest_task : WitnessKind → List ℕ → List ℕ → List (List ℕ) → Result Task Fault
+rest_task kind a b [] = Ok (to_witness kind a b)
+rest_task kind a b (word ∷ words) = Err WrongWords
+
+abbrev pub second_task : WitnessKind → List ℕ → List (List ℕ) → Result Task Fault
+second_task kind a [] = Err WrongWords
+second_task kind a (word ∷ words) = and_then (message_value word) (λ b. rest_task kind a b words)
+
+abbrev pub first_task : WitnessKind → List (List ℕ) → Result Task Fault
+first_task kind [] = Err WrongWords
+first_task kind (word ∷ words) = and_then (message_value word) (λ a. second_task kind a words)
+
+abbrev pub witness_task : List (List ℕ) → Result Task Fault
+witness_task [] = Err WrongWords
+witness_task (word ∷ words) = and_then (witness_kind_of word) (λ kind. first_task kind words)
+
+-- the task of the words behind `tree`, and of those behind its KIND
+abbrev pub leaf_task : TreeKind → List (List ℕ) → Result Task Fault
+leaf_task kind [] = Err WrongWords
+leaf_task kind (leaf ∷ words) =
+    and_then (leaf_value leaf)
+    (λ n. and_then (with_words false nothing_given words) (λ given. Ok (to_tree kind n given)))
+
+abbrev pub tree_task : List (List ℕ) → Result Task Fault
+tree_task [] = Err WrongWords
+tree_task (word ∷ words) = and_then (tree_kind_of word) (λ kind. leaf_task kind words)
+
+-- the task of a command line
+abbrev pub task_of : List (List ℕ) → Result Task Fault
+task_of [] = Err WrongWords
+task_of (command ∷ words) =
+    if bytes_eq command (codes "sum") then given_task to_sum words
+    else if bytes_eq command (codes "script") then given_task to_script words
+    else if bytes_eq command (codes "steps") then given_task to_steps words
+    else if bytes_eq command (codes "witness") then witness_task words
+    else if bytes_eq command (codes "tree") then tree_task words
+    else Err WrongWords

@@ -1,0 +1,139 @@
+//! The lines of a script, read as calls.
+ghost use Rattle.std.specs.Prelude.{◌≡◌, ◌<◌, ◌≤◌, ◌∷◌, length, map, if◌then◌else◌, IfOk, IfErr};
+ghost use Rattle.std.specs.Char.{is_ascii_digit};
+ghost use Rattle.std.specs.List.{list_all};
+ghost use Rattle.std.specs.Option.{option_map};
+ghost use Rattle.std.specs.Str.Parse.{digits_value};
+ghost use Rattle.b2_commands.specs.Scripts.{cut_at, lines_of, slot_value, call_at, script_calls};
+ghost use Rattle.b2_commands.specs.Reading.{call_value, unplaced, IsLineFault};
+
+use crate::fault::Fault;
+use crate::words::message_of;
+use blake2::calls::Call;
+use std::alloc::{AllocError, Global};
+
+/// A call of a script, with the bytes of an update in memory of its own. Slots are counted from 0.
+#[derive(Drop)]
+pub(crate) enum ScriptCall {
+    /// `u SLOT HEX`: the slot's state takes these bytes.
+    Update(usize, Vec<u8>),
+    /// `c SLOT`: a copy of the slot's state becomes the next slot.
+    Clone(usize),
+    /// `r SLOT`: the slot's state goes back to what it was when it was made.
+    Reset(usize),
+    /// `f SLOT`: the slot's state answers its digest, and the slot ends.
+    Finalize(usize),
+    /// `d SLOT`: the slot's state answers its digest, and is reset.
+    FinalizeReset(usize),
+}
+
+impl ScriptCall {
+    // Reads the line of this number, whose fields are parted by one space each.
+    fn from_line(alloc: Global, number: usize, line: &[u8]) -> Result<ScriptCall, Fault>
+        ensures call { IfOk result (λ call. call_at number line.now ≡ Ok (call_value call)) }
+        ensures fault { IfErr result (λ fault. IsLineFault fault (call_at number line.now)) }
+    {
+        let wrong = Fault::WrongLine(number);
+        let (name, fields) = split_once(line, b' ').ok_or(wrong)?;
+        match name {
+            b"u" => {
+                let (slot, digits) = split_once(fields, b' ').ok_or(wrong)?;
+                let slot = slot_of(slot).ok_or(wrong)?;
+                match message_of(alloc, digits) {
+                    Ok(bytes) => Ok(ScriptCall::Update(slot, bytes)),
+                    Err(Fault::NoMemory) => Err(Fault::NoMemory),
+                    Err(_) => Err(wrong),
+                }
+            }
+            b"c" => Ok(ScriptCall::Clone(slot_of(fields).ok_or(wrong)?)),
+            b"r" => Ok(ScriptCall::Reset(slot_of(fields).ok_or(wrong)?)),
+            b"f" => Ok(ScriptCall::Finalize(slot_of(fields).ok_or(wrong)?)),
+            b"d" => Ok(ScriptCall::FinalizeReset(slot_of(fields).ok_or(wrong)?)),
+            _ => Err(wrong),
+        }
+    }
+
+    // The call, over the bytes that are held here.
+    fn as_call(&self) -> Call<'_>
+        ensures { unplaced result ≡ call_value self.now }
+    {
+        match self {
+            ScriptCall::Update(slot, bytes) => Call::Update(*slot, bytes.as_slice()),
+            ScriptCall::Clone(slot) => Call::Clone(*slot),
+            ScriptCall::Reset(slot) => Call::Reset(*slot),
+            ScriptCall::Finalize(slot) => Call::Finalize(*slot),
+            ScriptCall::FinalizeReset(slot) => Call::FinalizeReset(*slot),
+        }
+    }
+}
+
+/// Reads all lines of a script, which newlines end; the last line may lack its own.
+pub(crate) fn read_script(alloc: Global, text: &[u8]) -> Result<Vec<ScriptCall>, Fault>
+    ensures calls { IfOk result
+        (λ script. script_calls text.now ≡ Ok (map call_value script.items)) }
+    ensures fault { IfErr result (λ fault. IsLineFault fault (script_calls text.now)) }
+{
+    let mut script = Vec::new(alloc);
+    let mut rest = text;
+    'lines: while !rest.is_empty() {
+        let (line, after) = split_line(rest);
+        let call = ScriptCall::from_line(alloc, script.len() + 1, line)?;
+        script.push(call).map_err(|_| Fault::NoMemory)?;
+        rest = after;
+    }
+    Ok(script)
+}
+
+/// The calls of a script, over the bytes that it holds.
+pub(crate) fn calls_of(alloc: Global, script: &[ScriptCall]) -> Result<Vec<Call<'_>>, AllocError>
+    ensures { IfOk result (λ calls. map unplaced calls.items ≡ map call_value script.now) }
+{
+    let mut calls = Vec::new(alloc);
+    for call in script {
+        calls.push(call.as_call())?;
+    }
+    Ok(calls)
+}
+
+// The first line of a text that is not empty, without its newline, and what follows it.
+fn split_line(text: &[u8]) -> (&[u8], &[u8])
+    requires { 0 < length text.now }
+    ensures lines { lines_of text.now ≡ result.0.now ∷ lines_of result.1.now }
+    ensures shorter { length result.1.now < length text.now }
+{
+    split_once(text, b'\n').unwrap_or((text, &[]))
+}
+
+// What stands before the first such byte, and what stands after it.
+fn split_once(text: &[u8], byte: u8) -> Option<(&[u8], &[u8])>
+    ensures { option_map (λ parts. (parts.0.now, parts.1.now)) result ≡ cut_at byte text.now }
+{
+    let place = text.iter().position(|b| *b == byte)?;
+    Some((&text[..place], &text[place + 1..]))
+}
+
+// The slot that a field names: 1 to 9 decimal digits without a leading zero, or `0`.
+fn slot_of(digits: &[u8]) -> Option<usize>
+    ensures { result ≡ slot_value digits.now }
+{
+    if digits.is_empty() || digits.len() > 9 || digits.len() > 1 && digits[0] == b'0' {
+        return None;
+    }
+    number_of(digits)
+}
+
+/// The number that at most 10 decimal digits write.
+pub(crate) fn number_of(digits: &[u8]) -> Option<usize>
+    requires { length digits.now ≤ 10 }
+    ensures { result ≡
+        (if list_all is_ascii_digit digits.now then Some (digits_value 10 digits.now) else None) }
+{
+    let mut number = 0;
+    for digit in digits {
+        if !digit.is_ascii_digit() {
+            return None;
+        }
+        number = 10 * number + usize::from(*digit - b'0');
+    }
+    Some(number)
+}

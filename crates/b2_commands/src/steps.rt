@@ -1,0 +1,197 @@
+//! `b2 steps`: the transcript of the input.
+ghost use Rattle.std.specs.Prelude.{◌≡◌, ◌≤◌, ◌↔◌, ◌++◌, map, false, IsTrue, OnOk, IsOkUnless};
+ghost use Rattle.std.specs.List.{flat_map};
+ghost use Rattle.std.specs.Result.{IsErrOf};
+ghost use Rattle.std.specs.Io.KnownBytes.{Appends};
+ghost use Rattle.blake2.specs.Family.{blake2b, blake2s};
+ghost use Rattle.blake2.specs.Keys.{key_count};
+ghost use Rattle.blake2.specs.Views.{entry_of, entries_of, input_of, key_of};
+ghost use Rattle.b2_commands.specs.Words.Task.{to_steps};
+ghost use Rattle.b2_commands.specs.Options.{given_of};
+ghost use Rattle.b2_commands.specs.Tasks.{input_with, IsRefusedBy};
+ghost use Rattle.b2_commands.specs.Ends.{EndsBy, EndsTask};
+ghost use Rattle.b2_commands.specs.Inputs.{IsKeyOfBytes, IsOfBytes};
+ghost use Rattle.b2_commands.specs.Lines.{entry_line, words_line, transcript_lines};
+
+use crate::fault::Fault;
+use crate::input::{read_all, tell_bytes};
+use crate::print::Line;
+use crate::words::{Kind, Options};
+use blake2::engine::{Sink, Source};
+use blake2::steps::{Entry, Input, Transcript, Tree};
+use blake2::{Blake2bVarCore, Blake2sVarCore};
+use std::alloc::Global;
+
+/// Prints the transcript of what the source gives: its parameter words, and then a line for each
+/// entry. The whole input is held in memory, and its transcript, of about as many bytes, beside it.
+pub(crate) fn steps<S: Source, K: Sink>(
+    alloc: Global,
+    kind: Kind,
+    options: &Options,
+    source: &mut S,
+    sink: &mut K,
+) -> Result<(), Fault>
+    requires source { S.failed source.old ≡ false }
+    requires sink { K.failed sink.old ≡ false }
+    ensures { EndsTask (to_steps kind (given_of options.now)) result (S.left source.old)
+        (S.failed source.new) (K.failed sink.new) (K.held sink.old) (K.held sink.new) }
+{
+    match kind {
+        Kind::Blake2b128 => steps_blake2b(alloc, options, 16, source, sink),
+        Kind::Blake2b256 => steps_blake2b(alloc, options, 32, source, sink),
+        Kind::Blake2b512 => steps_blake2b(alloc, options, 64, source, sink),
+        Kind::Blake2s128 => steps_blake2s(alloc, options, 16, source, sink),
+        Kind::Blake2s256 => steps_blake2s(alloc, options, 32, source, sink),
+    }
+}
+
+fn steps_blake2b<S: Source, K: Sink>(
+    alloc: Global,
+    options: &Options,
+    output_size: usize,
+    source: &mut S,
+    sink: &mut K,
+) -> Result<(), Fault>
+    requires size { output_size ≤ 64 }
+    requires source { S.failed source.old ≡ false }
+    requires sink { K.failed sink.old ≡ false }
+    ensures length { IsErrOf result Fault.WrongLength ↔ IsRefusedBy blake2b (given_of options.now) }
+    ensures read { IsErrOf result Fault.ReadFailed ↔ IsTrue (S.failed source.new) }
+    ensures write { IsErrOf result Fault.WriteFailed ↔ IsTrue (K.failed sink.new) }
+    ensures ends { EndsBy (λ message.
+        transcript_lines blake2b output_size (input_with (given_of options.now) message))
+        (key_count blake2b (given_of options.now).key) result (S.left source.old)
+        (K.held sink.old) (K.held sink.new) }
+{
+    if !Blake2bVarCore::accepts(&input_under(options, &[])) {
+        return Err(Fault::WrongLength);
+    }
+    let message = read_all(alloc, source)?;
+    let input = input_under(options, message.as_slice());
+    if !Blake2bVarCore::accepts(&input) {
+        return Err(Fault::TooLong);
+    }
+    let transcript = Blake2bVarCore::transcript(alloc, &input, output_size)?;
+    print_blake2b(&transcript, sink)
+}
+
+// Prints the lines of a transcript.
+fn print_blake2b<K: Sink>(transcript: &Transcript<u64, 128>, sink: &mut K) -> Result<(), Fault>
+    requires { K.failed sink.old ≡ false }
+    ensures write { IsErrOf result Fault.WriteFailed ↔ IsTrue (K.failed sink.new) }
+    ensures fault { IsOkUnless result Fault.WriteFailed }
+    ensures lines { OnOk result (Appends (K.held sink.old) (K.held sink.new)
+        (words_line blake2b transcript.now.words
+        ++ flat_map entry_line (entries_of transcript.now))) }
+{
+    let mut line = Line::starting(b"w");
+    line.add_words_of_64(&transcript.words);
+    line.print(sink)?;
+    print_entries(transcript.entries.as_slice(), sink)
+}
+
+fn steps_blake2s<S: Source, K: Sink>(
+    alloc: Global,
+    options: &Options,
+    output_size: usize,
+    source: &mut S,
+    sink: &mut K,
+) -> Result<(), Fault>
+    requires size { output_size ≤ 32 }
+    requires source { S.failed source.old ≡ false }
+    requires sink { K.failed sink.old ≡ false }
+    ensures length { IsErrOf result Fault.WrongLength ↔ IsRefusedBy blake2s (given_of options.now) }
+    ensures read { IsErrOf result Fault.ReadFailed ↔ IsTrue (S.failed source.new) }
+    ensures write { IsErrOf result Fault.WriteFailed ↔ IsTrue (K.failed sink.new) }
+    ensures ends { EndsBy (λ message.
+        transcript_lines blake2s output_size (input_with (given_of options.now) message))
+        (key_count blake2s (given_of options.now).key) result (S.left source.old)
+        (K.held sink.old) (K.held sink.new) }
+{
+    if !Blake2sVarCore::accepts(&input_under(options, &[])) {
+        return Err(Fault::WrongLength);
+    }
+    let message = read_all(alloc, source)?;
+    let input = input_under(options, message.as_slice());
+    if !Blake2sVarCore::accepts(&input) {
+        return Err(Fault::TooLong);
+    }
+    let transcript = Blake2sVarCore::transcript(alloc, &input, output_size)?;
+    print_blake2s(&transcript, sink)
+}
+
+// Prints the lines of a transcript.
+fn print_blake2s<K: Sink>(transcript: &Transcript<u32, 64>, sink: &mut K) -> Result<(), Fault>
+    requires { K.failed sink.old ≡ false }
+    ensures write { IsErrOf result Fault.WriteFailed ↔ IsTrue (K.failed sink.new) }
+    ensures fault { IsOkUnless result Fault.WriteFailed }
+    ensures lines { OnOk result (Appends (K.held sink.old) (K.held sink.new)
+        (words_line blake2s transcript.now.words
+        ++ flat_map entry_line (entries_of transcript.now))) }
+{
+    let mut line = Line::starting(b"w");
+    line.add_words_of_32(&transcript.words);
+    line.print(sink)?;
+    print_entries(transcript.entries.as_slice(), sink)
+}
+
+// The input of this message, with the options' key, salt and persona.
+fn input_under<'a>(options: &'a Options, message: &'a [u8]) -> Input<'a>
+    ensures input { input_of result ≡ input_with (given_of options.now) message.now }
+    ensures bytes { IsOfBytes (input_of result) }
+{
+    let input = Input {
+        salt: options.salt(),
+        persona: options.persona(),
+        key: options.key(),
+        tree: Tree::sequential(),
+        last_node: false,
+        message,
+    };
+    tell_bytes(input.salt);
+    tell_bytes(input.persona);
+    tell_key_bytes(&input.key);
+    tell_bytes(input.message);
+    input
+}
+
+// Does nothing. Proofs read from the type of the key that each element is a byte.
+fn tell_key_bytes(key: &Option<&[u8]>)
+    ensures { IsKeyOfBytes (key_of key.now) }
+{
+    if let Some(key) = *key {
+        tell_bytes(key);
+    }
+}
+
+// Prints a line for each entry.
+fn print_entries<K: Sink, const B: usize>(entries: &[Entry<B>], sink: &mut K) -> Result<(), Fault>
+    requires block { B ≤ 128 }
+    requires sink { K.failed sink.old ≡ false }
+    ensures write { IsErrOf result Fault.WriteFailed ↔ IsTrue (K.failed sink.new) }
+    ensures fault { IsOkUnless result Fault.WriteFailed }
+    ensures lines { OnOk result
+        (Appends (K.held sink.old) (K.held sink.new)
+        (flat_map entry_line (map entry_of entries.now))) }
+{
+    for entry in entries {
+        print_entry(entry, sink)?;
+    }
+    Ok(())
+}
+
+// Prints an entry's line.
+fn print_entry<K: Sink, const B: usize>(entry: &Entry<B>, sink: &mut K) -> Result<(), Fault>
+    requires block { B ≤ 128 }
+    requires sink { K.failed sink.old ≡ false }
+    ensures write { IsErrOf result Fault.WriteFailed ↔ IsTrue (K.failed sink.new) }
+    ensures fault { IsOkUnless result Fault.WriteFailed }
+    ensures line { OnOk result
+        (Appends (K.held sink.old) (K.held sink.new) (entry_line (entry_of entry.now))) }
+{
+    let mut line = Line::starting(b"e");
+    line.add_number(entry.counter);
+    line.add_flag(entry.last);
+    line.add_bytes(&entry.block);
+    line.print(sink)
+}

@@ -1,0 +1,154 @@
+//! `b2 tree`: the root of a tree of hashes over the input.
+ghost use Rattle.std.specs.Prelude.{◌≡◌, ◌≢◌, ◌↔◌, ◌⊎◌, ◌+◌, ◌^◌, ◌<◌, ◌≤◌, length, take, false};
+ghost use Rattle.std.specs.Prelude.{IsTrue, IfOk, IfErr, IfSome, IsOkUnless, OnOk};
+ghost use Rattle.std.specs.Io.KnownBytes.{Appends, Consumes, IsAtEnd, Keeps};
+ghost use Rattle.std.specs.Result.{IsErrOf};
+ghost use Rattle.blake2.specs.Streams.{line_of};
+ghost use Rattle.blake2_tree.specs.TreeHashers.{count, Took};
+ghost use Rattle.b2_commands.specs.declared.fault.Fault.TheVariants.{ReadFailed, TooLong};
+ghost use Rattle.b2_commands.specs.declared.fault.Fault.TheVariants.{WriteFailed};
+ghost use Rattle.b2_commands.specs.Ends.{EndsTask};
+ghost use Rattle.b2_commands.specs.Options.{given_of};
+ghost use Rattle.b2_commands.specs.Tasks.{IsRefusedByTree, root_with};
+ghost use Rattle.b2_commands.specs.Trees.{request_task, IsFaultOfTree};
+
+use crate::fault::Fault;
+use crate::print::Line;
+use crate::tree_request::{TreeKind, TreeRequest};
+use blake2::engine::{Sink, Source};
+use blake2_tree::TreeHasher;
+use std::alloc::Global;
+
+// The bytes that a tree takes are fewer than this.
+const LIMIT: u64 = 1 << 58;
+
+// The bytes of a piece of the input, where leaves are short or very long.
+const PIECE_BYTES: usize = 1 << 16;
+
+// The bytes of the longest piece.
+const LONGEST_PIECE_BYTES: usize = 1 << 24;
+
+/// Prints the root of what the source gives, as a line. It reads the source in pieces, and takes
+/// memory for one.
+pub(crate) fn tree<S: Source, K: Sink>(
+    alloc: Global,
+    request: &TreeRequest,
+    source: &mut S,
+    sink: &mut K,
+) -> Result<(), Fault>
+    requires source { S.failed source.old ≡ false }
+    requires sink { K.failed sink.old ≡ false }
+    ensures { EndsTask (request_task request.now) result (S.left source.old)
+        (S.failed source.new) (K.failed sink.new) (K.held sink.old) (K.held sink.new) }
+{
+    match request.kind {
+        TreeKind::Blake2b128 => print_root::<S, K, 16>(alloc, request, source, sink),
+        TreeKind::Blake2b256 => print_root::<S, K, 32>(alloc, request, source, sink),
+        TreeKind::Blake2b512 => print_root::<S, K, 64>(alloc, request, source, sink),
+    }
+}
+
+// Prints the root in N bytes.
+fn print_root<S: Source, K: Sink, const N: usize>(
+    alloc: Global,
+    request: &TreeRequest,
+    source: &mut S,
+    sink: &mut K,
+) -> Result<(), Fault>
+    requires size { N ≤ 64 }
+    requires source { S.failed source.old ≡ false }
+    requires sink { K.failed sink.old ≡ false }
+    ensures length { IsErrOf result Fault.WrongLength
+        ↔ IsRefusedByTree (given_of request.now.options) }
+    ensures read { IsErrOf result Fault.ReadFailed ↔ IsTrue (S.failed source.new) }
+    ensures write { IsErrOf result Fault.WriteFailed ↔ IsTrue (K.failed sink.new) }
+    ensures root { OnOk result (IfSome (S.left source.old) (λ message. (length message < 2 ^ 58)
+        × Appends (K.held sink.old) (K.held sink.new) (line_of
+        (root_with N request.now.leaf_length (given_of request.now.options) message)))) }
+    ensures too_long { IsErrOf result Fault.TooLong
+        → IfSome (S.left source.old) (λ message. 2 ^ 58 ≤ length message) }
+    ensures fault { IfErr result IsFaultOfTree }
+    ensures unprinted { IfErr result (λ fault. fault ≢ WriteFailed
+        → Keeps (K.held sink.old) (K.held sink.new)) }
+{
+    let salt = request.options.salt();
+    let persona = request.options.persona();
+    if salt.len() > 16 || persona.len() > 16 {
+        return Err(Fault::WrongLength);
+    }
+    let mut piece = vec![in alloc; 0u8; piece_length(request.leaf_length)]?;
+    let mut hasher = TreeHasher::<N>::new(salt, persona, request.leaf_length);
+    absorb(source, piece.as_mut_slice(), &mut hasher)?;
+    let mut line = Line::new();
+    line.push_hex(&hasher.finalize());
+    line.print(sink)
+}
+
+// How many bytes a piece of the input has. A tree hashes four leaves at once that others follow. So
+// a piece is fours of leaves and one leaf more, which stays open until the next piece shows that
+// others follow it. Five leaves that would be too long for memory are no piece.
+fn piece_length(leaf_length: u32) -> usize
+    requires { 1 ≤ leaf_length }
+    ensures { 1 ≤ result }
+{
+    let leaf = leaf_length as usize;
+    let fours = (PIECE_BYTES / leaf / 4).max(1);
+    let whole = leaf * (4 * fours + 1);
+    if whole <= LONGEST_PIECE_BYTES {
+        whole
+    } else {
+        PIECE_BYTES
+    }
+}
+
+// Hands all that the source gives to the hasher, as many bytes at a time as the buffer has.
+fn absorb<S: Source, const N: usize>(
+    source: &mut S,
+    buffer: &mut [u8],
+    hasher: &mut TreeHasher<N>,
+) -> Result<(), Fault>
+    requires source { S.failed source.old ≡ false }
+    requires buffer { 0 < length buffer.old }
+    ensures read { IsErrOf result Fault.ReadFailed ↔ IsTrue (S.failed source.new) }
+    ensures fault { IfErr result (λ fault. (fault ≡ ReadFailed) ⊎ (fault ≡ TooLong)) }
+    ensures whole { OnOk result (IfSome (S.left source.old) (λ bytes.
+        Took hasher.old bytes hasher.new)) }
+    ensures too_long { IsErrOf result Fault.TooLong → IfSome (S.left source.old) (λ bytes.
+        2 ^ 58 ≤ count hasher.old + length bytes) }
+{
+    'pieces: loop {
+        let filled = fill(source, buffer)?;
+        if filled as u64 >= LIMIT - hasher.counted() {
+            return Err(Fault::TooLong);
+        }
+        hasher.update(&buffer[..filled]);
+        if filled < buffer.len() {
+            return Ok(());
+        }
+    }
+}
+
+// Fills the buffer from its front with what the source gives next, and answers how many bytes these
+// are: fewer than it has room for only where the source is at its end.
+fn fill<S: Source>(source: &mut S, buffer: &mut [u8]) -> Result<usize, Fault>
+    requires { S.failed source.old ≡ false }
+    ensures read { IsErrOf result Fault.ReadFailed ↔ IsTrue (S.failed source.new) }
+    ensures fault { IsOkUnless result Fault.ReadFailed }
+    ensures size { length buffer.new ≡ length buffer.old }
+    ensures within { IfOk result (λ n. n ≤ length buffer.new) }
+    ensures bytes { IfOk result (λ n.
+        Consumes (S.left source.old) (S.left source.new) (take n buffer.new)) }
+    ensures end { IfOk result (λ n. n < length buffer.new → IsAtEnd (S.left source.new)) }
+{
+    let mut at = 0;
+    'filling: while at < buffer.len() {
+        let Ok(count) = source.read(&mut buffer[at..]) else {
+            return Err(Fault::ReadFailed);
+        };
+        if count == 0 {
+            return Ok(at);
+        }
+        at += count;
+    }
+    Ok(at)
+}

@@ -1,0 +1,112 @@
+//! Outputs that fail once, and would then take everything: nothing more is written to them.
+use super::words_of;
+use b2_commands::{Fault, run};
+use blake2::engine::{IoSink, SliceSource};
+use std::alloc::Global;
+use std::io;
+use std::io::{ErrorKind, Write};
+use std::test::Fail;
+
+// Takes so many bytes, then fails once, by an error or by taking none, and takes all that comes
+// later.
+#[derive(Drop)]
+struct FailsOnce {
+    before: usize,
+    by_error: bool,
+    has_failed: bool,
+    later: usize,
+}
+
+impl FailsOnce {
+    fn new(before: usize, by_error: bool) -> Self {
+        FailsOnce {
+            before,
+            by_error,
+            has_failed: false,
+            later: 0,
+        }
+    }
+}
+
+impl Write for FailsOnce {
+    fn write(&mut self, buf: &[u8]) -> io::Result<usize> {
+        if self.has_failed {
+            self.later = self.later.saturating_add(1);
+            return Ok(buf.len());
+        }
+        let count = buf.len().min(self.before);
+        self.before -= count;
+        if count == 0 && !buf.is_empty() {
+            self.has_failed = true;
+            if self.by_error {
+                return Err(io::Error::from(ErrorKind::Interrupted));
+            }
+        }
+        Ok(count)
+    }
+
+    fn flush(&mut self) -> io::Result<()> {
+        Ok(())
+    }
+}
+
+// Whether the command, over an output that fails once after so many bytes, answers status 1 and
+// writes no more.
+fn stops_for_good(alloc: Global, text: &str, input: &[u8], before: usize) -> Result<bool, Fail> {
+    let words = words_of(alloc, text)?;
+    for by_error in [true, false] {
+        let mut source = SliceSource::new(input, 4096, None);
+        let mut sink = IoSink::new(FailsOnce::new(before, by_error));
+        let status = run(alloc, words.as_slice(), &mut source, &mut sink);
+        let output = sink.into_inner();
+        if status != 1 || !output.has_failed || output.later != 0 {
+            return Ok(false);
+        }
+    }
+    Ok(true)
+}
+
+#[test]
+fn stop_at_their_first_failure(rt: HostRuntime) -> Result<(), Fail> {
+    // Each command at its first byte, within a line and between lines; and the line of a fault.
+    for (words, input, before) in [
+        ("sum b512", "abc", 0),
+        ("sum b512", "abc", 128),
+        ("sum s128 key=01", "abc", 32),
+        ("script s128", "d 0\nd 0\nf 0\n", 0),
+        ("script s128", "d 0\nd 0\nf 0\n", 33),
+        ("script s128 key=01", "d 0\nd 0\nf 0\n", 65),
+        ("steps b512", "", 0),
+        ("steps b512", "", 138),
+        ("steps s256", "", 200),
+        ("tree b512 4", "abcde", 0),
+        ("tree b128 4", "abcde", 32),
+        ("witness b0 61 62", "", 0),
+        ("witness s0 61 62", "", 208),
+        ("witness b512 61 62", "", 0),
+        ("witness b512 61 62", "", 4),
+        ("add", "", 0),
+        ("sum b512 key=1", "", 13),
+        ("script b512", "f 0\nf 0\n", 0),
+        ("steps b512 key=", "", 15),
+    ] {
+        assert!(rt;
+            stops_for_good(rt.alloc(), words, input.as_bytes(), before)?,
+            "{words}"
+        );
+    }
+    Ok(())
+}
+
+#[test]
+fn take_no_second_line_of_a_fault(rt: HostRuntime) {
+    for before in [0usize, 4, 15] {
+        for by_error in [true, false] {
+            let mut sink = IoSink::new(FailsOnce::new(before, by_error));
+            assert_eq!(rt; Fault::WrongWords.report(&mut sink), 1);
+            let output = sink.into_inner();
+            assert!(rt; output.has_failed);
+            assert_eq!(rt; output.later, 0);
+        }
+    }
+}

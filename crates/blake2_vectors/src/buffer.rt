@@ -1,0 +1,80 @@
+//! What the buffer hands on and what it holds back, on a core that counts.
+ghost use Rattle.std.specs.Prelude.{◌≡◌, ◌+◌, ◌*◌, ◌^◌, ◌<◌, ◌≤◌, length};
+ghost use Rattle.std.proofs.Common.{arith, length-append};
+
+use blake2::digest::{Duplicate, LazyBuffer, Reset, UpdateCore, Wipe};
+use std::marker::Model;
+use std::test::Fail;
+
+// A core that counts the blocks of 64 bytes that it takes.
+struct Counter {
+    blocks: u64,
+}
+
+impl Model for Counter {
+    ghost use Rattle.std.specs.Prelude.{ℕ, ◌*◌, ◌^◌, ◌<◌};
+
+    ghost Value = { ℕ };
+
+    ghost view = { λ core. 64 * core.blocks };
+
+    ghost invariant = { λ core. 64 * core.blocks < 2 ^ 64 };
+}
+
+impl UpdateCore<64> for Counter {
+    ghost absorb = { λ count blocks. count + 64 * length blocks };
+
+    ghost count = { λ count. count };
+
+    fn update_blocks(&mut self, blocks: &[[u8; 64]]) {
+        self.blocks += blocks.len() as u64;
+    }
+
+    fn counted(&self) -> u64 {
+        64 * self.blocks
+    }
+
+    ghost absorb_join = { λ count xs ys. Prim.omega (arith, length-append xs ys) };
+
+    ghost absorb_nothing = { λ count. Prim.omega arith };
+
+    ghost count_grows = { λ count xs. Prim.omega arith };
+}
+
+// The blocks that are handed on, and the bytes that stay, where these bytes meet this input.
+fn handed_and_held(pending: &[u8], input: &[u8]) -> (u64, usize)
+    requires pending { length pending.now ≤ 64 }
+    requires input { length input.now ≤ 128 }
+{
+    let mut core = Counter { blocks: 0 };
+    let mut buffer = LazyBuffer::<64>::new(pending);
+    buffer.digest_blocks(input, &mut core);
+    let Counter { blocks } = core;
+    (blocks, buffer.get_pos())
+}
+
+#[test]
+fn holds_the_last_block_back(rt: HostRuntime) {
+    let bytes = [42; 128];
+    assert_eq!(rt; handed_and_held(&bytes[..64], &bytes[..0]), (0, 64));
+    assert_eq!(rt; handed_and_held(&bytes[..64], &bytes[..1]), (1, 1));
+    assert_eq!(rt; handed_and_held(&bytes[..64], &bytes), (2, 64));
+    assert_eq!(rt; handed_and_held(&bytes[..0], &bytes[..64]), (0, 64));
+    assert_eq!(rt; handed_and_held(&bytes[..0], &bytes[..65]), (1, 1));
+}
+
+#[test]
+fn keeps_its_bytes(rt: HostRuntime) -> Result<(), Fail> {
+    let mut buffer = LazyBuffer::<4>::new(b"abc");
+    let mut copy = buffer.clone()?;
+    let mut twin = buffer.duplicate();
+    buffer.reset();
+    assert_eq!(rt; buffer.pad_with_zeros(), [0; 4]);
+    assert_eq!(rt; copy.pad_with_zeros(), *b"abc\0");
+    assert_eq!(rt; copy.get_pos(), 0);
+    twin.wipe();
+    assert_eq!(rt; twin.get_pos(), 3);
+    assert_eq!(rt; twin.pad_with_zeros(), [0; 4]);
+    assert_eq!(rt; LazyBuffer::<4>::default().get_pos(), 0);
+    Ok(())
+}

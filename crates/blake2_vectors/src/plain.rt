@@ -1,0 +1,4 @@
+//! States of plain numbers.
+
+mod blake2b;
+mod blake2s;

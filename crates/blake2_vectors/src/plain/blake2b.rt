@@ -1,0 +1,146 @@
+//! Digests that hashlib gives, in pieces; refusals; what a wipe and a reset leave.
+use blake2::Tree;
+use blake2_plain::blake2b::State;
+use std::alloc::AllocError;
+
+// Takes the input where the state can.
+fn take(state: &mut State, input: &[u8]) -> bool {
+    if !state.is_ready() || input.len() as u64 > u64::MAX - state.counted() {
+        return false;
+    }
+    state.update(input);
+    true
+}
+
+// Writes the digest where there is one and room for it.
+fn give(state: &State, out: &mut [u8]) -> bool {
+    if !state.is_ready() || out.len() < state.output_size {
+        return false;
+    }
+    state.write_digest(out);
+    true
+}
+
+// Sets the last-node flag where the state gives digests.
+fn mark(state: &mut State, on: bool) -> bool {
+    if !state.is_ready() {
+        return false;
+    }
+    state.set_last_node(on);
+    true
+}
+
+// A keyed node at this place, where the family has it.
+fn node(tree: &Tree) -> Option<State> {
+    if !State::admits_tree(tree) {
+        return None;
+    }
+    match State::new_with_tree(20, b"key", b"salt", b"persona", tree) {
+        Ok(state) => Some(state),
+        Err(_) => None,
+    }
+}
+
+// Goes back to the start where the state has one.
+fn start_again(state: &mut State) -> bool {
+    if !state.is_ready() {
+        return false;
+    }
+    state.reset();
+    true
+}
+
+// Whether the tag is that of a state that gives digests.
+fn accepts(state: &State, tag: &[u8]) -> bool {
+    state.is_ready() && state.is_digest(tag)
+}
+
+// Each byte is its place modulo 251.
+fn message() -> [u8; 300] {
+    let mut text = [0; 300];
+    for (i, byte) in text.iter_mut().enumerate() {
+        *byte = (i % 251) as u8;
+    }
+    text
+}
+
+#[test]
+fn in_pieces_and_after_a_reset(rt: HostRuntime) -> Result<(), AllocError> {
+    let Ok(mut state) = State::new(20, b"key", b"salt", b"persona") else {
+        assert!(rt; false);
+        return Ok(());
+    };
+    let text = message();
+    let mut out = [0; 20];
+    assert!(rt; take(&mut state, &text[..3]) && start_again(&mut state));
+    assert!(rt; take(&mut state, &text[..7]) && take(&mut state, &text[7..]));
+    assert!(rt; give(&state, &mut out));
+    let wanted = "7ad5dc2e868f563e16bada5547b7f4e84fe3db49";
+    assert_eq!(rt; hex::encode(rt.alloc(), &out[..])?.as_str(), wanted);
+    assert!(rt; accepts(&state, &out) && !accepts(&state, &out[..19]));
+    out[19] ^= 1;
+    assert!(rt; !accepts(&state, &out) && !give(&state, &mut out[..19]));
+    state.wipe();
+    assert!(rt; !state.is_ready() && state.first == [0; 8] && state.start_block == [0; 128]);
+    Ok(())
+}
+
+#[test]
+fn from_a_node_of_a_tree(rt: HostRuntime) -> Result<(), AllocError> {
+    // Fanout 2, depth 3, leaves of 4,096 bytes, node 5 of depth 1, inner length 64 (the BLAKE2
+    // document, 2.8).
+    let mut block = [0; 64];
+    block[..18].copy_from_slice(&[64, 0, 2, 3, 0, 16, 0, 0, 5, 0, 0, 0, 0, 0, 0, 0, 1, 64]);
+    let Ok(mut state) = State::from_block(&block) else {
+        assert!(rt; false);
+        return Ok(());
+    };
+    let mut out = [0; 64];
+    assert!(rt; take(&mut state, b"abc") && give(&state, &mut out));
+    let wanted = "89ac394621e9b04625bc4da49cd8976f9feec66402217e136b26c7e9f40f08be\
+        4ba126114472d1aea920e9c6a2f2d3ad577c1e7aedd5d5ac266b3b177dcbb444";
+    assert_eq!(rt; hex::encode(rt.alloc(), &out[..])?.as_str(), wanted);
+    Ok(())
+}
+
+#[test]
+fn a_keyed_node_of_a_tree(rt: HostRuntime) -> Result<(), AllocError> {
+    let mut tree = Tree {
+        fanout: 2,
+        depth: 3,
+        leaf_length: 4096,
+        node_offset: 5,
+        node_depth: 1,
+        inner_length: 64,
+    };
+    let Some(mut state) = node(&tree) else {
+        assert!(rt; false);
+        return Ok(());
+    };
+    let mut out = [0; 20];
+    assert!(rt; take(&mut state, b"abc") && give(&state, &mut out));
+    let wanted = "175b5f9bce20ac14476a90f58f14b6495b14ae81";
+    assert_eq!(rt; hex::encode(rt.alloc(), &out[..])?.as_str(), wanted);
+    // The last node of its level, also after a reset, which keeps the flag.
+    let wanted = "12442b5f86379fe8f3a95801253b0b71e42bcacd";
+    assert!(rt; mark(&mut state, true) && give(&state, &mut out));
+    assert_eq!(rt; hex::encode(rt.alloc(), &out[..])?.as_str(), wanted);
+    assert!(rt; start_again(&mut state) && take(&mut state, b"abc") && give(&state, &mut out));
+    assert_eq!(rt; hex::encode(rt.alloc(), &out[..])?.as_str(), wanted);
+    tree.depth = 0;
+    assert!(rt; node(&tree).is_none());
+    Ok(())
+}
+
+#[test]
+fn refusals(rt: HostRuntime) {
+    let long = [0; 65];
+    assert!(rt; State::new(0, b"", b"", b"").is_err() && State::new(65, b"", b"", b"").is_err());
+    assert!(rt;
+        State::new(64, &long, b"", b"").is_err() && State::new(64, &long[..64], b"", b"").is_ok()
+    );
+    assert!(rt; State::new(64, b"", &long[..17], b"").is_err());
+    assert!(rt; State::new(64, b"", b"", &long[..17]).is_err());
+    assert!(rt; State::from_block(&long[..64]).is_err() && State::from_block(&long[..63]).is_err());
+    assert!(rt; !State::zeros().is_ready());
+}

@@ -1,0 +1,82 @@
+//! Roots of plain states against those of `tree_root`.
+ghost use Rattle.std.specs.Prelude.{◌≤◌, length};
+
+use blake2_tree::plain::TreeState;
+use blake2_tree::tree_root;
+use std::test::Fail;
+
+// The roots that a state gives between two pieces of a message and after them; it counts both.
+fn roots_of_pieces(leaf_length: u32, first: &[u8], second: &[u8]) -> Option<([u8; 64], [u8; 64])>
+    requires first { length first.now ≤ 2000 }
+    requires second { length second.now ≤ 2000 }
+{
+    let mut state = TreeState::new(64, b"salt", b"persona", leaf_length).ok()?;
+    let mut between = [0; 64];
+    let mut last = [0; 64];
+    state.update(first);
+    state.write_root(&mut between);
+    if state.counted() != first.len() as u64 {
+        return None;
+    }
+    state.update(second);
+    state.write_root(&mut last);
+    if state.counted() != (first.len() + second.len()) as u64 || !state.is_ready() {
+        return None;
+    }
+    Some((between, last))
+}
+
+// Up to more than nine leaves, and each cut.
+#[test]
+fn plain_roots_of_every_cut(rt: HostRuntime) -> Result<(), Fail> {
+    let mut text = [0; 160];
+    for (i, byte) in text.iter_mut().enumerate() {
+        *byte = (i % 251) as u8;
+    }
+    for (leaf_length, length) in [(1, 20), (7, 70), (16, 160), (200, 160)] {
+        assert!(rt; 1 <= leaf_length && length <= text.len());
+        let message = &text[..length];
+        let root = tree_root::<64>(b"salt", b"persona", leaf_length, message);
+        for cut in 0..length {
+            let (first, second) = message.split_at(cut);
+            let between = tree_root::<64>(b"salt", b"persona", leaf_length, first);
+            assert_eq!(rt;
+                roots_of_pieces(leaf_length, first, second),
+                Some((between, root)),
+                "{leaf_length}, {cut}"
+            );
+        }
+    }
+    Ok(())
+}
+
+// The bytes behind the root stay.
+#[test]
+fn plain_root_of_twenty_bytes(rt: HostRuntime) -> Result<(), Fail> {
+    let salt = b"0123456789abcdef";
+    let persona = b"fedcba9876543210";
+    let root = tree_root::<20>(salt, persona, u32::MAX, b"abc");
+    match TreeState::new(20, salt, persona, u32::MAX) {
+        Ok(mut state) => {
+            state.update(b"abc");
+            let mut out = [7; 24];
+            state.write_root(&mut out);
+            assert_eq!(rt; &out[..20], root.as_slice());
+            assert_eq!(rt; &out[20..], [7; 4].as_slice());
+            state.wipe();
+            assert!(rt; !state.is_ready());
+        }
+        Err(_) => assert!(rt; false),
+    }
+    Ok(())
+}
+
+#[test]
+fn refused_plain_trees(rt: HostRuntime) {
+    assert!(rt; TreeState::new(0, b"", b"", 1).is_err());
+    assert!(rt; TreeState::new(65, b"", b"", 1).is_err());
+    assert!(rt; TreeState::new(64, &[0; 17], b"", 1).is_err());
+    assert!(rt; TreeState::new(64, b"", &[0; 17], 1).is_err());
+    assert!(rt; TreeState::new(64, b"", b"", 0).is_err());
+    assert!(rt; !TreeState::zeros().is_ready());
+}
