@@ -90,45 +90,15 @@ fn prints_digests_of_macs(rt: HostRuntime) -> Result<(), Fail> {
     Ok(())
 }
 
+// Lines that are none of a script, between bars.
+const WRONG_LINES: &str = "\
+|u|u |u 0|u 0 |u 0 6|u 0 6g|u 0 6162 |u 0  61|u  0 61|u 0 61 62|u 00 61|u - 61|u 0 --\
+|U 0 61| u 0 61|c|c |c 0 |c  0|c 0 61|c -1|c +1|c x|r|r 01|f|f 00|f 1000000000|f 0\r\
+|d 0123456789|d 0x0|x 0|uu 0 61|cf 0";
+
 #[test]
 fn names_wrong_lines(rt: HostRuntime) -> Result<(), Fail> {
-    for line in [
-        "",
-        "u",
-        "u ",
-        "u 0",
-        "u 0 ",
-        "u 0 6",
-        "u 0 6g",
-        "u 0 6162 ",
-        "u 0  61",
-        "u  0 61",
-        "u 0 61 62",
-        "u 00 61",
-        "u - 61",
-        "u 0 --",
-        "U 0 61",
-        " u 0 61",
-        "c",
-        "c ",
-        "c 0 ",
-        "c  0",
-        "c 0 61",
-        "c -1",
-        "c +1",
-        "c x",
-        "r",
-        "r 01",
-        "f",
-        "f 00",
-        "f 1000000000",
-        "f 0\r",
-        "d 0123456789",
-        "d 0x0",
-        "x 0",
-        "uu 0 61",
-        "cf 0",
-    ] {
+    for line in WRONG_LINES.split('|') {
         check_line(&rt, line)?;
     }
     // Wrong lines are found before any call.
