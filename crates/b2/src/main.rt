@@ -1,8 +1,6 @@
 //! `b2`: digests, scripts and transcripts of BLAKE2b and BLAKE2s over standard input.
 #![tactic(auto)]
 
-ghost use Rattle.std.specs.Prelude.{◌≡◌, false};
-
 use b2_commands::{Fault, run};
 use blake2::engine::{IoSink, IoSource};
 use std::process::ExitCode;
