@@ -146,16 +146,30 @@ python_example() {
         diff "$work/said" <(wanted_of_readme)
 }
 
-# The source of Debian's package libb2, which no file of this repository keeps.
+# The machine's own lists of packages, asked for sources in the place of programs.
+source_lists() {
+    local list lists=$1
+    mkdir -p "$lists"
+    for list in /etc/apt/sources.list /etc/apt/sources.list.d/*.list; do
+        [ -r "$list" ] && sed -n 's/^deb\([[:space:]]\)/deb-src\1/p' "$list" >"$lists/$(basename "$list" .list).list"
+    done
+    for list in /etc/apt/sources.list.d/*.sources; do
+        [ -r "$list" ] && sed 's/^Types:.*/Types: deb-src/' "$list" >"$lists/$(basename "$list")"
+    done
+    return 0
+}
+
+# The source of the package libb2, which no file of this repository keeps. A list that knows no sources
+# fails alone; what counts is that one of them had this one.
 fetch_libb2() {
     mkdir -p "$work/libb2/lists/partial" "$work/libb2/cache/archives/partial"
     cd "$work/libb2" || return 1
-    echo 'deb-src http://deb.debian.org/debian bookworm main' >sources.list
-    local words=(-q -o Dir::Etc::sourcelist="$PWD/sources.list" -o Dir::Etc::sourceparts=/dev/null
+    source_lists "$PWD/parts"
+    local words=(-q -o Dir::Etc::sourcelist=/dev/null -o Dir::Etc::sourceparts="$PWD/parts"
         -o Dir::State::lists="$PWD/lists" -o Dir::Cache="$PWD/cache" -o Acquire::Retries=1
-        -o Acquire::http::Timeout=20)
-    timeout 120 apt-get "${words[@]}" update && timeout 120 apt-get "${words[@]}" --download-only source libb2 &&
-        tar xf libb2_*.orig.tar.*
+        -o Acquire::http::Timeout=20 -o Acquire::https::Timeout=20)
+    timeout 120 apt-get "${words[@]}" update
+    timeout 120 apt-get "${words[@]}" --download-only source libb2 && tar xf libb2_*.orig.tar.*
 }
 
 # libb2's own test program, which includes its known answers, over this library's header and archive.
