@@ -1,0 +1,148 @@
+#!/usr/bin/env bash
+# Checks tools/test_changed.sh, without proving anything: in a small repository of its own, whose command
+# `rt` and whose other checks are stand-ins that note how they were called. The last line is 'N passed,
+# M failed', and the status is 1 where one failed.
+set -u
+top=$(dirname "$(dirname "$(readlink -f "$0")")")
+room=$(mktemp -d)
+trap 'rm -rf "$room"' EXIT
+passed=0
+failed=0
+
+# Counts a check of this name: the command's status is 0.
+holds() {
+    local name=$1
+    shift
+    if "$@"; then
+        passed=$((passed + 1))
+    else
+        failed=$((failed + 1))
+        {
+            echo "FAILED: $name"
+            sed 's/^/  output: /' "$room/output"
+            sed 's/^/  calls: /' "$room/calls"
+        } >&2
+    fi
+}
+
+mkdir -p "$room/bin" "$room/repository/tools" "$room/repository/c" "$room/repository/docs"
+cd "$room/repository" || exit 1
+cp "$top/test" .
+cp "$top/tools/test_changed.sh" tools/
+printf 'b2: middle low hex\nlow: # below middle and vectors\nmiddle: low\nvectors: low\nlibrary staticlib: middle\n' >crates.txt
+for crate in low middle vectors library b2; do
+    mkdir -p "crates/$crate/src"
+    echo "fn f() {}" >"crates/$crate/src/lib.rt"
+done
+echo '#[test]' >>crates/vectors/src/lib.rt
+echo out/ >.gitignore
+cat >"$room/bin/rt" <<'END'
+#!/usr/bin/env bash
+room=$(dirname "$(dirname "$0")")
+echo "rt $1 in $(basename "$PWD")" >>"$room/calls"
+[ "$1" != test ] || echo "test result: ok. 3 passed; 0 failed; 0 ignored"
+[ "$(cat "$room/fails" 2>/dev/null)" != "$(basename "$PWD")" ] || { echo "no proof of it"; exit 1; }
+END
+stand_in() {
+    mkdir -p "$(dirname "$1")"
+    printf '#!/usr/bin/env bash\necho "%s $*" >>"%s/calls"\necho "%s"\n[ "$(cat "%s/fails" 2>/dev/null)" != "%s" ]\n' \
+        "$1" "$room" "$2" "$room" "$1" >"$1"
+    chmod +x "$1"
+}
+stand_in ./b2 ""
+stand_in tools/check_program.sh "5 passed, 0 failed"
+stand_in tools/check_b2.sh "6 passed, 0 failed"
+stand_in tools/check_quick.sh "4 passed, 0 failed"
+stand_in tools/check_pages.sh "7 passed, 0 failed"
+stand_in c/run_tests.sh "8 passed, 0 failed, 1 skipped"
+stand_in tools/processor.sh "processor"
+chmod +x "$room/bin/rt"
+git init -q . && git add -A && git -c user.name=n -c user.email=e commit -qm begun
+
+quick() {
+    rm -f "$room/calls"
+    PATH=$room/bin:$PATH ./test --quick "$@" >"$room/output" 2>&1
+    status=$?
+}
+undo() { git checkout -q . && git clean -qfd; }
+calls() { [ "$(grep -c . "$room/calls")" -eq $# ] && diff <(printf '%s\n' "$@") "$room/calls" >/dev/null; }
+ends() { [ "$status" -eq "$1" ] && [ "$(tail -n 1 "$room/output")" = "$2" ]; }
+says() { grep -qxF "$1" "$room/output"; }
+always=("tools/check_b2.sh " "tools/check_quick.sh " "tools/check_pages.sh ")
+program=("./b2 --build --keep" "tools/processor.sh " "tools/check_program.sh out/b2-processor")
+
+quick
+holds "nothing changed" calls "${always[@]}"
+holds "the counts" ends 0 "3 passed, 0 failed"
+holds "a crate is left out" says "left out: low"
+holds "edits are left out" says "left out: edits that must be refused (rt must-fail), programs as the second compiler builds them, proofs from nothing"
+holds "the library for C is left out" says "left out: the library from C, C++, Python and Rust (c/run_tests.sh)"
+
+echo >>crates/low/src/lib.rt
+quick
+holds "the lowest crate changed" calls "rt check in low" "rt check in middle" "rt check in b2" \
+    "rt test in vectors" "rt check in library" "${program[@]}" "${always[@]}"
+holds "each crate is counted" ends 0 "10 passed, 0 failed"
+holds "it says which crate stands on which" says "rt check in library, which stands on middle"
+holds "tests are counted" says "passed: rt test in vectors (3 passed; 0 failed)"
+echo low >"$room/fails"
+quick
+holds "a refused crate fails" ends 1 "9 passed, 1 failed"
+holds "its name is told" says "FAILED: rt check in low"
+holds "its last lines are told" says "    no proof of it"
+for name in ./b2 tools/check_program.sh tools/check_b2.sh tools/check_quick.sh tools/check_pages.sh; do
+    echo "$name" >"$room/fails"
+    quick
+    holds "$name fails" ends 1 "9 passed, 1 failed"
+done
+rm "$room/fails"
+undo
+
+for folder in src specs proofs must-fail; do
+    mkdir -p "crates/vectors/$folder"
+    touch "crates/vectors/$folder/new"
+    quick
+    holds "a new file in $folder" calls "rt test in vectors" "${always[@]}"
+    undo
+done
+for file in crates/vectors/CALLING.md crates/vectors/out/f README.md; do
+    mkdir -p "$(dirname "$file")"
+    touch "$file"
+    quick
+    holds "$file is no source" calls "${always[@]}"
+    undo
+done
+rm -rf crates/vectors/out
+sed -i 's/^library staticlib: middle/library staticlib: middle hex/' crates.txt
+quick
+holds "a crate's line changed" calls "rt check in library" "${always[@]}"
+undo
+for folder in c rust rust-digest python; do
+    mkdir -p "$folder"
+    touch "$folder/new"
+    quick
+    holds "a file in $folder" calls "${always[@]}" "c/run_tests.sh "
+    holds "and its count" ends 0 "4 passed, 0 failed"
+    undo
+done
+
+echo >>crates/b2/src/lib.rt
+git -c user.name=n -c user.email=e commit -qam more
+quick
+holds "what is committed is left out" calls "${always[@]}"
+quick HEAD~1
+holds "what came since a revision" calls "rt check in b2" "${program[@]}" "${always[@]}"
+quick nowhere
+holds "an unknown revision" ends 1 "0 passed, 1 failed"
+quick HEAD HEAD
+holds "two revisions" ends 1 "0 passed, 1 failed"
+./test --other >"$room/output" 2>&1
+status=$?
+holds "an unknown word" ends 2 "0 passed, 1 failed"
+rm "$room/bin/rt"
+PATH=/usr/bin:/bin ./test --quick >"$room/output" 2>&1
+status=$?
+holds "without rt" ends 1 "0 passed, 1 failed"
+
+echo "$passed passed, $failed failed"
+[ "$failed" -eq 0 ]
