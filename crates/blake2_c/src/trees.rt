@@ -2,11 +2,11 @@
 ghost use Rattle.std.specs.Prelude.{◌≡◌, ℕ, ◌↔◌, List, [], ◌++◌, length, drop, pos, negsuc};
 ghost use Rattle.std.specs.Prelude.{IsTrue};
 ghost use Rattle.blake2_tree.specs.TreeRoot.{tree_parameters, tree_root as root_of};
-ghost use Rattle.blake2_tree.specs.TreeStates.{IsReady, IsRefused, Took, future, count, zeros};
+ghost use Rattle.blake2_plain.specs.TreeStates.{IsReady, IsRefused, Took, future, count, zeros};
 ghost use Rattle.blake2_c.specs.Status.{Answers, IsUngivable};
 ghost use Rattle.blake2_c.specs.Trees.{IsRefusedTree, IsUntakableTree};
 
-use blake2_tree::plain::TreeState;
+use blake2_plain::tree::TreeState;
 use blake2_tree::tree_root;
 
 // Whether the tree takes these.

@@ -10,7 +10,7 @@ ghost use Rattle.blake2_tree.specs.TreeRoot.{tree_parameters, tree_root as root_
 use blake2::digest::{Digest, LastNode};
 use blake2::{Blake2b512, Tree};
 use blake2_digest::InvalidLength;
-use blake2_tree::plain::TreeState;
+use blake2_plain::tree::TreeState;
 use blake2_tree::{TreeHasher, tree_root};
 
 /// The digest of a node at this place in a tree of hashes, the last of its level.

@@ -3,3 +3,4 @@ pub mod Blake2b
 pub mod Blake2s
 pub mod Blocks
 pub mod States
+pub mod TreeStates

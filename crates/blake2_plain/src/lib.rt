@@ -5,3 +5,4 @@
 
 pub mod blake2b;
 pub mod blake2s;
+pub mod tree;

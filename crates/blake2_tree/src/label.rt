@@ -2,6 +2,7 @@
 ghost use Rattle.std.specs.Prelude.{◌≡◌, ℕ, ◌≤◌, List, length, take};
 ghost use Rattle.blake2_words.specs.Hash.{AreBytes};
 
+use blake2_digest::padded;
 use std::marker::Model;
 
 /// At most 16 bytes.
@@ -9,17 +10,6 @@ use std::marker::Model;
 pub(crate) struct Label {
     bytes: [u8; 16],
     length: usize,
-}
-
-/// The bytes at the beginning of a field, with zeros behind them.
-pub(crate) fn field_of(text: &[u8]) -> [u8; 16]
-    requires { length text.now ≤ 16 }
-    ensures { take (length text.now) result ≡ text.now }
-{
-    let mut bytes = [0; 16];
-    let (kept, _) = bytes.split_at_mut(text.len());
-    kept.copy_from_slice(text);
-    bytes
 }
 
 impl Model for Label {
@@ -37,7 +27,7 @@ impl Label {
         ensures { result ≡ text.now }
     {
         Label {
-            bytes: field_of(text),
+            bytes: padded(text),
             length: text.len(),
         }
     }

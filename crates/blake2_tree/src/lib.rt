@@ -16,8 +16,7 @@
 
 mod hasher;
 mod label;
-mod nodes;
-pub mod plain;
+pub mod nodes;
 mod witness;
 
 pub use hasher::{TreeHasher, tree_root};

@@ -1,8 +1,7 @@
-//! The nodes of a tree: hashers and inputs of them, and their digests.
+//! The nodes of a tree: their places, hashers and inputs of them, and their digests.
 ghost use Rattle.std.specs.Prelude.{◌≡◌, ◌+◌, ◌*◌, ◌^◌, ◌<◌, ◌≤◌, length, IfOk};
 ghost use Rattle.blake2.specs.Hashers.{blake2b_meaning};
 ghost use Rattle.blake2_digest.specs.States.{Fresh};
-ghost use Rattle.blake2_plain.specs.Blake2b.{IsReady, meaning};
 ghost use Rattle.blake2_rows.specs.Family.{blake2b};
 ghost use Rattle.blake2_words.specs.Inputs.{Accepts};
 ghost use Rattle.blake2_words.specs.Views.{tree_of, input_of};
@@ -14,7 +13,6 @@ use blake2::digest::{FixedOutput, LastNode, Update};
 use blake2::laws::pieces::{piece, piece_count};
 use blake2::steps::{Input, Tree};
 use blake2::{Blake2b, many};
-use blake2_plain::blake2b::State;
 use std::alloc::{AllocError, Global};
 
 // The place of a node in a tree with leaves of this length.
@@ -31,9 +29,10 @@ fn place(leaf_length: u32, node_offset: u64, node_depth: u8) -> Tree
     }
 }
 
-/// What the nodes of one tree share.
+/// What the nodes of one tree share: salt and persona of at most 16 bytes each, and the bytes of a
+/// leaf, 1 to 2^32 - 1.
 #[derive(Drop)]
-pub(crate) struct Nodes {
+pub struct Nodes {
     salt: Label,
     persona: Label,
     pub(crate) leaf_length: u32,
@@ -44,7 +43,7 @@ impl Nodes {
     ghost use Rattle.blake2_tree.specs.Nodes.{parameters_of, node_digest, four_digests};
 
     /// Keeps what the nodes share.
-    pub(crate) fn new(salt: &[u8], persona: &[u8], leaf_length: u32) -> Self
+    pub fn new(salt: &[u8], persona: &[u8], leaf_length: u32) -> Self
         requires salt { length salt.now ≤ 16 }
         requires persona { length persona.now ≤ 16 }
         requires leaf_length { 1 ≤ leaf_length }
@@ -55,6 +54,30 @@ impl Nodes {
             persona: Label::new(persona),
             leaf_length,
         }
+    }
+
+    /// The salt, 0 to 16 bytes.
+    pub fn salt(&self) -> &[u8]
+        ensures is { result.now ≡ (parameters_of self.now).salt }
+        ensures short { length result.now ≤ 16 }
+    {
+        self.salt.as_slice()
+    }
+
+    /// The persona, 0 to 16 bytes.
+    pub fn persona(&self) -> &[u8]
+        ensures is { result.now ≡ (parameters_of self.now).persona }
+        ensures short { length result.now ≤ 16 }
+    {
+        self.persona.as_slice()
+    }
+
+    /// The place of a node: depth 0 is that of the leaves, and depth 1 that of the root, at offset 0.
+    pub fn place(&self, node_offset: u64, node_depth: u8) -> Tree
+        ensures { tree_of result
+            ≡ place (parameters_of self.now).leaf_length node_offset node_depth }
+    {
+        place(self.leaf_length, node_offset, node_depth)
     }
 
     /// A hasher of leaf `i`.
@@ -73,46 +96,6 @@ impl Nodes {
     {
         let place = place(self.leaf_length, 0, 1);
         Blake2b::new_with_tree(self.salt.as_slice(), self.persona.as_slice(), &place)
-    }
-
-    /// A plain state of leaf `i`.
-    pub(crate) fn leaf_state(&self, i: u64) -> State
-        ensures ready { IsReady result }
-        ensures size { result.output_size ≡ 64 }
-        ensures fresh { Fresh meaning (node_digest 64 (parameters_of self.now) i 0) 0 result }
-    {
-        self.state(64, i, 0)
-    }
-
-    /// A plain state of the root.
-    pub(crate) fn root_state(&self, output_size: usize) -> State
-        requires least { 1 ≤ output_size }
-        requires most { output_size ≤ 64 }
-        ensures ready { IsReady result }
-        ensures size { result.output_size ≡ output_size }
-        ensures fresh { Fresh meaning
-            (node_digest output_size (parameters_of self.now) 0 1) 0 result }
-    {
-        self.state(output_size, 0, 1)
-    }
-
-    // A plain state of a node.
-    fn state(&self, output_size: usize, node_offset: u64, node_depth: u8) -> State
-        requires least { 1 ≤ output_size }
-        requires most { output_size ≤ 64 }
-        ensures ready { IsReady result }
-        ensures size { result.output_size ≡ output_size }
-        ensures fresh { Fresh meaning
-            (node_digest output_size (parameters_of self.now) node_offset node_depth) 0 result }
-    {
-        let place = place(self.leaf_length, node_offset, node_depth);
-        let salt = self.salt.as_slice();
-        let persona = self.persona.as_slice();
-        match State::new_with_tree(output_size, &[], salt, persona, &place) {
-            Ok(state) => state,
-            // Not reached: these lengths are all taken.
-            Err(_) => State::zeros(),
-        }
     }
 
     // A node as an input.
@@ -158,7 +141,7 @@ impl Nodes {
 
     /// The digests of four whole leaves at once, none of them the last: leaf `i` of a message, with
     /// which the text begins, and the next three.
-    pub(crate) fn hash_four(&self, i: u64, text: &[u8]) -> [[u8; 64]; 4]
+    pub fn hash_four(&self, i: u64, text: &[u8]) -> [[u8; 64]; 4]
         requires place { i + 3 < 2 ^ 64 }
         requires whole { 4 * self.now.leaf_length ≤ length text.now }
         ensures { result ≡ four_digests (parameters_of self.now) i text.now }

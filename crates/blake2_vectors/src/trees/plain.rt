@@ -1,7 +1,7 @@
 //! Roots of plain states against those of `tree_root`.
 ghost use Rattle.std.specs.Prelude.{◌≤◌, length};
 
-use blake2_tree::plain::TreeState;
+use blake2_plain::tree::TreeState;
 use blake2_tree::tree_root;
 use std::test::Fail;
 

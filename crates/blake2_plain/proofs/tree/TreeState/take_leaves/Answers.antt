@@ -1,8 +1,8 @@
 use Rattle.std.proofs.Common.{◌∙◌, ◌+◌, arith}
 use Rattle.blake2_plain.specs.Blake2b.{meaning}
-use Rattle.blake2_tree.specs.TreeStates.{parameters, future}
+use Rattle.blake2_plain.specs.TreeStates.{parameters, future}
 use Rattle.blake2_tree.proofs.Roots.{root_to_come-took}
-use Rattle.blake2_tree.proofs.plain.TreeState.take_leaves.Goals as goal
+use Rattle.blake2_plain.proofs.tree.TreeState.take_leaves.Goals as goal
 
 pub loop-self-smaller-then-rest-self : goal.loop-self-smaller-then-rest-self
 loop-self-smaller-then-rest-self c =

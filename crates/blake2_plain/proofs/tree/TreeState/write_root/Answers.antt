@@ -2,9 +2,9 @@ use Rattle.std.proofs.Common.{◌≡◌, ◌∙◌, ◌+◌, ◌++◌, [], drop,
 use Rattle.blake2_digest.specs.States.{digest_now}
 use Rattle.blake2_plain.specs.declared.blake2b.State.{State}
 use Rattle.blake2_plain.specs.Blake2b.{meaning}
-use Rattle.blake2_tree.specs.TreeStates.{parameters, future}
+use Rattle.blake2_plain.specs.TreeStates.{parameters, future}
 use Rattle.blake2_tree.proofs.Roots.{root_to_come-finished}
-use Rattle.blake2_tree.proofs.plain.TreeState.write_root.Goals as goal
+use Rattle.blake2_plain.proofs.tree.TreeState.write_root.Goals as goal
 
 pub returns : goal.returns
 unfolding future

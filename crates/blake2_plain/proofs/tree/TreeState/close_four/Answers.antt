@@ -4,10 +4,10 @@ use Rattle.std.proofs.Math.Nat.{le-mul_of_pos_right}
 use Rattle.blake2_plain.specs.Blake2b.{meaning}
 use Rattle.blake2_tree.specs.Nodes.{parameters_of, IsOpened, four_digests}
 use Rattle.blake2_tree.specs.TreeRoot.{TreeParameters}
-use Rattle.blake2_tree.specs.TreeStates.{parameters, future}
+use Rattle.blake2_plain.specs.TreeStates.{parameters, future}
 use Rattle.blake2_tree.proofs.Leaves.{length-four_digests}
 use Rattle.blake2_tree.proofs.Roots.{root_to_come, root_to_come-four}
-use Rattle.blake2_tree.proofs.plain.TreeState.close_four.Goals as goal
+use Rattle.blake2_plain.proofs.tree.TreeState.close_four.Goals as goal
 
 pub take_digests-requires-clause-counted : goal.take_digests-requires-clause-counted
 take_digests-requires-clause-counted c =

@@ -2,7 +2,7 @@
 use Rattle.std.specs.Prelude.{◌≡◌, ℕ, ◌+◌, ◌-◌, ◌*◌, ◌^◌, ◌<◌, ◌≤◌, ◌⊎◌, true, List, ◌++◌, length}
 use Rattle.std.specs.Prelude.{take, replicate}
 use Rattle.blake2_plain.specs.Blake2b as Node
-use Rattle.blake2_tree.specs.declared.plain.TreeState.{TreeState}
+use Rattle.blake2_plain.specs.declared.tree.TreeState.{TreeState}
 use Rattle.blake2_tree.specs.Nodes.{IsOpened}
 use Rattle.blake2_tree.specs.TreeHashers.{digests_to_come}
 use Rattle.blake2_tree.specs.TreeRoot.{TreeParameters}

@@ -4,18 +4,17 @@
 ghost use Rattle.std.specs.Prelude.{◌≡◌, ℕ, ◌+◌, ◌*◌, ◌^◌, ◌<◌, ◌≤◌, ◌↔◌, List, [], ◌++◌, length};
 ghost use Rattle.std.specs.Prelude.{take, drop, IfOk, IsErr, IsTrue};
 ghost use Rattle.std.specs.List.{concat};
-ghost use Rattle.blake2_digest.specs.States.{Updated, digest_now};
+ghost use Rattle.blake2_digest.specs.States.{Fresh, Updated, digest_now};
 ghost use Rattle.blake2_plain.specs.Blake2b.{IsReady as IsNodeReady, meaning};
-ghost use Rattle.blake2_tree.specs.Nodes.{parameters_of};
+ghost use Rattle.blake2_tree.specs.Nodes.{parameters_of, node_digest};
 ghost use Rattle.blake2_tree.specs.TreeRoot.{tree_parameters, tree_root as root_of};
-ghost use Rattle.blake2_tree.specs.TreeStates.{HasLengths, HasCounts, IsReady, IsBegun};
-ghost use Rattle.blake2_tree.specs.TreeStates.{IsRefused, Took, WentOn};
-ghost use Rattle.blake2_tree.specs.TreeStates.{parameters, room, future, count, zeros};
+ghost use Rattle.blake2_plain.specs.TreeStates.{HasLengths, HasCounts, IsReady, IsBegun};
+ghost use Rattle.blake2_plain.specs.TreeStates.{IsRefused, Took, WentOn};
+ghost use Rattle.blake2_plain.specs.TreeStates.{parameters, room, future, count, zeros};
 
-use crate::label::field_of;
-use crate::nodes::Nodes;
-use blake2_digest::InvalidLength;
-use blake2_plain::blake2b::State;
+use crate::blake2b::State;
+use blake2_digest::{InvalidLength, padded};
+use blake2_tree::nodes::Nodes;
 
 /// A run of the tree as plain numbers. Every value of the fields is a state, and none is unsafe; it
 /// gives a root where it is ready ([`TreeState::is_ready`]), as all are that `new` has made.
@@ -39,6 +38,44 @@ pub struct TreeState {
     pub salt: [u8; 16],
     /// The persona, at the beginning.
     pub persona: [u8; 16],
+}
+
+// A state of leaf `i`.
+fn leaf_state(nodes: &Nodes, i: u64) -> State
+    ensures ready { IsNodeReady result }
+    ensures size { result.output_size ≡ 64 }
+    ensures fresh { Fresh meaning (node_digest 64 (parameters_of nodes.now) i 0) 0 result }
+{
+    node_state(nodes, 64, i, 0)
+}
+
+// A state of the root.
+fn root_state(nodes: &Nodes, output_size: usize) -> State
+    requires least { 1 ≤ output_size }
+    requires most { output_size ≤ 64 }
+    ensures ready { IsNodeReady result }
+    ensures size { result.output_size ≡ output_size }
+    ensures fresh { Fresh meaning
+        (node_digest output_size (parameters_of nodes.now) 0 1) 0 result }
+{
+    node_state(nodes, output_size, 0, 1)
+}
+
+// A state of a node.
+fn node_state(nodes: &Nodes, output_size: usize, node_offset: u64, node_depth: u8) -> State
+    requires least { 1 ≤ output_size }
+    requires most { output_size ≤ 64 }
+    ensures ready { IsNodeReady result }
+    ensures size { result.output_size ≡ output_size }
+    ensures fresh { Fresh meaning
+        (node_digest output_size (parameters_of nodes.now) node_offset node_depth) 0 result }
+{
+    let place = nodes.place(node_offset, node_depth);
+    match State::new_with_tree(output_size, &[], nodes.salt(), nodes.persona(), &place) {
+        Ok(state) => state,
+        // Not reached: these lengths are all taken.
+        Err(_) => State::zeros(),
+    }
 }
 
 // The same state again.
@@ -191,14 +228,14 @@ impl TreeState {
     {
         let nodes = Nodes::new(salt, persona, leaf_length);
         TreeState {
-            leaf: nodes.leaf_state(0),
-            root: nodes.root_state(output_size),
+            leaf: leaf_state(&nodes, 0),
+            root: root_state(&nodes, output_size),
             closed: 0,
             leaf_length: u64::from(leaf_length),
             salt_length: salt.len(),
             persona_length: persona.len(),
-            salt: field_of(salt),
-            persona: field_of(persona),
+            salt: padded(salt),
+            persona: padded(persona),
         }
     }
 
@@ -281,7 +318,7 @@ impl TreeState {
         self.leaf.update(head);
         self.root.update(&digest_of(&self.leaf));
         self.closed += 1;
-        self.leaf = nodes.leaf_state(self.closed);
+        self.leaf = leaf_state(&nodes, self.closed);
         rest
     }
 
@@ -301,7 +338,7 @@ impl TreeState {
         let digests = nodes.hash_four(self.closed, input);
         take_digests(&mut self.root, &digests);
         self.closed += 4;
-        self.leaf = nodes.leaf_state(self.closed);
+        self.leaf = leaf_state(&nodes, self.closed);
         &input[4 * self.leaf_length as usize..]
     }
 

@@ -2,7 +2,7 @@ use Rattle.std.proofs.Common.{◌+◌, ◌∙◌, [], slice_index_or, ap, length
 use Rattle.std.specs.List.{concat}
 use Rattle.blake2_plain.specs.Blake2b.{meaning}
 use Rattle.blake2_tree.proofs.Roots.{Updated-append, concat-more, length-concat_part}
-use Rattle.blake2_tree.proofs.plain.take_digests.Goals as goal
+use Rattle.blake2_plain.proofs.tree.take_digests.Goals as goal
 
 pub update-requires-clause-counted : goal.update-requires-clause-counted
 update-requires-clause-counted c =

@@ -4,9 +4,9 @@ use Rattle.blake2_digest.specs.States.{Updated}
 use Rattle.blake2_plain.specs.Blake2b.{meaning}
 use Rattle.blake2_tree.specs.Nodes.{IsOpened}
 use Rattle.blake2_tree.specs.TreeRoot.{TreeParameters}
-use Rattle.blake2_tree.specs.TreeStates.{parameters, future, room}
+use Rattle.blake2_plain.specs.TreeStates.{parameters, future, room}
 use Rattle.blake2_tree.proofs.Roots.{root_to_come, root_to_come-closed, root_to_come-set}
-use Rattle.blake2_tree.proofs.plain.TreeState.close_leaf.Goals as goal
+use Rattle.blake2_plain.proofs.tree.TreeState.close_leaf.Goals as goal
 
 pub returns-clause-went_on : goal.returns-clause-went_on
 unfolding future

@@ -1,6 +1,6 @@
 use Rattle.std.proofs.Common.{◌≡◌, ◌+◌, ℕ, List, ◌++◌, length}
-use Rattle.blake2_tree.specs.TreeStates.{IsReady, IsBegun, future, count}
-use Rattle.blake2_tree.proofs.plain.TreeState.take_leaves.Given as goal
+use Rattle.blake2_plain.specs.TreeStates.{IsReady, IsBegun, future, count}
+use Rattle.blake2_plain.proofs.tree.TreeState.take_leaves.Given as goal
 
 -- the open leaf has taken nothing, and what is left of the input is still to come
 abbrev pub invariant-loop-self : goal.invariant-loop-self

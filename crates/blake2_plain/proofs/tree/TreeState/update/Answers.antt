@@ -1,8 +1,8 @@
 use Rattle.std.proofs.Common.{◌+◌, arith}
 use Rattle.blake2_plain.specs.Blake2b.{meaning}
-use Rattle.blake2_tree.specs.TreeStates.{parameters, future}
+use Rattle.blake2_plain.specs.TreeStates.{parameters, future}
 use Rattle.blake2_tree.proofs.Roots.{root_to_come-took}
-use Rattle.blake2_tree.proofs.plain.TreeState.update.Goals as goal
+use Rattle.blake2_plain.proofs.tree.TreeState.update.Goals as goal
 
 pub returns-then-input-room-clause-taken : goal.returns-then-input-room-clause-taken
 unfolding future
