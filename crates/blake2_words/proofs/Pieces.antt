@@ -5,7 +5,7 @@ use Rattle.std.proofs.Common.{length-drop, drop-drop}
 use Rattle.std.proofs.lemmas.List.{nil_from_length, take-append-drop, ext_get_or}
 use Rattle.std.proofs.lemmas.List.FromFn.{length-map-range_with_len, get_or-map-range_with_len}
 use Rattle.std.proofs.Math.Nat.{lt-div-mul-add, mul-le-mul_right}
-use Rattle.blake2_words.specs.Pieces.{piece_count, piece, PiecesDetermine, NoPairDiffers}
+use Rattle.blake2_words.specs.Pieces.{piece_count, piece, pieces, PiecesDetermine, NoPairDiffers}
 
 -- piece 0 is the beginning
 pub piece-zero : (size : ℕ) (text : List ℕ) → piece size text 0 ≡ take size text
@@ -41,7 +41,7 @@ piece_count-covers size n some =
     omega (arith, above, mul-le-mul_right {m = q} {n = max 1 q} size (omega arith))
 
 -- texts of equally many pieces, none of which differ, are equal
-pub texts-equal_by_pieces : (size : ℕ) (x y : List ℕ) → 0 < size
+texts-equal_by_pieces : (size : ℕ) (x y : List ℕ) → 0 < size
     → piece_count size (length x) ≡ piece_count size (length y)
     → ((i : ℕ) → i < piece_count size (length x) → piece size x i ≡ piece size y i) → x ≡ y
 texts-equal_by_pieces size x y some number same =
@@ -50,19 +50,31 @@ texts-equal_by_pieces size x y some number same =
     texts-equal size (piece_count size (length x)) x y
     (piece_count-covers size (length x) some) count_y same
 
+-- ---- the list of the pieces
+
+-- how many there are
+pub length-pieces : (size : ℕ) (text : List ℕ)
+    → length (pieces size text) ≡ piece_count size (length text)
+length-pieces size text =
+    length-map-range_with_len (piece size text) 0 (piece_count size (length text))
+
+-- piece i stands at place i
+pub pieces-at : (size : ℕ) (text : List ℕ) (i : ℕ) → i < piece_count size (length text)
+    → slice_index_or (pieces size text) i [] ≡ piece size text i
+pieces-at size text i below =
+    get_or-map-range_with_len (piece size text) 0 (piece_count size (length text)) i i [] below
+    (omega arith)
+
 -- the two laws
 pub pieces_determine : PiecesDetermine
 pieces_determine size x y some same =
     let number : piece_count size (length x) ≡ piece_count size (length y) =
-    sym (length-map-range_with_len (piece size x) 0 (piece_count size (length x))) ∙ ap length same
-    ∙ length-map-range_with_len (piece size y) 0 (piece_count size (length y)) in
+    sym (length-pieces size x) ∙ ap length same ∙ length-pieces size y in
     texts-equal_by_pieces size x y some number
     (λ i below.
-    sym (get_or-map-range_with_len (piece size x) 0 (piece_count size (length x)) i i [] below
-    (omega arith))
+    sym (pieces-at size x i below)
     ∙ ap (λ (ps : List (List ℕ)). slice_index_or ps i []) same
-    ∙ get_or-map-range_with_len (piece size y) 0 (piece_count size (length y)) i i []
-    (omega (arith, number)) (omega arith))
+    ∙ pieces-at size y i (omega (arith, number)))
 
 pub no_pair_differs : NoPairDiffers
 no_pair_differs xs ys number same = ext_get_or [] xs ys number same
