@@ -332,8 +332,9 @@ def libraries():
     found = {}
     for cpu in CPUS:
         archive = built("blake2_c", "lib", [], "libblake2_c.a", cpu)
-        path = shared(cpu + "-blake2_c.so", ["-Wl,--whole-archive", archive, "-Wl,--no-whole-archive"])
-        found[f"ours: `blake2`, {cpu}"] = functions_of(path, "blake2_c_")
+        path = shared(cpu + "-blake2_c.so", [os.path.join(PEERS, "ours.c"), "-Wl,--whole-archive", archive,
+                                             "-Wl,--no-whole-archive"])
+        found[f"ours: `blake2`, {cpu}"] = functions_of(path, "ours_")
     for name, path in (("libb2", libb2()[1]), ("blake2_simd", blake2_simd()[1]), ("OpenSSL's EVP", openssl())):
         if path:
             found[name] = functions_of(path)
@@ -546,10 +547,10 @@ def tree_functions():
     roots, single = {}, {}
     for cpu in CPUS:
         archive = built("blake2_c", "lib", [], "libblake2_c.a", cpu)
-        path = shared(cpu + "-tree.so", [os.path.join(PEERS, "tree.c"), "-Wl,--whole-archive", archive,
-                                         "-Wl,--no-whole-archive"])
+        path = shared(cpu + "-tree.so", [os.path.join(PEERS, "tree.c"), os.path.join(PEERS, "ours.c"),
+                                         "-Wl,--whole-archive", archive, "-Wl,--no-whole-archive"])
         roots[f"ours: root, {cpu}"] = ctypes.CDLL(path)
-        single[f"ours: one stream, {cpu}"] = ctypes.CDLL(path).blake2_c_blake2b512
+        single[f"ours: one stream, {cpu}"] = ctypes.CDLL(path).ours_blake2b512
     path = blake2_simd()[1]
     if path:
         roots["blake2_simd: root by `hash_many`"] = ctypes.CDLL(path)

@@ -12,5 +12,5 @@ void set_leaf(size_t length)
 void tree_blake2b512(const uint8_t *message, size_t length, uint8_t *out)
 {
     static const uint8_t none;
-    blake2_c_tree_root512(message, length, &none, 0, &none, 0, leaf_length, out);
+    blake2_c_tree_root(out, 64, message, length, &none, 0, &none, 0, leaf_length);
 }

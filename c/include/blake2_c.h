@@ -1,17 +1,21 @@
 /* BLAKE2b and BLAKE2s (RFC 7693): the digest of a message in one call, or step by step with a
- * state that the caller keeps. No function takes or frees memory, or keeps a pointer.
+ * state that the caller keeps. No function takes or frees memory, or keeps a pointer. For C from
+ * C99 on and C++ from C++11 on.
  *
- * C programs call the functions vulfsjor_*. These are inline and do no more than make way for
- * null pointers; then they call the functions blake2_c_* of libblake2_c.a, each of which is
- * proved to do what is said here of the call, where the caller gives it what it asks for. The
- * inline functions are C, which no proof covers. Other languages call blake2_c_* themselves.
+ * C programs call the functions vulfsjor_*. Each of these is inline, tests for null pointers, and
+ * then makes one call of a function blake2_c_* of the library, which is proved to do what is said
+ * here of the call, where the caller gives it what it asks for. The inline functions are C, which
+ * no proof covers. Other languages call blake2_c_* themselves.
  *
  * Lengths are in bytes. A text is a pointer and a length, and a text of 0 bytes may be a null
  * pointer in a call of vulfsjor_*. No pointer that is given to blake2_c_* is null.
  *
- * Status: 0, or -1 where the call is refused. A refused call writes nothing and leaves the state
- * as it was, but for a refused init, which leaves the state of zeros. All calls but init and
- * wipe refuse that.
+ * Status: 0, or -1 where the call is refused. -1 also where a state, an output, a parameter block,
+ * a place in a tree or a text of more than 0 bytes is null. A refused call writes nothing and
+ * leaves the state as it was, but for two:
+ *   - A refused init leaves the state of zeros. All calls but init and wipe refuse that.
+ *   - verify answers -1 for a wrong tag, and wipes the state then too. To try another tag, copy the
+ *     state first. A state that is not ready, and that of a null tag of more than 0 bytes, stays.
  *
  * The caller owes, and no call can test, that each pointer is to as many bytes as its length
  * says, and that what a call writes (the state, the output) overlaps nothing else that it is
@@ -30,6 +34,19 @@
 extern "C" {
 #endif
 
+/* The version of this header, as a text and as the number that vulfsjor_version answers for the
+ * library: 65,536 times the first, 256 times the second, and the third. */
+#define VULFSJOR_VERSION "0.1.0"
+#define VULFSJOR_VERSION_NUMBER 0x000100
+
+/* On the calls whose answer no later call repeats, so that to ignore it is a fault. A refused init,
+ * reset or set_last_node is no such call: what follows is refused too. */
+#if defined(__GNUC__)
+#define VULFSJOR_MUST_USE __attribute__((warn_unused_result))
+#else
+#define VULFSJOR_MUST_USE
+#endif
+
 /* Lengths in bytes: of a block, the longest digest and key, and the longest salt and persona. */
 enum {
     VULFSJOR_BLAKE2B_BLOCKBYTES = 128,
@@ -44,10 +61,15 @@ enum {
     VULFSJOR_BLAKE2S_PERSONALBYTES = 8
 };
 
-/* A run of BLAKE2b. Keep it anywhere, copy it by assignment (a copy is a run of its own), and
- * leave its fields alone. An init makes one, in memory of any content; every other call asks for
- * bytes that were written. No value of them is unsafe: one that no init has made is refused, or
- * has a digest without meaning. Two threads may not use one at once. */
+/* A run of BLAKE2b. Keep it anywhere that is aligned for it, copy it by assignment (a copy is a run
+ * of its own), and leave its fields alone. An init of vulfsjor_* makes one, in memory of any
+ * content; every other call, and each of blake2_c_*, asks for bytes that were written. No value of
+ * them is unsafe: one that no init has made is refused, or has a digest without meaning. Two
+ * threads may not use one at once.
+ *
+ * Layout: a version that changes the size, the fields or their meaning of a state also changes the
+ * soname of the shared library, so that a program never meets a library with other states. States
+ * are not for files: a later version need not read them. */
 typedef struct vulfsjor_blake2b_state {
     uint64_t chain[8];       /* the chaining words */
     uint64_t first[8];       /* those that the run started from */
@@ -133,44 +155,26 @@ typedef char vulfsjor_layouts[sizeof(size_t) == 8 && sizeof(vulfsjor_blake2b_sta
                               sizeof(vulfsjor_blake2b_param) == 64 &&
                               sizeof(vulfsjor_blake2s_param) == 32 ? 1 : -1];
 
-/* ---- The functions of the library. No pointer is null. */
+/* ---- The functions of the library. No pointer is null, and a state is memory of written bytes,
+ * whatever they are. Each does what is said of the call of its name below. */
 
-/* Writes the digest of the message under no key, of 64 bytes and of 32. */
-void blake2_c_blake2b512(const uint8_t *message, size_t length, uint8_t *out);
-void blake2_c_blake2s256(const uint8_t *message, size_t length, uint8_t *out);
-
-/* Writes the root of a tree of hashes, in 64 bytes and in 32: vulfsjor_tree_root says of which. */
-int32_t blake2_c_tree_root512(const uint8_t *message, size_t length, const uint8_t *salt,
-                              size_t salt_length, const uint8_t *persona, size_t persona_length,
-                              uint32_t leaf_length, uint8_t *out);
-int32_t blake2_c_tree_root256(const uint8_t *message, size_t length, const uint8_t *salt,
-                              size_t salt_length, const uint8_t *persona, size_t persona_length,
-                              uint32_t leaf_length, uint8_t *out);
-
-int32_t blake2_c_tree_init(vulfsjor_tree_state *state, size_t output_size, const uint8_t *salt,
-                           size_t salt_length, const uint8_t *persona, size_t persona_length,
-                           uint32_t leaf_length);
-int32_t blake2_c_tree_update(vulfsjor_tree_state *state, const uint8_t *input, size_t input_length);
-int32_t blake2_c_tree_final(vulfsjor_tree_state *state, uint8_t *out, size_t out_length);
-void blake2_c_tree_wipe(vulfsjor_tree_state *state);
-
-/* The rest does what is said of vulfsjor_* below. init_at and init_block_at answer nothing: the
- * output_size that they leave is 0 where the arguments were refused, and there alone. */
-
+uint32_t blake2_c_version(void);
 int32_t blake2_c_is_same(const uint8_t *a, size_t a_length, const uint8_t *b, size_t b_length);
 
 int32_t blake2_c_blake2b(uint8_t *out, size_t out_length, const uint8_t *input, size_t input_length,
                          const uint8_t *key, size_t key_length);
-void blake2_c_blake2b_init_at(vulfsjor_blake2b_state *at, size_t output_size, const uint8_t *key,
+int32_t blake2_c_blake2b_init(vulfsjor_blake2b_state *state, size_t output_size, const uint8_t *key,
                               size_t key_length, const uint8_t *salt, size_t salt_length,
                               const uint8_t *persona, size_t persona_length);
+int32_t blake2_c_blake2b_init_key(vulfsjor_blake2b_state *state, size_t output_size,
+                                  const uint8_t *key, size_t key_length);
 int32_t blake2_c_blake2b_init_node(vulfsjor_blake2b_state *state, size_t output_size,
                                    const uint8_t *key, size_t key_length, const uint8_t *salt,
                                    size_t salt_length, const uint8_t *persona,
                                    size_t persona_length, uint8_t fanout, uint8_t depth,
                                    uint32_t leaf_length, uint64_t node_offset, uint8_t node_depth,
                                    uint8_t inner_length);
-void blake2_c_blake2b_init_block_at(vulfsjor_blake2b_state *at, const uint8_t *block,
+int32_t blake2_c_blake2b_init_block(vulfsjor_blake2b_state *state, const uint8_t *block,
                                     size_t block_length);
 int32_t blake2_c_blake2b_update(vulfsjor_blake2b_state *state, const uint8_t *input,
                                 size_t input_length);
@@ -180,19 +184,23 @@ int32_t blake2_c_blake2b_verify(vulfsjor_blake2b_state *state, const uint8_t *ta
 int32_t blake2_c_blake2b_set_last_node(vulfsjor_blake2b_state *state, uint32_t on);
 int32_t blake2_c_blake2b_reset(vulfsjor_blake2b_state *state);
 void blake2_c_blake2b_wipe(vulfsjor_blake2b_state *state);
+size_t blake2_c_blake2b_digest_size(const vulfsjor_blake2b_state *state);
+size_t blake2_c_blake2b_state_size(void);
 
 int32_t blake2_c_blake2s(uint8_t *out, size_t out_length, const uint8_t *input, size_t input_length,
                          const uint8_t *key, size_t key_length);
-void blake2_c_blake2s_init_at(vulfsjor_blake2s_state *at, size_t output_size, const uint8_t *key,
+int32_t blake2_c_blake2s_init(vulfsjor_blake2s_state *state, size_t output_size, const uint8_t *key,
                               size_t key_length, const uint8_t *salt, size_t salt_length,
                               const uint8_t *persona, size_t persona_length);
+int32_t blake2_c_blake2s_init_key(vulfsjor_blake2s_state *state, size_t output_size,
+                                  const uint8_t *key, size_t key_length);
 int32_t blake2_c_blake2s_init_node(vulfsjor_blake2s_state *state, size_t output_size,
                                    const uint8_t *key, size_t key_length, const uint8_t *salt,
                                    size_t salt_length, const uint8_t *persona,
                                    size_t persona_length, uint8_t fanout, uint8_t depth,
                                    uint32_t leaf_length, uint64_t node_offset, uint8_t node_depth,
                                    uint8_t inner_length);
-void blake2_c_blake2s_init_block_at(vulfsjor_blake2s_state *at, const uint8_t *block,
+int32_t blake2_c_blake2s_init_block(vulfsjor_blake2s_state *state, const uint8_t *block,
                                     size_t block_length);
 int32_t blake2_c_blake2s_update(vulfsjor_blake2s_state *state, const uint8_t *input,
                                 size_t input_length);
@@ -202,18 +210,36 @@ int32_t blake2_c_blake2s_verify(vulfsjor_blake2s_state *state, const uint8_t *ta
 int32_t blake2_c_blake2s_set_last_node(vulfsjor_blake2s_state *state, uint32_t on);
 int32_t blake2_c_blake2s_reset(vulfsjor_blake2s_state *state);
 void blake2_c_blake2s_wipe(vulfsjor_blake2s_state *state);
+size_t blake2_c_blake2s_digest_size(const vulfsjor_blake2s_state *state);
+size_t blake2_c_blake2s_state_size(void);
 
-/* ---- For C. -1 also where a state, an output, a parameter block or a text of more than 0 bytes
- * is null. */
+int32_t blake2_c_tree_root(uint8_t *out, size_t out_length, const uint8_t *input,
+                           size_t input_length, const uint8_t *salt, size_t salt_length,
+                           const uint8_t *persona, size_t persona_length, uint32_t leaf_length);
+int32_t blake2_c_tree_init(vulfsjor_tree_state *state, size_t output_size, const uint8_t *salt,
+                           size_t salt_length, const uint8_t *persona, size_t persona_length,
+                           uint32_t leaf_length);
+int32_t blake2_c_tree_update(vulfsjor_tree_state *state, const uint8_t *input, size_t input_length);
+int32_t blake2_c_tree_final(vulfsjor_tree_state *state, uint8_t *out, size_t out_length);
+void blake2_c_tree_wipe(vulfsjor_tree_state *state);
+size_t blake2_c_tree_digest_size(const vulfsjor_tree_state *state);
+size_t blake2_c_tree_state_size(void);
+
+/* ---- For C. */
 
 /* The pointer, or one that is not null for a text of 0 bytes. */
 static inline const uint8_t *vulfsjor_text(const void *text) {
     return text ? (const uint8_t *)text : (const uint8_t *)"";
 }
 
+/* The version of the library, as VULFSJOR_VERSION_NUMBER is that of this header. */
+static inline uint32_t vulfsjor_version(void) {
+    return blake2_c_version();
+}
+
 /* 0 where the first length bytes of a and b are equal, and -1 where not. It looks at all of
  * them: the comparison for tags. */
-static inline int vulfsjor_is_same(const void *a, const void *b, size_t length) {
+VULFSJOR_MUST_USE static inline int vulfsjor_is_same(const void *a, const void *b, size_t length) {
     if ((!a || !b) && length) return -1;
     return blake2_c_is_same(vulfsjor_text(a), length, vulfsjor_text(b), length);
 }
@@ -227,11 +253,10 @@ static inline int vulfsjor_blake2b_init_salt_personal(
     vulfsjor_blake2b_state *S, size_t outlen, const void *key, size_t keylen, const void *salt,
     size_t saltlen, const void *personal, size_t personallen) {
     if (!S) return -1;
-    if ((!key && keylen) || (!salt && saltlen) || (!personal && personallen))
-        outlen = keylen = saltlen = personallen = 0;
-    blake2_c_blake2b_init_at(S, outlen, vulfsjor_text(key), keylen, vulfsjor_text(salt), saltlen,
-                             vulfsjor_text(personal), personallen);
-    return S->output_size ? 0 : -1;
+    memset(S, 0, sizeof *S);
+    if ((!key && keylen) || (!salt && saltlen) || (!personal && personallen)) return -1;
+    return blake2_c_blake2b_init(S, outlen, vulfsjor_text(key), keylen, vulfsjor_text(salt),
+                                 saltlen, vulfsjor_text(personal), personallen);
 }
 
 /* The same without key, salt and persona. */
@@ -242,8 +267,10 @@ static inline int vulfsjor_blake2b_init(vulfsjor_blake2b_state *S, size_t outlen
 /* The same under a key of 1 to 64 bytes, without salt and persona. */
 static inline int vulfsjor_blake2b_init_key(vulfsjor_blake2b_state *S, size_t outlen,
                                             const void *key, size_t keylen) {
-    if (!keylen) outlen = 0;
-    return vulfsjor_blake2b_init_salt_personal(S, outlen, key, keylen, 0, 0, 0, 0);
+    if (!S) return -1;
+    memset(S, 0, sizeof *S);
+    if (!key) return -1;
+    return blake2_c_blake2b_init_key(S, outlen, (const uint8_t *)key, keylen);
 }
 
 /* Begins the run of a node of a tree of hashes, at this place (the BLAKE2 document, 2.10), with
@@ -256,9 +283,9 @@ static inline int vulfsjor_blake2b_init_tree(
     memset(S, 0, sizeof *S);
     if (!tree || (!key && keylen) || (!salt && saltlen) || (!personal && personallen)) return -1;
     return blake2_c_blake2b_init_node(S, outlen, vulfsjor_text(key), keylen, vulfsjor_text(salt),
-                                       saltlen, vulfsjor_text(personal), personallen, tree->fanout,
-                                       tree->depth, tree->leaf_length, tree->node_offset,
-                                       tree->node_depth, tree->inner_length);
+                                      saltlen, vulfsjor_text(personal), personallen, tree->fanout,
+                                      tree->depth, tree->leaf_length, tree->node_offset,
+                                      tree->node_depth, tree->inner_length);
 }
 
 /* Begins a run from a parameter block, as it stands: the words of its bytes are xored into the
@@ -268,30 +295,33 @@ static inline int vulfsjor_blake2b_init_tree(
 static inline int vulfsjor_blake2b_init_param(vulfsjor_blake2b_state *S,
                                               const vulfsjor_blake2b_param *P) {
     if (!S) return -1;
-    if (!P) return vulfsjor_blake2b_init(S, 0);
-    blake2_c_blake2b_init_block_at(S, (const uint8_t *)P, sizeof *P);
-    return S->output_size ? 0 : -1;
+    memset(S, 0, sizeof *S);
+    if (!P) return -1;
+    return blake2_c_blake2b_init_block(S, (const uint8_t *)P, sizeof *P);
 }
 
 /* Takes the input after all that was taken before. -1 where the bytes since the start, a key's
  * block among them, would be 2^64 or more. */
-static inline int vulfsjor_blake2b_update(vulfsjor_blake2b_state *S, const void *in, size_t inlen) {
+VULFSJOR_MUST_USE static inline int vulfsjor_blake2b_update(vulfsjor_blake2b_state *S,
+                                                            const void *in, size_t inlen) {
     if (!S || (!in && inlen)) return -1;
     return blake2_c_blake2b_update(S, vulfsjor_text(in), inlen);
 }
 
 /* Writes the digest of all input since the start at the beginning of out, and wipes the state.
  * -1 where outlen, the bytes that out has room for, is less than the digest has. */
-static inline int vulfsjor_blake2b_final(vulfsjor_blake2b_state *S, void *out, size_t outlen) {
+VULFSJOR_MUST_USE static inline int vulfsjor_blake2b_final(vulfsjor_blake2b_state *S, void *out,
+                                                           size_t outlen) {
     if (!S || !out) return -1;
     return blake2_c_blake2b_final(S, (uint8_t *)out, outlen);
 }
 
-/* Compares the tag with the digest of all input since the start, and wipes the state: 0 where
- * the tag is the whole digest, -1 where not. It looks at all bytes of a tag of the digest's
- * length. */
-static inline int vulfsjor_blake2b_verify(vulfsjor_blake2b_state *S, const void *tag,
-                                          size_t taglen) {
+/* Compares the tag with the digest of all input since the start, and wipes the state, whichever
+ * the answer: 0 where the tag is the whole digest, -1 where not. It looks at all bytes of a tag of
+ * the digest's length. To try another tag, copy the state first. A null tag of more than 0 bytes
+ * leaves the state. */
+VULFSJOR_MUST_USE static inline int vulfsjor_blake2b_verify(vulfsjor_blake2b_state *S,
+                                                            const void *tag, size_t taglen) {
     if (!S || (!tag && taglen)) return -1;
     return blake2_c_blake2b_verify(S, vulfsjor_text(tag), taglen);
 }
@@ -301,7 +331,7 @@ static inline int vulfsjor_blake2b_verify(vulfsjor_blake2b_state *S, const void 
  * digest. */
 static inline int vulfsjor_blake2b_set_last_node(vulfsjor_blake2b_state *S, int on) {
     if (!S) return -1;
-    return blake2_c_blake2b_set_last_node(S, on != 0);
+    return blake2_c_blake2b_set_last_node(S, (uint32_t)on);
 }
 
 /* Goes back to the start: no input is taken, and digest length, key, salt, persona, place in a
@@ -316,38 +346,122 @@ static inline void vulfsjor_blake2b_wipe(vulfsjor_blake2b_state *S) {
     if (S) blake2_c_blake2b_wipe(S);
 }
 
+/* The bytes of the digest that the state will give, 1 to 64; 0 where it is null or gives none. */
+static inline size_t vulfsjor_blake2b_digest_size(const vulfsjor_blake2b_state *S) {
+    return S ? blake2_c_blake2b_digest_size(S) : 0;
+}
+
 /* The digest of the input in outlen bytes, 1 to 64, under a key of 0 to 64 bytes (0 is no key).
  * -1 where a length is not among these, or input and key's block are 2^64 bytes or more. */
-static inline int vulfsjor_blake2b(void *out, size_t outlen, const void *in, size_t inlen,
-                                   const void *key, size_t keylen) {
+VULFSJOR_MUST_USE static inline int vulfsjor_blake2b(void *out, size_t outlen, const void *in,
+                                                     size_t inlen, const void *key, size_t keylen) {
     if (!out || (!in && inlen) || (!key && keylen)) return -1;
-    if (!keylen && outlen == VULFSJOR_BLAKE2B_OUTBYTES) {
-        blake2_c_blake2b512(vulfsjor_text(in), inlen, (uint8_t *)out);
-        return 0;
-    }
     return blake2_c_blake2b((uint8_t *)out, outlen, vulfsjor_text(in), inlen, vulfsjor_text(key),
                             keylen);
 }
 
-/* The root of a tree of hashes with two levels (the BLAKE2 document, 2.10), in outlen bytes, 32 or
- * 64: the input is cut into leaves of leaf_length bytes, the last of which may be shorter, and the
- * root hashes their digests of 64 bytes. All nodes have the salt and the persona, fanout 0, depth 2,
- * this leaf length and inner length 64; the last leaf and the root have the last-node flag. -1 where
- * outlen is another, leaf_length is 0, salt or persona have more than 16 bytes, or the input has 2^58
- * or more. */
-static inline int vulfsjor_tree_root(void *out, size_t outlen, const void *in, size_t inlen,
-                                     const void *salt, size_t saltlen, const void *personal,
-                                     size_t personallen, uint32_t leaf_length) {
+/* -- BLAKE2s: the same, with digests and keys of up to 32 bytes, salts and personas of up to 8,
+ * and key blocks of 64. */
+
+static inline int vulfsjor_blake2s_init_salt_personal(
+    vulfsjor_blake2s_state *S, size_t outlen, const void *key, size_t keylen, const void *salt,
+    size_t saltlen, const void *personal, size_t personallen) {
+    if (!S) return -1;
+    memset(S, 0, sizeof *S);
+    if ((!key && keylen) || (!salt && saltlen) || (!personal && personallen)) return -1;
+    return blake2_c_blake2s_init(S, outlen, vulfsjor_text(key), keylen, vulfsjor_text(salt),
+                                 saltlen, vulfsjor_text(personal), personallen);
+}
+
+static inline int vulfsjor_blake2s_init(vulfsjor_blake2s_state *S, size_t outlen) {
+    return vulfsjor_blake2s_init_salt_personal(S, outlen, 0, 0, 0, 0, 0, 0);
+}
+
+static inline int vulfsjor_blake2s_init_key(vulfsjor_blake2s_state *S, size_t outlen,
+                                            const void *key, size_t keylen) {
+    if (!S) return -1;
+    memset(S, 0, sizeof *S);
+    if (!key) return -1;
+    return blake2_c_blake2s_init_key(S, outlen, (const uint8_t *)key, keylen);
+}
+
+static inline int vulfsjor_blake2s_init_tree(
+    vulfsjor_blake2s_state *S, size_t outlen, const void *key, size_t keylen, const void *salt,
+    size_t saltlen, const void *personal, size_t personallen, const vulfsjor_tree *tree) {
+    if (!S) return -1;
+    memset(S, 0, sizeof *S);
+    if (!tree || (!key && keylen) || (!salt && saltlen) || (!personal && personallen)) return -1;
+    return blake2_c_blake2s_init_node(S, outlen, vulfsjor_text(key), keylen, vulfsjor_text(salt),
+                                      saltlen, vulfsjor_text(personal), personallen, tree->fanout,
+                                      tree->depth, tree->leaf_length, tree->node_offset,
+                                      tree->node_depth, tree->inner_length);
+}
+
+static inline int vulfsjor_blake2s_init_param(vulfsjor_blake2s_state *S,
+                                              const vulfsjor_blake2s_param *P) {
+    if (!S) return -1;
+    memset(S, 0, sizeof *S);
+    if (!P) return -1;
+    return blake2_c_blake2s_init_block(S, (const uint8_t *)P, sizeof *P);
+}
+
+VULFSJOR_MUST_USE static inline int vulfsjor_blake2s_update(vulfsjor_blake2s_state *S,
+                                                            const void *in, size_t inlen) {
+    if (!S || (!in && inlen)) return -1;
+    return blake2_c_blake2s_update(S, vulfsjor_text(in), inlen);
+}
+
+VULFSJOR_MUST_USE static inline int vulfsjor_blake2s_final(vulfsjor_blake2s_state *S, void *out,
+                                                           size_t outlen) {
+    if (!S || !out) return -1;
+    return blake2_c_blake2s_final(S, (uint8_t *)out, outlen);
+}
+
+VULFSJOR_MUST_USE static inline int vulfsjor_blake2s_verify(vulfsjor_blake2s_state *S,
+                                                            const void *tag, size_t taglen) {
+    if (!S || (!tag && taglen)) return -1;
+    return blake2_c_blake2s_verify(S, vulfsjor_text(tag), taglen);
+}
+
+static inline int vulfsjor_blake2s_set_last_node(vulfsjor_blake2s_state *S, int on) {
+    if (!S) return -1;
+    return blake2_c_blake2s_set_last_node(S, (uint32_t)on);
+}
+
+static inline int vulfsjor_blake2s_reset(vulfsjor_blake2s_state *S) {
+    if (!S) return -1;
+    return blake2_c_blake2s_reset(S);
+}
+
+static inline void vulfsjor_blake2s_wipe(vulfsjor_blake2s_state *S) {
+    if (S) blake2_c_blake2s_wipe(S);
+}
+
+static inline size_t vulfsjor_blake2s_digest_size(const vulfsjor_blake2s_state *S) {
+    return S ? blake2_c_blake2s_digest_size(S) : 0;
+}
+
+VULFSJOR_MUST_USE static inline int vulfsjor_blake2s(void *out, size_t outlen, const void *in,
+                                                     size_t inlen, const void *key, size_t keylen) {
+    if (!out || (!in && inlen) || (!key && keylen)) return -1;
+    return blake2_c_blake2s((uint8_t *)out, outlen, vulfsjor_text(in), inlen, vulfsjor_text(key),
+                            keylen);
+}
+
+/* -- The tree of two levels over BLAKE2b (the BLAKE2 document, 2.10) */
+
+/* The root of the tree, in outlen bytes, 1 to 64: the input is cut into leaves of leaf_length
+ * bytes, the last of which may be shorter, and the root hashes their digests of 64 bytes. All nodes
+ * have the salt and the persona, fanout 0, depth 2, this leaf length and inner length 64; the last
+ * leaf and the root have the last-node flag. -1 where outlen is another, leaf_length is 0, salt or
+ * persona have more than 16 bytes, or the input has 2^58 or more. */
+VULFSJOR_MUST_USE static inline int vulfsjor_tree_root(void *out, size_t outlen, const void *in,
+                                                       size_t inlen, const void *salt,
+                                                       size_t saltlen, const void *personal,
+                                                       size_t personallen, uint32_t leaf_length) {
     if (!out || (!in && inlen) || (!salt && saltlen) || (!personal && personallen)) return -1;
-    if (outlen == 64)
-        return blake2_c_tree_root512(vulfsjor_text(in), inlen, vulfsjor_text(salt), saltlen,
-                                     vulfsjor_text(personal), personallen, leaf_length,
-                                     (uint8_t *)out);
-    if (outlen == 32)
-        return blake2_c_tree_root256(vulfsjor_text(in), inlen, vulfsjor_text(salt), saltlen,
-                                     vulfsjor_text(personal), personallen, leaf_length,
-                                     (uint8_t *)out);
-    return -1;
+    return blake2_c_tree_root((uint8_t *)out, outlen, vulfsjor_text(in), inlen, vulfsjor_text(salt),
+                              saltlen, vulfsjor_text(personal), personallen, leaf_length);
 }
 
 /* Begins a run of that tree, with a root of outlen bytes, 1 to 64. -1 where outlen is another,
@@ -365,14 +479,16 @@ static inline int vulfsjor_tree_init(vulfsjor_tree_state *S, size_t outlen, cons
 /* Takes the input after all that was taken before, of any length. Whole leaves behind the open one
  * are hashed four at once, where more follows them, so long pieces are faster. -1 where the bytes
  * of all would be 2^58 or more. */
-static inline int vulfsjor_tree_update(vulfsjor_tree_state *S, const void *in, size_t inlen) {
+VULFSJOR_MUST_USE static inline int vulfsjor_tree_update(vulfsjor_tree_state *S, const void *in,
+                                                         size_t inlen) {
     if (!S || (!in && inlen)) return -1;
     return blake2_c_tree_update(S, vulfsjor_text(in), inlen);
 }
 
 /* Writes the root of all input at the beginning of out, and wipes the state. -1 where outlen, the
  * bytes that out has room for, is less than the root has. */
-static inline int vulfsjor_tree_final(vulfsjor_tree_state *S, void *out, size_t outlen) {
+VULFSJOR_MUST_USE static inline int vulfsjor_tree_final(vulfsjor_tree_state *S, void *out,
+                                                        size_t outlen) {
     if (!S || !out) return -1;
     return blake2_c_tree_final(S, (uint8_t *)out, outlen);
 }
@@ -382,89 +498,9 @@ static inline void vulfsjor_tree_wipe(vulfsjor_tree_state *S) {
     if (S) blake2_c_tree_wipe(S);
 }
 
-/* -- BLAKE2s: the same, with digests and keys of up to 32 bytes, salts and personas of up to 8,
- * and key blocks of 64. */
-
-static inline int vulfsjor_blake2s_init_salt_personal(
-    vulfsjor_blake2s_state *S, size_t outlen, const void *key, size_t keylen, const void *salt,
-    size_t saltlen, const void *personal, size_t personallen) {
-    if (!S) return -1;
-    if ((!key && keylen) || (!salt && saltlen) || (!personal && personallen))
-        outlen = keylen = saltlen = personallen = 0;
-    blake2_c_blake2s_init_at(S, outlen, vulfsjor_text(key), keylen, vulfsjor_text(salt), saltlen,
-                             vulfsjor_text(personal), personallen);
-    return S->output_size ? 0 : -1;
-}
-
-static inline int vulfsjor_blake2s_init(vulfsjor_blake2s_state *S, size_t outlen) {
-    return vulfsjor_blake2s_init_salt_personal(S, outlen, 0, 0, 0, 0, 0, 0);
-}
-
-static inline int vulfsjor_blake2s_init_key(vulfsjor_blake2s_state *S, size_t outlen,
-                                            const void *key, size_t keylen) {
-    if (!keylen) outlen = 0;
-    return vulfsjor_blake2s_init_salt_personal(S, outlen, key, keylen, 0, 0, 0, 0);
-}
-
-static inline int vulfsjor_blake2s_init_tree(
-    vulfsjor_blake2s_state *S, size_t outlen, const void *key, size_t keylen, const void *salt,
-    size_t saltlen, const void *personal, size_t personallen, const vulfsjor_tree *tree) {
-    if (!S) return -1;
-    memset(S, 0, sizeof *S);
-    if (!tree || (!key && keylen) || (!salt && saltlen) || (!personal && personallen)) return -1;
-    return blake2_c_blake2s_init_node(S, outlen, vulfsjor_text(key), keylen, vulfsjor_text(salt),
-                                       saltlen, vulfsjor_text(personal), personallen, tree->fanout,
-                                       tree->depth, tree->leaf_length, tree->node_offset,
-                                       tree->node_depth, tree->inner_length);
-}
-
-static inline int vulfsjor_blake2s_init_param(vulfsjor_blake2s_state *S,
-                                              const vulfsjor_blake2s_param *P) {
-    if (!S) return -1;
-    if (!P) return vulfsjor_blake2s_init(S, 0);
-    blake2_c_blake2s_init_block_at(S, (const uint8_t *)P, sizeof *P);
-    return S->output_size ? 0 : -1;
-}
-
-static inline int vulfsjor_blake2s_update(vulfsjor_blake2s_state *S, const void *in, size_t inlen) {
-    if (!S || (!in && inlen)) return -1;
-    return blake2_c_blake2s_update(S, vulfsjor_text(in), inlen);
-}
-
-static inline int vulfsjor_blake2s_final(vulfsjor_blake2s_state *S, void *out, size_t outlen) {
-    if (!S || !out) return -1;
-    return blake2_c_blake2s_final(S, (uint8_t *)out, outlen);
-}
-
-static inline int vulfsjor_blake2s_verify(vulfsjor_blake2s_state *S, const void *tag,
-                                          size_t taglen) {
-    if (!S || (!tag && taglen)) return -1;
-    return blake2_c_blake2s_verify(S, vulfsjor_text(tag), taglen);
-}
-
-static inline int vulfsjor_blake2s_set_last_node(vulfsjor_blake2s_state *S, int on) {
-    if (!S) return -1;
-    return blake2_c_blake2s_set_last_node(S, on != 0);
-}
-
-static inline int vulfsjor_blake2s_reset(vulfsjor_blake2s_state *S) {
-    if (!S) return -1;
-    return blake2_c_blake2s_reset(S);
-}
-
-static inline void vulfsjor_blake2s_wipe(vulfsjor_blake2s_state *S) {
-    if (S) blake2_c_blake2s_wipe(S);
-}
-
-static inline int vulfsjor_blake2s(void *out, size_t outlen, const void *in, size_t inlen,
-                                   const void *key, size_t keylen) {
-    if (!out || (!in && inlen) || (!key && keylen)) return -1;
-    if (!keylen && outlen == VULFSJOR_BLAKE2S_OUTBYTES) {
-        blake2_c_blake2s256(vulfsjor_text(in), inlen, (uint8_t *)out);
-        return 0;
-    }
-    return blake2_c_blake2s((uint8_t *)out, outlen, vulfsjor_text(in), inlen, vulfsjor_text(key),
-                            keylen);
+/* The bytes of the root that the state will give, 1 to 64; 0 where it is null or gives none. */
+static inline size_t vulfsjor_tree_digest_size(const vulfsjor_tree_state *S) {
+    return S ? blake2_c_tree_digest_size(S) : 0;
 }
 
 #ifdef __cplusplus

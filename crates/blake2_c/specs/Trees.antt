@@ -1,5 +1,5 @@
 -- What the exports on trees are given.
-use Rattle.std.specs.Prelude.{◌≡◌, ℕ, ◌+◌, ◌^◌, ◌<◌, ◌≤◌, ◌⊎◌}
+use Rattle.std.specs.Prelude.{ℕ, ◌+◌, ◌^◌, ◌≤◌, ◌⊎◌}
 use Rattle.blake2_words.specs.Hash.{Tree}
 
 -- the place of these numbers, in the order of the parameter block (the BLAKE2 document, 2.8)
@@ -12,12 +12,6 @@ place fanout depth leaf_length node_offset node_depth inner_length = record {
   node_depth = node_depth;
   inner_length = inner_length;
 }
-
--- a salt or persona of so many bytes, leaves of that length or a message of n bytes are none that
--- the tree of two levels takes
-abbrev pub IsRefusedTree : ℕ → ℕ → ℕ → ℕ → Type 0
-IsRefusedTree salt persona leaf_length n =
-    (16 < salt) ⊎ (16 < persona) ⊎ (leaf_length ≡ 0) ⊎ (2 ^ 58 ≤ n)
 
 -- a state of the tree gives no root, or can't count n bytes more
 abbrev pub IsUntakableTree : Type 0 → ℕ → ℕ → Type 0

@@ -1,8 +1,6 @@
 //! BLAKE2s with sizes that are chosen as the program runs.
-ghost use Rattle.std.specs.Prelude.{◌≡◌, ◌≢◌, ◌++◌, ◌⊎◌, ◌↔◌, [], length, drop, slice_index, pos};
-ghost use Rattle.std.specs.Prelude.{negsuc};
-ghost use Rattle.std.specs.Borrow.{full_share, sem};
-ghost use Rattle.std.specs.Ptr.{lies_at, room_at};
+ghost use Rattle.std.specs.Prelude.{◌≡◌, ◌≢◌, ◌++◌, ◌⊎◌, [], length, drop, slice_index, pos};
+ghost use Rattle.std.specs.Prelude.{negsuc, None};
 ghost use Rattle.blake2.specs.Family.{blake2s};
 ghost use Rattle.blake2.specs.States.{digest_of, node_digest_of};
 ghost use Rattle.blake2_words.specs.Hash.{AdmitsTree, sequential};
@@ -11,14 +9,19 @@ ghost use Rattle.blake2_plain.specs.Arguments.{given_key, given_count, IsRefused
 ghost use Rattle.blake2_plain.specs.Blake2s.{IsReady, meaning, zeros};
 ghost use Rattle.blake2_plain.specs.Blocks.{block_digest, IsRefusedBlock};
 ghost use Rattle.blake2_plain.specs.States.{is_on};
-ghost use Rattle.blake2_plain.specs.contracts.blake2s.State.{the_row};
-ghost use Rattle.blake2_plain.specs.declared.blake2s.State.{State as Made};
-ghost use Rattle.blake2_c.specs.Blake2s.{IsMade};
 ghost use Rattle.blake2_c.specs.Status.{Answers, IsTooLong, IsUntakable, IsUngivable};
 ghost use Rattle.blake2_c.specs.Trees.{place};
 
-use blake2::Tree;
+use blake2::{Blake2s256, Digest, Tree};
 use blake2_plain::blake2s::State;
+
+// The digest of 32 bytes under no key, which needs no state.
+fn write_longest(out: &mut [u8], input: &[u8])
+    requires { length out.old ≡ 32 }
+    ensures { out.new ≡ digest_of blake2s 32 [] [] None input.now }
+{
+    out.copy_from_slice(&Blake2s256::digest(input));
+}
 
 /// Writes the digest of the input in as many bytes as `out` has, 1 to 32, under a key of up to 32
 /// bytes (none is no key; RFC 7693, 3.3). Answers 0, or -1 where a length is not among these or the
@@ -31,6 +34,10 @@ pub extern "C" fn blake2_c_blake2s(out: &mut [u8], input: &[u8], key: &[u8]) -> 
         → out.new ≡ digest_of blake2s (length out.old) [] [] (given_key key.now) input.now }
     ensures nothing { result ≡ negsuc 0 → out.new ≡ out.old }
 {
+    if out.len() == 32 && key.is_empty() {
+        write_longest(out, input);
+        return 0;
+    }
     match State::new(out.len(), key, &[], &[]) {
         Ok(mut run) => {
             if input.len() as u64 > u64::MAX - run.counted() {
@@ -44,44 +51,66 @@ pub extern "C" fn blake2_c_blake2s(out: &mut [u8], input: &[u8], key: &[u8]) -> 
     }
 }
 
-// The state of these parameters, or that of zeros.
-fn made(output_size: usize, key: &[u8], salt: &[u8], persona: &[u8]) -> State
-    ensures { IsMade (IsRefused blake2s output_size key.now salt.now persona.now) output_size
-        (node_digest_of blake2s output_size salt.now persona.now (given_key key.now) sequential)
-        (given_count blake2s key.now) result }
-{
-    match State::new(output_size, key, salt, persona) {
-        Ok(state) => state,
-        Err(_) => State::zeros(),
-    }
-}
-
-/// Puts a state of these parameters that has taken nothing into memory, which may hold nothing yet:
-/// a digest of 1 to 32 bytes, a key of up to 32 (none is no key), a salt and a persona of up to 8
-/// each. Where a length is not among these, it puts the state of zeros there, which no other call
-/// takes; its size is 0, and that of no other state is.
+/// Begins a run in this state, whatever it was: a digest of 1 to 32 bytes, a key of up to 32 (none
+/// is no key), a salt and a persona of up to 8 each. Answers 0, or -1 where a length is not among
+/// these; the state is then that of zeros, which no other call takes.
 #[unsafe(no_mangle)]
-pub unsafe extern "C" fn blake2_c_blake2s_init_at(
-    at: *mut State,
+pub extern "C" fn blake2_c_blake2s_init(
+    state: &mut State,
     output_size: usize,
     key: &[u8],
     salt: &[u8],
     persona: &[u8],
-)
-    requires* { sem 𝓛 (room_at the_row at) }
-    ensures* { ∃ₛ (λ (s : Made). sem 𝓛 (lies_at the_row full_share at s)
-        ∗ ⌜ IsMade (IsRefused blake2s output_size key.now salt.now persona.now) output_size
+) -> i32
+    ensures status { Answers result
+        (IsRefused blake2s output_size key.now salt.now persona.now) }
+    ensures ready { result ≡ pos 0 → IsReady state.new }
+    ensures size { result ≡ pos 0 → state.new.output_size ≡ output_size }
+    ensures fresh { result ≡ pos 0 → Fresh meaning
         (node_digest_of blake2s output_size salt.now persona.now (given_key key.now) sequential)
-        (given_count blake2s key.now) s ⌝) }
+        (given_count blake2s key.now) state.new }
+    ensures zeros { result ≡ negsuc 0 → state.new ≡ zeros }
 {
-    at.write(made(output_size, key, salt, persona));
+    match State::new(output_size, key, salt, persona) {
+        Ok(made) => {
+            *state = made;
+            0
+        }
+        Err(_) => {
+            state.wipe();
+            -1
+        }
+    }
+}
+
+/// The same under a key of 1 to 32 bytes, without salt and persona. Refused also where there is no
+/// key.
+#[unsafe(no_mangle)]
+pub extern "C" fn blake2_c_blake2s_init_key(
+    state: &mut State,
+    output_size: usize,
+    key: &[u8],
+) -> i32
+    ensures status { Answers result
+        ((key.now ≡ []) ⊎ IsRefused blake2s output_size key.now [] []) }
+    ensures ready { result ≡ pos 0 → IsReady state.new }
+    ensures size { result ≡ pos 0 → state.new.output_size ≡ output_size }
+    ensures fresh { result ≡ pos 0 → Fresh meaning
+        (node_digest_of blake2s output_size [] [] (given_key key.now) sequential)
+        (given_count blake2s key.now) state.new }
+    ensures zeros { result ≡ negsuc 0 → state.new ≡ zeros }
+{
+    if key.is_empty() {
+        state.wipe();
+        return -1;
+    }
+    blake2_c_blake2s_init(state, output_size, key, &[], &[])
 }
 
 /// Begins a run of a node of a tree of hashes in this state, whatever it was: of the parameters of
-/// `blake2_c_blake2s_init_at`, at the place of these numbers (the BLAKE2 document, 2.8 and 2.10).
-/// The last-node flag is off. Answers 0, or -1 where a length is not among those, the depth is 0,
-/// or the inner length more than 32, or the node offset is 2^48 or more; the state is then that of
-/// zeros.
+/// `blake2_c_blake2s_init`, at the place of these numbers (the BLAKE2 document, 2.8 and 2.10). The
+/// last-node flag is off. Answers 0, or -1 where a length is not among those, the depth is 0, the
+/// inner length more than 32, or the node offset 2^48 or more; the state is then that of zeros.
 #[unsafe(no_mangle)]
 pub extern "C" fn blake2_c_blake2s_init_node(
     state: &mut State,
@@ -115,8 +144,8 @@ pub extern "C" fn blake2_c_blake2s_init_node(
         node_depth,
         inner_length,
     };
-    state.wipe();
     if !State::admits_tree(&tree) {
+        state.wipe();
         return -1;
     }
     match State::new_with_tree(output_size, key, salt, persona, &tree) {
@@ -124,32 +153,37 @@ pub extern "C" fn blake2_c_blake2s_init_node(
             *state = made;
             0
         }
-        Err(_) => -1,
+        Err(_) => {
+            state.wipe();
+            -1
+        }
     }
 }
 
-// The state of this parameter block, or that of zeros.
-fn made_from_block(block: &[u8]) -> State
-    ensures { IsMade (IsRefusedBlock blake2s block.now) (slice_index block.now 0)
-        (block_digest blake2s block.now) 0 result }
+/// Begins a run in this state, whatever it was, from a parameter block of 32 bytes (the BLAKE2
+/// document, 2.8), whatever stands in its fields but a digest of 0 or more than 32 bytes or a key of
+/// more than 32. Where it names a key, the key's block, padded with zeros to 64 bytes, is the
+/// caller's to give as the first input. Answers 0, or -1 where the block is none of these; the state
+/// is then that of zeros.
+#[unsafe(no_mangle)]
+pub extern "C" fn blake2_c_blake2s_init_block(state: &mut State, block: &[u8]) -> i32
+    ensures status { Answers result (IsRefusedBlock blake2s block.now) }
+    ensures ready { result ≡ pos 0 → IsReady state.new }
+    ensures size { result ≡ pos 0 → state.new.output_size ≡ slice_index block.now 0 }
+    ensures fresh { result ≡ pos 0
+        → Fresh meaning (block_digest blake2s block.now) 0 state.new }
+    ensures zeros { result ≡ negsuc 0 → state.new ≡ zeros }
 {
     match State::from_block(block) {
-        Ok(state) => state,
-        Err(_) => State::zeros(),
+        Ok(made) => {
+            *state = made;
+            0
+        }
+        Err(_) => {
+            state.wipe();
+            -1
+        }
     }
-}
-
-/// The same of a parameter block of 32 bytes (the BLAKE2 document, 2.8), whatever stands in its
-/// fields but a digest of 0 or more than 32 bytes or a key of more than 32. Where it names a key,
-/// the key's block, padded with zeros to 64 bytes, is the caller's to give as the first input.
-#[unsafe(no_mangle)]
-pub unsafe extern "C" fn blake2_c_blake2s_init_block_at(at: *mut State, block: &[u8])
-    requires* { sem 𝓛 (room_at the_row at) }
-    ensures* { ∃ₛ (λ (s : Made). sem 𝓛 (lies_at the_row full_share at s)
-        ∗ ⌜ IsMade (IsRefusedBlock blake2s block.now) (slice_index block.now 0)
-        (block_digest blake2s block.now) 0 s ⌝) }
-{
-    at.write(made_from_block(block));
 }
 
 /// Takes the input after all that was taken before. Answers 0, or -1 where the state is not ready
@@ -203,18 +237,17 @@ pub extern "C" fn blake2_c_blake2s_verify(state: &mut State, tag: &[u8]) -> i32
     ensures wiped { IsReady state.old → state.new ≡ zeros }
     ensures same { (¬ IsReady state.old) → state.new ≡ state.old }
 {
-    if !state.is_ready() {
-        return -1;
+    let is_ready = state.is_ready();
+    let is_digest = is_ready && state.is_digest(tag);
+    if is_ready {
+        state.wipe();
     }
-    let is_digest = state.is_digest(tag);
-    state.wipe();
     if is_digest { 0 } else { -1 }
 }
 
 /// Sets the last-node flag of the state, or clears it where `on` is 0: it says that this is the
-/// last node of its level in a tree of hashes (the BLAKE2 document, 2.10). A reset keeps it.
-/// Answers 0, or
-/// -1 where the state is not ready, and then stays as it is.
+/// last node of its level in a tree of hashes (the BLAKE2 document, 2.10). A reset keeps it. Answers
+/// 0, or -1 where the state is not ready, and then stays as it is.
 #[unsafe(no_mangle)]
 pub extern "C" fn blake2_c_blake2s_set_last_node(state: &mut State, on: u32) -> i32
     ensures status { Answers result (¬ IsReady state.old) }
@@ -253,4 +286,25 @@ pub extern "C" fn blake2_c_blake2s_wipe(state: &mut State)
     ensures { state.new ≡ zeros }
 {
     state.wipe();
+}
+
+/// The bytes of the state's digest, 1 to 32; 0 where the state is not ready.
+#[unsafe(no_mangle)]
+pub extern "C" fn blake2_c_blake2s_digest_size(state: &State) -> usize
+    ensures ready { IsReady state.now → result ≡ state.now.output_size }
+    ensures unready { (¬ IsReady state.now) → result ≡ 0 }
+{
+    if state.is_ready() {
+        state.output_size
+    } else {
+        0
+    }
+}
+
+/// The bytes of a state.
+#[unsafe(no_mangle)]
+pub extern "C" fn blake2_c_blake2s_state_size() -> usize
+    ensures { result ≡ 232 }
+{
+    size_of::<State>()
 }

@@ -5,35 +5,32 @@
 //!
 //! No pointer is null, not even that of no bytes, each text is as long as its length says, and what
 //! a function writes overlaps nothing else that it is given. A text is a pointer and a length in
-//! bytes, and the pointer of `*mut State` may be to memory that holds nothing yet.
+//! bytes. A state is memory of written bytes, whatever they are.
 #![tactic(auto)]
 
-ghost use Rattle.std.specs.Prelude.{◌≡◌, ◌≢◌, [], None};
-ghost use Rattle.blake2.specs.Family.{blake2b, blake2s};
-ghost use Rattle.blake2.specs.States.{digest_of};
+ghost use Rattle.std.specs.Prelude.{◌≡◌, ◌≢◌};
 ghost use Rattle.blake2_c.specs.Status.{Answers};
 
 mod blake2b;
 mod blake2s;
 mod trees;
 
-use blake2::{Blake2b512, Blake2s256, Digest};
 use blake2_digest::is_same;
 
-/// Writes the BLAKE2b digest of the message in 64 bytes (RFC 7693, 3.3).
-#[unsafe(no_mangle)]
-pub extern "C" fn blake2_c_blake2b512(message: &[u8], out: &mut [u8; 64])
-    ensures { out.new ≡ digest_of blake2b 64 [] [] None message.now }
-{
-    *out = Blake2b512::digest(message);
-}
+// The version of the library (https://semver.org), each number below 256. It stands here alone:
+// the header and the file for pkg-config name the same, and their tests compare.
+const MAJOR: u32 = 0;
 
-/// Writes the BLAKE2s digest of the message in 32 bytes (RFC 7693, 3.3).
+const MINOR: u32 = 1;
+
+const PATCH: u32 = 0;
+
+/// The version of the library: 65,536 times its first number, 256 times its second, and its third.
 #[unsafe(no_mangle)]
-pub extern "C" fn blake2_c_blake2s256(message: &[u8], out: &mut [u8; 32])
-    ensures { out.new ≡ digest_of blake2s 32 [] [] None message.now }
+pub extern "C" fn blake2_c_version() -> u32
+    ensures { result ≡ 256 }
 {
-    *out = Blake2s256::digest(message);
+    MAJOR * 65536 + MINOR * 256 + PATCH
 }
 
 /// Whether the texts are equal: 0, or -1 where they are not. It looks at all bytes of texts of one

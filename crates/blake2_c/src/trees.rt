@@ -1,66 +1,43 @@
 //! The root of a tree of hashes with two levels over BLAKE2b, as the crate `blake2_tree` has it.
-ghost use Rattle.std.specs.Prelude.{◌≡◌, ℕ, ◌↔◌, List, [], ◌++◌, length, drop, pos, negsuc};
-ghost use Rattle.std.specs.Prelude.{IsTrue};
+ghost use Rattle.std.specs.Prelude.{◌≡◌, ℕ, ◌≤◌, ◌^◌, ◌⊎◌, List, [], ◌++◌, length, drop, pos};
+ghost use Rattle.std.specs.Prelude.{negsuc};
 ghost use Rattle.blake2_tree.specs.TreeRoot.{tree_parameters, tree_root as root_of};
 ghost use Rattle.blake2_plain.specs.TreeStates.{IsReady, IsRefused, Took, future, count, zeros};
 ghost use Rattle.blake2_c.specs.Status.{Answers, IsUngivable};
-ghost use Rattle.blake2_c.specs.Trees.{IsRefusedTree, IsUntakableTree};
+ghost use Rattle.blake2_c.specs.Trees.{IsUntakableTree};
 
 use blake2_plain::tree::TreeState;
-use blake2_tree::tree_root;
 
-// Whether the tree takes these.
-fn is_taken(message: &[u8], salt: &[u8], persona: &[u8], leaf_length: u32) -> bool
-    ensures { IsTrue result ↔ (¬ IsRefusedTree (length salt.now) (length persona.now)
-        leaf_length (length message.now)) }
-{
-    salt.len() <= 16 && persona.len() <= 16 && leaf_length > 0 && (message.len() as u64) < 1 << 58
-}
-
-/// Writes the root of the message in 64 bytes, where a leaf has `leaf_length` bytes, 1 at least
-/// (the BLAKE2 document, 2.10). Salt and persona have up to 16 bytes each, and the message fewer
-/// than 2^58. Answers 0, or -1 where one of these is not so; nothing is then written.
+/// Writes the root of the input in as many bytes as `out` has, 1 to 64, where a leaf has
+/// `leaf_length` bytes, 1 at least (the BLAKE2 document, 2.10). Salt and persona have up to 16 bytes
+/// each, and the input fewer than 2^58. Answers 0, or -1 where one of these is not so; nothing is
+/// then written.
 #[unsafe(no_mangle)]
-pub extern "C" fn blake2_c_tree_root512(
-    message: &[u8],
+pub extern "C" fn blake2_c_tree_root(
+    out: &mut [u8],
+    input: &[u8],
     salt: &[u8],
     persona: &[u8],
     leaf_length: u32,
-    out: &mut [u8; 64],
 ) -> i32
     ensures status { Answers result
-        (IsRefusedTree (length salt.now) (length persona.now) leaf_length (length message.now)) }
-    ensures root { result ≡ pos 0
-        → out.new ≡ root_of 64 (tree_parameters salt.now persona.now leaf_length) message.now }
+        (IsRefused (length out.old) (length salt.now) (length persona.now) leaf_length
+        ⊎ (2 ^ 58 ≤ length input.now)) }
+    ensures root { result ≡ pos 0 → out.new ≡ root_of (length out.old)
+        (tree_parameters salt.now persona.now leaf_length) input.now }
     ensures nothing { result ≡ negsuc 0 → out.new ≡ out.old }
 {
-    if !is_taken(message, salt, persona, leaf_length) {
-        return -1;
+    match TreeState::new(out.len(), salt, persona, leaf_length) {
+        Ok(mut run) => {
+            if input.len() as u64 >= 1 << 58 {
+                return -1;
+            }
+            run.update(input);
+            run.write_root(out);
+            0
+        }
+        Err(_) => -1,
     }
-    *out = tree_root(salt, persona, leaf_length, message);
-    0
-}
-
-/// The same in 32 bytes.
-#[unsafe(no_mangle)]
-pub extern "C" fn blake2_c_tree_root256(
-    message: &[u8],
-    salt: &[u8],
-    persona: &[u8],
-    leaf_length: u32,
-    out: &mut [u8; 32],
-) -> i32
-    ensures status { Answers result
-        (IsRefusedTree (length salt.now) (length persona.now) leaf_length (length message.now)) }
-    ensures root { result ≡ pos 0
-        → out.new ≡ root_of 32 (tree_parameters salt.now persona.now leaf_length) message.now }
-    ensures nothing { result ≡ negsuc 0 → out.new ≡ out.old }
-{
-    if !is_taken(message, salt, persona, leaf_length) {
-        return -1;
-    }
-    *out = tree_root(salt, persona, leaf_length, message);
-    0
 }
 
 /// Begins a run of the tree in this state, whatever it was: a root of 1 to 64 bytes, a salt and a
@@ -84,13 +61,15 @@ pub extern "C" fn blake2_c_tree_init(
     ensures nothing { result ≡ pos 0 → count state.new ≡ 0 }
     ensures zeros { result ≡ negsuc 0 → state.new ≡ zeros }
 {
-    state.wipe();
     match TreeState::new(output_size, salt, persona, leaf_length) {
         Ok(made) => {
             *state = made;
             0
         }
-        Err(_) => -1,
+        Err(_) => {
+            state.wipe();
+            -1
+        }
     }
 }
 
@@ -142,4 +121,25 @@ pub extern "C" fn blake2_c_tree_wipe(state: &mut TreeState)
     ensures { state.new ≡ zeros }
 {
     state.wipe();
+}
+
+/// The bytes of the state's root, 1 to 64; 0 where the state is not ready.
+#[unsafe(no_mangle)]
+pub extern "C" fn blake2_c_tree_digest_size(state: &TreeState) -> usize
+    ensures ready { IsReady state.now → result ≡ state.now.root.output_size }
+    ensures unready { (¬ IsReady state.now) → result ≡ 0 }
+{
+    if state.is_ready() {
+        state.root.output_size
+    } else {
+        0
+    }
+}
+
+/// The bytes of a state.
+#[unsafe(no_mangle)]
+pub extern "C" fn blake2_c_tree_state_size() -> usize
+    ensures { result ≡ 912 }
+{
+    size_of::<TreeState>()
 }
