@@ -1,10 +1,11 @@
 #!/usr/bin/env python3
-"""Checks the names that the documents give against the sources.
+"""Checks the names and numbers that the documents give against the sources.
 
 - docs/DEFINITIONS.md: each word stands in the file of its row, and each public word of a file of specs/ has
   a row.
 - docs/CONTRACTS.md: each function, clause, definition and must-fail edit in the last column of a table
   stands in the crate of its section.
+- docs/SPECIFICATION.md: its numbers, tables, fields, KINDs, nodes and faults are those of the definitions.
 - The README and all pages: each link to a file leads to one.
 
 Prints what is wrong, a line each, and ends with status 1 where anything is.
@@ -107,6 +108,109 @@ def in_sources(words, crate):
                for word in re.split(r"[:. ]+", words) if word)
 
 
+def values(path, name):
+    """What each case of a definition by cases gives, as `name case = value` lines say it."""
+    text = read(path)
+    cases = re.findall(rf"^{name} \(?([\w.]+)[^=\n]*\)? =([^=]*?)(?=^\S|^ *--|\Z)", text, re.MULTILINE | re.DOTALL)
+    return {case: " ".join(value.split()) for case, value in cases}
+
+
+def listed(value):
+    """The numbers of a list in a definition."""
+    return [int(number, 0) for number in re.findall(r"0x[0-9a-f]+|[0-9]+", value)]
+
+
+FAMILY, TASKS = "crates/blake2_rows/specs/Family.antt", "crates/b2_commands/specs/Tasks.antt"
+
+
+def family_rows():
+    """The rows of docs/SPECIFICATION.md that have the numbers of the families."""
+    of = {name: values(FAMILY, name) for name in (
+        "word", "block_bytes", "rounds", "rotations", "key_bytes", "output_bytes", "salt_bytes", "iv")}
+
+    def row(label, name, told=str):
+        return f"| {label} | " + " | ".join(told(of[name][family]) for family in ("blake2b", "blake2s")) + " |"
+    yield row("w, bits of a word", "word", lambda width: width[1:])
+    yield row("B, bytes of a block", "block_bytes")
+    yield row("rounds of F", "rounds")
+    for i in range(4):
+        yield row(f"R{i + 1}", "rotations", lambda value, place=i: str(listed(value)[place]))
+    yield row("K, bytes of the longest key", "key_bytes")
+    yield row("M, bytes of the longest digest", "output_bytes")
+    yield row("S, bytes of salt and of persona", "salt_bytes")
+    pairs = zip(*(listed(of["iv"][family]) for family in ("blake2b", "blake2s")))
+    for i, (b, s) in enumerate(pairs):
+        yield f"| {i} | {b:016x} | {s:08x} |"
+    sigma = re.search(r"^sigma =\n(.*)", read(FAMILY), re.MULTILINE | re.DOTALL)[1]
+    for i, line in enumerate(re.findall(r"\(([^)]*)\)", sigma)):
+        yield f"| {i} | {' '.join(map(str, listed(line)))} |"
+
+
+def field_rows():
+    """The beginnings of the rows that have the fields of the parameter block."""
+    of = {name: values(FAMILY, name) for name in ("offset_bytes", "salt_bytes", "reserved_bytes")}
+    places = {}
+    for family in ("blake2b", "blake2s"):
+        offset, salt, reserved = (int(of[name][family]) for name in ("offset_bytes", "salt_bytes", "reserved_bytes"))
+        at = 0
+        for name, length in (("digest length", 1), ("key length", 1), ("fanout", 1), ("depth", 1), ("leaf length", 4),
+                             ("node offset", offset), ("node depth", 1), ("inner length", 1), ("reserved", reserved),
+                             ("salt", salt), ("persona", salt)):
+            places.setdefault(name, []).append(f"{at}..{at + length}" if length else "none")
+            at += length
+    for name, (b, s) in places.items():
+        yield f"| {name} | {b} | {s} |"
+
+
+def program_rows():
+    """The rows that have the KINDs and the faults."""
+    names = {"Blake2b": "BLAKE2b", "Blake2s": "BLAKE2s"}
+    words = dict((case, word) for word, case in re.findall(
+        r'codes "([bs][0-9]+)"\) then Ok (Blake2[bs][0-9]+)', read("crates/b2_commands/specs/Words.antt")))
+    for case, size in (values(TASKS, "size_of") | values(TASKS, "compared_size")).items():
+        if case in words:
+            common = case in values(TASKS, "size_of")
+            taken = "all" if common and case.startswith("Blake2b") else "all but `tree`" if common else "`witness`"
+            yield f"| `{words[case]}` | {names[case[:7]]} | {size} | {taken} |"
+    texts, status = (values("crates/b2_commands/specs/Faults.antt", name) for name in ("fault_text", "status_of"))
+    lines = values("crates/b2_commands/specs/Faults.antt", "line_number")
+    for case, text in texts.items():
+        if case != "WriteFailed":
+            place = "line N: " if lines.get(case, "").startswith("Some") else ""
+            cause = re.search(r'"(.*)"', text)[1]
+            yield f"| `b2: {place}{cause}` | {status[case]} |"
+
+
+def node_words():
+    """Sentences that have the numbers of a tree's nodes and the limits of the program."""
+    tree = read("crates/blake2_tree/specs/TreeRoot.antt")
+    number = {name: re.search(rf"  {name} = ([0-9]+);", tree) for name in ("fanout", "depth", "inner_length")}
+    yield (f"fanout {number['fanout'][1]}, depth {number['depth'][1]}, leaf length L, "
+           f"inner length {number['inner_length'][1]}")
+    root = re.search(r"root_over p digests = node p ([0-9]+) ([0-9]+) true", tree)
+    yield f"| root | N | {root[1]} | {root[2]} | on |"
+    size, depth = re.search(r"digest blake2b ([0-9]+) \(leaf_input", tree), re.search(r"node p i ([0-9]+) ", tree)
+    yield f"| leaf i | {size[1]} | i | {depth[1]} | on at the last leaf alone |"
+    limit = re.search(r"IsTooLongFor \(to_tree [^)]*\) input = 2 \^ ([0-9]+) ≤", read(TASKS))
+    yield f"a message of fewer than 2^{limit[1]} bytes"
+    yield f"`tree` 2^{limit[1]} bytes or more"
+    count = re.search(r"2 \^ ([0-9]+) ≤ key_count", read(TASKS))
+    yield f"with the key's block, of 2^{count[1]} or more"
+    digits = re.search(r"nat_lt \(length digits\) ([0-9]+)", read("crates/b2_commands/specs/Scripts.antt"))
+    yield f"1 to {int(digits[1]) - 1} decimal digits with no leading zero"
+    leaf = re.search(r"digits_value 10 digits\) \(2 \^ ([0-9]+)\)", read("crates/b2_commands/specs/Words.antt"))
+    yield f"a decimal number of 1 to {2 ** int(leaf[1]) - 1}"
+    yield f"a leaf length L of 1 to 2^{leaf[1]} - 1"
+
+
+def check_specification():
+    """What is wrong in docs/SPECIFICATION.md."""
+    page = " ".join(read("docs/SPECIFICATION.md").split())
+    for told in [*family_rows(), *field_rows(), *program_rows(), *node_words()]:
+        if told not in page:
+            yield f"SPECIFICATION: the definitions say {told!r}"
+
+
 def check_links():
     """Which links of the documents lead nowhere."""
     for page in ["README.md"] + paths("docs/*.md") + paths("crates/*/*.md"):
@@ -118,8 +222,8 @@ def check_links():
 
 def main():
     Parser(description=__doc__.split("\n\n")[0]).parse_args()
-    wrong = [*check_definitions(), *check_contracts(), *check_links()]
-    print("\n".join(wrong) if wrong else "the names of the documents stand in the sources")
+    wrong = [*check_definitions(), *check_contracts(), *check_specification(), *check_links()]
+    print("\n".join(wrong) if wrong else "the names and numbers of the documents stand in the sources")
     return 1 if wrong else 0
 
 

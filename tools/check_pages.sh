@@ -1,19 +1,27 @@
 #!/usr/bin/env bash
-# Compares the pages with the sources: tools/check_calling.py those that quote callers and contracts, and
-# tools/check_docs.py the names that the documents give.
+# Compares the pages with the sources: tools/check_calling.py those that quote callers and contracts,
+# tools/check_docs.py the names and numbers that the documents give, and tools/check_specification.py the program
+# with one that was written from docs/SPECIFICATION.md alone.
 #
-# usage: tools/check_pages.sh
+# usage: tools/check_pages.sh [PROGRAM]
 #
-# Both are skipped where there is no python3, and a line says so. The last line counts, and the status is 1
+# PROGRAM is crates/b2/out/b2 where it is left out, which `rt ci` builds. All are skipped where there is no
+# python3, and the last where there is no such program; a line says so. The last line counts, and the status is 1
 # where one failed.
 set -u
 tools=$(dirname "$(readlink -f "$0")")
+program=${1:-$(dirname "$tools")/crates/b2/out/b2}
 passed=0 failed=0 skipped=0
-for script in check_calling.py check_docs.py; do
-    if ! command -v python3 >/dev/null; then
+for script in check_calling.py check_docs.py check_specification.py; do
+    given=()
+    [ "$script" != check_specification.py ] || given=(--program "$program")
+    if [ ${#given[@]} -gt 0 ] && [ ! -x "$program" ]; then
+        echo "skipped: tools/$script (no program at $program)"
+        skipped=$((skipped + 1))
+    elif ! command -v python3 >/dev/null; then
         echo "skipped: tools/$script (no python3)"
         skipped=$((skipped + 1))
-    elif python3 "$tools/$script"; then
+    elif python3 "$tools/$script" "${given[@]}"; then
         echo "passed: tools/$script"
         passed=$((passed + 1))
     else
