@@ -16,7 +16,7 @@ pub enum Fault {
     WrongWords,
     /// Text that is not an even number of hexadecimal digits.
     WrongHex,
-    /// A key, salt or persona of a length that the MAC refuses.
+    /// A key, salt or persona of a length that the MAC or the tree refuses.
     WrongLength,
     /// The script's line of this number, from 1, is none.
     WrongLine(usize),
@@ -24,7 +24,7 @@ pub enum Fault {
     NoSuchSlot(usize),
     /// The update of this line would bring its slot's count to 2^64 bytes.
     LineTooLong(usize),
-    /// Input that would bring the count to 2^64 bytes.
+    /// Input that would bring the count to 2^64 bytes, or for `tree` input of 2^58 bytes or more.
     TooLong,
     /// Standard input answered an error.
     ReadFailed,

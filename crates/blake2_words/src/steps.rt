@@ -11,7 +11,8 @@ mod reader;
 pub use crate::params::Tree;
 
 /// What a hash is of, but for its size. The module of each family has a function `accepts`, which
-/// tells whether the parts are as long as that family takes them.
+/// tells whether the parts are as long as that family takes them, and the place in a tree is one
+/// that it has.
 #[derive(Clone, Copy)]
 pub struct Input<'a> {
     /// At most S bytes; zeros behind it change nothing (the BLAKE2 document, 2.8).
@@ -20,7 +21,9 @@ pub struct Input<'a> {
     pub persona: &'a [u8],
     /// Nothing, or 1 to 64 bytes in BLAKE2b and 1 to 32 bytes in BLAKE2s (RFC 7693, 2.1).
     pub key: Option<&'a [u8]>,
-    /// The place in a tree; [`Tree::sequential`] for a hash which is the whole tree.
+    /// The place in a tree, one that the family's `admits_tree` is true of: depth at least 1, inner
+    /// length at most 64 (BLAKE2s: 32), and for BLAKE2s a node offset below 2^48.
+    /// [`Tree::sequential`] for a hash which is the whole tree.
     pub tree: Tree,
     /// Whether this is the last node on its level of a tree (the BLAKE2 document, 2.10); `false`
     /// for a hash which is the whole tree.

@@ -15,7 +15,8 @@ use std::alloc::{AllocError, Global};
 
 impl Blake2sVarCore {
     /// Whether BLAKE2s takes the input: salt and persona have at most 8 bytes each, the key is
-    /// absent or has 1 to 32, and fewer than 2^64 bytes are counted.
+    /// absent or has 1 to 32, `admits_tree` is true of the place in a tree, and fewer than 2^64
+    /// bytes are counted.
     pub fn accepts(input: &Input<'_>) -> bool
         ensures { IsTrue result ↔ Accepts blake2s (input_of input.now) }
     {

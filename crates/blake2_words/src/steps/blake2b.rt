@@ -15,8 +15,8 @@ use crate::words::blake2b::{to_bytes, to_rows};
 use std::alloc::{AllocError, Global};
 
 /// Whether BLAKE2b takes the input: salt and persona have at most 16 bytes, the key is absent or
-/// has 1 to 64 bytes, and the bytes of the message, with 128 for a key, are less than 2^64 (RFC
-/// 7693, 2.1).
+/// has 1 to 64 bytes, `admits_tree` is true of the place in a tree, and the bytes of the message,
+/// with 128 for a key, are less than 2^64 (RFC 7693, 2.1; the BLAKE2 document, 2.8).
 pub fn accepts(input: &Input<'_>) -> bool
     ensures { IsTrue result ↔ Accepts blake2b (input_of input.now) }
 {

@@ -15,8 +15,8 @@ use crate::words::blake2s::{to_bytes, to_rows};
 use std::alloc::{AllocError, Global};
 
 /// Whether BLAKE2s takes the input: salt and persona have at most 8 bytes, the key is absent or
-/// has 1 to 32 bytes, and the bytes of the message, with 64 for a key, are less than 2^64 (RFC
-/// 7693, 2.1).
+/// has 1 to 32 bytes, `admits_tree` is true of the place in a tree, and the bytes of the message,
+/// with 64 for a key, are less than 2^64 (RFC 7693, 2.1; the BLAKE2 document, 2.8).
 pub fn accepts(input: &Input<'_>) -> bool
     ensures { IsTrue result ↔ Accepts blake2s (input_of input.now) }
 {
