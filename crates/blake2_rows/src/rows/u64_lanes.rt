@@ -17,13 +17,13 @@ use std::simd::Simd;
 use std::simd::prelude::*;
 
 // R1 to R4: by how many bits G rotates a word to the right, in its order (RFC 7693, section 2.1).
-const R1: u32 = 32;
+pub(super) const R1: u32 = 32;
 
-const R2: u32 = 24;
+pub(super) const R2: u32 = 24;
 
-pub(super) const R3: u32 = 16;
+const R3: u32 = 16;
 
-const R4: u32 = 63;
+pub(super) const R4: u32 = 63;
 
 /// Four words of 64 bits, one a lane, in a vector. A contract sees the list of the four words,
 /// lane 0 first.
@@ -256,7 +256,7 @@ impl u64x4 {
 
     // The sum of three rows, lane by lane, modulo 2^64.
     #[inline(always)]
-    fn sum_of(a: Self, b: Self, x: Self) -> Self
+    pub(super) fn sum_of(a: Self, b: Self, x: Self) -> Self
         ensures { result ≡ four (λ j.
             (slice_index a j + slice_index b j + slice_index x j) % 2 ^ bits (word blake2b)) }
     {
@@ -269,14 +269,7 @@ impl u64x4 {
     // G in each lane, but for the last rotation of row d, by R3 bits: lane j of the six rows has
     // the words of the j-th mixing.
     #[inline(always)]
-    pub(super) fn mix(
-        a: Self,
-        b: Self,
-        c: Self,
-        d: Self,
-        x: Self,
-        y: Self,
-    ) -> (Self, Self, Self, Self)
+    fn mix(a: Self, b: Self, c: Self, d: Self, x: Self, y: Self) -> (Self, Self, Self, Self)
         ensures { (j : ℕ) → j < 4 → in_lane j (rows_rotated blake2b result)
             ≡ mix blake2b (in_lane j (a ∷ b ∷ c ∷ d ∷ [])) 0 1 2 3
             (slice_index x j) (slice_index y j) }
@@ -287,8 +280,8 @@ impl u64x4 {
         let b1 = (b ^ c1).rotate_right_const(R2);
         let a2 = Self::sum_of(a1, b1, y);
         let d2 = d1 ^ a2;
-        // `mix_each` turns row d by the same choice of bytes, which is then made once for both.
-        let c2 = c1 + d2.rotate_bytes();
+        // By shifts: built for x86-64-v2, a choice of bytes takes two instructions here.
+        let c2 = c1 + d2.rotate_right_const(R3);
         let b2 = (b1 ^ c2).rotate_right_const(R4);
         (a2, b2, c2, d2)
     }

@@ -1,14 +1,33 @@
 //! Four states of BLAKE2b at once, one a lane: sixteen rows hold them, row k having word k of
 //! each.
-ghost use Rattle.std.specs.Prelude.{◌≡◌, ℕ, ◌<◌, slice_index};
+ghost use Rattle.std.specs.Prelude.{◌≡◌, ℕ, ◌<◌, [], ◌∷◌, slice_index};
 ghost use Rattle.blake2_rows.specs.Family.{blake2b};
 ghost use Rattle.blake2_rows.specs.Round;
 ghost use Rattle.blake2_rows.specs.Round.{mix};
 ghost use Rattle.blake2_rows.specs.Lanes.{in_lane};
 
-use super::u64_lanes::u64x4;
+use super::u64_lanes::{R1, R2, R4, u64x4};
 
 impl u64x4 {
+    // G in each lane: lane j of the six rows has the words of the j-th mixing. Unlike `mix`, which
+    // serves the rows of one state, it keeps row d as it is turned by a choice of bytes.
+    #[inline(always)]
+    fn mix_lanes(a: Self, b: Self, c: Self, d: Self, x: Self, y: Self) -> (Self, Self, Self, Self)
+        ensures { (j : ℕ) → j < 4 → in_lane j (result.0 ∷ result.1 ∷ result.2 ∷ result.3 ∷ [])
+            ≡ mix blake2b (in_lane j (a ∷ b ∷ c ∷ d ∷ [])) 0 1 2 3
+            (slice_index x j) (slice_index y j) }
+    {
+        let a1 = Self::sum_of(a, b, x);
+        let d1 = (d ^ a1).rotate_right_const(R1);
+        let c1 = c + d1;
+        let b1 = (b ^ c1).rotate_right_const(R2);
+        let a2 = Self::sum_of(a1, b1, y);
+        let d2 = (d1 ^ a2).rotate_bytes();
+        let c2 = c1 + d2;
+        let b2 = (b1 ^ c2).rotate_right_const(R4);
+        (a2, b2, c2, d2)
+    }
+
     // G at the places `a`, `b`, `c` and `d` of each state, with lane j of `x` and of `y` in lane j
     // (RFC 7693, section 3.1).
     #[inline(always)]
@@ -17,11 +36,11 @@ impl u64x4 {
         ensures { (j : ℕ) → j < 4 → in_lane j v.new
             ≡ mix blake2b (in_lane j v.old) a b c d (slice_index x j) (slice_index y j) }
     {
-        let (va, vb, vc, vd) = Self::mix(v[a], v[b], v[c], v[d], x, y);
+        let (va, vb, vc, vd) = Self::mix_lanes(v[a], v[b], v[c], v[d], x, y);
         v[a] = va;
         v[b] = vb;
         v[c] = vc;
-        v[d] = vd.rotate_bytes();
+        v[d] = vd;
     }
 
     /// One round on each of four states: row k of `v` has their words k, and row k of `m` the

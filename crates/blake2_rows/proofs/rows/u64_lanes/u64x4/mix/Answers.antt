@@ -10,7 +10,7 @@ returns c = same_in_lanes 4 _ _ (
       c.rotate_right_const-b2.ensures,
       c.bitxor-3.ensures,
       c.add-c2.ensures,
-      c.rotate_bytes.ensures,
+      c.rotate_right_const.ensures,
       c.bitxor-d2.ensures,
       c.sum_of-a2.ensures,
       c.rotate_right_const-b1.ensures,

@@ -1,6 +1,5 @@
-use Rattle.std.proofs.Common.{◌≡◌, length, set, ap, ◌∙◌, arith, rules}
+use Rattle.std.proofs.Common.{◌≡◌, length, arith, rules}
 use Rattle.blake2_rows.specs.Family.{blake2b}
-use Rattle.blake2_rows.specs.Lanes.{in_lane}
 use Rattle.blake2_rows.proofs.Places.{mix_in_lane}
 use Rattle.blake2_rows.proofs.rows.u64_lanes.u64x4.mix_each.Goals as goal
 
@@ -9,8 +8,7 @@ returns c j h =
     let v = c.args.v.now in
     let long : length v ≡ 16 = search rules in
     let order = c.requires in
-    ap (λ row. in_lane j (set (set (set (set v c.args.a c.mix-va.result.0) c.args.b
-    c.mix-va.result.1) c.args.c c.mix-va.result.2) c.args.d row)) c.rotate_bytes.ensures
-    ∙ mix_in_lane blake2b v c.args.a c.args.b c.args.c c.args.d _ _ _ _ c.mix-va.result.0
-    c.mix-va.result.1 c.mix-va.result.2 _ j _ _ (order.0, order.1, order.2, omega arith)
-    (c.mix-va.ensures j h)
+    mix_in_lane blake2b v c.args.a c.args.b c.args.c c.args.d _ _ _ _ c.mix_lanes-va.result.0
+    c.mix_lanes-va.result.1 c.mix_lanes-va.result.2 c.mix_lanes-va.result.3 j _ _
+    (order.0, order.1, order.2, omega arith)
+    (c.mix_lanes-va.ensures j h)
