@@ -1,4 +1,5 @@
 //! Lanes and rounds.
+use blake2::digest::Wipe;
 use blake2::rows::{u32x4, u64x4};
 use std::test::Fail;
 
@@ -65,6 +66,16 @@ fn calculate_with_lanes(rt: HostRuntime) {
     assert_eq!(rt; gathered.to_bytes(), u64x4::new(15, 10, 10, 13).to_bytes());
     let bytes = u32x4::new(1, 2, 3, 4).to_bytes();
     assert_eq!(rt; bytes, [1u8, 0, 0, 0, 2, 0, 0, 0, 3, 0, 0, 0, 4, 0, 0, 0]);
+}
+
+#[test]
+fn wipe_lanes(rt: HostRuntime) {
+    let mut row = u32x4::new(1, 2, 3, 4);
+    row.wipe();
+    assert_eq!(rt; row.to_array(), [0; 4]);
+    let mut row = u64x4::new(1, 2, 3, 4);
+    row.wipe();
+    assert_eq!(rt; row.to_array(), [0; 4]);
 }
 
 #[test]

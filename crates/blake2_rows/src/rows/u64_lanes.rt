@@ -441,7 +441,9 @@ impl Wipe for u64x4 {
     ghost is_wiped = { λ row. row ≡ 0 ∷ 0 ∷ 0 ∷ 0 ∷ [] };
 
     #[inline(always)]
-    fn wipe(&mut self) {
+    fn wipe(&mut self)
+        ensures wiped { self.new ≡ 0 ∷ 0 ∷ 0 ∷ 0 ∷ [] }
+    {
         self.lanes = Simd::splat(0);
     }
 }
