@@ -12,7 +12,7 @@ use crate::contexts::blake2b::Blake2bContext;
 use crate::cores::blake2b::Blake2bVarCore;
 use blake2_digest::{
     BlockSizeUser, CustomizedInit, Digest, Duplicate, FixedOutput, FixedOutputReset, HashMarker,
-    LastNode, LazyBuffer, OutputSizeUser, Reset, Update, Wipe, ZeroizeOnDrop,
+    LastNode, LazyBuffer, OutputSizeUser, Reset, TreeNode, Update, Wipe, ZeroizeOnDrop,
 };
 use blake2_words::params::Tree;
 use std::alloc::AllocError;
@@ -100,6 +100,10 @@ impl<const N: usize> LastNode for Blake2b<N> {
     {
         self.context.set_last_node(on);
     }
+}
+
+impl<const N: usize> TreeNode for Blake2b<N> {
+    ghost set_changes_the_flag = { λ old on new is_set. is_set };
 }
 
 impl<const N: usize> Reset for Blake2b<N> {

@@ -12,7 +12,7 @@ use crate::contexts::blake2s::Blake2sContext;
 use crate::cores::blake2s::Blake2sVarCore;
 use blake2_digest::{
     BlockSizeUser, CustomizedInit, Digest, Duplicate, FixedOutput, FixedOutputReset, HashMarker,
-    LastNode, LazyBuffer, OutputSizeUser, Reset, Update, Wipe, ZeroizeOnDrop,
+    LastNode, LazyBuffer, OutputSizeUser, Reset, TreeNode, Update, Wipe, ZeroizeOnDrop,
 };
 use blake2_words::params::Tree;
 use std::alloc::AllocError;
@@ -100,6 +100,10 @@ impl<const N: usize> LastNode for Blake2s<N> {
     {
         self.context.set_last_node(on);
     }
+}
+
+impl<const N: usize> TreeNode for Blake2s<N> {
+    ghost set_changes_the_flag = { λ old on new is_set. is_set };
 }
 
 impl<const N: usize> Reset for Blake2s<N> {
