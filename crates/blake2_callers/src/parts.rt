@@ -1,15 +1,15 @@
 //! Callers of the parts that the hash functions are made of, and of what runs them.
-ghost use Rattle.std.specs.Prelude.{◌≡◌, [], None, Ok, IfOk};
+ghost use Rattle.std.specs.Prelude.{◌≡◌, ◌⊎◌, true, [], None, Ok, Err, IfOk, IfErr};
 ghost use Rattle.blake2_rows.specs.Family.{blake2b};
 ghost use Rattle.blake2_rows.specs.Rows.{lane_sums, lane_rotations};
-ghost use Rattle.blake2_words.specs.Hash.{compress, start, inner, Fits};
-ghost use Rattle.blake2_words.specs.Views.{given_parameters};
+ghost use Rattle.blake2_words.specs.Hash.{AdmitsTree, compress, start, inner, Fits};
+ghost use Rattle.blake2_words.specs.Views.{given_parameters, tree_of};
 ghost use Rattle.blake2_runs.specs.Play.{play_fresh};
-ghost use Rattle.blake2.specs.States.{digest_of};
+ghost use Rattle.blake2.specs.States.{digest_of, node_digest_of};
 
-use blake2::Blake2b512;
 use blake2::calls::{Call, ReplayFault, replay};
-use blake2::digest::Digest;
+use blake2::digest::{Digest, LastNode};
+use blake2::{Blake2b512, Tree};
 use blake2_rows::rows::u64x4;
 use blake2_words::params::{Parameters, blake2b as params};
 use blake2_words::words::{Flags, blake2b as words};
@@ -39,4 +39,23 @@ pub fn digests_of_calls(alloc: Global, calls: &[Call<'_>]) -> Result<Vec<[u8; 64
         ≡ Ok digests.items) }
 {
     replay(alloc, Blake2b512::new(), calls)
+}
+
+/// The digests that a list of calls answers on a hasher of the node at this place in a tree of
+/// hashes, the last of its level: each under the last-node flag, which no call of a list changes.
+pub fn digests_of_last_node(
+    alloc: Global,
+    tree: &Tree,
+    calls: &[Call<'_>],
+) -> Result<Vec<[u8; 64]>, ReplayFault>
+    requires { AdmitsTree blake2b (tree_of tree.now) }
+    ensures digests { let digest = node_digest_of blake2b 64 [] [] None (tree_of tree.now) true in
+        IfOk result (λ digests. play_fresh digest 0 calls.now ≡ Ok digests.items) }
+    ensures fault { let digest = node_digest_of blake2b 64 [] [] None (tree_of tree.now) true in
+        IfErr result (λ fault.
+        (fault ≡ ReplayFault.Memory) ⊎ (play_fresh digest 0 calls.now ≡ Err fault)) }
+{
+    let mut hasher = Blake2b512::new_with_tree(b"", b"", tree);
+    hasher.set_last_node(true);
+    replay(alloc, hasher, calls)
 }

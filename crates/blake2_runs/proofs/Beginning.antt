@@ -1,9 +1,9 @@
--- A list of calls on a state that was just made.
+-- A list of calls on a state at its start.
 use Rattle.std.proofs.Common.{◌≡◌, ℕ, ◌+◌, ◌^◌, List, [], ◌∷◌, length, Bool, false, Option, Some}
 use Rattle.std.proofs.Common.{None, Result, Ok, Err, if◌then◌else◌}
 use Rattle.std.proofs.Common.{nat_lt, get_or, refl, ap, ◌∙◌}
 use Rattle.std.proofs.Math.ListN.{set}
-use Rattle.blake2_digest.specs.States.{Meaning, Fresh}
+use Rattle.blake2_digest.specs.States.{Meaning, Fresh, AtStart}
 use Rattle.blake2_runs.specs.declared.calls.Call.{Call}
 use Rattle.blake2_runs.specs.declared.calls.Call.TheVariants.{Update, Clone, Reset, Finalize}
 use Rattle.blake2_runs.specs.declared.calls.Call.TheVariants.{FinalizeReset}
@@ -29,22 +29,20 @@ and_then_same (Ok left) f g e = ap (after left.digests) (e left.slots)
 and_then_same (Err fault) f g e = refl
 
 module _ {S : Type 0} (m : Meaning S) (first : S) (digest : Bool → List ℕ → List ℕ) (n : ℕ)
-    (fresh : Fresh m digest n first) where
-  -- what is said of a state that was just made, whose flag is off
+    (start : AtStart m digest n first) where
+  -- what is said of a state at its start, under the flag of this one
   abbrev made : Meaning (Unit {0})
-  made = fresh_meaning (digest false) n
+  made = fresh_meaning (digest (m.last_node first)) n
 
   -- each slot has the digest of what it has taken, whatever its mark
   digest_same : (taken : Taken) → digest_of m first taken ≡ digest_of made tt taken
-  digest_same (since_beginning x) = ap (λ (flag : Bool). m.future first flag x) fresh.last_node
-      ∙ fresh.future false x
-  digest_same (since_reset x) = ap (λ (flag : Bool). m.started first flag x) fresh.last_node
-      ∙ fresh.started false x
+  digest_same (since_beginning x) = start.future (m.last_node first) x
+  digest_same (since_reset x) = start.started (m.last_node first) x
 
   -- and counts from n
   count_same : (taken : Taken) → count_of m first taken ≡ count_of made tt taken
-  count_same (since_beginning x) = ap (λ (k : ℕ). k + length x) fresh.count
-  count_same (since_reset x) = ap (λ (k : ℕ). k + length x) fresh.start_count
+  count_same (since_beginning x) = ap (λ (k : ℕ). k + length x) start.count
+  count_same (since_reset x) = ap (λ (k : ℕ). k + length x) start.start_count
 
   -- one call
   call_same : (slots : Slots) (i : ℕ) (call : Call)
@@ -74,6 +72,25 @@ module _ {S : Type 0} (m : Meaning S) (first : S) (digest : Bool → List ℕ �
       ∙ and_then_same (play_call made tt slots i call) _ _
       (λ next. play_from_same calls next (i + 1))
 
-  -- on a state that was just made
-  pub play_same : (calls : List Call) → play m first calls ≡ play_fresh (digest false) n calls
-  play_same calls = play_from_same calls (Some (since_beginning []) ∷ []) 0
+  -- on a state at its start
+  pub play_at_start : (calls : List Call)
+      → play m first calls ≡ play_fresh (digest (m.last_node first)) n calls
+  play_at_start calls = play_from_same calls (Some (since_beginning []) ∷ []) 0
+
+-- a state that was just made is at its start
+at_start : {S : Type 0} (m : Meaning S) (first : S) (digest : Bool → List ℕ → List ℕ) (n : ℕ)
+    → Fresh m digest n first → AtStart m digest n first
+at_start m first digest n fresh = record {
+  future = fresh.future;
+  started = fresh.started;
+  count = fresh.count;
+  start_count = fresh.start_count;
+}
+
+-- and its flag is off
+pub play_same : {S : Type 0} (m : Meaning S) (first : S) (digest : Bool → List ℕ → List ℕ) (n : ℕ)
+    (fresh : Fresh m digest n first) (calls : List Call)
+    → play m first calls ≡ play_fresh (digest false) n calls
+play_same m first digest n fresh calls =
+    play_at_start m first digest n (at_start m first digest n fresh) calls
+    ∙ ap (λ (flag : Bool). play_fresh (digest flag) n calls) fresh.last_node

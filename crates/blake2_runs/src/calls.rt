@@ -1,7 +1,7 @@
 //! Lists of calls on several states of one hasher or MAC.
 ghost use Rattle.std.specs.Prelude.{◌≡◌, ℕ, Bool, false, List, [], ◌∷◌, ◌++◌, ◌⊎◌, OnOk, IfOk};
 ghost use Rattle.std.specs.Prelude.{IfErr, IsOk, IsErr, IsOkUnless, Ok, Err};
-ghost use Rattle.blake2_digest.specs.States.{Fresh};
+ghost use Rattle.blake2_digest.specs.States.{Fresh, AtStart};
 ghost use Rattle.blake2_runs.specs.Play.{play, NamesFirstBad, play_fresh, slot_of};
 ghost use Rattle.blake2_runs.specs.Holding.{PlaysCall};
 
@@ -140,6 +140,17 @@ where
         → Fresh H.meaning digest n first
         → IfErr result (λ fault.
         (fault ≡ ReplayFault.Memory) ⊎ (play_fresh (digest false) n calls.now ≡ Err fault)) }
+
+    // The same of a state at its start with a last-node flag, that of the last node of a level
+    // too: each digest is the constructor's under the flag that the state has.
+    ensures at_start { (digest : Bool → List ℕ → List ℕ) (n : ℕ)
+        → AtStart H.meaning digest n first
+        → IfOk result (λ digests.
+        play_fresh (digest (H.meaning.last_node first)) n calls.now ≡ Ok digests.items) }
+    ensures at_start_fault { (digest : Bool → List ℕ → List ℕ) (n : ℕ)
+        → AtStart H.meaning digest n first
+        → IfErr result (λ fault. (fault ≡ ReplayFault.Memory)
+        ⊎ (play_fresh (digest (H.meaning.last_node first)) n calls.now ≡ Err fault)) }
 {
     let mut states: Vec<Option<H>> = Vec::new(alloc);
     push(&mut states, Some(first))?;

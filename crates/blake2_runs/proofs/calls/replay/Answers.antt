@@ -5,7 +5,7 @@ use Rattle.blake2_runs.specs.Play.{since_beginning, play}
 use Rattle.blake2_runs.proofs.Keeping.{StandsFor-first}
 use Rattle.blake2_runs.proofs.Playing.{after_none, memory_alone, play_on, play_stops, play_ends}
 use Rattle.blake2_runs.proofs.Placing.{names_first_bad}
-use Rattle.blake2_runs.proofs.Beginning.{play_same}
+use Rattle.blake2_runs.proofs.Beginning.{play_same, play_at_start}
 use Rattle.blake2_runs.proofs.calls.replay.Given.{Over}
 use Rattle.blake2_runs.proofs.calls.replay.Goals as goal
 use Rattle.blake2_runs.proofs.calls.replay.Goals.{In_err-replay_call}
@@ -42,6 +42,14 @@ returns-clause-fresh g c = λ digest n fresh.
     ∙ play_ends m c.args.first c.args.calls.now now.slots c.calls.digests.items c.calls.place _
     (omega arith) now.rest
 
+pub returns-clause-at_start : goal.returns-clause-at_start
+returns-clause-at_start g c = λ digest n start.
+    let m = g.H.Update.meaning in
+    let now = c.calls.invariant in
+    sym (play_at_start m c.args.first digest n start c.args.calls.now)
+    ∙ play_ends m c.args.first c.args.calls.now now.slots c.calls.digests.items c.calls.place _
+    (omega arith) now.rest
+
 -- the call that was refused wanted memory, or is the first bad one
 stopped : (g : Over) (c : In_err-replay_call g)
     → (c.in_err-replay_call.field-0.0 ≡ Memory)
@@ -67,6 +75,16 @@ returns-in_err-replay_call-clause-fresh_fault g c =
     c).In_err-replay_call in
     rw (given.1, given.2) (λ digest n fresh.
     rw (← play_same g.H.Update.meaning c.args.first digest n fresh c.args.calls.now) stop)
+
+pub returns-in_err-replay_call-clause-at_start_fault :
+    goal.returns-in_err-replay_call-clause-at_start_fault
+returns-in_err-replay_call-clause-at_start_fault g c =
+    let given = err_from_is_err_and c.from_residual-in_err-replay_call.result
+    c.from_residual-in_err-replay_call.ensures.1 in
+    let stop = stopped g (goal.at.returns-in_err-replay_call-clause-at_start_fault g
+    c).In_err-replay_call in
+    rw (given.1, given.2) (λ digest n start.
+    rw (← play_at_start g.H.Update.meaning c.args.first digest n start c.args.calls.now) stop)
 
 pub returns-in_err-replay_call-clause-place : goal.returns-in_err-replay_call-clause-place
 returns-in_err-replay_call-clause-place g c =
