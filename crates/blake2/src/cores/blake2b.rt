@@ -313,9 +313,15 @@ impl AlgorithmName for Blake2bVarCore {
     }
 }
 
+// Writes the name of a core, for `Debug`. It is given no core, so that it can write nothing of what
+// one holds.
+fn write_name<W: fmt::Write>(f: &mut fmt::Formatter<W>) -> fmt::Result {
+    f.write_str("Blake2bVarCore { ... }")
+}
+
 impl fmt::Debug for Blake2bVarCore {
     fn fmt<W: fmt::Write>(&self, f: &mut fmt::Formatter<W>) -> fmt::Result {
-        f.write_str("Blake2bVarCore { ... }")
+        write_name(f)
     }
 }
 

@@ -313,9 +313,15 @@ impl AlgorithmName for Blake2sVarCore {
     }
 }
 
+// Writes the name of a core, for `Debug`. It is given no core, so that it can write nothing of what
+// one holds.
+fn write_name<W: fmt::Write>(f: &mut fmt::Formatter<W>) -> fmt::Result {
+    f.write_str("Blake2sVarCore { ... }")
+}
+
 impl fmt::Debug for Blake2sVarCore {
     fn fmt<W: fmt::Write>(&self, f: &mut fmt::Formatter<W>) -> fmt::Result {
-        f.write_str("Blake2sVarCore { ... }")
+        write_name(f)
     }
 }
 

@@ -235,8 +235,14 @@ impl<const N: usize> Drop for Blake2sMac<N> {
 
 impl<const N: usize> ZeroizeOnDrop for Blake2sMac<N> {}
 
+// Writes the name of a MAC with outputs of `N` bytes, for `Debug`. It is given no MAC, so that it
+// can write nothing of a key.
+fn write_name<const N: usize, W: fmt::Write>(f: &mut fmt::Formatter<W>) -> fmt::Result {
+    write!(f, "Blake2sMac{N} {{ ... }}")
+}
+
 impl<const N: usize> fmt::Debug for Blake2sMac<N> {
     fn fmt<W: fmt::Write>(&self, f: &mut fmt::Formatter<W>) -> fmt::Result {
-        write!(f, "Blake2sMac{N} {{ ... }}")
+        write_name::<N, W>(f)
     }
 }
