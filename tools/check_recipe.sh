@@ -1,0 +1,65 @@
+#!/usr/bin/env bash
+# Tries what crates/blake2/CALLING.md tells another repository to do: makes a repository in a folder of its own by the
+# commands of that page, with the page's callers as the crate app and those of crates/blake2_tree/CALLING.md as app_tree,
+# and proves every crate in it.
+#
+# usage: tools/check_recipe.sh
+#
+# Work that is kept in crates/*/out is copied along, and what is not there is proved anew. It takes room for that
+# copy (some 2 GB) in the folder for temporary files. The last line is 'N passed, M failed', and the status is 1
+# where one failed.
+set -u
+top=$(dirname "$(dirname "$(readlink -f "$0")")")
+if ! command -v rt >/dev/null; then
+    echo "tools/check_recipe.sh: the toolchain's command rt is not on the PATH" >&2
+    echo "0 passed, 1 failed"
+    exit 1
+fi
+room=$(mktemp -d)
+trap 'rm -rf "$room"' EXIT
+ln -s "$top" "$room/vulfsjor"
+mkdir "$room/other"
+cd "$room/other" || exit 1
+git init -q .
+
+# The blocks of a page in this language, each ended by a line of three hyphens.
+blocks() {
+    awk -v fence="\`\`\`$2" '$0 == "```" { if (inside) print "---"; inside = 0 } inside { print } $0 == fence { inside = 1 }' \
+        "$top/crates/$1/CALLING.md"
+}
+
+# Makes the crate of this name from a page's callers that are whole files: a module for each.
+callers() {
+    mkdir -p "crates/$1/src"
+    printf '//! The callers of a page.\n#![tactic(auto)]\n\n' >"crates/$1/src/lib.rt"
+    blocks "$2" rust | awk -v folder="crates/$1/src" '
+        /^---$/ { file = ""; next }
+        /^#!\[tactic\(auto\)\]$/ {
+            file = folder "/caller" ++count ".rt"
+            print "//! A caller." > file
+            print "pub mod caller" count ";" >> (folder "/lib.rt")
+            next
+        }
+        file != "" { print > file }'
+}
+
+passed=0 failed=0
+# Counts a step, which has this name.
+step() {
+    local name=$1
+    shift
+    if "$@"; then
+        passed=$((passed + 1))
+    else
+        failed=$((failed + 1))
+        echo "FAILED: $name"
+    fi
+}
+
+blocks blake2 sh | grep -v '^---$' >../recipe.sh
+step "the commands of the page" bash -eu ../recipe.sh
+callers app blake2
+callers app_tree blake2_tree
+step "rt all check" rt all check
+echo "$passed passed, $failed failed"
+[ "$failed" -eq 0 ]
