@@ -335,7 +335,7 @@ impl TreeState {
         ensures went_on { WentOn self.old input.now self.new result.now }
     {
         let nodes = self.nodes();
-        let digests = nodes.hash_four(self.closed, input);
+        let digests = nodes.hash_four(self.closed, false, input);
         take_digests(&mut self.root, &digests);
         self.closed += 4;
         self.leaf = leaf_state(&nodes, self.closed);

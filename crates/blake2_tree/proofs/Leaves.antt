@@ -171,54 +171,87 @@ pub concat-four : (a b c d rest : List ℕ) → concat (a ∷ b ∷ c ∷ d ∷ 
     ≡ a ++ (b ++ (c ++ (d ++ rest)))
 concat-four a b c d rest = simp (append_assoc, append-nil)
 
--- where more than four are left: their digests, and those of the rest
-pub later_digests-four : (s : TreeParameters) (p : ℕ) (x : List ℕ) → 0 < s.leaf_length
-    → 4 * s.leaf_length < length x
-    → later_digests s p x ≡ concat (four_digests s p x)
-    ++ later_digests s (p + 4) (drop (4 * s.leaf_length) x)
-later_digests-four s p x some long =
+-- where more than three are left: their digests, and those of the rest
+later_digests-three : (s : TreeParameters) (p : ℕ) (x : List ℕ) → 0 < s.leaf_length
+    → 3 * s.leaf_length < length x
+    → later_digests s p x ≡ node_digest 64 s p 0 false (leaf s.leaf_length x 0)
+    ++ (node_digest 64 s (p + 1) 0 false (leaf s.leaf_length x 1)
+    ++ (node_digest 64 s (p + 2) 0 false (leaf s.leaf_length x 2)
+    ++ later_digests s (p + 3) (drop (3 * s.leaf_length) x)))
+later_digests-three s p x some long =
     let l : ℕ = s.leaf_length in
     let x1 : List ℕ = drop l x in
     let x2 : List ℕ = drop l x1 in
-    let x3 : List ℕ = drop l x2 in
     let n1 : length x1 ≡ length x - l = length-drop l x in
     let n2 : length x2 ≡ length x1 - l = length-drop l x1 in
-    let n3 : length x3 ≡ length x2 - l = length-drop l x2 in
     let e0 = later_digests-step s p x x 0 some (omega arith) refl in
     let e1 = later_digests-step s (p + 1) x x1 1 some (omega arith) (sym (piece-more l x 0)) in
     let e2 = later_digests-step s (p + 1 + 1) x x2 2 some (omega arith)
     (sym (piece-more l x 1 ∙ piece-more l x1 0)) in
-    let e3 = later_digests-step s (p + 1 + 1 + 1) x x3 3 some (omega arith)
-    (sym (piece-more l x 2 ∙ piece-more l x1 1 ∙ piece-more l x2 0)) in
     let p2 : p + 1 + 1 ≡ p + 2 = omega arith in
     let p3 : p + 1 + 1 + 1 ≡ p + 3 = omega arith in
-    let p4 : p + 1 + 1 + 1 + 1 ≡ p + 4 = omega arith in
-    let ends : drop l x3 ≡ drop (4 * l) x =
-    drop-drop l l x2 ∙ drop-drop (l + l) l x1 ∙ drop-drop (l + (l + l)) l x
-    ∙ (let four : l + (l + (l + l)) ≡ 4 * l = omega arith in ap (λ n. drop n x) four) in
+    let rest : drop l x2 ≡ drop (3 * l) x =
+    drop-drop l l x1 ∙ drop-drop (l + l) l x
+    ∙ (let three : l + (l + l) ≡ 3 * l = omega arith in ap (λ n. drop n x) three) in
     let d : ℕ → ℕ → List ℕ = λ place i. node_digest 64 s place 0 false (leaf l x i) in
     e0
-    ∙ ap (λ rest. d p 0 ++ rest) (e1 ∙ ap (λ rest. d (p + 1) 1 ++ rest)
-    (e2 ∙ ap (λ rest. d (p + 1 + 1) 2 ++ rest) e3))
-    ∙ (λ k. d p 0 ++ (d (p + 1) 1 ++ (d (p2 k) 2 ++ (d (p3 k) 3
-    ++ later_digests s (p4 k) (ends k)))))
+    ∙ ap (λ rest. d p 0 ++ rest) (e1 ∙ ap (λ rest. d (p + 1) 1 ++ rest) e2)
+    ∙ (λ k. d p 0 ++ (d (p + 1) 1 ++ (d (p2 k) 2 ++ later_digests s (p3 k) (rest k))))
+
+-- where more than four are left: their digests, and those of the rest
+pub later_digests-four : (s : TreeParameters) (p : ℕ) (x : List ℕ) → 0 < s.leaf_length
+    → 4 * s.leaf_length < length x
+    → later_digests s p x ≡ concat (four_digests s p false x)
+    ++ later_digests s (p + 4) (drop (4 * s.leaf_length) x)
+later_digests-four s p x some long =
+    let l : ℕ = s.leaf_length in
+    let x3 : List ℕ = drop (3 * l) x in
+    let left : length x3 ≡ length x - 3 * l = length-drop (3 * l) x in
+    let e3 = later_digests-step s (p + 3) x x3 3 some (omega arith) (piece-zero l x3) in
+    let p4 : p + 3 + 1 ≡ p + 4 = omega arith in
+    let ends : drop l x3 ≡ drop (4 * l) x =
+    drop-drop l (3 * l) x
+    ∙ (let four : 3 * l + l ≡ 4 * l = omega arith in ap (λ n. drop n x) four) in
+    let d : ℕ → ℕ → List ℕ = λ place i. node_digest 64 s place 0 false (leaf l x i) in
+    later_digests-three s p x some (omega arith)
+    ∙ ap (λ rest. d p 0 ++ (d (p + 1) 1 ++ (d (p + 2) 2 ++ rest)))
+    (e3 ∙ (λ k. d (p + 3) 3 ++ later_digests s (p4 k) (ends k)))
     ∙ sym (concat-four (d p 0) (d (p + 1) 1) (d (p + 2) 2) (d (p + 3) 3)
     (later_digests s (p + 4) (drop (4 * l) x)))
 
+-- where just four are left: their digests, the fourth as that of the last leaf
+pub later_digests-last_four : (s : TreeParameters) (p : ℕ) (x : List ℕ) → 0 < s.leaf_length
+    → length x ≡ 4 * s.leaf_length
+    → later_digests s p x ≡ concat (four_digests s p true x)
+later_digests-last_four s p x some whole =
+    let l : ℕ = s.leaf_length in
+    let x3 : List ℕ = drop (3 * l) x in
+    let short : length x3 ≤ l = omega (arith, length-drop (3 * l) x) in
+    let d : ℕ → ℕ → Bool → List ℕ = λ place i on. node_digest 64 s place 0 on (leaf l x i) in
+    let last : later_digests s (p + 3) x3 ≡ d (p + 3) 3 true =
+    later_digests-short s (p + 3) x3 some short
+    ∙ ap (node_digest 64 s (p + 3) 0 true) (sym (take_all l x3 short)) in
+    later_digests-three s p x some (omega arith)
+    ∙ ap (λ rest. d p 0 false ++ (d (p + 1) 1 false ++ (d (p + 2) 2 false ++ rest)))
+    (last ∙ sym (append-nil (d (p + 3) 3 true)))
+    ∙ sym (concat-four (d p 0 false) (d (p + 1) 1 false) (d (p + 2) 2 false)
+    (d (p + 3) 3 true) [])
+    ∙ append-nil (concat (four_digests s p true x))
+
 -- those of four leaves have 256 bytes
-pub length-four_digests : (s : TreeParameters) (p : ℕ) (x : List ℕ)
-    → length (concat (four_digests s p x)) ≡ 256
-length-four_digests s p x =
-    let d : ℕ → ℕ → List ℕ = λ place i.
-    node_digest 64 s place 0 false (leaf s.leaf_length x i) in
-    let size : (place i : ℕ) → length (d place i) ≡ 64 = λ place i.
-    length-digest blake2b 64 (node s place 0 false (leaf s.leaf_length x i)) (omega arith) in
+pub length-four_digests : (s : TreeParameters) (p : ℕ) (last : Bool) (x : List ℕ)
+    → length (concat (four_digests s p last x)) ≡ 256
+length-four_digests s p last x =
+    let d : ℕ → Bool → ℕ → List ℕ = λ place on i.
+    node_digest 64 s place 0 on (leaf s.leaf_length x i) in
+    let size : (place : ℕ) (on : Bool) (i : ℕ) → length (d place on i) ≡ 64 = λ place on i.
+    length-digest blake2b 64 (node s place 0 on (leaf s.leaf_length x i)) (omega arith) in
     simp length-append (omega (
       arith,
-      size p 0,
-      size (p + 1) 1,
-      size (p + 2) 2,
-      size (p + 3) 3,
+      size p false 0,
+      size (p + 1) false 1,
+      size (p + 2) false 2,
+      size (p + 3) last 3,
     ))
 
 -- they do not read what follows them
@@ -231,7 +264,7 @@ leaf-append size i x y within =
     (omega (arith, length-drop (i * size) x))
 
 pub four_digests-append : (s : TreeParameters) (p : ℕ) (x y : List ℕ) → 4 * s.leaf_length ≤ length x
-    → four_digests s p (x ++ y) ≡ four_digests s p x
+    → four_digests s p false (x ++ y) ≡ four_digests s p false x
 four_digests-append s p x y within =
     let l : ℕ = s.leaf_length in
     λ k.

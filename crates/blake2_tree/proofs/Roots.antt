@@ -16,6 +16,7 @@ use Rattle.blake2_tree.specs.TreeHashers.{later_digests, digests_to_come}
 use Rattle.blake2_tree.proofs.Leaves.{later_digests-four, four_digests-append, later_digests-first}
 use Rattle.blake2_tree.proofs.Leaves.{digests_to_come-begun, digests_to_come-took}
 use Rattle.blake2_tree.proofs.Leaves.{digests_to_come-nothing, digests_to_come-full}
+use Rattle.blake2_tree.proofs.Leaves.{later_digests-last_four}
 
 -- the root, from what is said of the root and of a leaf, the root, the open leaf, and the place of
 -- the next leaf
@@ -122,14 +123,14 @@ root_to_come-closed roots leaves s old new leaf full opened next x y some within
 pub root_to_come-four : {R S : Type 0} (roots : Meaning R) (leaves : Meaning S)
     (s : TreeParameters) (old new : R) (leaf opened : S) (place : ℕ) (x y : List ℕ)
     → 0 < s.leaf_length → 4 * s.leaf_length < length x → IsOpened leaves s place leaf
-    → Updated roots old (concat (four_digests s place x)) new
+    → Updated roots old (concat (four_digests s place false x)) new
     → IsOpened leaves s (place + 4) opened
     → root_to_come roots leaves s new opened (place + 4 + 1) (drop (4 * s.leaf_length) x ++ y)
     ≡ root_to_come roots leaves s old leaf (place + 1) (x ++ y)
 root_to_come-four roots leaves s old new leaf opened place x y some long is_leaf updated is_opened =
     let four : ℕ = 4 * s.leaf_length in
     let rest : drop four (x ++ y) ≡ drop four x ++ y = drop-append-le four x y (omega arith) in
-    let same : four_digests s place (x ++ y) ≡ four_digests s place x =
+    let same : four_digests s place false (x ++ y) ≡ four_digests s place false x =
     four_digests-append s place x y (omega arith) in
     ap (roots.future new true) (digests_to_come-opened leaves s (place + 4) opened
     (drop four x ++ y) some is_opened)
@@ -155,6 +156,21 @@ root_to_come-finished roots leaves s root taken last leaf last_leaf next leaf_se
     (append-nil (digest_now leaves last_leaf) ∙ digest_is
     ∙ sym (digests_to_come-nothing s (leaves.future leaf) (s.leaf_length - leaves.count leaf)
     next))
+
+-- the open leaf, which is empty, and three more are the last, and the root takes their digests
+pub root_to_come-last_four : {R S : Type 0} (roots : Meaning R) (leaves : Meaning S)
+    (s : TreeParameters) (root taken last : R) (leaf : S) (place : ℕ) (x : List ℕ)
+    → 0 < s.leaf_length → length x ≡ 4 * s.leaf_length → IsOpened leaves s place leaf
+    → Updated roots root (concat (four_digests s place true x)) taken → NodeSet roots taken true last
+    → digest_now roots last ≡ root_to_come roots leaves s root leaf (place + 1) x
+root_to_come-last_four roots leaves s root taken last leaf place x some whole is_leaf updated
+    root_set =
+    ap (λ (on : Bool). roots.future last on []) root_set.last_node
+    ∙ root_set.future true [] ∙ updated.future true []
+    ∙ ap (roots.future root true)
+    (append-nil (concat (four_digests s place true x))
+    ∙ sym (later_digests-last_four s place x some whole)
+    ∙ sym (digests_to_come-opened leaves s place leaf x some is_leaf))
 
 -- ---- updates
 

@@ -21,12 +21,12 @@ pub record IsOpened {S : Type 0} (m : Meaning S) (p : TreeParameters) (place : �
       → m.future leaf last z ≡ node_digest 64 p place 0 last z
   pub empty : m.count leaf ≡ 0
 
--- the digests of four whole leaves from this place on, the first of those that make the text, none
--- of them the last
-abbrev pub four_digests : TreeParameters → ℕ → List ℕ → List (List ℕ)
-four_digests p first text =
+-- the digests of four whole leaves from this place on, the first of those that make the text; the
+-- flag says whether the fourth of them is the tree's last
+abbrev pub four_digests : TreeParameters → ℕ → Bool → List ℕ → List (List ℕ)
+four_digests p first last text =
     node_digest 64 p first 0 false (leaf p.leaf_length text 0)
     ∷ node_digest 64 p (first + 1) 0 false (leaf p.leaf_length text 1)
     ∷ node_digest 64 p (first + 2) 0 false (leaf p.leaf_length text 2)
-    ∷ node_digest 64 p (first + 3) 0 false (leaf p.leaf_length text 3)
+    ∷ node_digest 64 p (first + 3) 0 last (leaf p.leaf_length text 3)
     ∷ []

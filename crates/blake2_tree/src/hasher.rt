@@ -1,5 +1,5 @@
 //! The tree over a message that comes in pieces.
-ghost use Rattle.std.specs.Prelude.{◌≡◌, ℕ, ◌+◌, ◌*◌, ◌^◌, ◌<◌, ◌≤◌, List, [], length, false};
+ghost use Rattle.std.specs.Prelude.{◌≡◌, ℕ, ◌+◌, ◌*◌, ◌^◌, ◌<◌, ◌≤◌, List, [], ◌++◌, length, false};
 ghost use Rattle.std.specs.List.{concat};
 ghost use Rattle.blake2.specs.Hashers.{blake2b_meaning};
 ghost use Rattle.blake2_digest.specs.States.{Updated};
@@ -63,8 +63,7 @@ impl<const N: usize> TreeHasher<N> {
     {
         let mut rest = input;
         while rest.len() as u64 > self.room() {
-            let four = 4 * self.nodes.leaf_length as usize;
-            rest = if self.leaf.counted() == 0 && rest.len() > four {
+            rest = if self.leaf.counted() == 0 && rest.len() > self.nodes.four_leaves() {
                 self.close_four(rest)
             } else {
                 self.close_leaf(rest)
@@ -125,13 +124,66 @@ impl<const N: usize> TreeHasher<N> {
         requires empty { (blake2b_meaning 64).count self.old.leaf ≡ 0 }
         requires more { 4 * self.old.nodes.leaf_length < length input.now }
         requires fits { count self.old + length input.now < 2 ^ 58 }
-        ensures { WentOn self.old input.now self.new result.now }
+        ensures went_on { WentOn self.old input.now self.new result.now }
+        ensures empty { (blake2b_meaning 64).count self.new.leaf ≡ 0 }
     {
-        let digests = self.nodes.hash_four(self.closed, input);
+        let digests = self.nodes.hash_four(self.closed, false, input);
         take_digests(&mut self.root, &digests);
         self.closed += 4;
         self.leaf = self.nodes.open_leaf(self.closed);
-        &input[4 * self.nodes.leaf_length as usize..]
+        &input[self.nodes.four_leaves()..]
+    }
+
+    // Closes four leaves at once as long as more follows, where the open one is empty. Answers what
+    // is left of the input: four leaves at most, of which none is closed.
+    fn close_fours<'a>(&mut self, input: &'a [u8]) -> &'a [u8]
+        requires empty { (blake2b_meaning 64).count self.old.leaf ≡ 0 }
+        requires fits { count self.old + length input.now < 2 ^ 58 }
+        ensures future { (y : List ℕ)
+            → future self.new (result.now ++ y) ≡ future self.old (input.now ++ y) }
+        ensures count { count self.new + length result.now ≡ count self.old + length input.now }
+        ensures empty { (blake2b_meaning 64).count self.new.leaf ≡ 0 }
+    {
+        let mut rest = input;
+        while rest.len() > self.nodes.four_leaves() {
+            rest = self.close_four(rest);
+        }
+        rest
+    }
+
+    // The root of all that was taken and of four whole leaves behind it: the open one, which is
+    // empty, and three more, the last of the tree.
+    fn finish_four(self, input: &[u8]) -> [u8; N]
+        requires empty { (blake2b_meaning 64).count self.leaf ≡ 0 }
+        requires whole { length input.now ≡ 4 * self.nodes.leaf_length }
+        requires fits { count self + length input.now < 2 ^ 58 }
+        ensures { result ≡ future self.entry input.now }
+    {
+        let digests = self.nodes.hash_four(self.closed, true, input);
+        let TreeHasher {
+            nodes: _,
+            closed: _,
+            leaf: _,
+            mut root,
+        } = self;
+        take_digests(&mut root, &digests);
+        root.set_last_node(true);
+        root.finalize_fixed()
+    }
+
+    // The root of all that was taken, where the open leaf is empty, and of the input behind it.
+    fn finish(mut self, input: &[u8]) -> [u8; N]
+        requires empty { (blake2b_meaning 64).count self.leaf ≡ 0 }
+        requires fits { count self + length input.now < 2 ^ 58 }
+        ensures { result ≡ future self.entry input.now }
+    {
+        let rest = self.close_fours(input);
+        if rest.len() == self.nodes.four_leaves() {
+            self.finish_four(rest)
+        } else {
+            self.update(rest);
+            self.finalize()
+        }
     }
 }
 
@@ -147,7 +199,7 @@ fn take_digests<const N: usize>(root: &mut Blake2b<N>, digests: &[[u8; 64]])
 
 /// The root of a message, as [`TreeHasher`] gives it: `N` bytes, at most 64. Salt and persona have
 /// at most 16 bytes each, a leaf has `leaf_length` bytes, 1 to 2^32 - 1, and the message fewer than
-/// 2^58. It takes no memory.
+/// 2^58. It takes no memory, and hashes whole leaves by fours, the last four too.
 pub fn tree_root<const N: usize>(
     salt: &[u8],
     persona: &[u8],
@@ -161,7 +213,5 @@ pub fn tree_root<const N: usize>(
     requires message { length message.now < 2 ^ 58 }
     ensures { result ≡ root_of N (tree_parameters salt.now persona.now leaf_length) message.now }
 {
-    let mut hasher = TreeHasher::new(salt, persona, leaf_length);
-    hasher.update(message);
-    hasher.finalize()
+    TreeHasher::new(salt, persona, leaf_length).finish(message)
 }

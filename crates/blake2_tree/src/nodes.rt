@@ -139,19 +139,26 @@ impl Nodes {
         self.node(0, 1, true, digests)
     }
 
-    /// The digests of four whole leaves at once, none of them the last: leaf `i` of a message, with
-    /// which the text begins, and the next three.
-    pub fn hash_four(&self, i: u64, text: &[u8]) -> [[u8; 64]; 4]
+    /// The bytes of four leaves, which are hashed at once.
+    pub(crate) fn four_leaves(&self) -> usize
+        ensures { result ≡ 4 * self.now.leaf_length }
+    {
+        4 * self.leaf_length as usize
+    }
+
+    /// The digests of four whole leaves at once: leaf `i` of a message, with which the text begins,
+    /// and the next three, the fourth of which is the message's last or not.
+    pub fn hash_four(&self, i: u64, last: bool, text: &[u8]) -> [[u8; 64]; 4]
         requires place { i + 3 < 2 ^ 64 }
         requires whole { 4 * self.now.leaf_length ≤ length text.now }
-        ensures { result ≡ four_digests (parameters_of self.now) i text.now }
+        ensures { result ≡ four_digests (parameters_of self.now) i last text.now }
     {
         let length = self.leaf_length as usize;
         let leaves = [
             self.node(i, 0, false, &text[..length]),
             self.node(i + 1, 0, false, &text[length..2 * length]),
             self.node(i + 2, 0, false, &text[2 * length..3 * length]),
-            self.node(i + 3, 0, false, &text[3 * length..4 * length]),
+            self.node(i + 3, 0, last, &text[3 * length..4 * length]),
         ];
         many::blake2b::hash_four(&leaves)
     }

@@ -1,4 +1,4 @@
-use Rattle.std.proofs.Common.{◌≡◌, ◌∙◌, ◌+◌, ◌*◌, ◌++◌, length, length-drop, ap, sym, arith}
+use Rattle.std.proofs.Common.{◌≡◌, false, ◌∙◌, ◌+◌, ◌*◌, ◌++◌, length, length-drop, ap, sym, arith}
 use Rattle.std.proofs.lemmas.List.{take_rest}
 use Rattle.std.proofs.Math.Nat.{le-mul_of_pos_right}
 use Rattle.blake2_plain.specs.Blake2b.{meaning}
@@ -14,7 +14,7 @@ take_digests-requires-clause-counted c =
     let old = c.args.self.now in
     rw c.hash_four-digests.ensures (omega (
       arith,
-      length-four_digests (parameters_of c.nodes-nodes.result) old.closed c.args.input.now,
+      length-four_digests (parameters_of c.nodes-nodes.result) old.closed false c.args.input.now,
       c.requires.ready.counts.digests_taken,
       le-mul_of_pos_right old.closed c.requires.ready.lengths.some,
       c.requires.more,
@@ -31,9 +31,9 @@ returns-clause-went_on c =
     let fresh = c.leaf_state-self.ensures.fresh in
     let opened : IsOpened meaning s (old.closed + 4) c.leaf_state-self.result =
     rw (sym c.nodes-nodes.ensures) (record { digests = fresh.future; empty = fresh.count }) in
-    let digests : c.hash_four-digests.result ≡ four_digests s old.closed input =
+    let digests : c.hash_four-digests.result ≡ four_digests s old.closed false input =
     c.hash_four-digests.ensures
-    ∙ ap (λ p. four_digests p old.closed input) c.nodes-nodes.ensures in
+    ∙ ap (λ p. four_digests p old.closed false input) c.nodes-nodes.ensures in
     let taken = rw digests at c.take_digests.ensures.updated in
     let rest = take_rest input four in
     record {

@@ -1,22 +1,25 @@
-use Rattle.std.proofs.Common.{◌∙◌, ◌+◌, ◌*◌, ◌++◌, length, length-drop, ap, arith}
+use Rattle.std.proofs.Common.{◌≡◌, false, rules, ◌∙◌, ◌+◌, ◌*◌, ◌++◌, drop, length, length-drop, ap, arith}
 use Rattle.std.proofs.lemmas.List.{take_rest}
 use Rattle.blake2.specs.Hashers.{blake2b_meaning}
-use Rattle.blake2_tree.specs.Nodes.{parameters_of, IsOpened}
+use Rattle.blake2_tree.specs.Nodes.{parameters_of, IsOpened, four_digests}
 use Rattle.blake2_tree.specs.TreeHashers.{future}
 use Rattle.blake2_tree.proofs.Roots.{root_to_come, root_to_come-four}
 use Rattle.blake2_tree.proofs.hasher.TreeHasher.close_four.Goals as goal
 
-pub returns : goal.returns
+pub returns-clause-went_on : goal.returns-clause-went_on
 unfolding future
-returns g c =
+returns-clause-went_on g c =
     let old = c.args.self.now in
     let input = c.args.input.now in
     let s = parameters_of old.nodes in
     let four = 4 * old.nodes.leaf_length in
     let opened : IsOpened (blake2b_meaning 64) s (old.closed + 4) c.open_leaf.result =
     record { digests = c.open_leaf.ensures.future; empty = c.open_leaf.ensures.count } in
-    let taken = rw c.hash_four-digests.ensures at c.take_digests.ensures in
-    let rest = take_rest input four in
+    let digests : c.hash_four-digests.result ≡ four_digests s old.closed false input =
+    search rules in
+    let taken = rw digests at c.take_digests.ensures in
+    let rest =
+    take_rest input c.four_leaves.result ∙ ap (λ n. drop n input) c.four_leaves.ensures in
     record {
       future = λ y.
           (λ k. root_to_come (blake2b_meaning g.row.N) (blake2b_meaning 64) s

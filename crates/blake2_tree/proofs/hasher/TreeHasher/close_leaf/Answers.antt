@@ -34,7 +34,7 @@ returns g c =
           (old.closed + 1 + 1) (rest k ++ y))
           ∙ root_to_come-closed (blake2b_meaning g.row.N) (blake2b_meaning 64) s old.root
           c.update-2.new.self old.leaf full c.open_leaf-next.result (old.closed + 1) input y
-          old.nodes.some_length old.within_a_leaf old.not_the_last c.requires.more filled closed
+          old.nodes.some_length old.within_a_leaf old.not_the_last (omega arith) filled closed
           opened;
       count = omega (arith, empty, ap length rest, left, c.requires.more, old.within_a_leaf);
       fewer = omega (

@@ -5,10 +5,10 @@ use Rattle.blake2_tree.specs.TreeHashers.{future}
 use Rattle.blake2_tree.proofs.Roots.{root_to_come-took, IsOpened-updated}
 use Rattle.blake2_tree.proofs.hasher.TreeHasher.update.Goals as goal
 
-pub loop-rest-preserved-then-rest-four : goal.loop-rest-preserved-then-rest-four
-loop-rest-preserved-then-rest-four g c = record {
-  future = λ y. c.close_four-rest.ensures.future y ∙ c.loop-rest.invariant.future y;
-  count = c.close_four-rest.ensures.count ∙ c.loop-rest.invariant.count;
+pub loop-rest-preserved-then-rest-four_leaves : goal.loop-rest-preserved-then-rest-four_leaves
+loop-rest-preserved-then-rest-four_leaves g c = record {
+  future = λ y. c.close_four-rest.ensures.went_on.future y ∙ c.loop-rest.invariant.future y;
+  count = c.close_four-rest.ensures.went_on.count ∙ c.loop-rest.invariant.count;
 }
 
 pub loop-rest-preserved : goal.loop-rest-preserved
