@@ -1,7 +1,5 @@
-//! Several messages of one length at once, one in each lane of the vectors. Built for a processor
-//! with vectors of 256 bits (x86-64-v3), four of BLAKE2b took 0.54 of the time of one after
-//! another, and eight of BLAKE2s 0.36, at 1,024 bytes. With vectors of 128 bits BLAKE2b gains next
-//! to nothing and BLAKE2s a quarter.
+//! Several messages of one length at once, one in each lane of the vectors. How much time that saves
+//! depends on the length of the processor's vectors: docs/SPEED.md has what was measured.
 //!
 //! ```rust
 //! use blake2::many;
