@@ -190,11 +190,11 @@ walk_witness f size a b n (Some w) p q h c numbers end k =
     (subst (λ (m : ℕ). KeptPair (steps f size a) (steps f size b) m (step_of w.0)
     (step_of w.1)) end k)
 
--- THE LAW: where the numbers of steps differ, the last steps are a witness, by their counters
+-- THE LAW: last steps that differ are a witness, where the digests are equal
 pub last_witness : (f : Family) (size : ℕ) (a b : Input) (x y : Step)
-    → digest f size a ≡ digest f size b → step_count f a ≢ step_count f b
+    → digest f size a ≡ digest f size b → x ≢ y
     → x ≡ last_step f size a → y ≡ last_step f size b → IsWitness f a b size x y
-last_witness f size a b x y digests numbers xa yb =
+last_witness f size a b x y digests differ xa yb =
     let xs : List Step = steps f size a in
     let ys : List Step = steps f size b in
     let la : length xs ≡ step_count f a = length-steps f size a in
@@ -210,7 +210,12 @@ last_witness f size a b x y digests numbers xa yb =
           (λ d. yb ∙ sym (get_or-steps f size b (step_count f b - 1) d (omega arith))
           ∙ ap (λ (n : ℕ). get_or ys n d) eb)
           (λ i d h. absurd (omega arith))
-          (λ e. numbers (ap (block_count f) (sym (last_counter f size a)
-          ∙ ap (λ (s : Step). s.counter) (sym xa ∙ e ∙ yb) ∙ last_counter f size b)))
-          digests,
+          differ digests,
     )
+
+-- where they are equal, so are the numbers of steps, by their counters
+pub same_number : (f : Family) (size : ℕ) (a b : Input) (x y : Step) → x ≡ y
+    → x ≡ last_step f size a → y ≡ last_step f size b → step_count f a ≡ step_count f b
+same_number f size a b x y e xa yb =
+    ap (block_count f) (sym (last_counter f size a)
+    ∙ ap (λ (s : Step). s.counter) (sym xa ∙ e ∙ yb) ∙ last_counter f size b)

@@ -138,6 +138,13 @@ unfolding digest
 last_output f size a = ap (λ (h : List ℕ). take size (bytes_of f h))
     (output-step_last f (input_start f size a) (input_data f a) (input_flags a))
 
+-- whatever names that step
+pub digest_after : (f : Family) (size : ℕ) (a : Input) (s : Step)
+    → s ≡ run_step f size a (step_count f a - 1)
+    → take size (bytes_of f (output f s)) ≡ digest f size a
+digest_after f size a s e =
+    ap (λ (s : Step). take size (bytes_of f (output f s))) e ∙ last_output f size a
+
 -- THE LAW: the first pair from the ends that differs is a witness, where the digests are equal
 pub witness_at : (f : Family) (size : ℕ) (a b : Input) (j : ℕ) (x y : Step)
     → j < length (steps f size a) → j < length (steps f size b)

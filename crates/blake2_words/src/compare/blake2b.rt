@@ -4,7 +4,8 @@ ghost use Rattle.std.specs.Prelude.{◌≡◌, ◌+◌, ◌<◌, ◌≤◌, ◌�
 ghost use Rattle.std.specs.Prelude.{IfSome, MatchOption};
 ghost use Rattle.blake2_rows.specs.Family.{blake2b, output_bytes};
 ghost use Rattle.blake2_rows.specs.Rows.{eight};
-ghost use Rattle.blake2_words.specs.Hash.{digest, input_start, output};
+ghost use Rattle.blake2_words.specs.Hash;
+ghost use Rattle.blake2_words.specs.Hash.{bytes_of, digest, input_start, output};
 ghost use Rattle.blake2_words.specs.Inputs.{Accepts, Same};
 ghost use Rattle.blake2_words.specs.Transcript;
 ghost use Rattle.blake2_words.specs.Witness.{Collide, IsWitness};
@@ -70,28 +71,34 @@ fn last_step(input: &Input<'_>, output_size: usize) -> ([u64x4; 2], Entry<128>)
     (chain, entry_at(input, last))
 }
 
-// The bytes of the last chaining words, which begin with the digest.
-fn last_bytes(input: &Input<'_>, output_size: usize) -> [u8; 64]
-    requires accepted { Accepts blake2b (input_of input.now) }
-    requires size { output_size ≤ output_bytes blake2b }
-    ensures { take output_size result ≡ digest blake2b output_size (input_of input.now) }
+// The bytes of what F gives of the step of an entry. Those of a run's last step begin with the
+// digest.
+fn bytes_after(chain: &[u64x4; 2], entry: &Entry<128>) -> [u8; 64]
+    ensures { result ≡ bytes_of blake2b
+        (output blake2b (Transcript.step_at (eight chain.now) (entry_of entry.now))) }
 {
-    let (chain, entry) = last_step(input, output_size);
-    words::to_bytes(&output_of(&chain, &entry))
+    words::to_bytes(&output_of(chain, entry))
 }
 
-// The digests are equal.
-fn same_digest(a: &Input<'_>, b: &Input<'_>, output_size: usize) -> bool
-    requires a { Accepts blake2b (input_of a.now) }
-    requires b { Accepts blake2b (input_of b.now) }
+// The digests of `output_size` bytes are equal, where these are the last steps of two runs.
+fn same_digest(
+    chain_a: &[u64x4; 2],
+    x: &Entry<128>,
+    chain_b: &[u64x4; 2],
+    y: &Entry<128>,
+    output_size: usize,
+) -> bool
     requires size { output_size ≤ output_bytes blake2b }
-    ensures { IsTrue result
-        ↔ (digest blake2b output_size (input_of a.now)
-        ≡ digest blake2b output_size (input_of b.now)) }
+    ensures { (a b : Hash.Input)
+        → Transcript.step_at (eight chain_a.now) (entry_of x.now)
+        ≡ Run.last_step blake2b output_size a
+        → Transcript.step_at (eight chain_b.now) (entry_of y.now)
+        ≡ Run.last_step blake2b output_size b
+        → IsTrue result ↔ (digest blake2b output_size a ≡ digest blake2b output_size b) }
 {
-    let x = last_bytes(a, output_size);
-    let y = last_bytes(b, output_size);
-    x[..output_size] == y[..output_size]
+    let of_a = bytes_after(chain_a, x);
+    let of_b = bytes_after(chain_b, y);
+    of_a[..output_size] == of_b[..output_size]
 }
 
 // The steps of two entries, each at the chaining words before it, are equal.
@@ -155,13 +162,16 @@ pub fn witness(
         IsWitness blake2b (input_of a.now) (input_of b.now) output_size
         (step_of p.0) (step_of p.1))) }
 {
-    if same::<16>(a, b) || !same_digest(a, b, output_size) {
+    if same::<16>(a, b) {
         return Ok(None);
     }
-    if step_count::<128>(a) != step_count::<128>(b) {
-        let (chain_a, x) = last_step(a, output_size);
-        let (chain_b, y) = last_step(b, output_size);
-        return Ok(Some((step_at(&chain_a, &x), step_at(&chain_b, &y))));
+    let (last_a, x) = last_step(a, output_size);
+    let (last_b, y) = last_step(b, output_size);
+    if !same_digest(&last_a, &x, &last_b, &y, output_size) {
+        return Ok(None);
+    }
+    if !same_step(&last_a, &x, &last_b, &y) {
+        return Ok(Some((step_at(&last_a, &x), step_at(&last_b, &y))));
     }
     Ok(last_pair(a, b, output_size))
 }

@@ -1,12 +1,22 @@
-use Rattle.std.proofs.Common.{sym, ◌∙◌}
+use Rattle.std.proofs.Common.{◌≡◌, sym, ◌∙◌, true}
 use Rattle.blake2_rows.specs.Family.{blake2s}
-use Rattle.blake2_words.proofs.Front.{last_witness}
+use Rattle.blake2_words.proofs.Front.{last_witness, same_number}
 use Rattle.blake2_words.proofs.compare.blake2s.witness.Goals as goal
 
-pub returns-then-step_count-clause-pair : goal.returns-then-step_count-clause-pair
-returns-then-step_count-clause-pair c =
+pub returns-then-not-same_step-clause-pair : goal.returns-then-not-same_step-clause-pair
+returns-then-not-same_step-clause-pair c =
+    let of_a = c.last_step-last_a.ensures in
+    let of_b = c.last_step-last_b.ensures in
+    let is_x = c.step_at.ensures in
+    let is_y = c.step_at-then-not-same_step.ensures in
     last_witness blake2s c.args.output_size _ _ _ _
-    (c.same_digest.ensures.0 c.if-not-same_digest.false)
-    (λ e. c.if-step_count.true (c.step_count.ensures ∙ e ∙ sym c.step_count-2.ensures))
-    (c.step_at.ensures ∙ c.last_step-chain_a.ensures)
-    (c.step_at-then-step_count.ensures ∙ c.last_step-chain_b.ensures)
+    ((c.same_digest.ensures _ _ of_a of_b).0 c.if-not-same_digest.false)
+    (λ e. let same : c.same_step.result ≡ true = c.same_step.ensures.1 (sym is_x ∙ e ∙ is_y) in
+    cc c.if-not-same_step.true)
+    (is_x ∙ of_a) (is_y ∙ of_b)
+
+pub last_pair-requires-clause-numbers : goal.last_pair-requires-clause-numbers
+last_pair-requires-clause-numbers c =
+    same_number blake2s c.args.output_size _ _ _ _
+    (c.same_step.ensures.0 c.if-not-same_step.false)
+    c.last_step-last_a.ensures c.last_step-last_b.ensures

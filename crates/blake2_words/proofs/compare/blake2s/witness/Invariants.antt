@@ -3,6 +3,3 @@ use Rattle.blake2_words.proofs.compare.blake2s.witness.Given as goal
 
 abbrev pub ghost-same : goal.ghost-same
 ghost-same a = blake2s
-
-abbrev pub ghost-step_count : goal.ghost-step_count
-ghost-step_count a = blake2s
