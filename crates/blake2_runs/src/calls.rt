@@ -72,11 +72,10 @@ where
     ensures { PlaysCall H.meaning place call.now
         states.old.items digests.old.items states.new.items digests.new.items result }
 {
-    let slot = call.slot();
-    if slot >= states.len() {
+    let Some(held) = states.get_mut(call.slot()) else {
         return Err(ReplayFault::NoSuchSlot(place));
-    }
-    let Some(state) = &mut states[slot] else {
+    };
+    let Some(state) = held else {
         return Err(ReplayFault::NoSuchSlot(place));
     };
     match *call {
@@ -96,7 +95,7 @@ where
             Ok(())
         }
         Call::Finalize(_) => {
-            let last = states[slot].take().unwrap();
+            let last = held.take().unwrap();
             push(digests, last.finalize_fixed())
         }
         Call::FinalizeReset(_) => {

@@ -1,4 +1,5 @@
-use Rattle.std.proofs.Common.{◌≡◌, set, Some, inr, sym, ◌∙◌, arith}
+use Rattle.std.proofs.Common.{◌≡◌, ◌<◌, set, true, false, Some, inr, refl, sym, ◌∙◌}
+use Rattle.std.proofs.Common.{arith, vec_len}
 use Rattle.blake2_runs.specs.Play.{Slots}
 use Rattle.blake2_runs.specs.Holding.{AllHold}
 use Rattle.blake2_runs.proofs.Keeping.{absent, Found, ended, Live, live, put_back, updated}
@@ -6,100 +7,96 @@ use Rattle.blake2_runs.proofs.Keeping.{too_long, copied, reset}
 use Rattle.blake2_runs.proofs.Keeping.{finalized, finalized_reset, answers_by_push}
 use Rattle.blake2_runs.proofs.calls.replay_call.Given.{Over}
 use Rattle.blake2_runs.proofs.calls.replay_call.Goals as goal
-use Rattle.blake2_runs.proofs.calls.replay_call.Goals.{After-index_mut, In-Some}
+use Rattle.blake2_runs.proofs.calls.replay_call.Goals.{In-Some, In-Some-held}
 
 -- what stands at the place of the call's slot
-found : (g : Over) (c : After-index_mut g) (first : g.row.H.Denot) (slots : Slots)
+found : (g : Over) (c : In-Some g) (first : g.row.H.Denot) (slots : Slots)
     → AllHold g.H.Update.meaning first slots c.args.states.now.items
-    → Found g.H.Update.meaning first slots c.args.states.now.items c.slot-slot.result
-    c.args.call.now c.index_mut.result.now
+    → Found g.H.Update.meaning first slots c.args.states.now.items c.slot.result c.args.call.now
+    c.in-Some.held.now
 found g c first slots all = record {
   all = all;
-  named = c.slot-slot.ensures;
-  within = omega arith;
-  at_place = c.index_mut.ensures.value;
+  named = c.slot.ensures;
+  within = omega (arith, c.in-Some.ensures.variant.0 refl);
+  at_place = c.in-Some.ensures.value;
 }
 
 -- the call's slot is there
-there : (g : Over) (c : In-Some g) (first : g.row.H.Denot) (slots : Slots)
+there : (g : Over) (c : In-Some-held g) (first : g.row.H.Denot) (slots : Slots)
     → AllHold g.H.Update.meaning first slots c.args.states.now.items
-    → Live g.H.Update.meaning first slots c.args.states.now.items c.args.place c.slot-slot.result
-    c.args.call.now c.in-Some.state
+    → Live g.H.Update.meaning first slots c.args.states.now.items c.args.place c.slot.result
+    c.args.call.now c.in-Some-held.state
 there g c first slots all =
-    live g.H.Update.meaning first slots c.args.states.now.items c.args.place c.slot-slot.result
-    c.args.call.now _ c.in-Some.state
-    (found g (goal.at.In-Some g c).After-index_mut first slots all) c.in-Some.is
+    live g.H.Update.meaning first slots c.args.states.now.items c.args.place c.slot.result
+    c.args.call.now _ c.in-Some-held.state
+    (found g (goal.at.In-Some-held g c).In-Some first slots all) c.in-Some-held.is
 
 -- and its state is back at its place
-kept : (g : Over) (c : In-Some g) → set c.args.states.now.items c.slot-slot.result
-    (Some c.in-Some.state) ≡ c.args.states.now.items
+kept : (g : Over) (c : In-Some-held g) → set c.args.states.now.items c.slot.result
+    (Some c.in-Some-held.state) ≡ c.args.states.now.items
 kept g c =
-    put_back c.args.states.now.items c.slot-slot.result c.index_mut.result.now c.in-Some.state
-    c.index_mut.ensures.value c.in-Some.is
-
-pub returns-then-slot-len : goal.returns-then-slot-len
-returns-then-slot-len g c = λ first slots all.
-    inr
-    (absent g.H.Update.meaning first slots c.args.states.now.items c.args.place c.slot-slot.result
-    c.args.call.now all c.slot-slot.ensures (omega arith))
+    put_back c.args.states.now.items c.slot.result c.in-Some.held.now c.in-Some-held.state
+    c.in-Some.ensures.value c.in-Some-held.is
 
 pub returns-in_default : goal.returns-in_default
 returns-in_default g c = λ first slots all.
-    let at = found g (goal.at.returns-in_default g c).After-index_mut first slots all in
-    inr (ended g.H.Update.meaning first slots _ c.args.place _ _ _ at c.in_default.is)
+    let beyond : ¬ (c.slot.result < vec_len c.args.states.now) = λ within.
+    let some : false ≡ true = c.in_default.ensures.variant.1 within in cc in
+    inr
+    (absent g.H.Update.meaning first slots c.args.states.now.items c.args.place c.slot.result
+    c.args.call.now all c.slot.ensures (omega (arith, beyond)))
+
+pub returns-in_default-held : goal.returns-in_default-held
+returns-in_default-held g c = λ first slots all.
+    let at = found g (goal.at.returns-in_default-held g c).In-Some first slots all in
+    inr (ended g.H.Update.meaning first slots _ c.args.place _ _ _ at c.in_default-held.is)
 
 pub returns-then-input-counted : goal.returns-then-input-counted
 returns-then-input-counted g c = λ first slots all.
-    let slot = there g (goal.at.returns-then-input-counted g c).In-Some first slots all in
+    let slot = there g (goal.at.returns-then-input-counted g c).In-Some-held first slots all in
     inr (too_long slot _ c.counted.result _ c.in-Update.is c.counted.ensures
     c.if-input-counted.true)
 
 pub returns-else-input-counted : goal.returns-else-input-counted
 returns-else-input-counted g c = λ first slots all.
-    let slot = there g (goal.at.returns-else-input-counted g c).In-Some first slots all in
+    let slot = there g (goal.at.returns-else-input-counted g c).In-Some-held first slots all in
     updated slot _ c.counted.result _ c.update.new.self _ c.in-Update.is c.counted.ensures
     c.if-input-counted.false c.counted.type_inv c.update.ensures
 
 pub returns-in-Clone : goal.returns-in-Clone
 returns-in-Clone g c = λ first slots all.
-    let slot = there g (goal.at.returns-in-Clone g c).In-Some first slots all in
-    let back = kept g (goal.at.returns-in-Clone g c).In-Some in
+    let slot = there g (goal.at.returns-in-Clone g c).In-Some-held first slots all in
+    let back = kept g (goal.at.returns-in-Clone g c).In-Some-held in
     answers_by_push c.push.result _ c.push.ensures.pushed c.push.ensures.refused
     (λ pushed. rw (pushed, back, c.duplicate-copy.ensures) (copied slot _ _ c.in-Clone.is))
 
 pub returns-in-Reset : goal.returns-in-Reset
 returns-in-Reset g c = λ first slots all.
-    let slot = there g (goal.at.returns-in-Reset g c).In-Some first slots all in
+    let slot = there g (goal.at.returns-in-Reset g c).In-Some-held first slots all in
     let starts = g.met.H.FixedOutputReset.reset_starts_again in
     reset slot _ c.reset.new.self _ c.in-Reset.is
-    (starts c.in-Some.state c.reset.new.self c.reset.ensures)
+    (starts c.in-Some-held.state c.reset.new.self c.reset.ensures)
 
 pub returns-in-Finalize : goal.returns-in-Finalize
 returns-in-Finalize g c = λ first slots all.
-    let back = kept g (goal.at.returns-in-Finalize g c).In-Some in
     let slot =
-    live g.H.Update.meaning first slots c.args.states.now.items c.args.place c.slot-slot.result
+    live g.H.Update.meaning first slots c.args.states.now.items c.args.place c.slot.result
     c.args.call.now _ c.unwrap-last.result
-    (record {
-      all = all;
-      named = c.slot-slot.ensures;
-      within = omega arith;
-      at_place = rw back at c.index_mut-in-Finalize.ensures.value;
-    })
-    (sym c.take.ensures.value ∙ c.unwrap-last.ensures) in
+    (found g (goal.at.returns-in-Finalize g c).In-Some first slots all)
+    (c.in-Some-held.is ∙ sym c.take.ensures.value ∙ c.unwrap-last.ensures) in
     answers_by_push c.push-in-Finalize.result _ c.push-in-Finalize.ensures.pushed
     c.push-in-Finalize.ensures.refused
     (λ pushed.
-    rw (back, c.take.ensures.after) (finalized slot _ _ _ _ c.in-Finalize.is
+    rw c.take.ensures.after (finalized slot _ _ _ _ c.in-Finalize.is
     c.finalize_fixed.ensures pushed))
 
 pub returns-in-FinalizeReset : goal.returns-in-FinalizeReset
 returns-in-FinalizeReset g c = λ first slots all.
-    let slot = there g (goal.at.returns-in-FinalizeReset g c).In-Some first slots all in
+    let slot = there g (goal.at.returns-in-FinalizeReset g c).In-Some-held first slots all in
     let starts = g.met.H.FixedOutputReset.reset_starts_again in
     let was = c.finalize_fixed_reset-digest in
     answers_by_push c.push-in-FinalizeReset.result _ c.push-in-FinalizeReset.ensures.pushed
     c.push-in-FinalizeReset.ensures.refused
     (λ pushed.
     finalized_reset slot _ was.new.self _ _ _ c.in-FinalizeReset.is
-    (starts c.in-Some.state was.new.self was.ensures.reset) was.ensures.output pushed)
+    (starts c.in-Some-held.state was.new.self was.ensures.reset) was.ensures.output pushed)
