@@ -69,11 +69,15 @@ abbrev pub update_call : List ℕ → List ℕ → Option Call
 update_call slot digits =
     option_and_then (λ k. update_with k (message_value digits)) (slot_value slot)
 
+-- the update that the fields behind its name say
+abbrev pub update_fields : List ℕ → Option Call
+update_fields fields = option_and_then (λ parts. update_call parts.0 parts.1) (cut_at 32 fields)
+
 -- the call of this name with the fields behind it
 abbrev pub named_call : List ℕ → List ℕ → Option Call
 named_call name fields =
     if bytes_eq name (codes "u")
-    then option_and_then (λ parts. update_call parts.0 parts.1) (cut_at 32 fields)
+    then update_fields fields
     else if bytes_eq name (codes "c") then option_map Clone (slot_value fields)
     else if bytes_eq name (codes "r") then option_map Reset (slot_value fields)
     else if bytes_eq name (codes "f") then option_map Finalize (slot_value fields)

@@ -44,7 +44,9 @@ impl Command {
             IsReadingFault fault (task_of (map string_bytes words.now))) }
         ensures memory { result ≡ Err Fault.NoMemory → 2 < length words.now }
     {
-        let (command, words) = words.split_first().ok_or(Fault::WrongWords)?;
+        let Some((command, words)) = words.split_first() else {
+            return Err(Fault::WrongWords);
+        };
         match command.as_str() {
             "sum" => {
                 let (kind, options) = kind_and_options(alloc, words)?;
@@ -73,7 +75,9 @@ fn kind_and_options(alloc: Global, words: &[String]) -> Result<(Kind, Options), 
         → IsReadingFault fault (given_task to (map string_bytes words.now))) }
     ensures memory { result ≡ Err Fault.NoMemory → 1 < length words.now }
 {
-    let (kind, words) = words.split_first().ok_or(Fault::WrongWords)?;
+    let Some((kind, words)) = words.split_first() else {
+        return Err(Fault::WrongWords);
+    };
     let kind = Kind::from_word(kind.as_str())?;
     Ok((kind, Options::from_words(alloc, true, words)?))
 }

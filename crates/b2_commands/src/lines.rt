@@ -1,10 +1,12 @@
 //! The lines of a script, read as calls.
-ghost use Rattle.std.specs.Prelude.{◌≡◌, ◌<◌, ◌≤◌, ◌∷◌, length, map, if◌then◌else◌, IfOk, IfErr};
+ghost use Rattle.std.specs.Prelude.{◌≡◌, ◌<◌, ◌≤◌, ◌∷◌, length, map, if◌then◌else◌, IfOk, IfErr, ok_or};
 ghost use Rattle.std.specs.Char.{is_ascii_digit};
 ghost use Rattle.std.specs.List.{list_all};
 ghost use Rattle.std.specs.Option.{option_map};
 ghost use Rattle.std.specs.Str.Parse.{digits_value};
+ghost use Rattle.b2_commands.specs.declared.fault.Fault.TheVariants.{WrongLine};
 ghost use Rattle.b2_commands.specs.Scripts.{cut_at, lines_of, slot_value, call_at, script_calls};
+ghost use Rattle.b2_commands.specs.Scripts.{update_fields};
 ghost use Rattle.b2_commands.specs.Reading.{call_value, unplaced, IsLineFault};
 
 use crate::fault::Fault;
@@ -34,21 +36,20 @@ impl ScriptCall {
         ensures fault { IfErr result (λ fault. IsLineFault fault (call_at number line.now)) }
     {
         let wrong = Fault::WrongLine(number);
-        let (name, fields) = split_once(line, b' ').ok_or(wrong)?;
+        let Some((name, fields)) = split_once(line, b' ') else {
+            return Err(wrong);
+        };
+        if name == b"u".as_slice() {
+            return update_of(alloc, number, fields);
+        }
+        let Some(slot) = slot_of(fields) else {
+            return Err(wrong);
+        };
         match name {
-            b"u" => {
-                let (slot, digits) = split_once(fields, b' ').ok_or(wrong)?;
-                let slot = slot_of(slot).ok_or(wrong)?;
-                match message_of(alloc, digits) {
-                    Ok(bytes) => Ok(ScriptCall::Update(slot, bytes)),
-                    Err(Fault::NoMemory) => Err(Fault::NoMemory),
-                    Err(_) => Err(wrong),
-                }
-            }
-            b"c" => Ok(ScriptCall::Clone(slot_of(fields).ok_or(wrong)?)),
-            b"r" => Ok(ScriptCall::Reset(slot_of(fields).ok_or(wrong)?)),
-            b"f" => Ok(ScriptCall::Finalize(slot_of(fields).ok_or(wrong)?)),
-            b"d" => Ok(ScriptCall::FinalizeReset(slot_of(fields).ok_or(wrong)?)),
+            b"c" => Ok(ScriptCall::Clone(slot)),
+            b"r" => Ok(ScriptCall::Reset(slot)),
+            b"f" => Ok(ScriptCall::Finalize(slot)),
+            b"d" => Ok(ScriptCall::FinalizeReset(slot)),
             _ => Err(wrong),
         }
     }
@@ -64,6 +65,27 @@ impl ScriptCall {
             ScriptCall::Finalize(slot) => Call::Finalize(*slot),
             ScriptCall::FinalizeReset(slot) => Call::FinalizeReset(*slot),
         }
+    }
+}
+
+// Reads the fields SLOT and HEX of an update, which stands in the line of this number.
+fn update_of(alloc: Global, number: usize, fields: &[u8]) -> Result<ScriptCall, Fault>
+    ensures call { IfOk result
+        (λ call. ok_or (update_fields fields.now) (WrongLine number) ≡ Ok (call_value call)) }
+    ensures fault { IfErr result
+        (λ fault. IsLineFault fault (ok_or (update_fields fields.now) (WrongLine number))) }
+{
+    let wrong = Fault::WrongLine(number);
+    let Some((slot, digits)) = split_once(fields, b' ') else {
+        return Err(wrong);
+    };
+    let Some(slot) = slot_of(slot) else {
+        return Err(wrong);
+    };
+    match message_of(alloc, digits) {
+        Ok(bytes) => Ok(ScriptCall::Update(slot, bytes)),
+        Err(Fault::NoMemory) => Err(Fault::NoMemory),
+        Err(_) => Err(wrong),
     }
 }
 

@@ -55,9 +55,13 @@ impl TreeRequest {
             IsReadingFault fault (tree_task (map string_bytes words.now))) }
         ensures memory { result ≡ Err Fault.NoMemory → 1 < length words.now }
     {
-        let (kind, words) = words.split_first().ok_or(Fault::WrongWords)?;
+        let Some((kind, words)) = words.split_first() else {
+            return Err(Fault::WrongWords);
+        };
         let kind = TreeKind::from_word(kind.as_str())?;
-        let (leaf, words) = words.split_first().ok_or(Fault::WrongWords)?;
+        let Some((leaf, words)) = words.split_first() else {
+            return Err(Fault::WrongWords);
+        };
         let leaf_length = Self::leaf_of(leaf.as_bytes())?;
         let options = Options::from_words(alloc, false, words)?;
         Ok(TreeRequest {

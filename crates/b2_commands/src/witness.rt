@@ -75,11 +75,17 @@ impl Comparison {
             IsReadingFault fault (witness_task (map string_bytes words.now))) }
         ensures memory { result ≡ Err Fault.NoMemory → 1 < length words.now }
     {
-        let (kind, words) = words.split_first().ok_or(Fault::WrongWords)?;
+        let Some((kind, words)) = words.split_first() else {
+            return Err(Fault::WrongWords);
+        };
         let kind = WitnessKind::from_word(kind.as_str())?;
-        let (a, words) = words.split_first().ok_or(Fault::WrongWords)?;
+        let Some((a, words)) = words.split_first() else {
+            return Err(Fault::WrongWords);
+        };
         let a = message_of(alloc, a.as_bytes())?;
-        let (b, words) = words.split_first().ok_or(Fault::WrongWords)?;
+        let Some((b, words)) = words.split_first() else {
+            return Err(Fault::WrongWords);
+        };
         let b = message_of(alloc, b.as_bytes())?;
         match words.split_first() {
             None => Ok(Comparison { kind, a, b }),

@@ -87,7 +87,9 @@ impl Options {
         ensures fault { IfErr result (λ fault.
             IsReadingFault fault (with_word takes_key (given_of self.old) word.now)) }
     {
-        let (name, digits) = word.split_once('=').ok_or(Fault::WrongWords)?;
+        let Some((name, digits)) = word.split_once('=') else {
+            return Err(Fault::WrongWords);
+        };
         match name {
             "key" if takes_key && self.key.is_none() => {
                 self.key = Some(bytes_of(alloc, digits.as_bytes())?)
