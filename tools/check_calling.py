@@ -1,8 +1,9 @@
 #!/usr/bin/env python3
-"""Compares the pages CALLING.md with the sources that they quote.
+"""Compares the pages CALLING.md and the README with the sources that they quote.
 
 Each function that a block of Rust shows has to stand in crates/blake2_callers/src, and each contract that a
-block of text shows in the file of the page's crate that the line before the block names, but for spaces.
+block of text shows in the file of the page's crate that the line before the block names, but for spaces. The
+README's functions and `use` lines have to stand in crates/blake2_vectors/src/readme.rt, whose tests run them.
 
 usage: tools/check_calling.py
 """
@@ -47,17 +48,32 @@ def faults(page):
     return found, quotes
 
 
+def readme_faults():
+    """What the README's blocks of Rust show and its tests lack, and how many quotes it has."""
+    with open(os.path.join(TOP, "README.md"), encoding="utf-8") as file:
+        blocks = re.findall(r"^```rust\n(.*?)^```$", file.read(), re.M | re.S)
+    source = read("crates", "blake2_vectors", "src", "readme.rt")
+    quotes = [quote for block in blocks for quote in re.findall(r"^use .*?;$|^///.*?^}$", block, re.M | re.S)]
+    return [quote.splitlines()[0] for quote in quotes if one_spaced(quote) not in source], len(quotes)
+
+
 def main():
     """Says what differs, and answers whether something does."""
     pages = sorted(glob.glob(os.path.join(TOP, "crates", "*", "CALLING.md")))
-    differs = total = 0
+    found, total = readme_faults()
+    differs = len(found)
+    for quote in found:
+        print(f"README.md: not in the source: {quote}")
+    if not total:
+        print("README.md: no quote")
+        differs += 1
     for page in pages:
         found, quotes = faults(page)
         total += quotes
         for quote in found:
             differs += 1
             print(f"{os.path.relpath(page, TOP)}: not in the source: {quote}")
-    print(f"{len(pages)} pages, {total} quotes, {differs} differ")
+    print(f"{len(pages) + 1} pages, {total} quotes, {differs} differ")
     return 1 if differs or not total else 0
 
 

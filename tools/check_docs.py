@@ -6,6 +6,9 @@
 - docs/CONTRACTS.md: each function, clause, definition and must-fail edit in the last column of a table
   stands in the crate of its section.
 - docs/SPECIFICATION.md: its numbers, tables, fields, KINDs, nodes and faults are those of the definitions.
+- docs/MAP.md and docs/REVIEW.md: the sizes of crates and definitions are about those, and with CONTRIBUTING.md
+  each file that they name is there.
+- CHANGELOG.md: its newest version is that of the headers and packages.
 - The README and all pages: each link to a file leads to one.
 
 Prints what is wrong, a line each, and ends with status 1 where anything is.
@@ -211,9 +214,54 @@ def check_specification():
             yield f"SPECIFICATION: the definitions say {told!r}"
 
 
+# Where the version stands, by what stands before it.
+VERSIONS = (("CHANGELOG.md", r"^## "), ("c/include/blake2_c.h", r"VULFSJOR_VERSION \""), ("c/install.sh", r"^Version: "),
+            ("rust/Cargo.toml", r"^version = \""), ("rust-digest/Cargo.toml", r"^version = \""),
+            ("python/pyproject.toml", r"^version = \""))
+
+
+def check_version():
+    """Which file tells another version than the top of CHANGELOG.md."""
+    wanted = None
+    for path, before in VERSIONS:
+        if not os.path.exists(os.path.join(TOP, path)):
+            continue
+        found = re.search(before + r"([0-9]+\.[0-9]+\.[0-9]+)", read(path), re.MULTILINE)
+        wanted = wanted or found[1]
+        if found and found[1] != wanted:
+            yield f"{path}: version {found[1]}, and CHANGELOG.md has {wanted}"
+
+
+def lines_of(pattern):
+    """How many lines the files have that a pattern names."""
+    return sum(len(read(path).splitlines()) for path in paths(pattern))
+
+
+def check_sizes():
+    """Which sizes of docs/MAP.md and docs/REVIEW.md are off by more than a tenth, or 60 lines where that is more."""
+    for name, *told in re.findall(r"^\| `(\w+)` \| .* \| (\d+) \| (\d+) \| (\d+) \|$", read("docs/MAP.md"), re.MULTILINE):
+        found = [lines_of(f"crates/{name}/{part}") for part in ("src/**/*.rt", "specs/**/*.antt", "proofs/**/*.antt")]
+        for size, number in zip(told, found):
+            if abs(int(size) - number) > max(60, number // 10):
+                yield f"MAP: `{name}` has {number} lines where it says {size}"
+    for path, size in re.findall(r"^\| `(\w+/specs/\w+\.antt)` \| (\d+) \|", read("docs/REVIEW.md"), re.MULTILINE):
+        number = lines_of("crates/" + path)
+        if abs(int(size) - number) > max(5, number // 10):
+            yield f"REVIEW: {path} has {number} lines where it says {size}"
+
+
+def check_files():
+    """Which files and edits docs/MAP.md, docs/REVIEW.md and CONTRIBUTING.md name that are not there."""
+    for page in ("docs/MAP.md", "docs/REVIEW.md", "CONTRIBUTING.md"):
+        for word in WORD.findall(read(page)):
+            if "NAME" not in word and re.fullmatch(r"[\w./-]+/[\w./-]+\.(?:rt|antt|edit|py|sh|h|svg|md)", word) and not any(
+                    paths(before + word) for before in ("", "crates/", "crates/*/", "crates/*/src/")):
+                yield f"{page}: there is no {word}"
+
+
 def check_links():
     """Which links of the documents lead nowhere."""
-    for page in ["README.md"] + paths("docs/*.md") + paths("crates/*/*.md"):
+    for page in paths("*.md") + paths("docs/*.md") + paths("crates/*/*.md") + paths("*/README.md"):
         for target in re.findall(r"\]\(([^)#]+)(?:#[^)]*)?\)", read(page)):
             path = os.path.join(TOP, os.path.dirname(page), target)
             if "://" not in target and not os.path.exists(path):
@@ -222,7 +270,8 @@ def check_links():
 
 def main():
     Parser(description=__doc__.split("\n\n")[0]).parse_args()
-    wrong = [*check_definitions(), *check_contracts(), *check_specification(), *check_links()]
+    wrong = [*check_definitions(), *check_contracts(), *check_specification(), *check_version(), *check_sizes(),
+             *check_files(), *check_links()]
     print("\n".join(wrong) if wrong else "the names and numbers of the documents stand in the sources")
     return 1 if wrong else 0
 

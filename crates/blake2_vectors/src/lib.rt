@@ -41,6 +41,8 @@ mod parameters;
 #[cfg(test)]
 mod plain;
 #[cfg(test)]
+mod readme;
+#[cfg(test)]
 mod rounds;
 #[cfg(test)]
 mod selftest;
