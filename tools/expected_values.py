@@ -49,6 +49,15 @@ def copies():
         print(f"  {name} key={key.hex()} salt={salt.decode()} persona={persona.decode()}: {digest(outputs)}")
 
 
+def resets():
+    """resets: the digest of the digests of the first piece and of the second, one after the other, for each
+    pair of lengths in their order."""
+    for kind, (family, size) in KINDS.items():
+        digests = b"".join(blake2(family, size, piece) for first in LENGTHS for second in LENGTHS
+                           for piece in (ALPHABET[:first], ALPHABET[first:first + second]))
+        print(f"  {kind}: {digest(digests)}")
+
+
 def keys():
     """keys: the digest of the outputs over `abc` at 1, 20 and all but one bytes, each under the longest key,
     0, 1, 2 and so on, and under the key 0."""
@@ -111,6 +120,36 @@ def large():
         print(f"  {kind}: {blake2(family, size, message).hex()}, {len(text)} bytes, {digest(text)}")
     for leaf in (1, 64, 1000, 4096, 20000, 2**20, 2**20 + 1, 2**26):
         print(f"  {leaf}: {tree_root(message, leaf, 32).hex()}")
+
+
+def texts():
+    """texts: the digest of what each command prints over texts of 4,090 to 4,100 and of 8,186 to 8,196 bytes:
+    over so many `a`, and for `script` over a line `u 0` of zeros and a line `f 0` of together so many."""
+    lengths_of_texts = [*range(4090, 4101), *range(8186, 8197)]
+    for kind in ("b512", "s256"):
+        family, size = KINDS[kind]
+        sums = "".join(blake2(family, size, b"a" * n).hex() + "\n" for n in lengths_of_texts)
+        scripts = "".join(blake2(family, size, bytes((n - 8) // 2)).hex() + "\n" for n in lengths_of_texts)
+        steps = b"".join(transcript_text(family, size, b"a" * n) for n in lengths_of_texts)
+        for command, text in (("sum", sums.encode()), ("script", scripts.encode()), ("steps", steps)):
+            print(f"{command} {kind}|{digest(text)}")
+    for leaf in (1, 64, 4096):
+        roots = "".join(tree_root(b"a" * n, leaf, 64).hex() + "\n" for n in lengths_of_texts)
+        print(f"tree b512 {leaf}|{digest(roots.encode())}")
+
+
+def longest():
+    """longest: for each KIND the digests of what `sum` and `script`, one after the other, and of what `steps`
+    prints over `abc`, under key, salt and persona of 1 byte and of the most: 0, 1, 2 and so on."""
+    for kind, (family, size) in KINDS.items():
+        numbers = FAMILIES[family]
+        sums, steps = b"", b""
+        for choice in itertools.product((1, numbers.key), (1, numbers.salt), (1, numbers.salt)):
+            key, salt, persona = (ALPHABET[:length] for length in choice)
+            line = blake2(family, size, b"abc", key, salt, persona).hex() + "\n"
+            sums += 2 * line.encode()
+            steps += transcript_text(family, size, b"abc", key, salt, persona)
+        print(f"{kind}|{digest(sums)}|{digest(steps)}")
 
 
 def collisions():
@@ -233,7 +272,8 @@ def trees():
 
 
 TABLES = {table.__name__: table for table in (
-    copies, keys, cores, lengths, replays, transcripts, options, large, collisions, forged, nodes, trees)}
+    copies, resets, keys, cores, lengths, replays, transcripts, options, large, texts, longest, collisions,
+    forged, nodes, trees)}
 
 
 def main():

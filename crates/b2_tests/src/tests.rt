@@ -3,6 +3,7 @@
 
 mod devices;
 mod large;
+mod lengths;
 mod memory;
 mod options;
 mod outputs;

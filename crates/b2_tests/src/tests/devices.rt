@@ -1,4 +1,5 @@
 //! Devices that give or take little at a time, and that fail at each call.
+use super::lengths::script_of;
 use super::{check_run, run_over, words_of};
 use b2_commands::run;
 use blake2::engine::{SliceSink, SliceSource};
@@ -36,9 +37,8 @@ fn check_little(
     for most in [1, 2, 3, 64] {
         let room = room.as_mut_slice();
         let (found, written) = run_between(rt.alloc(), words.as_slice(), input, room, most, None);
-        assert_eq!(rt; found, status, "b2 {text}: {most} bytes a call");
         assert!(rt;
-            room.get(..written) == Some(whole),
+            found == status && room.get(..written) == Some(whole),
             "b2 {text}: {most} bytes a call"
         );
     }
@@ -66,16 +66,14 @@ fn check_sinks(
             4096,
             fail_at,
         );
-        assert_eq!(rt; status, 1, "b2 {text}: fails after {length}");
         assert!(rt;
-            all.get(..written) == whole.get(..length),
+            status == 1 && all.get(..written) == whole.get(..length),
             "b2 {text}: fails after {length}"
         );
         let (few, _) = room.as_mut_slice().split_at_mut(length);
         let (status, written) = run_between(rt.alloc(), words.as_slice(), input, few, 4096, None);
-        assert_eq!(rt; status, 1, "b2 {text}: room for {length}");
         assert!(rt;
-            few.get(..written) == whole.get(..length),
+            status == 1 && few.get(..written) == whole.get(..length),
             "b2 {text}: room for {length}"
         );
     }
@@ -123,6 +121,50 @@ fn devices_give_little_or_fail(rt: HostRuntime) -> Result<(), Fail> {
         if reads {
             check_sources(&rt, words, input)?;
         }
+    }
+    Ok(())
+}
+
+// Checks that a command whose source fails at one of these ends of pieces, or a byte before it or
+// behind it, prints that a read failed.
+fn check_ends(
+    rt: &(impl Abort + AllocGlobal),
+    words: &str,
+    input: &[u8],
+    ends: &[usize],
+) -> Result<(), Fail> {
+    for end in ends {
+        for fail_at in [end.saturating_sub(1), *end, end.saturating_add(1)] {
+            let run = run_over(rt.alloc(), words, input, Some(fail_at))?;
+            check_run(rt, words, run, 1, "b2: read failed\n")?;
+        }
+    }
+    Ok(())
+}
+
+// The source gives 4,096 bytes a read.
+#[test]
+fn reads_fail_behind_whole_pieces(rt: HostRuntime) -> Result<(), Fail> {
+    let input = vec![in rt.alloc(); b'a'; 70_000]?;
+    for words in [
+        "sum b512",
+        "sum s128 key=01",
+        "steps b512",
+        "steps s256 key=01",
+        "tree b128 4294967295",
+    ] {
+        check_ends(&rt, words, input.as_slice(), &[4096, 8192, 65_536])?;
+    }
+    // A piece of a tree's input has 65,537 bytes in leaves of one, and 69,632 in leaves of 4,096.
+    check_ends(&rt, "tree b512 1", input.as_slice(), &[4096, 65_537])?;
+    check_ends(&rt, "tree b256 4096", input.as_slice(), &[4096, 69_632])
+}
+
+#[test]
+fn reads_fail_behind_whole_pieces_of_scripts(rt: HostRuntime) -> Result<(), Fail> {
+    let script = script_of(rt.alloc(), 12_289)?;
+    for words in ["script b512", "script s256 key=01"] {
+        check_ends(&rt, words, script.as_slice(), &[4096, 8192, 12_288])?;
     }
     Ok(())
 }

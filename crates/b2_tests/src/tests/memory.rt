@@ -11,6 +11,9 @@ use std::test::Fail;
 // The bytes that a hoard leaves together: those of the shortest piece of a tree's input, and more.
 const SPARE_BYTES: usize = 131_072;
 
+// How often a command is tried.
+const TRIES: usize = 1024;
+
 // Takes all memory of the process but the spare, in blocks that halve, down to the smallest.
 //
 // A process has 2^47 bytes of addresses, and a machine with a GiB of memory grants blocks of half
@@ -52,9 +55,9 @@ fn run_with_memory(
     Ok((status, sink.written()))
 }
 
-// Checks a command where no memory is left, and at each further try with so many bytes more: it
-// answers that memory is wanted, or prints the text. At the first tries it does the one, and at the
-// last the other.
+// Checks a command where no memory is left, and at each further try with so many bytes more. At the
+// first tries it answers that memory is wanted, with status 1, and at all others it prints the text,
+// with status 0.
 fn check_refusals(
     rt: &(impl Abort + AllocGlobal),
     text: &str,
@@ -67,9 +70,8 @@ fn check_refusals(
     let words = words_of(rt.alloc(), text)?;
     let mut room = [0u8; 1024];
     let hoard = hoard(rt.alloc())?;
-    let mut refused = 0u32;
-    let mut last_status = 1;
-    for tries in 0..1024usize {
+    let mut refused = 0usize;
+    for tries in 0..TRIES {
         let (status, written) = run_with_memory(
             rt.alloc(),
             words.as_slice(),
@@ -77,19 +79,56 @@ fn check_refusals(
             &mut room,
             step * tries,
         )?;
-        last_status = status;
         let printed = str::from_utf8(room.get(..written).unwrap_or(b""))?;
-        if status == 1 {
+        if printed == "b2: no memory\n" {
+            assert!(rt; status == 1 && refused == tries, "b2 {text}: try {tries}");
             refused = refused.saturating_add(1);
-            assert_eq!(rt; printed, "b2: no memory\n", "b2 {text}: try {tries}");
         } else {
-            assert_eq!(rt; printed, wanted, "b2 {text}: try {tries}");
+            assert!(rt; status == 0 && printed == wanted, "b2 {text}: try {tries}");
         }
     }
     drop(hoard);
-    assert!(rt; refused > 0, "b2 {text}");
-    assert_eq!(rt; last_status, 0, "b2 {text}: {refused} refused");
+    assert!(rt;
+        0 < refused && refused < TRIES,
+        "b2 {text}: {refused} refused"
+    );
     Ok(())
+}
+
+// Checks a command that takes no memory: it prints the text where no memory is left, and where
+// requests for a byte and for sixteen are refused before it and after it.
+fn check_without_memory(
+    rt: &(impl Abort + AllocGlobal),
+    text: &str,
+    input: &[u8],
+    wanted: (u8, &str),
+) -> Result<(), Fail> {
+    let words = words_of(rt.alloc(), text)?;
+    let mut room = [0u8; 256];
+    let hoard = hoard(rt.alloc())?;
+    let plug: Vec<u8> = Vec::with_capacity(rt.alloc(), SPARE_BYTES)?;
+    let refused_before = is_refused(rt.alloc());
+    let mut source = SliceSource::new(input, 4096, None);
+    let mut sink = SliceSink::new(&mut room, 4096, None);
+    let status = run(rt.alloc(), words.as_slice(), &mut source, &mut sink);
+    let refused_after = is_refused(rt.alloc());
+    drop(plug);
+    drop(hoard);
+    assert!(rt; refused_before && refused_after, "b2 {text}");
+    let written = sink.written();
+    let printed = str::from_utf8(room.get(..written).unwrap_or(b""))?;
+    assert!(rt;
+        (status, printed) == wanted,
+        "b2 {text}: {status} {printed}"
+    );
+    Ok(())
+}
+
+// Whether requests for a byte of memory, and for sixteen, are refused.
+fn is_refused(alloc: Global) -> bool {
+    let one: Result<Vec<u8>, AllocError> = Vec::with_capacity(alloc, 1);
+    let sixteen: Result<Vec<u8>, AllocError> = Vec::with_capacity(alloc, 16);
+    one.is_err() && sixteen.is_err()
 }
 
 const STEP: &str =
@@ -147,6 +186,14 @@ fn each_request_for_memory_refused(rt: HostRuntime) -> Result<(), Fail> {
         ],
     )?;
     check_refusals(&rt, "witness b0 61 62", b"", pair.as_str(), 16)?;
+    for words in [
+        "witness b0 61 61",
+        "witness b512 61 62",
+        "witness s256 61 -",
+        "witness s8 - 62",
+    ] {
+        check_refusals(&rt, words, b"", "none\n", 16)?;
+    }
     check_refusals(
         &rt,
         "tree b512 4 salt= persona=",
@@ -155,4 +202,22 @@ fn each_request_for_memory_refused(rt: HostRuntime) -> Result<(), Fail> {
         cb6e13211a8298c3e52d543a21efa545053f3006100629ff6bd181611b38f8c8\n",
         128,
     )
+}
+
+#[test]
+fn answers_that_take_no_memory(rt: HostRuntime) -> Result<(), Fail> {
+    let digest = "508c5e8c327c14e2e1a72ba34eeb452f37458b209ed63a294d999b4c86675982\n";
+    for (words, input, wanted) in [
+        ("sum s256", "abc", (0, digest)),
+        ("witness b512 - -", "", (0, "none\n")),
+        ("witness s0 - -", "", (0, "none\n")),
+        ("", "", (2, "b2: wrong words\n")),
+        ("sum b999", "", (2, "b2: wrong words\n")),
+        ("tree s256 4", "", (2, "b2: wrong words\n")),
+        ("steps b512 key=", "", (2, "b2: wrong length\n")),
+        ("sum b512 salt=1", "", (2, "b2: wrong hex\n")),
+    ] {
+        check_without_memory(&rt, words, input.as_bytes(), wanted)?;
+    }
+    Ok(())
 }

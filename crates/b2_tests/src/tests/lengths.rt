@@ -1,0 +1,156 @@
+//! Inputs that end about the ends of pieces of 4,096 bytes, and keys, salts and personas of one byte
+//! and of the greatest length. The digests are those of `tools/expected_values.py`, under `texts` and
+//! `longest`.
+use super::run_over;
+use blake2::{Blake2b256, Digest};
+use std::alloc::{AllocError, Global};
+use std::process::Abort;
+use std::test::Fail;
+
+// The words of a command, and the digest of what it prints over texts of 4,090 to 4,100 and of 8,186
+// to 8,196 bytes.
+const TEXTS: &str = "\
+sum b512|2bef40ee99a2ca25958fd1bc033c2b6bb347c5c39718d99af3eb7f126bead250\n\
+script b512|a6850053548d86878befcb93be81dcb922d0aa7dbb5aada4c29cd1baa2204f61\n\
+steps b512|0b0688b4061371b6c902614746c533fe7c8f05261ee38e1c19002cd1ac40f292\n\
+sum s256|e53e45eac86680d23284080959c98d2fac18a343885426ebb1a1dd449e5acd8a\n\
+script s256|07f3d0006650a83a2f03ef7254844f26d8002273382ea94fa412d5b47bb5cbd1\n\
+steps s256|6ebfbba4c1c3b542a2422c996a4b5012e3537dc8b9ca03081a7eeebd0e0856e0\n\
+tree b512 1|e9d10c0370052126c4d770a20cb0138244f18db1f1146468ea074d46cd714095\n\
+tree b512 64|6ddb6c171b252ba67072faaff8f088a4ba04980c48999526b33a3e2fd1e99bf4\n\
+tree b512 4096|4d497f7ac4b02de9b61e49f8de8316b01a22887bdc2ee09cd356187e86a86cc8\n\
+";
+
+// KIND, and the digests of what `sum` and `steps` print over `abc` under all choices of lengths.
+const LONGEST: &str = "\
+b128|5f86ac34270813ce2fa65eaf28e11ce4489169a2b14c75787521625a5a3e5665|\
+7a6480bca8d7b41f914ca44e9f3c4d510dd6b390d6b69809b9c307d8a277e388\n\
+b256|d84fad01531eedb1c17b2c56b7522c15a05d36f227968a0840347e390facbfff|\
+8b4aaa9acd9d8efe2419b90f27741614546d07481957210856ebe1f5405135ff\n\
+b512|94d5bd9243068dca00f02bca06b5eb713826e8f31dd6fd85c514fbb37c665a62|\
+511f8a0e9a2593ba8ae6a1e64a4fed17fd08da427d71256eb417ed580eb84c8d\n\
+s128|872b53c764601809a4c436042c4ade7ce4d25bb6298ce22f34774bb866e9478c|\
+e065420551190860c2cd59f462e14b7949bf69276b13c5212135469b2a896ccf\n\
+s256|df6afbc6104dc75c498d85b3ebbd59049592f9acbd69017e138031a492e532dd|\
+d27d61cba45fd39885a479081b3ecc6dbefdefa8cff4cec4f3b7c1e273235c4c\n\
+";
+
+// A script of so many bytes, 8 and more: one slot takes zeros, and gives their digest.
+pub(super) fn script_of(alloc: Global, length: usize) -> Result<Vec<u8>, AllocError> {
+    let mut script = Vec::from_slice(alloc, b"u 0 ")?;
+    for _ in 4..length / 2 {
+        script.extend_from_slice(b"00")?;
+    }
+    script.extend_from_slice(b"\nf 0")?;
+    if length % 2 == 1 {
+        script.push(b'\n')?;
+    }
+    Ok(script)
+}
+
+// Runs a command over an input, checks that it succeeds, and adds what it prints.
+fn add_output(
+    rt: &(impl Abort + AllocGlobal),
+    outputs: &mut Vec<u8>,
+    words: &str,
+    input: &[u8],
+) -> Result<(), Fail> {
+    let (status, output) = run_over(rt.alloc(), words, input, None)?;
+    assert!(rt; status == 0, "b2 {words}: {} bytes", input.len());
+    outputs.extend_from_slice(output.as_slice())?;
+    Ok(())
+}
+
+// Checks the digest of what commands print.
+fn check_outputs(
+    rt: &(impl Abort + AllocGlobal),
+    words: &str,
+    outputs: &[u8],
+    wanted: &str,
+) -> Result<(), Fail> {
+    let digest = hex::encode(rt.alloc(), &Blake2b256::digest(outputs)[..])?;
+    assert!(rt; digest.as_str() == wanted, "b2 {words}");
+    Ok(())
+}
+
+#[test]
+fn takes_texts_about_the_ends_of_pieces(rt: HostRuntime) -> Result<(), Fail> {
+    let alloc = rt.alloc();
+    for row in TEXTS.lines() {
+        let (words, wanted) = row.split_once('|').ok_or("a row without a digest")?;
+        let mut outputs = Vec::new(alloc);
+        for i in 0..22usize {
+            let length = if i < 11 { 4090 + i } else { 8175 + i };
+            let text = if words.starts_with("script") {
+                script_of(alloc, length)?
+            } else {
+                vec![in alloc; b'a'; length]?
+            };
+            assert!(rt; text.len() == length, "b2 {words}: {length} bytes");
+            add_output(&rt, &mut outputs, words, text.as_slice())?;
+        }
+        check_outputs(&rt, words, outputs.as_slice(), wanted)?;
+    }
+    Ok(())
+}
+
+// Words NAME=HEX for a key, a salt and a persona of so many bytes of 0, 1, 2 and so on.
+fn options_of(alloc: Global, lengths: (usize, usize, usize)) -> Result<String, AllocError> {
+    let mut bytes = [0u8; 64];
+    for (i, byte) in bytes.iter_mut().enumerate() {
+        *byte = i as u8;
+    }
+    let (key, salt, persona) = lengths;
+    let key = hex::encode(alloc, &bytes[..key.min(64)])?;
+    let salt = hex::encode(alloc, &bytes[..salt.min(64)])?;
+    let persona = hex::encode(alloc, &bytes[..persona.min(64)])?;
+    format!(in alloc; "key={key} salt={salt} persona={persona}")
+}
+
+// What `sum`, `script` and `steps` print over `abc` under a KIND and options of these lengths.
+fn add_outputs(
+    rt: &(impl Abort + AllocGlobal),
+    sums: &mut Vec<u8>,
+    transcripts: &mut Vec<u8>,
+    kind: &str,
+    lengths: (usize, usize, usize),
+) -> Result<(), Fail> {
+    let alloc = rt.alloc();
+    let options = options_of(alloc, lengths)?;
+    let words = format!(in alloc; "sum {kind} {options}")?;
+    add_output(rt, sums, words.as_str(), b"abc")?;
+    let words = format!(in alloc; "script {kind} {options}")?;
+    add_output(rt, sums, words.as_str(), b"u 0 616263\nf 0\n")?;
+    let words = format!(in alloc; "steps {kind} {options}")?;
+    add_output(rt, transcripts, words.as_str(), b"abc")
+}
+
+#[test]
+fn takes_options_of_each_length(rt: HostRuntime) -> Result<(), Fail> {
+    let alloc = rt.alloc();
+    for row in LONGEST.lines() {
+        let (kind, digests) = row.split_once('|').ok_or("a row without digests")?;
+        let (sum_digest, steps_digest) = digests.split_once('|').ok_or("a row with one digest")?;
+        let (key, text) = if kind.starts_with("b") {
+            (64, 16)
+        } else {
+            (32, 8)
+        };
+        let (mut sums, mut transcripts) = (Vec::new(alloc), Vec::new(alloc));
+        for lengths in [
+            (1, 1, 1),
+            (1, 1, text),
+            (1, text, 1),
+            (1, text, text),
+            (key, 1, 1),
+            (key, 1, text),
+            (key, text, 1),
+            (key, text, text),
+        ] {
+            add_outputs(&rt, &mut sums, &mut transcripts, kind, lengths)?;
+        }
+        check_outputs(&rt, kind, sums.as_slice(), sum_digest)?;
+        check_outputs(&rt, kind, transcripts.as_slice(), steps_digest)?;
+    }
+    Ok(())
+}
