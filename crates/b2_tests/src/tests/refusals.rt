@@ -114,7 +114,9 @@ fn refuses_no_digits(rt: HostRuntime) -> Result<(), Fail> {
     let status = run(rt.alloc(), words.as_slice(), &mut source, &mut sink);
     let written = sink.written();
     let printed = str::from_utf8(room.get(..written).unwrap_or(b""))?;
-    assert_eq!(rt; printed, "b2: wrong hex\n");
-    assert_eq!(rt; status, 2);
+    assert!(rt;
+        status == 2 && printed == "b2: wrong hex\n",
+        "{status} {printed}"
+    );
     Ok(())
 }
