@@ -23,7 +23,7 @@ fn blake2b_of_abc(rt: HostRuntime) {
         0x33, 0xcc, 0x95, 0x18, 0xd3, 0x8a, 0xa8, 0xdb, 0xf1, 0x92, 0x5a, 0xb9, 0x23, 0x86, 0xed,
         0xd4, 0x00, 0x99, 0x23,
     ];
-    assert_eq!(rt; words::blake2b::to_bytes(&h), digest);
+    assert!(rt; words::blake2b::to_bytes(&h) == digest);
 }
 
 // The same of BLAKE2s (appendix B), over chaining words that are an array.
@@ -44,10 +44,7 @@ fn blake2s_of_abc(rt: HostRuntime) {
         0x2f, 0x37, 0x45, 0x8b, 0x20, 0x9e, 0xd6, 0x3a, 0x29, 0x4d, 0x99, 0x9b, 0x4c, 0x86, 0x67,
         0x59, 0x82,
     ];
-    assert_eq!(rt;
-        words::blake2s::to_bytes(&words::blake2s::to_rows(&h)),
-        digest
-    );
+    assert!(rt; words::blake2s::to_bytes(&words::blake2s::to_rows(&h)) == digest);
 }
 
 // Only the last-node flag tells these digests from those of `abc` above: they are the values of
@@ -71,7 +68,7 @@ fn blake2b_of_a_last_node(rt: HostRuntime) {
         0x04, 0x3e, 0xd2, 0x71, 0x39, 0x54, 0xb3, 0x33, 0xca, 0x07, 0xb8, 0x15, 0xd9, 0x12, 0x18,
         0xac, 0x3e, 0x3d, 0xe4,
     ];
-    assert_eq!(rt; words::blake2b::to_bytes(&h), digest);
+    assert!(rt; words::blake2b::to_bytes(&h) == digest);
 }
 
 #[test]
@@ -91,5 +88,5 @@ fn blake2s_of_a_last_node(rt: HostRuntime) {
         0x48, 0x8f, 0x04, 0x45, 0x29, 0x32, 0xe2, 0xe8, 0xa0, 0x8b, 0x53, 0x47, 0xd4, 0x94, 0x22,
         0xee, 0x3f,
     ];
-    assert_eq!(rt; words::blake2s::to_bytes(&h), digest);
+    assert!(rt; words::blake2s::to_bytes(&h) == digest);
 }

@@ -2,13 +2,13 @@
 //! digests of all outputs are those of `tools/expected_values.py`, under `copies`.
 ghost use Rattle.std.specs.Prelude.{◌≤◌, length};
 
-use crate::inputs::{LENGTHS, count_up, take};
+use crate::inputs::{LENGTHS, count_up, reads, take};
 use blake2::digest::{Duplicate, FixedOutput, FixedOutputReset, Reset};
 use blake2::{
     Blake2b128, Blake2b256, Blake2b512, Blake2bMac512, Blake2s128, Blake2s256, Blake2sMac256,
     Digest,
 };
-use std::alloc::{AllocError, Global};
+use std::alloc::AllocError;
 use std::process::Abort;
 use std::test::Fail;
 
@@ -65,13 +65,8 @@ where
     Ok(of_both)
 }
 
-// Checks each pair of lengths, and gives BLAKE2b-256 of all outputs for both pieces, in
-// hexadecimal.
-fn digest_of_outputs<S, const N: usize>(
-    rt: &impl Abort,
-    alloc: Global,
-    start: &S,
-) -> Result<String, AllocError>
+// Checks each pair of lengths, and gives BLAKE2b-256 of all outputs for both pieces.
+fn digest_of_outputs<S, const N: usize>(rt: &impl Abort, start: &S) -> Result<[u8; 32], AllocError>
 where
     S: FixedOutputReset<N> + Duplicate + Clone + Drop,
 {
@@ -85,41 +80,26 @@ where
             take(rt, &mut outputs, output.as_slice());
         }
     }
-    hex::encode(alloc, &outputs.finalize()[..])
+    Ok(outputs.finalize())
 }
 
 #[test]
 fn hash_two_pieces_by_blake2b(rt: HostRuntime) -> Result<(), Fail> {
-    let digest = digest_of_outputs(&rt, rt.alloc(), &Blake2b128::new())?;
-    assert_eq!(rt;
-        digest.as_str(),
-        "350ea43946262be65cbea82c6834f599e396f2b3bc19a82058e584b5ceff5298"
-    );
-    let digest = digest_of_outputs(&rt, rt.alloc(), &Blake2b256::new())?;
-    assert_eq!(rt;
-        digest.as_str(),
-        "9ef56fa22be8e82b255cef96b293856fbe401912660aaa2a86d53e76ac0badc2"
-    );
-    let digest = digest_of_outputs(&rt, rt.alloc(), &Blake2b512::new())?;
-    assert_eq!(rt;
-        digest.as_str(),
-        "e3daa74c613f0eb619f757374ee61d8caa318610cd6e3ffc8e14a812095aa278"
-    );
+    let wanted = "350ea43946262be65cbea82c6834f599e396f2b3bc19a82058e584b5ceff5298";
+    assert!(rt; reads(&digest_of_outputs(&rt, &Blake2b128::new())?, wanted));
+    let wanted = "9ef56fa22be8e82b255cef96b293856fbe401912660aaa2a86d53e76ac0badc2";
+    assert!(rt; reads(&digest_of_outputs(&rt, &Blake2b256::new())?, wanted));
+    let wanted = "e3daa74c613f0eb619f757374ee61d8caa318610cd6e3ffc8e14a812095aa278";
+    assert!(rt; reads(&digest_of_outputs(&rt, &Blake2b512::new())?, wanted));
     Ok(())
 }
 
 #[test]
 fn hash_two_pieces_by_blake2s(rt: HostRuntime) -> Result<(), Fail> {
-    let digest = digest_of_outputs(&rt, rt.alloc(), &Blake2s128::new())?;
-    assert_eq!(rt;
-        digest.as_str(),
-        "e15b12367b4746be0955f31902ab2a7574f2f81a9806bf26467ecbc2f7f99b5e"
-    );
-    let digest = digest_of_outputs(&rt, rt.alloc(), &Blake2s256::new())?;
-    assert_eq!(rt;
-        digest.as_str(),
-        "7b55b8396e3d36ec1a00e70509b7de72ee48b643d354128566218889bb906b43"
-    );
+    let wanted = "e15b12367b4746be0955f31902ab2a7574f2f81a9806bf26467ecbc2f7f99b5e";
+    assert!(rt; reads(&digest_of_outputs(&rt, &Blake2s128::new())?, wanted));
+    let wanted = "7b55b8396e3d36ec1a00e70509b7de72ee48b643d354128566218889bb906b43";
+    assert!(rt; reads(&digest_of_outputs(&rt, &Blake2s256::new())?, wanted));
     Ok(())
 }
 
@@ -157,11 +137,11 @@ fn authenticate_two_pieces(rt: HostRuntime) -> Result<(), Fail> {
     ] {
         let (salt, persona) = (salt.as_bytes(), persona.as_bytes());
         let start = Blake2bMac512::new_with_salt_and_personal(key, salt, persona)?;
-        let digest = digest_of_outputs(&rt, rt.alloc(), &start)?;
-        assert_eq!(rt; digest.as_str(), by_blake2b);
+        let digest = digest_of_outputs(&rt, &start)?;
+        assert!(rt; reads(&digest, by_blake2b), "{by_blake2b}");
         let start = Blake2sMac256::new_with_salt_and_personal(key, salt, persona)?;
-        let digest = digest_of_outputs(&rt, rt.alloc(), &start)?;
-        assert_eq!(rt; digest.as_str(), by_blake2s);
+        let digest = digest_of_outputs(&rt, &start)?;
+        assert!(rt; reads(&digest, by_blake2s), "{by_blake2s}");
     }
     Ok(())
 }
@@ -174,27 +154,25 @@ fn keep_key_salt_and_persona_over_resets(rt: HostRuntime) -> Result<(), Fail> {
     take(&rt, &mut mac, b"world");
     mac.reset();
     take(&rt, &mut mac, b"hello");
-    let output = hex::encode(rt.alloc(), &mac.finalize_fixed_reset()[..])?;
-    assert_eq!(rt; output.as_str(), wanted);
+    assert!(rt; reads(&mac.finalize_fixed_reset(), wanted));
     take(&rt, &mut mac, b"hello");
-    let output = hex::encode(rt.alloc(), &mac.finalize_fixed()[..])?;
-    assert_eq!(rt; output.as_str(), wanted);
+    assert!(rt; reads(&mac.finalize_fixed(), wanted));
     let wanted = "30d8bff3d330fe5584722b37eeb1eb479b9a0090a956d88c4a672dfcc5a2d995";
     let mut mac = Blake2sMac256::new_with_salt_and_personal(Some(&[42]), b"salt", b"persona")?;
     take(&rt, &mut mac, b"world");
     mac.reset();
     take(&rt, &mut mac, b"hello");
-    let output = hex::encode(rt.alloc(), &mac.finalize_fixed_reset()[..])?;
-    assert_eq!(rt; output.as_str(), wanted);
+    assert!(rt; reads(&mac.finalize_fixed_reset(), wanted));
     take(&rt, &mut mac, b"hello");
-    let output = hex::encode(rt.alloc(), &mac.finalize_fixed()[..])?;
-    assert_eq!(rt; output.as_str(), wanted);
+    assert!(rt; reads(&mac.finalize_fixed(), wanted));
     Ok(())
 }
 
-// Checks the calls of `Digest` between two pieces.
+// Checks the calls of `Digest` between two pieces, and takes the digests of the first and of the
+// second that `finalize_reset` gives, one after the other.
 fn check_digest_calls<H: Digest<N> + Drop, const N: usize>(
     rt: &impl Abort,
+    digests: &mut Blake2b256,
     message: &[u8],
     at: usize,
 )
@@ -203,13 +181,12 @@ fn check_digest_calls<H: Digest<N> + Drop, const N: usize>(
     requires size { N ≤ 64 }
 {
     let (first, second) = message.split_at(at);
-    let of_first = H::digest(first);
     let of_second = H::digest(second);
     let of_both = H::digest(message);
     let mut hasher = H::new().chain_update(first);
-    let output = hasher.finalize_reset();
-    assert!(rt; output.as_slice() == of_first.as_slice());
-    check_output(rt, hasher, second, of_second.as_slice());
+    take(rt, digests, hasher.finalize_reset().as_slice());
+    take(rt, &mut hasher, second);
+    take(rt, digests, hasher.finalize_reset().as_slice());
     let mut hasher = H::new().chain_update(first);
     Digest::reset(&mut hasher);
     check_output(rt, hasher, second, of_second.as_slice());
@@ -222,15 +199,48 @@ fn check_digest_calls<H: Digest<N> + Drop, const N: usize>(
     check_output(rt, hasher, second, of_both.as_slice());
 }
 
-#[test]
-fn reset_between_two_pieces(rt: HostRuntime) {
-    let message = [42; 514];
+// Checks each pair of lengths, and gives BLAKE2b-256 of the digests of both pieces.
+fn digest_of_pieces<H: Digest<N> + Drop, const N: usize>(rt: &impl Abort) -> [u8; 32]
+    requires supported { H.is_supported }
+    requires size { N ≤ 64 }
+{
+    let mut message = [0; 514];
+    count_up(&mut message);
+    let mut digests = Blake2b256::new();
     for first in LENGTHS {
         for second in LENGTHS {
             assert!(rt; first <= 257 && second <= 257);
-            let both = &message[..first + second];
-            check_digest_calls::<Blake2b512, 64>(&rt, both, first);
-            check_digest_calls::<Blake2s256, 32>(&rt, both, first);
+            check_digest_calls::<H, N>(rt, &mut digests, &message[..first + second], first);
         }
+    }
+    digests.finalize()
+}
+
+// The expected digests are those of `tools/expected_values.py`, under `resets`.
+#[test]
+fn reset_between_two_pieces(rt: HostRuntime) {
+    for (digest, wanted) in [
+        (
+            digest_of_pieces::<Blake2b128, 16>(&rt),
+            "172193683d7b8c95cfcab29b74b22869c51db37129aa2321d25c0593d813c9ca",
+        ),
+        (
+            digest_of_pieces::<Blake2b256, 32>(&rt),
+            "f0467383d8f965217da130a1cac7995388fdb34f2486ed56909c02a7db816f26",
+        ),
+        (
+            digest_of_pieces::<Blake2b512, 64>(&rt),
+            "88c13660c1020ae1b7dce870880a12f0e0e339202afc06926a99057f6041866f",
+        ),
+        (
+            digest_of_pieces::<Blake2s128, 16>(&rt),
+            "c2c5307c91d9cd03b1474edc286b274c9f61a645f00e9f3b441e442fab7b6d3c",
+        ),
+        (
+            digest_of_pieces::<Blake2s256, 32>(&rt),
+            "603246713ad142197ce49439f222de0ea3b5a6ebfc729670533f3e31d6339296",
+        ),
+    ] {
+        assert!(rt; reads(&digest, wanted), "{wanted}");
     }
 }

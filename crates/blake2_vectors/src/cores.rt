@@ -2,13 +2,12 @@
 //! `tools/expected_values.py`, under `cores`.
 ghost use Rattle.std.specs.Prelude.{◌≡◌, ◌<◌, ◌≤◌};
 
-use crate::inputs::{LENGTHS, count_up, take};
+use crate::inputs::{LENGTHS, count_up, reads, take};
 use blake2::digest::{
     Duplicate, InvalidOutputSize, LazyBuffer, VariableOutputCore, VariableOutputCoreCustomized,
 };
 use blake2::{Blake2b256, Blake2bVarCore, Blake2sVarCore, Digest};
 use std::process::Abort;
-use std::test::Fail;
 
 // A core as its trait makes it.
 fn made<C: VariableOutputCore<B, M>, const B: usize, const M: usize>(
@@ -42,17 +41,17 @@ where
         let counted = core.counted();
         let pending = buffer.get_pos();
         assert!(rt; counted <= 257 && pending <= 257);
-        assert_eq!(rt; counted + pending as u64, length as u64);
+        assert!(rt; (counted + pending as u64) == (length as u64));
         let mut out = [0; M];
         core.finalize_variable_core(&mut buffer, &mut out);
-        assert_eq!(rt; buffer.get_pos(), 0);
+        assert!(rt; buffer.get_pos() == 0);
         let out = &out[..];
         take(rt, outputs, &out[..output_size]);
     }
 }
 
 #[test]
-fn finalize_the_core_of_blake2b(rt: HostRuntime) -> Result<(), Fail> {
+fn finalize_the_core_of_blake2b(rt: HostRuntime) -> Result<(), InvalidOutputSize> {
     let mut plain = Blake2b256::new();
     let mut personal = Blake2b256::new();
     for size in 0..65 {
@@ -61,21 +60,15 @@ fn finalize_the_core_of_blake2b(rt: HostRuntime) -> Result<(), Fail> {
         let core = Blake2bVarCore::new_customized(b"personal", size);
         take_outputs(&rt, &mut personal, &core, size);
     }
-    let plain = hex::encode(rt.alloc(), &plain.finalize()[..])?;
-    assert_eq!(rt;
-        plain.as_str(),
-        "8359d20c2d32a48c2c1940e3df5e754ae35f8b88263ac5e01f7c1eaee9278987"
-    );
-    let personal = hex::encode(rt.alloc(), &personal.finalize()[..])?;
-    assert_eq!(rt;
-        personal.as_str(),
-        "8d9ab80949f0f9f1d52bf15e09e1ec4a6b4097957d4be7a2cc6b8e150e5e47c8"
-    );
+    let wanted = "8359d20c2d32a48c2c1940e3df5e754ae35f8b88263ac5e01f7c1eaee9278987";
+    assert!(rt; reads(&plain.finalize(), wanted));
+    let wanted = "8d9ab80949f0f9f1d52bf15e09e1ec4a6b4097957d4be7a2cc6b8e150e5e47c8";
+    assert!(rt; reads(&personal.finalize(), wanted));
     Ok(())
 }
 
 #[test]
-fn finalize_the_core_of_blake2s(rt: HostRuntime) -> Result<(), Fail> {
+fn finalize_the_core_of_blake2s(rt: HostRuntime) -> Result<(), InvalidOutputSize> {
     let mut plain = Blake2b256::new();
     let mut personal = Blake2b256::new();
     for size in 0..33 {
@@ -84,15 +77,9 @@ fn finalize_the_core_of_blake2s(rt: HostRuntime) -> Result<(), Fail> {
         let core = Blake2sVarCore::new_customized(b"personal", size);
         take_outputs(&rt, &mut personal, &core, size);
     }
-    let plain = hex::encode(rt.alloc(), &plain.finalize()[..])?;
-    assert_eq!(rt;
-        plain.as_str(),
-        "f5c9a322ee79902b135543a3f1d30948bc454da0ab85f64fd95d352dcf1f443e"
-    );
-    let personal = hex::encode(rt.alloc(), &personal.finalize()[..])?;
-    assert_eq!(rt;
-        personal.as_str(),
-        "1deef65a1a3f3099c816f9b7a3ec0d07c1f12966ae31593e56ea076cc396e158"
-    );
+    let wanted = "f5c9a322ee79902b135543a3f1d30948bc454da0ab85f64fd95d352dcf1f443e";
+    assert!(rt; reads(&plain.finalize(), wanted));
+    let wanted = "1deef65a1a3f3099c816f9b7a3ec0d07c1f12966ae31593e56ea076cc396e158";
+    assert!(rt; reads(&personal.finalize(), wanted));
     Ok(())
 }

@@ -1,18 +1,12 @@
 //! Digests of the hashers.
 ghost use Rattle.std.specs.Prelude.{◌≡◌, ◌+◌, ◌^◌, ◌<◌, ◌≤◌, length};
 
-use crate::inputs::take;
+use crate::inputs::{reads, take};
 use blake2::{Blake2b, Blake2b512, Blake2s, Blake2s256, Digest};
-use std::alloc::{AllocError, Global};
 use std::process::Abort;
-use std::test::Fail;
 
-// The digest of a message that comes in two pieces, cut after `at` bytes, in hexadecimal.
-fn digest_of_two<H: Digest<N> + Drop, const N: usize>(
-    alloc: Global,
-    message: &[u8],
-    at: usize,
-) -> Result<String, AllocError>
+// The digest of a message that comes in two pieces, cut after `at` bytes.
+fn digest_of_two<H: Digest<N> + Drop, const N: usize>(message: &[u8], at: usize) -> [u8; N]
     requires supported { H.is_supported }
     requires size { N ≤ 64 }
     requires within { at ≤ length message.now }
@@ -20,31 +14,24 @@ fn digest_of_two<H: Digest<N> + Drop, const N: usize>(
     let mut hasher = H::new();
     Digest::update(&mut hasher, &message[..at]);
     Digest::update(&mut hasher, &message[at..]);
-    let digest = hasher.finalize();
-    hex::encode(alloc, &digest[..])
+    hasher.finalize()
 }
 
 // Whether each digest of the message, whole and cut after each byte, is the one wanted.
-fn digests_are<H: Digest<N> + Drop, const N: usize>(
-    alloc: Global,
-    message: &[u8],
-    wanted: &str,
-) -> Result<bool, AllocError>
+fn digests_are<H: Digest<N> + Drop, const N: usize>(message: &[u8], wanted: &str) -> bool
     requires supported { H.is_supported }
     requires size { N ≤ 64 }
 {
     for at in 0..message.len() {
-        if digest_of_two::<H, N>(alloc, message, at)?.as_str() != wanted {
-            return Ok(false);
+        if !reads(digest_of_two::<H, N>(message, at).as_slice(), wanted) {
+            return false;
         }
     }
-    let whole = hex::encode(alloc, &H::digest(message)[..])?;
-    Ok(whole.as_str() == wanted)
+    reads(H::digest(message).as_slice(), wanted)
 }
 
 #[test]
-fn hash_whole_and_cut_after_each_byte(rt: HostRuntime) -> Result<(), Fail> {
-    let alloc = rt.alloc();
+fn hash_whole_and_cut_after_each_byte(rt: HostRuntime) {
     for (message, wanted) in [
         (
             "",
@@ -62,7 +49,7 @@ fn hash_whole_and_cut_after_each_byte(rt: HostRuntime) -> Result<(), Fail> {
              c05a037cddbed06e309bf334942c4e58cdf1a46e237911ccd7fcf9787cbc7fd0",
         ),
     ] {
-        let agrees = digests_are::<Blake2b512, 64>(alloc, message.as_bytes(), wanted)?;
+        let agrees = digests_are::<Blake2b512, 64>(message.as_bytes(), wanted);
         assert!(rt; agrees, "BLAKE2b-512 of {message:?}");
     }
     for (message, wanted) in [
@@ -79,18 +66,16 @@ fn hash_whole_and_cut_after_each_byte(rt: HostRuntime) -> Result<(), Fail> {
             "9aec6806794561107e594b1f6a8a6b0c92a0cba9acf5e5e93cca06f781813b0b",
         ),
     ] {
-        let agrees = digests_are::<Blake2s256, 32>(alloc, message.as_bytes(), wanted)?;
+        let agrees = digests_are::<Blake2s256, 32>(message.as_bytes(), wanted);
         assert!(rt; agrees, "BLAKE2s-256 of {message:?}");
     }
-    Ok(())
 }
 
-// The digest of a message that comes in these pieces, in hexadecimal.
+// The digest of a message that comes in these pieces.
 fn digest_of_pieces<H: Digest<N> + Drop, const N: usize>(
     rt: &impl Abort,
-    alloc: Global,
     pieces: &[&[u8]],
-) -> Result<String, AllocError>
+) -> [u8; N]
     requires supported { H.is_supported }
     requires size { N ≤ 64 }
 {
@@ -98,54 +83,40 @@ fn digest_of_pieces<H: Digest<N> + Drop, const N: usize>(
     for piece in pieces {
         take(rt, &mut hasher, piece);
     }
-    hex::encode(alloc, &hasher.finalize()[..])
+    hasher.finalize()
 }
 
 #[test]
-fn hash_three_pieces(rt: HostRuntime) -> Result<(), Fail> {
+fn hash_three_pieces(rt: HostRuntime) {
     let pieces: [&[u8]; 3] = [b"hello ", b"", b"world"];
-    let digest = digest_of_pieces::<Blake2b512, 64>(&rt, rt.alloc(), &pieces)?;
-    assert_eq!(rt;
-        digest.as_str(),
-        "021ced8799296ceca557832ab941a50b4a11f83478cf141f51f933f653ab9fbc\
-         c05a037cddbed06e309bf334942c4e58cdf1a46e237911ccd7fcf9787cbc7fd0"
-    );
-    let digest = digest_of_pieces::<Blake2s256, 32>(&rt, rt.alloc(), &pieces)?;
-    assert_eq!(rt;
-        digest.as_str(),
-        "9aec6806794561107e594b1f6a8a6b0c92a0cba9acf5e5e93cca06f781813b0b"
-    );
-    Ok(())
+    let wanted = "021ced8799296ceca557832ab941a50b4a11f83478cf141f51f933f653ab9fbc\
+         c05a037cddbed06e309bf334942c4e58cdf1a46e237911ccd7fcf9787cbc7fd0";
+    assert!(rt; reads(&digest_of_pieces::<Blake2b512, 64>(&rt, &pieces), wanted));
+    let wanted = "9aec6806794561107e594b1f6a8a6b0c92a0cba9acf5e5e93cca06f781813b0b";
+    assert!(rt; reads(&digest_of_pieces::<Blake2s256, 32>(&rt, &pieces), wanted));
 }
 
 #[test]
-fn hash_over_block_boundaries(rt: HostRuntime) -> Result<(), Fail> {
-    let alloc = rt.alloc();
+fn hash_over_block_boundaries(rt: HostRuntime) {
     let message = [42u8; 300];
     let agrees = digests_are::<Blake2b512, 64>(
-        alloc,
         &message,
         "77ecafa11c24fe1fe99b68cee2ea44cfcb48de579aec5e6e6ea6704409b0756b\
          1be69c7358b8d2fa601f64ffe43e9fed90f6f0b0ccb357fbea4e5660b9f735a0",
-    )?;
+    );
     assert!(rt; agrees);
     let agrees = digests_are::<Blake2s256, 32>(
-        alloc,
         &message,
         "b18c5abf3e48843fb7efce3826710aa625d60ced6102849ffb07a6ee293e7a12",
-    )?;
+    );
     assert!(rt; agrees);
-    Ok(())
 }
 
 #[test]
-fn hash_to_other_sizes(rt: HostRuntime) -> Result<(), Fail> {
-    let alloc = rt.alloc();
-    let ten = hex::encode(alloc, &Blake2b::<10>::digest(b"my_input")[..])?;
-    assert_eq!(rt; ten.as_str(), "2cc55c84e416924e6400");
+fn hash_to_other_sizes(rt: HostRuntime) {
+    assert!(rt; reads(&Blake2b::<10>::digest(b"my_input"), "2cc55c84e416924e6400"));
     let none = Blake2b::<0>::digest(b"my_input");
-    assert_eq!(rt; none.len(), 0);
+    assert!(rt; none.len() == 0);
     let none = Blake2s::<0>::digest(b"my_input");
-    assert_eq!(rt; none.len(), 0);
-    Ok(())
+    assert!(rt; none.len() == 0);
 }

@@ -1,11 +1,5 @@
-//! A key, inputs, blocks, entries, steps, readings and pieces that several tests share. What has
-//! several fields is made here alone.
-ghost use Rattle.std.specs.Prelude.{◌≡◌, ◌≤◌, [], length};
-
+//! A key, lengths, messages and pieces that several tests share.
 use blake2::digest::Update;
-pub(crate) use blake2::digest::padded;
-use blake2::steps::{Entry, Input, Reading, Step, Transcript, Tree};
-use std::alloc::{AllocError, Global};
 use std::process::Abort;
 
 /// The bytes 0 to 31.
@@ -24,108 +18,12 @@ pub(crate) fn count_up(bytes: &mut [u8]) {
     }
 }
 
-/// An input of these parts, of a hash which is the whole tree, with the last-node flag off.
-pub(crate) fn input<'a>(
-    key: Option<&'a [u8]>,
-    salt: &'a [u8],
-    persona: &'a [u8],
-    message: &'a [u8],
-) -> Input<'a>
-    ensures salt { result.salt.now ≡ salt.now }
-    ensures persona { result.persona.now ≡ persona.now }
-{
-    Input {
-        salt,
-        persona,
-        key,
-        tree: Tree::sequential(),
-        last_node: false,
-        message,
-    }
-}
-
-/// An input without key, salt and persona.
-pub(crate) fn unkeyed<'a>(message: &'a [u8]) -> Input<'a>
-    ensures salt { result.salt.now ≡ [] }
-    ensures persona { result.persona.now ≡ [] }
-{
-    input(None, b"", b"", message)
-}
-
-/// An entry whose block goes on with zeros behind these bytes, with the last-node flag off.
-pub(crate) fn entry<const B: usize>(beginning: &[u8], counter: u64, last: bool) -> Entry<B>
-    requires { length beginning.now ≤ B }
-{
-    Entry {
-        block: padded(beginning),
-        counter,
-        last,
-        last_node: false,
-    }
-}
-
-/// A transcript of these words and entries.
-pub(crate) fn transcript<W: Drop, const B: usize>(
-    alloc: Global,
-    words: [W; 8],
-    entries: &[Entry<B>],
-) -> Result<Transcript<W, B>, AllocError> {
-    let entries = entries.to_vec(alloc)?;
-    Ok(Transcript { words, entries })
-}
-
-/// A step whose block goes on with zeros behind these bytes, with the last-node flag off.
-pub(crate) fn step<W: Drop, const B: usize>(
-    chain: [W; 8],
-    beginning: &[u8],
-    counter: u64,
-    last: bool,
-) -> Step<W, B>
-    requires { length beginning.now ≤ B }
-{
-    Step {
-        chain,
-        block: padded(beginning),
-        counter,
-        last,
-        last_node: false,
-    }
-}
-
-/// What a transcript of this input and output size is read as.
-pub(crate) fn reading<const S: usize>(
-    alloc: Global,
-    input: &Input<'_>,
-    output_size: usize,
-) -> Result<Reading<S>, AllocError>
-    requires salt { length input.now.salt.now ≤ S }
-    requires persona { length input.now.persona.now ≤ S }
-{
-    let key = match input.key {
-        Some(key) => Some(key.to_vec(alloc)?),
-        None => None,
-    };
-    Ok(Reading {
-        output_size,
-        salt: padded(input.salt),
-        persona: padded(input.persona),
-        key,
-        tree: input.tree,
-        last_node: input.last_node,
-        message: input.message.to_vec(alloc)?,
-    })
-}
-
-/// The input that a reading tells.
-pub(crate) fn read_input<'a, const S: usize>(read: &'a Reading<S>) -> Input<'a> {
-    let key = match &read.key {
-        Some(key) => Some(key.as_slice()),
-        None => None,
-    };
-    Input {
-        tree: read.tree,
-        last_node: read.last_node,
-        ..input(key, &read.salt, &read.persona, read.message.as_slice())
+/// Whether these digits, two for each byte, are the bytes in hexadecimal.
+pub(crate) fn reads(bytes: &[u8], digits: &str) -> bool {
+    let mut decoded = [0u8; 64];
+    match decoded.get_mut(..bytes.len()) {
+        Some(room) => hex::decode_to_slice(digits, room).is_ok() && *room == *bytes,
+        None => false,
     }
 }
 
@@ -134,5 +32,5 @@ pub(crate) fn take<S: Update>(rt: &impl Abort, state: &mut S, piece: &[u8]) {
     let before = state.counted();
     assert!(rt; before <= 0x10_0000 && piece.len() <= 0x1000);
     state.update(piece);
-    assert_eq!(rt; state.counted(), before + piece.len() as u64);
+    assert!(rt; state.counted() == (before + piece.len() as u64));
 }

@@ -2,11 +2,23 @@
 //! expected digests of the outputs are those of `tools/expected_values.py`, under `lengths`.
 ghost use Rattle.std.specs.Prelude.{◌≤◌};
 
-use crate::inputs::{count_up, input, take};
+use crate::inputs::{count_up, reads, take};
 use blake2::digest::{FixedOutput, InvalidLength, KeyInit};
+use blake2::steps::{Input, Tree};
 use blake2::{Blake2b256, Blake2bMac512, Blake2bVarCore, Blake2sMac256, Blake2sVarCore, Digest};
 use std::process::Abort;
-use std::test::Fail;
+
+// An input of these parts and no message.
+fn input<'a>(key: Option<&'a [u8]>, salt: &'a [u8], persona: &'a [u8]) -> Input<'a> {
+    Input {
+        salt,
+        persona,
+        key,
+        tree: Tree::sequential(),
+        last_node: false,
+        message: &[],
+    }
+}
 
 // Checks one choice of parts: all that is told whether they are taken agrees, and their output is
 // taken.
@@ -17,15 +29,15 @@ fn check_parts<M: FixedOutput<N> + Drop, const N: usize>(
     is_accepted: bool,
     mac: Result<M, InvalidLength>,
 ) {
-    assert_eq!(rt; is_accepted, is_taken);
-    assert_eq!(rt; mac.is_ok(), is_taken);
+    assert!(rt; is_accepted == is_taken);
+    assert!(rt; mac.is_ok() == is_taken);
     if let Ok(mac) = mac {
         take(rt, outputs, mac.finalize_fixed().as_slice());
     }
 }
 
 #[test]
-fn take_lengths_of_blake2b(rt: HostRuntime) -> Result<(), Fail> {
+fn take_lengths_of_blake2b(rt: HostRuntime) {
     let mut bytes = [0; 129];
     count_up(&mut bytes);
     let mut outputs = Blake2b256::new();
@@ -43,7 +55,7 @@ fn take_lengths_of_blake2b(rt: HostRuntime) -> Result<(), Fail> {
             None => None,
         };
         if let Some(key) = key {
-            assert_eq!(rt; Blake2bMac512::new_from_slice(key).is_ok(), key_fits);
+            assert!(rt; Blake2bMac512::new_from_slice(key).is_ok() == key_fits);
         }
         for (salt, salt_fits) in [(0, true), (16, true), (17, false), (32, false)] {
             for (persona, persona_fits) in [(0, true), (16, true), (17, false), (32, false)] {
@@ -53,22 +65,18 @@ fn take_lengths_of_blake2b(rt: HostRuntime) -> Result<(), Fail> {
                     &rt,
                     &mut outputs,
                     key_fits && salt_fits && persona_fits,
-                    Blake2bVarCore::accepts(&input(key, salt, persona, b"")),
+                    Blake2bVarCore::accepts(&input(key, salt, persona)),
                     Blake2bMac512::new_with_salt_and_personal(key, salt, persona),
                 );
             }
         }
     }
-    let digest = hex::encode(rt.alloc(), &outputs.finalize()[..])?;
-    assert_eq!(rt;
-        digest.as_str(),
-        "2bc28563443138e0cf3754d214c674c2e6da1f7ee80dc3c053aa22feb84ecde3"
-    );
-    Ok(())
+    let wanted = "2bc28563443138e0cf3754d214c674c2e6da1f7ee80dc3c053aa22feb84ecde3";
+    assert!(rt; reads(&outputs.finalize(), wanted));
 }
 
 #[test]
-fn take_lengths_of_blake2s(rt: HostRuntime) -> Result<(), Fail> {
+fn take_lengths_of_blake2s(rt: HostRuntime) {
     let mut bytes = [0; 65];
     count_up(&mut bytes);
     let mut outputs = Blake2b256::new();
@@ -86,7 +94,7 @@ fn take_lengths_of_blake2s(rt: HostRuntime) -> Result<(), Fail> {
             None => None,
         };
         if let Some(key) = key {
-            assert_eq!(rt; Blake2sMac256::new_from_slice(key).is_ok(), key_fits);
+            assert!(rt; Blake2sMac256::new_from_slice(key).is_ok() == key_fits);
         }
         for (salt, salt_fits) in [(0, true), (8, true), (9, false), (16, false)] {
             for (persona, persona_fits) in [(0, true), (8, true), (9, false), (16, false)] {
@@ -96,16 +104,12 @@ fn take_lengths_of_blake2s(rt: HostRuntime) -> Result<(), Fail> {
                     &rt,
                     &mut outputs,
                     key_fits && salt_fits && persona_fits,
-                    Blake2sVarCore::accepts(&input(key, salt, persona, b"")),
+                    Blake2sVarCore::accepts(&input(key, salt, persona)),
                     Blake2sMac256::new_with_salt_and_personal(key, salt, persona),
                 );
             }
         }
     }
-    let digest = hex::encode(rt.alloc(), &outputs.finalize()[..])?;
-    assert_eq!(rt;
-        digest.as_str(),
-        "de3f0b8caf4b35f5af466748344faa732d63f9b0a31091ec02d897bb5a4ad161"
-    );
-    Ok(())
+    let wanted = "de3f0b8caf4b35f5af466748344faa732d63f9b0a31091ec02d897bb5a4ad161";
+    assert!(rt; reads(&outputs.finalize(), wanted));
 }

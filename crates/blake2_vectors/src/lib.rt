@@ -1,11 +1,9 @@
-//! Tests of the libraries: worked values of their public calls, from RFC 7693 and from Python's
-//! `hashlib.blake2b` and `hashlib.blake2s`, and not from this project's own code; and the calls
-//! that are generic at work on small states of the tests' own. They stand in one crate, since each
-//! crate that has tests is proved twice.
+//! Worked values of the libraries' hash functions: of their public calls, from RFC 7693 and from
+//! Python's `hashlib.blake2b` and `hashlib.blake2s`, and not from this project's own code. They
+//! stand apart from the libraries, since a crate that has tests is proved twice; `blake2_tests` has
+//! the tests of what these functions are used for.
 #![tactic(auto)]
 
-#[cfg(test)]
-mod buffer;
 #[cfg(test)]
 mod calls;
 #[cfg(test)]
@@ -15,11 +13,7 @@ mod copies;
 #[cfg(test)]
 mod cores;
 #[cfg(test)]
-mod derives;
-#[cfg(test)]
-mod engine;
-#[cfg(test)]
-mod forged;
+mod flags;
 #[cfg(test)]
 mod hashers;
 #[cfg(test)]
@@ -27,15 +21,11 @@ mod inputs;
 #[cfg(test)]
 mod lanes;
 #[cfg(test)]
-mod laws;
-#[cfg(test)]
 mod lengths;
 #[cfg(test)]
+mod limits;
+#[cfg(test)]
 mod macs;
-#[cfg(test)]
-mod memory;
-#[cfg(test)]
-mod nodes;
 #[cfg(test)]
 mod parameters;
 #[cfg(test)]
@@ -45,18 +35,10 @@ mod readme;
 #[cfg(test)]
 mod rounds;
 #[cfg(test)]
-mod selftest;
+mod scalar;
 #[cfg(test)]
-mod several;
+mod selftest;
 #[cfg(test)]
 mod sizes;
 #[cfg(test)]
-mod steps;
-#[cfg(test)]
-mod streams;
-#[cfg(test)]
-mod tally;
-#[cfg(test)]
 mod trees;
-#[cfg(test)]
-mod witness;

@@ -39,9 +39,9 @@ fn mac_sizes<M: KeySizeUser + OutputSizeUser + MacMarker + ZeroizeOnDrop>() -> (
 #[test]
 fn tell_sizes(rt: HostRuntime) {
     let core = core_sizes::<Blake2bVarCore, 128, 64>();
-    assert_eq!(rt; core, (128, 64, TruncSide::Left));
+    assert!(rt; core == (128, 64, TruncSide::Left));
     let core = core_sizes::<Blake2sVarCore, 64, 32>();
-    assert_eq!(rt; core, (64, 32, TruncSide::Left));
+    assert!(rt; core == (64, 32, TruncSide::Left));
     for (hasher, wanted) in [
         (hasher_sizes::<Blake2b<0>>(), (128, 0)),
         (hasher_sizes::<Blake2b<63>>(), (128, 63)),
@@ -53,7 +53,7 @@ fn tell_sizes(rt: HostRuntime) {
         (hasher_sizes::<Blake2s128>(), (64, 16)),
         (hasher_sizes::<Blake2s256>(), (64, 32)),
     ] {
-        assert_eq!(rt; hasher, wanted);
+        assert!(rt; hasher == wanted);
     }
     for (mac, wanted) in [
         (mac_sizes::<Blake2bMac<0>>(), (64, 0)),
@@ -63,6 +63,6 @@ fn tell_sizes(rt: HostRuntime) {
         (mac_sizes::<Blake2sMac<20>>(), (32, 20)),
         (mac_sizes::<Blake2sMac256>(), (32, 32)),
     ] {
-        assert_eq!(rt; mac, wanted);
+        assert!(rt; mac == wanted);
     }
 }

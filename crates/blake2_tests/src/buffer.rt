@@ -56,11 +56,11 @@ fn handed_and_held(pending: &[u8], input: &[u8]) -> (u64, usize)
 #[test]
 fn holds_the_last_block_back(rt: HostRuntime) {
     let bytes = [42; 128];
-    assert_eq!(rt; handed_and_held(&bytes[..64], &bytes[..0]), (0, 64));
-    assert_eq!(rt; handed_and_held(&bytes[..64], &bytes[..1]), (1, 1));
-    assert_eq!(rt; handed_and_held(&bytes[..64], &bytes), (2, 64));
-    assert_eq!(rt; handed_and_held(&bytes[..0], &bytes[..64]), (0, 64));
-    assert_eq!(rt; handed_and_held(&bytes[..0], &bytes[..65]), (1, 1));
+    assert!(rt; handed_and_held(&bytes[..64], &bytes[..0]) == (0, 64));
+    assert!(rt; handed_and_held(&bytes[..64], &bytes[..1]) == (1, 1));
+    assert!(rt; handed_and_held(&bytes[..64], &bytes) == (2, 64));
+    assert!(rt; handed_and_held(&bytes[..0], &bytes[..64]) == (0, 64));
+    assert!(rt; handed_and_held(&bytes[..0], &bytes[..65]) == (1, 1));
 }
 
 #[test]
@@ -69,12 +69,12 @@ fn keeps_its_bytes(rt: HostRuntime) -> Result<(), Fail> {
     let mut copy = buffer.clone()?;
     let mut twin = buffer.duplicate();
     buffer.reset();
-    assert_eq!(rt; buffer.pad_with_zeros(), [0; 4]);
-    assert_eq!(rt; copy.pad_with_zeros(), *b"abc\0");
-    assert_eq!(rt; copy.get_pos(), 0);
+    assert!(rt; buffer.pad_with_zeros() == [0; 4]);
+    assert!(rt; copy.pad_with_zeros() == *b"abc\0");
+    assert!(rt; copy.get_pos() == 0);
     twin.wipe();
-    assert_eq!(rt; twin.get_pos(), 3);
-    assert_eq!(rt; twin.pad_with_zeros(), [0; 4]);
-    assert_eq!(rt; LazyBuffer::<4>::default().get_pos(), 0);
+    assert!(rt; twin.get_pos() == 3);
+    assert!(rt; twin.pad_with_zeros() == [0; 4]);
+    assert!(rt; LazyBuffer::<4>::default().get_pos() == 0);
     Ok(())
 }

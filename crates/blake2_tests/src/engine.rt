@@ -104,13 +104,22 @@ fn devices_over_memory(rt: HostRuntime) -> Result<(), Fail> {
         let mut source = SliceSource::new(b"abc", most_given, read_fails);
         let mut room = [0u8; 9];
         let mut sink = SliceSink::new(&mut room[..size], most_taken, write_fails);
-        assert_eq!(rt; hash_stream(&mut source, &mut sink, fresh()), answer);
-        assert_eq!(rt; source.failed(), answer == Err(StreamFault::Read));
-        assert_eq!(rt; sink.failed(), answer == Err(StreamFault::Write));
+        let found = hash_stream(&mut source, &mut sink, fresh());
+        assert!(rt; found == answer, "{answer:?} {taken}");
+        assert!(rt;
+            source.failed() == (answer == Err(StreamFault::Read)),
+            "{answer:?} {taken}"
+        );
+        assert!(rt;
+            sink.failed() == (answer == Err(StreamFault::Write)),
+            "{answer:?} {taken}"
+        );
         let written = sink.written();
-        assert_eq!(rt; written, taken);
-        assert!(rt; written <= 9);
-        assert_eq!(rt; &room[..written], &b"00017862\n"[..written]);
+        assert!(rt; written == taken && written <= 9, "{answer:?} {taken}");
+        assert!(rt;
+            &room[..written] == &b"00017862\n"[..written],
+            "{answer:?} {taken}"
+        );
     }
     Ok(())
 }
@@ -126,8 +135,8 @@ fn counts_below_2_64(rt: HostRuntime) -> Result<(), Fail> {
         let mut room = [0u8; 9];
         let mut sink = SliceSink::new(&mut room, 9, None);
         let hasher = Base31 { value: 0, count };
-        assert_eq!(rt; hash_stream(&mut source, &mut sink, hasher), answer);
-        assert_eq!(rt; sink.written(), written);
+        let found = hash_stream(&mut source, &mut sink, hasher);
+        assert!(rt; found == answer && sink.written() == written, "{count}");
     }
     Ok(())
 }
@@ -158,10 +167,10 @@ fn a_reader_fails_in_mid_stream(rt: HostRuntime) -> Result<(), Fail> {
     let mut room = [0u8; 9];
     let mut sink = SliceSink::new(&mut room, 9, None);
     let answer = hash_stream(&mut source, &mut sink, fresh());
-    assert_eq!(rt; answer, Err(StreamFault::Read));
-    assert_eq!(rt; sink.written(), 0);
+    assert!(rt; answer == Err(StreamFault::Read));
+    assert!(rt; sink.written() == 0);
     assert!(rt; source.failed());
-    assert_eq!(rt; source.into_inner().reads, 3);
+    assert!(rt; source.into_inner().reads == 3);
     Ok(())
 }
 
@@ -189,18 +198,18 @@ impl Write for Filling {
 #[test]
 fn a_writer_fills_up(rt: HostRuntime) -> Result<(), Fail> {
     let mut sink = IoSink::new(Filling { writes: 0 });
-    assert_eq!(rt; write_whole(&mut sink, b"ab"), Ok(()));
-    assert_eq!(rt; sink.write(b""), Ok(0));
+    assert!(rt; write_whole(&mut sink, b"ab") == Ok(()));
+    assert!(rt; sink.write(b"") == Ok(0));
     assert!(rt; !sink.failed());
-    assert_eq!(rt; sink.write(b"c"), Err(DeviceError));
+    assert!(rt; sink.write(b"c") == Err(DeviceError));
     assert!(rt; sink.failed());
 
     let mut sink = IoSink::new(Filling { writes: 0 });
     let mut source = SliceSource::new(b"abc", 4, None);
     let answer = hash_stream(&mut source, &mut sink, fresh());
-    assert_eq!(rt; answer, Err(StreamFault::Write));
+    assert!(rt; answer == Err(StreamFault::Write));
     assert!(rt; sink.failed());
-    assert_eq!(rt; sink.into_inner().writes, 2);
+    assert!(rt; sink.into_inner().writes == 2);
     Ok(())
 }
 
@@ -245,19 +254,26 @@ fn a_writer_that_fails_is_not_tried_again(rt: HostRuntime) -> Result<(), Fail> {
     for by_error in [true, false] {
         let mut sink = IoSink::new(FailsOnce::new(by_error));
         let answer = sink.write(b"abc");
-        assert_eq!(rt; answer, if by_error { Err(DeviceError) } else { Ok(0) });
-        assert!(rt; sink.failed());
-        assert_eq!(rt; sink.into_inner().later, 0);
+        let wanted = if by_error { Err(DeviceError) } else { Ok(0) };
+        assert!(rt;
+            answer == wanted && sink.failed(),
+            "by an error: {by_error}"
+        );
+        assert!(rt; sink.into_inner().later == 0, "by an error: {by_error}");
 
         let mut sink = IoSink::new(FailsOnce::new(by_error));
-        assert_eq!(rt; write_whole(&mut sink, b"abc"), Err(DeviceError));
-        assert_eq!(rt; sink.into_inner().later, 0);
+        let answer = write_whole(&mut sink, b"abc");
+        assert!(rt; answer == Err(DeviceError), "by an error: {by_error}");
+        assert!(rt; sink.into_inner().later == 0, "by an error: {by_error}");
 
         let mut sink = IoSink::new(FailsOnce::new(by_error));
         let mut source = SliceSource::new(b"abc", 4, None);
         let answer = hash_stream(&mut source, &mut sink, fresh());
-        assert_eq!(rt; answer, Err(StreamFault::Write));
-        assert_eq!(rt; sink.into_inner().later, 0);
+        assert!(rt;
+            answer == Err(StreamFault::Write),
+            "by an error: {by_error}"
+        );
+        assert!(rt; sink.into_inner().later == 0, "by an error: {by_error}");
     }
     Ok(())
 }
@@ -266,28 +282,28 @@ fn a_writer_that_fails_is_not_tried_again(rt: HostRuntime) -> Result<(), Fail> {
 fn errors_come_after_their_bytes(rt: HostRuntime) -> Result<(), Fail> {
     let mut piece = [0u8; 2];
     let mut source = SliceSource::new(b"abc", 3, Some(3));
-    assert_eq!(rt; source.read(&mut piece), Ok(2));
-    assert_eq!(rt; &piece, b"ab");
-    assert_eq!(rt; source.read(&mut piece), Ok(1));
-    assert_eq!(rt; &piece, b"cb");
+    assert!(rt; source.read(&mut piece) == Ok(2));
+    assert!(rt; &piece == b"ab");
+    assert!(rt; source.read(&mut piece) == Ok(1));
+    assert!(rt; &piece == b"cb");
     assert!(rt; !source.failed());
-    assert_eq!(rt; source.read(&mut piece), Err(DeviceError));
-    assert_eq!(rt; source.read(&mut piece), Err(DeviceError));
+    assert!(rt; source.read(&mut piece) == Err(DeviceError));
+    assert!(rt; source.read(&mut piece) == Err(DeviceError));
     assert!(rt; source.failed());
 
     let mut source = SliceSource::new(b"", 3, Some(1));
-    assert_eq!(rt; source.read(&mut piece), Ok(0));
-    assert_eq!(rt; source.read(&mut piece), Ok(0));
+    assert!(rt; source.read(&mut piece) == Ok(0));
+    assert!(rt; source.read(&mut piece) == Ok(0));
     assert!(rt; !source.failed());
 
     let mut room = [0u8; 4];
     let mut sink = SliceSink::new(&mut room, 2, Some(3));
-    assert_eq!(rt; sink.write(b"abc"), Ok(2));
-    assert_eq!(rt; sink.write(b"de"), Ok(1));
+    assert!(rt; sink.write(b"abc") == Ok(2));
+    assert!(rt; sink.write(b"de") == Ok(1));
     assert!(rt; !sink.failed());
-    assert_eq!(rt; sink.write(b"e"), Err(DeviceError));
+    assert!(rt; sink.write(b"e") == Err(DeviceError));
     assert!(rt; sink.failed());
-    assert_eq!(rt; sink.written(), 3);
-    assert_eq!(rt; &room, b"abd\0");
+    assert!(rt; sink.written() == 3);
+    assert!(rt; &room == b"abd\0");
     Ok(())
 }

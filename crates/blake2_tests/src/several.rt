@@ -78,7 +78,7 @@ fn last_nodes_among_four(rt: HostRuntime) {
         node(&[3; 129], true),
     ];
     assert!(rt; blake2b::accepts_four(&inputs));
-    assert_eq!(rt; blake2b::hash_four::<16>(&inputs), BLAKE2B);
+    assert!(rt; blake2b::hash_four::<16>(&inputs) == BLAKE2B);
 }
 
 #[test]
@@ -94,5 +94,5 @@ fn last_nodes_among_eight(rt: HostRuntime) {
         node(&[7; 65], true),
     ];
     assert!(rt; blake2s::accepts_eight(&inputs));
-    assert_eq!(rt; blake2s::hash_eight::<16>(&inputs), BLAKE2S);
+    assert!(rt; blake2s::hash_eight::<16>(&inputs) == BLAKE2S);
 }

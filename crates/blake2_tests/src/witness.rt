@@ -86,14 +86,27 @@ fn witness_nothing(rt: HostRuntime) -> Result<(), Fail> {
         (unkeyed(b"a"), unkeyed(b"a")),
         (salted(b"a"), salted(b"a\0")),
     ] {
-        assert_eq!(rt; blake2b_witness(alloc, &a, &b, 0)?, None);
-        assert_eq!(rt; blake2b_witness(alloc, &a, &b, 64)?, None);
-        assert_eq!(rt; blake2s_witness(alloc, &a, &b, 0)?, None);
-        assert_eq!(rt; blake2s_witness(alloc, &a, &b, 32)?, None);
+        let (length, salt) = (a.message.len(), a.salt.len());
+        assert!(rt;
+            blake2b_witness(alloc, &a, &b, 0)?.is_none(),
+            "{length} {salt}"
+        );
+        assert!(rt;
+            blake2b_witness(alloc, &a, &b, 64)?.is_none(),
+            "{length} {salt}"
+        );
+        assert!(rt;
+            blake2s_witness(alloc, &a, &b, 0)?.is_none(),
+            "{length} {salt}"
+        );
+        assert!(rt;
+            blake2s_witness(alloc, &a, &b, 32)?.is_none(),
+            "{length} {salt}"
+        );
     }
     let (a, b) = (unkeyed(b"abc"), unkeyed(b""));
-    assert_eq!(rt; blake2b_witness(alloc, &a, &b, 64)?, None);
-    assert_eq!(rt; blake2s_witness(alloc, &a, &b, 32)?, None);
+    assert!(rt; blake2b_witness(alloc, &a, &b, 64)?.is_none());
+    assert!(rt; blake2s_witness(alloc, &a, &b, 32)?.is_none());
     Ok(())
 }
 
@@ -103,10 +116,10 @@ fn witness_messages_of_one_block_of_blake2b(rt: HostRuntime) -> Result<(), Fail>
     let word = 0x6a09e667f2bdc908;
     let found = blake2b_witness(alloc, &unkeyed(b"a"), &unkeyed(b"b"), 0)?;
     let wanted = (blake2b_last(word, b"a", 1), blake2b_last(word, b"b", 1));
-    assert_eq!(rt; found, Some(wanted));
+    assert!(rt; found == Some(wanted));
     let found = blake2b_witness(alloc, &unkeyed(b""), &unkeyed(b"\0"), 0)?;
     let wanted = (blake2b_last(word, b"", 0), blake2b_last(word, b"", 1));
-    assert_eq!(rt; found, Some(wanted));
+    assert!(rt; found == Some(wanted));
     Ok(())
 }
 
@@ -116,10 +129,10 @@ fn witness_messages_of_one_block_of_blake2s(rt: HostRuntime) -> Result<(), Fail>
     let word = 0x6b08e667;
     let found = blake2s_witness(alloc, &unkeyed(b"a"), &unkeyed(b"b"), 0)?;
     let wanted = (blake2s_last(word, b"a", 1), blake2s_last(word, b"b", 1));
-    assert_eq!(rt; found, Some(wanted));
+    assert!(rt; found == Some(wanted));
     let found = blake2s_witness(alloc, &unkeyed(b""), &unkeyed(b"\0"), 0)?;
     let wanted = (blake2s_last(word, b"", 0), blake2s_last(word, b"", 1));
-    assert_eq!(rt; found, Some(wanted));
+    assert!(rt; found == Some(wanted));
     Ok(())
 }
 
@@ -132,14 +145,14 @@ fn witness_a_key_and_a_message_like_its_block(rt: HostRuntime) -> Result<(), Fai
         blake2b_last(0x6a09e667f2bdc808, b"a", 128),
         blake2b_last(0x6a09e667f2bdc908, b"a", 128),
     );
-    assert_eq!(rt; found, Some(wanted));
+    assert!(rt; found == Some(wanted));
     let block: [u8; 64] = padded(b"a");
     let found = blake2s_witness(alloc, &keyed(b"a"), &unkeyed(&block), 0)?;
     let wanted = (
         blake2s_last(0x6b08e767, b"a", 64),
         blake2s_last(0x6b08e667, b"a", 64),
     );
-    assert_eq!(rt; found, Some(wanted));
+    assert!(rt; found == Some(wanted));
     Ok(())
 }
 
@@ -162,7 +175,7 @@ fn witness_different_numbers_of_steps(rt: HostRuntime) -> Result<(), Fail> {
         blake2b_last(0x6a09e667f2bdc908, &message[..128], 128),
         step(chain, &message[..1], 129, true),
     );
-    assert_eq!(rt; found, Some(wanted));
+    assert!(rt; found == Some(wanted));
     let found = blake2s_witness(alloc, &unkeyed(&message[..64]), &unkeyed(&message[..65]), 0)?;
     let chain = [
         0xca0e0a4b, 0xfef79605, 0xa2e4c3df, 0x62cb01ab, 0x45d5d3d6, 0x293c6464, 0x0719df00,
@@ -172,7 +185,7 @@ fn witness_different_numbers_of_steps(rt: HostRuntime) -> Result<(), Fail> {
         blake2s_last(0x6b08e667, &message[..64], 64),
         step(chain, &message[..1], 65, true),
     );
-    assert_eq!(rt; found, Some(wanted));
+    assert!(rt; found == Some(wanted));
     Ok(())
 }
 
@@ -201,20 +214,20 @@ fn witness_equal_digests_of_one_byte(rt: HostRuntime) -> Result<(), Fail> {
     let Some((a, b)) = equal_digests::<Blake2b<1>>() else {
         return Err(Fail::from("no equal digests of BLAKE2b"));
     };
-    assert_ne!(rt; a, b);
+    assert!(rt; a != b);
     let (a, b) = (a.to_be_bytes(), b.to_be_bytes());
     let word = 0x6a09e667f2bdc909;
     let wanted = (blake2b_last(word, &a, 2), blake2b_last(word, &b, 2));
     let found = blake2b_witness(alloc, &unkeyed(&a), &unkeyed(&b), 1)?;
-    assert_eq!(rt; found, Some(wanted));
+    assert!(rt; found == Some(wanted));
     let Some((a, b)) = equal_digests::<Blake2s<1>>() else {
         return Err(Fail::from("no equal digests of BLAKE2s"));
     };
-    assert_ne!(rt; a, b);
+    assert!(rt; a != b);
     let (a, b) = (a.to_be_bytes(), b.to_be_bytes());
     let word = 0x6b08e666;
     let wanted = (blake2s_last(word, &a, 2), blake2s_last(word, &b, 2));
     let found = blake2s_witness(alloc, &unkeyed(&a), &unkeyed(&b), 1)?;
-    assert_eq!(rt; found, Some(wanted));
+    assert!(rt; found == Some(wanted));
     Ok(())
 }

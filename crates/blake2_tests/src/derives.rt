@@ -7,6 +7,7 @@ use blake2::digest::{InvalidLength, InvalidOutputSize, Lazy, MacError, TruncSide
 use blake2::engine::{DeviceError, StreamFault};
 use blake2::rows::{u32x4, u64x4};
 use blake2::steps::{Entry, Input, Reading, Step, Tree};
+use blake2_tree::{TreeWitness, tree_witness};
 use std::alloc::AllocError;
 use std::process::Abort;
 use std::test::Fail;
@@ -48,16 +49,12 @@ fn copy_faults(rt: HostRuntime) -> Result<(), Fail> {
     ];
     check_copies(&rt, &replays)?;
     let text = format!(in rt.alloc(); "{:?} {streams:?} {replays:?}", DeviceError)?;
-    assert_eq!(rt;
-        text.as_str(),
-        "DeviceError [Read, TooLong, Write] [NoSuchSlot(1), NoSuchSlot(2), TooLong(1), Memory]"
-    );
+    let wanted = "DeviceError [Read, TooLong, Write] \
+                  [NoSuchSlot(1), NoSuchSlot(2), TooLong(1), Memory]";
+    assert!(rt; text.as_str() == wanted);
     let lengths = (InvalidOutputSize, InvalidLength, MacError);
     let text = format!(in rt.alloc(); "{lengths:?} {Lazy:?} {:?}", TruncSide::Left)?;
-    assert_eq!(rt;
-        text.as_str(),
-        "(InvalidOutputSize, InvalidLength, MacError) Lazy Left"
-    );
+    assert!(rt; text.as_str() == "(InvalidOutputSize, InvalidLength, MacError) Lazy Left");
     Ok(())
 }
 
@@ -87,6 +84,60 @@ fn copy_entries_and_steps(rt: HostRuntime) -> Result<(), Fail> {
         },
     ];
     check_copies(&rt, &steps)?;
+    Ok(())
+}
+
+#[test]
+fn copy_witnesses_of_trees(rt: HostRuntime) -> Result<(), Fail> {
+    let chain = [1, 2, 3, 4, 5, 6, 7, 8];
+    let x: Step<u64, 128> = step(chain, &[9; 128], 10, true);
+    let y: Step<u64, 128> = step(chain, &[9; 127], 10, true);
+    check_copies(
+        &rt,
+        &[
+            TreeWitness::Root(x, y),
+            TreeWitness::Root(y, x),
+            TreeWitness::Root(x, x),
+            TreeWitness::Leaf(0, x, y),
+        ],
+    )?;
+    check_copies(
+        &rt,
+        &[
+            TreeWitness::Leaf(0, x, y),
+            TreeWitness::Leaf(0, y, x),
+            TreeWitness::Leaf(0, x, x),
+            TreeWitness::Leaf(1, x, y),
+        ],
+    )?;
+    for (witness, name) in [
+        (TreeWitness::Root(x, y), "Root(Step"),
+        (TreeWitness::Leaf(7, x, y), "Leaf(7, Step"),
+    ] {
+        let text = format!(in rt.alloc(); "{witness:?}")?;
+        assert!(rt; text.as_str().starts_with(name), "{name}");
+    }
+    Ok(())
+}
+
+// Of trees without salt and persona: one message has no witness, nor have two whose roots differ.
+#[test]
+fn no_witness_of_bare_trees(rt: HostRuntime) -> Result<(), Fail> {
+    for (size, a, b) in [
+        (0, "a", "a"),
+        (0, "", ""),
+        (1, "abcdefghi", "abcdefghi"),
+        (64, "abcdefghi", "abcdefghi"),
+        (64, "abcdefghi", "abcdefghj"),
+        (64, "abcd", "abcde"),
+        (64, "", "\0"),
+        (16, "abcdefgh", "abcdEfgh"),
+    ] {
+        let (a_bytes, b_bytes) = (a.as_bytes(), b.as_bytes());
+        assert!(rt; size <= 64 && a_bytes.len() < 10 && b_bytes.len() < 10);
+        let found = tree_witness(rt.alloc(), &[], &[], 4, size, a_bytes, b_bytes)?;
+        assert!(rt; found.is_none(), "{size} {a} {b}");
+    }
     Ok(())
 }
 
@@ -128,12 +179,12 @@ fn copy_places_in_trees(rt: HostRuntime) -> Result<(), Fail> {
 fn copy_lanes_calls_and_inputs(rt: HostRuntime) -> Result<(), Fail> {
     let row = u64x4::new(1, 2, 3, 4);
     let copy = row;
-    assert_eq!(rt; copy.to_bytes(), row.to_bytes());
-    assert_eq!(rt; row.clone()?.to_bytes(), row.to_bytes());
+    assert!(rt; copy.to_bytes() == row.to_bytes());
+    assert!(rt; row.clone()?.to_bytes() == row.to_bytes());
     let row = u32x4::new(1, 2, 3, 4);
     let copy = row;
-    assert_eq!(rt; copy.to_bytes(), row.to_bytes());
-    assert_eq!(rt; row.clone()?.to_bytes(), row.to_bytes());
+    assert!(rt; copy.to_bytes() == row.to_bytes());
+    assert!(rt; row.clone()?.to_bytes() == row.to_bytes());
     let call = Call::Update(7, b"abc");
     let copy = call;
     assert!(rt; matches!(copy, Call::Update(7, b"abc")));
@@ -148,11 +199,11 @@ fn copy_lanes_calls_and_inputs(rt: HostRuntime) -> Result<(), Fail> {
     };
     let copy = given;
     for input in [given, copy, given.clone()?] {
-        assert_eq!(rt; input.key.map(|key| key == b"key".as_slice()), Some(true));
-        assert_eq!(rt; input.salt, b"salt".as_slice());
-        assert_eq!(rt; input.persona, b"persona".as_slice());
-        assert_eq!(rt; input.message, b"message".as_slice());
-        assert_eq!(rt; input.tree.node_offset, 1);
+        assert!(rt; input.key.map(|key| key == b"key".as_slice()) == Some(true));
+        assert!(rt; input.salt == b"salt".as_slice());
+        assert!(rt; input.persona == b"persona".as_slice());
+        assert!(rt; input.message == b"message".as_slice());
+        assert!(rt; input.tree.node_offset == 1);
         assert!(rt; input.last_node);
     }
     Ok(())

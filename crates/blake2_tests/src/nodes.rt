@@ -3,15 +3,10 @@
 //! digests over lists of 64 nodes are those of `tools/expected_values.py`, under `nodes`.
 ghost use Rattle.std.specs.Prelude.{◌≤◌};
 
-use crate::inputs::{count_up, entry, input, reading, step, take, transcript, unkeyed};
-use blake2::digest::{Duplicate, FixedOutputReset, LastNode};
+use crate::inputs::{count_up, digest_is, entry, input, reading, step, transcript, unkeyed};
 use blake2::steps::{Entry, Input, Reading, Step, Tree};
-use blake2::{
-    Blake2b128, Blake2b256, Blake2b512, Blake2bVarCore, Blake2s128, Blake2s256, Blake2sVarCore,
-    Digest,
-};
+use blake2::{Blake2b512, Blake2bVarCore, Blake2s256, Blake2sVarCore, Digest, LastNode};
 use std::alloc::{AllocError, Global};
-use std::process::Abort;
 use std::test::Fail;
 
 // The place of the node with this number among 64, where node offsets have 64 bits less `shift`,
@@ -27,27 +22,17 @@ fn place(number: u8, shift: u32, longest: u32) -> Tree {
     }
 }
 
-// Takes the counter, the two flags and the block of each entry.
-fn take_entries<const B: usize>(rt: &impl Abort, digest: &mut Blake2b256, entries: &[Entry<B>])
-    requires { B ≤ 128 }
-{
-    for entry in entries {
-        take(rt, digest, &entry.counter.to_le_bytes());
-        let flags = [u8::from(entry.last), u8::from(entry.last_node)];
-        take(rt, digest, &flags);
-        take(rt, digest, &entry.block);
-    }
-}
-
-// Checks the digest of what was taken.
-fn check_digest(
-    rt: &impl Abort,
-    alloc: Global,
-    taken: Blake2b256,
-    wanted: &str,
+// Adds the counter, the two flags and the block of each entry.
+fn add_entries<const B: usize>(
+    bytes: &mut Vec<u8>,
+    entries: &[Entry<B>],
 ) -> Result<(), AllocError> {
-    let digest = hex::encode(alloc, &taken.finalize()[..])?;
-    assert_eq!(rt; digest.as_str(), wanted);
+    for entry in entries {
+        bytes.extend_from_slice(&entry.counter.to_le_bytes())?;
+        bytes.push(u8::from(entry.last))?;
+        bytes.push(u8::from(entry.last_node))?;
+        bytes.extend_from_slice(&entry.block)?;
+    }
     Ok(())
 }
 
@@ -56,7 +41,7 @@ fn hash_nodes_of_blake2b(rt: HostRuntime) -> Result<(), Fail> {
     let alloc = rt.alloc();
     let mut bytes = [0; 320];
     count_up(&mut bytes);
-    let (mut outputs, mut transcripts) = (Blake2b256::new(), Blake2b256::new());
+    let (mut outputs, mut transcripts) = (Vec::new(alloc), Vec::new(alloc));
     for number in 0..64u8 {
         let i = number as usize;
         let node = Input {
@@ -74,20 +59,20 @@ fn hash_nodes_of_blake2b(rt: HostRuntime) -> Result<(), Fail> {
         }
         let mut hasher = Blake2b512::new_with_tree(node.salt, node.persona, &node.tree);
         hasher.set_last_node(node.last_node);
-        take(&rt, &mut hasher, node.message);
-        take(&rt, &mut outputs, &hasher.finalize());
+        Digest::update(&mut hasher, node.message);
+        outputs.extend_from_slice(&hasher.finalize())?;
         let told = Blake2bVarCore::transcript(alloc, &node, 64)?;
         for word in &told.words {
-            take(&rt, &mut transcripts, &word.to_le_bytes());
+            transcripts.extend_from_slice(&word.to_le_bytes())?;
         }
-        take_entries(&rt, &mut transcripts, told.entries.as_slice());
+        add_entries(&mut transcripts, told.entries.as_slice())?;
         let read = Blake2bVarCore::read_transcript(alloc, &told)?;
-        assert_eq!(rt; read, Some(reading(alloc, &node, 64)?));
+        assert!(rt; read == Some(reading(alloc, &node, 64)?), "{number}");
     }
     let wanted = "743494e239b845379ce3db0c03d9c6c6828864db7264aedb66b4fa41ec51901d";
-    check_digest(&rt, alloc, outputs, wanted)?;
+    assert!(rt; digest_is(alloc, outputs.as_slice(), wanted)?);
     let wanted = "9dc50af7ecb732cdb106a820c118ee976b365e5733a15eb5a95d514e6236a0db";
-    check_digest(&rt, alloc, transcripts, wanted)?;
+    assert!(rt; digest_is(alloc, transcripts.as_slice(), wanted)?);
     Ok(())
 }
 
@@ -96,7 +81,7 @@ fn hash_nodes_of_blake2s(rt: HostRuntime) -> Result<(), Fail> {
     let alloc = rt.alloc();
     let mut bytes = [0; 320];
     count_up(&mut bytes);
-    let (mut outputs, mut transcripts) = (Blake2b256::new(), Blake2b256::new());
+    let (mut outputs, mut transcripts) = (Vec::new(alloc), Vec::new(alloc));
     for number in 0..64u8 {
         let i = number as usize;
         let node = Input {
@@ -109,20 +94,20 @@ fn hash_nodes_of_blake2s(rt: HostRuntime) -> Result<(), Fail> {
         }
         let mut hasher = Blake2s256::new_with_tree(node.salt, node.persona, &node.tree);
         hasher.set_last_node(node.last_node);
-        take(&rt, &mut hasher, node.message);
-        take(&rt, &mut outputs, &hasher.finalize());
+        Digest::update(&mut hasher, node.message);
+        outputs.extend_from_slice(&hasher.finalize())?;
         let told = Blake2sVarCore::transcript(alloc, &node, 32)?;
         for word in &told.words {
-            take(&rt, &mut transcripts, &word.to_le_bytes());
+            transcripts.extend_from_slice(&word.to_le_bytes())?;
         }
-        take_entries(&rt, &mut transcripts, told.entries.as_slice());
+        add_entries(&mut transcripts, told.entries.as_slice())?;
         let read = Blake2sVarCore::read_transcript(alloc, &told)?;
-        assert_eq!(rt; read, Some(reading(alloc, &node, 32)?));
+        assert!(rt; read == Some(reading(alloc, &node, 32)?), "{number}");
     }
     let wanted = "d2d1ec99c81c273452aa7241f907a5dabf6cc3a797c4fef5894148c7d8a4194a";
-    check_digest(&rt, alloc, outputs, wanted)?;
+    assert!(rt; digest_is(alloc, outputs.as_slice(), wanted)?);
     let wanted = "2aa6df9354f3469b353a468efcf02435da6adc234e18c1d3efe639626d6a8b13";
-    check_digest(&rt, alloc, transcripts, wanted)?;
+    assert!(rt; digest_is(alloc, transcripts.as_slice(), wanted)?);
     Ok(())
 }
 
@@ -187,7 +172,7 @@ fn read_places_of_blake2b(rt: HostRuntime) -> Result<(), AllocError> {
             )?),
             None => None,
         };
-        assert_eq!(rt; read, wanted, "{place} {word:x}");
+        assert!(rt; read == wanted, "{place} {word:x}");
     }
     Ok(())
 }
@@ -218,7 +203,37 @@ fn read_the_last_node_of_blake2b(rt: HostRuntime) -> Result<(), AllocError> {
         } else {
             Some(reading(alloc, &input, 64)?)
         };
-        assert_eq!(rt; read, wanted, "{first} {second}");
+        assert!(rt; read == wanted, "{first} {second}");
+    }
+    Ok(())
+}
+
+// The flag of the only entry, over no message, one of a byte and one of a block.
+#[test]
+fn read_the_last_node_in_one_entry_of_blake2b(rt: HostRuntime) -> Result<(), AllocError> {
+    let alloc = rt.alloc();
+    let message = [0x2a; 128];
+    let words = [0x01010040, 0, 0, 0, 0, 0, 0, 0];
+    for (length, last_node) in [
+        (0, true),
+        (0, false),
+        (1, true),
+        (1, false),
+        (128, true),
+        (128, false),
+    ] {
+        let message = &message[..length];
+        let told = Entry {
+            last_node,
+            ..entry(message, length as u64, true)
+        };
+        let read = blake2b_reading(alloc, words, &[told])?;
+        let input = Input {
+            last_node,
+            ..unkeyed(message)
+        };
+        let wanted = reading(alloc, &input, 64)?;
+        assert!(rt; read == Some(wanted), "{length} {last_node}");
     }
     Ok(())
 }
@@ -290,7 +305,7 @@ fn read_places_of_blake2s(rt: HostRuntime) -> Result<(), AllocError> {
             )?),
             None => None,
         };
-        assert_eq!(rt; read, wanted, "{place} {word:x}");
+        assert!(rt; read == wanted, "{place} {word:x}");
     }
     Ok(())
 }
@@ -321,7 +336,37 @@ fn read_the_last_node_of_blake2s(rt: HostRuntime) -> Result<(), AllocError> {
         } else {
             Some(reading(alloc, &input, 32)?)
         };
-        assert_eq!(rt; read, wanted, "{first} {second}");
+        assert!(rt; read == wanted, "{first} {second}");
+    }
+    Ok(())
+}
+
+// The same of BLAKE2s.
+#[test]
+fn read_the_last_node_in_one_entry_of_blake2s(rt: HostRuntime) -> Result<(), AllocError> {
+    let alloc = rt.alloc();
+    let message = [0x2a; 64];
+    let words = [0x01010020, 0, 0, 0, 0, 0, 0, 0];
+    for (length, last_node) in [
+        (0, true),
+        (0, false),
+        (1, true),
+        (1, false),
+        (64, true),
+        (64, false),
+    ] {
+        let message = &message[..length];
+        let told = Entry {
+            last_node,
+            ..entry(message, length as u64, true)
+        };
+        let read = blake2s_reading(alloc, words, &[told])?;
+        let input = Input {
+            last_node,
+            ..unkeyed(message)
+        };
+        let wanted = reading(alloc, &input, 32)?;
+        assert!(rt; read == Some(wanted), "{length} {last_node}");
     }
     Ok(())
 }
@@ -363,9 +408,15 @@ fn witness_nodes_of_blake2b(rt: HostRuntime) -> Result<(), Fail> {
         }
         let wanted = (blake2b_last(0, false), blake2b_last(node_offset, last_node));
         let found = Blake2bVarCore::witness(alloc, &a, &b, 0)?;
-        assert_eq!(rt; found, Some(wanted), "{node_offset} {last_node}");
-        assert_eq!(rt; Blake2bVarCore::witness(alloc, &a, &b, 64)?, None);
-        assert_eq!(rt; Blake2bVarCore::witness(alloc, &b, &b, 0)?, None);
+        assert!(rt; found == Some(wanted), "{node_offset} {last_node}");
+        assert!(rt;
+            Blake2bVarCore::witness(alloc, &a, &b, 64)?.is_none(),
+            "{node_offset} {last_node}"
+        );
+        assert!(rt;
+            Blake2bVarCore::witness(alloc, &b, &b, 0)?.is_none(),
+            "{node_offset} {last_node}"
+        );
     }
     Ok(())
 }
@@ -410,90 +461,15 @@ fn witness_nodes_of_blake2s(rt: HostRuntime) -> Result<(), Fail> {
             blake2s_last(node_offset as u32, last_node),
         );
         let found = Blake2sVarCore::witness(alloc, &a, &b, 0)?;
-        assert_eq!(rt; found, Some(wanted), "{node_offset} {last_node}");
-        assert_eq!(rt; Blake2sVarCore::witness(alloc, &a, &b, 32)?, None);
-        assert_eq!(rt; Blake2sVarCore::witness(alloc, &b, &b, 0)?, None);
+        assert!(rt; found == Some(wanted), "{node_offset} {last_node}");
+        assert!(rt;
+            Blake2sVarCore::witness(alloc, &a, &b, 32)?.is_none(),
+            "{node_offset} {last_node}"
+        );
+        assert!(rt;
+            Blake2sVarCore::witness(alloc, &b, &b, 0)?.is_none(),
+            "{node_offset} {last_node}"
+        );
     }
-    Ok(())
-}
-
-// Checks that a state that has taken `ab` gives the digest of `abc` at the byte `c`, and again
-// after each of the two calls that start it again.
-fn check_starts<H, const N: usize>(rt: &impl Abort, state: &mut H, digest: [u8; N])
-where
-    H: FixedOutputReset<N>,
-{
-    take(rt, state, b"c");
-    assert_eq!(rt; state.finalize_fixed_reset(), digest);
-    take(rt, state, b"dropped");
-    state.reset();
-    take(rt, state, b"abc");
-    assert_eq!(rt; state.finalize_fixed_reset(), digest);
-}
-
-// Checks that the last call that sets the flag counts, wherever it comes: `flags` are set before
-// `ab` and before `c`.
-fn check_last_call<H, const N: usize>(
-    rt: &impl Abort,
-    state: &mut H,
-    flags: (bool, bool),
-    digest: [u8; N],
-)
-where
-    H: FixedOutputReset<N> + LastNode,
-{
-    state.set_last_node(flags.0);
-    take(rt, state, b"ab");
-    state.set_last_node(flags.1);
-    take(rt, state, b"c");
-    assert_eq!(rt; state.finalize_fixed_reset(), digest);
-}
-
-// Checks that the flag of the last node is kept by all calls but the one that sets it: `off` and
-// `on` are the digests of `abc` without it and with it.
-fn check_flag<H, const N: usize>(rt: &impl Abort, fresh: H, off: [u8; N], on: [u8; N])
-where
-    H: FixedOutputReset<N> + Duplicate + LastNode + Drop,
-{
-    let mut hasher = fresh;
-    take(rt, &mut hasher, b"ab");
-    let mut copy = hasher.duplicate();
-    hasher.set_last_node(true);
-    let mut flagged = hasher.duplicate();
-    check_starts(rt, &mut copy, off);
-    check_starts(rt, &mut flagged, on);
-    check_starts(rt, &mut hasher, on);
-    for first in [false, true] {
-        check_last_call(rt, &mut hasher, (first, false), off);
-        check_last_call(rt, &mut hasher, (first, true), on);
-    }
-}
-
-#[test]
-fn keep_the_last_node(rt: HostRuntime) -> Result<(), Fail> {
-    check_flag(
-        &rt,
-        Blake2b128::new(),
-        [
-            0xcf, 0x4a, 0xb7, 0x91, 0xc6, 0x2b, 0x8d, 0x2b, 0x21, 0x09, 0xc9, 0x02, 0x75, 0x28,
-            0x78, 0x16,
-        ],
-        [
-            0x82, 0x75, 0x61, 0x86, 0x01, 0xff, 0x91, 0x1f, 0xb1, 0xd3, 0xbb, 0xaa, 0xe5, 0xa9,
-            0x27, 0x6d,
-        ],
-    );
-    check_flag(
-        &rt,
-        Blake2s128::new(),
-        [
-            0xaa, 0x49, 0x38, 0x11, 0x9b, 0x1d, 0xc7, 0xb8, 0x7c, 0xba, 0xd0, 0xff, 0xd2, 0x00,
-            0xd0, 0xae,
-        ],
-        [
-            0x64, 0xd3, 0x2c, 0x26, 0xd5, 0xbd, 0xe2, 0x03, 0xfc, 0x15, 0x55, 0x91, 0x8c, 0x32,
-            0x5a, 0x57,
-        ],
-    );
     Ok(())
 }

@@ -1,0 +1,263 @@
+//! Nodes of trees of hashes and their last-node flag, against the digests of Python's hashlib under
+//! the salt `salt` and the persona `persona`: each has 16 bytes, as a number, high byte first.
+use crate::inputs::take;
+use blake2::digest::{
+    Duplicate, FixedOutputReset, LazyBuffer, Reset, UpdateCore, VariableOutputCore,
+};
+use blake2::{Blake2b128, Blake2bVarCore, Blake2s128, Blake2sVarCore, Digest, LastNode, Tree};
+use std::process::Abort;
+use std::test::Fail;
+
+#[test]
+fn hash_a_node_of_blake2b(rt: HostRuntime) -> Result<(), Fail> {
+    let tree = Tree {
+        fanout: 2,
+        depth: 3,
+        leaf_length: 4096,
+        node_offset: u64::MAX - 1,
+        node_depth: 1,
+        inner_length: 64,
+    };
+    let on = 0xd83e7da6c64e48ec8736d25affd11a9c;
+    let off = 0xf437c443eb8724a060fb0c1238a3128a;
+    let mut hasher = Blake2b128::new_with_tree(b"salt", b"persona", &tree);
+    Digest::update(&mut hasher, b"ab");
+    hasher.set_last_node(true);
+    Digest::update(&mut hasher, b"c");
+    // Copies have the flag, and a reset keeps it.
+    assert!(rt; u128::from_be_bytes(hasher.duplicate().finalize()) == on);
+    assert!(rt; u128::from_be_bytes(hasher.clone()?.finalize()) == on);
+    assert!(rt; u128::from_be_bytes(hasher.finalize_reset()) == on);
+    Digest::update(&mut hasher, b"*");
+    Digest::reset(&mut hasher);
+    Digest::update(&mut hasher, b"abc");
+    assert!(rt; u128::from_be_bytes(hasher.finalize_reset()) == on);
+    // It is off at first, and once it is set off again.
+    let mut hasher = Blake2b128::new_with_tree(b"salt", b"persona", &tree);
+    Digest::update(&mut hasher, b"abc");
+    assert!(rt; u128::from_be_bytes(hasher.duplicate().finalize()) == off);
+    hasher.set_last_node(true);
+    assert!(rt; u128::from_be_bytes(hasher.duplicate().finalize()) == on);
+    hasher.set_last_node(false);
+    assert!(rt; u128::from_be_bytes(hasher.finalize()) == off);
+    Ok(())
+}
+
+// The output for 200 bytes 2a, as the core of BLAKE2b gives it.
+fn finalize_blake2b(rt: &impl Abort, core: &mut Blake2bVarCore) -> u128 {
+    let mut buffer = LazyBuffer::<128>::default();
+    assert!(rt; core.counted() == 0);
+    buffer.digest_blocks(&[b'*'; 200], core);
+    let counted = core.counted();
+    let pending = buffer.get_pos();
+    assert!(rt; counted <= 200 && pending <= 200);
+    let mut out = [0; 64];
+    core.finalize_variable_core(&mut buffer, &mut out);
+    let mut first = [0; 16];
+    first.copy_from_slice(&out[..16]);
+    u128::from_be_bytes(first)
+}
+
+#[test]
+fn finalize_a_node_of_blake2b(rt: HostRuntime) {
+    let tree = Tree {
+        fanout: 2,
+        depth: 3,
+        leaf_length: 4096,
+        node_offset: u64::MAX - 1,
+        node_depth: 1,
+        inner_length: 64,
+    };
+    let mut core = Blake2bVarCore::new_with_tree(b"salt", b"persona", 0, 16, &tree);
+    core.set_last_node(true);
+    let mut copy = core.duplicate();
+    assert!(rt; finalize_blake2b(&rt, &mut core) == 0x04a52bc275493b1e9aad139bc4c48022);
+    assert!(rt; finalize_blake2b(&rt, &mut copy) == 0x04a52bc275493b1e9aad139bc4c48022);
+    // A finalising call keeps the flag, and so does a reset.
+    core.reset();
+    assert!(rt; finalize_blake2b(&rt, &mut core) == 0x04a52bc275493b1e9aad139bc4c48022);
+    core.reset();
+    core.set_last_node(false);
+    assert!(rt; finalize_blake2b(&rt, &mut core) == 0x1bcf88105db6d47ef7f8c4525171b830);
+}
+
+#[test]
+fn hash_a_node_of_blake2s(rt: HostRuntime) -> Result<(), Fail> {
+    let tree = Tree {
+        fanout: 0,
+        depth: 255,
+        leaf_length: u32::MAX,
+        node_offset: (1 << 48) - 1,
+        node_depth: 254,
+        inner_length: 32,
+    };
+    let on = 0x52f1f0350a58182eb9562cbe354e838a;
+    let off = 0x82626e96288de6e47d181c24d91510af;
+    let mut hasher = Blake2s128::new_with_tree(b"salt", b"persona", &tree);
+    Digest::update(&mut hasher, b"ab");
+    hasher.set_last_node(true);
+    Digest::update(&mut hasher, b"c");
+    // Copies have the flag, and a reset keeps it.
+    assert!(rt; u128::from_be_bytes(hasher.duplicate().finalize()) == on);
+    assert!(rt; u128::from_be_bytes(hasher.clone()?.finalize()) == on);
+    assert!(rt; u128::from_be_bytes(hasher.finalize_reset()) == on);
+    Digest::update(&mut hasher, b"*");
+    Digest::reset(&mut hasher);
+    Digest::update(&mut hasher, b"abc");
+    assert!(rt; u128::from_be_bytes(hasher.finalize_reset()) == on);
+    // It is off at first, and once it is set off again.
+    let mut hasher = Blake2s128::new_with_tree(b"salt", b"persona", &tree);
+    Digest::update(&mut hasher, b"abc");
+    assert!(rt; u128::from_be_bytes(hasher.duplicate().finalize()) == off);
+    hasher.set_last_node(true);
+    assert!(rt; u128::from_be_bytes(hasher.duplicate().finalize()) == on);
+    hasher.set_last_node(false);
+    assert!(rt; u128::from_be_bytes(hasher.finalize()) == off);
+    Ok(())
+}
+
+// The output for 200 bytes 2a, as the core of BLAKE2s gives it.
+fn finalize_blake2s(rt: &impl Abort, core: &mut Blake2sVarCore) -> u128 {
+    let mut buffer = LazyBuffer::<64>::default();
+    assert!(rt; core.counted() == 0);
+    buffer.digest_blocks(&[b'*'; 200], core);
+    let counted = core.counted();
+    let pending = buffer.get_pos();
+    assert!(rt; counted <= 200 && pending <= 200);
+    let mut out = [0; 32];
+    core.finalize_variable_core(&mut buffer, &mut out);
+    let mut first = [0; 16];
+    first.copy_from_slice(&out[..16]);
+    u128::from_be_bytes(first)
+}
+
+#[test]
+fn finalize_a_node_of_blake2s(rt: HostRuntime) {
+    let tree = Tree {
+        fanout: 0,
+        depth: 255,
+        leaf_length: u32::MAX,
+        node_offset: (1 << 48) - 1,
+        node_depth: 254,
+        inner_length: 32,
+    };
+    let mut core = Blake2sVarCore::new_with_tree(b"salt", b"persona", 0, 16, &tree);
+    core.set_last_node(true);
+    let mut copy = core.duplicate();
+    assert!(rt; finalize_blake2s(&rt, &mut core) == 0x52cef7a497f72d4c2e9f0077ee696b5d);
+    assert!(rt; finalize_blake2s(&rt, &mut copy) == 0x52cef7a497f72d4c2e9f0077ee696b5d);
+    // A finalising call keeps the flag, and so does a reset.
+    core.reset();
+    assert!(rt; finalize_blake2s(&rt, &mut core) == 0x52cef7a497f72d4c2e9f0077ee696b5d);
+    core.reset();
+    core.set_last_node(false);
+    assert!(rt; finalize_blake2s(&rt, &mut core) == 0xe19b64a7d213fcbd9aecb37e619ed84b);
+}
+
+#[test]
+fn admit_trees(rt: HostRuntime) {
+    let sequential = Tree::sequential();
+    assert!(rt; Blake2bVarCore::admits_tree(&sequential));
+    assert!(rt; Blake2sVarCore::admits_tree(&sequential));
+    // Offset, depth and inner length, and whether BLAKE2b and BLAKE2s take them.
+    for (node_offset, depth, inner_length, by_blake2b, by_blake2s) in [
+        ((1 << 48) - 1, 255, 32, true, true),
+        (1 << 48, 255, 32, true, false),
+        (u64::MAX, 1, 64, true, false),
+        (0, 1, 33, true, false),
+        (0, 1, 65, false, false),
+        (0, 0, 0, false, false),
+    ] {
+        let tree = Tree {
+            fanout: 0,
+            depth,
+            leaf_length: u32::MAX,
+            node_offset,
+            node_depth: 255,
+            inner_length,
+        };
+        assert!(rt; Blake2bVarCore::admits_tree(&tree) == by_blake2b);
+        assert!(rt; Blake2sVarCore::admits_tree(&tree) == by_blake2s);
+    }
+}
+
+// Checks that a state that has taken `ab` gives the digest of `abc` at the byte `c`, and again
+// after each of the two calls that start it again.
+fn check_starts<H, const N: usize>(rt: &impl Abort, state: &mut H, digest: [u8; N])
+where
+    H: FixedOutputReset<N>,
+{
+    take(rt, state, b"c");
+    assert!(rt; state.finalize_fixed_reset() == digest);
+    take(rt, state, b"dropped");
+    state.reset();
+    take(rt, state, b"abc");
+    assert!(rt; state.finalize_fixed_reset() == digest);
+}
+
+// Checks that the last call that sets the flag counts, wherever it comes: `flags` are set before
+// `ab` and before `c`.
+fn check_last_call<H, const N: usize>(
+    rt: &impl Abort,
+    state: &mut H,
+    flags: (bool, bool),
+    digest: [u8; N],
+)
+where
+    H: FixedOutputReset<N> + LastNode,
+{
+    state.set_last_node(flags.0);
+    take(rt, state, b"ab");
+    state.set_last_node(flags.1);
+    take(rt, state, b"c");
+    assert!(rt; state.finalize_fixed_reset() == digest);
+}
+
+// Checks that the flag of the last node is kept by all calls but the one that sets it: `off` and
+// `on` are the digests of `abc` without it and with it.
+fn check_flag<H, const N: usize>(rt: &impl Abort, fresh: H, off: [u8; N], on: [u8; N])
+where
+    H: FixedOutputReset<N> + Duplicate + LastNode + Drop,
+{
+    let mut hasher = fresh;
+    take(rt, &mut hasher, b"ab");
+    let mut copy = hasher.duplicate();
+    hasher.set_last_node(true);
+    let mut flagged = hasher.duplicate();
+    check_starts(rt, &mut copy, off);
+    check_starts(rt, &mut flagged, on);
+    check_starts(rt, &mut hasher, on);
+    for first in [false, true] {
+        check_last_call(rt, &mut hasher, (first, false), off);
+        check_last_call(rt, &mut hasher, (first, true), on);
+    }
+}
+
+#[test]
+fn keep_the_last_node(rt: HostRuntime) -> Result<(), Fail> {
+    check_flag(
+        &rt,
+        Blake2b128::new(),
+        [
+            0xcf, 0x4a, 0xb7, 0x91, 0xc6, 0x2b, 0x8d, 0x2b, 0x21, 0x09, 0xc9, 0x02, 0x75, 0x28,
+            0x78, 0x16,
+        ],
+        [
+            0x82, 0x75, 0x61, 0x86, 0x01, 0xff, 0x91, 0x1f, 0xb1, 0xd3, 0xbb, 0xaa, 0xe5, 0xa9,
+            0x27, 0x6d,
+        ],
+    );
+    check_flag(
+        &rt,
+        Blake2s128::new(),
+        [
+            0xaa, 0x49, 0x38, 0x11, 0x9b, 0x1d, 0xc7, 0xb8, 0x7c, 0xba, 0xd0, 0xff, 0xd2, 0x00,
+            0xd0, 0xae,
+        ],
+        [
+            0x64, 0xd3, 0x2c, 0x26, 0xd5, 0xbd, 0xe2, 0x03, 0xfc, 0x15, 0x55, 0x91, 0x8c, 0x32,
+            0x5a, 0x57,
+        ],
+    );
+    Ok(())
+}
