@@ -148,25 +148,3 @@ impl Wipe for Blake2bContext {
         self.buffer.wipe();
     }
 }
-
-#[cfg(test)]
-impl Blake2bContext {
-    // A run that has counted so many bytes, the last of them pending.
-    pub(crate) fn counting_from(counter: u64, pending: &[u8]) -> Self
-        requires within_a_block { length pending.now ≤ 128 }
-        requires counted { counter + length pending.now < 2 ^ 64 }
-        requires one_block_left { counter
-            ≡ 128 * (block_count 128 (counter + length pending.now) - 1) }
-        ensures { result.core.count + length result.buffer ≡ counter + length pending.now }
-    {
-        Blake2bContext {
-            core: Blake2bVarCore::counting_from(counter),
-            buffer: LazyBuffer::new(pending),
-        }
-    }
-
-    // The words that the run starts from.
-    pub(crate) fn start_words(&self) -> [u64; 8] {
-        self.core.first_words()
-    }
-}

@@ -324,15 +324,3 @@ impl fmt::Debug for Blake2bVarCore {
         write_name(f)
     }
 }
-
-#[cfg(test)]
-impl Blake2bVarCore {
-    // A core that has counted so many bytes.
-    pub(crate) fn counting_from(counter: u64) -> Self
-        ensures { result.count ≡ counter }
-    {
-        let mut core = Self::new_with_params(&[], &[], 0, 64);
-        core.counter = counter;
-        core
-    }
-}

@@ -199,27 +199,3 @@ impl<const N: usize> Wipe for Blake2s<N> {
 }
 
 impl<const N: usize> ZeroizeOnDrop for Blake2s<N> {}
-
-#[cfg(test)]
-impl<const N: usize> Blake2s<N> {
-    ghost use Rattle.blake2.specs.Hashers.{blake2s_meaning};
-
-    // A hasher that has counted so many bytes, the last of them pending.
-    pub(crate) fn counting_from(counter: u64, pending: &[u8]) -> Self
-        requires supported { N ≤ 32 }
-        requires within_a_block { length pending.now ≤ 64 }
-        requires counted { counter + length pending.now < 2 ^ 64 }
-        requires one_block_left { counter
-            ≡ 64 * (block_count 64 (counter + length pending.now) - 1) }
-        ensures { (blake2s_meaning N).count result ≡ counter + length pending.now }
-    {
-        Blake2s {
-            context: Blake2sContext::counting_from(counter, pending),
-        }
-    }
-
-    // The words that the run starts from.
-    pub(crate) fn start_words(&self) -> [u32; 8] {
-        self.context.start_words()
-    }
-}

@@ -1,6 +1,3 @@
 //! Eight messages of BLAKE2s at once.
 
-#[cfg(test)]
-mod tests;
-
 pub use blake2_words::many::blake2s::{accepts_eight, hash_eight};
