@@ -16,17 +16,8 @@ use crate::fault::Fault;
 use crate::print::Line;
 use crate::tree_request::{TreeKind, TreeRequest};
 use blake2::engine::{Sink, Source};
-use blake2_tree::TreeHasher;
+use blake2_tree::{LABEL_BYTES, MESSAGE_LIMIT, TreeHasher, best_piece_length};
 use std::alloc::Global;
-
-// The bytes that a tree takes are fewer than this.
-const LIMIT: u64 = 1 << 58;
-
-// The bytes of a piece of the input, where leaves are short or very long.
-const PIECE_BYTES: usize = 1 << 16;
-
-// The bytes of the longest piece.
-const LONGEST_PIECE_BYTES: usize = 1 << 24;
 
 /// Prints the root of what the source gives, as a line. It reads the source in pieces, and takes
 /// memory for one.
@@ -73,10 +64,10 @@ fn print_root<S: Source, K: Sink, const N: usize>(
 {
     let salt = request.options.salt();
     let persona = request.options.persona();
-    if salt.len() > 16 || persona.len() > 16 {
+    if salt.len() > LABEL_BYTES || persona.len() > LABEL_BYTES {
         return Err(Fault::WrongLength);
     }
-    let mut piece = vec![in alloc; 0u8; piece_length(request.leaf_length)]?;
+    let mut piece = vec![in alloc; 0u8; best_piece_length(request.leaf_length)]?;
     let mut hasher = TreeHasher::<N>::new(salt, persona, request.leaf_length);
     absorb(source, piece.as_mut_slice(), &mut hasher)?;
     let mut line = Line::new();
@@ -84,24 +75,8 @@ fn print_root<S: Source, K: Sink, const N: usize>(
     line.print(sink)
 }
 
-// How many bytes a piece of the input has. A tree hashes four leaves at once that others follow. So
-// a piece is fours of leaves and one leaf more, which stays open until the next piece shows that
-// others follow it. Five leaves that would be too long for memory are no piece.
-fn piece_length(leaf_length: u32) -> usize
-    requires { 1 ≤ leaf_length }
-    ensures { 1 ≤ result }
-{
-    let leaf = leaf_length as usize;
-    let fours = (PIECE_BYTES / leaf / 4).max(1);
-    let whole = leaf * (4 * fours + 1);
-    if whole <= LONGEST_PIECE_BYTES {
-        whole
-    } else {
-        PIECE_BYTES
-    }
-}
-
-// Hands all that the source gives to the hasher, as many bytes at a time as the buffer has.
+// Hands all that the source gives to the hasher, as many bytes at a time as the buffer has: one at
+// least, and 16 MiB at most, so that a longer piece is a fault of the proof.
 fn absorb<S: Source, const N: usize>(
     source: &mut S,
     buffer: &mut [u8],
@@ -109,6 +84,7 @@ fn absorb<S: Source, const N: usize>(
 ) -> Result<(), Fault>
     requires source { S.failed source.old ≡ false }
     requires buffer { 0 < length buffer.old }
+    requires most { length buffer.old ≤ 2 ^ 24 }
     ensures read { IsErrOf result Fault.ReadFailed ↔ IsTrue (S.failed source.new) }
     ensures fault { IfErr result (λ fault. (fault ≡ ReadFailed) ⊎ (fault ≡ TooLong)) }
     ensures whole { OnOk result (IfSome (S.left source.old) (λ bytes.
@@ -118,7 +94,7 @@ fn absorb<S: Source, const N: usize>(
 {
     'pieces: loop {
         let filled = fill(source, buffer)?;
-        if filled as u64 >= LIMIT - hasher.counted() {
+        if filled as u64 >= MESSAGE_LIMIT - hasher.counted() {
             return Err(Fault::TooLong);
         }
         hasher.update(&buffer[..filled]);

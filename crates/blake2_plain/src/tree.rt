@@ -15,6 +15,7 @@ ghost use Rattle.blake2_plain.specs.TreeStates.{parameters, room, future, count,
 use crate::blake2b::State;
 use blake2_digest::{InvalidLength, padded};
 use blake2_tree::nodes::Nodes;
+use blake2_tree::{LABEL_BYTES, MESSAGE_LIMIT};
 
 /// A run of the tree as plain numbers. Every value of the fields is a state, and none is unsafe; it
 /// gives a root where it is ready ([`TreeState::is_ready`]), as all are that `new` has made.
@@ -35,9 +36,9 @@ pub struct TreeState {
     /// The bytes of the persona, 0 to 16.
     pub persona_length: usize,
     /// The salt, at the beginning.
-    pub salt: [u8; 16],
+    pub salt: [u8; LABEL_BYTES],
     /// The persona, at the beginning.
-    pub persona: [u8; 16],
+    pub persona: [u8; LABEL_BYTES],
 }
 
 // A state of leaf `i`.
@@ -125,7 +126,7 @@ fn is_counted(closed: u64, leaf_length: u64, taken: u64) -> bool
     requires taken { taken < 2 ^ 58 }
     ensures { IsTrue result ↔ closed * leaf_length + taken < 2 ^ 58 }
 {
-    closed <= ((1 << 58) - 1 - taken) / leaf_length
+    closed <= (MESSAGE_LIMIT - 1 - taken) / leaf_length
 }
 
 impl TreeState {
@@ -146,8 +147,8 @@ impl TreeState {
     {
         self.leaf_length >= 1
             && self.leaf_length <= u64::from(u32::MAX)
-            && self.salt_length <= 16
-            && self.persona_length <= 16
+            && self.salt_length <= LABEL_BYTES
+            && self.persona_length <= LABEL_BYTES
     }
 
     // Whether the counts are those of a tree.
@@ -160,7 +161,7 @@ impl TreeState {
         let taken = self.leaf.counted();
         taken <= self.leaf_length
             && is_counted(self.closed, self.leaf_length, taken)
-            && self.closed < (1 << 58) - 1
+            && self.closed < MESSAGE_LIMIT - 1
             && self.root.counted() == 64 * self.closed
     }
 
@@ -175,8 +176,8 @@ impl TreeState {
             leaf_length: 0,
             salt_length: 0,
             persona_length: 0,
-            salt: [0; 16],
-            persona: [0; 16],
+            salt: [0; LABEL_BYTES],
+            persona: [0; LABEL_BYTES],
         }
     }
 
@@ -207,7 +208,7 @@ impl TreeState {
         if output_size == 0 || output_size > 64 {
             return Err(InvalidLength);
         }
-        if salt.len() > 16 || persona.len() > 16 || leaf_length == 0 {
+        if salt.len() > LABEL_BYTES || persona.len() > LABEL_BYTES || leaf_length == 0 {
             return Err(InvalidLength);
         }
         Ok(Self::begun(output_size, salt, persona, leaf_length))

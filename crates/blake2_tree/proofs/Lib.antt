@@ -1,3 +1,4 @@
 pub mod Leaves
 mod NodeLemmas
+mod PieceLengths
 pub mod Roots

@@ -2,13 +2,14 @@
 ghost use Rattle.std.specs.Prelude.{◌≡◌, ℕ, ◌≤◌, List, length, take};
 ghost use Rattle.blake2_words.specs.Hash.{AreBytes};
 
+use crate::limits::LABEL_BYTES;
 use blake2_digest::padded;
 use std::marker::Model;
 
 /// At most 16 bytes.
 #[derive(Drop)]
 pub(crate) struct Label {
-    bytes: [u8; 16],
+    bytes: [u8; LABEL_BYTES],
     length: usize,
 }
 

@@ -16,8 +16,10 @@
 
 mod hasher;
 mod label;
+mod limits;
 pub mod nodes;
 mod witness;
 
 pub use hasher::{TreeHasher, tree_root};
+pub use limits::{LABEL_BYTES, MESSAGE_LIMIT, best_piece_length};
 pub use witness::{TreeWitness, tree_witness};
