@@ -3,12 +3,12 @@
 use Rattle.std.proofs.Common.{false, ◌≡◌, ℕ, zero, suc, ◌+◌, ◌-◌, ◌*◌, ◌%◌, ◌<◌, List, [], ◌∷◌}
 use Rattle.std.proofs.Common.{length, get_or, slice_index, slice_index_or, bit_xor, replicate, map}
 use Rattle.std.proofs.Common.{take, drop, refl, sym, ap, ◌∙◌, arith}
-use Rattle.std.proofs.lemmas.List.{get_or-map, get_or_default}
+use Rattle.std.proofs.lemmas.List.{get_or-map, get_or_default, length-map}
 use Rattle.std.specs.Borrow.{Bor}
 use Rattle.blake2_rows.specs.Family.{Family, sigma, block_bytes}
 use Rattle.blake2_rows.specs.Round.{round}
-use Rattle.blake2_rows.specs.Rows.{four}
-use Rattle.blake2_rows.proofs.Lanes.{lane_of, lanes}
+use Rattle.blake2_rows.specs.Rows.{eight, lane}
+use Rattle.blake2_rows.proofs.Lanes.{lanes}
 use Rattle.blake2_rows.proofs.Words.{cells, cells-drop}
 use Rattle.blake2_words.specs.Hash.{Flags, Input, after_rounds, block_count, blocks, bytes_of}
 use Rattle.blake2_words.specs.Hash.{chain, compress, digest, inner, input_data, input_flags}
@@ -110,18 +110,49 @@ pub words_xored : (h v : List (List ℕ)) (j k l : ℕ) (a b c : List ℕ) → k
 words_xored h v j k l a b c hk vk vl = λ i. bit_xor
     (bit_xor (lane_word h j k a hk i) (lane_word v j k b vk i)) (lane_word v j l c vl i)
 
--- word k of the state in a lane, from the words of row k
-pub lane_read : (rows : List (List ℕ)) (j k : ℕ) (d w : List ℕ) → w ≡ get_or rows k d
-    → k < length rows → slice_index w j ≡ slice_index (in_lane j rows) k
-lane_read rows j k d w e lt = ap (λ l. slice_index l j) e ∙ lane_word rows j k d lt
+-- word k of column j of some rows is the word in lane j of row k, which is row p of h
+pub column_word : (h rows columns : List (List ℕ)) (p j k : ℕ) (d : List ℕ)
+    → lane columns j k ≡ lane rows k j → slice_index_or rows k [] ≡ slice_index_or h p []
+    → j < length columns → p < length h
+    → slice_index (get_or columns j d) k ≡ slice_index (in_lane j h) p
+column_word h rows columns p j k d turned is_row here within =
+    ap (λ l. slice_index l k) (get_or_default columns j d [] here) ∙ turned
+    ∙ ap (λ l. slice_index l j) is_row ∙ lane_word h j p [] within
 
--- the same from their list of four
-pub lane_read_of_four : (rows : List (List ℕ)) (j k : ℕ) (d w : List ℕ)
-    → w ≡ four (λ i. slice_index (get_or rows k d) i) → j < 4 → k < length rows
-    → slice_index w j ≡ slice_index (in_lane j rows) k
-lane_read_of_four rows j k d w e h lt =
-    ap (λ l. slice_index l j) e ∙ lane_of 4 (λ i. slice_index (get_or rows k d) i) j h
-    ∙ lane_word rows j k d lt
+-- its words, from all rows in one list of columns
+pub whole_column : (h columns : List (List ℕ)) (j : ℕ) (d w : List ℕ) → w ≡ get_or columns j d
+    → length w ≡ 8 → length h ≡ 8 → j < length columns
+    → ((k : ℕ) → k < 8 → lane columns j k ≡ lane h k j) → w ≡ in_lane j h
+whole_column h columns j d w e long long_h here turned =
+    let at : (k : ℕ) → k < 8 → slice_index w k ≡ slice_index (in_lane j h) k =
+    λ k lt. ap (λ l. slice_index l k) e
+    ∙ column_word h h columns k j k d (turned k lt) refl here (omega arith) in
+    sym (cells-drop w 0 8 long)
+    ∙ (λ i. at 0 (omega arith) i ∷ at 1 (omega arith) i ∷ at 2 (omega arith) i ∷ at 3 (omega arith) i
+    ∷ at 4 (omega arith) i ∷ at 5 (omega arith) i ∷ at 6 (omega arith) i ∷ at 7 (omega arith) i ∷ [])
+    ∙ cells-drop (in_lane j h) 0 8 (length-map h (λ (row : List ℕ). slice_index row j) ∙ long_h)
+
+-- and from columns of the first four rows and of the last four
+pub two_columns : (h first last columns more : List (List ℕ)) (j : ℕ) (d e : List ℕ)
+    → length h ≡ 8 → length columns ≡ 4 → length more ≡ 4 → j < 4
+    → ((k : ℕ) → k < 4 → lane columns j k ≡ lane first k j)
+    → ((k : ℕ) → k < 4 → lane more j k ≡ lane last k j)
+    → ((k : ℕ) → k < 4 → slice_index_or first k [] ≡ slice_index_or h k [])
+    → ((k : ℕ) → k < 4 → slice_index_or last k [] ≡ slice_index_or h (4 + k) [])
+    → eight (get_or columns j d ∷ get_or more j e ∷ []) ≡ in_lane j h
+two_columns h first last columns more j d e long long_c long_m here turned turned_m is_first is_last =
+    let at : (k : ℕ) → k < 4
+    → slice_index (get_or columns j d) k ≡ slice_index (in_lane j h) k =
+    λ k lt. column_word h first columns k j k d (turned k lt) (is_first k lt) (omega arith)
+    (omega arith) in
+    let after : (k : ℕ) → k < 4
+    → slice_index (get_or more j e) k ≡ slice_index (in_lane j h) (4 + k) =
+    λ k lt. column_word h last more (4 + k) j k e (turned_m k lt) (is_last k lt) (omega arith)
+    (omega arith) in
+    (λ i. at 0 (omega arith) i ∷ at 1 (omega arith) i ∷ at 2 (omega arith) i ∷ at 3 (omega arith) i
+    ∷ after 0 (omega arith) i ∷ after 1 (omega arith) i ∷ after 2 (omega arith) i
+    ∷ after 3 (omega arith) i ∷ [])
+    ∙ cells-drop (in_lane j h) 0 8 (length-map h (λ (row : List ℕ). slice_index row j) ∙ long)
 
 -- the flags of a block that others follow are off, whichever the message
 pub inner_at : (n j : ℕ) → flags_at (replicate n (record { last = false; last_node = false })) j

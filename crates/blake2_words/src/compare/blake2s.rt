@@ -146,6 +146,7 @@ fn last_pair(
 /// are: in the first `output_size` bytes, and wholly where they are not the last. They stand at
 /// one distance from the ends of their runs, and all steps nearer to the ends are equal in pairs.
 /// `None` for all other inputs. Takes no memory and makes no error.
+#[tactic(auto, using(crate::proofs::Front::same_number))]
 pub fn witness(
     _alloc: Global,
     a: &Input<'_>,

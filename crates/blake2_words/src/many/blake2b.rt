@@ -341,35 +341,22 @@ fn absorb(h: &mut [u64x4; 8], inputs: &[Input<'_>; 4])
     compress_at(h, inputs, last, counted::<128>(&inputs[0]), &flags);
 }
 
-// The chaining words of message `j`.
+// The chaining words of each message.
 #[inline(always)]
-fn lane(h: &[u64x4; 8], j: usize) -> [u64x4; 2]
-    requires { j < 4 }
-    ensures { eight result ≡ in_lane j h.now }
+fn lanes(h: &[u64x4; 8]) -> [[u64x4; 2]; 4]
+    ensures { (j : ℕ) → j < 4 → eight (slice_index_or result j []) ≡ in_lane j h.now }
 {
-    [
-        u64x4::new(
-            h[0].to_array()[j],
-            h[1].to_array()[j],
-            h[2].to_array()[j],
-            h[3].to_array()[j],
-        ),
-        u64x4::new(
-            h[4].to_array()[j],
-            h[5].to_array()[j],
-            h[6].to_array()[j],
-            h[7].to_array()[j],
-        ),
-    ]
+    let [a0, a1, a2, a3] = u64x4::transpose([h[0], h[1], h[2], h[3]]);
+    let [b0, b1, b2, b3] = u64x4::transpose([h[4], h[5], h[6], h[7]]);
+    [[a0, b0], [a1, b1], [a2, b2], [a3, b3]]
 }
 
-// The first N bytes of the chaining words of message `j`.
-fn output<const N: usize>(h: &[u64x4; 8], j: usize) -> [u8; N]
-    requires lane { j < 4 }
-    requires size { N ≤ output_bytes blake2b }
-    ensures { result ≡ take N (bytes_of blake2b (in_lane j h.now)) }
+// The first N bytes of the chaining words of a message.
+fn output<const N: usize>(h: &[u64x4; 2]) -> [u8; N]
+    requires { N ≤ output_bytes blake2b }
+    ensures { result ≡ take N (bytes_of blake2b (eight h.now)) }
 {
-    let whole = to_bytes(&lane(h, j));
+    let whole = to_bytes(h);
     let mut bytes = [0; N];
     let out = &mut bytes[..];
     out.copy_from_slice(&whole[..N]);
@@ -405,5 +392,6 @@ pub fn hash_four<const N: usize>(inputs: &[Input<'_>; 4]) -> [[u8; N]; 4]
 {
     let mut h = start(N, inputs);
     absorb(&mut h, inputs);
-    [output(&h, 0), output(&h, 1), output(&h, 2), output(&h, 3)]
+    let [h0, h1, h2, h3] = lanes(&h);
+    [output(&h0), output(&h1), output(&h2), output(&h3)]
 }

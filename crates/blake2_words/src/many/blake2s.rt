@@ -25,7 +25,7 @@ use crate::steps::Input;
 use crate::steps::blake2s::accepts;
 use crate::steps::blocks::{block_at, counted, parameters_of, step_count};
 use crate::words::Flags;
-use crate::words::blake2s::{block_words, to_bytes};
+use crate::words::blake2s::{block_words, to_bytes, to_rows};
 use blake2_rows::rows::{u32x4, u32x8};
 
 // Row k of several words a lane.
@@ -401,35 +401,30 @@ fn absorb(h: &mut [u32x8; 8], inputs: &[Input<'_>; 8])
     compress_at(h, inputs, last, counted::<64>(&inputs[0]), &flags);
 }
 
-// The chaining words of message `j`.
+// The chaining words of each message.
 #[inline(always)]
-fn lane(h: &[u32x8; 8], j: usize) -> [u32x4; 2]
-    requires { j < 8 }
-    ensures { eight result ≡ in_lane j h.now }
+fn lanes(h: &[u32x8; 8]) -> [[u32x4; 2]; 8]
+    ensures { (j : ℕ) → j < 8 → eight (slice_index_or result j []) ≡ in_lane j h.now }
 {
+    let [h0, h1, h2, h3, h4, h5, h6, h7] = u32x8::transpose(*h);
     [
-        u32x4::new(
-            h[0].to_array()[j],
-            h[1].to_array()[j],
-            h[2].to_array()[j],
-            h[3].to_array()[j],
-        ),
-        u32x4::new(
-            h[4].to_array()[j],
-            h[5].to_array()[j],
-            h[6].to_array()[j],
-            h[7].to_array()[j],
-        ),
+        to_rows(&h0.to_array()),
+        to_rows(&h1.to_array()),
+        to_rows(&h2.to_array()),
+        to_rows(&h3.to_array()),
+        to_rows(&h4.to_array()),
+        to_rows(&h5.to_array()),
+        to_rows(&h6.to_array()),
+        to_rows(&h7.to_array()),
     ]
 }
 
-// The first N bytes of the chaining words of message `j`.
-fn output<const N: usize>(h: &[u32x8; 8], j: usize) -> [u8; N]
-    requires lane { j < 8 }
-    requires size { N ≤ output_bytes blake2s }
-    ensures { result ≡ take N (bytes_of blake2s (in_lane j h.now)) }
+// The first N bytes of the chaining words of a message.
+fn output<const N: usize>(h: &[u32x4; 2]) -> [u8; N]
+    requires { N ≤ output_bytes blake2s }
+    ensures { result ≡ take N (bytes_of blake2s (eight h.now)) }
 {
-    let whole = to_bytes(&lane(h, j));
+    let whole = to_bytes(h);
     let mut bytes = [0; N];
     let out = &mut bytes[..];
     out.copy_from_slice(&whole[..N]);
@@ -465,14 +460,15 @@ pub fn hash_eight<const N: usize>(inputs: &[Input<'_>; 8]) -> [[u8; N]; 8]
 {
     let mut h = start(N, inputs);
     absorb(&mut h, inputs);
+    let [h0, h1, h2, h3, h4, h5, h6, h7] = lanes(&h);
     [
-        output(&h, 0),
-        output(&h, 1),
-        output(&h, 2),
-        output(&h, 3),
-        output(&h, 4),
-        output(&h, 5),
-        output(&h, 6),
-        output(&h, 7),
+        output(&h0),
+        output(&h1),
+        output(&h2),
+        output(&h3),
+        output(&h4),
+        output(&h5),
+        output(&h6),
+        output(&h7),
     ]
 }

@@ -1,6 +1,6 @@
 use Rattle.std.proofs.Common.{◌≡◌, sym, ◌∙◌, true}
 use Rattle.blake2_rows.specs.Family.{blake2b}
-use Rattle.blake2_words.proofs.Front.{last_witness, same_number}
+use Rattle.blake2_words.proofs.Front.{last_witness}
 use Rattle.blake2_words.proofs.compare.blake2b.witness.Goals as goal
 
 pub returns-then-not-same_step-clause-pair : goal.returns-then-not-same_step-clause-pair
@@ -14,9 +14,3 @@ returns-then-not-same_step-clause-pair c =
     (λ e. let same : c.same_step.result ≡ true = c.same_step.ensures.1 (sym is_x ∙ e ∙ is_y) in
     cc c.if-not-same_step.true)
     (is_x ∙ of_a) (is_y ∙ of_b)
-
-pub last_pair-requires-clause-numbers : goal.last_pair-requires-clause-numbers
-last_pair-requires-clause-numbers c =
-    same_number blake2b c.args.output_size _ _ _ _
-    (c.same_step.ensures.0 c.if-not-same_step.false)
-    c.last_step-last_a.ensures c.last_step-last_b.ensures
