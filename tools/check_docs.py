@@ -215,8 +215,8 @@ def check_specification():
 
 
 # Where the version stands, by what stands before it.
-VERSIONS = (("CHANGELOG.md", r"^## "), ("c/include/blake2_c.h", r"VULFSJOR_VERSION \""), ("c/install.sh", r"^Version: "),
-            ("rust/Cargo.toml", r"^version = \""), ("rust-digest/Cargo.toml", r"^version = \""),
+VERSIONS = (("CHANGELOG.md", r"^## "), ("c/include/blake2_c.h", r"VULFSJOR_VERSION \""),
+            ("c/install.sh", r"^Version: "), ("rust/Cargo.toml", r"^version = \""), ("rust-digest/Cargo.toml", r"^version = \""),
             ("python/pyproject.toml", r"^version = \""))
 
 
@@ -238,11 +238,12 @@ def lines_of(pattern):
 
 
 def check_sizes():
-    """Which sizes of docs/MAP.md and docs/REVIEW.md are off by more than a tenth, or 60 lines where that is more."""
-    for name, *told in re.findall(r"^\| `(\w+)` \| .* \| (\d+) \| (\d+) \| (\d+) \|$", read("docs/MAP.md"), re.MULTILINE):
+    """Which sizes of docs/MAP.md and docs/REVIEW.md are off by more than a tenth, or 100 and 5 lines if that is more."""
+    crates = re.findall(r"^\| `(\w+)` \| .* \| (\d+) \| (\d+) \| (\d+) \|$", read("docs/MAP.md"), re.MULTILINE)
+    for name, *told in crates:
         found = [lines_of(f"crates/{name}/{part}") for part in ("src/**/*.rt", "specs/**/*.antt", "proofs/**/*.antt")]
         for size, number in zip(told, found):
-            if abs(int(size) - number) > max(60, number // 10):
+            if abs(int(size) - number) > max(100, number // 10):
                 yield f"MAP: `{name}` has {number} lines where it says {size}"
     for path, size in re.findall(r"^\| `(\w+/specs/\w+\.antt)` \| (\d+) \|", read("docs/REVIEW.md"), re.MULTILINE):
         number = lines_of("crates/" + path)
@@ -254,8 +255,9 @@ def check_files():
     """Which files and edits docs/MAP.md, docs/REVIEW.md and CONTRIBUTING.md name that are not there."""
     for page in ("docs/MAP.md", "docs/REVIEW.md", "CONTRIBUTING.md"):
         for word in WORD.findall(read(page)):
-            if "NAME" not in word and re.fullmatch(r"[\w./-]+/[\w./-]+\.(?:rt|antt|edit|py|sh|h|svg|md)", word) and not any(
-                    paths(before + word) for before in ("", "crates/", "crates/*/", "crates/*/src/")):
+            is_file = re.fullmatch(r"[\w./-]+/[\w./-]+\.(?:rt|antt|edit|py|sh|h|svg|md)", word) and "NAME" not in word
+            places = [before + word for before in ("", "crates/", "crates/*/", "crates/*/src/")]
+            if is_file and not any(map(paths, places)):
                 yield f"{page}: there is no {word}"
 
 

@@ -1,6 +1,7 @@
 #!/usr/bin/env python3
 """Compares `b2` with tools/from_specification.py, which was written from docs/SPECIFICATION.md alone, and the worked
-values of that page with what that program, hashlib and the page say.
+values of that page with what that program, hashlib and the page say. The examples of README.md and docs/PROGRAM.md
+that run `./b2` are cases too.
 
 Of each command it runs random cases, of one seed: words in random order and case, words that are wrong, missing or too
 many, arguments that are no UTF-8, inputs around every boundary, scripts with wrong lines and bad calls, and an input
@@ -13,6 +14,8 @@ Prints each case that differs. The last line is 'N passed, M failed', and the st
 import hashlib
 import os
 import random
+import re
+import shlex
 import subprocess
 import sys
 
@@ -25,7 +28,8 @@ FUNCTIONS = {"b": hashlib.blake2b, "s": hashlib.blake2s}
 
 def lengths(source, block):
     """A random length: small, or around a boundary of blocks."""
-    return source.choice([0, 1, source.randrange(9), block - 1, block, block + 1, 2 * block, source.randrange(4 * block)])
+    around = [block - 1, block, block + 1, 2 * block]
+    return source.choice([0, 1, source.randrange(9), *around, source.randrange(4 * block)])
 
 
 def digits(source, data, wrong=0.06):
@@ -33,7 +37,8 @@ def digits(source, data, wrong=0.06):
     text = data.hex()
     text = "".join(source.choice([c, c.upper()]) for c in text) if source.random() < 0.2 else text
     if source.random() < wrong:
-        text = source.choice([text + "0", text + "0g", text[1:], "-", " " + text, text + "\u00e9", "+" + text, "0x" + text])
+        text = source.choice(
+            [text + "0", text + "0g", text[1:], "-", " " + text, text + "\u00e9", "+" + text, "0x" + text])
     return text
 
 
@@ -56,7 +61,8 @@ def spoiled(source, words):
     words = list(words)
     while source.random() < 0.12:
         place = source.randrange(len(words) + 1)
-        other = source.choice(words + ["", "foo", "key", "key=01", "salt=", "persona=00", "=", "b512", "S256", "-", "61"])
+        other = source.choice(
+            words + ["", "foo", "key", "key=01", "salt=", "persona=00", "=", "b512", "S256", "-", "61"])
         if source.random() < 0.4:
             words.insert(place, other)
         elif place < len(words):
@@ -84,8 +90,9 @@ def script_lines(source, block):
             slots[slot] = False
     if found and source.random() < 0.2:
         place = source.randrange(len(found))
-        found[place] = source.choice(["", found[place] + " ", found[place] + "\r", " " + found[place], "f 00", "u 0", "u 0 ",
-                                      "f 1000000000", "f 999999999", "x 0", "c -1", found[place].replace(" ", "  "), "r 0 0"])
+        line = found[place]
+        found[place] = source.choice(["", line + " ", line + "\r", " " + line, line.replace(" ", "  "), "f 00", "u 0",
+                                      "u 0 ", "f 1000000000", "f 999999999", "x 0", "c -1", "r 0 0"])
     return "\n".join(found).encode("utf-8") + (b"\n" if source.random() < 0.6 else b"")
 
 
@@ -159,7 +166,8 @@ def worked():
     yield "keyed", keyed[1].decode().strip() == hashlib.blake2s(key=key, person=persona).hexdigest() and (
         keyed[1].decode().strip() in page)
     given = Input(b"", place=Place(0, 2, 4096, 3, 0, 64))
-    yield "words of a place, BLAKE2b", parameter_words(B, 64, given) == [0x0000100002000040, 3, 0x4000, 0, 0, 0, 0, 0] and (
+    found = parameter_words(B, 64, given)
+    yield "words of a place, BLAKE2b", found == [0x0000100002000040, 3, 0x4000, 0, 0, 0, 0, 0] and (
         "0000100002000040, 3, 4000 and five zeros" in page)
     given = Input(b"", place=Place(2, 3, 7, 2**32 + 5, 1, 32))
     yield "words of a place, BLAKE2s", parameter_words(S, 32, given) == [0x03020020, 7, 5, 0x20010001, 0, 0, 0, 0] and (
@@ -185,9 +193,22 @@ def tree_of_hashlib(message, leaf):
     """The root of 64 bytes, node by node of hashlib."""
     cuts = [message[i:i + leaf] for i in range(0, max(1, len(message)), leaf)]
     shared = {"fanout": 0, "depth": 2, "leaf_size": leaf, "inner_size": 64}
-    digests = b"".join(hashlib.blake2b(cut, node_offset=i, node_depth=0, last_node=i == len(cuts) - 1, **shared).digest()
-                       for i, cut in enumerate(cuts))
+    leaves = [hashlib.blake2b(cut, node_offset=i, node_depth=0, last_node=i == len(cuts) - 1, **shared)
+              for i, cut in enumerate(cuts)]
+    digests = b"".join(node.digest() for node in leaves)
     return hashlib.blake2b(digests, node_depth=1, last_node=True, **shared).hexdigest()
+
+
+def examples():
+    """The words and the input of each example of README.md and docs/PROGRAM.md that runs `./b2`, and its line."""
+    for page in ("README.md", os.path.join("docs", "PROGRAM.md")):
+        with open(os.path.join(TOP, page), encoding="utf-8") as file:
+            found = re.findall(r"^    ((?:printf (\S+|'[^']*') \| )?\./b2 ([^#\n]*[a-z0-9]))  +#", file.read(), re.M)
+        if not found:
+            yield f"{page}: no example", [], b""
+        for line, given, words in found:
+            message = shlex.split(given)[0].encode().decode("unicode_escape").encode() if given else b""
+            yield f"{page}: {line}", [word.encode() for word in shlex.split(words)], message
 
 
 def main():
@@ -201,6 +222,12 @@ def main():
     source = random.Random(given.seed)
     passed, wrong = 0, [f"worked value: {name}" for name, is_right in worked() if not is_right]
     passed += sum(is_right for _, is_right in worked())
+    for line, words, message in examples():
+        wanted = run(words, lambda message=message: message)
+        if wanted[0] == 0 and outcome(given.program, words, message) == wanted:
+            passed += 1
+        else:
+            wrong.append(f"example of {line}")
     for command, case in CASES.items():
         told = {}
         for number in range(given.cases):
