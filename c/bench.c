@@ -33,13 +33,13 @@ static double now(void) {
     return t.tv_sec * 1e9 + t.tv_nsec;
 }
 
-/* Times the call and keeps the best. */
+/* Times the call, whose answer is of no use here, and keeps the best. */
 #define TIME(family, task, library, call)                                       \
     do {                                                                        \
         double begun = now();                                                   \
         for (int i = 0; i < repetitions[task]; i++) {                           \
-            call;                                                               \
-            __asm__ volatile("" ::: "memory");                                  \
+            int answer = call;                                                  \
+            __asm__ volatile("" ::"r"(answer) : "memory");                      \
         }                                                                       \
         double each = (now() - begun) / repetitions[task];                      \
         double *kept = &best[family][task][library];                            \
@@ -49,15 +49,15 @@ static double now(void) {
 /* One turn of every task of a library with the calls of BLAKE2's reference code. */
 #define TURN(family, library, state, max, prefix)                                              \
     do {                                                                                       \
-        prefix##_init(&state, max);                                                            \
+        if (prefix##_init(&state, max)) abort();                                               \
         TIME(family, UPDATE_1, library, prefix##_update(&state, data + i % 64, 1));            \
         TIME(family, UPDATE_64, library, prefix##_update(&state, data + i % 64 * 64, 64));     \
         TIME(family, UPDATE_64K, library, prefix##_update(&state, data, sizeof data));         \
         TIME(family, INIT, library, prefix##_init(&state, max));                               \
-        TIME(family, SHORT, library, (prefix##_init(&state, max),                              \
-             prefix##_update(&state, data, 64), prefix##_final(&state, out, max)));            \
-        TIME(family, KEYED, library, (prefix##_init_key(&state, max, data, 32),                \
-             prefix##_update(&state, data, 64), prefix##_final(&state, out, max)));            \
+        TIME(family, SHORT, library, (prefix##_init(&state, max) ||                            \
+             prefix##_update(&state, data, 64) || prefix##_final(&state, out, max)));          \
+        TIME(family, KEYED, library, (prefix##_init_key(&state, max, data, 32) ||              \
+             prefix##_update(&state, data, 64) || prefix##_final(&state, out, max)));          \
     } while (0)
 
 static void turn_of_ours(void) {
@@ -65,10 +65,10 @@ static void turn_of_ours(void) {
     static vulfsjor_blake2s_state s;
     TURN(0, OURS, b, 64, vulfsjor_blake2b);
     TURN(1, OURS, s, 32, vulfsjor_blake2s);
-    vulfsjor_blake2b_init_key(&b, 64, data, 32);
-    TIME(0, RESET, OURS, (vulfsjor_blake2b_reset(&b), vulfsjor_blake2b_update(&b, data, 64)));
-    vulfsjor_blake2s_init_key(&s, 32, data, 32);
-    TIME(1, RESET, OURS, (vulfsjor_blake2s_reset(&s), vulfsjor_blake2s_update(&s, data, 64)));
+    if (vulfsjor_blake2b_init_key(&b, 64, data, 32)) abort();
+    TIME(0, RESET, OURS, (vulfsjor_blake2b_reset(&b) || vulfsjor_blake2b_update(&b, data, 64)));
+    if (vulfsjor_blake2s_init_key(&s, 32, data, 32)) abort();
+    TIME(1, RESET, OURS, (vulfsjor_blake2s_reset(&s) || vulfsjor_blake2s_update(&s, data, 64)));
 }
 
 #ifdef WITH_LIBB2
@@ -88,8 +88,8 @@ static void turn_of_evp(int family, EVP_MD_CTX *context, const EVP_MD *algorithm
     TIME(family, UPDATE_64, EVP, EVP_DigestUpdate(context, data + i % 64 * 64, 64));
     TIME(family, UPDATE_64K, EVP, EVP_DigestUpdate(context, data, sizeof data));
     TIME(family, INIT, EVP, EVP_DigestInit_ex(context, algorithm, NULL));
-    TIME(family, SHORT, EVP, (EVP_DigestInit_ex(context, algorithm, NULL),
-         EVP_DigestUpdate(context, data, 64), EVP_DigestFinal_ex(context, out, NULL)));
+    TIME(family, SHORT, EVP, (EVP_DigestInit_ex(context, algorithm, NULL) &&
+         EVP_DigestUpdate(context, data, 64) && EVP_DigestFinal_ex(context, out, NULL)));
 }
 #endif
 
