@@ -1,0 +1,141 @@
+/* ../choose.c with functions of its own in the place of the two builds, so that what it decides and what it
+ * hands on can be seen. c/run_tests.sh compiles it, as it stands and with PROCESSOR.
+ *
+ *   choose           prints the level that a call takes here, 2 or 3, by its first call and by a later one;
+ *                    before that it prints "begun", so that an end by the first call can be told apart
+ *   choose compiler  the same, and what the compiler's own test of the processor says
+ *
+ * With PROCESSOR the processor is made up (processor.h): each bit that a level needs is taken away alone. */
+#ifdef PROCESSOR
+#define CHOOSE_PROCESSOR "processor.h"
+#endif
+#include "../choose.c"
+
+#include <stdint.h>
+#include <stdio.h>
+#include <string.h>
+
+/* What a build was given: each argument times a prime of its own, and its level in front. The most that a
+ * function of the library takes are fifteen arguments; here are sixteen, six of which go in registers. */
+typedef unsigned long long number;
+typedef uint32_t half;
+#define PARAMETERS number a, number b, number c, number d, number e, number f, uint8_t g, uint8_t h, half i, \
+                   number j, uint8_t k, uint8_t l, number m, number n, number o, number p
+static number told(PARAMETERS) {
+    return 2 * a + 3 * b + 5 * c + 7 * d + 11 * e + 13 * f + 17 * g + 19 * h + 23 * i + 29 * j + 31 * k +
+           37 * l + 41 * m + 43 * n + 47 * o + 53 * p;
+}
+#define GIVEN a, b, c, d, e, f, g, h, i, j, k, l, m, n, o, p
+__attribute__((noinline)) number probe_arguments_v2(PARAMETERS) { return told(GIVEN) + 2; }
+__attribute__((noinline)) number probe_arguments_v3(PARAMETERS) { return told(GIVEN) + 3; }
+number probe_arguments(PARAMETERS);
+
+/* Whether the stack is as a function may take it to be: 8 beyond a multiple of 16. */
+static int is_aligned(void *frame) { return (uintptr_t)frame % 16 == 0; }
+__attribute__((noinline)) int probe_v2(void) { return is_aligned(__builtin_frame_address(0)) ? 2 : -2; }
+__attribute__((noinline)) int probe_v3(void) { return is_aligned(__builtin_frame_address(0)) ? 3 : -3; }
+int probe(void);
+
+static int fails;
+#define CHECK(condition)                                           \
+    do {                                                           \
+        if (!(condition)) {                                        \
+            fails++;                                               \
+            printf("choose.c:%d: not %s\n", __LINE__, #condition); \
+        }                                                          \
+    } while (0)
+
+/* The arguments arrive, by a call that asks and by one that does not. */
+static void check_arguments(int level) {
+    const number big = ~0ull - 6, wanted = told(big, 2, 3, 4, 5, big, 7, 8, 9, 10, 11, 12, big, 14, 15, 16) + level;
+
+    for (int asked = 0; asked < 2; asked++) {
+        if (!asked) blake2_c_level = 0;
+        CHECK(probe_arguments(big, 2, 3, 4, 5, big, 7, 8, 9, 10, 11, 12, big, 14, 15, 16) == wanted);
+        CHECK(blake2_c_level == level);
+    }
+}
+
+#ifdef PROCESSOR
+/* The level that is chosen, by the function and by a call. */
+static int chosen(void) {
+    int found = level_here();
+    blake2_c_level = 0;
+    if (found) CHECK(probe() == found && blake2_c_level == found && probe() == found);
+    return found;
+}
+
+int main(void) {
+    static const unsigned v2_first[] = {0, 9, 13, 19, 20, 23}, v3_first[] = {12, 22, 27, 28, 29}, v3_seventh[] = {3, 5, 8};
+    const struct made_up all = {0xd, 0x80000008u, 0x38d83201u | 1 << 20, 0x128, 0x21, 7};
+    size_t i;
+
+    made_up = all;
+    CHECK(chosen() == 3);
+    check_arguments(3);
+    for (i = 0; i < sizeof v2_first / sizeof *v2_first; i++) {
+        made_up = all;
+        made_up.first &= ~(1u << v2_first[i]);
+        CHECK(chosen() == 0);
+    }
+    for (i = 0; i < sizeof v3_first / sizeof *v3_first; i++) {
+        made_up = all;
+        made_up.first &= ~(1u << v3_first[i]);
+        CHECK(chosen() == 2);
+    }
+    for (i = 0; i < sizeof v3_seventh / sizeof *v3_seventh; i++) {
+        made_up = all;
+        made_up.seventh &= ~(1u << v3_seventh[i]);
+        CHECK(chosen() == 2);
+    }
+    made_up = all;
+    made_up.extended = 0x20; /* no LAHF */
+    CHECK(chosen() == 0);
+    made_up.extended = 1; /* no LZCNT */
+    CHECK(chosen() == 2);
+    for (unsigned saved = 0; saved < 16; saved++) {
+        made_up = all;
+        made_up.saved = saved;
+        CHECK(chosen() == (saved == 6 || saved == 7 || saved == 14 || saved == 15 ? 3 : 2));
+    }
+    /* All other bits may be set, or not. */
+    made_up.first = made_up.seventh = made_up.extended = made_up.saved = ~0u;
+    CHECK(chosen() == 3);
+    made_up.seventh = 0;
+    CHECK(chosen() == 2);
+    made_up.seventh = ~0u;
+    made_up.first = 0x00982201u;
+    made_up.extended = 1;
+    CHECK(chosen() == 2);
+    check_arguments(2);
+    made_up = all;
+    made_up.last = 1; /* leaf 7 is not there */
+    CHECK(chosen() == 2);
+    made_up.last = 0;
+    CHECK(chosen() == 0);
+    made_up = all;
+    made_up.last_extended = 0x80000000u;
+    CHECK(chosen() == 0);
+    return fails != 0;
+}
+#else
+int main(int count, char **words) {
+    int first, later;
+
+    puts("begun");
+    fflush(stdout);
+    first = probe();
+    later = probe();
+    check_arguments(first);
+    printf("%d %d\n", first, later);
+#ifdef COMPILER_KNOWS
+    if (count > 1 && !strcmp(words[1], "compiler")) {
+        __builtin_cpu_init();
+        printf("%d\n", __builtin_cpu_supports("x86-64-v3") ? 3 : __builtin_cpu_supports("x86-64-v2") ? 2 : 0);
+    }
+#else
+    (void)count, (void)words;
+#endif
+    return fails != 0;
+}
+#endif

@@ -1,0 +1,241 @@
+# Part of c/run_tests.sh: the choice between the two builds, and what the libraries show.
+
+# The functions that blake2_c.h declares, by the compiler's reading of it.
+names_of_header() {
+    echo '#include <blake2_c.h>' | cc -E -I"$include" - | grep -o '\bblake2_c_[a-z0-9_]* *(' | tr -d ' (' |
+        LC_ALL=C sort -u
+}
+
+names_of_object() { nm "$@" | awk 'NF == 3 && $2 ~ /[A-Z]/ { print $3 }' | sed 's/@.*//' | LC_ALL=C sort -u; }
+
+# Header, archives and shared library have the same functions, and show nothing else.
+names_are_one() {
+    names_of_header >"$work/names" && [ "$(wc -l <"$work/names")" -ge 29 ] || return 1
+    local part
+    for part in "$archive" "$parts"/*.a; do
+        names_of_object -g --defined-only "$part" | diff "$work/names" - || return 1
+    done
+    names_of_object -D --defined-only "$shared" | sed '/^BLAKE2_C_0$/d' | diff "$work/names" -
+}
+
+# One function more in the header, or one less in an archive, is refused before anything is made.
+join_refuses_a_difference() {
+    local copy=$work/copy
+    mkdir -p "$copy" && cp -R "$here/choose.c" "$here/join.sh" "$here/include" "$here/libb2" "$copy" &&
+        echo 'void blake2_c_forgotten(void);' >>"$copy/include/blake2_c.h" || return 1
+    ! "$copy/join.sh" "$work/refused" "$parts"/*.a 2>"$work/said" && grep -q '^< blake2_c_forgotten$' "$work/said" &&
+        [ ! -e "$work/refused/libblake2_c.a" ]
+}
+
+# The shared library: its name, the version of its functions, what it needs, and that no page of it is
+# written and run.
+shared_library_is_right() {
+    local file=$prefix/lib/libblake2_c.so.0.1.0
+    readelf -dW "$file" >"$work/dynamic" && readelf -lW "$file" >"$work/segments" || return 1
+    cat "$work/dynamic"
+    grep -q 'SONAME.*\[libblake2_c\.so\.0\]' "$work/dynamic" && ! grep -q TEXTREL "$work/dynamic" &&
+        grep -q BIND_NOW "$work/dynamic" && ! grep NEEDED "$work/dynamic" | grep -v 'libc\.' &&
+        grep -q GNU_RELRO "$work/segments" && grep -q 'GNU_STACK .* RW ' "$work/segments" &&
+        ! grep -q 'LOAD.*RWE' "$work/segments" || return 1
+    [ "$(nm -D --defined-only "$file" | grep -c '@@BLAKE2_C_0$')" -eq "$(names_of_header | wc -l)" ] &&
+        [ "$(readlink "$shared")" = libblake2_c.so.0 ] &&
+        [ "$(readlink "$prefix/lib/libblake2_c.so.0")" = libblake2_c.so.0.1.0 ] &&
+        ! nm -D --undefined-only "$file" | grep -vE ' (w|U) (_ITM_|__cxa_finalize|__gmon|abort|write|mem(cpy|move|set))'
+}
+
+# Somebody else's shared library, linked with one of the archives, shows none of its functions.
+names_are_hidden() {
+    local archive=$1
+    printf '#include <blake2_c.h>\nint theirs(void *out) { return vulfsjor_blake2b(out, 64, 0, 0, 0, 0); }\n' \
+        >"$work/theirs.c"
+    cc -fPIC -shared -I"$include" "$work/theirs.c" -Wl,--whole-archive "$archive" -Wl,--no-whole-archive \
+        -o "$work/libtheirs.so" && [ "$(names_of_object -D --defined-only "$work/libtheirs.so")" = theirs ]
+}
+
+# choose.c over functions of its own.
+compile_choose() {
+    printf 'CHOOSE("probe")\nCHOOSE("probe_arguments")\n' >"$work/functions.h" &&
+        cc -std=gnu99 "${warnings[@]}" -I"$work" -o "$work/$1" "$tests/choose.c" "${@:2}"
+}
+
+made_up_processors() { compile_choose "made_up$1" "-O$1" -DPROCESSOR -I"$tests" && "$work/made_up$1"; }
+
+# The compiler's own test of a processor, where it has one.
+compiler_knows() {
+    echo 'int main(void) { return __builtin_cpu_supports("x86-64-v3") && __builtin_cpu_supports("x86-64-v2"); }' |
+        cc -x c -o /dev/null - 2>/dev/null && echo -DCOMPILER_KNOWS
+}
+
+# What the choice says on this processor or an emulated one: the level, 3 or 2, or 0 for an end with a line.
+# Where the compiler knows the levels, it has to say the same.
+chooses_level() {
+    local wanted=$1 lines
+    shift
+    "$@" "$work/choose" compiler >"$work/said" 2>"$work/error"
+    local status=$?
+    cat "$work/said" "$work/error"
+    grep -qx begun "$work/said" || return 1
+    if [ "$wanted" = 0 ]; then
+        [ $status -eq 134 ] && [ "$(wc -l <"$work/said")" -eq 1 ] &&
+            [ "$(grep -c '^blake2_c: this processor is below x86-64-v2, which the library needs$' "$work/error")" -eq 1 ]
+    else
+        [ $status -eq 0 ] && [ "$(sed -n 2p "$work/said")" = "$wanted $wanted" ] || return 1
+        lines=$(sed -n '3,$p' "$work/said")
+        [ -z "$lines" ] || [ "$lines" = "$wanted" ]
+    fi
+}
+
+# The level of the processor at hand, as the system tells it.
+level_of_system() {
+    local flag level=3
+    for flag in avx avx2 bmi1 bmi2 f16c fma abm movbe xsave; do
+        grep -qsw "$flag" /proc/cpuinfo || level=2
+    done
+    echo $level
+}
+
+# The example of the README, linked statically, on an emulated processor: its digest, or an end with a line.
+example_runs_on() {
+    local wanted=$1
+    qemu-x86_64 -cpu "$2" "$work/hello_static" >"$work/said" 2>"$work/error"
+    local status=$?
+    cat "$work/error"
+    if [ "$wanted" = 0 ]; then
+        [ $status -eq 134 ] && [ ! -s "$work/said" ] && grep -q '^blake2_c: this processor is below' "$work/error"
+    else
+        [ $status -eq 0 ] && diff "$work/said" <(wanted_of_readme)
+    fi
+}
+
+# Emulated processors: what is sold, and one with each of the features that a level asks for taken away.
+emulated() {
+    local names level=$1
+    case $level in
+        0) names="qemu64 core2duo Penryn Opteron_G3"
+           for feature in pni ssse3 cx16 sse4.1 sse4.2 popcnt lahf-lm; do names+=" Haswell,-$feature"; done ;;
+        2) names="Nehalem SandyBridge IvyBridge Denverton Opteron_G5"
+           for feature in fma movbe xsave avx f16c bmi1 avx2 bmi2 abm; do names+=" Haswell,-$feature"; done ;;
+        3) names="Haswell Broadwell Skylake-Server EPYC max" ;;
+    esac
+    echo "$names"
+}
+
+test_emulated() {
+    local level name
+    if ! has qemu-x86_64; then
+        skip "the choice on emulated processors" "no qemu-x86_64"
+        return
+    fi
+    if ! compile_choose choose -O2 -static $(compiler_knows) 2>"$work/log"; then
+        skip "the choice on emulated processors" "cc links no static program"
+        return
+    fi
+    block_of_readme c >"$work/hello.c"
+    cc -static -I"$include" "$work/hello.c" "$archive" -o "$work/hello_static"
+    for level in 0 2 3; do
+        for name in $(emulated $level); do
+            if qemu-x86_64 -cpu help | grep -qw "${name%%,*}"; then
+                check "the choice on $name" chooses_level $level qemu-x86_64 -cpu "$name"
+            else
+                skip "the choice on $name" "qemu-x86_64 has no such processor"
+            fi
+        done
+    done
+    if has python3; then
+        check "the example on a processor below x86-64-v2" example_runs_on 0 core2duo
+        check "the example on a processor of x86-64-v2" example_runs_on 2 Nehalem
+        check "the example on a processor of x86-64-v3" example_runs_on 3 Haswell
+    fi
+}
+
+# A library for tests, which takes one build or goes from one to the other (c/join.sh).
+make_build() { "$here/join.sh" --test "$1" "$work/build_$1" "$parts/x86-64-v2.a" "$parts/x86-64-v3.a"; }
+
+test_of_build() {
+    cc -std=c99 -O2 -I"$include" -o "$work/test_build" "$tests/test.c" "$work/build_$1/libblake2_c.a" \
+        $(family_words "$2") && "$work/test_build" "$work/cases_$2"
+}
+
+# Two modules, each with one build, and a program whose runs cross between them.
+runs_cross() {
+    local build
+    for build in 2 3; do
+        cc -std=c99 -O2 "${warnings[@]}" -fPIC -shared -fvisibility=hidden -DMODULE -I"$include" "$tests/cross.c" \
+            "$work/build_$build/libblake2_c.a" -o "$work/cross_$build.so" || return 1
+    done
+    cc -std=c99 -O2 "${warnings[@]}" -I"$include" "$tests/cross.c" -o "$work/cross" -ldl &&
+        "$work/cross" "$work/cross_2.so" "$work/cross_3.so"
+}
+
+test_builds() {
+    local build family builds=2
+    if [ "$(level_of_system)" = 3 ]; then builds="2 3 0"; else skip "the build for x86-64-v3" "the processor is no such"; fi
+    for build in $builds; do
+        check "a library with build $build alone (0: either)" make_build $build || return
+        for family in b s; do
+            if has python3; then check "test.c, blake2$family, by build $build" test_of_build $build $family; fi
+        done
+    done
+    if [ "$builds" != 2 ]; then check "runs that cross between the builds" runs_cross; fi
+}
+
+# Calls from a constructor and from threads, static and shared.
+linked_program() {
+    local library
+    for library in "$archive" "$shared"; do
+        cc -std=c99 -O2 "${warnings[@]}" -I"$include" "${@}" "$tests/linked.c" "$library" -o "$work/linked_one" -pthread &&
+            LD_LIBRARY_PATH=$prefix/lib "$work/linked_one" || return 1
+    done
+}
+
+instructions() {
+    valgrind --tool=callgrind --callgrind-out-file=/dev/null "$@" 2>&1 | sed -n 's/.*Collected : \([0-9]*\)$/\1/p'
+}
+
+# A task of count.c takes at most 15 instructions a call more than the build for this processor alone, and no
+# fewer: the other build has other counts.
+costs_little() {
+    local task=$1 level chosen direct
+    level=$(valgrind -q "$work/choose" | sed -n '2s/ .*//p')
+    cc -O2 -I"$include" "$tests/count.c" "$archive" -o "$work/count_chosen" &&
+        cc -O2 -I"$include" "$tests/count.c" "$parts/x86-64-v$level.a" -o "$work/count_direct" &&
+        chosen=$(instructions "$work/count_chosen" "$task" 1000) &&
+        direct=$(instructions "$work/count_direct" "$task" 1000) || return 1
+    echo "build $level: $chosen instructions chosen, $direct directly"
+    [ "$((chosen - direct))" -ge 1000 ] && [ "$((chosen - direct))" -le 16000 ]
+}
+
+test_cost() {
+    local task
+    if ! has valgrind; then
+        skip "what the choice costs" "no valgrind"
+        return
+    fi
+    check "choose.c for valgrind" compile_choose choose -O2 $(compiler_knows) || return
+    for task in 0 1 4 7 10 11; do check "at most 15 instructions a call more, task $task" costs_little $task; done
+}
+
+test_choosing() {
+    if has nm && has readelf; then
+        check "one list of functions" names_are_one
+        check "the shared library's form" shared_library_is_right
+        check "hidden names, libblake2_c.a" names_are_hidden "$archive"
+        check "hidden names, libblake2_c-libb2.a" names_are_hidden "$prefix/lib/libblake2_c-libb2.a"
+    else
+        skip "the names of the libraries" "no nm or no readelf"
+    fi
+    check "calls of a constructor, and of threads" linked_program
+    check "first calls of many threads" linked_program -DFIRST_BY_THREADS
+    if ! chooses; then
+        skip "the choice" "the library holds one build"
+        return
+    fi
+    check "join.sh refuses another list of functions" join_refuses_a_difference
+    check "processors that are made up" made_up_processors 0
+    check "processors that are made up, optimised" made_up_processors 2
+    check "choose.c" compile_choose choose -O2 $(compiler_knows) &&
+        check "the choice on this processor" chooses_level "$(level_of_system)" env
+    test_builds
+    test_emulated
+    test_cost
+}

@@ -1,0 +1,166 @@
+# Part of c/run_tests.sh: the library from C, C++, Python and Rust.
+
+# Compiles test.c to this program with these words.
+compile() {
+    local program=$1
+    shift
+    cc -std=c99 -g "${warnings[@]}" -I"$include" -o "$program" "$tests/test.c" "$@"
+}
+
+compile_and_run() {
+    compile "$@" && "$1" "$work/cases_$family"
+}
+
+with_shared_library() {
+    compile "$work/test_shared" -O2 $(family_words "$family") "$shared" &&
+        LD_LIBRARY_PATH=$prefix/lib "$work/test_shared" "$work/cases_$family"
+}
+
+# A hundred cases of each kind, which valgrind takes in seconds.
+run_in_valgrind() {
+    { grep ^h "$work/cases_$family" | awk 'NR % 8 == 0' | head -80
+      grep ^n "$work/cases_$family" | head -20
+      grep ^r "$work/cases_$family" | head -20
+      grep ^t "$work/cases_$family" | head -20; } >"$work/few"
+    compile "$work/test_plain" -O1 $(family_words "$family") "$archive" &&
+        valgrind -q --error-exitcode=9 --leak-check=full "$work/test_plain" "$work/few"
+}
+
+# The header alone, in each language that it is for.
+headers_compile() {
+    printf '#include "%s"\nint main(void) { return 0; }\n' "$1" >"$work/header.c"
+    cc -std=c99 "${warnings[@]}" -I"$include" -I"$include/libb2" -c "$work/header.c" -o /dev/null &&
+        cc -std=gnu17 "${warnings[@]}" -I"$include" -I"$include/libb2" -c "$work/header.c" -o /dev/null
+}
+
+header_compiles_as_cpp() {
+    printf '#include "%s"\nint main() { return 0; }\n' "$1" >"$work/header.cpp"
+    c++ -std=c++11 "${warnings[@]}" -I"$include" -I"$include/libb2" -c "$work/header.cpp" -o /dev/null
+}
+
+# The inline functions by the names of libb2.
+libb2_header() {
+    cc -std=c99 -g -O"$1" "${warnings[@]}" -I"$include/libb2" -o "$work/libb2_header" "$tests/libb2_header.c" \
+        "$archive" && "$work/libb2_header"
+}
+
+# The words that pkg-config has for one of its names, or those that say the same.
+words_for() {
+    if has pkg-config; then
+        PKG_CONFIG_PATH=$prefix/lib/pkgconfig pkg-config --cflags --libs "$1"
+    elif [ "$1" = blake2_c ]; then
+        echo "-I$include -L$prefix/lib -lblake2_c"
+    else
+        echo "-I$include $archive"
+    fi
+}
+
+# The example in C by a compiler, with the library of this name.
+c_example() {
+    local compiler=$1 name=$2 language=$3
+    block_of_readme c >"$work/hello.c"
+    "$compiler" -O2 "${warnings[@]}" -x "$language" "$work/hello.c" -x none $(words_for "$name") -o "$work/hello" &&
+        LD_LIBRARY_PATH=$prefix/lib "$work/hello" >"$work/said" && diff "$work/said" <(wanted_of_readme)
+}
+
+# The lines of b2sum for these files.
+wanted_of_sum() {
+    python3 -c 'import hashlib, sys
+for name in sys.argv[1:]:
+    print(hashlib.blake2b(open(name, "rb").read()).hexdigest(), "", name)' "$@"
+}
+
+# The program of c/examples over files of several lengths, over standard input, and over what can't be read.
+sum_example() {
+    local length sum=$work/sum
+    cc -O2 "${warnings[@]}" "$here/examples/sum.c" $(words_for blake2_c-static) -o "$sum" && mkdir -p "$work/sums" &&
+        cd "$work/sums" || return 1
+    for length in 0 1 128 129 65536 65537 200000; do
+        head -c $length /dev/urandom >file_$length || return 1
+    done
+    "$sum" file_* >said && wanted_of_sum file_* >wanted && diff said wanted || return 1
+    "$sum" <file_200000 >said && sed -n 's/file_200000$/-/p' wanted | diff said - || return 1
+    ! "$sum" file_1 absent . file_0 >said && wanted_of_sum file_1 file_0 | diff said -
+}
+
+# The benchmark of the README, one turn of it: a table for each family, with a time in each row.
+bench_runs() {
+    local words=() theirs=()
+    links -lb2 && [ -e /usr/include/blake2.h ] && words+=(-DWITH_LIBB2) && theirs+=(-lb2)
+    links -lcrypto && [ -e /usr/include/openssl/evp.h ] && words+=(-DWITH_OPENSSL) && theirs+=(-lcrypto)
+    cc -O2 "${warnings[@]}" "${words[@]}" "$here/bench.c" $(words_for blake2_c-static) "${theirs[@]}" -o "$work/bench" &&
+        "$work/bench" 1 >"$work/said" && [ "$(grep -c '^| [a-z].* | [0-9]' "$work/said")" -eq 14 ]
+}
+
+# The example in Python, and what it takes and refuses.
+python_example() {
+    block_of_readme python >"$work/hello.py"
+    python3 "$work/hello.py" "$shared" >"$work/said" && diff "$work/said" <(wanted_of_readme) &&
+        python3 "$tests/ctypes_example.py" "$work/hello.py" "$shared"
+}
+
+rust_tests() {
+    BLAKE2_C_LIB=$prefix/lib CARGO_TARGET_DIR=$work/target \
+        cargo test --offline --manifest-path "$top/rust/Cargo.toml"
+}
+
+# test.c of a family, in each way that a program meets the library.
+test_family() {
+    family=$1
+    check "test.c, blake2$family" compile_and_run "$work/test_$family" -O2 $(family_words $family) "$archive"
+    check "test.c, blake2$family, with the shared library" with_shared_library
+    if links -fsanitize=address,undefined && "$work/linked"; then
+        check "test.c, blake2$family, with sanitizers" compile_and_run "$work/test_san_$family" -O1 \
+            -fsanitize=address,undefined -fno-sanitize-recover=all $(family_words $family) "$archive"
+    else
+        skip "test.c, blake2$family, with sanitizers" "cc has none"
+    fi
+    if has valgrind; then
+        check "test.c, blake2$family, in valgrind" run_in_valgrind
+    else
+        skip "test.c, blake2$family, in valgrind" "no valgrind"
+    fi
+}
+
+test_examples() {
+    check "the example in C of c/README.md" c_example cc blake2_c-static c
+    check "the example in C with the shared library" c_example cc blake2_c c
+    if has c++; then
+        check "the example in C++" c_example c++ blake2_c-static c++
+    else
+        skip "the example in C++" "no C++ compiler c++"
+    fi
+    check "the program c/examples/sum.c" sum_example
+    check "the benchmark c/bench.c" bench_runs
+    check "the example in Python of c/README.md" python_example
+}
+
+test_rust() {
+    if ! has cargo; then
+        skip "the crate in Rust" "no cargo"
+    elif ! has python3; then
+        skip "the crate in Rust" "no python3 for its known answers"
+    else
+        check "the crate in Rust" rust_tests
+    fi
+}
+
+test_languages() {
+    local header level
+    for header in blake2_c.h blake2.h; do check "$header in C" headers_compile $header; done
+    if has c++; then
+        for header in blake2_c.h blake2.h; do check "$header in C++" header_compiles_as_cpp $header; done
+    else
+        skip "the headers in C++" "no C++ compiler c++"
+    fi
+    if [ -e "$tests/libb2_header.c" ]; then
+        for level in 0 2; do check "the header by the names of libb2, -O$level" libb2_header $level; done
+    fi
+    if has python3; then
+        for family in b s; do test_family $family; done
+        test_examples
+    else
+        skip "the known answers and the examples" "no python3"
+    fi
+    test_rust
+}

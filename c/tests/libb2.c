@@ -1,0 +1,289 @@
+/* libb2's functions by their own names, linked: what c/README.md says of them and of libb2, row by row, and
+ * the known answers of cases.py. c/run_tests.sh links it with libblake2_c-libb2.a, and where libb2 is there,
+ * with libb2 itself under LIBB2, so that what is said of libb2 is seen too.
+ *
+ *   libb2 CASES
+ *
+ * TEST_S is for BLAKE2s. OWN_HEADER takes libb2's own <blake2.h>; without it the functions are declared here. */
+#define _POSIX_C_SOURCE 200112L
+#include <signal.h>
+#include <stddef.h>
+#include <stdint.h>
+#include <stdio.h>
+#include <stdlib.h>
+#include <string.h>
+#include <sys/wait.h>
+#include <unistd.h>
+
+#ifdef TEST_S
+#define X(name) blake2s##name
+#define BLAKE2 blake2s
+typedef uint32_t word;
+enum { BLOCK = 64, LONGEST = 32, SALTS = 8, SIZE = 182 };
+#else
+#define X(name) blake2b##name
+#define BLAKE2 blake2b
+typedef uint64_t word;
+enum { BLOCK = 128, LONGEST = 64, SALTS = 16, SIZE = 358 };
+#endif
+
+#ifdef OWN_HEADER
+#include <blake2.h>
+#else
+typedef struct __attribute__((packed)) state {
+    word h[8], t[2], f[2];
+    uint8_t buf[2 * BLOCK];
+    uint32_t buflen;
+    uint8_t outlen, last_node;
+} X(_state);
+typedef struct param {
+    uint8_t digest_length, key_length, fanout, depth, rest[2 * SALTS - 4];
+    uint8_t salt[SALTS], personal[SALTS];
+} X(_param);
+int X(_init)(X(_state) *S, size_t outlen);
+int X(_init_key)(X(_state) *S, size_t outlen, const void *key, size_t keylen);
+int X(_init_param)(X(_state) *S, const X(_param) *P);
+int X(_update)(X(_state) *S, const uint8_t *in, size_t inlen);
+int X(_final)(X(_state) *S, uint8_t *out, size_t outlen);
+int BLAKE2(uint8_t *out, const void *in, const void *key, size_t outlen, size_t inlen, size_t keylen);
+#endif
+
+#ifdef LIBB2
+#define IS_LIBB2 1
+#else
+#define IS_LIBB2 0
+#endif
+/* What a row says: of libb2 the first, of the functions here the second. DIES is an end by a signal. */
+enum { DIES = 1000 };
+#define ROW(libb2, here) (IS_LIBB2 ? (libb2) : (here))
+
+static int fails, checks;
+#define CHECK(condition)                                          \
+    do {                                                          \
+        checks++;                                                 \
+        if (!(condition)) {                                       \
+            fails++;                                              \
+            printf("libb2.c:%d: not %s\n", __LINE__, #condition); \
+        }                                                         \
+    } while (0)
+
+/* The status of a call in a process of its own, or DIES. */
+#define STATUS(call) (fork_is_child() ? (_exit((call) & 0xff), 0) : child_status())
+static int fork_is_child(void) {
+    fflush(stdout);
+    pid_t child = fork();
+    if (child < 0) abort();
+    return child == 0;
+}
+static int child_status(void) {
+    int status;
+    if (wait(&status) < 0) abort();
+    return WIFSIGNALED(status) ? DIES : (int8_t)WEXITSTATUS(status);
+}
+
+static uint32_t seed = 1;
+static uint32_t random_below(uint32_t most) {
+    seed = seed * 1664525u + 1013904223u;
+    return (seed >> 8) % most;
+}
+
+static uint8_t *null_bytes(void) { return NULL; }
+static int is_zero(const void *bytes, size_t length) {
+    for (size_t i = 0; i < length; i++)
+        if (((const uint8_t *)bytes)[i]) return 0;
+    return 1;
+}
+
+static size_t from_hex(const char *digits, uint8_t *bytes) {
+    size_t length = digits[0] == '-' ? 0 : strlen(digits) / 2;
+    for (size_t i = 0; i < length; i++) {
+        unsigned byte;
+        if (sscanf(digits + 2 * i, "%2x", &byte) != 1) abort();
+        bytes[i] = (uint8_t)byte;
+    }
+    return length;
+}
+
+static char line[1 << 19], digits[5][1 << 18];
+static uint8_t key[256], salt[256], persona[256], message[1 << 17], wanted[256], out[256];
+
+/* The first bytes of hashlib.blake2b(last_node=True).digest(), and of blake2s. */
+#ifdef TEST_S
+static const uint8_t last_empty[] = {0x24, 0xfc, 0x11, 0x3c, 0x3d, 0xbe, 0x8c, 0x84};
+#else
+static const uint8_t last_empty[] = {0x05, 0xcc, 0x8c, 0xc5, 0x31, 0x83, 0xc6, 0xfb};
+#endif
+
+static X(_state) *null_state(void) { return NULL; }
+
+/* The digest of a message in random pieces, where the run may be copied between two of them. */
+static void take(X(_state) *S, size_t length, size_t digest) {
+    X(_state) copy;
+    for (size_t at = 0, n; at < length; at += n) {
+        n = random_below(random_below(2) ? 20 : 700) + 1;
+        if (n > length - at) n = length - at;
+        CHECK(X(_update)(S, message + at, n) == 0 && X(_update)(S, NULL, 0) == 0);
+        memcpy(&copy, S, sizeof copy);
+        *S = copy;
+    }
+    memset(out, 0xaa, sizeof out);
+    CHECK(X(_final)(S, out, digest - 1) == -1 && X(_final)(S, out, digest + 1) == -1 && out[0] == 0xaa);
+    CHECK(X(_final)(S, out, digest) == 0 && !memcmp(out, wanted, digest) && out[digest] == 0xaa);
+    CHECK(IS_LIBB2 || is_zero(S, sizeof *S));
+}
+
+/* A case of a hash: by a parameter block, and by key alone or in one call where there is no more. */
+static void hash_case(size_t digest, size_t keys, size_t salted, size_t named, size_t length) {
+    X(_state) *S = malloc(sizeof *S);
+    X(_param) P;
+    uint8_t first[BLOCK] = {0};
+    memset(&P, 0, sizeof P);
+    P.digest_length = (uint8_t)digest, P.key_length = (uint8_t)keys, P.fanout = P.depth = 1;
+    memcpy(P.salt, salt, salted);
+    memcpy(P.personal, persona, named);
+    memcpy(first, key, keys);
+    memset(S, 0x5a, sizeof *S);
+    CHECK(X(_init_param)(S, &P) == 0 && S->outlen == digest && S->last_node == 0);
+    if (keys) CHECK(X(_update)(S, first, BLOCK) == 0);
+    take(S, length, digest);
+    if (!salted && !named) {
+        CHECK((keys ? X(_init_key)(S, digest, key, keys) : X(_init)(S, digest)) == 0);
+        take(S, length, digest);
+        memset(out, 0xaa, sizeof out);
+        CHECK(BLAKE2(out, message, key, digest, length, keys) == 0 && !memcmp(out, wanted, digest));
+        CHECK(out[digest] == 0xaa);
+    }
+    free(S);
+}
+
+static int cases_of(const char *name) {
+    FILE *file = fopen(name, "r");
+    size_t digest;
+    int cases = 0;
+    while (file && fgets(line, sizeof line, file)) {
+        if (sscanf(line, "h %zu %262143s %262143s %262143s %262143s %262143s", &digest, digits[0],
+                   digits[1], digits[2], digits[3], digits[4]) != 6) continue;
+        from_hex(digits[4], wanted);
+        hash_case(digest, from_hex(digits[0], key), from_hex(digits[1], salt), from_hex(digits[2], persona),
+                  from_hex(digits[3], message));
+        cases++;
+    }
+    if (file) fclose(file);
+    return cases;
+}
+
+static int status_of(X(_state) *S, uint8_t digest, uint8_t keys) {
+    X(_param) P;
+    memset(&P, 0, sizeof P);
+    P.digest_length = digest, P.key_length = keys, P.fanout = P.depth = 1;
+    return X(_init_param)(S, &P);
+}
+
+static void null_pointers(void) {
+    X(_state) S;
+    CHECK(STATUS(X(_init)(null_state(), LONGEST)) == ROW(DIES, -1));
+    CHECK(STATUS(X(_init_key)(null_state(), LONGEST, "k", 1)) == ROW(DIES, -1));
+    CHECK(STATUS(status_of(null_state(), LONGEST, 0)) == ROW(DIES, -1));
+    CHECK(STATUS(X(_init_param)(&S, NULL)) == ROW(DIES, -1));
+    CHECK(STATUS(X(_update)(null_state(), message, 1)) == ROW(DIES, -1));
+    CHECK(STATUS(X(_update)(null_state(), message, 0)) == ROW(0, -1));
+    CHECK(STATUS(X(_final)(null_state(), out, LONGEST)) == ROW(DIES, -1));
+    CHECK(X(_init)(&S, LONGEST) == 0);
+    CHECK(STATUS(X(_update)(&S, null_bytes(), 300)) == ROW(DIES, -1));
+    CHECK(STATUS(X(_final)(&S, null_bytes(), LONGEST)) == ROW(DIES, -1));
+    CHECK(BLAKE2(null_bytes(), "a", NULL, LONGEST, 1, 0) == -1 && BLAKE2(out, NULL, NULL, LONGEST, 1, 0) == -1);
+    CHECK(BLAKE2(out, "a", NULL, LONGEST, 1, 1) == -1 && BLAKE2(out, NULL, NULL, LONGEST, 0, 0) == 0);
+}
+
+static void lengths(void) {
+    X(_state) S;
+    CHECK(sizeof S == SIZE && __alignof__(X(_state)) == 1 && offsetof(X(_state), last_node) == SIZE - 1);
+    memset(&S, 0x5a, sizeof S);
+    CHECK(X(_init)(&S, 0) == -1 && X(_init)(&S, LONGEST + 1) == -1 && X(_init)(&S, 256 + LONGEST) == -1);
+    CHECK(ROW(!is_zero(&S, sizeof S), is_zero(&S, sizeof S)));
+    CHECK(X(_init_key)(&S, LONGEST, "k", 0) == -1 && X(_init_key)(&S, LONGEST, message, LONGEST + 1) == -1);
+    CHECK(X(_init_key)(&S, 0, "k", 1) == -1);
+    int null_key = STATUS(X(_init_key)(&S, LONGEST, null_bytes(), 1));
+    CHECK(IS_LIBB2 ? null_key == -1 || null_key == DIES : null_key == -1);
+    memset(out, 0xaa, sizeof out);
+    CHECK(BLAKE2(out, "a", NULL, 0, 1, 0) == -1 && BLAKE2(out, "a", NULL, LONGEST + 1, 1, 0) == -1);
+    CHECK(BLAKE2(out, "a", message, LONGEST, 1, LONGEST + 1) == -1 && out[0] == 0xaa && out[LONGEST] == 0xaa);
+    CHECK(status_of(&S, 0, 0) == ROW(0, -1) && status_of(&S, LONGEST + 1, 0) == ROW(0, -1));
+    CHECK(status_of(&S, LONGEST, LONGEST + 1) == ROW(0, -1));
+    CHECK(status_of(&S, LONGEST, LONGEST) == 0 && status_of(&S, 1, 0) == 0);
+}
+
+/* After the end of a run, and in a state of zeros. */
+static void no_run(void) {
+    X(_state) S, before;
+    CHECK(X(_init)(&S, LONGEST) == 0 && X(_update)(&S, message, 200) == 0);
+    CHECK(X(_final)(&S, out, LONGEST) == 0);
+    CHECK(ROW(!is_zero(&S, sizeof S), is_zero(&S, sizeof S)));
+    before = S;
+    CHECK(X(_update)(&S, message, 1) == ROW(0, -1) && (IS_LIBB2 || !memcmp(&S, &before, sizeof S)));
+    CHECK(X(_final)(&S, out, LONGEST) == ROW(0, -1));
+    CHECK(X(_final)(&S, out, 0) == ROW(-1, -1));
+    memset(&S, 0, sizeof S);
+    CHECK(X(_update)(&S, message, 1) == ROW(0, -1));
+}
+
+/* A state that holds more than a block is refused and stays; libb2 may hold two. */
+static void refused_states(void) {
+    X(_state) S, before;
+    CHECK(X(_init)(&S, LONGEST) == 0);
+    S.buflen = BLOCK + 1;
+    before = S;
+    CHECK(X(_update)(&S, message, 1) == -1 && X(_final)(&S, out, LONGEST) == -1);
+    CHECK(!memcmp(&S, &before, sizeof S));
+}
+
+/* A count that would pass 2^64 is refused, and the state stays. */
+static void long_message(void) {
+    X(_state) S, before;
+    CHECK(X(_init)(&S, LONGEST) == 0);
+    memset(S.t, 0xff, 8);
+    before = S;
+    CHECK(X(_update)(&S, message, 3 * BLOCK) == ROW(0, -1) && (IS_LIBB2 || !memcmp(&S, &before, sizeof S)));
+}
+
+/* The fields that libb2's header names, and the digest over its own input or key. */
+static void alike(void) {
+    X(_state) S;
+    CHECK(X(_init)(&S, 7) == 0 && X(_update)(&S, message, 5 * BLOCK + 3) == 0);
+    CHECK(S.outlen == 7 && S.t[0] + S.buflen == 5 * BLOCK + 3 && S.t[1] == 0);
+    CHECK(BLAKE2(wanted, "abc", "key", LONGEST, 3, 3) == 0);
+    memcpy(out, "abc", 3);
+    CHECK(BLAKE2(out, out, "key", LONGEST, 3, 3) == 0 && !memcmp(out, wanted, LONGEST));
+    memcpy(out, "key", 3);
+    CHECK(BLAKE2(out, "abc", out, LONGEST, 3, 3) == 0 && !memcmp(out, wanted, LONGEST));
+}
+
+/* The last-node flag is any value but 0. */
+static void last_node(void) {
+    X(_state) S;
+    CHECK(X(_init)(&S, LONGEST) == 0 && X(_final)(&S, wanted, LONGEST) == 0);
+    for (int value = 1; value < 256; value = value * 2 + 1) {
+        CHECK(X(_init)(&S, LONGEST) == 0);
+        S.last_node = (uint8_t)value;
+        CHECK(X(_update)(&S, NULL, 0) == 0 && S.last_node == value && X(_final)(&S, out, LONGEST) == 0);
+        CHECK(memcmp(out, wanted, LONGEST));
+        if (value > 1) CHECK(!memcmp(out, message, LONGEST));
+        memcpy(message, out, LONGEST);
+    }
+    CHECK(!memcmp(out, last_empty, 8));
+}
+
+int main(int count, char **names) {
+    int cases = count > 1 ? cases_of(names[1]) : 0;
+
+    CHECK(cases > 500);
+    null_pointers();
+    lengths();
+    no_run();
+    if (!IS_LIBB2) refused_states();
+    long_message();
+    alike();
+    last_node();
+    printf("%d cases, %d checks, %d failures\n", cases, checks, fails);
+    return fails != 0;
+}

@@ -1,0 +1,129 @@
+# Part of c/run_tests.sh: libb2's functions by their own names, its own tests, and a program of others.
+
+beside=$prefix/lib/libblake2_c-libb2.a
+
+# libb2.c with these words behind it.
+names_of_libb2() {
+    local family=$1
+    shift
+    cc -std=c99 -g -O1 "${warnings[@]}" $(family_words "$family") -o "$work/libb2_names" "$tests/libb2.c" "$@" &&
+        "$work/libb2_names" "$work/cases_$family"
+}
+
+# What a configure script does to find libb2: a program that names one function and has no header of it.
+configure_finds() {
+    local name
+    for name in blake2b blake2b_init blake2b_init_key blake2b_init_param blake2b_update blake2b_final \
+        blake2s blake2s_init blake2s_init_key blake2s_init_param blake2s_update blake2s_final; do
+        echo "char $name(void); int main(void) { return $name(); }" >"$work/conftest.c"
+        cc -w -fno-builtin -o "$work/conftest" "$work/conftest.c" -L"$prefix/lib/blake2_c-libb2" -Wl,-Bstatic -lb2 \
+            -Wl,-Bdynamic || return 1
+    done
+    ! has pkg-config || PKG_CONFIG_PATH=$prefix/lib/blake2_c-libb2/pkgconfig pkg-config --exists 'libb2 >= 0.98'
+}
+
+# This library and libb2 in one program, by both headers, linked in both orders.
+beside_libb2() {
+    local words
+    for words in "$archive -lb2" "-lb2 $archive" "$shared -lb2" "-lb2 $shared"; do
+        cc "${warnings[@]}" -I"$include" "$tests/both.c" $words -o "$work/both" &&
+            LD_LIBRARY_PATH=$prefix/lib "$work/both" || return 1
+    done
+}
+
+has_libb2() { links -lb2 && echo '#include <blake2.h>' | cc -fsyntax-only -x c - 2>/dev/null; }
+
+# The machine's own lists of packages, asked for sources in the place of programs.
+source_lists() {
+    local list lists=$1
+    mkdir -p "$lists"
+    for list in /etc/apt/sources.list /etc/apt/sources.list.d/*.list; do
+        [ -r "$list" ] && sed -n 's/^deb\([[:space:]]\)/deb-src\1/p' "$list" >"$lists/$(basename "$list" .list).list"
+    done
+    for list in /etc/apt/sources.list.d/*.sources; do
+        [ -r "$list" ] && sed 's/^Types:.*/Types: deb-src/' "$list" >"$lists/$(basename "$list")"
+    done
+    return 0
+}
+
+# The sources of these packages, which no file of this repository keeps, each in a folder of its name. A list
+# that knows no sources fails alone; what counts is that one of them had these.
+fetch_sources() {
+    local package folder=$work/fetched
+    mkdir -p "$folder/lists/partial" "$folder/cache/archives/partial"
+    cd "$folder" || return 1
+    source_lists "$PWD/parts"
+    local words=(-q -o Dir::Etc::sourcelist=/dev/null -o Dir::Etc::sourceparts="$PWD/parts"
+        -o Dir::State::lists="$PWD/lists" -o Dir::Cache="$PWD/cache" -o Acquire::Retries=1
+        -o Acquire::http::Timeout=20 -o Acquire::https::Timeout=20)
+    timeout 120 apt-get "${words[@]}" update
+    for package in "$@"; do
+        timeout 120 apt-get "${words[@]}" --download-only --tar-only source "$package" && mkdir -p "$package" &&
+            tar xf "$package"_*.orig.tar.* -C "$package" --strip-components=1
+    done
+}
+
+# libb2's own test program, which includes its known answers: over the header of libb2's name here, or over
+# libb2's own with the functions by their own names.
+libb2_test() {
+    local name=$1 source=$work/fetched/libb2/src words=(-I"$include/libb2" "$archive")
+    [ "$2" = header ] || words=(-I"$source" "$beside")
+    mkdir -p "$work/theirs"
+    cp "$source/$name-test.c" "$source/blake2-kat.h" "$work/theirs/" && cc -o "$work/$name-test" "$work/theirs/$name-test.c" "${words[@]}" && [ "$("$work/$name-test")" = ok ]
+}
+
+# librsync, whose search for libb2 finds what is installed here, with this folder of headers; and its own tests.
+librsync_tests() {
+    local headers=$1 build=$work/librsync
+    rm -rf "$build"
+    cmake -S "$work/fetched/librsync" -B "$build" -DUSE_LIBB2=ON -DCMAKE_BUILD_TYPE=Debug \
+        -DCMAKE_LIBRARY_PATH="$prefix/lib/blake2_c-libb2" -DCMAKE_INCLUDE_PATH="$headers" &&
+        cmake --build "$build" --parallel 2 && nm "$build/librsync.so" | grep -q ' t blake2_c_blake2b_update$' &&
+        ! readelf -d "$build/librsync.so" | grep -q 'libb2\.so' && cd "$build" && ctest --output-on-failure
+}
+
+test_sources() {
+    local name
+    if ! has apt-get; then
+        skip "libb2's own tests, and those of librsync" "no apt-get to fetch their sources with"
+        return
+    fi
+    (fetch_sources libb2 librsync) >"$work/fetching" 2>&1
+    if [ ! -e "$work/fetched/libb2/src/blake2b-test.c" ]; then
+        skip "libb2's own tests" "its source can't be fetched"
+    else
+        for name in blake2b blake2s; do
+            check "libb2's $name-test.c over the header" libb2_test $name header
+            check "libb2's $name-test.c over its own header" libb2_test $name names
+        done
+    fi
+    if [ ! -e "$work/fetched/librsync/CMakeLists.txt" ]; then
+        skip "librsync's own tests" "its source can't be fetched"
+    elif ! has cmake; then
+        skip "librsync's own tests" "no cmake"
+    else
+        check "librsync's own tests over the header" librsync_tests "$include/libb2"
+        mkdir -p "$work/own" && cp "$work/fetched/libb2/src/blake2.h" "$work/own/" &&
+            check "librsync's own tests over libb2's header" librsync_tests "$work/own"
+    fi
+}
+
+test_libb2() {
+    local family
+    check "a configure script finds libb2" configure_finds
+    if has python3; then
+        for family in b s; do check "libb2's names, blake2$family" names_of_libb2 $family "$beside"; done
+    else
+        skip "libb2's names" "no python3 for the known answers"
+    fi
+    if has python3 && has_libb2; then
+        for family in b s; do
+            check "libb2's names with its own header, blake2$family" names_of_libb2 $family -DOWN_HEADER "$beside"
+            check "what is said of libb2 itself, blake2$family" names_of_libb2 $family -DOWN_HEADER -DLIBB2 -w -lb2
+        done
+        check "this library and libb2 in one program" beside_libb2
+    else
+        skip "what is said of libb2 itself" "no libb2"
+    fi
+    test_sources
+}

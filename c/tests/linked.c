@@ -1,0 +1,49 @@
+/* The library in a program: called by a constructor before main, and by many threads whose first calls come
+ * at the same time. FIRST_BY_THREADS leaves the constructor out. Answers 0 where all digests are right. */
+#define _POSIX_C_SOURCE 200112L
+#include "blake2_c.h"
+
+#include <pthread.h>
+#include <stdio.h>
+
+/* BLAKE2s-256 of "abc" (RFC 7693, appendix B). */
+static const uint8_t wanted[32] = {0x50, 0x8c, 0x5e, 0x8c, 0x32, 0x7c, 0x14, 0xe2, 0xe1, 0xa7, 0x2b,
+                                   0xa3, 0x4e, 0xeb, 0x45, 0x2f, 0x37, 0x45, 0x8b, 0x20, 0x9e, 0xd6,
+                                   0x3a, 0x29, 0x4d, 0x99, 0x9b, 0x4c, 0x86, 0x67, 0x59, 0x82};
+
+static int is_right(void) {
+    uint8_t out[32];
+    return vulfsjor_blake2s(out, sizeof out, "abc", 3, 0, 0) == 0 && !memcmp(out, wanted, sizeof out);
+}
+
+static int before_main = 1;
+#ifndef FIRST_BY_THREADS
+__attribute__((constructor)) static void call_early(void) { before_main = is_right(); }
+#endif
+
+enum { THREADS = 16 };
+static pthread_barrier_t begin;
+
+static void *call(void *right) {
+    int all = 1;
+    pthread_barrier_wait(&begin);
+    for (int i = 0; i < 100; i++) all &= is_right();
+    *(int *)right = all;
+    return NULL;
+}
+
+int main(void) {
+    pthread_t threads[THREADS];
+    int right[THREADS] = {0}, all = before_main;
+
+    if (!before_main) puts("linked.c: a constructor's call was answered wrong");
+    if (pthread_barrier_init(&begin, NULL, THREADS)) return 2;
+    for (int i = 0; i < THREADS; i++)
+        if (pthread_create(&threads[i], NULL, call, &right[i])) return 2;
+    for (int i = 0; i < THREADS; i++) {
+        pthread_join(threads[i], NULL);
+        if (!right[i]) printf("linked.c: thread %d had another digest\n", i);
+        all &= right[i];
+    }
+    return !all;
+}
