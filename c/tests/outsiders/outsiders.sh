@@ -1,0 +1,59 @@
+#!/usr/bin/env bash
+# Compares each build of the library with other people's, in random calls:
+#
+#   c/tests/outsiders/outsiders.sh PARTS [CASES]
+#
+# PARTS is a folder that `c/install.sh --parts PARTS FOLDER` has left. CASES are those of each library on each build
+# and on the installed choice (20,000). It needs these packages of Debian; a library that is absent is skipped, and a
+# line says so:
+#
+#   libsodium-dev, libgcrypt20-dev, libbotan-2-dev, libssl-dev (of OpenSSL 3)
+#
+# The last line counts, and the status is 0 where no test failed.
+set -u
+here=$(dirname "$(readlink -f "$0")")
+c=$(dirname "$(dirname "$here")")
+if [ $# -lt 1 ] || [ $# -gt 2 ]; then
+    echo "usage: c/tests/outsiders/outsiders.sh PARTS [CASES]" >&2
+    exit 2
+fi
+parts=$(readlink -f "$1")
+cases=${2:-20000}
+work=$(mktemp -d)
+trap 'rm -rf "$work"' EXIT
+passed=0 failed=0 skipped=0
+
+# The words of the compiler for a library: by pkg-config, or as its pages have them.
+words_of() {
+    pkg-config --cflags --libs "$1" 2>/dev/null || echo "$2"
+}
+
+compare() {
+    local name=$1 header=$2 build
+    shift 2
+    if ! echo "#include <$header>" | cc -fsyntax-only "$@" -x c - 2>"$work/log"; then
+        echo "skipped: $name (no $header)"
+        skipped=$((skipped + 1))
+        return
+    fi
+    for build in x86-64-v2 x86-64-v3 chosen; do
+        if cc -std=gnu99 -O2 -Wall -Wextra -Werror -I"$c/include" "$here/$name.c" "$work/$build.a" "$@" \
+            -o "$work/$name" >"$work/log" 2>&1 && "$work/$name" "$cases" >"$work/log"; then
+            echo "passed: $name on $build, $(tail -n 1 "$work/log")"
+            passed=$((passed + 1))
+        else
+            echo "FAILED: $name on $build"
+            sed 's/^/    /' "$work/log"
+            failed=$((failed + 1))
+        fi
+    done
+}
+
+cp "$parts/x86-64-v2.a" "$parts/x86-64-v3.a" "$work/" && "$c/join.sh" "$work/joined" "$work"/x86-64-v[23].a &&
+    cp "$work/joined/libblake2_c.a" "$work/chosen.a" || exit 2
+compare libsodium sodium.h $(words_of libsodium -lsodium)
+compare libgcrypt gcrypt.h $(words_of libgcrypt -lgcrypt)
+compare botan botan/ffi.h $(words_of botan-2 "-I/usr/include/botan-2 -lbotan-2")
+compare openssl openssl/core_names.h $(words_of libcrypto -lcrypto)
+echo "$passed passed, $failed failed, $skipped skipped"
+[ "$failed" -eq 0 ]
