@@ -136,6 +136,12 @@ typedef struct vulfsjor_tree {
     uint8_t inner_length; /* the bytes of an inner node's digest, up to 64 (BLAKE2s: 32) */
 } vulfsjor_tree;
 
+/* A message among several: its bytes, which are never null, and how many. */
+typedef struct vulfsjor_message {
+    const void *bytes;
+    size_t length;
+} vulfsjor_message;
+
 /* A run of a tree of hashes with two levels over BLAKE2b, to be kept as a run of BLAKE2b is. */
 typedef struct vulfsjor_tree_state {
     vulfsjor_blake2b_state leaf; /* the open leaf, full or not */
@@ -152,6 +158,7 @@ typedef struct vulfsjor_tree_state {
 typedef char vulfsjor_layouts[sizeof(size_t) == 8 && sizeof(vulfsjor_blake2b_state) == 424 &&
                               sizeof(vulfsjor_blake2s_state) == 232 &&
                               sizeof(vulfsjor_tree_state) == 912 &&
+                              sizeof(vulfsjor_message) == 16 &&
                               sizeof(vulfsjor_blake2b_param) == 64 &&
                               sizeof(vulfsjor_blake2s_param) == 32 ? 1 : -1];
 
@@ -163,6 +170,10 @@ int32_t blake2_c_is_same(const uint8_t *a, size_t a_length, const uint8_t *b, si
 
 int32_t blake2_c_blake2b(uint8_t *out, size_t out_length, const uint8_t *input, size_t input_length,
                          const uint8_t *key, size_t key_length);
+int32_t blake2_c_blake2b_many(uint8_t *out, size_t out_length, size_t output_size,
+                              const vulfsjor_message *messages, size_t count, const uint8_t *key,
+                              size_t key_length, const uint8_t *salt, size_t salt_length,
+                              const uint8_t *persona, size_t persona_length);
 int32_t blake2_c_blake2b_init(vulfsjor_blake2b_state *state, size_t output_size, const uint8_t *key,
                               size_t key_length, const uint8_t *salt, size_t salt_length,
                               const uint8_t *persona, size_t persona_length);
@@ -189,6 +200,10 @@ size_t blake2_c_blake2b_state_size(void);
 
 int32_t blake2_c_blake2s(uint8_t *out, size_t out_length, const uint8_t *input, size_t input_length,
                          const uint8_t *key, size_t key_length);
+int32_t blake2_c_blake2s_many(uint8_t *out, size_t out_length, size_t output_size,
+                              const vulfsjor_message *messages, size_t count, const uint8_t *key,
+                              size_t key_length, const uint8_t *salt, size_t salt_length,
+                              const uint8_t *persona, size_t persona_length);
 int32_t blake2_c_blake2s_init(vulfsjor_blake2s_state *state, size_t output_size, const uint8_t *key,
                               size_t key_length, const uint8_t *salt, size_t salt_length,
                               const uint8_t *persona, size_t persona_length);
@@ -242,6 +257,14 @@ static inline uint32_t vulfsjor_version(void) {
 VULFSJOR_MUST_USE static inline int vulfsjor_is_same(const void *a, const void *b, size_t length) {
     if ((!a || !b) && length) return -1;
     return blake2_c_is_same(vulfsjor_text(a), length, vulfsjor_text(b), length);
+}
+
+/* Whether one of the messages has no bytes to point to. */
+static inline int vulfsjor_has_null(const vulfsjor_message *messages, size_t count) {
+    size_t i;
+    for (i = 0; i < count; i++)
+        if (!messages[i].bytes) return 1;
+    return 0;
 }
 
 /* -- BLAKE2b */
@@ -360,6 +383,22 @@ VULFSJOR_MUST_USE static inline int vulfsjor_blake2b(void *out, size_t outlen, c
                             keylen);
 }
 
+/* The digests of count messages, each as vulfsjor_blake2b has it, with a salt and a persona too, all
+ * under the same arguments: digest i stands in the outlen bytes at out + i * outlen. Four messages
+ * in a row of one length are hashed at once, which takes about half the time where the library is
+ * built for vectors of 256 bits. -1 where vulfsjor_blake2b or an init refuses one of them, and where
+ * out, messages or the bytes of one of them are null, whatever the count and the lengths; nothing
+ * is then written. */
+VULFSJOR_MUST_USE static inline int vulfsjor_blake2b_many(
+    void *out, size_t outlen, const vulfsjor_message *messages, size_t count, const void *key,
+    size_t keylen, const void *salt, size_t saltlen, const void *personal, size_t personallen) {
+    if (!out || !messages || vulfsjor_has_null(messages, count)) return -1;
+    if ((!key && keylen) || (!salt && saltlen) || (!personal && personallen)) return -1;
+    return blake2_c_blake2b_many((uint8_t *)out, count * outlen, outlen, messages, count,
+                                 vulfsjor_text(key), keylen, vulfsjor_text(salt), saltlen,
+                                 vulfsjor_text(personal), personallen);
+}
+
 /* -- BLAKE2s: the same, with digests and keys of up to 32 bytes, salts and personas of up to 8,
  * and key blocks of 64. */
 
@@ -446,6 +485,17 @@ VULFSJOR_MUST_USE static inline int vulfsjor_blake2s(void *out, size_t outlen, c
     if (!out || (!in && inlen) || (!key && keylen)) return -1;
     return blake2_c_blake2s((uint8_t *)out, outlen, vulfsjor_text(in), inlen, vulfsjor_text(key),
                             keylen);
+}
+
+/* Eight messages in a row of one length are hashed at once. */
+VULFSJOR_MUST_USE static inline int vulfsjor_blake2s_many(
+    void *out, size_t outlen, const vulfsjor_message *messages, size_t count, const void *key,
+    size_t keylen, const void *salt, size_t saltlen, const void *personal, size_t personallen) {
+    if (!out || !messages || vulfsjor_has_null(messages, count)) return -1;
+    if ((!key && keylen) || (!salt && saltlen) || (!personal && personallen)) return -1;
+    return blake2_c_blake2s_many((uint8_t *)out, count * outlen, outlen, messages, count,
+                                 vulfsjor_text(key), keylen, vulfsjor_text(salt), saltlen,
+                                 vulfsjor_text(personal), personallen);
 }
 
 /* -- The tree of two levels over BLAKE2b (the BLAKE2 document, 2.10) */

@@ -12,6 +12,8 @@ ghost use Rattle.blake2_plain.specs.States.{is_on};
 ghost use Rattle.blake2_c.specs.Status.{Answers, IsTooLong, IsUntakable, IsUngivable};
 ghost use Rattle.blake2_c.specs.Trees.{place};
 
+mod many;
+
 use blake2::{Blake2s256, Digest, Tree};
 use blake2_plain::blake2s::State;
 

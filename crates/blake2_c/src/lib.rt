@@ -13,9 +13,17 @@ ghost use Rattle.blake2_c.specs.Status.{Answers};
 
 mod blake2b;
 mod blake2s;
+mod many;
 mod trees;
 
 use blake2_digest::is_same;
+
+/// A text among several, as `vulfsjor_message` of the header: a pointer and a length.
+#[repr(C)]
+pub struct Text<'a> {
+    /// Its bytes.
+    pub bytes: &'a [u8],
+}
 
 // The version of the library (https://semver.org), each number below 256. It stands here alone:
 // the header and the file for pkg-config name the same, and their tests compare.

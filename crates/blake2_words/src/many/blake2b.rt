@@ -395,3 +395,17 @@ pub fn hash_four<const N: usize>(inputs: &[Input<'_>; 4]) -> [[u8; N]; 4]
     let [h0, h1, h2, h3] = lanes(&h);
     [output(&h0), output(&h1), output(&h2), output(&h3)]
 }
+
+/// The same with a size that is chosen as the program runs: the first `output_size` bytes of each
+/// answer, at most 64, are the digest, and those behind it are no part of it.
+pub fn hash_four_sized(output_size: usize, inputs: &[Input<'_>; 4]) -> [[u8; 64]; 4]
+    requires size { output_size ≤ output_bytes blake2b }
+    requires accepted { AcceptsAtOnce blake2b 4 inputs.now }
+    ensures { map (take output_size) result
+        ≡ map (λ input. digest blake2b output_size (input_of input)) inputs.now }
+{
+    let mut h = start(output_size, inputs);
+    absorb(&mut h, inputs);
+    let [h0, h1, h2, h3] = lanes(&h);
+    [output(&h0), output(&h1), output(&h2), output(&h3)]
+}

@@ -472,3 +472,26 @@ pub fn hash_eight<const N: usize>(inputs: &[Input<'_>; 8]) -> [[u8; N]; 8]
         output(&h7),
     ]
 }
+
+/// The same with a size that is chosen as the program runs: the first `output_size` bytes of each
+/// answer, at most 32, are the digest, and those behind it are no part of it.
+pub fn hash_eight_sized(output_size: usize, inputs: &[Input<'_>; 8]) -> [[u8; 32]; 8]
+    requires size { output_size ≤ output_bytes blake2s }
+    requires accepted { AcceptsAtOnce blake2s 8 inputs.now }
+    ensures { map (take output_size) result
+        ≡ map (λ input. digest blake2s output_size (input_of input)) inputs.now }
+{
+    let mut h = start(output_size, inputs);
+    absorb(&mut h, inputs);
+    let [h0, h1, h2, h3, h4, h5, h6, h7] = lanes(&h);
+    [
+        output(&h0),
+        output(&h1),
+        output(&h2),
+        output(&h3),
+        output(&h4),
+        output(&h5),
+        output(&h6),
+        output(&h7),
+    ]
+}

@@ -1,0 +1,93 @@
+#!/usr/bin/env python3
+"""Reads the lines of edges.c and libb2_header.c from standard input and compares each digest with Python's hashlib.
+
+Answers 0 where all agree, the line `end` came, and there were 20 others. A parameter block that hashlib can't say (a
+depth of 0, reserved bytes) is hashed by tools/blake2_scalar.py, which is first compared with hashlib itself.
+"""
+import hashlib
+import os
+import struct
+import sys
+
+sys.path.append(os.path.join(os.path.dirname(os.path.abspath(__file__)), "..", "..", "tools"))
+from blake2_kinds import FAMILIES  # noqa: E402
+from blake2_scalar import WORDS, Step, compress  # noqa: E402
+
+BYTES = bytes(i % 251 for i in range(8 * 128 + 64))
+KEY = bytes(i + 100 for i in range(66))
+SALT = bytes(i + 50 for i in range(18))
+PERSONA = bytes(i + 200 for i in range(18))
+
+
+def of_block(family, block, message):
+    """The digest of a message of one block at most, from a parameter block as it stands."""
+    words = WORDS[family]
+    start = tuple(a ^ b for a, b in zip(words.start, struct.unpack("<8" + words.code, block)))
+    step = Step(start, len(message), True, message.ljust(2 * words.bits, b"\0"))
+    return struct.pack("<8" + words.code, *compress(family, step))[:block[0]]
+
+
+def hash_line(family, size, keylen, saltlen, personalen, start, length):
+    """A hash of the bytes from a start on, under the beginnings of the key, the salt and the persona."""
+    start, length = int(start), int(length)
+    assert start + length <= len(BYTES)
+    return FAMILIES[family].function(BYTES[start:start + length], digest_size=int(size), key=KEY[:int(keylen)],
+                               salt=SALT[:int(saltlen)], person=PERSONA[:int(personalen)])
+
+
+def last_line(family, size, length):
+    """A hash under the last-node flag."""
+    return FAMILIES[family].function(BYTES[:int(length)], digest_size=int(size), last_node=True)
+
+
+def node_line(family, fanout, depth, leaf_length, node_offset, node_depth, inner_length):
+    """A node of a tree."""
+    return FAMILIES[family].function(BYTES[:20], fanout=int(fanout), depth=int(depth), leaf_size=int(leaf_length),
+                               node_offset=int(node_offset), node_depth=int(node_depth), inner_size=int(inner_length))
+
+
+def root_line(size, saltlen, personalen, leaf, length):
+    """The root of a tree of two levels."""
+    leaf, message = int(leaf), BYTES[:int(length)]
+    shared = dict(salt=SALT[:int(saltlen)], person=PERSONA[:int(personalen)], fanout=0, depth=2, leaf_size=leaf, inner_size=64)
+    leaves = [message[i:i + leaf] for i in range(0, len(message), leaf)] or [b""]
+    digests = b"".join(hashlib.blake2b(part, node_offset=i, last_node=i + 1 == len(leaves), **shared).digest()
+                       for i, part in enumerate(leaves))
+    return hashlib.blake2b(digests, digest_size=int(size), node_depth=1, last_node=True, **shared)
+
+
+def zeros_line(family, length):
+    """A message of zeros."""
+    run, left, piece = FAMILIES[family].function(), int(length), bytes(2**24)
+    while left:
+        run.update(piece[:left])
+        left -= min(left, len(piece))
+    return run
+
+
+KINDS = {"hash": hash_line, "last": last_line, "node": node_line, "root": root_line, "zeros": zeros_line}
+
+
+def wanted(line):
+    """The digest that a line should end with, in digits."""
+    kind, *fields = line.split()[:-1]
+    if kind == "block":
+        return of_block(fields[0], bytes.fromhex(fields[1]), BYTES[:20]).hex()
+    return KINDS[kind](*fields).hexdigest()
+
+
+def main():
+    """Compares all lines."""
+    for name, family in FAMILIES.items():
+        salt, persona = SALT[:family.salt], PERSONA[:family.salt]
+        block = bytes([family.key, 0, 1, 1]).ljust(family.key - 2 * family.salt, b"\0") + salt + persona
+        assert of_block(name, block, BYTES[:20]) == family.function(BYTES[:20], salt=salt, person=persona).digest()
+    lines = sys.stdin.read().splitlines()
+    wrong = [line for line in lines[:-1] if wanted(line) != line.split()[-1]]
+    for line in wrong:
+        print(f"hashlib differs: {line}")
+    print(f"{len(lines) - 1} digests, {len(wrong)} differ from hashlib's")
+    sys.exit(bool(wrong) or lines[-1:] != ["end"] or len(lines) < 21)
+
+
+main()

@@ -1,0 +1,787 @@
+/* The edges of each function of blake2_c.h: each pointer null with length 0 and 1, every size from 0
+ * to 65, counts near 2^64 and 2^58, flags, parameter blocks, states that are not ready, what stays of
+ * a key, several messages, constants, the state's fields. Prints a line for each digest whose
+ * value Python's hashlib has to agree with, as check_lines.py reads them; answers 0 where all else
+ * is as it should be.
+ *
+ *   cc -std=c99 -Wall -Wextra -Wpedantic -Werror -I FOLDER/include/blake2_c edges.c ARCHIVE -o edges
+ *   cc the same with -DTEST_S                   the same of BLAKE2s, without the tree
+ *   ./edges | python3 check_lines.py            status 0 where every digest is hashlib's
+ *   ./edges 5000000000                          one message of so many bytes too, of a sparse file's
+ *                                               zeros; 5 to 12 seconds for 5e9 */
+#include "blake2_c.h"
+
+#include <stdio.h>
+#include <stdlib.h>
+
+#ifdef TEST_S
+#define MAX 32
+#define SALT 8
+#define BLOCK 64
+#define LANES 8
+#define FAMILY "s"
+#define BLAKE(name) vulfsjor_blake2s_##name
+#define LIBRARY(name) blake2_c_blake2s_##name
+#define CONSTANT(name) VULFSJOR_BLAKE2S_##name
+#define ONE_CALL vulfsjor_blake2s
+typedef uint32_t word;
+#else
+#define MAX 64
+#define SALT 16
+#define BLOCK 128
+#define LANES 4
+#define FAMILY "b"
+#define BLAKE(name) vulfsjor_blake2b_##name
+#define LIBRARY(name) blake2_c_blake2b_##name
+#define CONSTANT(name) VULFSJOR_BLAKE2B_##name
+#define ONE_CALL vulfsjor_blake2b
+typedef uint64_t word;
+#endif
+
+typedef BLAKE(state) state_t;
+typedef BLAKE(param) param_t;
+
+static int fails;
+static int checks;
+#define CHECK(condition)                                                \
+    do {                                                                \
+        checks++;                                                       \
+        if (!(condition)) {                                             \
+            fails++;                                                    \
+            fprintf(stderr, "edges.c:%d: not %s\n", __LINE__, #condition); \
+        }                                                               \
+    } while (0)
+
+/* Bytes that count up from a start, which check_lines.py makes in the same way. */
+static uint8_t bytes[8 * BLOCK + 64];
+static uint8_t key[MAX + 2], salt[SALT + 2], persona[SALT + 2];
+
+static void fill_all(void) {
+    for (size_t i = 0; i < sizeof bytes; i++) bytes[i] = (uint8_t)(i % 251);
+    for (size_t i = 0; i < sizeof key; i++) key[i] = (uint8_t)(i + 100);
+    for (size_t i = 0; i < sizeof salt; i++) salt[i] = (uint8_t)(i + 50);
+    for (size_t i = 0; i < sizeof persona; i++) persona[i] = (uint8_t)(i + 200);
+}
+
+static void print_hex(const uint8_t *data, size_t length) {
+    if (!length) putchar('-');
+    for (size_t i = 0; i < length; i++) printf("%02x", data[i]);
+}
+
+/* A line for hashlib: KIND FAMILY SIZE KEYLEN SALTLEN PERSONALEN START LENGTH DIGEST. The message is
+ * LENGTH of the bytes from START on. */
+static void tell(size_t size, size_t keylen, size_t saltlen, size_t personalen, size_t start, size_t length,
+                 const uint8_t *digest) {
+    printf("hash %s %zu %zu %zu %zu %zu %zu ", FAMILY, size, keylen, saltlen, personalen, start, length);
+    print_hex(digest, size);
+    putchar('\n');
+}
+
+static int is_zero(const void *memory, size_t length) {
+    const uint8_t *at = (const uint8_t *)memory;
+    for (size_t i = 0; i < length; i++)
+        if (at[i]) return 0;
+    return 1;
+}
+
+/* Whether all bytes from `from` on are as `fresh` left them. */
+static int is_untouched(const uint8_t *out, size_t from, size_t room) {
+    for (size_t i = from; i < room; i++)
+        if (out[i] != 0xaa) return 0;
+    return 1;
+}
+
+static uint8_t *fresh(uint8_t *out, size_t room) {
+    memset(out, 0xaa, room);
+    return out;
+}
+
+#define SAME(a, b) (!memcmp(&(a), &(b), sizeof(a)))
+
+/* ---- sizes */
+
+static void every_size(void) {
+    for (size_t size = 0; size <= 65; size++) {
+        uint8_t out[80], again[80];
+        state_t state;
+        int taken = size >= 1 && size <= MAX, wanted = taken ? 0 : -1;
+        size_t written = taken ? size : 0;
+        CHECK(ONE_CALL(fresh(out, 80), size, bytes, 200, 0, 0) == wanted && is_untouched(out, written, 80));
+        if (taken) tell(size, 0, 0, 0, 0, 200, out);
+        CHECK(ONE_CALL(fresh(out, 80), size, bytes, 200, key, 5) == wanted && is_untouched(out, written, 80));
+        if (taken) tell(size, 5, 0, 0, 0, 200, out);
+        memset(&state, 0x5a, sizeof state);
+        CHECK(BLAKE(init)(&state, size) == wanted && BLAKE(digest_size)(&state) == written);
+        CHECK(taken || is_zero(&state, sizeof state));
+        CHECK(BLAKE(update)(&state, bytes, 7) == wanted);
+        /* One byte less than the digest is refused, and all sizes above are taken. */
+        state_t before = state;
+        if (taken) CHECK(BLAKE(final)(&state, fresh(out, 80), size - 1) == -1 && is_untouched(out, 0, 80));
+        CHECK(SAME(state, before));
+        for (size_t room = size; room <= size + 2; room++) {
+            state = before;
+            CHECK(BLAKE(final)(&state, fresh(out, 80), room) == wanted && is_untouched(out, written, 80));
+            CHECK(is_zero(&state, sizeof state));
+        }
+        if (taken) tell(size, 0, 0, 0, 0, 7, out);
+        memset(&state, 0x5a, sizeof state);
+        CHECK(BLAKE(init_key)(&state, size, key, 3) == wanted && BLAKE(digest_size)(&state) == written);
+        CHECK(taken || is_zero(&state, sizeof state));
+        if (taken) CHECK(BLAKE(final)(&state, fresh(again, 80), 80) == 0 && is_untouched(again, size, 80));
+        if (taken) tell(size, 3, 0, 0, 0, 0, again);
+        CHECK(BLAKE(init_salt_personal)(&state, size, key, 2, salt, 3, persona, 4) == wanted);
+        CHECK(BLAKE(digest_size)(&state) == written);
+        if (taken) CHECK(BLAKE(final)(&state, fresh(again, 80), 80) == 0 && is_untouched(again, size, 80));
+        if (taken) tell(size, 2, 3, 4, 0, 0, again);
+    }
+}
+
+/* Every length of a key, a salt and a persona. */
+static void every_length(void) {
+    uint8_t out[MAX];
+    state_t state;
+    for (size_t length = 0; length <= MAX + 1; length++) {
+        int wanted = length <= MAX ? 0 : -1;
+        CHECK(ONE_CALL(fresh(out, MAX), MAX, bytes, 3, key, length) == wanted);
+        if (wanted) CHECK(is_untouched(out, 0, MAX));
+        else tell(MAX, length, 0, 0, 0, 3, out);
+        memset(&state, 0x5a, sizeof state);
+        CHECK(BLAKE(init_key)(&state, MAX, key, length) == (length ? wanted : -1));
+        if (wanted || !length) CHECK(is_zero(&state, sizeof state));
+        else CHECK(BLAKE(final)(&state, out, MAX) == 0);
+        if (!wanted && length) tell(MAX, length, 0, 0, 0, 0, out);
+    }
+    for (size_t length = 0; length <= SALT + 1; length++) {
+        int wanted = length <= SALT ? 0 : -1;
+        memset(&state, 0x5a, sizeof state);
+        CHECK(BLAKE(init_salt_personal)(&state, MAX, 0, 0, salt, length, 0, 0) == wanted);
+        if (wanted) CHECK(is_zero(&state, sizeof state));
+        else CHECK(BLAKE(final)(&state, out, MAX) == 0);
+        if (!wanted) tell(MAX, 0, length, 0, 0, 0, out);
+        memset(&state, 0x5a, sizeof state);
+        CHECK(BLAKE(init_salt_personal)(&state, MAX, 0, 0, 0, 0, persona, length) == wanted);
+        if (wanted) CHECK(is_zero(&state, sizeof state));
+        else CHECK(BLAKE(final)(&state, out, MAX) == 0);
+        if (!wanted) tell(MAX, 0, 0, length, 0, 0, out);
+    }
+}
+
+/* Lengths that 32 bits would take for others. */
+static void huge_lengths(void) {
+    static const size_t lengths[] = {(size_t)1 << 32, ((size_t)1 << 32) + 1, ((size_t)1 << 32) + MAX, ~(size_t)0,
+                                     (size_t)1 << 63};
+    uint8_t out[MAX];
+    state_t state;
+    for (size_t i = 0; i < sizeof lengths / sizeof *lengths; i++) {
+        size_t length = lengths[i];
+        CHECK(ONE_CALL(fresh(out, MAX), length, bytes, 1, 0, 0) == -1 && is_untouched(out, 0, MAX));
+        CHECK(ONE_CALL(out, MAX, bytes, 1, key, length) == -1 && is_untouched(out, 0, MAX));
+        memset(&state, 0x5a, sizeof state);
+        CHECK(BLAKE(init)(&state, length) == -1 && is_zero(&state, sizeof state));
+        memset(&state, 0x5a, sizeof state);
+        CHECK(BLAKE(init_key)(&state, MAX, key, length) == -1 && is_zero(&state, sizeof state));
+        memset(&state, 0x5a, sizeof state);
+        CHECK(BLAKE(init_salt_personal)(&state, MAX, 0, 0, salt, length, 0, 0) == -1 && is_zero(&state, sizeof state));
+        memset(&state, 0x5a, sizeof state);
+        CHECK(BLAKE(init_salt_personal)(&state, MAX, 0, 0, 0, 0, persona, length) == -1 && is_zero(&state, sizeof state));
+    }
+}
+
+/* ---- null pointers, each with length 0 and 1 */
+
+#define REFUSED(call)                                                   \
+    do {                                                                \
+        memset(&state, 0x5a, sizeof state);                             \
+        CHECK((call) == -1 && is_zero(&state, sizeof state));           \
+    } while (0)
+#define TAKEN(call)                                                     \
+    do {                                                                \
+        memset(&state, 0x5a, sizeof state);                             \
+        CHECK((call) == 0 && BLAKE(digest_size)(&state) == MAX);        \
+    } while (0)
+
+static void null_inits(void) {
+    state_t state;
+    vulfsjor_tree tree = {.fanout = 1, .depth = 1};
+    param_t param = {.digest_length = MAX, .fanout = 1, .depth = 1};
+    CHECK(BLAKE(init)(NULL, MAX) == -1 && BLAKE(init)(NULL, 0) == -1);
+    CHECK(BLAKE(init_key)(NULL, MAX, key, 1) == -1 && BLAKE(init_key)(NULL, MAX, key, 0) == -1);
+    REFUSED(BLAKE(init_key)(&state, MAX, NULL, 0));
+    REFUSED(BLAKE(init_key)(&state, MAX, NULL, 1));
+    CHECK(BLAKE(init_salt_personal)(NULL, MAX, 0, 0, 0, 0, 0, 0) == -1);
+    CHECK(BLAKE(init_salt_personal)(NULL, MAX, key, 1, salt, 1, persona, 1) == -1);
+    TAKEN(BLAKE(init_salt_personal)(&state, MAX, NULL, 0, salt, 1, persona, 1));
+    TAKEN(BLAKE(init_salt_personal)(&state, MAX, key, 1, NULL, 0, persona, 1));
+    TAKEN(BLAKE(init_salt_personal)(&state, MAX, key, 1, salt, 1, NULL, 0));
+    REFUSED(BLAKE(init_salt_personal)(&state, MAX, NULL, 1, salt, 1, persona, 1));
+    REFUSED(BLAKE(init_salt_personal)(&state, MAX, key, 1, NULL, 1, persona, 1));
+    REFUSED(BLAKE(init_salt_personal)(&state, MAX, key, 1, salt, 1, NULL, 1));
+    CHECK(BLAKE(init_tree)(NULL, MAX, 0, 0, 0, 0, 0, 0, &tree) == -1);
+    CHECK(BLAKE(init_tree)(NULL, MAX, key, 1, salt, 1, persona, 1, NULL) == -1);
+    REFUSED(BLAKE(init_tree)(&state, MAX, key, 1, salt, 1, persona, 1, NULL));
+    TAKEN(BLAKE(init_tree)(&state, MAX, NULL, 0, salt, 1, persona, 1, &tree));
+    TAKEN(BLAKE(init_tree)(&state, MAX, key, 1, NULL, 0, persona, 1, &tree));
+    TAKEN(BLAKE(init_tree)(&state, MAX, key, 1, salt, 1, NULL, 0, &tree));
+    REFUSED(BLAKE(init_tree)(&state, MAX, NULL, 1, salt, 1, persona, 1, &tree));
+    REFUSED(BLAKE(init_tree)(&state, MAX, key, 1, NULL, 1, persona, 1, &tree));
+    REFUSED(BLAKE(init_tree)(&state, MAX, key, 1, salt, 1, NULL, 1, &tree));
+    CHECK(BLAKE(init_param)(NULL, &param) == -1 && BLAKE(init_param)(NULL, NULL) == -1);
+    REFUSED(BLAKE(init_param)(&state, NULL));
+    TAKEN(BLAKE(init_param)(&state, &param));
+}
+
+static void null_calls(void) {
+    uint8_t out[MAX];
+    state_t state;
+    CHECK(BLAKE(init_key)(&state, MAX, key, 9) == 0);
+    state_t before = state;
+    CHECK(BLAKE(update)(NULL, bytes, 1) == -1 && BLAKE(update)(NULL, bytes, 0) == -1);
+    CHECK(BLAKE(update)(NULL, NULL, 0) == -1);
+    CHECK(BLAKE(update)(&state, NULL, 1) == -1 && SAME(state, before));
+    CHECK(BLAKE(update)(&state, NULL, 0) == 0 && SAME(state, before));
+    CHECK(BLAKE(update)(&state, bytes, 0) == 0 && SAME(state, before));
+    CHECK(BLAKE(final)(NULL, fresh(out, MAX), MAX) == -1 && BLAKE(final)(NULL, NULL, 0) == -1);
+    CHECK(BLAKE(final)(NULL, out, 0) == -1 && is_untouched(out, 0, MAX));
+    CHECK(BLAKE(final)(&state, NULL, MAX) == -1 && BLAKE(final)(&state, NULL, 0) == -1 && SAME(state, before));
+    CHECK(BLAKE(final)(&state, out, 0) == -1 && SAME(state, before) && is_untouched(out, 0, MAX));
+    CHECK(BLAKE(verify)(NULL, out, 1) == -1 && BLAKE(verify)(NULL, out, 0) == -1);
+    CHECK(BLAKE(verify)(&state, NULL, 1) == -1 && SAME(state, before));
+    CHECK(BLAKE(verify)(&state, NULL, 0) == -1 && is_zero(&state, sizeof state));
+    CHECK(BLAKE(set_last_node)(NULL, 1) == -1 && BLAKE(set_last_node)(NULL, 0) == -1);
+    CHECK(BLAKE(reset)(NULL) == -1 && BLAKE(digest_size)(NULL) == 0);
+    BLAKE(wipe)(NULL);
+    CHECK(ONE_CALL(NULL, MAX, bytes, 1, key, 1) == -1 && ONE_CALL(NULL, 0, bytes, 1, key, 1) == -1);
+    CHECK(ONE_CALL(fresh(out, MAX), MAX, NULL, 1, key, 1) == -1 && ONE_CALL(out, MAX, bytes, 1, NULL, 1) == -1);
+    CHECK(is_untouched(out, 0, MAX));
+    CHECK(ONE_CALL(out, MAX, NULL, 0, key, 1) == 0);
+    tell(MAX, 1, 0, 0, 0, 0, out);
+    CHECK(ONE_CALL(out, MAX, bytes, 1, NULL, 0) == 0);
+    tell(MAX, 0, 0, 0, 0, 1, out);
+    CHECK(ONE_CALL(out, MAX, NULL, 0, NULL, 0) == 0);
+    tell(MAX, 0, 0, 0, 0, 0, out);
+    CHECK(vulfsjor_is_same(NULL, NULL, 0) == 0 && vulfsjor_is_same(NULL, NULL, 1) == -1);
+    CHECK(vulfsjor_is_same(bytes, NULL, 0) == 0 && vulfsjor_is_same(bytes, NULL, 1) == -1);
+    CHECK(vulfsjor_is_same(NULL, bytes, 0) == 0 && vulfsjor_is_same(NULL, bytes, 1) == -1);
+}
+
+static void same_texts(void) {
+    uint8_t a[70], b[70];
+    for (size_t length = 0; length <= 70; length++) {
+        memcpy(a, bytes, 70);
+        memcpy(b, bytes, 70);
+        if (length < 70) b[length] ^= 1; /* behind the texts */
+        CHECK(vulfsjor_is_same(a, b, length) == 0);
+        for (size_t i = 0; i < length; i++) {
+            b[i] ^= 0x80;
+            CHECK(vulfsjor_is_same(a, b, length) == -1);
+            b[i] ^= 0x80;
+        }
+    }
+}
+
+/* ---- states that are not ready stay, byte by byte */
+
+static void stays(state_t state) {
+    uint8_t out[MAX + 2];
+    state_t before = state;
+    fresh(out, sizeof out);
+    CHECK(BLAKE(digest_size)(&state) == 0);
+    CHECK(BLAKE(update)(&state, bytes, 5) == -1 && SAME(state, before));
+    CHECK(BLAKE(update)(&state, bytes, 0) == -1 && SAME(state, before));
+    CHECK(BLAKE(final)(&state, out, sizeof out) == -1 && SAME(state, before) && is_untouched(out, 0, sizeof out));
+    CHECK(BLAKE(verify)(&state, bytes, MAX) == -1 && SAME(state, before));
+    CHECK(BLAKE(verify)(&state, bytes, 0) == -1 && SAME(state, before));
+    CHECK(BLAKE(set_last_node)(&state, 1) == -1 && SAME(state, before));
+    CHECK(BLAKE(set_last_node)(&state, 0) == -1 && SAME(state, before));
+    CHECK(BLAKE(reset)(&state) == -1 && SAME(state, before));
+    BLAKE(wipe)(&state);
+    CHECK(is_zero(&state, sizeof state));
+}
+
+static void unready_states(void) {
+    state_t made, state;
+    CHECK(BLAKE(init_key)(&made, MAX, key, MAX) == 0 && BLAKE(update)(&made, bytes, BLOCK + 3) == 0);
+    memset(&state, 0, sizeof state);
+    stays(state);
+    memset(&state, 0xff, sizeof state);
+    stays(state);
+    for (size_t i = 0; i < 3; i++) {
+        static const size_t sizes[] = {0, MAX + 1, ~(size_t)0};
+        static const size_t lengths[] = {BLOCK + 1, (size_t)1 << 32, ~(size_t)0};
+        state = made;
+        state.output_size = sizes[i];
+        stays(state);
+        state = made;
+        state.pending_length = lengths[i];
+        stays(state);
+        state = made;
+        state.start_length = lengths[i];
+        stays(state);
+    }
+    state = made;
+    state.counter = ~(uint64_t)0 - state.pending_length + 1;
+    stays(state);
+}
+
+/* ---- counts near 2^64 */
+
+static void long_counts(void) {
+    state_t made, state;
+    CHECK(BLAKE(init)(&made, MAX) == 0 && BLAKE(update)(&made, bytes, 3) == 0);
+    for (uint64_t room = 0; room <= 2 * BLOCK; room++) {
+        state = made;
+        state.counter = ~(uint64_t)0 - 3 - room; /* so that `room` bytes more are taken */
+        state_t before = state;
+        CHECK(BLAKE(update)(&state, bytes, room + 1) == -1 && SAME(state, before));
+        CHECK(BLAKE(update)(&state, bytes, room) == 0);
+        CHECK(BLAKE(update)(&state, bytes, 1) == -1 && BLAKE(update)(&state, bytes, 0) == 0);
+        CHECK(BLAKE(digest_size)(&state) == MAX);
+    }
+    /* Lengths that would wrap round: no byte of them is read. */
+    state = made;
+    state.counter = (uint64_t)1 << 63;
+    state_t before = state;
+    CHECK(BLAKE(update)(&state, bytes, (size_t)1 << 63) == -1 && SAME(state, before));
+    CHECK(BLAKE(update)(&state, bytes, ~(size_t)0) == -1 && SAME(state, before));
+    /* A count past 2^32 is one of 64 bits. */
+    state = made;
+    state.counter = ((uint64_t)1 << 32) - BLOCK;
+    CHECK(BLAKE(update)(&state, bytes, BLOCK) == 0 && state.counter == (uint64_t)1 << 32);
+    CHECK(state.pending_length == 3);
+    state.counter = ((uint64_t)1 << 40) + 7 * BLOCK;
+    CHECK(BLAKE(update)(&state, bytes, 3 * BLOCK) == 0 && state.counter == ((uint64_t)1 << 40) + 10 * BLOCK);
+}
+
+/* ---- flags */
+
+static void flags(void) {
+    static const int on[] = {1, 2, 255, 256, 65536, -1, 1 << 30, (int)(1u << 31), 0x7fffffff};
+    uint8_t off_digest[MAX], on_digest[MAX], out[MAX];
+    state_t made, state;
+    CHECK(BLAKE(init)(&made, MAX) == 0 && made.last_node == 0 && BLAKE(update)(&made, bytes, 10) == 0);
+    state = made;
+    CHECK(BLAKE(final)(&state, off_digest, MAX) == 0);
+    tell(MAX, 0, 0, 0, 0, 10, off_digest);
+    state = made;
+    state.last_node = 1;
+    CHECK(BLAKE(final)(&state, on_digest, MAX) == 0);
+    printf("last %s %d 10 ", FAMILY, MAX);
+    print_hex(on_digest, MAX);
+    putchar('\n');
+    for (size_t i = 0; i < sizeof on / sizeof *on; i++) {
+        state = made;
+        CHECK(BLAKE(set_last_node)(&state, on[i]) == 0 && state.last_node == 1);
+        state_t set = state;
+        CHECK(BLAKE(final)(&state, out, MAX) == 0 && !memcmp(out, on_digest, MAX));
+        CHECK(BLAKE(set_last_node)(&set, 0) == 0 && set.last_node == 0 && SAME(set, made));
+        state = made;
+        CHECK(LIBRARY(set_last_node)(&state, (uint32_t)on[i]) == 0 && state.last_node == 1);
+        state = made;
+        state.last_node = (size_t)on[i];
+        CHECK(BLAKE(final)(&state, out, MAX) == 0 && !memcmp(out, on_digest, MAX));
+    }
+    state = made;
+    state.last_node = (size_t)1 << 32; /* a field of 64 bits */
+    CHECK(BLAKE(reset)(&state) == 0 && state.last_node == (size_t)1 << 32);
+    CHECK(BLAKE(update)(&state, bytes, 10) == 0);
+    CHECK(BLAKE(final)(&state, out, MAX) == 0 && !memcmp(out, on_digest, MAX));
+}
+
+/* ---- places in a tree and parameter blocks */
+
+/* A line for hashlib: a node without key, salt and persona, over the first 20 bytes. */
+static void tell_node(const vulfsjor_tree *tree, const uint8_t *digest) {
+    printf("node %s %u %u %lu %llu %u %u ", FAMILY, tree->fanout, tree->depth, (unsigned long)tree->leaf_length,
+           (unsigned long long)tree->node_offset, tree->node_depth, tree->inner_length);
+    print_hex(digest, MAX);
+    putchar('\n');
+}
+
+static void places(void) {
+    uint8_t out[MAX];
+    state_t state;
+    uint64_t most = sizeof(word) == 8 ? ~(uint64_t)0 : ((uint64_t)1 << 48) - 1;
+    const vulfsjor_tree trees[] = {
+        {.fanout = 1, .depth = 1}, {.fanout = 0, .depth = 1}, {.fanout = 255, .depth = 255},
+        {.depth = 1, .leaf_length = 0xffffffff}, {.depth = 1, .leaf_length = 0x01020304},
+        {.depth = 1, .node_offset = most}, {.depth = 1, .node_offset = 0x010203040506},
+        {.depth = 1, .node_offset = (uint64_t)1 << 32}, {.depth = 1, .node_depth = 255},
+        {.depth = 1, .inner_length = MAX}, {.fanout = 9, .depth = 8, .leaf_length = 7, .node_offset = 6, .node_depth = 5,
+        .inner_length = 4}};
+    for (size_t i = 0; i < sizeof trees / sizeof *trees; i++) {
+        CHECK(BLAKE(init_tree)(&state, MAX, 0, 0, 0, 0, 0, 0, &trees[i]) == 0 && state.last_node == 0);
+        CHECK(BLAKE(update)(&state, bytes, 20) == 0 && BLAKE(final)(&state, out, MAX) == 0);
+        tell_node(&trees[i], out);
+    }
+    const vulfsjor_tree refused[] = {{.fanout = 1, .depth = 0}, {.depth = 1, .inner_length = MAX + 1},
+        {.depth = 1, .inner_length = 255}, {.depth = sizeof(word) == 8 ? 0 : 1, .node_offset = most + 1},
+        {.depth = sizeof(word) == 8 ? 0 : 1, .node_offset = ~(uint64_t)0}};
+    for (size_t i = 0; i < sizeof refused / sizeof *refused; i++)
+        REFUSED(BLAKE(init_tree)(&state, MAX, 0, 0, 0, 0, 0, 0, &refused[i]));
+}
+
+/* A line for hashlib's chain: the digest of the first 20 bytes from this block. */
+static void tell_block(const param_t *param, const uint8_t *digest) {
+    printf("block %s ", FAMILY);
+    print_hex((const uint8_t *)param, sizeof *param);
+    putchar(' ');
+    print_hex(digest, param->digest_length);
+    putchar('\n');
+}
+
+static void blocks(void) {
+    uint8_t out[MAX];
+    state_t state;
+    param_t plain = {.digest_length = MAX, .fanout = 1, .depth = 1}, param;
+    for (unsigned change = 0; change < sizeof param; change++) {
+        param = plain;
+        if (change > 1) ((uint8_t *)&param)[change] = 0xc5;
+        if (change == 3) param.depth = 0;
+        CHECK(BLAKE(init_param)(&state, &param) == 0 && BLAKE(digest_size)(&state) == MAX);
+        CHECK(BLAKE(update)(&state, bytes, 20) == 0 && BLAKE(final)(&state, out, MAX) == 0);
+        tell_block(&param, out);
+    }
+    for (unsigned size = 0; size <= 255; size++) {
+        param = plain;
+        param.digest_length = (uint8_t)size;
+        if (size == 0 || size > MAX) {
+            REFUSED(BLAKE(init_param)(&state, &param));
+        } else {
+            CHECK(BLAKE(init_param)(&state, &param) == 0 && BLAKE(digest_size)(&state) == size);
+        }
+        param = plain;
+        param.key_length = (uint8_t)size;
+        if (size > MAX) {
+            REFUSED(BLAKE(init_param)(&state, &param));
+        } else {
+            CHECK(BLAKE(init_param)(&state, &param) == 0 && state.start_length == 0 && state.pending_length == 0);
+        }
+    }
+    for (size_t length = 0; length <= sizeof param + 1; length++) {
+        uint8_t raw[sizeof param + 1] = {0};
+        memcpy(raw, &plain, sizeof plain);
+        memset(&state, 0x5a, sizeof state);
+        CHECK(LIBRARY(init_block)(&state, raw, length) == (length == sizeof param ? 0 : -1));
+        CHECK(length == sizeof param || is_zero(&state, sizeof state));
+    }
+}
+
+/* ---- what stays of a key: the fields, before and after each call */
+
+static void keyed_states(void) {
+    state_t made, state;
+    uint8_t out[MAX], wrong[MAX] = {0}, block[BLOCK] = {0};
+    memcpy(block, key, MAX);
+    CHECK(BLAKE(init_key)(&made, MAX, key, MAX) == 0);
+    CHECK(made.pending_length == BLOCK && made.start_length == BLOCK && made.counter == 0);
+    CHECK(!memcmp(made.pending, block, BLOCK) && !memcmp(made.start_block, block, BLOCK));
+    CHECK(!memcmp(made.chain, made.first, sizeof made.chain) && made.output_size == MAX && made.last_node == 0);
+    state = made;
+    BLAKE(wipe)(&state);
+    CHECK(is_zero(&state, sizeof state));
+    state = made;
+    CHECK(BLAKE(update)(&state, bytes, 3 * BLOCK + 5) == 0);
+    CHECK(state.counter == 4 * BLOCK && state.pending_length == 5 && !memcmp(state.pending, bytes + 3 * BLOCK, 5));
+    CHECK(!memcmp(state.start_block, block, BLOCK) && memcmp(state.chain, made.chain, sizeof made.chain));
+    CHECK(!memcmp(state.first, made.first, sizeof made.first));
+    state_t later = state;
+    CHECK(BLAKE(reset)(&state) == 0 && SAME(state, made));
+    state = later;
+    CHECK(BLAKE(final)(&state, out, MAX) == 0 && is_zero(&state, sizeof state));
+    tell(MAX, MAX, 0, 0, 0, 3 * BLOCK + 5, out);
+    state = later;
+    CHECK(BLAKE(verify)(&state, out, MAX) == 0 && is_zero(&state, sizeof state));
+    state = later;
+    CHECK(BLAKE(verify)(&state, wrong, MAX) == -1 && is_zero(&state, sizeof state));
+    state = later;
+    CHECK(BLAKE(verify)(&state, out, MAX - 1) == -1 && is_zero(&state, sizeof state));
+    state = later;
+    CHECK(BLAKE(verify)(&state, out, 0) == -1 && is_zero(&state, sizeof state));
+    state = later;
+    CHECK(BLAKE(init)(&state, MAX) == 0 && is_zero(state.pending, BLOCK) && is_zero(state.start_block, BLOCK));
+    state = later;
+    CHECK(BLAKE(init)(&state, 0) == -1 && is_zero(&state, sizeof state));
+    state = later;
+    CHECK(BLAKE(init_salt_personal)(&state, MAX, 0, 0, salt, SALT + 1, 0, 0) == -1 && is_zero(&state, sizeof state));
+}
+
+/* ---- several messages */
+
+static void several(size_t count, size_t length, size_t size, size_t keylen, size_t saltlen, size_t personalen) {
+    static uint8_t out[24 * MAX + 16];
+    vulfsjor_message messages[24];
+    /* Message i has length bytes, but of message 6 one more, and starts at its own place. */
+    for (size_t i = 0; i < count; i++) {
+        messages[i].bytes = bytes + i;
+        messages[i].length = length + (i == 6);
+    }
+    CHECK(BLAKE(many)(fresh(out, sizeof out), size, messages, count, key, keylen, salt, saltlen, persona, personalen) == 0);
+    CHECK(is_untouched(out, count * size, sizeof out));
+    for (size_t i = 0; i < count; i++) tell(size, keylen, saltlen, personalen, i, messages[i].length, out + i * size);
+}
+
+static void many_messages(void) {
+    for (size_t count = 0; count <= 21; count++) several(count, 2 * BLOCK, MAX, 0, 0, 0);
+    for (size_t size = 1; size <= MAX; size++) several(LANES + 1, BLOCK + 1, size, size % 3, size % (SALT + 1), size % 5);
+    for (size_t length = 0; length <= 3 * BLOCK; length += 13) several(2 * LANES, length, MAX, MAX, SALT, SALT);
+    for (size_t length = BLOCK - 1; length <= BLOCK + 1; length++) several(17, length, MAX / 2, 0, SALT, 0);
+}
+
+static void refused_messages(void) {
+    uint8_t out[9 * MAX];
+    vulfsjor_message messages[9];
+    fresh(out, sizeof out);
+    for (size_t i = 0; i < 9; i++) messages[i].bytes = bytes, messages[i].length = i;
+    CHECK(BLAKE(many)(NULL, MAX, messages, 9, 0, 0, 0, 0, 0, 0) == -1);
+    CHECK(BLAKE(many)(NULL, MAX, messages, 0, 0, 0, 0, 0, 0, 0) == -1);
+    CHECK(BLAKE(many)(out, MAX, NULL, 1, 0, 0, 0, 0, 0, 0) == -1);
+    CHECK(BLAKE(many)(out, MAX, NULL, 0, 0, 0, 0, 0, 0, 0) == -1);
+    CHECK(BLAKE(many)(out, 0, messages, 9, 0, 0, 0, 0, 0, 0) == -1);
+    CHECK(BLAKE(many)(out, 0, messages, 0, 0, 0, 0, 0, 0, 0) == -1);
+    CHECK(BLAKE(many)(out, MAX + 1, messages, 8, 0, 0, 0, 0, 0, 0) == -1);
+    CHECK(BLAKE(many)(out, (size_t)1 << 63, messages, 2, 0, 0, 0, 0, 0, 0) == -1);
+    CHECK(BLAKE(many)(out, MAX, messages, 9, key, MAX + 1, 0, 0, 0, 0) == -1);
+    CHECK(BLAKE(many)(out, MAX, messages, 9, 0, 0, salt, SALT + 1, 0, 0) == -1);
+    CHECK(BLAKE(many)(out, MAX, messages, 9, 0, 0, 0, 0, persona, SALT + 1) == -1);
+    CHECK(BLAKE(many)(out, MAX, messages, 9, NULL, 1, 0, 0, 0, 0) == -1);
+    CHECK(BLAKE(many)(out, MAX, messages, 9, 0, 0, NULL, 1, 0, 0) == -1);
+    CHECK(BLAKE(many)(out, MAX, messages, 9, 0, 0, 0, 0, NULL, 1) == -1);
+    for (size_t i = 0; i < 9; i++) {
+        messages[i].bytes = NULL; /* of 0 bytes too */
+        CHECK(BLAKE(many)(out, MAX, messages, 9, 0, 0, 0, 0, 0, 0) == -1);
+        messages[i].bytes = bytes;
+        /* A message that can't be counted beside a key's block: no byte of any is read. */
+        messages[i].length = ~(size_t)0 - BLOCK + 1;
+        CHECK(BLAKE(many)(out, MAX, messages, 9, key, 1, 0, 0, 0, 0) == -1);
+        messages[i].length = i;
+    }
+    CHECK(LIBRARY(many)(out, 9 * MAX - 1, MAX, messages, 9, key, 0, salt, 0, persona, 0) == -1);
+    CHECK(LIBRARY(many)(out, 9 * MAX - MAX, MAX, messages, 9, key, 0, salt, 0, persona, 0) == -1);
+    CHECK(LIBRARY(many)(out, 8 * MAX + 1, MAX, messages, 8, key, 0, salt, 0, persona, 0) == -1);
+    CHECK(LIBRARY(many)(out, MAX, MAX, messages, 0, key, 0, salt, 0, persona, 0) == -1);
+    CHECK(is_untouched(out, 0, sizeof out));
+    CHECK(LIBRARY(many)(out, 0, MAX, messages, 0, key, 0, salt, 0, persona, 0) == 0 && is_untouched(out, 0, sizeof out));
+}
+
+/* ---- constants, fields and sizes */
+
+static void constants(void) {
+    state_t state;
+    param_t param;
+    CHECK(CONSTANT(BLOCKBYTES) == BLOCK && CONSTANT(OUTBYTES) == MAX && CONSTANT(KEYBYTES) == MAX);
+    CHECK(CONSTANT(SALTBYTES) == SALT && CONSTANT(PERSONALBYTES) == SALT);
+    CHECK(vulfsjor_version() == VULFSJOR_VERSION_NUMBER);
+    char version[32];
+    snprintf(version, sizeof version, "%u.%u.%u", vulfsjor_version() >> 16, vulfsjor_version() >> 8 & 255,
+             vulfsjor_version() & 255);
+    CHECK(!strcmp(version, VULFSJOR_VERSION));
+    CHECK(LIBRARY(state_size)() == sizeof(state_t) && sizeof(state_t) == 8 * 2 * sizeof(word) + 5 * 8 + 2 * BLOCK);
+    CHECK(sizeof state.chain == 8 * sizeof(word) && sizeof state.first == 8 * sizeof(word));
+    CHECK(sizeof state.pending == BLOCK && sizeof state.start_block == BLOCK);
+    CHECK(sizeof(param_t) == (size_t)MAX && sizeof param.salt == SALT && sizeof param.personal == SALT);
+    /* The chain's first word without key, salt and persona: IV ^ 0x01010000 ^ size (RFC 7693, 2.5). */
+    CHECK(BLAKE(init)(&state, 5) == 0 && state.output_size == 5 && state.counter == 0 && state.pending_length == 0);
+    CHECK(state.chain[0] == ((word)(sizeof(word) == 8 ? 0x6a09e667f3bcc908u : 0x6a09e667u) ^ 0x01010005u));
+    CHECK(state.first[0] == state.chain[0] && state.start_length == 0 && state.last_node == 0);
+    CHECK(BLAKE(update)(&state, bytes, 9) == 0 && state.pending_length == 9 && !memcmp(state.pending, bytes, 9));
+}
+
+/* ---- a message of more than 2^32 bytes, in one call and in one update */
+
+static void long_message(size_t length) {
+    uint8_t *zeros = calloc(length, 1);
+    uint8_t out[MAX], again[MAX];
+    state_t state;
+    if (!zeros) {
+        fprintf(stderr, "skipped: a message of %zu bytes (no memory)\n", length);
+        return;
+    }
+    CHECK(ONE_CALL(out, MAX, zeros, length, 0, 0) == 0);
+    CHECK(BLAKE(init)(&state, MAX) == 0 && BLAKE(update)(&state, zeros, length) == 0);
+    CHECK(state.counter + state.pending_length == length && BLAKE(final)(&state, again, MAX) == 0);
+    CHECK(!memcmp(out, again, MAX));
+    printf("zeros %s %zu ", FAMILY, length);
+    print_hex(out, MAX);
+    putchar('\n');
+    free(zeros);
+}
+
+#ifndef TEST_S
+/* ---- the tree */
+
+/* A line for hashlib: the root, in so many bytes, of the first `length` bytes. */
+static void tell_root(size_t size, size_t saltlen, size_t personalen, uint32_t leaf, size_t length, const uint8_t *root) {
+    printf("root %zu %zu %zu %lu %zu ", size, saltlen, personalen, (unsigned long)leaf, length);
+    print_hex(root, size);
+    putchar('\n');
+}
+
+static void every_root(void) {
+    for (size_t size = 0; size <= 65; size++) {
+        uint8_t out[80];
+        vulfsjor_tree_state state;
+        int taken = size >= 1 && size <= MAX, wanted = taken ? 0 : -1;
+        size_t written = taken ? size : 0;
+        CHECK(vulfsjor_tree_root(fresh(out, 80), size, bytes, 500, salt, 3, persona, 2, 100) == wanted);
+        CHECK(is_untouched(out, written, 80));
+        if (taken) tell_root(size, 3, 2, 100, 500, out);
+        memset(&state, 0x5a, sizeof state);
+        CHECK(vulfsjor_tree_init(&state, size, 0, 0, 0, 0, 50) == wanted);
+        CHECK(vulfsjor_tree_digest_size(&state) == written && (taken || is_zero(&state, sizeof state)));
+        CHECK(vulfsjor_tree_update(&state, bytes, 333) == wanted);
+        vulfsjor_tree_state before = state;
+        if (taken) CHECK(vulfsjor_tree_final(&state, fresh(out, 80), size - 1) == -1 && is_untouched(out, 0, 80));
+        CHECK(SAME(state, before));
+        for (size_t room = size; room <= size + 2; room++) {
+            state = before;
+            CHECK(vulfsjor_tree_final(&state, fresh(out, 80), room) == wanted && is_untouched(out, written, 80));
+            CHECK(is_zero(&state, sizeof state));
+        }
+        if (taken) tell_root(size, 0, 0, 50, 333, out);
+    }
+}
+
+#define REFUSED_TREE(call)                                              \
+    do {                                                                \
+        memset(&state, 0x5a, sizeof state);                             \
+        CHECK((call) == -1 && is_zero(&state, sizeof state));           \
+    } while (0)
+#define TAKEN_TREE(call)                                                \
+    do {                                                                \
+        memset(&state, 0x5a, sizeof state);                             \
+        CHECK((call) == 0 && vulfsjor_tree_digest_size(&state) == MAX); \
+    } while (0)
+
+static void null_trees(void) {
+    uint8_t out[MAX];
+    vulfsjor_tree_state state;
+    CHECK(vulfsjor_tree_init(NULL, MAX, salt, 1, persona, 1, 1) == -1 && vulfsjor_tree_init(NULL, MAX, 0, 0, 0, 0, 1) == -1);
+    TAKEN_TREE(vulfsjor_tree_init(&state, MAX, NULL, 0, persona, 1, 1));
+    TAKEN_TREE(vulfsjor_tree_init(&state, MAX, salt, 1, NULL, 0, 1));
+    REFUSED_TREE(vulfsjor_tree_init(&state, MAX, NULL, 1, persona, 1, 1));
+    REFUSED_TREE(vulfsjor_tree_init(&state, MAX, salt, 1, NULL, 1, 1));
+    REFUSED_TREE(vulfsjor_tree_init(&state, MAX, salt, SALT + 1, persona, 1, 1));
+    REFUSED_TREE(vulfsjor_tree_init(&state, MAX, salt, 1, persona, SALT + 1, 1));
+    REFUSED_TREE(vulfsjor_tree_init(&state, MAX, salt, (size_t)1 << 32, persona, 1, 1));
+    REFUSED_TREE(vulfsjor_tree_init(&state, (size_t)1 << 32 | 1, salt, 1, persona, 1, 1));
+    REFUSED_TREE(vulfsjor_tree_init(&state, MAX, salt, 1, persona, 1, 0));
+    TAKEN_TREE(vulfsjor_tree_init(&state, MAX, salt, SALT, persona, SALT, 1));
+    vulfsjor_tree_state before = state;
+    CHECK(vulfsjor_tree_update(NULL, bytes, 1) == -1 && vulfsjor_tree_update(NULL, NULL, 0) == -1);
+    CHECK(vulfsjor_tree_update(&state, NULL, 1) == -1 && SAME(state, before));
+    CHECK(vulfsjor_tree_update(&state, NULL, 0) == 0 && SAME(state, before));
+    CHECK(vulfsjor_tree_final(NULL, fresh(out, MAX), MAX) == -1 && vulfsjor_tree_final(NULL, NULL, 0) == -1);
+    CHECK(vulfsjor_tree_final(&state, NULL, MAX) == -1 && vulfsjor_tree_final(&state, NULL, 0) == -1);
+    CHECK(vulfsjor_tree_final(&state, out, 0) == -1 && SAME(state, before) && is_untouched(out, 0, MAX));
+    CHECK(vulfsjor_tree_digest_size(NULL) == 0);
+    vulfsjor_tree_wipe(NULL);
+    vulfsjor_tree_wipe(&state);
+    CHECK(is_zero(&state, sizeof state));
+    CHECK(vulfsjor_tree_root(NULL, MAX, bytes, 1, salt, 1, persona, 1, 1) == -1);
+    CHECK(vulfsjor_tree_root(NULL, 0, bytes, 1, salt, 1, persona, 1, 1) == -1);
+    CHECK(vulfsjor_tree_root(out, MAX, NULL, 1, salt, 1, persona, 1, 1) == -1);
+    CHECK(vulfsjor_tree_root(out, MAX, bytes, 1, NULL, 1, persona, 1, 1) == -1);
+    CHECK(vulfsjor_tree_root(out, MAX, bytes, 1, salt, 1, NULL, 1, 1) == -1);
+    CHECK(vulfsjor_tree_root(out, MAX, bytes, 1, salt, SALT + 1, persona, 1, 1) == -1);
+    CHECK(vulfsjor_tree_root(out, MAX, bytes, 1, salt, 1, persona, SALT + 1, 1) == -1);
+    CHECK(vulfsjor_tree_root(out, MAX, bytes, 1, salt, 1, persona, 1, 0) == -1);
+    CHECK(vulfsjor_tree_root(out, MAX, bytes, (size_t)1 << 58, salt, 1, persona, 1, 1) == -1);
+    CHECK(vulfsjor_tree_root(out, MAX, bytes, ~(size_t)0, salt, 1, persona, 1, ~(uint32_t)0) == -1);
+    CHECK(vulfsjor_tree_root(out, (size_t)1 << 32 | MAX, bytes, 1, salt, 1, persona, 1, 1) == -1);
+    CHECK(is_untouched(out, 0, MAX));
+    CHECK(vulfsjor_tree_root(out, MAX, NULL, 0, NULL, 0, NULL, 0, 1) == 0);
+    tell_root(MAX, 0, 0, 1, 0, out);
+    CHECK(vulfsjor_tree_root(out, MAX, bytes, 9, NULL, 0, persona, SALT, 4) == 0);
+    tell_root(MAX, 0, SALT, 4, 9, out);
+    CHECK(vulfsjor_tree_root(out, MAX, bytes, 9, salt, SALT, NULL, 0, 4) == 0);
+    tell_root(MAX, SALT, 0, 4, 9, out);
+}
+
+/* A state that is not ready stays as it is. */
+static void tree_stays(vulfsjor_tree_state state) {
+    uint8_t out[MAX];
+    vulfsjor_tree_state before = state;
+    fresh(out, MAX);
+    CHECK(vulfsjor_tree_digest_size(&state) == 0);
+    CHECK(vulfsjor_tree_update(&state, bytes, 5) == -1 && vulfsjor_tree_update(&state, bytes, 0) == -1);
+    CHECK(vulfsjor_tree_final(&state, out, MAX) == -1 && SAME(state, before) && is_untouched(out, 0, MAX));
+}
+
+static void unready_trees(void) {
+    vulfsjor_tree_state made, state;
+    CHECK(vulfsjor_tree_init(&made, MAX, salt, 3, persona, 4, 7) == 0 && vulfsjor_tree_update(&made, bytes, 20) == 0);
+    memset(&state, 0, sizeof state);
+    tree_stays(state);
+    memset(&state, 0xff, sizeof state);
+    tree_stays(state);
+    state = made, state.leaf.output_size = MAX - 1;
+    tree_stays(state);
+    state = made, state.root.output_size = MAX + 1;
+    tree_stays(state);
+    state = made, state.closed++;
+    tree_stays(state);
+    state = made, state.leaf_length = 0;
+    tree_stays(state);
+    state = made, state.leaf_length = (uint64_t)1 << 32;
+    tree_stays(state);
+    state = made, state.salt_length = SALT + 1;
+    tree_stays(state);
+    state = made, state.persona_length = SALT + 1;
+    tree_stays(state);
+}
+
+/* The count may not reach 2^58; the fields by name. */
+static void long_trees(void) {
+    vulfsjor_tree_state made, state;
+    CHECK(vulfsjor_tree_init(&made, MAX, salt, 3, persona, 4, 1000) == 0);
+    CHECK(made.leaf_length == 1000 && made.salt_length == 3 && made.persona_length == 4 && made.closed == 0);
+    CHECK(!memcmp(made.salt, salt, 3) && is_zero(made.salt + 3, 13) && !memcmp(made.persona, persona, 4));
+    CHECK(is_zero(made.persona + 4, 12) && made.leaf.output_size == 64 && made.root.output_size == MAX);
+    CHECK(sizeof made.salt == 16 && sizeof made.persona == 16 && blake2_c_tree_state_size() == sizeof made);
+    CHECK(sizeof made == 2 * sizeof(state_t) + 4 * 8 + 32);
+    uint64_t most = (((uint64_t)1 << 58) - 1) / 1000;
+    for (size_t left = 0; left < 5; left++) {
+        state = made;
+        state.closed = most - 1; /* 1,000 and some bytes are left */
+        state.root.counter = 64 * state.closed;
+        size_t room = (size_t)((((uint64_t)1 << 58) - 1) - 1000 * state.closed);
+        vulfsjor_tree_state before = state;
+        CHECK(vulfsjor_tree_update(&state, bytes, room + 1 + left) == -1 && SAME(state, before));
+        CHECK(vulfsjor_tree_update(&state, bytes, ~(size_t)0 - left) == -1 && SAME(state, before));
+        CHECK(vulfsjor_tree_update(&state, bytes, (size_t)1 << 63) == -1 && SAME(state, before));
+    }
+    state = made;
+    state.closed = ((uint64_t)1 << 32) + 7; /* a count past 2^32 */
+    state.root.counter = 64 * state.closed;
+    CHECK(vulfsjor_tree_update(&state, bytes, 1001 % sizeof bytes) == 0);
+}
+#endif
+
+int main(int argc, char **argv) {
+    fill_all();
+    every_size();
+    every_length();
+    huge_lengths();
+    null_inits();
+    null_calls();
+    same_texts();
+    unready_states();
+    long_counts();
+    flags();
+    places();
+    blocks();
+    keyed_states();
+    many_messages();
+    refused_messages();
+    constants();
+#ifndef TEST_S
+    every_root();
+    null_trees();
+    unready_trees();
+    long_trees();
+#endif
+    if (argc > 1) long_message((size_t)strtoull(argv[1], NULL, 10));
+    printf("end\n");
+    fprintf(stderr, "%d checks, %d failures\n", checks, fails);
+    return fails != 0;
+}

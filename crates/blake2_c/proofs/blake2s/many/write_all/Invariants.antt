@@ -1,0 +1,16 @@
+use Rattle.std.proofs.Common.{◌≡◌, ◌-◌, ◌*◌, ◌≤◌, ◌++◌, length, take, drop}
+use Rattle.blake2.specs.Family.{blake2s}
+use Rattle.blake2_c.specs.Many.{digests_of}
+use Rattle.blake2_c.proofs.blake2s.many.write_all.Given as goal
+
+-- the digests of the first messages are written, and what stands behind them is as it was
+abbrev pub invariant-loop-done : goal.invariant-loop-done
+invariant-loop-done l = record {
+  within : l.done ≤ length l.messages;
+  long : length l.out ≡ length l.fn.out;
+  written : l.out ≡ digests_of blake2s l.size l.key l.salt l.persona (take l.done l.messages)
+      ++ drop (l.done * l.size) l.fn.out;
+}
+
+abbrev pub decreases-loop-done : goal.decreases-loop-done
+decreases-loop-done l = length l.messages - l.done

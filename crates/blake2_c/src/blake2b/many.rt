@@ -1,0 +1,137 @@
+//! Several messages of BLAKE2b.
+ghost use Rattle.std.specs.Prelude.{◌≡◌, ◌*◌, ◌≤◌, ◌++◌, [], length, take, drop, pos, negsuc};
+ghost use Rattle.blake2.specs.Family.{blake2b};
+ghost use Rattle.blake2.specs.States.{digest_of};
+ghost use Rattle.blake2.specs.States as Held;
+ghost use Rattle.blake2_words.specs.Views.{input_of};
+ghost use Rattle.blake2_plain.specs.Arguments.{given_key, given_count, IsRefused};
+ghost use Rattle.blake2_c.specs.Many.{AreCounted, IsRefusedMany, digests_of};
+ghost use Rattle.blake2_c.specs.Status.{Answers, IsTooLong};
+
+use crate::Text;
+use crate::many::{are_counted, is_room_for, write_digests};
+use blake2::Tree;
+use blake2::many::blake2b::{accepts_four, hash_four_sized};
+use blake2::steps::Input;
+use blake2_plain::blake2b::State;
+
+// The input of a message under these.
+fn input<'a>(key: &'a [u8], salt: &'a [u8], persona: &'a [u8], message: &'a [u8]) -> Input<'a>
+    ensures { input_of result
+        ≡ Held.input salt.now persona.now (given_key key.now) message.now }
+{
+    Input {
+        salt,
+        persona,
+        key: if key.is_empty() { None } else { Some(key) },
+        tree: Tree::sequential(),
+        last_node: false,
+        message,
+    }
+}
+
+// Writes the digest of one message at the beginning of `out`.
+fn write_one(out: &mut [u8], size: usize, key: &[u8], salt: &[u8], persona: &[u8], message: &[u8])
+    requires taken { ¬ IsRefused blake2b size key.now salt.now persona.now }
+    requires counted { ¬ IsTooLong (given_count blake2b key.now) (length message.now) }
+    requires room { size ≤ length out.old }
+    ensures { out.new ≡ digest_of blake2b size salt.now persona.now (given_key key.now) message.now
+        ++ drop size out.old }
+{
+    match State::new(size, key, salt, persona) {
+        Ok(mut run) => {
+            run.update(message);
+            run.write_digest(out);
+        }
+        // Not reached: the lengths are taken.
+        Err(_) => {}
+    }
+}
+
+// Writes the digests of the first messages at the beginning of `out`, 4 where these are hashed at
+// once, else one, and answers of how many.
+fn write_next(
+    out: &mut [u8],
+    size: usize,
+    key: &[u8],
+    salt: &[u8],
+    persona: &[u8],
+    messages: &[Text<'_>],
+) -> usize
+    requires taken { ¬ IsRefused blake2b size key.now salt.now persona.now }
+    requires counted { AreCounted blake2b key.now messages.now }
+    requires some { 1 ≤ length messages.now }
+    requires room { length messages.now * size ≤ length out.old }
+    ensures some { 1 ≤ result }
+    ensures most { result ≤ length messages.now }
+    ensures digests { out.new
+        ≡ digests_of blake2b size key.now salt.now persona.now (take result messages.now)
+        ++ drop (result * size) out.old }
+{
+    if messages.len() >= 4 {
+        let inputs = [
+            input(key, salt, persona, messages[0].bytes),
+            input(key, salt, persona, messages[1].bytes),
+            input(key, salt, persona, messages[2].bytes),
+            input(key, salt, persona, messages[3].bytes),
+        ];
+        if accepts_four(&inputs) {
+            write_digests(out, size, &hash_four_sized(size, &inputs));
+            return 4;
+        }
+    }
+    write_one(out, size, key, salt, persona, messages[0].bytes);
+    1
+}
+
+/// Writes the digests of the messages, each as `blake2_c_blake2b` would with this size and key, and
+/// with a salt and a persona of up to 16 bytes each, one behind the other. Four messages in a row
+/// that have one length are hashed at once. Answers 0, or -1 where a length is not one that BLAKE2b
+/// takes, a message and the key's block have 2^64 bytes, or `out` has not `output_size` bytes for
+/// each message; nothing is then written.
+#[unsafe(no_mangle)]
+pub extern "C" fn blake2_c_blake2b_many(
+    out: &mut [u8],
+    output_size: usize,
+    messages: &[Text<'_>],
+    key: &[u8],
+    salt: &[u8],
+    persona: &[u8],
+) -> i32
+    ensures status { Answers result (IsRefusedMany blake2b (length out.old) output_size key.now
+        salt.now persona.now messages.now) }
+    ensures digests { result ≡ pos 0 → out.new
+        ≡ digests_of blake2b output_size key.now salt.now persona.now messages.now }
+    ensures nothing { result ≡ negsuc 0 → out.new ≡ out.old }
+{
+    let counted = match State::new(output_size, key, salt, persona) {
+        Ok(run) => run.counted(),
+        Err(_) => return -1,
+    };
+    if !is_room_for(out.len(), messages.len(), output_size) || !are_counted(counted, messages) {
+        return -1;
+    }
+    write_all(out, output_size, key, salt, persona, messages);
+    0
+}
+
+// Writes the digests of the messages.
+fn write_all(
+    out: &mut [u8],
+    size: usize,
+    key: &[u8],
+    salt: &[u8],
+    persona: &[u8],
+    messages: &[Text<'_>],
+)
+    requires taken { ¬ IsRefused blake2b size key.now salt.now persona.now }
+    requires counted { AreCounted blake2b key.now messages.now }
+    requires room { length out.old ≡ length messages.now * size }
+    ensures { out.new ≡ digests_of blake2b size key.now salt.now persona.now messages.now }
+{
+    let mut done = 0;
+    while done < messages.len() {
+        let place = &mut out[done * size..];
+        done += write_next(place, size, key, salt, persona, &messages[done..]);
+    }
+}

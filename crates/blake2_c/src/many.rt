@@ -1,0 +1,35 @@
+//! What both families share for several messages.
+ghost use Rattle.std.specs.Prelude.{◌≡◌, ◌≤◌, ◌<◌, ◌^◌, ◌*◌, ◌+◌, ◌++◌, ◌↔◌, length, take, drop, IsTrue};
+ghost use Rattle.std.specs.List.{All, flat_map};
+
+use crate::Text;
+
+/// Writes the first `size` bytes of each digest at the beginning of `out`, one behind the other.
+pub(crate) fn write_digests<const N: usize>(out: &mut [u8], size: usize, digests: &[[u8; N]])
+    requires size { size ≤ N }
+    requires room { length digests.now * size ≤ length out.old }
+    ensures { out.new ≡ flat_map (take size) digests.now
+        ++ drop (length digests.now * size) out.old }
+{
+    for i in 0..digests.len() {
+        let from = i * size;
+        out[from..from + size].copy_from_slice(&digests[i][..size]);
+    }
+}
+
+/// Whether each text can be counted beside so many bytes, in all below 2^64.
+pub(crate) fn are_counted(counted: u64, texts: &[Text<'_>]) -> bool
+    ensures { IsTrue result
+        ↔ All (λ t. counted + length t.bytes.now < 2 ^ 64) texts.now }
+{
+    texts
+        .iter()
+        .all(|text| text.bytes.len() as u64 <= u64::MAX - counted)
+}
+
+/// Whether so many bytes are as many as `count` times `size`.
+pub(crate) fn is_room_for(room: usize, count: usize, size: usize) -> bool
+    ensures { IsTrue result ↔ room ≡ count * size }
+{
+    room as u128 == count as u128 * size as u128
+}
