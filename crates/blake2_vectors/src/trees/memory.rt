@@ -39,26 +39,61 @@ fn plug(alloc: Global, left: usize) -> Result<Vec<u8>, AllocError>
 // Under a hoard each try has 16 bytes more than the one before, and the first has none.
 const TRIES: usize = 512;
 
-// The witness of two messages of one leaf, at roots of no bytes, which are equal.
+// The witness of two messages of two leaves, at roots of no bytes, which are equal. It asks for the
+// 64 bytes of a leaf's digest, and not for more the longer a leaf is: so it has enough under a
+// budget that is far below 64 bytes for each byte of the messages. The refusals are those of the
+// least budgets, and some of them come behind the first request, which a control makes too.
 #[test]
 fn refuse_memory_to_a_witness(rt: HostRuntime) -> Result<(), Fail> {
     let alloc = rt.alloc();
-    let wanted = tree_witness(alloc, &[], &[], 4, 0, b"a", b"b")?;
-    assert!(rt; matches!(wanted, Some(TreeWitness::Root(..))));
+    let a = [b'a'; 2000];
+    let b = [b'b'; 2000];
+    let wanted = tree_witness(alloc, &[], &[], 1000, 0, &a, &b)?;
     let mut refused = Vec::with_capacity(alloc, TRIES)?;
+    let mut behind_the_first = false;
     let hoard = hoard(alloc)?;
     for tries in 0..TRIES {
         let plug = plug(alloc, 16 * tries)?;
-        let found = tree_witness(alloc, &[], &[], 4, 0, b"a", b"b");
+        let first: Result<Vec<u8>, AllocError> = Vec::with_capacity(alloc, 128);
+        let first_fits = first.is_ok();
+        drop(first);
+        let found = tree_witness(alloc, &[], &[], 1000, 0, &a, &b);
         drop(plug);
         match found {
             Ok(found) => assert_eq!(rt; found, wanted, "{tries}"),
-            Err(AllocError) => refused.push(tries)?,
+            Err(AllocError) => {
+                refused.push(tries)?;
+                behind_the_first = behind_the_first || first_fits;
+            }
         }
     }
     drop(hoard);
-    assert!(rt; refused.first() == Some(&0), "{refused:?}");
-    assert!(rt; !refused.contains(&(TRIES - 1)), "{refused:?}");
+    assert!(rt; matches!(wanted, Some(TreeWitness::Root(..))));
+    assert!(rt; !refused.is_empty() && refused.len() < TRIES, "{refused:?}");
+    for (i, tries) in refused.iter().enumerate() {
+        assert!(rt; i == *tries, "{refused:?}");
+    }
+    assert!(rt; behind_the_first, "{refused:?}");
+    Ok(())
+}
+
+// Where there is memory, a witness of messages of more than 4,096 leaves, whose last ones differ.
+#[test]
+fn witness_of_many_leaves(rt: HostRuntime) -> Result<(), Fail> {
+    let alloc = rt.alloc();
+    let a = [0; 4100];
+    let mut b = a;
+    b[4099] = 1;
+    let found = tree_witness(alloc, &[], &[], 1, 0, &a, &b)?;
+    let Some(TreeWitness::Root(x, y)) = found else {
+        assert!(rt; false, "no pair of roots");
+        return Ok(());
+    };
+    assert!(rt; x.last && x.counter == 64 * 4100 && y.counter == 64 * 4100);
+    assert!(rt; x.block[..64] == y.block[..64]);
+    assert!(rt; x.block[64..] != y.block[64..]);
+    assert!(rt; tree_witness(alloc, &[], &[], 1, 64, &a, &a)?.is_none());
+    assert!(rt; tree_witness(alloc, &[], &[], 1, 64, &a, &b)?.is_none());
     Ok(())
 }
 
