@@ -1,8 +1,6 @@
 -- The nodes of a tree as inputs.
-use Rattle.std.proofs.Common.{◌≡◌, ◌≢◌, ◌↔◌, ℕ, zero, suc, ◌+◌, ◌*◌, ◌^◌, ◌<◌, ◌≤◌, Bool, List, []}
-use Rattle.std.proofs.Common.{◌++◌, length, take, drop, refl, sym, ap, ◌∙◌, arith, append-nil}
-use Rattle.std.proofs.Common.{append_assoc, length-append}
-use Rattle.std.proofs.lemmas.List.{take_at, drop_at}
+use Rattle.std.proofs.Common.{◌≡◌, ◌≢◌, ◌↔◌, ℕ, suc, ◌+◌, ◌*◌, ◌^◌, ◌<◌, ◌≤◌, Bool, List, []}
+use Rattle.std.proofs.Common.{◌++◌, length, refl, sym, ap, ◌∙◌, arith, append-nil}
 use Rattle.std.proofs.Math.Nat.{eq_of_mul-eq-mul_right}
 use Rattle.std.specs.List.{flat_map, range_with_len}
 use Rattle.blake2_rows.specs.Family.{blake2b}
@@ -17,6 +15,8 @@ use Rattle.blake2_words.specs.Pieces.{IsFirstDifference}
 use Rattle.blake2_tree.specs.TreeRoot.{TreeParameters, leaf_count, leaf, node, leaf_input}
 use Rattle.blake2_tree.specs.TreeRoot.{leaf_digests, root_over, root_input, tree_root}
 use Rattle.blake2_tree.specs.TreeWitnesses.{RootsCollide}
+use Rattle.blake2_tree.proofs.Lists.{flat_map-range_push, length-flat_map-range}
+use Rattle.blake2_tree.proofs.Lists.{flat_map-range_same}
 
 -- ---- what BLAKE2b takes
 
@@ -52,43 +52,6 @@ Accepts-node s offset depth last bytes taken offset_fits depth_fits counted byte
   persona_bytes = taken.persona_is;
   message_bytes = bytes_are;
 }
-
--- ---- lists of one length, joined
-
--- one more
-flat_map-range_push : {A : Type 0} (f : ℕ → List A) (a n : ℕ)
-    → flat_map f (range_with_len a (suc n)) ≡ flat_map f (range_with_len a n) ++ f (a + n)
-flat_map-range_push f a zero = append-nil (f a) ∙ (let at : a ≡ a + 0 = omega arith in ap f at)
-flat_map-range_push f a (suc n) =
-    let at : a + 1 + n ≡ a + suc n = omega arith in
-    ap (λ rest. f a ++ rest) (flat_map-range_push f (a + 1) n)
-    ∙ sym (append_assoc (f a) (flat_map f (range_with_len (a + 1) n)) (f (a + 1 + n)))
-    ∙ ap (λ i. (f a ++ flat_map f (range_with_len (a + 1) n)) ++ f i) at
-
--- how long they are
-length-flat_map-range : {A : Type 0} (f : ℕ → List A) (k : ℕ) → ((i : ℕ) → length (f i) ≡ k)
-    → (a n : ℕ) → length (flat_map f (range_with_len a n)) ≡ n * k
-length-flat_map-range f k len a zero = omega arith
-length-flat_map-range f k len a (suc n) =
-    omega (
-      arith,
-      length-append (f a) (flat_map f (range_with_len (a + 1) n)),
-      len a,
-      length-flat_map-range f k len (a + 1) n,
-    )
-
--- where the joined lists are equal, so is each
-flat_map-range_same : {A : Type 0} (f g : ℕ → List A) (k : ℕ) → ((i : ℕ) → length (f i) ≡ k)
-    → ((i : ℕ) → length (g i) ≡ k) → (a n i : ℕ) → i < n
-    → flat_map f (range_with_len a n) ≡ flat_map g (range_with_len a n) → f (a + i) ≡ g (a + i)
-flat_map-range_same f g k len_f len_g a zero i below same = absurd (omega arith)
-flat_map-range_same f g k len_f len_g a (suc n) zero below same =
-    let at : a + 0 ≡ a = omega arith in
-    rw at (sym (take_at (f a) _ k (len_f a)) ∙ ap (take k) same ∙ take_at (g a) _ k (len_g a))
-flat_map-range_same f g k len_f len_g a (suc n) (suc i) below same =
-    let at : a + suc i ≡ a + 1 + i = omega arith in
-    rw at (flat_map-range_same f g k len_f len_g (a + 1) n i (omega arith)
-    (sym (drop_at (f a) _ k (len_f a)) ∙ ap (drop k) same ∙ drop_at (g a) _ k (len_g a)))
 
 -- ---- the digests of the leaves
 

@@ -1,11 +1,9 @@
 -- The root that a hasher will give, from call to call.
-use Rattle.std.proofs.Common.{◌≡◌, ℕ, ◌+◌, ◌-◌, ◌*◌, ◌<◌, ◌≤◌, Bool, true, false, List, [], ◌∷◌}
-use Rattle.std.proofs.Common.{◌++◌, slice_index_or, length, take, drop, sym, ap, ◌∙◌, arith}
+use Rattle.std.proofs.Common.{◌≡◌, ℕ, ◌+◌, ◌-◌, ◌*◌, ◌<◌, ◌≤◌, Bool, true, false, List, []}
+use Rattle.std.proofs.Common.{◌++◌, length, take, drop, sym, ap, ◌∙◌, arith}
 use Rattle.std.proofs.Common.{append-nil, append_assoc, length-append, length-drop}
 use Rattle.std.proofs.lemmas.List.{take-append-drop, drop-append-le, length-take-le}
 use Rattle.std.proofs.lemmas.List.{nil_from_length}
-use Rattle.std.proofs.lemmas.List.{take_more}
-use Rattle.std.proofs.lemmas.List.Folds.{concat-append}
 use Rattle.std.specs.List.{concat}
 use Rattle.blake2_digest.specs.States.{Meaning, digest_now, Updated, NodeSet}
 use Rattle.blake2_rows.specs.Family.{blake2b}
@@ -13,10 +11,11 @@ use Rattle.blake2_words.specs.Hash.{digest}
 use Rattle.blake2_tree.specs.Nodes.{IsOpened, four_digests}
 use Rattle.blake2_tree.specs.TreeRoot.{TreeParameters, node, tree_root}
 use Rattle.blake2_tree.specs.TreeHashers.{later_digests, digests_to_come}
-use Rattle.blake2_tree.proofs.Leaves.{later_digests-four, four_digests-append, later_digests-first}
-use Rattle.blake2_tree.proofs.Leaves.{digests_to_come-begun, digests_to_come-took}
-use Rattle.blake2_tree.proofs.Leaves.{digests_to_come-nothing, digests_to_come-full}
-use Rattle.blake2_tree.proofs.Leaves.{later_digests-last_four}
+use Rattle.blake2_tree.proofs.Leaves.{later_digests-first}
+use Rattle.blake2_tree.proofs.FourLeaves.{later_digests-four, later_digests-last_four}
+use Rattle.blake2_tree.proofs.FourLeaves.{four_digests-append}
+use Rattle.blake2_tree.proofs.OpenLeaves.{digests_to_come-begun, digests_to_come-took}
+use Rattle.blake2_tree.proofs.OpenLeaves.{digests_to_come-nothing, digests_to_come-full}
 
 -- the root, from what is said of the root and of a leaf, the root, the open leaf, and the place of
 -- the next leaf
@@ -186,22 +185,6 @@ Updated-append roots first second third x y before after = record {
   count = omega (arith, after.count, before.count, length-append x y);
   start_count = after.start_count ∙ before.start_count;
 }
-
--- a list of texts, joined, up to one more
-pub concat-more : (texts : List (List ℕ)) (i : ℕ) → i < length texts
-    → concat (take (i + 1) texts) ≡ concat (take i texts) ++ slice_index_or texts i []
-concat-more texts i below =
-    ap concat (take_more texts i [] below) ∙ concat-append (take i texts)
-    (slice_index_or texts i [] ∷ [])
-    ∙ ap (λ text. concat (take i texts) ++ text) (append-nil (slice_index_or texts i []))
-
--- they are not longer than all of them
-pub length-concat_part : (texts : List (List ℕ)) (i : ℕ)
-    → length (concat (take i texts)) ≤ length (concat texts)
-length-concat_part texts i =
-    let whole : concat (take i texts) ++ concat (drop i texts) ≡ concat texts =
-    sym (concat-append (take i texts) (drop i texts)) ∙ ap concat (take-append-drop i texts) in
-    omega (arith, ap length whole, length-append (concat (take i texts)) (concat (drop i texts)))
 
 -- a leaf that was opened and took nothing is still as it was opened
 pub IsOpened-updated : {S : Type 0} (leaves : Meaning S) (s : TreeParameters) (place : ℕ)

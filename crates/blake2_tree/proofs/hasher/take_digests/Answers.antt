@@ -1,7 +1,8 @@
 use Rattle.std.proofs.Common.{◌+◌, [], slice_index_or, ap, length, length-append, take, arith}
 use Rattle.std.specs.List.{concat}
 use Rattle.blake2.specs.Hashers.{blake2b_meaning}
-use Rattle.blake2_tree.proofs.Roots.{Updated-append, concat-more, length-concat_part}
+use Rattle.blake2_tree.proofs.Lists.{concat-more, length-concat_part}
+use Rattle.blake2_tree.proofs.Roots.{Updated-append}
 use Rattle.blake2_tree.proofs.hasher.take_digests.Goals as goal
 
 pub update-requires : goal.update-requires

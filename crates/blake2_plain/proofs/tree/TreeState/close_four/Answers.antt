@@ -5,7 +5,7 @@ use Rattle.blake2_plain.specs.Blake2b.{meaning}
 use Rattle.blake2_tree.specs.Nodes.{parameters_of, IsOpened, four_digests}
 use Rattle.blake2_tree.specs.TreeRoot.{TreeParameters}
 use Rattle.blake2_plain.specs.TreeStates.{parameters, future}
-use Rattle.blake2_tree.proofs.Leaves.{length-four_digests}
+use Rattle.blake2_tree.proofs.FourLeaves.{length-four_digests}
 use Rattle.blake2_tree.proofs.Roots.{root_to_come, root_to_come-four}
 use Rattle.blake2_plain.proofs.tree.TreeState.close_four.Goals as goal
 

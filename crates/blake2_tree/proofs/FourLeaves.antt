@@ -1,0 +1,129 @@
+-- Four whole leaves at once: with more behind them, or the last of a message.
+use Rattle.blake2_tree.specs.Nodes.{node_digest, four_digests}
+use Rattle.blake2_words.proofs.Sizes.{length-digest}
+use Rattle.blake2_words.proofs.Pieces.{piece-zero, piece-more}
+use Rattle.std.proofs.Common.{◌≡◌, ℕ, ◌+◌, ◌-◌, ◌*◌, ◌<◌, ◌≤◌, Bool, true}
+use Rattle.std.proofs.Common.{false, List, [], ◌++◌, length, take, drop, refl, sym, ap, ◌∙◌}
+use Rattle.std.proofs.Common.{arith, append-nil, length-append, length-drop, drop-drop}
+use Rattle.std.proofs.Common.{◌∷◌}
+use Rattle.std.proofs.lemmas.List.{take_all, take-append-le}
+use Rattle.std.proofs.lemmas.List.{drop-append-le}
+use Rattle.std.specs.List.{concat}
+use Rattle.blake2_rows.specs.Family.{blake2b}
+use Rattle.blake2_tree.specs.TreeRoot.{TreeParameters, leaf, node}
+use Rattle.blake2_tree.specs.TreeHashers.{later_digests}
+use Rattle.blake2_tree.proofs.Leaves.{later_digests-short, later_digests-long}
+use Rattle.blake2_tree.proofs.Lists.{concat-four}
+
+-- where more than a leaf is left: its digest, and those of the rest
+later_digests-step : (s : TreeParameters) (p : ℕ) (x z : List ℕ) (i : ℕ) → 0 < s.leaf_length
+    → s.leaf_length < length z → leaf s.leaf_length z 0 ≡ leaf s.leaf_length x i
+    → later_digests s p z ≡ node_digest 64 s p 0 false (leaf s.leaf_length x i)
+    ++ later_digests s (p + 1) (drop s.leaf_length z)
+later_digests-step s p x z i some long is =
+    later_digests-long s p z some long
+    ∙ ap (λ bytes. node_digest 64 s p 0 false bytes
+    ++ later_digests s (p + 1) (drop s.leaf_length z)) (sym (piece-zero s.leaf_length z) ∙ is)
+
+-- where more than three are left: their digests, and those of the rest
+later_digests-three : (s : TreeParameters) (p : ℕ) (x : List ℕ) → 0 < s.leaf_length
+    → 3 * s.leaf_length < length x
+    → later_digests s p x ≡ node_digest 64 s p 0 false (leaf s.leaf_length x 0)
+    ++ (node_digest 64 s (p + 1) 0 false (leaf s.leaf_length x 1)
+    ++ (node_digest 64 s (p + 2) 0 false (leaf s.leaf_length x 2)
+    ++ later_digests s (p + 3) (drop (3 * s.leaf_length) x)))
+later_digests-three s p x some long =
+    let l : ℕ = s.leaf_length in
+    let x1 : List ℕ = drop l x in
+    let x2 : List ℕ = drop l x1 in
+    let n1 : length x1 ≡ length x - l = length-drop l x in
+    let n2 : length x2 ≡ length x1 - l = length-drop l x1 in
+    let e0 = later_digests-step s p x x 0 some (omega arith) refl in
+    let e1 = later_digests-step s (p + 1) x x1 1 some (omega arith) (sym (piece-more l x 0)) in
+    let e2 = later_digests-step s (p + 1 + 1) x x2 2 some (omega arith)
+    (sym (piece-more l x 1 ∙ piece-more l x1 0)) in
+    let p2 : p + 1 + 1 ≡ p + 2 = omega arith in
+    let p3 : p + 1 + 1 + 1 ≡ p + 3 = omega arith in
+    let rest : drop l x2 ≡ drop (3 * l) x =
+    drop-drop l l x1 ∙ drop-drop (l + l) l x
+    ∙ (let three : l + (l + l) ≡ 3 * l = omega arith in ap (λ n. drop n x) three) in
+    let d : ℕ → ℕ → List ℕ = λ place i. node_digest 64 s place 0 false (leaf l x i) in
+    e0
+    ∙ ap (λ rest. d p 0 ++ rest) (e1 ∙ ap (λ rest. d (p + 1) 1 ++ rest) e2)
+    ∙ (λ k. d p 0 ++ (d (p + 1) 1 ++ (d (p2 k) 2 ++ later_digests s (p3 k) (rest k))))
+
+-- where more than four are left: their digests, and those of the rest
+pub later_digests-four : (s : TreeParameters) (p : ℕ) (x : List ℕ) → 0 < s.leaf_length
+    → 4 * s.leaf_length < length x
+    → later_digests s p x ≡ concat (four_digests s p false x)
+    ++ later_digests s (p + 4) (drop (4 * s.leaf_length) x)
+later_digests-four s p x some long =
+    let l : ℕ = s.leaf_length in
+    let x3 : List ℕ = drop (3 * l) x in
+    let left : length x3 ≡ length x - 3 * l = length-drop (3 * l) x in
+    let e3 = later_digests-step s (p + 3) x x3 3 some (omega arith) (piece-zero l x3) in
+    let p4 : p + 3 + 1 ≡ p + 4 = omega arith in
+    let ends : drop l x3 ≡ drop (4 * l) x =
+    drop-drop l (3 * l) x
+    ∙ (let four : 3 * l + l ≡ 4 * l = omega arith in ap (λ n. drop n x) four) in
+    let d : ℕ → ℕ → List ℕ = λ place i. node_digest 64 s place 0 false (leaf l x i) in
+    later_digests-three s p x some (omega arith)
+    ∙ ap (λ rest. d p 0 ++ (d (p + 1) 1 ++ (d (p + 2) 2 ++ rest)))
+    (e3 ∙ (λ k. d (p + 3) 3 ++ later_digests s (p4 k) (ends k)))
+    ∙ sym (concat-four (d p 0) (d (p + 1) 1) (d (p + 2) 2) (d (p + 3) 3)
+    (later_digests s (p + 4) (drop (4 * l) x)))
+
+-- where just four are left: their digests, the fourth as that of the last leaf
+pub later_digests-last_four : (s : TreeParameters) (p : ℕ) (x : List ℕ) → 0 < s.leaf_length
+    → length x ≡ 4 * s.leaf_length
+    → later_digests s p x ≡ concat (four_digests s p true x)
+later_digests-last_four s p x some whole =
+    let l : ℕ = s.leaf_length in
+    let x3 : List ℕ = drop (3 * l) x in
+    let short : length x3 ≤ l = omega (arith, length-drop (3 * l) x) in
+    let d : ℕ → ℕ → Bool → List ℕ = λ place i on. node_digest 64 s place 0 on (leaf l x i) in
+    let last : later_digests s (p + 3) x3 ≡ d (p + 3) 3 true =
+    later_digests-short s (p + 3) x3 some short
+    ∙ ap (node_digest 64 s (p + 3) 0 true) (sym (take_all l x3 short)) in
+    later_digests-three s p x some (omega arith)
+    ∙ ap (λ rest. d p 0 false ++ (d (p + 1) 1 false ++ (d (p + 2) 2 false ++ rest)))
+    (last ∙ sym (append-nil (d (p + 3) 3 true)))
+    ∙ sym (concat-four (d p 0 false) (d (p + 1) 1 false) (d (p + 2) 2 false)
+    (d (p + 3) 3 true) [])
+    ∙ append-nil (concat (four_digests s p true x))
+
+-- those of four leaves have 256 bytes
+pub length-four_digests : (s : TreeParameters) (p : ℕ) (last : Bool) (x : List ℕ)
+    → length (concat (four_digests s p last x)) ≡ 256
+length-four_digests s p last x =
+    let d : ℕ → Bool → ℕ → List ℕ = λ place on i.
+    node_digest 64 s place 0 on (leaf s.leaf_length x i) in
+    let size : (place : ℕ) (on : Bool) (i : ℕ) → length (d place on i) ≡ 64 = λ place on i.
+    length-digest blake2b 64 (node s place 0 on (leaf s.leaf_length x i)) (omega arith) in
+    simp length-append (omega (
+      arith,
+      size p false 0,
+      size (p + 1) false 1,
+      size (p + 2) false 2,
+      size (p + 3) last 3,
+    ))
+
+-- they do not read what follows them
+leaf-append : (size i : ℕ) (x y : List ℕ) → i * size + size ≤ length x
+    → leaf size (x ++ y) i ≡ leaf size x i
+leaf-append size i x y within =
+    let rest : drop (i * size) (x ++ y) ≡ drop (i * size) x ++ y =
+    drop-append-le (i * size) x y (omega arith) in
+    ap (take size) rest ∙ take-append-le size (drop (i * size) x) y
+    (omega (arith, length-drop (i * size) x))
+
+pub four_digests-append : (s : TreeParameters) (p : ℕ) (x y : List ℕ) → 4 * s.leaf_length ≤ length x
+    → four_digests s p false (x ++ y) ≡ four_digests s p false x
+four_digests-append s p x y within =
+    let l : ℕ = s.leaf_length in
+    λ k.
+    node_digest 64 s p 0 false (leaf-append l 0 x y (omega arith) k)
+    ∷ node_digest 64 s (p + 1) 0 false (leaf-append l 1 x y (omega arith) k)
+    ∷ node_digest 64 s (p + 2) 0 false (leaf-append l 2 x y (omega arith) k)
+    ∷ node_digest 64 s (p + 3) 0 false (leaf-append l 3 x y (omega arith) k)
+    ∷ []

@@ -1,0 +1,73 @@
+-- Lists that are joined: over a range of numbers, and lists of texts.
+use Rattle.std.proofs.Common.{◌≡◌, ℕ, zero, suc, ◌+◌, ◌*◌, ◌<◌, ◌≤◌, List, [], ◌∷◌, ◌++◌}
+use Rattle.std.proofs.Common.{slice_index_or, length, take, drop, refl, sym, ap, ◌∙◌, arith}
+use Rattle.std.proofs.Common.{append-nil, append_assoc, length-append}
+use Rattle.std.proofs.lemmas.List.{take_at, drop_at, take-append-drop, take_more}
+use Rattle.std.proofs.lemmas.List.Folds.{concat-append}
+use Rattle.std.specs.List.{flat_map, range_with_len, concat}
+
+-- ---- lists over a range, joined
+
+-- one more
+pub flat_map-range_push : {A : Type 0} (f : ℕ → List A) (a n : ℕ)
+    → flat_map f (range_with_len a (suc n)) ≡ flat_map f (range_with_len a n) ++ f (a + n)
+flat_map-range_push f a zero = append-nil (f a) ∙ (let at : a ≡ a + 0 = omega arith in ap f at)
+flat_map-range_push f a (suc n) =
+    let at : a + 1 + n ≡ a + suc n = omega arith in
+    ap (λ rest. f a ++ rest) (flat_map-range_push f (a + 1) n)
+    ∙ sym (append_assoc (f a) (flat_map f (range_with_len (a + 1) n)) (f (a + 1 + n)))
+    ∙ ap (λ i. (f a ++ flat_map f (range_with_len (a + 1) n)) ++ f i) at
+
+-- how long they are
+pub length-flat_map-range : {A : Type 0} (f : ℕ → List A) (k : ℕ) → ((i : ℕ) → length (f i) ≡ k)
+    → (a n : ℕ) → length (flat_map f (range_with_len a n)) ≡ n * k
+length-flat_map-range f k len a zero = omega arith
+length-flat_map-range f k len a (suc n) =
+    omega (
+      arith,
+      length-append (f a) (flat_map f (range_with_len (a + 1) n)),
+      len a,
+      length-flat_map-range f k len (a + 1) n,
+    )
+
+-- where the joined lists are equal, so is each
+pub flat_map-range_same : {A : Type 0} (f g : ℕ → List A) (k : ℕ) → ((i : ℕ) → length (f i) ≡ k)
+    → ((i : ℕ) → length (g i) ≡ k) → (a n i : ℕ) → i < n
+    → flat_map f (range_with_len a n) ≡ flat_map g (range_with_len a n) → f (a + i) ≡ g (a + i)
+flat_map-range_same f g k len_f len_g a zero i below same = absurd (omega arith)
+flat_map-range_same f g k len_f len_g a (suc n) zero below same =
+    let at : a + 0 ≡ a = omega arith in
+    rw at (sym (take_at (f a) _ k (len_f a)) ∙ ap (take k) same ∙ take_at (g a) _ k (len_g a))
+flat_map-range_same f g k len_f len_g a (suc n) (suc i) below same =
+    let at : a + suc i ≡ a + 1 + i = omega arith in
+    rw at (flat_map-range_same f g k len_f len_g (a + 1) n i (omega arith)
+    (sym (drop_at (f a) _ k (len_f a)) ∙ ap (drop k) same ∙ drop_at (g a) _ k (len_g a)))
+
+-- a list over a range, begun one later
+pub flat_map-range_more : {A : Type 0} (f g : ℕ → List A) → ((i : ℕ) → f (i + 1) ≡ g i) → (a n : ℕ)
+    → flat_map f (range_with_len (a + 1) n) ≡ flat_map g (range_with_len a n)
+flat_map-range_more f g e a zero = refl
+flat_map-range_more f g e a (suc n) = rw (e a, flat_map-range_more f g e (a + 1) n) refl
+
+-- ---- texts, joined
+
+-- four of them
+pub concat-four : (a b c d rest : List ℕ) → concat (a ∷ b ∷ c ∷ d ∷ []) ++ rest
+    ≡ a ++ (b ++ (c ++ (d ++ rest)))
+concat-four a b c d rest = simp (append_assoc, append-nil)
+
+-- a list of texts, joined, up to one more
+pub concat-more : (texts : List (List ℕ)) (i : ℕ) → i < length texts
+    → concat (take (i + 1) texts) ≡ concat (take i texts) ++ slice_index_or texts i []
+concat-more texts i below =
+    ap concat (take_more texts i [] below) ∙ concat-append (take i texts)
+    (slice_index_or texts i [] ∷ [])
+    ∙ ap (λ text. concat (take i texts) ++ text) (append-nil (slice_index_or texts i []))
+
+-- they are not longer than all of them
+pub length-concat_part : (texts : List (List ℕ)) (i : ℕ)
+    → length (concat (take i texts)) ≤ length (concat texts)
+length-concat_part texts i =
+    let whole : concat (take i texts) ++ concat (drop i texts) ≡ concat texts =
+    sym (concat-append (take i texts) (drop i texts)) ∙ ap concat (take-append-drop i texts) in
+    omega (arith, ap length whole, length-append (concat (take i texts)) (concat (drop i texts)))

@@ -1,0 +1,64 @@
+-- The digests that more bytes add to an open leaf and behind it.
+use Rattle.std.proofs.Common.{◌≡◌, ℕ, ◌+◌, ◌-◌, ◌<◌, ◌≤◌, inl, inr, Bool, true}
+use Rattle.std.proofs.Common.{false, List, [], ◌++◌, length, take, drop, refl, sym, ap, ◌∙◌}
+use Rattle.std.proofs.Common.{arith, length-append}
+use Rattle.std.proofs.lemmas.Bool.{cases_lt, le-leb, lt-leb}
+use Rattle.std.proofs.Math.Seq.{take-append-add, drop-append-add}
+use Rattle.blake2_rows.specs.Family.{blake2b}
+use Rattle.blake2_words.specs.Hash.{digest}
+use Rattle.blake2_tree.specs.TreeRoot.{TreeParameters, node}
+use Rattle.blake2_tree.specs.TreeHashers.{later_digests, digests_to_come}
+use Rattle.blake2_tree.proofs.Leaves.{later_digests-short, later_digests-long}
+
+-- the digests that y adds to an open leaf that has taken nothing are those of the leaves of y
+pub digests_to_come-begun : (s : TreeParameters) (first : ℕ) (y : List ℕ) → 0 < s.leaf_length
+    → digests_to_come s (λ last z. digest blake2b 64 (node s first 0 last z)) s.leaf_length
+    (first + 1) y ≡ later_digests s first y
+unfolding digests_to_come
+digests_to_come-begun s first y some = elim (cases_lt s.leaf_length (length y)) [
+  | inr short ↦ rw (le-leb (length y) s.leaf_length short)
+      (sym (later_digests-short s first y some short))
+  | inl long ↦ rw (lt-leb (length y) s.leaf_length long)
+      (sym (later_digests-long s first y some long))
+]
+
+-- the open leaf takes the beginning x of what comes
+pub digests_to_come-took : (s : TreeParameters) (before after : Bool → List ℕ → List ℕ)
+    (room next : ℕ) (x y : List ℕ) → length x ≤ room
+    → ((last : Bool) (z : List ℕ) → after last z ≡ before last (x ++ z))
+    → digests_to_come s after (room - length x) next y ≡ digests_to_come s before room next (x ++ y)
+unfolding digests_to_come
+digests_to_come-took s before after room next x y fits took =
+    let size : length (x ++ y) ≡ length x + length y = length-append x y in
+    elim (cases_lt room (length (x ++ y))) [
+      | inr short ↦ rw (
+        le-leb (length (x ++ y)) room short,
+        le-leb (length y) (room - length x) (omega arith),
+      ) (took true y)
+      | inl long ↦
+          let split : room ≡ length x + (room - length x) = omega arith in
+          let front : take room (x ++ y) ≡ x ++ take (room - length x) y =
+          ap (λ (n : ℕ). take n (x ++ y)) split ∙ take-append-add x y (room - length x) in
+          let back : drop room (x ++ y) ≡ drop (room - length x) y =
+          ap (λ (n : ℕ). drop n (x ++ y)) split ∙ drop-append-add x y (room - length x) in
+          rw (
+            lt-leb (length (x ++ y)) room long,
+            lt-leb (length y) (room - length x) (omega arith),
+            front,
+            back,
+            took false (take (room - length x) y),
+          ) refl
+    ]
+
+-- where nothing comes the open leaf is the last
+pub digests_to_come-nothing : (s : TreeParameters) (open_leaf : Bool → List ℕ → List ℕ)
+    (room next : ℕ) → digests_to_come s open_leaf room next [] ≡ open_leaf true []
+unfolding digests_to_come
+digests_to_come-nothing s open_leaf room next = rw (le-leb 0 room (omega arith)) refl
+
+-- a full leaf is not the last, where something comes
+pub digests_to_come-full : (s : TreeParameters) (open_leaf : Bool → List ℕ → List ℕ) (next : ℕ)
+    (y : List ℕ) → 0 < length y
+    → digests_to_come s open_leaf 0 next y ≡ open_leaf false [] ++ later_digests s next y
+unfolding digests_to_come
+digests_to_come-full s open_leaf next y some = rw (lt-leb (length y) 0 some) refl
