@@ -41,7 +41,7 @@ where
         let counted = core.counted();
         let pending = buffer.get_pos();
         assert!(rt; counted <= 257 && pending <= 257);
-        assert!(rt; (counted + pending as u64) == (length as u64));
+        assert!(rt; counted + pending as u64 == length as u64, "{length}");
         let mut out = [0; M];
         core.finalize_variable_core(&mut buffer, &mut out);
         assert!(rt; buffer.get_pos() == 0);

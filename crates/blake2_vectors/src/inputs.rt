@@ -32,5 +32,6 @@ pub(crate) fn take<S: Update>(rt: &impl Abort, state: &mut S, piece: &[u8]) {
     let before = state.counted();
     assert!(rt; before <= 0x10_0000 && piece.len() <= 0x1000);
     state.update(piece);
-    assert!(rt; state.counted() == (before + piece.len() as u64));
+    let wanted = before + piece.len() as u64;
+    assert!(rt; state.counted() == wanted, "{wanted}");
 }

@@ -25,12 +25,15 @@ fn input<'a>(key: Option<&'a [u8]>, salt: &'a [u8], persona: &'a [u8]) -> Input<
 fn check_parts<M: FixedOutput<N> + Drop, const N: usize>(
     rt: &impl Abort,
     outputs: &mut Blake2b256,
+    lengths: (Option<usize>, usize, usize),
     is_taken: bool,
     is_accepted: bool,
     mac: Result<M, InvalidLength>,
 ) {
-    assert!(rt; is_accepted == is_taken);
-    assert!(rt; mac.is_ok() == is_taken);
+    assert!(rt;
+        is_accepted == is_taken && mac.is_ok() == is_taken,
+        "{lengths:?}"
+    );
     if let Ok(mac) = mac {
         take(rt, outputs, mac.finalize_fixed().as_slice());
     }
@@ -55,15 +58,20 @@ fn take_lengths_of_blake2b(rt: HostRuntime) {
             None => None,
         };
         if let Some(key) = key {
-            assert!(rt; Blake2bMac512::new_from_slice(key).is_ok() == key_fits);
+            assert!(rt;
+                Blake2bMac512::new_from_slice(key).is_ok() == key_fits,
+                "{key_size:?}"
+            );
         }
         for (salt, salt_fits) in [(0, true), (16, true), (17, false), (32, false)] {
             for (persona, persona_fits) in [(0, true), (16, true), (17, false), (32, false)] {
                 assert!(rt; salt <= 32 && persona <= 32);
+                let lengths = (key_size, salt, persona);
                 let (salt, persona) = (&bytes[..salt], &bytes[..persona]);
                 check_parts(
                     &rt,
                     &mut outputs,
+                    lengths,
                     key_fits && salt_fits && persona_fits,
                     Blake2bVarCore::accepts(&input(key, salt, persona)),
                     Blake2bMac512::new_with_salt_and_personal(key, salt, persona),
@@ -94,15 +102,20 @@ fn take_lengths_of_blake2s(rt: HostRuntime) {
             None => None,
         };
         if let Some(key) = key {
-            assert!(rt; Blake2sMac256::new_from_slice(key).is_ok() == key_fits);
+            assert!(rt;
+                Blake2sMac256::new_from_slice(key).is_ok() == key_fits,
+                "{key_size:?}"
+            );
         }
         for (salt, salt_fits) in [(0, true), (8, true), (9, false), (16, false)] {
             for (persona, persona_fits) in [(0, true), (8, true), (9, false), (16, false)] {
                 assert!(rt; salt <= 32 && persona <= 32);
+                let lengths = (key_size, salt, persona);
                 let (salt, persona) = (&bytes[..salt], &bytes[..persona]);
                 check_parts(
                     &rt,
                     &mut outputs,
+                    lengths,
                     key_fits && salt_fits && persona_fits,
                     Blake2sVarCore::accepts(&input(key, salt, persona)),
                     Blake2sMac256::new_with_salt_and_personal(key, salt, persona),

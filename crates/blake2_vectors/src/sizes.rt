@@ -53,7 +53,7 @@ fn tell_sizes(rt: HostRuntime) {
         (hasher_sizes::<Blake2s128>(), (64, 16)),
         (hasher_sizes::<Blake2s256>(), (64, 32)),
     ] {
-        assert!(rt; hasher == wanted);
+        assert!(rt; hasher == wanted, "{wanted:?}");
     }
     for (mac, wanted) in [
         (mac_sizes::<Blake2bMac<0>>(), (64, 0)),
@@ -63,6 +63,6 @@ fn tell_sizes(rt: HostRuntime) {
         (mac_sizes::<Blake2sMac<20>>(), (32, 20)),
         (mac_sizes::<Blake2sMac256>(), (32, 32)),
     ] {
-        assert!(rt; mac == wanted);
+        assert!(rt; mac == wanted, "{wanted:?}");
     }
 }
