@@ -240,6 +240,8 @@ def lines_of(pattern):
 def check_sizes():
     """Which sizes of docs/MAP.md and docs/REVIEW.md are off by more than a tenth, or 100 and 5 lines if that is more."""
     crates = re.findall(r"^\| `(\w+)` \| .* \| (\d+) \| (\d+) \| (\d+) \|$", read("docs/MAP.md"), re.MULTILINE)
+    for name in sorted({os.path.basename(path) for path in paths("crates/*")} - {name for name, *_ in crates}):
+        yield f"MAP: no row has the crate `{name}`"
     for name, *told in crates:
         found = [lines_of(f"crates/{name}/{part}") for part in ("src/**/*.rt", "specs/**/*.antt", "proofs/**/*.antt")]
         for size, number in zip(told, found):
