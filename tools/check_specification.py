@@ -172,6 +172,14 @@ def worked():
     given = Input(b"", place=Place(2, 3, 7, 2**32 + 5, 1, 32))
     yield "words of a place, BLAKE2s", parameter_words(S, 32, given) == [0x03020020, 7, 5, 0x20010001, 0, 0, 0, 0] and (
         "03020020, 7, 5, 20010001 and four zeros" in page)
+    listed = [entry[1] for entry in entries(B, Input(b"*" * 200, key=b"\1"))]
+    yield "counters", listed == [128, 256, 328] and "the counters 128, 256, 328" in page
+    first = int.from_bytes(hashlib.blake2b(b"abc").digest()[:8], "little")
+    yield "compression", f"the first word of the answer is {first:016x}" in page
+    for words, fault in (("sum b512 key= foo", "wrong words"), ("sum b512 salt=1 foo", "wrong hex"),
+                         ("sum b512 key=", "wrong length")):
+        answer = run(words.encode().split(), lambda: b"")
+        yield "fault of " + words, answer == (2, f"b2: {fault}\n".encode()) and f"`{words}`" in page
     root = run([b"tree", b"b512", b"4"], lambda: b"abcde")[1].decode().strip()
     yield "root", root[:64] in page and root[64:] in page and root == tree_of_hashlib(b"abcde", 4)
     pair = run([b"witness", b"b0", b"61", b"62"], None)[1].decode()
