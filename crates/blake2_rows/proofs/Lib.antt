@@ -5,5 +5,6 @@ pub mod Rotations
 pub mod Lanes
 pub mod ByteRotations
 pub mod Words
+pub mod Assignments
 pub mod Undoing
 pub mod Places

@@ -8,7 +8,7 @@ use mir.Val.{bits}
 use Rattle.blake2_rows.specs.Family.{Family, word, rotations}
 use Rattle.blake2_rows.specs.Round.{plus, rotate, mix}
 use Rattle.blake2_rows.specs.Lanes.{in_lane}
-use Rattle.blake2_rows.proofs.Undoing.{set-set}
+use Rattle.blake2_rows.proofs.Assignments.{set-set}
 
 -- four places of v, in their order
 record Places (v : List ℕ) (a b c d : ℕ) : Type 0 where
