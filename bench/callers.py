@@ -12,9 +12,11 @@ Tables, as Markdown on standard output, and a plot:
 With --write all of them go into the documents: the tables to docs/SPEED.md, between its two marks for
 callers, and the plot to docs/callers.svg.
 
-The static library blake2_c is built for x86-64-v3. "ours from C" are calls of the header's functions in a
-program in C (callers/callers.c), "ours from Rust" those of the crate in rust/ (callers/rust). In all other
-points bench/speed.py says how it is timed, and which packages have the peers.
+"ours from C" are calls of the header's functions in a program in C (callers/callers.c) that is linked with
+the library as c/install.sh installs it, which chooses its build as it runs; the two names with a processor are the same
+program over that build alone. "ours from Rust" are calls of the crate in rust/ (callers/rust). "hashlib through
+Python" is what a program in Python makes of the same, an object a digest and an update a piece. In all other points
+bench/speed.py says how it is timed, and which packages have the peers.
 
 usage: bench/callers.py [--mebibytes N] [--turns N] [--only pieces|once|file | --write]
 """
@@ -34,7 +36,8 @@ from speed import OUT, PEERS, TIMED, TOP, Column, Parser, at_least, say
 HERE = os.path.join(TOP, "bench", "callers")
 MARKS = ("<!-- measured by bench/callers.py -->\n", "<!-- end of what bench/callers.py measured -->\n")
 PICTURE = os.path.join(TOP, "docs", "callers.svg")
-CPU = "x86-64-v3"
+CPU = "x86-64-v3"  # of the program b2
+CHOSEN = "ours from C"
 MESSAGE_BYTES = 1 << 16
 PIECES = (1, 64, 1024, 65536)
 ONCE_BYTES = (0, 64, 1024, 65536)
@@ -43,18 +46,23 @@ IN_PIECES = "_in_pieces"
 
 
 def installed():
-    """The folder where the library is installed, built for the processor that is timed."""
-    folder = os.path.join(OUT, "installed")
-    say(f"proving and building blake2_c for {CPU} (minutes, where nothing is kept of its proof)")
-    good, output = speed.outcome([os.path.join(TOP, "c", "install.sh"), "--cpu", CPU, folder])
+    """The folder where the library is installed, and that with the archive of each processor."""
+    folder, parts = os.path.join(OUT, "installed"), os.path.join(OUT, "parts")
+    say("proving and building blake2_c for both processors (minutes, where nothing is kept of its proof)")
+    good, output = speed.outcome([os.path.join(TOP, "c", "install.sh"), "--parts", parts, folder])
     if not good:
         sys.exit("callers: the library was not built: " + output)
-    return folder
+    return folder, parts
 
 
 def words_for(folder):
-    """The words of the C compiler for a program over the library."""
-    return ["-I" + os.path.join(folder, "include", "blake2_c"), os.path.join(folder, "lib", "libblake2_c.a")]
+    """The words of the C compiler for a program over the installed library."""
+    return words_over(folder, os.path.join(folder, "lib", "libblake2_c.a"))
+
+
+def words_over(folder, archive):
+    """The same over another archive with the installed header."""
+    return ["-I" + os.path.join(folder, "include", "blake2_c"), archive]
 
 
 def crate_in_rust(folder):
@@ -68,24 +76,54 @@ def crate_in_rust(folder):
     return os.path.join(OUT, "callers", "release", "libcallers.so")
 
 
-def libraries(folder):
-    """The shared libraries to time, by their names."""
-    of_c = speed.shared("callers.so", [os.path.join(HERE, "callers.c"), *words_for(folder)])
-    if of_c is None:
+def calls_in_c(folder, parts):
+    """The shared libraries over the calls in C by their names: over the chosen build, and over each alone."""
+    source = os.path.join(HERE, "callers.c")
+    found = {CHOSEN: speed.shared("callers.so", [source, *words_for(folder)])}
+    for cpu in speed.CPUS:
+        words = words_over(folder, os.path.join(parts, cpu + ".a"))
+        found[f"{CHOSEN}, {cpu} alone"] = speed.shared(f"callers-{cpu}.so", [source, *words])
+    if None in found.values():
         sys.exit("callers: a C compiler (cc) is needed")
-    found = {"ours from C": of_c, "ours from Rust": crate_in_rust(folder), "libb2": speed.libb2()[1],
+    return found
+
+
+def libraries(folder, parts):
+    """The shared libraries to time, by their names."""
+    found = {**calls_in_c(folder, parts), "ours from Rust": crate_in_rust(folder), "libb2": speed.libb2()[1],
              "blake2_simd": speed.blake2_simd()[1], "OpenSSL's EVP": speed.openssl()}
     return {name: ctypes.CDLL(path) for name, path in found.items() if path}
+
+
+def python_in_pieces(kind, message, piece):
+    """The timer of the message in pieces as a Python program hashes it with hashlib."""
+    function = getattr(hashlib, kind.algorithm)
+    view = memoryview(message)
+
+    def loop(count):
+        start = time.perf_counter_ns()
+        for _ in range(count):
+            hasher = function()
+            for at in range(0, len(view), piece):
+                hasher.update(view[at:at + piece])
+            hasher.digest()
+        return time.perf_counter_ns() - start
+    return {"hashlib through Python": speed.loop_timer(loop)}
 
 
 class Calls:
     """What is timed in memory: digests in one call, and in pieces."""
 
-    def __init__(self, turns, folder):
-        self.libraries = libraries(folder)
-        self.once = speed.Memory(turns, self.functions(""))
-        self.pieces = speed.Memory(turns, self.functions(IN_PIECES))
+    def __init__(self, turns, folder, parts):
+        self.libraries = libraries(folder, parts)
+        self.piece = 0
+        self.once = speed.Memory(turns, self.functions(""), speed.through_python)
+        self.pieces = speed.Memory(turns, self.functions(IN_PIECES), self.through_python)
         self.measured = {}
+
+    def through_python(self, kind, message):
+        """The timer of a Python program over the same pieces."""
+        return python_in_pieces(kind, message, self.piece)
 
     def functions(self, way):
         """The functions by the names of the libraries and their kinds' words."""
@@ -99,6 +137,7 @@ class Calls:
     def best_in_pieces(self, kind, piece):
         """The best time in nanoseconds of the message in such pieces by each library."""
         if (kind, piece) not in self.measured:
+            self.piece = piece
             for library in self.libraries.values():
                 library.set_piece(ctypes.c_size_t(piece))
             self.measured[kind, piece] = self.pieces.timed(kind, MESSAGE_BYTES)
@@ -185,14 +224,14 @@ def options_given():
 
 def parts_of(options):
     """The heading and the tables, each once it is measured; with --write the plot is drawn last."""
-    folder = installed()
-    yield (f"{speed.machine()}; {speed.versions()}; built for {CPU}; best of {options.turns * speed.PLOT_TURNS} "
+    folder, parts = installed()
+    yield (f"{speed.machine()}; {speed.versions()}; `b2` built for {CPU}; best of {options.turns * speed.PLOT_TURNS} "
            f"or more in memory, medians of {options.turns} over the file.\n")
     if options.only in (None, "file"):
         yield speed.with_load(file_table(options, folder))
     if options.only == "file":
         return
-    calls = Calls(options.turns, folder)
+    calls = Calls(options.turns, folder, parts)
     for name, table in (("pieces", pieces_table), ("once", once_table)):
         if options.only in (None, name):
             yield from (speed.with_load(table(kind, calls)) for kind in TIMED)
