@@ -6,10 +6,11 @@
 # It installs the library in a folder of its own (c/install.sh, which says what all but the last word are).
 # PART is one of the parts below, each of which is a file of tests/:
 #
-#   languages   C, C++, the examples of c/README.md, the crate in Rust
+#   languages   C, C++, the examples of c/README.md
 #   choosing    the choice between the two builds, and what the libraries show
 #   installing  what c/install.sh puts where
 #   libb2       libb2's functions by their own names, and its own tests
+#   wrappers    Rust and Python, by rust/run_tests.sh and python/run_tests.sh
 #
 # A test whose tool is absent is skipped, and a line says so. The last line counts, and the status is 0
 # where no test failed.
@@ -100,7 +101,7 @@ fi
 
 # ---- the parts
 
-for part in languages choosing installing libb2; do
+for part in languages choosing installing libb2 wrappers; do
     if [ -z "$only" ] || [ "$only" = "$part" ]; then
         . "$tests/$part.sh"
         "test_$part"

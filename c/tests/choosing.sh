@@ -66,6 +66,14 @@ compiler_knows() {
         cc -x c -o /dev/null - 2>/dev/null && echo -DCOMPILER_KNOWS
 }
 
+# The library joined by another compiler, and what it makes of choose.c.
+joined_by() {
+    CC=$1 "$here/join.sh" "$work/by_$1" "$parts/x86-64-v2.a" "$parts/x86-64-v3.a" &&
+        "$1" -std=gnu99 "${warnings[@]}" -O1 -DPROCESSOR -I"$work" -I"$tests" -o "$work/made_up_by" "$tests/choose.c" &&
+        "$work/made_up_by" && "$1" -std=c99 -I"$include" "$tests/linked.c" "$work/by_$1/libblake2_c.a" \
+        -o "$work/linked_by" -pthread && "$work/linked_by"
+}
+
 # What the choice says on this processor or an emulated one: the level, 3 or 2, or 0 for an end with a line.
 # Where the compiler knows the levels, it has to say the same.
 chooses_level() {
@@ -233,6 +241,7 @@ test_choosing() {
     check "join.sh refuses another list of functions" join_refuses_a_difference
     check "processors that are made up" made_up_processors 0
     check "processors that are made up, optimised" made_up_processors 2
+    if has clang; then check "the library joined by clang" joined_by clang; else skip "the library joined by clang" "no clang"; fi
     check "choose.c" compile_choose choose -O2 $(compiler_knows) &&
         check "the choice on this processor" chooses_level "$(level_of_system)" env
     test_builds

@@ -76,6 +76,37 @@ installs_again() {
         install_parts "$folder" && words_work "$folder/lib" && files_below "$folder" | diff <(wanted_files lib/) -
 }
 
+# A folder with a copy of c/, and in bin/ a stand-in for rt, which shows progress and leaves the archive of the
+# processor that it is asked for; with the file `refuse` it shows an error instead.
+make_stand_in() {
+    mkdir -p "$1/bin" "$1/crates/blake2_c" && cp -R "$here" "$1/c" && cat >"$1/bin/rt" <<END || return 1
+#!/bin/sh
+[ "\$1 \$2" = "lib --cpu" ] && [ "\$PWD" = "$1/crates/blake2_c" ] || exit 3
+echo "\$@" >>"$1/calls"
+echo "so far: 9 of 34 functions checked" >&2
+echo "fn blake2_c::something: proved"
+if [ -e "$1/refuse" ]; then echo "not proved: something"; exit 1; fi
+mkdir -p out && cp "$parts/\$3.a" out/libblake2_c.a
+END
+    chmod +x "$1/bin/rt"
+}
+
+# Each processor's archive is proved, shown as it goes, and taken as it was built; a proof that fails is shown
+# whole, and nothing is installed.
+proves() {
+    local tree=$work/tree
+    make_stand_in "$tree" && PATH=$tree/bin:$PATH "$tree/c/install.sh" --after-ci --parts "$tree/parts" "$tree/made" \
+        2>"$work/shown" || return 1
+    printf '%s\n' 'install.sh: proving and building for x86-64-v2' 'install.sh: so far: 9 of 34 functions checked' \
+        'install.sh: proving and building for x86-64-v3' 'install.sh: so far: 9 of 34 functions checked' \
+        "install.sh: installed under $tree/made" | diff - "$work/shown" &&
+        printf 'lib --cpu x86-64-v%s\n' 2 3 | diff - "$tree/calls" && words_work "$tree/made/lib" &&
+        cmp "$parts/x86-64-v2.a" "$tree/parts/x86-64-v2.a" && cmp "$parts/x86-64-v3.a" "$tree/parts/x86-64-v3.a" &&
+        touch "$tree/refuse" || return 1
+    refuses 1 'not proved: something' env "PATH=$tree/bin:$PATH" "$tree/c/install.sh" --cpu x86-64-v3 "$tree/not_made" &&
+        [ ! -e "$tree/not_made" ]
+}
+
 # The status and the words of a call that is refused.
 refuses() {
     local wanted=$1 word=$2
@@ -90,7 +121,7 @@ refusals() {
         refuses 2 usage "${call[@]}" --cpu && refuses 2 usage "${call[@]}" --cpu x86-64-v4 "$work/no" &&
         refuses 2 usage "${call[@]}" --from && refuses 2 usage "${call[@]}" --what "$work/no" &&
         refuses 2 usage "${call[@]}" --uninstall && refuses 0 'DESTDIR' "${call[@]}" --help &&
-        refuses 1 'rt is not on the PATH' env PATH=/usr/bin:/bin "${call[@]}" "$work/no" &&
+        { [ -e /usr/bin/rt ] || refuses 1 'rt is not on the PATH' env PATH=/usr/bin:/bin "${call[@]}" "$work/no"; } &&
         refuses 1 'no-compiler is not on the PATH' env CC=no-compiler "${call[@]}" --from "$parts" "$work/no" &&
         refuses 1 'No such file' "${call[@]}" --from "$work/nowhere" "$work/no" && [ ! -e "$work/no" ] || return 1
     "$here/install.sh" --help | head -n 1 | grep -q '^Proves and builds the library'
@@ -103,8 +134,9 @@ test_installing() {
     check "what install.sh refuses" refusals
     if [ -e "$parts/x86-64-v2.a" ]; then
         check "one build alone" one_build
+        check "what install.sh shows as it proves" proves
     else
-        skip "one build alone" "there is no archive for x86-64-v2"
+        skip "one build alone, and what install.sh shows as it proves" "there is no archive for x86-64-v2"
     fi
     has pkg-config || skip "the words for pkg-config" "no pkg-config"
 }

@@ -1,4 +1,4 @@
-# Part of c/run_tests.sh: the library from C, C++, Python and Rust.
+# Part of c/run_tests.sh: the library from C and C++, and the examples of c/README.md.
 
 # Compiles test.c to this program with these words.
 compile() {
@@ -99,11 +99,6 @@ python_example() {
         python3 "$tests/ctypes_example.py" "$work/hello.py" "$shared"
 }
 
-rust_tests() {
-    BLAKE2_C_LIB=$prefix/lib CARGO_TARGET_DIR=$work/target \
-        cargo test --offline --manifest-path "$top/rust/Cargo.toml"
-}
-
 # test.c of a family, in each way that a program meets the library.
 test_family() {
     family=$1
@@ -135,16 +130,6 @@ test_examples() {
     check "the example in Python of c/README.md" python_example
 }
 
-test_rust() {
-    if ! has cargo; then
-        skip "the crate in Rust" "no cargo"
-    elif ! has python3; then
-        skip "the crate in Rust" "no python3 for its known answers"
-    else
-        check "the crate in Rust" rust_tests
-    fi
-}
-
 test_languages() {
     local header level
     for header in blake2_c.h blake2.h; do check "$header in C" headers_compile $header; done
@@ -162,5 +147,4 @@ test_languages() {
     else
         skip "the known answers and the examples" "no python3"
     fi
-    test_rust
 }

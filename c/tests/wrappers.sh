@@ -1,0 +1,41 @@
+# Part of c/run_tests.sh: the library from Rust and Python, by the tests of the folders rust/ and python/.
+
+# Runs a script of tests over the installed library, and adds its counts: its last line is as that of
+# c/run_tests.sh, and its status 0 where none failed.
+add_script() {
+    local line status
+    "$1" "$prefix" >"$work/script" 2>"$work/log"
+    status=$?
+    line=$(tail -n 1 "$work/script")
+    sed '$d' "$work/script"
+    if [[ $line =~ ^([0-9]+)\ passed,\ ([0-9]+)\ failed(,\ ([0-9]+)\ skipped)?$ ]]; then
+        passed=$((passed + BASH_REMATCH[1]))
+        failed=$((failed + BASH_REMATCH[2]))
+        skipped=$((skipped + ${BASH_REMATCH[4]:-0}))
+        [ "$status" -eq 0 ] || [ "${BASH_REMATCH[2]}" -gt 0 ] || failed=$((failed + 1))
+    else
+        echo "FAILED: $1 did not count its tests"
+        tail -n 40 "$work/log" | sed 's/^/    /'
+        failed=$((failed + 1))
+    fi
+}
+
+rust_tests() {
+    BLAKE2_C_LIB=$prefix/lib CARGO_TARGET_DIR=$work/target \
+        cargo test --offline --manifest-path "$top/rust/Cargo.toml"
+}
+
+test_rust() {
+    if ! has cargo; then
+        skip "the crate in Rust" "no cargo"
+    elif ! has python3; then
+        skip "the crate in Rust" "no python3 for its known answers"
+    else
+        check "the crate in Rust" rust_tests
+    fi
+}
+
+test_wrappers() {
+    if [ -x "$top/rust/run_tests.sh" ]; then add_script "$top/rust/run_tests.sh"; else test_rust; fi
+    if [ -x "$top/python/run_tests.sh" ]; then add_script "$top/python/run_tests.sh"; fi
+}
