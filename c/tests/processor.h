@@ -1,12 +1,20 @@
 /* A processor that is made up, in the place of <cpuid.h>, for choose.c of this folder. It answers as the
  * compiler's functions do: 0 for a leaf that the processor doesn't have. */
+#include <stdint.h>
+
 static struct made_up {
     unsigned last, last_extended;       /* the last leaf, and that from 0x80000000 on */
     unsigned first, seventh, extended;  /* leaf 1 in ecx, 7 in ebx, 0x80000001 in ecx */
     unsigned saved;                     /* the low half of XCR0 */
 } made_up;
 
+/* The stack is as a function may take it to be, in a call that asks for the processor too. */
+__attribute__((noinline)) static void need_aligned_stack(void) {
+    if ((uintptr_t)__builtin_frame_address(0) % 16) abort();
+}
+
 static int __get_cpuid_count(unsigned leaf, unsigned part, unsigned *a, unsigned *b, unsigned *c, unsigned *d) {
+    need_aligned_stack();
     if (leaf > (leaf & 0x80000000u ? made_up.last_extended : made_up.last)) return 0;
     *a = *b = *c = *d = 0xdeadbeef; /* of no use to anyone */
     if (leaf == 1) *c = made_up.first;
