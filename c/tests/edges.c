@@ -7,8 +7,8 @@
  *   cc -std=c99 -Wall -Wextra -Wpedantic -Werror -I FOLDER/include/blake2_c edges.c ARCHIVE -o edges
  *   cc the same with -DTEST_S                   the same of BLAKE2s, without the tree
  *   ./edges | python3 check_lines.py            status 0 where every digest is hashlib's
- *   ./edges 5000000000                          one message of so many bytes too, of a sparse file's
- *                                               zeros; 5 to 12 seconds for 5e9 */
+ *   ./edges 4294967396                          one message of so many zeros too: 4 GiB of address space,
+ *                                               without which it is skipped, and 11 s for BLAKE2b */
 #include "blake2_c.h"
 
 #include <stdio.h>

@@ -38,10 +38,18 @@ header_compiles_as_cpp() {
     c++ -std=c++11 "${warnings[@]}" -I"$include" -I"$include/libb2" -c "$work/header.cpp" -o /dev/null
 }
 
-# The inline functions by the names of libb2.
-libb2_header() {
-    cc -std=c99 -g -O"$1" "${warnings[@]}" -I"$include/libb2" -o "$work/libb2_header" "$tests/libb2_header.c" \
-        "$archive" && "$work/libb2_header"
+# A test program of a family, with these words, whose digests Python's hashlib has to have too; WORD is given to the
+# program.
+compare_lines() {
+    local source=$1 word=$2
+    shift 2
+    cc -std=c99 -g "${warnings[@]}" $(family_words "$family") -o "$work/$source" "$tests/$source.c" "$@" "$archive" &&
+        "$work/$source" $word >"$work/lines" && python3 "$tests/check_lines.py" <"$work/lines"
+}
+
+# A program in C++ over both headers.
+cpp_links() {
+    c++ -std=c++11 "${warnings[@]}" -I"$include" -o "$work/link" "$tests/link.cpp" "$archive" && "$work/link"
 }
 
 # The words that pkg-config has for one of its names, or those that say the same.
@@ -101,12 +109,20 @@ python_example() {
 
 # test.c of a family, in each way that a program meets the library.
 test_family() {
+    local level
     family=$1
     check "test.c, blake2$family" compile_and_run "$work/test_$family" -O2 $(family_words $family) "$archive"
     check "test.c, blake2$family, with the shared library" with_shared_library
+    check "edges.c, blake2$family" compare_lines edges "" -O2 -I"$include"
+    check "a message of more than 2^32 bytes, blake2$family" compare_lines edges 4294967396 -O2 -I"$include"
+    for level in 0 2; do
+        check "libb2_header.c, blake2$family, -O$level" compare_lines libb2_header "" -O$level -I"$include/libb2"
+    done
     if links -fsanitize=address,undefined && "$work/linked"; then
         check "test.c, blake2$family, with sanitizers" compile_and_run "$work/test_san_$family" -O1 \
             -fsanitize=address,undefined -fno-sanitize-recover=all $(family_words $family) "$archive"
+        check "edges.c, blake2$family, with sanitizers" compare_lines edges "" -O1 -I"$include" \
+            -fsanitize=address,undefined -fno-sanitize-recover=all
     else
         skip "test.c, blake2$family, with sanitizers" "cc has none"
     fi
@@ -131,15 +147,13 @@ test_examples() {
 }
 
 test_languages() {
-    local header level
+    local header
     for header in blake2_c.h blake2.h; do check "$header in C" headers_compile $header; done
     if has c++; then
         for header in blake2_c.h blake2.h; do check "$header in C++" header_compiles_as_cpp $header; done
+        check "link.cpp" cpp_links
     else
         skip "the headers in C++" "no C++ compiler c++"
-    fi
-    if [ -e "$tests/libb2_header.c" ]; then
-        for level in 0 2; do check "the header by the names of libb2, -O$level" libb2_header $level; done
     fi
     if has python3; then
         for family in b s; do test_family $family; done
