@@ -21,8 +21,9 @@
  * says, and that what a call writes (the state, the output) overlaps nothing else that it is
  * given.
  *
- * Secrets: final and verify wipe the state. What a call leaves of a key on the stack is not
- * wiped. */
+ * Secrets: final and verify wipe the state. What a call leaves of a key on the stack and in
+ * registers is not wiped: after an init with a key, or a hash with a key in one call, copies of
+ * the whole key were found on the dead stack. */
 #ifndef BLAKE2_C_H
 #define BLAKE2_C_H
 
