@@ -622,9 +622,9 @@ static void every_root(void) {
         vulfsjor_tree_state state;
         int taken = size >= 1 && size <= MAX, wanted = taken ? 0 : -1;
         size_t written = taken ? size : 0;
-        CHECK(vulfsjor_tree_root(fresh(out, 80), size, bytes, 500, salt, 3, persona, 2, 100) == wanted);
+        CHECK(vulfsjor_tree_root(fresh(out, 80), size, bytes, 900, salt, 3, persona, 2, 300) == wanted);
         CHECK(is_untouched(out, written, 80));
-        if (taken) tell_root(size, 3, 2, 100, 500, out);
+        if (taken) tell_root(size, 3, 2, 300, 900, out);
         memset(&state, 0x5a, sizeof state);
         CHECK(vulfsjor_tree_init(&state, size, 0, 0, 0, 0, 50) == wanted);
         CHECK(vulfsjor_tree_digest_size(&state) == written && (taken || is_zero(&state, sizeof state)));
