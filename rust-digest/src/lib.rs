@@ -1,0 +1,244 @@
+//! The hashers and MACs of the crate `vulfsjor` under the traits of the crate `digest` 0.10, so that they go
+//! where generic code asks for a `Digest`, a `Mac` or a `VariableOutput`. Names, key lengths and answers are those
+//! of the crate `blake2` 0.10, but that an empty key is refused. These lines are not proved; they call those of
+//! `vulfsjor`, which call the proved functions. What a dropped one held is wiped.
+//!
+//! `hmac::SimpleHmac`, `hkdf::SimpleHkdf` and `pbkdf2` take the hash functions here; `hmac::Hmac` asks for one that
+//! compresses each block as soon as it is full, which BLAKE2 is not. A MAC of BLAKE2 needs none of them:
+//! [`Blake2bMac`] is one by itself.
+//!
+//! It is a crate of its own, so that `vulfsjor` itself keeps building without a registry.
+//!
+//! ```
+//! use digest::Digest;
+//! use vulfsjor_digest::Blake2b512;
+//!
+//! fn twice<D: Digest>(message: &[u8]) -> digest::Output<D> {
+//!     D::digest(D::digest(message))
+//! }
+//! assert_eq!(twice::<Blake2b512>(b"abc").len(), 64);
+//! ```
+#![no_std]
+#![forbid(unsafe_code)]
+#![deny(missing_docs)]
+
+use core::fmt;
+use core::marker::PhantomData;
+
+use digest::consts::{True, U128, U32, U64};
+use digest::crypto_common::{
+    AlgorithmName, BlockSizeUser, InvalidLength, Key, KeyInit, KeySizeUser,
+};
+use digest::generic_array::ArrayLength;
+use digest::typenum::{IsLessOrEqual, NonZero, Unsigned};
+use digest::{
+    FixedOutput, FixedOutputReset, HashMarker, InvalidBufferSize, InvalidOutputSize, MacMarker,
+    Output, OutputSizeUser, Reset, Update, VariableOutput, VariableOutputReset,
+};
+use vulfsjor::Params;
+
+macro_rules! family {
+    ($name:literal, $hasher:ident, $mac:ident, $var:ident, $max:ty, $block:ty, $build:ident) => {
+        #[doc = concat!("The hash function ", $name, " with digests of `N` bytes, a number of `typenum` from 1 to `", stringify!($max), "`.")]
+        #[derive(Clone)]
+        pub struct $hasher<N>(vulfsjor::$hasher, PhantomData<N>);
+
+        impl<N> $hasher<N>
+        where
+            N: ArrayLength<u8> + IsLessOrEqual<$max, Output = True> + NonZero,
+        {
+            fn with(params: Params<'_>) -> Result<Self, InvalidLength> {
+                let made = params.output_size(N::USIZE).$build();
+                made.map(|hasher| $hasher(hasher, PhantomData)).map_err(|_| InvalidLength)
+            }
+
+            /// One with a salt and a persona, and no key. Refused where one is longer than the family takes.
+            pub fn new_with_salt_and_personal(salt: &[u8], persona: &[u8]) -> Result<Self, InvalidLength> {
+                Self::with(Params::new().salt(salt).persona(persona))
+            }
+        }
+
+        impl<N> Default for $hasher<N>
+        where
+            N: ArrayLength<u8> + IsLessOrEqual<$max, Output = True> + NonZero,
+        {
+            fn default() -> Self {
+                Self::with(Params::new()).expect("a size of the family")
+            }
+        }
+
+        impl<N> HashMarker for $hasher<N> {}
+
+        impl<N> fmt::Debug for $hasher<N> {
+            fn fmt(&self, f: &mut fmt::Formatter<'_>) -> fmt::Result {
+                f.write_str(concat!(stringify!($hasher), " { .. }"))
+            }
+        }
+
+        #[doc = concat!("The MAC of ", $name, " with tags of `N` bytes.")]
+        #[derive(Clone)]
+        pub struct $mac<N>(vulfsjor::$mac, PhantomData<N>);
+
+        impl<N> $mac<N>
+        where
+            N: ArrayLength<u8> + IsLessOrEqual<$max, Output = True> + NonZero,
+        {
+            /// One with a salt and a persona, under a key of 1 byte at least. Refused where there is none, or a
+            /// length is more than the family takes.
+            pub fn new_with_salt_and_personal(key: &[u8], salt: &[u8], persona: &[u8]) -> Result<Self, InvalidLength> {
+                let params = Params::new().output_size(N::USIZE).key(key).salt(salt).persona(persona);
+                let made = vulfsjor::$mac::with_params(&params);
+                made.map(|mac| $mac(mac, PhantomData)).map_err(|_| InvalidLength)
+            }
+        }
+
+        impl<N> KeySizeUser for $mac<N> {
+            type KeySize = $max;
+        }
+
+        /// `new_from_slice` takes a key of 1 to that many bytes.
+        impl<N> KeyInit for $mac<N>
+        where
+            N: ArrayLength<u8> + IsLessOrEqual<$max, Output = True> + NonZero,
+        {
+            fn new(key: &Key<Self>) -> Self {
+                Self::new_from_slice(key).expect("a key of the family")
+            }
+
+            fn new_from_slice(key: &[u8]) -> Result<Self, InvalidLength> {
+                Self::new_with_salt_and_personal(key, b"", b"")
+            }
+        }
+
+        impl<N> MacMarker for $mac<N> {}
+
+        impl<N> fmt::Debug for $mac<N> {
+            fn fmt(&self, f: &mut fmt::Formatter<'_>) -> fmt::Result {
+                f.write_str(concat!(stringify!($mac), " { .. }"))
+            }
+        }
+
+        family!(@both $name, $hasher, $max, $block);
+        family!(@both concat!($name, "Mac"), $mac, $max, $block);
+
+        #[doc = concat!($name, " with a size that is chosen at run time.")]
+        #[derive(Clone)]
+        pub struct $var(vulfsjor::$hasher, usize);
+
+        impl Update for $var {
+            fn update(&mut self, data: &[u8]) {
+                self.0.update(data);
+            }
+        }
+
+        impl Reset for $var {
+            fn reset(&mut self) {
+                self.0.reset();
+            }
+        }
+
+        impl VariableOutput for $var {
+            const MAX_OUTPUT_SIZE: usize = <$max as Unsigned>::USIZE;
+
+            fn new(output_size: usize) -> Result<Self, InvalidOutputSize> {
+                let made = Params::new().output_size(output_size).$build();
+                made.map(|hasher| $var(hasher, output_size)).map_err(|_| InvalidOutputSize)
+            }
+
+            fn output_size(&self) -> usize {
+                self.1
+            }
+
+            fn finalize_variable(self, out: &mut [u8]) -> Result<(), InvalidBufferSize> {
+                if out.len() != self.1 {
+                    return Err(InvalidBufferSize);
+                }
+                out.copy_from_slice(self.0.finalize().as_bytes());
+                Ok(())
+            }
+        }
+
+        impl VariableOutputReset for $var {
+            fn finalize_variable_reset(&mut self, out: &mut [u8]) -> Result<(), InvalidBufferSize> {
+                if out.len() != self.1 {
+                    return Err(InvalidBufferSize);
+                }
+                out.copy_from_slice(self.0.finalize_reset().as_bytes());
+                Ok(())
+            }
+        }
+
+        impl fmt::Debug for $var {
+            fn fmt(&self, f: &mut fmt::Formatter<'_>) -> fmt::Result {
+                f.write_str(concat!(stringify!($var), " { .. }"))
+            }
+        }
+    };
+
+    // What the hasher and the MAC both have.
+    (@both $name:expr, $type:ident, $max:ty, $block:ty) => {
+        impl<N> OutputSizeUser for $type<N>
+        where
+            N: ArrayLength<u8> + IsLessOrEqual<$max, Output = True> + NonZero + 'static,
+        {
+            type OutputSize = N;
+        }
+
+        impl<N> BlockSizeUser for $type<N> {
+            type BlockSize = $block;
+        }
+
+        impl<N> AlgorithmName for $type<N>
+        where
+            N: Unsigned,
+        {
+            fn write_alg_name(f: &mut fmt::Formatter<'_>) -> fmt::Result {
+                write!(f, "{}{}", $name, 8 * N::USIZE)
+            }
+        }
+
+        impl<N> Update for $type<N> {
+            fn update(&mut self, data: &[u8]) {
+                self.0.update(data);
+            }
+        }
+
+        impl<N> Reset for $type<N> {
+            fn reset(&mut self) {
+                self.0.reset();
+            }
+        }
+
+        impl<N> FixedOutput for $type<N>
+        where
+            N: ArrayLength<u8> + IsLessOrEqual<$max, Output = True> + NonZero + 'static,
+        {
+            fn finalize_into(self, out: &mut Output<Self>) {
+                out.copy_from_slice(self.0.finalize().as_bytes());
+            }
+        }
+
+        impl<N> FixedOutputReset for $type<N>
+        where
+            N: ArrayLength<u8> + IsLessOrEqual<$max, Output = True> + NonZero + 'static,
+        {
+            fn finalize_into_reset(&mut self, out: &mut Output<Self>) {
+                out.copy_from_slice(self.0.finalize_reset().as_bytes());
+            }
+        }
+    };
+}
+
+family!("Blake2b", Blake2b, Blake2bMac, Blake2bVar, U64, U128, blake2b);
+family!("Blake2s", Blake2s, Blake2sMac, Blake2sVar, U32, U64, blake2s);
+
+/// BLAKE2b with digests of 64 bytes.
+pub type Blake2b512 = Blake2b<U64>;
+/// BLAKE2b with digests of 32 bytes.
+pub type Blake2b256 = Blake2b<U32>;
+/// BLAKE2s with digests of 32 bytes.
+pub type Blake2s256 = Blake2s<U32>;
+/// BLAKE2b's MAC with tags of 64 bytes.
+pub type Blake2bMac512 = Blake2bMac<U64>;
+/// BLAKE2s's MAC with tags of 32 bytes.
+pub type Blake2sMac256 = Blake2sMac<U32>;

@@ -1,0 +1,269 @@
+//! Generic code over the traits of `digest`, and of crates that ask for them, beside hashlib's answers.
+use std::process::Command;
+
+use digest::consts::{U1, U16, U20, U28, U32, U48, U63, U64};
+use digest::crypto_common::{AlgorithmName, BlockSizeUser, KeySizeUser};
+use digest::generic_array::GenericArray;
+use digest::{
+    Digest, DynDigest, FixedOutput, FixedOutputReset, KeyInit, Mac, Output, OutputSizeUser, Reset,
+    Update, VariableOutput, VariableOutputReset,
+};
+use vulfsjor_digest::*;
+
+fn bytes(digits: &str) -> Vec<u8> {
+    let digits = if digits == "-" { "" } else { digits };
+    let pairs = (0..digits.len()).step_by(2);
+    pairs
+        .map(|i| u8::from_str_radix(&digits[i..i + 2], 16).unwrap())
+        .collect()
+}
+
+// The fields of the script's lines of a kind and a family.
+fn lines(kind: &str, family: &str) -> Vec<Vec<String>> {
+    let script = concat!(env!("CARGO_MANIFEST_DIR"), "/tests/cases.py");
+    let output = Command::new("python3")
+        .arg(script)
+        .output()
+        .expect("python3");
+    assert!(output.status.success());
+    let text = String::from_utf8(output.stdout).unwrap();
+    let fields = text
+        .lines()
+        .map(|line| line.split(' ').map(String::from).collect());
+    let mine = |line: &Vec<String>| line[0] == kind && line[1] == family;
+    let lines: Vec<Vec<String>> = fields.filter(mine).collect();
+    assert!(lines.len() >= 3);
+    lines
+}
+
+// A digest of a message in two pieces, by each of the ways that generic code has.
+fn digest_by_all_ways<D>(start: D, message: &[u8], wanted: &[u8])
+where
+    D: Digest + FixedOutputReset + Reset + Clone,
+{
+    let mut hasher = start.clone();
+    let (first, second) = message.split_at(message.len() / 3);
+    Digest::update(&mut hasher, first);
+    let other = hasher.clone().chain_update(second);
+    Digest::update(&mut hasher, second);
+    assert_eq!(other.finalize()[..], *wanted);
+    assert_eq!(Digest::finalize_reset(&mut hasher)[..], *wanted);
+    assert_eq!(hasher.clone().finalize(), start.clone().finalize());
+    Digest::update(&mut hasher, b"other");
+    Reset::reset(&mut hasher);
+    Digest::update(&mut hasher, message);
+    let mut out = Output::<D>::default();
+    FixedOutput::finalize_into(hasher.clone(), &mut out);
+    assert_eq!(out[..], *wanted);
+    assert_eq!(hasher.finalize()[..], *wanted);
+    assert_eq!(<D as Digest>::output_size(), wanted.len());
+}
+
+// A tag likewise.
+fn tag_by_all_ways<M: Mac + FixedOutputReset + Reset + Clone>(
+    start: M,
+    message: &[u8],
+    wanted: &[u8],
+) {
+    let mut mac = start.clone();
+    Mac::update(&mut mac, message);
+    assert_eq!(mac.clone().finalize().into_bytes()[..], *wanted);
+    assert_eq!(mac.finalize_reset().into_bytes()[..], *wanted);
+    Mac::update(&mut mac, b"other");
+    Mac::reset(&mut mac);
+    Mac::update(&mut mac, message);
+    assert!(mac.clone().verify_slice(wanted).is_ok());
+    let mut wrong = wanted.to_vec();
+    wrong[message.len() % wanted.len()] ^= 1;
+    assert!(mac.clone().verify_slice(&wrong).is_err());
+    assert!(mac.verify_slice(&wanted[1..]).is_err());
+}
+
+fn name_of<T: AlgorithmName>() -> String {
+    struct Name<T>(T);
+    impl<T: AlgorithmName> std::fmt::Display for Name<std::marker::PhantomData<T>> {
+        fn fmt(&self, f: &mut std::fmt::Formatter<'_>) -> std::fmt::Result {
+            T::write_alg_name(f)
+        }
+    }
+    Name(std::marker::PhantomData::<T>).to_string()
+}
+
+macro_rules! family {
+    (
+        $test:ident, $letter:literal, $hasher:ident, $mac:ident, $var:ident, $max:literal, $small:literal, $block:literal,
+        $longest:ty, $sizes:tt
+    ) => {
+        mod $test {
+            use super::*;
+
+            // Whether the size of the line is N; then its digest, or its tag.
+            macro_rules! at_size {
+                ($fields:expr, $n:ty) => {{
+                    let [key, salt, persona, message, wanted] = [3, 4, 5, 6, 7].map(|i| bytes(&$fields[i]));
+                    let is_its = <$n as digest::typenum::Unsigned>::USIZE == wanted.len();
+                    if is_its && key.is_empty() {
+                        let start = $hasher::<$n>::new_with_salt_and_personal(&salt, &persona).unwrap();
+                        digest_by_all_ways(start, &message, &wanted);
+                    } else if is_its {
+                        let start = $mac::<$n>::new_with_salt_and_personal(&key, &salt, &persona).unwrap();
+                        tag_by_all_ways(start, &message, &wanted);
+                    }
+                    is_its as usize
+                }};
+            }
+
+            macro_rules! at_sizes {
+                ($fields:expr, ($n:ty)) => { at_size!($fields, $n) };
+                ($fields:expr, ($n:ty, $t:ty)) => { at_size!($fields, $n) + at_size!($fields, $t) };
+                ($fields:expr, ($a:ty, $b:ty, $c:ty, $d:ty, $e:ty)) => {
+                    at_sizes!($fields, ($a, $b)) + at_sizes!($fields, ($c, $d)) + at_size!($fields, $e)
+                };
+            }
+
+            #[test]
+            fn digests_and_tags_are_those_of_hashlib() {
+                let mut met = 0;
+                for fields in lines("digest", $letter) {
+                    met += at_sizes!(fields, $sizes);
+                }
+                assert_eq!(met, 3 * 5 + $max);
+            }
+
+            #[test]
+            fn sizes_at_run_time() {
+                let mut met = [false; $max + 1];
+                for fields in lines("digest", $letter) {
+                    let (message, wanted) = (bytes(&fields[6]), bytes(&fields[7]));
+                    if fields[3..6].iter().any(|field| field != "-") {
+                        continue;
+                    }
+                    let size = wanted.len();
+                    let mut hasher = $var::new(size).unwrap();
+                    assert_eq!(VariableOutput::output_size(&hasher), size);
+                    Update::update(&mut hasher, &message);
+                    let mut out = [0; $max + 1];
+                    assert!(hasher.clone().finalize_variable(&mut out[..size + 1]).is_err());
+                    assert!(hasher.clone().finalize_variable(&mut out[..size - 1]).is_err());
+                    assert!(hasher.finalize_variable_reset(&mut out[..size + 1]).is_err());
+                    assert_eq!(out, [0; $max + 1]);
+                    hasher.clone().finalize_variable(&mut out[..size]).unwrap();
+                    assert_eq!(out[..size], wanted);
+                    out.fill(0);
+                    hasher.finalize_variable_reset(&mut out[..size]).unwrap();
+                    assert_eq!(out[..size], wanted);
+                    Update::update(&mut hasher, b"other");
+                    Reset::reset(&mut hasher);
+                    Update::update(&mut hasher, &message);
+                    hasher.finalize_variable(&mut out[..size]).unwrap();
+                    assert_eq!(out[..size], wanted);
+                    met[size] = true;
+                }
+                assert!(!met[0] && met[1..].iter().all(|met| *met));
+                assert!($var::new(0).is_err() && $var::new($max + 1).is_err());
+                assert_eq!($var::MAX_OUTPUT_SIZE, $max);
+            }
+
+            #[test]
+            fn the_default_is_the_longest_without_a_key() {
+                let wanted = vulfsjor::$hasher::digest(b"abc");
+                assert_eq!($hasher::<$longest>::digest(b"abc")[..], *wanted.as_bytes());
+                let mut boxed: Box<dyn DynDigest> = Box::<$hasher<$longest>>::default();
+                boxed.update(b"abc");
+                assert_eq!(boxed.finalize()[..], *wanted.as_bytes());
+                let wanted = vulfsjor::$mac::tag(&[7; $max], b"abc").unwrap();
+                let mac = <$mac<$longest> as KeyInit>::new(GenericArray::from_slice(&[7; $max]));
+                assert_eq!(mac.chain_update(b"abc").finalize().into_bytes()[..], *wanted.as_bytes());
+            }
+
+            #[test]
+            fn lengths_are_refused() {
+                let long = [1; $max + 1];
+                for length in 0..=$max + 1 {
+                    let (text, is_long) = (&long[..length], length > $small);
+                    let is_no_key = length == 0 || length > $max;
+                    assert_eq!(<$mac<U16> as KeyInit>::new_from_slice(text).is_err(), is_no_key);
+                    assert_eq!($mac::<U16>::new_with_salt_and_personal(text, b"", b"").is_err(), is_no_key);
+                    assert_eq!($mac::<U16>::new_with_salt_and_personal(b"k", text, b"").is_err(), is_long);
+                    assert_eq!($mac::<U16>::new_with_salt_and_personal(b"k", b"", text).is_err(), is_long);
+                    assert_eq!($hasher::<U16>::new_with_salt_and_personal(text, b"").is_err(), is_long);
+                    assert_eq!($hasher::<U16>::new_with_salt_and_personal(b"", text).is_err(), is_long);
+                }
+            }
+
+            #[test]
+            fn names_and_sizes() {
+                assert_eq!(name_of::<$hasher<U16>>(), concat!(stringify!($hasher), "128"));
+                assert_eq!(name_of::<$mac<U16>>(), concat!(stringify!($mac), "128"));
+                assert_eq!(<$hasher<U16> as BlockSizeUser>::block_size(), $block);
+                assert_eq!(<$mac<U16> as BlockSizeUser>::block_size(), $block);
+                assert_eq!(<$mac<U16> as KeySizeUser>::key_size(), $max);
+                let mac = <$mac<U16> as KeyInit>::new_from_slice(b"secret").unwrap();
+                assert_eq!(format!("{mac:?}"), concat!(stringify!($mac), " { .. }"));
+                assert_eq!(format!("{:?}", $hasher::<U16>::default()), concat!(stringify!($hasher), " { .. }"));
+                assert_eq!(format!("{:?}", $var::new(1).unwrap()), concat!(stringify!($var), " { .. }"));
+            }
+
+            // What other crates make of these types, beside Python's hmac and hashlib.
+            #[test]
+            fn hmac_hkdf_and_pbkdf2() {
+                type Hmac = hmac::SimpleHmac<$hasher<$longest>>;
+                for fields in lines("hmac", $letter) {
+                    let [key, message, wanted] = [2, 3, 4].map(|i| bytes(&fields[i]));
+                    let start = <Hmac as KeyInit>::new_from_slice(&key).unwrap();
+                    let tag = start.chain_update(message).finalize().into_bytes();
+                    assert_eq!(tag[..], wanted);
+                }
+                for fields in lines("hkdf", $letter) {
+                    let [salt, secret, info, wanted] = [2, 3, 4, 5].map(|i| bytes(&fields[i]));
+                    let mut key = vec![0; wanted.len()];
+                    let salt = Some(&salt[..]).filter(|salt| !salt.is_empty());
+                    let extracted = hkdf::SimpleHkdf::<$hasher<$longest>>::new(salt, &secret);
+                    extracted.expand(&info, &mut key).unwrap();
+                    assert_eq!(key, wanted);
+                }
+                for fields in lines("pbkdf2", $letter) {
+                    let [password, salt, wanted] = [2, 3, 5].map(|i| bytes(&fields[i]));
+                    let mut key = vec![0; wanted.len()];
+                    pbkdf2::pbkdf2::<Hmac>(&password, &salt, fields[4].parse().unwrap(), &mut key);
+                    assert_eq!(key, wanted);
+                }
+            }
+        }
+    };
+}
+
+family!(
+    blake2b,
+    "b",
+    Blake2b,
+    Blake2bMac,
+    Blake2bVar,
+    64,
+    16,
+    128,
+    U64,
+    (U1, U20, U48, U63, U64)
+);
+family!(
+    blake2s,
+    "s",
+    Blake2s,
+    Blake2sMac,
+    Blake2sVar,
+    32,
+    8,
+    64,
+    U32,
+    (U1, U16, U20, U28, U32)
+);
+
+#[test]
+fn types_with_names() {
+    assert_eq!(Output::<Blake2b512>::default().len(), 64);
+    assert_eq!(Blake2b256::digest(b"x"), Blake2b::<U32>::digest(b"x"));
+    assert_eq!(Blake2b512::digest(b"x"), Blake2b::<U64>::digest(b"x"));
+    assert_eq!(Blake2s256::digest(b"x"), Blake2s::<U32>::digest(b"x"));
+    assert_eq!(<Blake2bMac512 as OutputSizeUser>::output_size(), 64);
+    assert_eq!(<Blake2sMac256 as OutputSizeUser>::output_size(), 32);
+}
