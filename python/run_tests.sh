@@ -1,0 +1,123 @@
+#!/usr/bin/env bash
+# Tests the package for Python over an installed library:
+#
+#   python/run_tests.sh FOLDER
+#
+# FOLDER is where c/install.sh has put the library. The package is built twice: by setup.py alone, which needs
+# setuptools, and as a wheel, which needs the package wheel too. PYTHONS names the interpreters to test with (python3
+# and /usr/bin/python3). A test whose tool is absent is skipped, and a line says so. The last line counts, and the
+# status is 0 where no test failed.
+set -u
+here=$(dirname "$(readlink -f "$0")")
+if [ $# -ne 1 ] || ! [ -e "$1/lib/libblake2_c.a" ]; then
+    echo "usage: python/run_tests.sh FOLDER, where c/install.sh has put the library" >&2
+    exit 2
+fi
+BLAKE2_C=$(readlink -f "$1")
+export BLAKE2_C PYTHONDONTWRITEBYTECODE=1
+work=$(mktemp -d)
+trap 'rm -rf "$work"' EXIT
+passed=0 failed=0 skipped=0
+
+skip() {
+    echo "skipped: $1 ($2)"
+    skipped=$((skipped + 1))
+}
+
+# Runs the command as a test of this name, and shows what it printed where it failed.
+check() {
+    local name=$1
+    shift
+    if "$@" >"$work/log" 2>&1; then
+        echo "passed: $name"
+        passed=$((passed + 1))
+    else
+        echo "FAILED: $name"
+        sed 's/^/    /' "$work/log"
+        failed=$((failed + 1))
+        return 1
+    fi
+}
+
+# Builds from a copy of the sources, so that nothing is left beside them, and without a warning of the compiler.
+build() {
+    cp -r "$here" "$work/source" && cd "$work/source" && CFLAGS=-Werror "$1" setup.py build --build-lib "$work/built"
+}
+
+# A wheel of this name, which is installed in a folder; nothing in it asks for a glibc after 2.17.
+build_wheel() {
+    cp -r "$here" "$work/wheel" && cd "$work/wheel" &&
+        "$1" -m pip --disable-pip-version-check wheel --no-deps --no-build-isolation --wheel-dir "$work" . &&
+        cd "$work" && [ "$(echo vulfsjor-*.whl)" = vulfsjor-0.1.0-cp311-abi3-linux_x86_64.whl ] &&
+        "$1" -m zipfile -e vulfsjor-*.whl "$work/installed" &&
+        for file in __init__.py _library.pyi _library.abi3.so py.typed; do
+            [ -e "$work/installed/vulfsjor/$file" ] || return 1
+        done
+}
+
+# Of the library that the module holds, no name is seen outside, and glibc need not be newer than 2.17.
+look_at_names() {
+    [ "$(nm -D --defined-only "$1" | awk '{print $3}')" = PyInit__library ] &&
+        [ -z "$(objdump -T "$1" | sed -n 's/.*(GLIBC_2\.\([0-9]*\).*/\1/p' | awk '$1 > 17')" ]
+}
+
+# Without the library, the script says what to do.
+refuse_without_library() {
+    cd "$work/source" && ! BLAKE2_C=$work/absent "$1" setup.py build >"$work/said" 2>&1 &&
+        grep -q "Run c/install.sh FOLDER, and set BLAKE2_C=FOLDER" "$work/said"
+}
+
+# The instructions of a comparison do not depend on the place where a tag differs.
+count_verify() {
+    local place count first=
+    for place in 0 31 63; do
+        count=$(PYTHONHASHSEED=0 PYTHONMALLOC=malloc valgrind --tool=callgrind --callgrind-out-file=/dev/null \
+            --toggle-collect=verify "$1" "$here/tests/verify_at.py" "$work/built" "$place" 2>&1 |
+            sed -n 's/.*Collected : //p')
+        [ "${count:-0}" -gt 1000 ] && [ "$count" = "${first:=$count}" ] || return 1
+    done
+}
+
+python=
+for candidate in ${PYTHONS:-python3 /usr/bin/python3}; do
+    "$candidate" -c 'import sys, setuptools, sysconfig, os
+sys.exit(sys.version_info < (3, 11) or not os.path.exists(os.path.join(sysconfig.get_path("include"), "Python.h")))' \
+        2>/dev/null && python=${python:-$candidate}
+done
+if [ -z "$python" ]; then
+    skip "the package for Python" "no python3 of 3.11 or later with setuptools and its headers"
+elif ! command -v cc >/dev/null; then
+    skip "the package for Python" "no C compiler cc"
+elif check "the package for Python is built by $python" build "$python"; then
+    check "no name of the library is seen outside the module" look_at_names "$work/built/vulfsjor/_library.abi3.so"
+    check "setup.py says what to do without the library" refuse_without_library "$python"
+    tested=
+    for each in ${PYTHONS:-python3 /usr/bin/python3}; do
+        full=$("$each" -c 'import sys; print(sys.version_info >= (3, 11) and sys.executable)' 2>/dev/null)
+        case "${full:-False} $tested " in False*) continue ;; *" $full "*) continue ;; esac
+        tested="$tested $full"
+        check "the package beside hashlib, in $each" "$full" "$here/tests/compare.py" "$work/built" 20000
+        check "tests of the package alone, in $each" "$full" "$here/tests/package.py" "$work/built"
+        if "$full" -c 'import test.test_hashlib' 2>/dev/null; then
+            check "CPython's test_hashlib over the package, in $each" "$full" "$here/tests/cpython.py" "$work/built"
+        else
+            skip "CPython's test_hashlib over the package, in $each" "it has none"
+        fi
+    done
+    if command -v valgrind >/dev/null; then
+        check "verify takes equal time" count_verify "$(set -- $tested; echo "$1")"
+    else
+        skip "verify takes equal time" "no valgrind"
+    fi
+    wheel=
+    for each in ${PYTHONS:-python3 /usr/bin/python3}; do
+        "$each" -c 'import wheel, pip' 2>/dev/null && wheel=${wheel:-$each}
+    done
+    if [ -z "$wheel" ]; then
+        skip "the wheel" "no python3 with pip and wheel"
+    elif check "the wheel is built by $wheel" build_wheel "$wheel"; then
+        check "the wheel beside hashlib" "$wheel" "$here/tests/compare.py" "$work/installed" 1000
+    fi
+fi
+echo "$passed passed, $failed failed, $skipped skipped"
+[ "$failed" -eq 0 ]

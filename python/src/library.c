@@ -1,0 +1,573 @@
+/* BLAKE2b and BLAKE2s for Python, with the interface of hashlib's, by the proved functions of the static
+ * library blake2_c. This file is C, which no proof covers. It keeps to the limited API of Python 3.11, so that
+ * one compiled file serves every later version of CPython. */
+#define PY_SSIZE_T_CLEAN
+#define Py_LIMITED_API 0x030b0000
+#include <Python.h>
+
+#include "blake2_c.h"
+
+/* ---- The families */
+
+/* Several messages, held while their digests are computed. */
+typedef struct messages {
+    Py_ssize_t count;
+    Py_buffer *views;
+    vulfsjor_message *texts;
+} messages;
+
+/* What differs between them. Each function is one call of the header's. */
+typedef struct family {
+    const char *name, *arguments;
+    int block, out, key, salt, person;
+    uint64_t last_offset;
+    int (*init)(void *run, size_t out, const Py_buffer *key, const Py_buffer *salt, const Py_buffer *person,
+                const vulfsjor_tree *tree);
+    int (*set_last_node)(void *run);
+    int (*update)(void *run, const void *in, size_t length);
+    int (*end)(void *run, uint8_t *out);
+    int (*verify)(void *run, const void *tag, size_t length);
+    void (*wipe)(void *run);
+    size_t (*size_of)(const void *run);
+    int (*many)(uint8_t *out, size_t size, const messages *m, const Py_buffer *key, const Py_buffer *salt,
+                const Py_buffer *person);
+} family;
+
+#define TEXT(buffer) (buffer)->buf, (size_t)(buffer)->len
+#define FAMILY(f, NAME, offset)                                                                              \
+    static int f##_init(void *S, size_t o, const Py_buffer *k, const Py_buffer *s, const Py_buffer *p,       \
+                        const vulfsjor_tree *t) {                                                            \
+        return vulfsjor_##f##_init_tree(S, o, TEXT(k), TEXT(s), TEXT(p), t);                                 \
+    }                                                                                                        \
+    static int f##_last(void *S) { return vulfsjor_##f##_set_last_node(S, 1); }                              \
+    static int f##_update(void *S, const void *in, size_t n) { return vulfsjor_##f##_update(S, in, n); }     \
+    static int f##_end(void *S, uint8_t *o) { return vulfsjor_##f##_final(S, o, VULFSJOR_##NAME##_OUTBYTES); } \
+    static int f##_verify(void *S, const void *t, size_t n) { return vulfsjor_##f##_verify(S, t, n); }       \
+    static void f##_wipe(void *S) { vulfsjor_##f##_wipe(S); }                                                \
+    static size_t f##_size(const void *S) { return vulfsjor_##f##_digest_size(S); }                          \
+    static int f##_many(uint8_t *out, size_t o, const messages *m, const Py_buffer *k, const Py_buffer *s,   \
+                        const Py_buffer *p) {                                                                \
+        return vulfsjor_##f##_many(out, o, m->texts, (size_t)m->count, TEXT(k), TEXT(s), TEXT(p));           \
+    }                                                                                                        \
+    static const family f = {                                                                                \
+        #f,           "|O$iy*y*y*iiOOiipp:" #f,      VULFSJOR_##NAME##_BLOCKBYTES,    VULFSJOR_##NAME##_OUTBYTES, \
+        VULFSJOR_##NAME##_KEYBYTES, VULFSJOR_##NAME##_SALTBYTES, VULFSJOR_##NAME##_PERSONALBYTES, offset,    \
+        f##_init,     f##_last,     f##_update,      f##_end,                                                \
+        f##_verify,   f##_wipe,     f##_size,        f##_many};
+FAMILY(blake2b, BLAKE2B, UINT64_MAX)
+FAMILY(blake2s, BLAKE2S, ((uint64_t)1 << 48) - 1)
+
+/* ---- Arguments. Each of these answers 0, or -1 with an exception; the exceptions are those of hashlib's. */
+
+/* A view of the bytes of a message. */
+static int view_of(PyObject *data, Py_buffer *view) {
+    if (PyUnicode_Check(data)) {
+        PyErr_SetString(PyExc_TypeError, "Strings must be encoded before hashing");
+        return -1;
+    }
+    if (!PyObject_CheckBuffer(data)) {
+        PyErr_SetString(PyExc_TypeError, "object supporting the buffer API required");
+        return -1;
+    }
+    if (PyObject_GetBuffer(data, view, PyBUF_SIMPLE)) return -1;
+    if (view->ndim <= 1) return 0;
+    PyBuffer_Release(view);
+    PyErr_SetString(PyExc_BufferError, "Buffer must be single dimension");
+    return -1;
+}
+
+/* A number from 0 to 2^64 - 1, or 0 where none is given: ValueError below, OverflowError above. */
+static int number_of(PyObject *given, uint64_t *number) {
+    int beyond;
+    long long small;
+    *number = 0;
+    if (!given) return 0;
+    if (!PyLong_Check(given)) {
+        PyErr_SetString(PyExc_TypeError, "an integer is required");
+        return -1;
+    }
+    small = PyLong_AsLongLongAndOverflow(given, &beyond);
+    if (beyond < 0 || (!beyond && small < 0)) {
+        PyErr_SetString(PyExc_ValueError, "value must be positive");
+    } else {
+        *number = PyLong_AsUnsignedLongLong(given);
+    }
+    return PyErr_Occurred() ? -1 : 0;
+}
+
+static int check(int number, int least, int most, const char *name, const char *unit) {
+    if (least <= number && number <= most) return 0;
+    PyErr_Format(PyExc_ValueError, "%s must be between %d and %d%s", name, least, most, unit);
+    return -1;
+}
+
+static int check_most(uint64_t number, uint64_t most, const char *name) {
+    if (number <= most) return 0;
+    PyErr_Format(PyExc_OverflowError, "%s is too large", name);
+    return -1;
+}
+
+static int check_text(const Py_buffer *text, int most, const char *name) {
+    if (text->len <= most) return 0;
+    PyErr_Format(PyExc_ValueError, "maximum %s length is %d bytes", name, most);
+    return -1;
+}
+
+static void release(Py_buffer *text) {
+    if (text->obj) PyBuffer_Release(text);
+}
+
+static PyObject *refused(PyObject *exception, const char *why) {
+    PyErr_SetString(exception, why);
+    return NULL;
+}
+
+/* ---- Hash objects */
+
+typedef union state {
+    vulfsjor_blake2b_state b;
+    vulfsjor_blake2s_state s;
+} state;
+
+/* An update of many bytes lets other threads run, and a lock, made at the first such, keeps them from this
+ * state. */
+typedef struct hash {
+    PyObject_HEAD
+    const family *f;
+    PyThread_type_lock lock;
+    state run;
+} hash;
+
+enum { LET_OTHERS_RUN_AT = 2048 };
+
+static void take_lock(hash *self) {
+    if (self->lock && !PyThread_acquire_lock(self->lock, 0)) {
+        Py_BEGIN_ALLOW_THREADS
+        PyThread_acquire_lock(self->lock, 1);
+        Py_END_ALLOW_THREADS
+    }
+}
+
+static void leave_lock(hash *self) {
+    if (self->lock) PyThread_release_lock(self->lock);
+}
+
+/* Takes the bytes. 0, or -1 with an exception. */
+static int take(hash *self, PyObject *data) {
+    Py_buffer view;
+    int status, is_long;
+    if (view_of(data, &view)) return -1;
+    is_long = view.len >= LET_OTHERS_RUN_AT;
+    if (!self->lock && is_long) self->lock = PyThread_allocate_lock();
+    if (self->lock && is_long) {
+        Py_BEGIN_ALLOW_THREADS
+        PyThread_acquire_lock(self->lock, 1);
+        status = self->f->update(&self->run, view.buf, (size_t)view.len);
+        PyThread_release_lock(self->lock);
+        Py_END_ALLOW_THREADS
+    } else {
+        take_lock(self);
+        status = self->f->update(&self->run, view.buf, (size_t)view.len);
+        leave_lock(self);
+    }
+    PyBuffer_Release(&view);
+    if (status) PyErr_SetString(PyExc_OverflowError, "2^64 bytes or more");
+    return status;
+}
+
+/* An object of zeros; the allocator of types clears what it hands out. */
+static hash *empty(PyTypeObject *type, const family *f) {
+    allocfunc allocate = (allocfunc)PyType_GetSlot(type, Py_tp_alloc);
+    hash *self = (hash *)allocate(type, 0);
+    if (self) self->f = f;
+    return self;
+}
+
+/* What a hash object is made with. */
+typedef struct given {
+    PyObject *data, *leaf, *offset;
+    Py_buffer key, salt, person;
+    int size, fanout, depth, node_depth, inner, last, secure;
+    vulfsjor_tree tree;
+} given;
+
+/* Checks what was given in hashlib's order, and fills in the place in the tree. */
+static int check_given(given *g, const family *f) {
+    uint64_t leaf_size;
+    if (number_of(g->leaf, &leaf_size) || number_of(g->offset, &g->tree.node_offset) ||
+        check(g->size, 1, f->out, "digest_size", " bytes") || check_text(&g->salt, f->salt, "salt") ||
+        check_text(&g->person, f->person, "person") || check(g->fanout, 0, 255, "fanout", "") ||
+        check(g->depth, 1, 255, "depth", "") || check_most(leaf_size, UINT32_MAX, "leaf_size") ||
+        check_most(g->tree.node_offset, f->last_offset, "node_offset") ||
+        check(g->node_depth, 0, 255, "node_depth", "") || check(g->inner, 0, f->out, "inner_size", "") ||
+        check_text(&g->key, f->key, "key"))
+        return -1;
+    g->tree.leaf_length = (uint32_t)leaf_size;
+    g->tree.fanout = (uint8_t)g->fanout;
+    g->tree.depth = (uint8_t)g->depth;
+    g->tree.node_depth = (uint8_t)g->node_depth;
+    g->tree.inner_length = (uint8_t)g->inner;
+    return 0;
+}
+
+static int begin(hash *self, const given *g) {
+    if (self->f->init(&self->run, (size_t)g->size, &g->key, &g->salt, &g->person, &g->tree) ||
+        (g->last && self->f->set_last_node(&self->run))) {
+        PyErr_SetString(PyExc_SystemError, "the library refuses what was checked");
+        return -1;
+    }
+    return g->data ? take(self, g->data) : 0;
+}
+
+static PyObject *make(PyTypeObject *type, PyObject *args, PyObject *words, const family *f) {
+    static char *names[] = {"",          "digest_size", "key",        "salt",       "person",
+                            "fanout",    "depth",       "leaf_size",  "node_offset", "node_depth",
+                            "inner_size", "last_node",  "usedforsecurity", NULL};
+    given g = {.size = f->out, .fanout = 1, .depth = 1, .secure = 1};
+    hash *self = NULL;
+    if (!PyArg_ParseTupleAndKeywords(args, words, f->arguments, names, &g.data, &g.size, &g.key, &g.salt,
+                                     &g.person, &g.fanout, &g.depth, &g.leaf, &g.offset, &g.node_depth, &g.inner,
+                                     &g.last, &g.secure))
+        return NULL;
+    if (!check_given(&g, f)) self = empty(type, f);
+    if (self && begin(self, &g)) Py_CLEAR(self);
+    release(&g.key);
+    release(&g.salt);
+    release(&g.person);
+    return (PyObject *)self;
+}
+
+static PyObject *make_b(PyTypeObject *type, PyObject *args, PyObject *words) {
+    return make(type, args, words, &blake2b);
+}
+
+static PyObject *make_s(PyTypeObject *type, PyObject *args, PyObject *words) {
+    return make(type, args, words, &blake2s);
+}
+
+static void end_of_life(PyObject *object) {
+    hash *self = (hash *)object;
+    PyTypeObject *type = Py_TYPE(object);
+    freefunc give_back = (freefunc)PyType_GetSlot(type, Py_tp_free);
+    self->f->wipe(&self->run);
+    if (self->lock) PyThread_free_lock(self->lock);
+    give_back(object);
+    Py_DECREF(type);
+}
+
+static PyObject *update(PyObject *self, PyObject *data) {
+    if (take((hash *)self, data)) return NULL;
+    Py_RETURN_NONE;
+}
+
+/* Writes the state as it is now. Who asks for it ends it, which wipes it. */
+static void copy_state(hash *self, state *copied) {
+    take_lock(self);
+    *copied = self->run;
+    leave_lock(self);
+}
+
+static PyObject *copy(PyObject *object, PyObject *none) {
+    hash *self = (hash *)object, *made = empty(Py_TYPE(object), self->f);
+    (void)none;
+    if (made) copy_state(self, &made->run);
+    return (PyObject *)made;
+}
+
+/* The digest, by a copy of the state, which the call wipes. How many bytes it has. */
+static size_t digest_of(hash *self, uint8_t out[64]) {
+    state copied;
+    size_t size;
+    copy_state(self, &copied);
+    size = self->f->size_of(&copied);
+    self->f->end(&copied, out);
+    return size;
+}
+
+static PyObject *digest(PyObject *self, PyObject *none) {
+    uint8_t out[64];
+    size_t size = digest_of((hash *)self, out);
+    (void)none;
+    return PyBytes_FromStringAndSize((const char *)out, (Py_ssize_t)size);
+}
+
+static PyObject *hexdigest(PyObject *self, PyObject *none) {
+    uint8_t out[64];
+    char digits[128];
+    size_t size = digest_of((hash *)self, out);
+    (void)none;
+    for (size_t i = 0; i < size; i++) {
+        digits[2 * i] = "0123456789abcdef"[out[i] >> 4];
+        digits[2 * i + 1] = "0123456789abcdef"[out[i] & 15];
+    }
+    return PyUnicode_FromStringAndSize(digits, (Py_ssize_t)(2 * size));
+}
+
+static PyObject *verify(PyObject *object, PyObject *tag) {
+    hash *self = (hash *)object;
+    Py_buffer view;
+    state copied;
+    int status;
+    if (view_of(tag, &view)) return NULL;
+    copy_state(self, &copied);
+    status = self->f->verify(&copied, view.buf, (size_t)view.len);
+    PyBuffer_Release(&view);
+    return PyBool_FromLong(status == 0);
+}
+
+static PyObject *name_of(PyObject *self, void *none) {
+    (void)none;
+    return PyUnicode_FromString(((hash *)self)->f->name);
+}
+
+static PyObject *block_of(PyObject *self, void *none) {
+    (void)none;
+    return PyLong_FromLong(((hash *)self)->f->block);
+}
+
+static PyObject *size_of(PyObject *self, void *none) {
+    (void)none;
+    return PyLong_FromSize_t(((hash *)self)->f->size_of(&((hash *)self)->run));
+}
+
+static PyMethodDef methods[] = {
+    {"copy", copy, METH_NOARGS, "copy($self, /)\n--\n\nReturn a copy of the hash object."},
+    {"digest", digest, METH_NOARGS, "digest($self, /)\n--\n\nReturn the digest value as a bytes object."},
+    {"hexdigest", hexdigest, METH_NOARGS,
+     "hexdigest($self, /)\n--\n\nReturn the digest value as a string of hexadecimal digits."},
+    {"update", update, METH_O,
+     "update($self, data, /)\n--\n\nUpdate this hash object's state with the provided bytes-like object."},
+    {"verify", verify, METH_O,
+     "verify($self, tag, /)\n--\n\nReturn whether the tag is the whole digest of all input so far.\n\n"
+     "All bytes of a tag of the digest's length are looked at, wherever they differ: this is\n"
+     "the comparison for message authentication codes."},
+    {NULL, NULL, 0, NULL}};
+
+static PyGetSetDef fields[] = {
+    {"name", name_of, NULL, "The name of the hash function.", NULL},
+    {"block_size", block_of, NULL, "How many bytes a block of the hash function has.", NULL},
+    {"digest_size", size_of, NULL, "How many bytes the digest has.", NULL},
+    {NULL, NULL, NULL, NULL, NULL}};
+
+/* ---- Several messages at once */
+
+static void let_go(messages *m) {
+    while (m->count > 0) PyBuffer_Release(&m->views[--m->count]);
+    PyMem_Free(m->views);
+    PyMem_Free(m->texts);
+}
+
+/* Takes hold of the objects of a tuple. 0, or -1 with an exception; let_go follows in either case. */
+static int hold(messages *m, PyObject *tuple) {
+    Py_ssize_t count = PyTuple_Size(tuple);
+    m->count = 0;
+    m->views = PyMem_Calloc((size_t)count, sizeof *m->views);
+    m->texts = PyMem_Calloc((size_t)count, sizeof *m->texts);
+    if (!m->views || !m->texts) {
+        PyErr_NoMemory();
+        return -1;
+    }
+    for (; m->count < count; m->count++) {
+        Py_buffer *view = &m->views[m->count];
+        if (view_of(PyTuple_GetItem(tuple, m->count), view)) return -1;
+        m->texts[m->count].bytes = vulfsjor_text(view->buf);
+        m->texts[m->count].length = (size_t)view->len;
+    }
+    return 0;
+}
+
+/* A list of the digests that stand one behind the other. */
+static PyObject *list_of(const uint8_t *digests, Py_ssize_t count, int size) {
+    PyObject *list = PyList_New(count);
+    for (Py_ssize_t i = 0; list && i < count; i++) {
+        PyObject *digest = PyBytes_FromStringAndSize((const char *)digests + i * size, size);
+        if (!digest || PyList_SetItem(list, i, digest)) Py_CLEAR(list);
+    }
+    return list;
+}
+
+static PyObject *digests_of(const messages *m, const given *g, const family *f) {
+    uint8_t *digests = PyMem_Malloc((size_t)m->count * (size_t)g->size);
+    PyObject *list = NULL;
+    int status;
+    if (!digests) return PyErr_NoMemory();
+    Py_BEGIN_ALLOW_THREADS
+    status = f->many(digests, (size_t)g->size, m, &g->key, &g->salt, &g->person);
+    Py_END_ALLOW_THREADS
+    if (status) PyErr_SetString(PyExc_SystemError, "the library refuses what was checked");
+    else list = list_of(digests, m->count, g->size);
+    PyMem_Free(digests);
+    return list;
+}
+
+static PyObject *digests_of_tuple(PyObject *tuple, const given *g, const family *f) {
+    PyObject *list = NULL;
+    messages held;
+    if (!hold(&held, tuple)) list = digests_of(&held, g, f);
+    let_go(&held);
+    return list;
+}
+
+static PyObject *many(PyObject *args, PyObject *words, const family *f, const char *arguments) {
+    static char *names[] = {"", "digest_size", "key", "salt", "person", NULL};
+    given g = {.size = f->out};
+    PyObject *tuple = NULL, *list = NULL;
+    if (!PyArg_ParseTupleAndKeywords(args, words, arguments, names, &g.data, &g.size, &g.key, &g.salt, &g.person))
+        return NULL;
+    if (!check(g.size, 1, f->out, "digest_size", " bytes") && !check_text(&g.salt, f->salt, "salt") &&
+        !check_text(&g.person, f->person, "person") && !check_text(&g.key, f->key, "key"))
+        tuple = PySequence_Tuple(g.data);
+    if (tuple) list = digests_of_tuple(tuple, &g, f);
+    Py_XDECREF(tuple);
+    release(&g.key);
+    release(&g.salt);
+    release(&g.person);
+    return list;
+}
+
+static PyObject *many_b(PyObject *module, PyObject *args, PyObject *words) {
+    (void)module;
+    return many(args, words, &blake2b, "O|$iy*y*y*:blake2b_many");
+}
+
+static PyObject *many_s(PyObject *module, PyObject *args, PyObject *words) {
+    (void)module;
+    return many(args, words, &blake2s, "O|$iy*y*y*:blake2s_many");
+}
+
+/* ---- The tree of two levels */
+
+static PyObject *root_of(const given *g, uint32_t leaf_length) {
+    uint8_t out[64];
+    Py_buffer view;
+    int status;
+    if (view_of(g->data, &view)) return NULL;
+    Py_BEGIN_ALLOW_THREADS
+    status = vulfsjor_tree_root(out, (size_t)g->size, view.buf, (size_t)view.len, TEXT(&g->salt), TEXT(&g->person),
+                                leaf_length);
+    Py_END_ALLOW_THREADS
+    PyBuffer_Release(&view);
+    if (status) return refused(PyExc_OverflowError, "2^58 bytes or more");
+    return PyBytes_FromStringAndSize((const char *)out, g->size);
+}
+
+static PyObject *tree_root(PyObject *module, PyObject *args, PyObject *words) {
+    static char *names[] = {"", "leaf_size", "digest_size", "salt", "person", NULL};
+    given g = {.size = blake2b.out};
+    PyObject *root = NULL;
+    uint64_t leaf_size;
+    (void)module;
+    if (!PyArg_ParseTupleAndKeywords(args, words, "OO|$iy*y*:tree_root", names, &g.data, &g.leaf, &g.size, &g.salt,
+                                     &g.person))
+        return NULL;
+    if (!number_of(g.leaf, &leaf_size) && !check(g.size, 1, blake2b.out, "digest_size", " bytes") &&
+        !check_text(&g.salt, blake2b.salt, "salt") && !check_text(&g.person, blake2b.person, "person") &&
+        !check_most(leaf_size, UINT32_MAX, "leaf_size"))
+        root = leaf_size ? root_of(&g, (uint32_t)leaf_size)
+                         : refused(PyExc_ValueError, "leaf_size must be between 1 and 4294967295");
+    release(&g.salt);
+    release(&g.person);
+    return root;
+}
+
+/* ---- The module */
+
+#define MANY(f, size, lanes)                                                                                   \
+    #f "_many(messages, /, *, digest_size=" #size ", key=b'', salt=b'', person=b'')\n--\n\n"                   \
+       "Return a list of the digests of the messages, each under these parameters.\n\n"                       \
+       "Messages in a row that have one length are hashed " lanes " at once, which is faster\n"                \
+       "than one after the other."
+static PyMethodDef functions[] = {
+    {"blake2b_many", (PyCFunction)(void (*)(void))many_b, METH_VARARGS | METH_KEYWORDS, MANY(blake2b, 64, "four")},
+    {"blake2s_many", (PyCFunction)(void (*)(void))many_s, METH_VARARGS | METH_KEYWORDS, MANY(blake2s, 32, "eight")},
+    {"tree_root", (PyCFunction)(void (*)(void))tree_root, METH_VARARGS | METH_KEYWORDS,
+     "tree_root(data, /, leaf_size, *, digest_size=64, salt=b'', person=b'')\n--\n\n"
+     "Return the root of the data in a tree of two levels over BLAKE2b, as bytes.\n\n"
+     "The data is cut into leaves of leaf_size bytes, and the root hashes their digests of 64\n"
+     "bytes (the BLAKE2 document, 2.10: fanout 0, depth 2, inner size 64, and the last-node flag\n"
+     "on the last leaf and the root). It is no BLAKE2b digest of the data."},
+    {NULL, NULL, 0, NULL}};
+
+#define DOC(f, size, longest)                                                                                 \
+    #f "(data=b'', /, *, digest_size=" #size ", key=b'', salt=b'', person=b'', fanout=1, depth=1,\n"           \
+       "        leaf_size=0, node_offset=0, node_depth=0, inner_size=0, last_node=False,\n"                   \
+       "        usedforsecurity=True)\n--\n\nReturn a new hash object.\n\n"                                   \
+       "digest_size is 1 to " #size ", a key has up to " #size " bytes, salt and person up to " #longest " each."
+static PyType_Slot slots_b[] = {{Py_tp_new, make_b},        {Py_tp_dealloc, end_of_life},       {Py_tp_methods, methods},
+                                {Py_tp_getset, fields},     {Py_tp_doc, DOC(blake2b, 64, 16)}, {0, NULL}};
+static PyType_Slot slots_s[] = {{Py_tp_new, make_s},        {Py_tp_dealloc, end_of_life},      {Py_tp_methods, methods},
+                                {Py_tp_getset, fields},     {Py_tp_doc, DOC(blake2s, 32, 8)}, {0, NULL}};
+static PyType_Spec spec_b = {"vulfsjor.blake2b", sizeof(hash), 0, Py_TPFLAGS_DEFAULT, slots_b};
+static PyType_Spec spec_s = {"vulfsjor.blake2s", sizeof(hash), 0, Py_TPFLAGS_DEFAULT, slots_s};
+
+/* The class of both classes, so that no program changes them. (The limited API can't set the flag of immutable
+ * types on one that has constants.) */
+static int refuse(PyObject *type, PyObject *name, PyObject *value) {
+    (void)type, (void)value;
+    PyErr_Format(PyExc_TypeError, "cannot set %R attribute of immutable type", name);
+    return -1;
+}
+static PyType_Slot slots_of_types[] = {{Py_tp_setattro, refuse}, {0, NULL}};
+static PyType_Spec spec_of_types = {"vulfsjor._type", 0, 0, Py_TPFLAGS_DEFAULT, slots_of_types};
+
+/* The next four: 0, or -1 with an exception. */
+static int set_number(PyObject *at, const char *prefix, const char *name, long number) {
+    char whole[64];
+    PyObject *object = PyLong_FromLong(number);
+    int status = -1;
+    if (object) {
+        PyOS_snprintf(whole, sizeof whole, "%s%s", prefix, name);
+        status = PyObject_SetAttrString(at, whole, object);
+        Py_DECREF(object);
+    }
+    return status;
+}
+
+static int set_numbers(PyObject *at, const char *prefix, const family *f) {
+    return set_number(at, prefix, "SALT_SIZE", f->salt) || set_number(at, prefix, "PERSON_SIZE", f->person) ||
+                   set_number(at, prefix, "MAX_KEY_SIZE", f->key) || set_number(at, prefix, "MAX_DIGEST_SIZE", f->out)
+               ? -1
+               : 0;
+}
+
+static int add_family(PyObject *module, PyObject *type_of_types, PyType_Spec *spec, const family *f,
+                      const char *prefix) {
+    PyObject *type = PyType_FromModuleAndSpec(module, spec, NULL);
+    int status;
+    if (!type) return -1;
+    status = set_numbers(type, "", f);
+    if (!status) {
+        Py_INCREF(type_of_types); /* the class before, `type`, is static, and counts no instances */
+        Py_SET_TYPE(type, (PyTypeObject *)type_of_types);
+        status = PyModule_AddObjectRef(module, f->name, type) || set_numbers(module, prefix, f) ? -1 : 0;
+    }
+    Py_DECREF(type);
+    return status;
+}
+
+/* The version of the library that is inside. */
+static int add_version(PyObject *module) {
+    uint32_t version = vulfsjor_version();
+    PyObject *text = PyUnicode_FromFormat("%u.%u.%u", version >> 16, version >> 8 & 255, version & 255);
+    int status = text ? PyModule_AddObjectRef(module, "__version__", text) : -1;
+    Py_XDECREF(text);
+    return status;
+}
+
+static int fill(PyObject *module) {
+    PyObject *types = PyType_FromSpecWithBases(&spec_of_types, (PyObject *)&PyType_Type);
+    int status;
+    if (!types) return -1;
+    status = add_family(module, types, &spec_b, &blake2b, "BLAKE2B_") ||
+                     add_family(module, types, &spec_s, &blake2s, "BLAKE2S_") || add_version(module)
+                 ? -1
+                 : 0;
+    Py_DECREF(types);
+    return status;
+}
+
+static PyModuleDef_Slot module_slots[] = {{Py_mod_exec, fill}, {0, NULL}};
+static PyModuleDef module = {PyModuleDef_HEAD_INIT, "vulfsjor._library", "The functions of the package vulfsjor, in C.",
+                             0, functions, module_slots, NULL, NULL, NULL};
+
+PyMODINIT_FUNC PyInit__library(void) { return PyModuleDef_Init(&module); }

@@ -1,0 +1,38 @@
+"""BLAKE2b and BLAKE2s (RFC 7693) by proved functions, with the interface of hashlib's.
+
+    >>> import vulfsjor
+    >>> vulfsjor.blake2b(b"hello world", digest_size=16).hexdigest()
+    'e9a804b2e527fd3601d2ffc0bb023cd6'
+
+A message authentication code, whose tag is compared over all bytes:
+
+    >>> mac = vulfsjor.blake2b(b"message", key=bytes(32), person=b"my program")
+    >>> tag = mac.digest()
+    >>> mac.verify(tag), mac.verify(tag[:16])
+    (True, False)
+
+Several messages of one length at once, and the root of a tree of two levels:
+
+    >>> [digest.hex()[:8] for digest in vulfsjor.blake2b_many([b"abc", b"xyz"])]
+    ['ba80a53f', '6e592853']
+    >>> vulfsjor.tree_root(b"hello world", leaf_size=4096, digest_size=8).hex()
+    '15312d2d5f65d53e'
+"""
+from vulfsjor._library import (
+    BLAKE2B_MAX_DIGEST_SIZE,
+    BLAKE2B_MAX_KEY_SIZE,
+    BLAKE2B_PERSON_SIZE,
+    BLAKE2B_SALT_SIZE,
+    BLAKE2S_MAX_DIGEST_SIZE,
+    BLAKE2S_MAX_KEY_SIZE,
+    BLAKE2S_PERSON_SIZE,
+    BLAKE2S_SALT_SIZE,
+    __version__,
+    blake2b,
+    blake2b_many,
+    blake2s,
+    blake2s_many,
+    tree_root,
+)
+
+__all__ = ["blake2b", "blake2b_many", "blake2s", "blake2s_many", "tree_root"]

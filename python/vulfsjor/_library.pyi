@@ -1,0 +1,117 @@
+from collections.abc import Iterable
+from typing import ClassVar, SupportsIndex, final
+
+# What has bytes to hash: bytes, bytearray, memoryview and the like. Type checkers know this module in stubs; no
+# program imports it.
+from typing_extensions import Buffer as _Bytes
+
+__version__: str
+
+BLAKE2B_MAX_DIGEST_SIZE: int
+BLAKE2B_MAX_KEY_SIZE: int
+BLAKE2B_PERSON_SIZE: int
+BLAKE2B_SALT_SIZE: int
+BLAKE2S_MAX_DIGEST_SIZE: int
+BLAKE2S_MAX_KEY_SIZE: int
+BLAKE2S_PERSON_SIZE: int
+BLAKE2S_SALT_SIZE: int
+
+@final
+class blake2b:
+    MAX_DIGEST_SIZE: ClassVar[int]
+    MAX_KEY_SIZE: ClassVar[int]
+    PERSON_SIZE: ClassVar[int]
+    SALT_SIZE: ClassVar[int]
+    def __new__(
+        cls,
+        data: _Bytes = b"",
+        /,
+        *,
+        digest_size: SupportsIndex = 64,
+        key: _Bytes = b"",
+        salt: _Bytes = b"",
+        person: _Bytes = b"",
+        fanout: SupportsIndex = 1,
+        depth: SupportsIndex = 1,
+        leaf_size: int = 0,
+        node_offset: int = 0,
+        node_depth: SupportsIndex = 0,
+        inner_size: SupportsIndex = 0,
+        last_node: bool = False,
+        usedforsecurity: bool = True,
+    ) -> blake2b: ...
+    @property
+    def name(self) -> str: ...
+    @property
+    def block_size(self) -> int: ...
+    @property
+    def digest_size(self) -> int: ...
+    def copy(self) -> blake2b: ...
+    def digest(self) -> bytes: ...
+    def hexdigest(self) -> str: ...
+    def update(self, data: _Bytes, /) -> None: ...
+    def verify(self, tag: _Bytes, /) -> bool: ...
+
+@final
+class blake2s:
+    MAX_DIGEST_SIZE: ClassVar[int]
+    MAX_KEY_SIZE: ClassVar[int]
+    PERSON_SIZE: ClassVar[int]
+    SALT_SIZE: ClassVar[int]
+    def __new__(
+        cls,
+        data: _Bytes = b"",
+        /,
+        *,
+        digest_size: SupportsIndex = 32,
+        key: _Bytes = b"",
+        salt: _Bytes = b"",
+        person: _Bytes = b"",
+        fanout: SupportsIndex = 1,
+        depth: SupportsIndex = 1,
+        leaf_size: int = 0,
+        node_offset: int = 0,
+        node_depth: SupportsIndex = 0,
+        inner_size: SupportsIndex = 0,
+        last_node: bool = False,
+        usedforsecurity: bool = True,
+    ) -> blake2s: ...
+    @property
+    def name(self) -> str: ...
+    @property
+    def block_size(self) -> int: ...
+    @property
+    def digest_size(self) -> int: ...
+    def copy(self) -> blake2s: ...
+    def digest(self) -> bytes: ...
+    def hexdigest(self) -> str: ...
+    def update(self, data: _Bytes, /) -> None: ...
+    def verify(self, tag: _Bytes, /) -> bool: ...
+
+def blake2b_many(
+    messages: Iterable[_Bytes],
+    /,
+    *,
+    digest_size: SupportsIndex = 64,
+    key: _Bytes = b"",
+    salt: _Bytes = b"",
+    person: _Bytes = b"",
+) -> list[bytes]: ...
+def blake2s_many(
+    messages: Iterable[_Bytes],
+    /,
+    *,
+    digest_size: SupportsIndex = 32,
+    key: _Bytes = b"",
+    salt: _Bytes = b"",
+    person: _Bytes = b"",
+) -> list[bytes]: ...
+def tree_root(
+    data: _Bytes,
+    /,
+    leaf_size: int,
+    *,
+    digest_size: SupportsIndex = 64,
+    salt: _Bytes = b"",
+    person: _Bytes = b"",
+) -> bytes: ...
