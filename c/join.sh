@@ -50,8 +50,7 @@ take() {
 join() {
     local out=$1
     shift
-    "$cc" -std=c99 -O2 -fPIC -ffunction-sections -Wall -Wextra -Werror -I"$work" "${words[@]}" "$@" \
-        -c "$here/choose.c" -o "$work/choose.o"
+    "$cc" -std=c99 -O2 -fPIC -ffunction-sections -I"$work" "${words[@]}" "$@" -c "$here/choose.c" -o "$work/choose.o"
     ld -r --unique -o "$work/joined.o" "$work/choose.o" "$work"/part_*.o
     objcopy --keep-global-symbols="$work/names" "$work/joined.o" "$out"
 }
@@ -66,7 +65,7 @@ else
 fi
 mkdir -p "$1"
 join "$work/blake2_c.o"
-"$cc" -std=c99 -O2 -fPIC -ffunction-sections -Wall -Wextra -Werror -c "$here/libb2/libb2.c" -o "$work/libb2.o"
+"$cc" -std=c99 -O2 -fPIC -ffunction-sections -c "$here/libb2/libb2.c" -o "$work/libb2.o"
 rm -f "$1"/libblake2_c*.a
 ar rcsD "$1/libblake2_c.a" "$work/blake2_c.o"
 ar rcsD "$1/libblake2_c-libb2.a" "$work/libb2.o" "$work/blake2_c.o"

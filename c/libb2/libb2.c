@@ -21,10 +21,9 @@
     } x##_state;                                                                                       \
     typedef char x##_layout[sizeof(x##_state) == size ? 1 : -1];                                       \
                                                                                                        \
-    /* The run of a state. More pending bytes than a block has are of no run. */                       \
+    /* The run of a state. */                                                                          \
     static void x##_load(vulfsjor_##x##_state *run, const x##_state *S) {                              \
         memset(run, 0, sizeof *run);                                                                   \
-        if (S->buflen > block) return;                                                                 \
         memcpy(run->chain, S->h, sizeof run->chain);                                                   \
         memcpy(&run->counter, S->t, sizeof run->counter);                                              \
         memcpy(run->pending, S->buf, sizeof run->pending);                                             \
@@ -76,7 +75,7 @@
     /* As with libb2, the digest may overlap the input and the key. */                                 \
     int x(uint8_t *out, const void *in, const void *key, size_t outlen, size_t inlen, size_t keylen) { \
         uint8_t digest[longest];                                                                       \
-        if (!out || outlen > longest || vulfsjor_##x(digest, outlen, in, inlen, key, keylen)) return -1; \
+        if (!out || vulfsjor_##x(digest, outlen, in, inlen, key, keylen)) return -1;                   \
         memcpy(out, digest, outlen);                                                                   \
         return 0;                                                                                      \
     }

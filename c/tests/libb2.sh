@@ -110,6 +110,7 @@ test_sources() {
 
 test_libb2() {
     local family
+    check "libb2.c without a warning" cc -std=c99 -O2 "${warnings[@]}" -c "$here/libb2/libb2.c" -o "$work/libb2.o"
     check "a configure script finds libb2" configure_finds
     if has python3; then
         for family in b s; do check "libb2's names, blake2$family" names_of_libb2 $family "$beside"; done
