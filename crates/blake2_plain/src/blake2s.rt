@@ -3,8 +3,7 @@ ghost use Rattle.std.specs.Prelude.{◌≡◌, ℕ, ◌+◌, ◌*◌, ◌^◌, �
 ghost use Rattle.std.specs.Prelude.{length, take, drop, slice_index, None, Some, IfOk, IsErr};
 ghost use Rattle.std.specs.Prelude.{IsTrue};
 ghost use Rattle.blake2_rows.specs.Family.{blake2s};
-ghost use Rattle.blake2_rows.specs.Rows.{eight};
-ghost use Rattle.blake2_words.specs.Hash.{AdmitsTree, sequential, words_of, xor_words};
+ghost use Rattle.blake2_words.specs.Hash.{AdmitsTree, sequential};
 ghost use Rattle.blake2_words.specs.Views.{tree_of};
 ghost use Rattle.blake2_digest.specs.States.{Fresh, NodeSet, Updated, StartedAgain, digest_now};
 ghost use Rattle.blake2.specs.Cores.{CoreState};
@@ -18,9 +17,8 @@ use blake2::{Blake2sVarCore, Tree};
 use blake2_digest::{
     InvalidLength, LastNode, LazyBuffer, UpdateCore, VariableOutputCore, digest_into, is_same,
 };
-use blake2_rows::rows::u32x4;
-use blake2_words::consts::BLAKE2S_IV;
-use blake2_words::words::blake2s::{to_rows, to_words};
+use blake2_words::params::blake2s::start_of;
+use blake2_words::words::blake2s::to_words;
 
 /// A run of BLAKE2s as plain numbers. Every value of the fields is a state, and none is unsafe; it
 /// gives digests where it is ready ([`State::is_ready`]), as all are that a constructor has made.
@@ -45,35 +43,6 @@ pub struct State {
     pub pending: [u8; 64],
     /// The bytes that a start leaves pending, at the beginning.
     pub start_block: [u8; 64],
-}
-
-// The eight words of a parameter block as two rows.
-fn block_rows(block: &[u8]) -> [u32x4; 2]
-    requires { length block.now ≡ 32 }
-    ensures { eight result ≡ words_of blake2s 8 block.now }
-{
-    [
-        u32x4::from_le_bytes(&block[..16]),
-        u32x4::from_le_bytes(&block[16..32]),
-    ]
-}
-
-// Each of eight words xored with that of the others.
-#[tactic(auto, unfolding(blake2_words::specs::Hash::xor_words))]
-#[inline(always)]
-fn xor_rows(a: [u32x4; 2], b: [u32x4; 2]) -> [u32x4; 2]
-    ensures { eight result ≡ xor_words (eight a) (eight b) }
-{
-    [a[0] ^ b[0], a[1] ^ b[1]]
-}
-
-// The chaining words before the first block (RFC 7693, 3.3): the words of this parameter block
-// xored into the IV.
-fn start_of(block: &[u8]) -> [u32; 8]
-    requires { length block.now ≡ 32 }
-    ensures { result ≡ block_start blake2s block.now }
-{
-    to_words(&xor_rows(to_rows(&BLAKE2S_IV), block_rows(block)))
 }
 
 impl State {
@@ -256,7 +225,7 @@ impl State {
         if block[0] == 0 || block[0] > 32 || block[1] > 32 {
             return Err(InvalidLength);
         }
-        Ok(Self::starting_from(start_of(block), block[0] as usize))
+        Ok(Self::starting_from(to_words(&start_of(block)), block[0] as usize))
     }
 
     // The core that the state holds.

@@ -1,10 +1,10 @@
 //! BLAKE2b: a parameter block of 64 bytes, eight words of 64 bits.
 
-ghost use Rattle.std.specs.Prelude.{◌≡◌, ◌↔◌, IsTrue};
-ghost use Rattle.blake2_rows.specs.Family.{blake2b};
+ghost use Rattle.std.specs.Prelude.{◌≡◌, ◌↔◌, IsTrue, length};
+ghost use Rattle.blake2_rows.specs.Family.{blake2b, iv};
 ghost use Rattle.blake2_rows.specs.Rows.{eight};
 ghost use Rattle.blake2_words.specs.Hash;
-ghost use Rattle.blake2_words.specs.Hash.{AdmitsTree, Fits, start};
+ghost use Rattle.blake2_words.specs.Hash.{AdmitsTree, Fits, start, words_of, xor_words};
 ghost use Rattle.blake2_words.specs.Reader;
 ghost use Rattle.blake2_words.specs.Views.{given_parameters, tree_of};
 
@@ -52,17 +52,35 @@ pub(crate) fn parameters_in(block: &[u8; 64]) -> Parameters<'_>
     }
 }
 
-// The parameter words as two rows.
+// The parameter block (the BLAKE2 document, 2.8).
 #[inline(always)]
-fn parameter_rows(parameters: &Parameters<'_>) -> [u64x4; 2]
+fn block_of(parameters: &Parameters<'_>) -> [u8; 64]
     requires { Fits blake2b (given_parameters parameters.now) }
-    ensures { eight result ≡ Hash.parameter_words blake2b (given_parameters parameters.now) }
+    ensures { result ≡ Hash.parameter_block blake2b (given_parameters parameters.now) }
 {
-    let block: [u8; 64] = parameter_block::<64, 8, 14, 16>(parameters);
+    parameter_block::<64, 8, 14, 16>(parameters)
+}
+
+// The eight words of a parameter block as two rows (RFC 7693, 2.5).
+#[inline(always)]
+fn block_rows(block: &[u8]) -> [u64x4; 2]
+    requires { length block.now ≡ 64 }
+    ensures { eight result ≡ words_of blake2b 8 block.now }
+{
     [
         u64x4::from_le_bytes(&block[..32]),
         u64x4::from_le_bytes(&block[32..64]),
     ]
+}
+
+/// The chaining words before the first block (RFC 7693, 3.3), as two rows, under a parameter block
+/// of 64 bytes, whatever stands in it: IV xored with its words.
+#[inline(always)]
+pub fn start_of(block: &[u8]) -> [u64x4; 2]
+    requires { length block.now ≡ 64 }
+    ensures { eight result ≡ xor_words (iv blake2b) (words_of blake2b 8 block.now) }
+{
+    xor_rows(to_rows(&BLAKE2B_IV), block_rows(block))
 }
 
 /// The eight parameter words (RFC 7693, 2.5), those of the parameter block.
@@ -70,7 +88,7 @@ pub fn parameter_words(parameters: &Parameters<'_>) -> [u64; 8]
     requires { Fits blake2b (given_parameters parameters.now) }
     ensures { result ≡ Hash.parameter_words blake2b (given_parameters parameters.now) }
 {
-    to_words(&parameter_rows(parameters))
+    to_words(&block_rows(&block_of(parameters)))
 }
 
 /// The chaining words before the first block (RFC 7693, 3.3), as two rows: IV xored with the
@@ -79,7 +97,7 @@ pub fn start_rows(parameters: &Parameters<'_>) -> [u64x4; 2]
     requires { Fits blake2b (given_parameters parameters.now) }
     ensures { eight result ≡ start blake2b (given_parameters parameters.now) }
 {
-    xor_rows(to_rows(&BLAKE2B_IV), parameter_rows(parameters))
+    start_of(&block_of(parameters))
 }
 
 /// The same chaining words, as words.

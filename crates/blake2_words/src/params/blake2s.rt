@@ -1,10 +1,10 @@
 //! BLAKE2s: a parameter block of 32 bytes, eight words of 32 bits.
 
-ghost use Rattle.std.specs.Prelude.{◌≡◌, ◌↔◌, IsTrue};
-ghost use Rattle.blake2_rows.specs.Family.{blake2s};
+ghost use Rattle.std.specs.Prelude.{◌≡◌, ◌↔◌, IsTrue, length};
+ghost use Rattle.blake2_rows.specs.Family.{blake2s, iv};
 ghost use Rattle.blake2_rows.specs.Rows.{eight};
 ghost use Rattle.blake2_words.specs.Hash;
-ghost use Rattle.blake2_words.specs.Hash.{AdmitsTree, Fits, start};
+ghost use Rattle.blake2_words.specs.Hash.{AdmitsTree, Fits, start, words_of, xor_words};
 ghost use Rattle.blake2_words.specs.Reader;
 ghost use Rattle.blake2_words.specs.Views.{given_parameters, tree_of};
 
@@ -52,17 +52,35 @@ pub(crate) fn parameters_in(block: &[u8; 32]) -> Parameters<'_>
     }
 }
 
-// The parameter words as two rows.
+// The parameter block (the BLAKE2 document, 2.8).
 #[inline(always)]
-fn parameter_rows(parameters: &Parameters<'_>) -> [u32x4; 2]
+fn block_of(parameters: &Parameters<'_>) -> [u8; 32]
     requires { Fits blake2s (given_parameters parameters.now) }
-    ensures { eight result ≡ Hash.parameter_words blake2s (given_parameters parameters.now) }
+    ensures { result ≡ Hash.parameter_block blake2s (given_parameters parameters.now) }
 {
-    let block: [u8; 32] = parameter_block::<32, 6, 0, 8>(parameters);
+    parameter_block::<32, 6, 0, 8>(parameters)
+}
+
+// The eight words of a parameter block as two rows (RFC 7693, 2.5).
+#[inline(always)]
+fn block_rows(block: &[u8]) -> [u32x4; 2]
+    requires { length block.now ≡ 32 }
+    ensures { eight result ≡ words_of blake2s 8 block.now }
+{
     [
         u32x4::from_le_bytes(&block[..16]),
         u32x4::from_le_bytes(&block[16..32]),
     ]
+}
+
+/// The chaining words before the first block (RFC 7693, 3.3), as two rows, under a parameter block
+/// of 32 bytes, whatever stands in it: IV xored with its words.
+#[inline(always)]
+pub fn start_of(block: &[u8]) -> [u32x4; 2]
+    requires { length block.now ≡ 32 }
+    ensures { eight result ≡ xor_words (iv blake2s) (words_of blake2s 8 block.now) }
+{
+    xor_rows(to_rows(&BLAKE2S_IV), block_rows(block))
 }
 
 /// The eight parameter words (RFC 7693, 2.5), those of the parameter block.
@@ -70,7 +88,7 @@ pub fn parameter_words(parameters: &Parameters<'_>) -> [u32; 8]
     requires { Fits blake2s (given_parameters parameters.now) }
     ensures { result ≡ Hash.parameter_words blake2s (given_parameters parameters.now) }
 {
-    to_words(&parameter_rows(parameters))
+    to_words(&block_rows(&block_of(parameters)))
 }
 
 /// The chaining words before the first block (RFC 7693, 3.3), as two rows: IV xored with the
@@ -79,7 +97,7 @@ pub fn start_rows(parameters: &Parameters<'_>) -> [u32x4; 2]
     requires { Fits blake2s (given_parameters parameters.now) }
     ensures { eight result ≡ start blake2s (given_parameters parameters.now) }
 {
-    xor_rows(to_rows(&BLAKE2S_IV), parameter_rows(parameters))
+    start_of(&block_of(parameters))
 }
 
 /// The same chaining words, as words.

@@ -1,4 +1,4 @@
-use Rattle.std.proofs.Common.{ap}
+use Rattle.std.proofs.Common.{ap, ◌∙◌}
 use Rattle.blake2_rows.specs.Family.{blake2b}
 use Rattle.blake2_plain.specs.declared.blake2b.State.{State}
 use Rattle.blake2_plain.specs.Blake2b.{state_of}
@@ -7,6 +7,6 @@ use Rattle.blake2_plain.proofs.blake2b.State.from_block.Goals as goal
 
 pub returns-clause-fresh : goal.returns-clause-fresh
 returns-clause-fresh c =
-    Fresh_block blake2b (λ s. s.output_size) state_of c.args.block.now c.start_of.result _
+    Fresh_block blake2b (λ s. s.output_size) state_of c.args.block.now c.to_words.result _
     (ap (λ (s : State). s.output_size) c.starting_from.ensures)
-    (ap state_of c.starting_from.ensures) c.start_of.ensures
+    (ap state_of c.starting_from.ensures) (c.to_words.ensures ∙ c.start_of.ensures)

@@ -2,7 +2,7 @@ use Rattle.std.proofs.Common.{sym, arith}
 use Rattle.std.proofs.lemmas.List.{length-take-le}
 use Rattle.blake2_rows.specs.Family.{blake2b}
 use Rattle.blake2_words.proofs.Loads.{eight_read}
-use Rattle.blake2_plain.proofs.blake2b.block_rows.Goals as goal
+use Rattle.blake2_words.proofs.params.blake2b.block_rows.Goals as goal
 
 pub returns : goal.returns
 returns c = rw (c.from_le_bytes.ensures, c.from_le_bytes-2.ensures)
