@@ -1,6 +1,6 @@
 -- Four whole leaves at once: with more behind them, or the last of a message.
 use Rattle.blake2_tree.specs.Nodes.{node_digest, four_digests}
-use Rattle.blake2_words.proofs.Sizes.{length-digest}
+use Rattle.blake2_words.proofs.RunSizes.{length-digest}
 use Rattle.blake2_words.proofs.Pieces.{piece-zero, piece-more}
 use Rattle.std.proofs.Common.{◌≡◌, ℕ, ◌+◌, ◌-◌, ◌*◌, ◌<◌, ◌≤◌, Bool, true}
 use Rattle.std.proofs.Common.{false, List, [], ◌++◌, length, take, drop, refl, sym, ap, ◌∙◌}

@@ -6,7 +6,7 @@ use Rattle.std.specs.List.{flat_map, range_with_len}
 use Rattle.blake2_rows.specs.Family.{blake2b}
 use Rattle.blake2_words.specs.Hash.{AreBytes, key_block, digest}
 use Rattle.blake2_words.specs.Inputs.{Accepts}
-use Rattle.blake2_words.proofs.Sizes.{length-digest}
+use Rattle.blake2_words.proofs.RunSizes.{length-digest}
 use Rattle.blake2.specs.declared.hashers.blake2b.Blake2b.{Blake2b}
 use Rattle.blake2_digest.specs.States.{digest_now, Updated, Fresh, NodeSet}
 use Rattle.blake2.specs.Hashers.{blake2b_meaning}

@@ -7,7 +7,8 @@ use Rattle.std.specs.Prelude.{slice_index_or}
 use Rattle.blake2_rows.specs.Family.{Family, blake2b, blake2s, block_bytes, key_bytes}
 use Rattle.blake2_words.specs.Hash.{padded, cut, blocks, block_count, data_bytes, key_block}
 use Rattle.blake2_words.specs.Inputs.{KeyFits}
-use Rattle.blake2_words.proofs.Sizes.{key_bytes_fit, length-padded}
+use Rattle.blake2_words.proofs.ParameterSizes.{key_bytes_fit}
+use Rattle.blake2_words.proofs.ByteSizes.{length-padded}
 use Rattle.blake2_words.proofs.Padding.{padded-whole}
 
 -- block i of the first n is the bytes from place i * B on

@@ -128,8 +128,9 @@ whole_column h columns j d w e long long_h here turned =
     λ k lt. ap (λ l. slice_index l k) e
     ∙ column_word h h columns k j k d (turned k lt) refl here (omega arith) in
     sym (cells-drop w 0 8 long)
-    ∙ (λ i. at 0 (omega arith) i ∷ at 1 (omega arith) i ∷ at 2 (omega arith) i ∷ at 3 (omega arith) i
-    ∷ at 4 (omega arith) i ∷ at 5 (omega arith) i ∷ at 6 (omega arith) i ∷ at 7 (omega arith) i ∷ [])
+    ∙ (λ i. at 0 (omega arith) i ∷ at 1 (omega arith) i ∷ at 2 (omega arith) i
+    ∷ at 3 (omega arith) i ∷ at 4 (omega arith) i ∷ at 5 (omega arith) i ∷ at 6 (omega arith) i
+    ∷ at 7 (omega arith) i ∷ [])
     ∙ cells-drop (in_lane j h) 0 8 (length-map h (λ (row : List ℕ). slice_index row j) ∙ long_h)
 
 -- and from columns of the first four rows and of the last four
@@ -140,7 +141,8 @@ pub two_columns : (h first last columns more : List (List ℕ)) (j : ℕ) (d e :
     → ((k : ℕ) → k < 4 → slice_index_or first k [] ≡ slice_index_or h k [])
     → ((k : ℕ) → k < 4 → slice_index_or last k [] ≡ slice_index_or h (4 + k) [])
     → eight (get_or columns j d ∷ get_or more j e ∷ []) ≡ in_lane j h
-two_columns h first last columns more j d e long long_c long_m here turned turned_m is_first is_last =
+two_columns h first last columns more j d e long long_c long_m here turned turned_m is_first
+    is_last =
     let at : (k : ℕ) → k < 4
     → slice_index (get_or columns j d) k ≡ slice_index (in_lane j h) k =
     λ k lt. column_word h first columns k j k d (turned k lt) (is_first k lt) (omega arith)

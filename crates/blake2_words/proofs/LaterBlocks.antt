@@ -11,7 +11,8 @@ use Rattle.blake2_words.specs.Hash.{Input, input_data, padded, blocks, block_cou
 use Rattle.blake2_words.specs.Hash.{key_block}
 use Rattle.blake2_words.specs.Inputs.{KeyFits}
 use Rattle.blake2_words.specs.Run.{step_count}
-use Rattle.blake2_words.proofs.Sizes.{key_bytes_fit, length-padded}
+use Rattle.blake2_words.proofs.ParameterSizes.{key_bytes_fit}
+use Rattle.blake2_words.proofs.ByteSizes.{length-padded}
 use Rattle.blake2_words.proofs.Padding.{padded-whole}
 use Rattle.blake2_words.proofs.InputBlocks.{cut-at}
 use Rattle.blake2_words.proofs.Runs.{whole_blocks}

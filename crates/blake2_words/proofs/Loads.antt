@@ -8,7 +8,7 @@ use Rattle.blake2_rows.specs.Rows.{four, word_at}
 use Rattle.blake2_words.specs.Hash.{words_of}
 use Rattle.blake2_rows.proofs.Words.{cells-drop}
 use Rattle.blake2_words.proofs.Cells.{words_of-at}
-use Rattle.blake2_words.proofs.Sizes.{length-words_of}
+use Rattle.blake2_words.proofs.ByteSizes.{length-words_of}
 
 -- a part of a part
 part-part : (a i n m : ℕ) (xs : List ℕ) → i + n ≤ m

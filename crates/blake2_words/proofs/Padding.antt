@@ -7,7 +7,7 @@ use Rattle.std.proofs.lemmas.Grind.{same_number_lists}
 use Rattle.std.proofs.lemmas.Bool.{cases_lt}
 use Rattle.std.specs.Int.{from_le_bytes, w32, w64}
 use Rattle.blake2_words.specs.Hash.{padded}
-use Rattle.blake2_words.proofs.Sizes.{length-padded}
+use Rattle.blake2_words.proofs.ByteSizes.{length-padded}
 
 -- past the list there are zeros
 pub padded-past : (n : ℕ) (z : List ℕ) (i : ℕ) → length z ≤ i → get_or (padded n z) i 0 ≡ 0

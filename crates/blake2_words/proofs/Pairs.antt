@@ -16,8 +16,10 @@ use Rattle.blake2_words.specs.Witness.{from_end, IsWitnessAt}
 use Rattle.blake2_words.specs.Run.{step_count, run_step}
 use Rattle.blake2_words.proofs.Streaming.{length-cut, block_count-pos}
 use Rattle.blake2_words.proofs.Runs.{length-steps, get_or-steps, output-step, output-step_last}
-use Rattle.blake2_words.proofs.Determined.{concat-cut, block_count-fits, padded_cancel}
-use Rattle.blake2_words.proofs.Determined.{start_cancel, determined}
+use Rattle.blake2_words.proofs.JoinedBlocks.{concat-cut, block_count-fits}
+use Rattle.blake2_words.proofs.Cancelled.{padded_cancel}
+use Rattle.blake2_words.proofs.ParametersTold.{start_cancel}
+use Rattle.blake2_words.proofs.Determined.{determined}
 
 -- the step at distance j from the end
 from_end_is : (f : Family) (size : ℕ) (a : Input) (j : ℕ) (d : Step) → j < step_count f a

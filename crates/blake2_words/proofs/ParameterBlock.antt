@@ -11,7 +11,7 @@ use Rattle.blake2_words.specs.Hash.{Fits, padded, Parameters, parameter_block, T
 use Rattle.blake2_rows.proofs.Texts.{zeros_overwritten}
 use Rattle.blake2_words.proofs.Padding.{padded-whole}
 use Rattle.blake2_words.proofs.ParameterTexts.{padded-append_zeros}
-use Rattle.blake2_words.proofs.Sizes.{length-padded}
+use Rattle.blake2_words.proofs.ByteSizes.{length-padded}
 
 -- k bytes written at place i, over zeros that stand behind the first i bytes
 written : (n i k : ℕ) (w y : List ℕ) → length w ≡ i → length y ≡ k → i + k ≤ n

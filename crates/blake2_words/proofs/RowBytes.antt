@@ -10,7 +10,7 @@ use Rattle.blake2_rows.specs.Family.{Family, blake2b, blake2s, word, word_bytes}
 use Rattle.blake2_rows.specs.Rows.{eight, lane_bytes}
 use Rattle.blake2_words.specs.Hash.{bytes_of}
 use Rattle.blake2_rows.proofs.Words.{cells, cells-drop}
-use Rattle.blake2_words.proofs.Sizes.{length-bytes_of}
+use Rattle.blake2_words.proofs.RunSizes.{length-bytes_of}
 
 -- two texts of n bytes, one written before the other into 2n zeros
 halves_written : (n : ℕ) (x y : List ℕ) → length x ≡ n → length y ≡ n

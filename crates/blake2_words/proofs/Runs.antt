@@ -10,7 +10,7 @@ use Rattle.blake2_rows.specs.Family.{Family, blake2b, blake2s, block_bytes}
 use Rattle.blake2_words.specs.Hash.{input_flags, Flags, Input, input_start, input_data, last_chain}
 use Rattle.blake2_words.specs.Hash.{chain, blocks, block_count, Step, output, step, steps}
 use Rattle.blake2_words.proofs.Streaming.{block_count-pos}
-use Rattle.blake2_words.proofs.Determined.{block_count-fits}
+use Rattle.blake2_words.proofs.JoinedBlocks.{block_count-fits}
 
 -- there is a step for each block
 pub length-steps : (f : Family) (size : ℕ) (a : Input)

@@ -12,7 +12,7 @@ use Rattle.blake2_words.specs.Hash.{input_start, Step, step, steps}
 use Rattle.blake2_words.specs.Transcript.{Entry, entry, IsTranscript}
 use Rattle.blake2_words.proofs.Streaming.{length-cut, block_count-pos}
 use Rattle.blake2_words.proofs.Runs.{length-steps, get_or-steps, whole_blocks}
-use Rattle.blake2_words.proofs.Determined.{concat-cut, block_count-fits}
+use Rattle.blake2_words.proofs.JoinedBlocks.{concat-cut, block_count-fits}
 
 -- ---- the run's entries are a transcript
 

@@ -7,7 +7,7 @@ use Rattle.blake2_rows.proofs.Lanes.{listed_in_four}
 use Rattle.blake2_words.specs.Hash.{words_of}
 use Rattle.blake2_words.specs.Lanes.{texts}
 use Rattle.blake2_words.proofs.Lanes.{text_at}
-use Rattle.blake2_words.proofs.Sizes.{length-words_of}
+use Rattle.blake2_words.proofs.ByteSizes.{length-words_of}
 use Rattle.blake2_words.proofs.many.blake2b.block_rows.Goals as goal
 
 pub returns : goal.returns

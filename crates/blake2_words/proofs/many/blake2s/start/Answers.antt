@@ -4,7 +4,7 @@ use Rattle.blake2_rows.proofs.Lanes.{listed_in_eight}
 use Rattle.blake2_rows.proofs.Words.{cells-drop}
 use Rattle.blake2_words.specs.Hash.{start, input_start}
 use Rattle.blake2_words.specs.Lanes.{input_at}
-use Rattle.blake2_words.proofs.Sizes.{length-start}
+use Rattle.blake2_words.proofs.ParameterSizes.{length-start}
 use Rattle.blake2_words.proofs.many.blake2s.start.Goals as goal
 
 pub returns : goal.returns
