@@ -124,6 +124,9 @@ static void null_pointers(void) {
     CHECK(B(update)(NULL, bytes, 0) == -1 && B(update)(NULL, bytes, 1) == -1);
     CHECK(B(update)(&state, NULL, 1) == -1 && SAME(state, before));
     CHECK(B(update)(&state, NULL, 0) == 0 && SAME(state, before));
+    state.counter = (uint64_t)1 << 63; /* so that this length is refused, and no byte is read */
+    before = state;
+    CHECK(B(update)(&state, bytes, (size_t)1 << 63) == -1 && SAME(state, before));
     CHECK(B(final)(NULL, out, MAX) == -1 && B(final)(NULL, out, 0) == -1 && B(final)(NULL, NULL, 0) == -1);
     CHECK(B(final)(&state, NULL, MAX) == -1 && B(final)(&state, NULL, 0) == -1 && SAME(state, before));
     CHECK(HASH(NULL, bytes, key, MAX, 1, 1) == -1 && HASH(NULL, bytes, key, 0, 1, 1) == -1);
