@@ -7,6 +7,7 @@ ghost use Rattle.blake2_c.specs.Status.{Answers, IsUngivable};
 ghost use Rattle.blake2_c.specs.Trees.{IsUntakableTree};
 
 use blake2_plain::tree::TreeState;
+use blake2_tree::MESSAGE_LIMIT;
 
 /// Writes the root of the input in as many bytes as `out` has, 1 to 64, where a leaf has
 /// `leaf_length` bytes, 1 at least (the BLAKE2 document, 2.10). Salt and persona have up to 16 bytes
@@ -29,7 +30,7 @@ pub extern "C" fn blake2_c_tree_root(
 {
     match TreeState::new(out.len(), salt, persona, leaf_length) {
         Ok(mut run) => {
-            if input.len() as u64 >= 1 << 58 {
+            if input.len() as u64 >= MESSAGE_LIMIT {
                 return -1;
             }
             run.update(input);
@@ -87,7 +88,7 @@ pub extern "C" fn blake2_c_tree_update(state: &mut TreeState, input: &[u8]) -> i
     if !state.is_ready() {
         return -1;
     }
-    if input.len() as u64 > (1 << 58) - 1 - state.counted() {
+    if input.len() as u64 > MESSAGE_LIMIT - 1 - state.counted() {
         return -1;
     }
     state.update(input);
