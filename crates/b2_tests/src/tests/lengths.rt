@@ -1,14 +1,14 @@
-//! Inputs that end about the ends of pieces of 4,096 bytes, and keys, salts and personas of one byte
-//! and of the greatest length. The digests are those of `tools/expected_values.py`, under `texts` and
-//! `longest`.
+//! Inputs that end about the ends of pieces of 4,096 bytes, and keys, salts and personas of one
+//! byte and of the greatest length. The digests are those of `tools/expected_values.py`, under
+//! `texts` and `longest`.
 use super::run_over;
 use blake2::{Blake2b256, Digest};
 use std::alloc::{AllocError, Global};
 use std::process::Abort;
 use std::test::Fail;
 
-// The words of a command, and the digest of what it prints over texts of 4,090 to 4,100 and of 8,186
-// to 8,196 bytes.
+// The words of a command, and the digest of what it prints over texts of 4,090 to 4,100 and of
+// 8,186 to 8,196 bytes.
 const TEXTS: &str = "\
 sum b512|2bef40ee99a2ca25958fd1bc033c2b6bb347c5c39718d99af3eb7f126bead250\n\
 script b512|a6850053548d86878befcb93be81dcb922d0aa7dbb5aada4c29cd1baa2204f61\n\

@@ -55,9 +55,9 @@ fn run_with_memory(
     Ok((status, sink.written()))
 }
 
-// Checks a command where no memory is left, and at each further try with so many bytes more. At the
-// first tries it answers that memory is wanted, with status 1, and at all others it prints the text,
-// with status 0.
+// Checks a command where no memory is left, and at each further try with so many bytes more. At
+// the first tries it answers that memory is wanted, with status 1, and at all others it prints the
+// text, with status 0.
 fn check_refusals(
     rt: &(impl Abort + AllocGlobal),
     text: &str,
