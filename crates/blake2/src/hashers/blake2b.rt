@@ -1,11 +1,9 @@
 //! The hasher of BLAKE2b.
-ghost use Rattle.std.specs.Prelude.{◌≡◌, ⊤, ℕ, ◌+◌, ◌-◌, ◌*◌, ◌^◌, ◌<◌, ◌≤◌, List, [], length};
-ghost use Rattle.std.specs.Prelude.{None};
+ghost use Rattle.std.specs.Prelude.{◌≡◌, ⊤, ◌≤◌, [], length, None};
 ghost use Rattle.std.proofs.Common.{arith};
 ghost use Rattle.blake2_rows.specs.Family.{blake2b};
 ghost use Rattle.blake2_words.specs.Hash.{AdmitsTree, sequential};
 ghost use Rattle.blake2_words.specs.Views.{tree_of};
-ghost use Rattle.blake2_digest.specs.Blocks.{block_count};
 ghost use Rattle.blake2.specs.States.{node_digest_of};
 
 use crate::contexts::blake2b::Blake2bContext;
