@@ -133,6 +133,15 @@ test_family() {
     fi
 }
 
+# A wrong tag takes as many instructions wherever it differs.
+test_comparisons() {
+    if has valgrind; then
+        check "instructions of the comparisons" "$top/tools/count_instructions.sh" "$prefix"
+    else
+        skip "instructions of the comparisons" "no valgrind"
+    fi
+}
+
 test_examples() {
     check "the example in C of c/README.md" c_example cc blake2_c-static c
     check "the example in C with the shared library" c_example cc blake2_c c
@@ -157,6 +166,7 @@ test_languages() {
     fi
     if has python3; then
         for family in b s; do test_family $family; done
+        test_comparisons
         test_examples
     else
         skip "the known answers and the examples" "no python3"
