@@ -15,6 +15,8 @@ mod cores;
 #[cfg(test)]
 mod flags;
 #[cfg(test)]
+mod generic;
+#[cfg(test)]
 mod hashers;
 #[cfg(test)]
 mod inputs;
