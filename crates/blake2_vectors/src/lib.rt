@@ -29,6 +29,8 @@ mod limits;
 #[cfg(test)]
 mod macs;
 #[cfg(test)]
+mod node_calls;
+#[cfg(test)]
 mod parameters;
 #[cfg(test)]
 mod plain;
