@@ -35,6 +35,8 @@ mod parameters;
 #[cfg(test)]
 mod plain;
 #[cfg(test)]
+mod printed;
+#[cfg(test)]
 mod readme;
 #[cfg(test)]
 mod rounds;
