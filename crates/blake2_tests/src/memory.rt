@@ -104,6 +104,66 @@ fn refuse_memory_to_replay(rt: HostRuntime) -> Result<(), Fail> {
     Ok(())
 }
 
+// Whether a list of calls is refused by what it owes where there is memory for slot 0, and else by
+// that or for want of memory.
+fn is_owed(
+    alloc: Global,
+    is_enough: bool,
+    calls: &[Call<'_>],
+    owed: Option<ReplayFault>,
+) -> bool {
+    let found = replay::<_, 64>(alloc, Blake2b512::new(), calls).err();
+    found == owed || !is_enough && found == Some(ReplayFault::Memory)
+}
+
+// Whether lists whose first call is bad are refused for that call, long ones too: nothing is asked
+// for of the calls behind it.
+fn are_first_owed(alloc: Global, is_enough: bool) -> bool {
+    let owed = Some(ReplayFault::NoSuchSlot(0));
+    let mut copies = [Call::Clone(0); 300];
+    copies[0] = Call::Reset(1);
+    let mut digests = [Call::FinalizeReset(0); 300];
+    digests[0] = Call::Finalize(1);
+    is_owed(alloc, is_enough, &[Call::Clone(1)], owed)
+        & is_owed(alloc, is_enough, &[Call::FinalizeReset(7)], owed)
+        & is_owed(alloc, is_enough, &[Call::Update(1, b"abc")], owed)
+        & is_owed(alloc, is_enough, &[Call::Reset(usize::MAX)], owed)
+        & is_owed(alloc, is_enough, &copies, owed)
+        & is_owed(alloc, is_enough, &digests, owed)
+}
+
+// Whether updates and resets want no memory, before a bad call and without one.
+fn are_later_owed(alloc: Global, is_enough: bool) -> bool {
+    let owed = Some(ReplayFault::NoSuchSlot(2));
+    let mut calls = [Call::Update(0, b"abc"); 5];
+    calls[1] = Call::Reset(0);
+    let is_good_owed = is_owed(alloc, is_enough, &calls, None);
+    calls[2] = Call::Clone(1);
+    calls[3] = Call::Clone(0);
+    is_good_owed & is_owed(alloc, is_enough, &calls, owed)
+}
+
+#[test]
+fn refuse_no_memory_before_a_bad_call(rt: HostRuntime) -> Result<(), Fail> {
+    let alloc = rt.alloc();
+    let mut refused = Vec::with_capacity(alloc, TRIES)?;
+    let mut are_owed = true;
+    let hoard = hoard(alloc)?;
+    for tries in 0..TRIES {
+        let plug = plug(alloc, 16 * tries)?;
+        let is_enough = replay::<_, 64>(alloc, Blake2b512::new(), &[]).is_ok();
+        are_owed &= are_first_owed(alloc, is_enough) & are_later_owed(alloc, is_enough);
+        drop(plug);
+        if !is_enough {
+            refused.push(tries)?;
+        }
+    }
+    drop(hoard);
+    assert!(rt; are_owed);
+    assert!(rt; are_first(refused.as_slice()));
+    Ok(())
+}
+
 #[test]
 fn refuse_memory_to_transcripts_and_their_reader(rt: HostRuntime) -> Result<(), Fail> {
     let alloc = rt.alloc();
