@@ -1,4 +1,5 @@
 //! `b2`: digests, scripts and transcripts of BLAKE2b and BLAKE2s over standard input.
+
 #![tactic(auto)]
 
 use b2_commands::{Fault, run};

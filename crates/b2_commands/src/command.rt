@@ -1,4 +1,5 @@
 //! The commands, and the run of one.
+
 ghost use Rattle.std.specs.Prelude.{◌≡◌, ◌≢◌, ◌<◌, ◌≤◌, false, length, map, IsTrue, IfOk, IfErr};
 ghost use Rattle.std.specs.Prelude.{IsOkAnd};
 ghost use Rattle.std.specs.String.{string_bytes};

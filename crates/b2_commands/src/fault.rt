@@ -1,4 +1,5 @@
 //! Why the program ends without its output.
+
 ghost use Rattle.std.specs.Prelude.{◌≡◌, ◌≢◌, ◌<◌, ◌↔◌, [], ◌∷◌, ◌++◌, length, false, IsTrue};
 ghost use Rattle.std.specs.Io.KnownBytes.{Appends};
 ghost use Rattle.b2_commands.specs.declared.fault.Fault.TheVariants.{WrongLength, NoMemory};

@@ -1,4 +1,5 @@
 //! `b2 sum` and `b2 script`: the hash function where no option is given, and the MAC where one is.
+
 ghost use Rattle.std.specs.Prelude.{◌≡◌, ◌≢◌, ◌≤◌, ◌↔◌, ℕ, Bool, List, false, IsTrue};
 ghost use Rattle.std.specs.Result.{IsErrOf};
 ghost use Rattle.blake2.specs.States.{Fresh};

@@ -1,4 +1,5 @@
 //! The whole of the input, and what proofs know of bytes.
+
 ghost use Rattle.std.specs.Prelude.{◌≡◌, ◌↔◌, ◌⊎◌, false, IsTrue, IfOk, IfErr, IfSome};
 ghost use Rattle.std.specs.Result.{IsErrOf};
 ghost use Rattle.blake2.specs.Hash.{AreBytes};

@@ -1,5 +1,6 @@
 //! The commands of `b2`: digests, scripts and transcripts of BLAKE2b and BLAKE2s over a source of
 //! bytes, and what they print to a sink. The program gives them standard input and output.
+
 #![tactic(auto)]
 
 mod command;

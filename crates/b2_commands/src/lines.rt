@@ -1,4 +1,5 @@
 //! The lines of a script, read as calls.
+
 ghost use Rattle.std.specs.Prelude.{◌≡◌, ◌<◌, ◌≤◌, ◌∷◌, length, map, if◌then◌else◌, IfOk, IfErr, ok_or};
 ghost use Rattle.std.specs.Char.{is_ascii_digit};
 ghost use Rattle.std.specs.List.{list_all};

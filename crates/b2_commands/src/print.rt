@@ -1,4 +1,5 @@
 //! Lines of output.
+
 ghost use Rattle.std.specs.Prelude.{◌≡◌, ◌↔◌, ◌+◌, ◌*◌, ◌<◌, ◌≤◌, ◌∷◌, [], ◌++◌, length, decimal};
 ghost use Rattle.std.specs.Prelude.{false, IsTrue, OnOk, IsOkUnless};
 ghost use Rattle.std.specs.Result.{IsErrOf};

@@ -1,4 +1,5 @@
 //! `b2 sum`: the digest of the input.
+
 ghost use Rattle.std.specs.Prelude.{◌≡◌, ◌≢◌, ◌≤◌, ◌↔◌, false, IsTrue};
 ghost use Rattle.std.specs.Result.{IsErrOf};
 ghost use Rattle.blake2.specs.States.{digest_after};

@@ -1,4 +1,5 @@
 //! The words of `b2 tree`.
+
 ghost use Rattle.std.specs.Prelude.{◌≡◌, ◌<◌, ◌≤◌, length, map, IfOk, IfErr};
 ghost use Rattle.std.specs.String.{string_bytes};
 

@@ -1,4 +1,5 @@
 //! `b2 witness`: the pair of steps that two messages with one digest come to.
+
 ghost use Rattle.std.specs.Prelude.{◌≡◌, ◌≢◌, ◌≤◌, ◌↔◌, [], ◌∷◌, ◌++◌, ◌<◌, length, ℕ, List};
 ghost use Rattle.std.specs.Prelude.{Option, codes, map, false, IsTrue, IfOk, IfErr, OnOk};
 ghost use Rattle.std.specs.Prelude.{IsOkUnless};

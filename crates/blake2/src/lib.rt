@@ -29,6 +29,7 @@
 //! root.update(digests_of_leaves);
 //! let digest: [u8; 64] = root.finalize();
 //! ```
+
 #![tactic(auto)]
 
 mod contexts;

@@ -1,4 +1,5 @@
 //! BLAKE2s with sizes that are chosen as the program runs.
+
 ghost use Rattle.std.specs.Prelude.{◌≡◌, ◌≢◌, ◌++◌, ◌⊎◌, [], length, drop, slice_index, pos};
 ghost use Rattle.std.specs.Prelude.{negsuc, None};
 ghost use Rattle.blake2.specs.Family.{blake2s};

@@ -6,6 +6,7 @@
 //! No pointer is null, not even that of no bytes, each text is as long as its length says, and what
 //! a function writes overlaps nothing else that it is given. A text is a pointer and a length in
 //! bytes. A state is memory of written bytes, whatever they are.
+
 #![tactic(auto)]
 
 ghost use Rattle.std.specs.Prelude.{◌≡◌, ◌≢◌};

@@ -1,4 +1,5 @@
 //! Callers of the hash functions.
+
 ghost use Rattle.std.specs.Prelude.{◌≡◌, ◌+◌, ◌*◌, ◌^◌, ◌<◌, ◌++◌, false, [], length, None};
 ghost use Rattle.blake2_rows.specs.Family.{blake2b, blake2s};
 ghost use Rattle.blake2.specs.States.{digest_of};

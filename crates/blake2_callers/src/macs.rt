@@ -1,4 +1,5 @@
 //! Callers of the message authentication codes.
+
 ghost use Rattle.std.specs.Prelude.{◌≡◌, ◌+◌, ◌^◌, ◌<◌, ◌↔◌, ◌⊎◌, [], length, Some, IfOk, IsErr};
 ghost use Rattle.std.specs.Prelude.{IsTrue};
 ghost use Rattle.blake2_rows.specs.Family.{blake2b};

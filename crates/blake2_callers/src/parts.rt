@@ -1,4 +1,5 @@
 //! Callers of the parts that the hash functions are made of, and of what runs them.
+
 ghost use Rattle.std.specs.Prelude.{◌≡◌, ◌⊎◌, true, [], None, Ok, Err, IfOk, IfErr};
 ghost use Rattle.blake2_rows.specs.Family.{blake2b};
 ghost use Rattle.blake2_rows.specs.Rows.{lane_sums, lane_rotations};

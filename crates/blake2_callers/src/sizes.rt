@@ -1,4 +1,5 @@
 //! Callers with sizes that are known as the program runs.
+
 ghost use Rattle.std.specs.Prelude.{◌≡◌, ◌+◌, ◌^◌, ◌<◌, ◌↔◌, ◌⊎◌, [], length, None, OnOk, OnErr};
 ghost use Rattle.std.specs.Prelude.{IsErr};
 ghost use Rattle.blake2_rows.specs.Family.{blake2s};

@@ -1,4 +1,5 @@
 //! Callers of nodes of a tree of hashes, and of a whole tree.
+
 ghost use Rattle.std.specs.Prelude.{◌≡◌, ◌+◌, ◌^◌, ◌<◌, ◌↔◌, ◌⊎◌, true, [], ◌++◌, length, None};
 ghost use Rattle.std.specs.Prelude.{OnOk, OnErr, IsErr};
 ghost use Rattle.blake2_rows.specs.Family.{blake2b};

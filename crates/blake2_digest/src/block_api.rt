@@ -1,4 +1,5 @@
 //! Block cores: what takes whole blocks and leaves it to a buffer to cut the input.
+
 ghost use Rattle.std.specs.Prelude.{◌≡◌, ℕ, ◌+◌, ◌*◌, ◌^◌, ◌<◌, ◌≤◌, ◌↔◌, List, [], ◌++◌, length};
 ghost use Rattle.std.specs.Prelude.{IfOk, IsErr};
 

@@ -1,4 +1,5 @@
 //! Hash functions.
+
 ghost use Rattle.std.specs.Prelude.{◌≡◌, ℕ, ◌+◌, ◌^◌, ◌<◌, Bool, false, List, length};
 ghost use Rattle.blake2_digest.specs.States.{digest_now, Updated, Fresh};
 

@@ -1,4 +1,5 @@
 //! Message authentication codes.
+
 ghost use Rattle.std.specs.Prelude.{◌≡◌, ℕ, ◌+◌, ◌^◌, ◌<◌, ◌↔◌, ◌⊎◌, Bool, List, length, IfOk};
 ghost use Rattle.std.specs.Prelude.{IsErr, IsOk, IsTrue};
 ghost use Rattle.blake2_digest.specs.States.{digest_now, Updated, Fresh};

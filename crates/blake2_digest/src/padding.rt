@@ -1,4 +1,5 @@
 //! Texts with zeros behind them.
+
 ghost use Rattle.std.specs.Prelude.{◌≡◌, ◌≤◌, length};
 ghost use Rattle.blake2_digest.specs.Texts;
 

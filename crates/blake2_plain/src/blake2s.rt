@@ -1,4 +1,5 @@
 //! BLAKE2s, with a state of plain numbers.
+
 ghost use Rattle.std.specs.Prelude.{◌≡◌, ℕ, ◌+◌, ◌*◌, ◌^◌, ◌<◌, ◌≤◌, ◌↔◌, List, [], ◌∷◌, ◌++◌};
 ghost use Rattle.std.specs.Prelude.{length, take, drop, slice_index, None, Some, IfOk, IsErr};
 ghost use Rattle.std.specs.Prelude.{IsTrue};

@@ -1,6 +1,7 @@
 //! The tree over a message that comes in pieces, with a state of plain numbers: any caller can keep
 //! one anywhere, copy it and hand it over as bytes, and the root's size is chosen as the program
 //! runs. `blake2_c` shows it to C.
+
 ghost use Rattle.std.specs.Prelude.{◌≡◌, ℕ, ◌+◌, ◌*◌, ◌^◌, ◌<◌, ◌≤◌, ◌↔◌, List, [], ◌++◌, length};
 ghost use Rattle.std.specs.Prelude.{take, drop, IfOk, IsErr, IsTrue};
 ghost use Rattle.std.specs.List.{concat};

@@ -2,6 +2,7 @@
 //! that mixes them. The definitions of the two families, of the mixing function G and of the
 //! round (RFC 7693, sections 2.1 and 3) stand in `specs/`; the crates above go on from there.
 //! [`padded`] is that of `blake2_digest`, which they need too.
+
 #![tactic(auto)]
 
 pub mod rows;

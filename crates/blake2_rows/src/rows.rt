@@ -7,6 +7,7 @@
 //!
 //! Sixteen rows hold several states, one a lane: four of BLAKE2b in [`u64x4`], eight of BLAKE2s in
 //! [`u32x8`]. `round_each` mixes all of them at once, and no lane moves.
+
 mod u32_lanes;
 mod u32_states;
 mod u32_wide;

@@ -1,4 +1,5 @@
 //! Lists of calls on several states of one hasher or MAC.
+
 ghost use Rattle.std.specs.Prelude.{◌≡◌, ℕ, Bool, false, List, [], ◌∷◌, ◌++◌, ◌⊎◌, OnOk, IfOk};
 ghost use Rattle.std.specs.Prelude.{IfErr, IsOk, IsErr, IsOkUnless, Ok, Err};
 ghost use Rattle.blake2_digest.specs.States.{Fresh, AtStart};

@@ -1,5 +1,6 @@
 //! Runs of hash functions, proved from the promises of `blake2_digest` alone, for every hasher and
 //! MAC that meets them.
+
 #![tactic(auto)]
 
 pub mod calls;

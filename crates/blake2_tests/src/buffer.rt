@@ -1,4 +1,5 @@
 //! What the buffer hands on and what it holds back, on a core that counts.
+
 ghost use Rattle.std.specs.Prelude.{◌≡◌, ◌+◌, ◌*◌, ◌^◌, ◌<◌, ◌≤◌, length};
 ghost use Rattle.std.proofs.Common.{arith, length-append};
 

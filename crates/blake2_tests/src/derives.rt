@@ -1,4 +1,5 @@
 //! The derives of plain values: copies and clones are equal to them, and other values are not.
+
 ghost use Rattle.std.specs.Prelude.{◌≤◌};
 
 use crate::inputs::{entry, input, reading, step, transcript, unkeyed};

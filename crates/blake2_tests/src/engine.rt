@@ -1,5 +1,6 @@
 //! The engine over devices that give little or fail, with a hash function of the tests' own: the
 //! value of the bytes as the digits of a number in base 31, modulo 2^32.
+
 ghost use Rattle.std.specs.Prelude.{◌≡◌, ◌+◌, ◌*◌, ◌%◌, ◌^◌, false, fold, IfOk};
 ghost use Rattle.std.proofs.Common.{arith};
 ghost use Rattle.std.specs.Int.{to_be_bytes, w32};

@@ -2,6 +2,7 @@
 //! input that has just the changed transcript. How many are read is what
 //! `tools/expected_values.py` finds, under `forged`, and the digests of long ones are its, under
 //! `transcripts`.
+
 ghost use Rattle.std.specs.Prelude.{◌≤◌};
 
 use crate::inputs::{count_up, digest_is, input, read_input, transcript};

@@ -1,5 +1,6 @@
 //! Inputs, blocks, entries, steps and readings that several tests share. What has several fields is
 //! made here alone.
+
 ghost use Rattle.std.specs.Prelude.{◌≡◌, ◌≤◌, [], length};
 
 pub(crate) use blake2::digest::padded;

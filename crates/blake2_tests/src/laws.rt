@@ -1,4 +1,5 @@
 //! The laws of the definitions at work.
+
 use blake2::laws::pieces::{first_difference, piece, piece_count, same_pieces};
 use blake2::laws::{blake2b, blake2s};
 use blake2::rows::{u32x4, u64x4};

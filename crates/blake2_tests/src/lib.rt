@@ -3,6 +3,7 @@
 //! refused; and the calls that are generic at work on small states of the tests' own. Digests are
 //! those of Python's `hashlib`. `blake2_vectors` has the worked values of the hash functions: two
 //! crates of tests are proved side by side.
+
 #![tactic(auto)]
 
 #[cfg(test)]

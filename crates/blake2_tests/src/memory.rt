@@ -1,5 +1,6 @@
 //! Calls where memory is refused. Each answers want of memory, or what it answers where there is
 //! enough; what takes no memory answers as ever.
+
 ghost use Rattle.std.specs.Prelude.{◌≤◌};
 
 use crate::inputs::{entry, input, reading, step, transcript, unkeyed};

@@ -1,6 +1,7 @@
 //! Nodes of trees (the BLAKE2 document, 2.10): their digests and transcripts, what transcripts are
 //! read as, and their witnesses. The digests over lists of 64 nodes are those of
 //! `tools/expected_values.py`, under `nodes`.
+
 ghost use Rattle.std.specs.Prelude.{◌≤◌};
 
 use crate::inputs::{count_up, digest_is, entry, input, reading, step, transcript, unkeyed};

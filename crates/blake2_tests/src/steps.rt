@@ -1,5 +1,6 @@
 //! Transcripts of inputs, and what transcripts are read as. Words are those of the parameter block
 //! (RFC 7693, 2.5), byte by byte; entries follow section 3.3.
+
 ghost use Rattle.std.specs.Prelude.{◌≤◌};
 
 use crate::inputs::{count_up, entry, input, reading, transcript, unkeyed};

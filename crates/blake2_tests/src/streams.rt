@@ -1,4 +1,5 @@
 //! Streams between devices in memory that give and take little, or fail.
+
 ghost use Rattle.std.specs.Prelude.{◌≤◌};
 
 use blake2::digest::{KeyInit, Mac};

@@ -2,6 +2,7 @@
 //! 2.6) xored with those of the parameter block (2.5). The chaining words behind a first block
 //! come from a plain program of the compression (3.2) in Python, whose digests are those of
 //! `hashlib`.
+
 ghost use Rattle.std.specs.Prelude.{◌≤◌, length};
 
 use crate::inputs::{input, padded, step, unkeyed};

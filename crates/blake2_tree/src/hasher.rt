@@ -1,4 +1,5 @@
 //! The tree over a message that comes in pieces.
+
 ghost use Rattle.std.specs.Prelude.{◌≡◌, ℕ, ◌+◌, ◌*◌, ◌^◌, ◌<◌, ◌≤◌, List, [], ◌++◌, length, false};
 ghost use Rattle.std.specs.List.{concat};
 ghost use Rattle.blake2.specs.Hashers.{blake2b_meaning};

@@ -1,4 +1,5 @@
 //! A salt or a persona that is kept.
+
 ghost use Rattle.std.specs.Prelude.{◌≡◌, ℕ, ◌≤◌, List, length, take};
 ghost use Rattle.blake2_words.specs.Hash.{AreBytes};
 

@@ -12,6 +12,7 @@
 //! let root: [u8; 32] = hasher.finalize();
 //! assert_eq!(root, tree_root::<32>(b"", b"files", 1 << 20, b"hello world"));
 //! ```
+
 #![tactic(auto)]
 
 mod hasher;

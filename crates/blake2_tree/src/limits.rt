@@ -1,4 +1,5 @@
 //! The tree's numbers, and the pieces in which a message is best handed over.
+
 ghost use Rattle.std.specs.Prelude.{◌≡◌, ℕ, ◌+◌, ◌*◌, ◌^◌, ◌<◌, ◌≤◌};
 
 /// A message has fewer bytes than this: so the digests of leaves of one byte still fit the count of

@@ -1,4 +1,5 @@
 //! The nodes of a tree: their places, hashers and inputs of them, and their digests.
+
 ghost use Rattle.std.specs.Prelude.{◌≡◌, ◌+◌, ◌*◌, ◌^◌, ◌<◌, ◌≤◌, length, IfOk};
 ghost use Rattle.blake2.specs.Hashers.{blake2b_meaning};
 ghost use Rattle.blake2_digest.specs.States.{Fresh};

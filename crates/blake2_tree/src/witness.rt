@@ -1,4 +1,5 @@
 //! Two messages with one root.
+
 ghost use Rattle.std.specs.Prelude.{◌^◌, ◌<◌, ◌≤◌, ◌↔◌, length, IfOk, IfSome, IsSome};
 ghost use Rattle.blake2_tree.specs.TreeRoot.{tree_parameters};
 ghost use Rattle.blake2_tree.specs.TreeWitnesses.{RootsCollide, IsTreeWitness};

@@ -1,4 +1,5 @@
 //! Lists of calls on hashers and MACs.
+
 use crate::inputs::{KEY, count_up, reads, take};
 use blake2::calls::{Call, ReplayFault, replay};
 use blake2::digest::{Duplicate, FixedOutput, FixedOutputReset, Reset, Update};

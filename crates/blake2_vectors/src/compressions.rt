@@ -1,4 +1,5 @@
 //! One compression, of rows and of words, over a message of one block.
+
 use blake2::Tree;
 use blake2_words::params::{self, Parameters};
 use blake2_words::words::{self, Flags};

@@ -1,5 +1,6 @@
 //! Messages that come in two pieces, with copies, resets and digests between them. The expected
 //! digests of all outputs are those of `tools/expected_values.py`, under `copies`.
+
 ghost use Rattle.std.specs.Prelude.{◌≤◌, length};
 
 use crate::inputs::{LENGTHS, count_up, reads, take};

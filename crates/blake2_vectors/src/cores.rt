@@ -1,5 +1,6 @@
 //! Outputs of the cores at every size. The expected digests of all outputs are those of
 //! `tools/expected_values.py`, under `cores`.
+
 ghost use Rattle.std.specs.Prelude.{◌≡◌, ◌<◌, ◌≤◌};
 
 use crate::inputs::{LENGTHS, count_up, reads, take};

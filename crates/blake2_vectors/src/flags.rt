@@ -1,5 +1,6 @@
 //! Nodes of trees of hashes and their last-node flag, against the digests of Python's hashlib under
 //! the salt `salt` and the persona `persona`: each has 16 bytes, as a number, high byte first.
+
 use crate::inputs::take;
 use blake2::digest::{
     Duplicate, FixedOutputReset, LazyBuffer, Reset, UpdateCore, VariableOutputCore,

@@ -1,4 +1,5 @@
 //! Digests of the hashers.
+
 ghost use Rattle.std.specs.Prelude.{◌≡◌, ◌+◌, ◌^◌, ◌<◌, ◌≤◌, length};
 
 use crate::inputs::{reads, take};

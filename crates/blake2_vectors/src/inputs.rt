@@ -1,4 +1,5 @@
 //! A key, lengths, messages and pieces that several tests share.
+
 use blake2::digest::Update;
 use std::process::Abort;
 

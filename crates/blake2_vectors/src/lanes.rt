@@ -1,4 +1,5 @@
 //! Lanes and rounds.
+
 use blake2::digest::Wipe;
 use blake2::rows::{u32x4, u64x4};
 use std::test::Fail;

@@ -1,5 +1,6 @@
 //! The lengths of keys, salts and personas that are taken, and those that are refused. The
 //! expected digests of the outputs are those of `tools/expected_values.py`, under `lengths`.
+
 ghost use Rattle.std.specs.Prelude.{◌≤◌};
 
 use crate::inputs::{count_up, reads, take};

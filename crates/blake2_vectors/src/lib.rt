@@ -2,6 +2,7 @@
 //! Python's `hashlib.blake2b` and `hashlib.blake2s`, and not from this project's own code. They
 //! stand apart from the libraries, since a crate that has tests is proved twice; `blake2_tests` has
 //! the tests of what these functions are used for.
+
 #![tactic(auto)]
 
 #[cfg(test)]

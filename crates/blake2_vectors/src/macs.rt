@@ -1,4 +1,5 @@
 //! Outputs of the MACs, personas of the hashers, and what constructors refuse.
+
 ghost use Rattle.std.specs.Prelude.{◌≤◌};
 
 use crate::inputs::{KEY, count_up, reads, take};

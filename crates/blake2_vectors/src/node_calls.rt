@@ -1,5 +1,6 @@
 //! Lists of calls on hashers of a node of a tree, with its last-node flag on and off. The expected
 //! digests are those of `hashlib`.
+
 ghost use Rattle.std.specs.Prelude.{◌≤◌};
 
 use blake2::calls::{Call, ReplayFault, replay};

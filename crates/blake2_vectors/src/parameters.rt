@@ -1,4 +1,5 @@
 //! The words of the parameter block, and the places in trees that are taken.
+
 use blake2::Tree;
 use blake2_words::params::{Parameters, blake2b, blake2s};
 

@@ -1,4 +1,5 @@
 //! What `Debug` writes of a MAC at several sizes: its name and size, and nothing of its key.
+
 use blake2::digest::KeyInit;
 use blake2::{Blake2bMac, Blake2sMac};
 use std::alloc::{AllocError, Global};

@@ -1,4 +1,5 @@
 //! The rounds of the hash of `abc`, whose words RFC 7693 prints after each.
+
 use blake2::rows::{u32x4, u64x4};
 
 // The first two rows of SIGMA (RFC 7693, section 2.7).

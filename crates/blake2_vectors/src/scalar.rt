@@ -1,5 +1,6 @@
 //! BLAKE2s over plain words, as RFC 7693, 3.1 and 3.2, writes it: for digests that no caller
 //! reaches in a test's time.
+
 use blake2_words::consts::{BLAKE2S_IV, SIGMA};
 
 // G: mixes four words with two of the block (3.1).

@@ -1,5 +1,6 @@
 //! The self-tests of RFC 7693, appendix E: one digest of the digests of many sizes and lengths,
 //! with and without keys.
+
 ghost use Rattle.std.specs.Prelude.{◌≤◌};
 
 use crate::inputs::{reads, take};

@@ -1,4 +1,5 @@
 //! The sizes that types tell, and the marks that they bear.
+
 ghost use Rattle.std.specs.Prelude.{◌≤◌};
 
 use blake2::digest::{

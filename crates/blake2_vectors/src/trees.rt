@@ -1,4 +1,5 @@
 //! Trees against their nodes, and against roots that Python's `hashlib` gives.
+
 ghost use Rattle.std.specs.Prelude.{◌^◌, ◌<◌, length};
 
 mod memory;

@@ -1,4 +1,5 @@
 //! Devices that give or take little at a time, and that fail at each call.
+
 use super::lengths::script_of;
 use super::{check_run, run_over, words_of};
 use b2_commands::run;

@@ -1,5 +1,6 @@
 //! Inputs of more than a MiB, and scripts of ten thousand lines. The lines and digests over the
 //! input are those of `tools/expected_values.py`, under `large`.
+
 use super::script::check_wrong;
 use super::{check_run, run_over};
 use blake2::{Blake2b256, Digest};

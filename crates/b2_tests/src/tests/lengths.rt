@@ -1,6 +1,7 @@
 //! Inputs that end about the ends of pieces of 4,096 bytes, and keys, salts and personas of one
 //! byte and of the greatest length. The digests are those of `tools/expected_values.py`, under
 //! `texts` and `longest`.
+
 use super::run_over;
 use blake2::{Blake2b256, Digest};
 use std::alloc::{AllocError, Global};

@@ -1,4 +1,5 @@
 //! Runs of the program where requests for memory are refused.
+
 ghost use Rattle.std.specs.Prelude.{◌≤◌};
 
 use super::{text_of, words_of};

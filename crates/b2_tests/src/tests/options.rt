@@ -1,4 +1,5 @@
 //! Every choice of key, salt and persona that are given or absent, at each KIND.
+
 use super::{check_run, run_over};
 use blake2::{Blake2b256, Digest};
 use std::process::Abort;

@@ -1,4 +1,5 @@
 //! Outputs that fail once, and would then take everything: nothing more is written to them.
+
 use super::words_of;
 use b2_commands::{Fault, run};
 use blake2::engine::{IoSink, SliceSource};

@@ -1,4 +1,5 @@
 //! Words that are refused.
+
 use super::{check_run, run_over, words_of};
 use b2_commands::run;
 use blake2::engine::{SliceSink, SliceSource};

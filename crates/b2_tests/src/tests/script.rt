@@ -1,4 +1,5 @@
 //! `b2 script`.
+
 use super::{check_prints, check_run, run_over};
 use std::process::Abort;
 use std::test::Fail;

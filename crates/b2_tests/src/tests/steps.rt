@@ -1,4 +1,5 @@
 //! `b2 steps`.
+
 use super::check_prints;
 use std::test::Fail;
 

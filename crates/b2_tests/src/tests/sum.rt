@@ -1,4 +1,5 @@
 //! `b2 sum`.
+
 use super::{check_run, run_over};
 use std::test::Fail;
 

@@ -1,4 +1,5 @@
 //! `b2 tree`.
+
 use super::{check_run, run_over};
 use std::test::Fail;
 

@@ -1,4 +1,5 @@
 //! `b2 witness`.
+
 use super::{check_prints, check_run, run_over};
 use std::test::Fail;
 

@@ -1,4 +1,5 @@
 //! The context of a BLAKE2s run.
+
 ghost use Rattle.std.specs.Prelude.{◌≡◌, ℕ, ◌+◌, ◌-◌, ◌*◌, ◌^◌, ◌<◌, ◌≤◌, List, [], length, take};
 ghost use Rattle.std.specs.Prelude.{replicate};
 ghost use Rattle.blake2_rows.specs.Family.{blake2s};

@@ -1,4 +1,5 @@
 //! The block core of BLAKE2b.
+
 ghost use Rattle.std.specs.Prelude.{◌≡◌, ⊤, ℕ, ◌+◌, ◌^◌, ◌<◌, ◌≤◌, ◌↔◌, false, List, [], ◌∷◌};
 ghost use Rattle.std.specs.Prelude.{length, IfOk, IsErr, IsTrue};
 ghost use Rattle.blake2_rows.specs.Family.{blake2b};

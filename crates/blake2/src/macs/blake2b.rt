@@ -1,4 +1,5 @@
 //! The MAC of BLAKE2b.
+
 ghost use Rattle.std.specs.Prelude.{◌≡◌, ⊤, ℕ, ◌+◌, ◌-◌, ◌*◌, ◌^◌, ◌<◌, ◌≤◌, ◌↔◌, ◌⊎◌, List, []};
 ghost use Rattle.std.specs.Prelude.{length, false, None, Some, IfOk, IsErr};
 ghost use Rattle.std.proofs.Common.{arith};

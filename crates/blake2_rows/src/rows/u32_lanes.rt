@@ -1,4 +1,5 @@
 //! Rows of BLAKE2s: four words of 32 bits.
+
 ghost use Rattle.std.specs.Prelude.{◌≡◌, ◌↔◌, ℕ, IsTrue, ◌+◌, ◌%◌, ◌^◌, ◌<◌, List, [], ◌∷◌, length};
 ghost use Rattle.std.specs.Prelude.{slice_index};
 ghost use mir.Val.{bits};

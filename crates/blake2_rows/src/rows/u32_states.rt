@@ -1,5 +1,6 @@
 //! Eight states of BLAKE2s at once, one a lane: sixteen rows hold them, row k having word k of
 //! each.
+
 ghost use Rattle.std.specs.Prelude.{◌≡◌, ℕ, ◌<◌, slice_index};
 ghost use Rattle.blake2_rows.specs.Family.{blake2s};
 ghost use Rattle.blake2_rows.specs.Round;

@@ -1,4 +1,5 @@
 //! Rows of BLAKE2s in several states: eight words of 32 bits.
+
 ghost use Rattle.std.specs.Prelude.{◌≡◌, ℕ, ◌+◌, ◌%◌, ◌^◌, ◌<◌, List, [], ◌∷◌};
 ghost use Rattle.std.specs.Prelude.{bit_xor, slice_index};
 ghost use Rattle.std.specs.Int.{rotate_right};

@@ -1,4 +1,5 @@
 //! Writers as sinks.
+
 ghost use Rattle.std.specs.Prelude.{◌≡◌, false};
 
 use super::device::{DeviceError, Sink};

@@ -1,4 +1,5 @@
 //! Readers as sources.
+
 ghost use Rattle.std.specs.Prelude.{◌≡◌, false};
 
 use super::device::{DeviceError, Source};

@@ -1,4 +1,5 @@
 //! Memory as a sink that takes little at a time, has little room, or fails when told to.
+
 ghost use Rattle.std.specs.Prelude.{◌≡◌, ◌↔◌, ◌≤◌, ◌||◌, length, Some, [], IsErr, IfOk, OnErr};
 ghost use Rattle.std.specs.Prelude.{true, false};
 ghost use Rattle.std.specs.Io.{WritesAtMost};

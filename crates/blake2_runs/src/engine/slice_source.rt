@@ -1,4 +1,5 @@
 //! Memory as a source that gives little at a time, or fails when told to.
+
 ghost use Rattle.std.specs.Prelude.{◌≡◌, ◌↔◌, ◌≤◌, ◌||◌, length, Some, is_err, IsErr, IfOk, OnErr};
 ghost use Rattle.std.specs.Prelude.{true, false};
 ghost use Rattle.std.specs.Io.{ReadsAtMost};

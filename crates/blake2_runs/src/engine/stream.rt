@@ -1,4 +1,5 @@
 //! Reading a source to its end, and writing the digest of its bytes as a line.
+
 ghost use Rattle.std.specs.Prelude.{◌≡◌, ◌≢◌, ◌↔◌, ℕ, ◌+◌, ◌*◌, ◌<◌, ◌≤◌, ◌^◌, List, length, take};
 ghost use Rattle.std.specs.Prelude.{false, IsTrue, IsErr, IfOk, IfSome, OnOk, OnErr};
 ghost use Rattle.std.specs.Result.{IsErrOf};

@@ -1,4 +1,5 @@
 //! Digests that hashlib gives, in pieces; refusals; what a wipe and a reset leave.
+
 use blake2::Tree;
 use blake2_plain::blake2b::State;
 use std::alloc::AllocError;

@@ -1,5 +1,6 @@
 //! Trees where memory is refused: a witness answers want of memory, or what it answers where there
 //! is enough; a root takes none.
+
 ghost use Rattle.std.specs.Prelude.{◌≤◌};
 
 use blake2_tree::{TreeWitness, tree_root, tree_witness};

@@ -1,4 +1,5 @@
 //! Roots of plain states against those of `tree_root`.
+
 ghost use Rattle.std.specs.Prelude.{◌≤◌, length};
 
 use blake2_plain::tree::TreeState;

@@ -1,5 +1,6 @@
 //! Roots of `tree_root` and `TreeHasher`. The values in hexadecimal are those of `hashlib`, as
 //! `tools/expected_values.py` prints them.
+
 ghost use Rattle.std.specs.Prelude.{◌≡◌, ◌≤◌, length};
 
 use super::node;
