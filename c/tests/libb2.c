@@ -232,6 +232,8 @@ static void refused_states(void) {
     X(_state) S, before;
     CHECK(X(_init)(&S, LONGEST) == 0);
     S.buflen = BLOCK + 1;
+    S.f[0] = 9;
+    memset(S.buf + BLOCK, 7, BLOCK);
     before = S;
     CHECK(X(_update)(&S, message, 1) == -1 && X(_final)(&S, out, LONGEST) == -1);
     CHECK(!memcmp(&S, &before, sizeof S));
