@@ -6,23 +6,11 @@ set -u
 top=$(dirname "$(dirname "$(readlink -f "$0")")")
 room=$(mktemp -d)
 trap 'rm -rf "$room"' EXIT
-passed=0
-failed=0
+source "$top/tools/checks.sh"
 
-# Counts a check of this name: the command's status is 0.
-holds() {
-    local name=$1
-    shift
-    if "$@"; then
-        passed=$((passed + 1))
-    else
-        failed=$((failed + 1))
-        {
-            echo "FAILED: $name"
-            sed 's/^/  output: /' "$room/output"
-            sed 's/^/  errors: /' "$room/errors"
-        } >&2
-    fi
+show() {
+    sed 's/^/  output: /' "$room/output"
+    sed 's/^/  errors: /' "$room/errors"
 }
 
 # A repository of two crates below b2, and one beside them that b2 does not need.
@@ -188,5 +176,4 @@ done
 rm "$room/info"
 holds "without the file it is x86-64-v2" is_chosen x86-64-v2
 
-echo "$passed passed, $failed failed"
-[ "$failed" -eq 0 ]
+counts

@@ -6,23 +6,11 @@ set -u
 top=$(dirname "$(dirname "$(readlink -f "$0")")")
 room=$(mktemp -d)
 trap 'rm -rf "$room"' EXIT
-passed=0
-failed=0
+source "$top/tools/checks.sh"
 
-# Counts a check of this name: the command's status is 0.
-holds() {
-    local name=$1
-    shift
-    if "$@"; then
-        passed=$((passed + 1))
-    else
-        failed=$((failed + 1))
-        {
-            echo "FAILED: $name"
-            sed 's/^/  output: /' "$room/output"
-            sed 's/^/  calls: /' "$room/calls"
-        } >&2
-    fi
+show() {
+    sed 's/^/  output: /' "$room/output"
+    sed 's/^/  calls: /' "$room/calls"
 }
 
 mkdir -p "$room/bin" "$room/repository/tools" "$room/repository/c" "$room/repository/docs"
@@ -144,5 +132,4 @@ PATH=/usr/bin:/bin ./test --quick >"$room/output" 2>&1
 status=$?
 holds "without rt" ends 1 "0 passed, 1 failed"
 
-echo "$passed passed, $failed failed"
-[ "$failed" -eq 0 ]
+counts

@@ -43,23 +43,10 @@ callers() {
         file != "" { print > file }'
 }
 
-passed=0 failed=0
-# Counts a step, which has this name.
-step() {
-    local name=$1
-    shift
-    if "$@"; then
-        passed=$((passed + 1))
-    else
-        failed=$((failed + 1))
-        echo "FAILED: $name"
-    fi
-}
-
+source "$top/tools/checks.sh"
 blocks blake2 sh | grep -v '^---$' >../recipe.sh
-step "the commands of the page" bash -eu ../recipe.sh
+holds "the commands of the page" bash -eu ../recipe.sh
 callers app blake2
 callers app_tree blake2_tree
-step "rt all check" rt all check
-echo "$passed passed, $failed failed"
-[ "$failed" -eq 0 ]
+holds "rt all check" rt all check
+counts
