@@ -1,6 +1,6 @@
 //! The root of a tree of hashes with two levels over BLAKE2b, as the crate `blake2_tree` has it.
 
-ghost use Rattle.std.specs.Prelude.{◌≡◌, ℕ, ◌≤◌, ◌^◌, ◌⊎◌, List, [], ◌++◌, length, drop, pos};
+ghost use Rattle.std.specs.Prelude.{◌≡◌, ℕ, ◌<◌, ◌≤◌, ◌^◌, ◌⊎◌, List, [], ◌++◌, length, drop, pos};
 ghost use Rattle.std.specs.Prelude.{negsuc};
 ghost use Rattle.blake2_tree.specs.TreeRoot.{tree_parameters, tree_root as root_of};
 ghost use Rattle.blake2_plain.specs.TreeStates.{IsReady, IsRefused, Took, future, count, zeros};
@@ -8,7 +8,28 @@ ghost use Rattle.blake2_c.specs.Status.{Answers, IsUngivable};
 ghost use Rattle.blake2_c.specs.Trees.{IsUntakableTree};
 
 use blake2_plain::tree::TreeState;
-use blake2_tree::MESSAGE_LIMIT;
+use blake2_tree::{MESSAGE_LIMIT, tree_root};
+
+// Writes the root in `N` bytes. It knows the whole input, and so hashes the last four leaves at once
+// too, as a state can't.
+fn write_root<const N: usize>(
+    out: &mut [u8],
+    input: &[u8],
+    salt: &[u8],
+    persona: &[u8],
+    leaf_length: u32,
+)
+    requires size { N ≤ 64 }
+    requires room { length out.old ≡ N }
+    requires salt { length salt.now ≤ 16 }
+    requires persona { length persona.now ≤ 16 }
+    requires leaf_length { 1 ≤ leaf_length }
+    requires input { length input.now < 2 ^ 58 }
+    ensures { out.new ≡ root_of N (tree_parameters salt.now persona.now leaf_length) input.now }
+{
+    let root: [u8; N] = tree_root(salt, persona, leaf_length, input);
+    out.copy_from_slice(&root);
+}
 
 /// Writes the root of the input in as many bytes as `out` has, 1 to 64, where a leaf has
 /// `leaf_length` bytes, 1 at least (the BLAKE2 document, 2.10). Salt and persona have up to 16 bytes
@@ -34,8 +55,14 @@ pub extern "C" fn blake2_c_tree_root(
             if input.len() as u64 >= MESSAGE_LIMIT {
                 return -1;
             }
-            run.update(input);
-            run.write_root(out);
+            match out.len() {
+                32 => write_root::<32>(out, input, salt, persona, leaf_length),
+                64 => write_root::<64>(out, input, salt, persona, leaf_length),
+                _ => {
+                    run.update(input);
+                    run.write_root(out);
+                }
+            }
             0
         }
         Err(_) => -1,
