@@ -107,12 +107,7 @@ fn refuse_memory_to_replay(rt: HostRuntime) -> Result<(), Fail> {
 
 // Whether a list of calls is refused by what it owes where there is memory for slot 0, and else by
 // that or for want of memory.
-fn is_owed(
-    alloc: Global,
-    is_enough: bool,
-    calls: &[Call<'_>],
-    owed: Option<ReplayFault>,
-) -> bool {
+fn is_owed(alloc: Global, is_enough: bool, calls: &[Call<'_>], owed: Option<ReplayFault>) -> bool {
     let found = replay::<_, 64>(alloc, Blake2b512::new(), calls).err();
     found == owed || !is_enough && found == Some(ReplayFault::Memory)
 }
