@@ -1,12 +1,17 @@
 #!/usr/bin/env bash
-# Counts the instructions that the comparisons of the C library take, for texts that differ at one place
-# after the other: as many for each place, so that their time tells nothing of where a tag is wrong.
+# Counts the instructions that calls of the C library take:
+#
+#   - comparisons of texts that differ at one place after the other: as many for each place, so that their time tells
+#     nothing of where a tag is wrong;
+#   - four leaves of a tree, four messages of BLAKE2b and eight of BLAKE2s, which the build for x86-64-v3 hashes at
+#     once: fewer than one by one, as no digest tells whether they were. The build for x86-64-v2 gains little by that,
+#     so there these are skipped.
 #
 # usage: tools/count_instructions.sh FOLDER
 #
-# FOLDER has an installed library (c/install.sh). A check is one comparison, of texts of one length: it
-# passes where all its counts are the same. valgrind counts them: where it or cc is absent all is skipped,
-# and a line says so. The last line is 'N passed, M failed, K skipped', and the status is 1 where one failed.
+# FOLDER has an installed library (c/install.sh). A check of a comparison is of texts of one length: it passes where
+# all its counts are the same. valgrind counts them: where it or cc is absent all is skipped, and a line says so. The
+# last line is 'N passed, M failed, K skipped', and the status is 1 where one failed.
 set -u
 if [ $# -ne 1 ] || [ ! -f "$1/lib/libblake2_c.a" ]; then
     echo "usage: tools/count_instructions.sh FOLDER, with an installed library in it (c/install.sh)" >&2
@@ -24,30 +29,94 @@ finish() {
     exit
 }
 
-# Runs the program over texts of this length, and writes the count of each call, one in a line.
+pass() {
+    echo "passed: $1"
+    passed=$((passed + 1))
+}
+
+# Says what failed, with what the last run said where the second word is 'log'.
+fail() {
+    echo "FAILED: $1"
+    [ "${2-}" != log ] || sed 's/^/    /' "$room/log"
+    failed=$((failed + 1))
+}
+
+# Runs the program's function of this name, and writes the count of each call, one in a line.
 counts() {
-    local kind=$1 length=$2
+    local function=$1 size=$2
     rm -f "$room"/count "$room"/count.*
-    valgrind --tool=callgrind --toggle-collect="compare_$kind" --dump-after="compare_$kind" \
-        --callgrind-out-file="$room/count" "$room/compare" "$kind" "$length" >"$room/log" 2>&1 || return 1
+    valgrind --tool=callgrind --toggle-collect="$function" --dump-after="$function" \
+        --callgrind-out-file="$room/count" "$room/calls" "$function" "$size" >"$room/log" 2>&1 || return 1
     find "$room" -name 'count.*' -exec sed -n 's/^totals: //p' {} +
 }
 
 # Checks that all calls take as many instructions, and that there are two for each place.
-check() {
-    local kind=$1 length=$2 name=$3
-    if ! counts "$kind" "$length" >"$room/counts"; then
-        echo "FAILED: $name"
-        sed 's/^/    /' "$room/log"
-        failed=$((failed + 1))
+check_same() {
+    local function=$1 length=$2 name=$3
+    if ! counts "$function" "$length" >"$room/counts"; then
+        fail "$name" log
     elif [ "$(wc -l <"$room/counts")" -ne $((2 * length)) ] || [ "$(sort -u "$room/counts" | wc -l)" -ne 1 ]; then
-        echo "FAILED: $name: $(wc -l <"$room/counts") calls, of" \
-            "$(sort -n "$room/counts" | head -n 1) to $(sort -n "$room/counts" | tail -n 1) instructions"
-        failed=$((failed + 1))
+        fail "$name: $(wc -l <"$room/counts") calls, of $(sort -n "$room/counts" | head -n 1) to $(sort -n \
+            "$room/counts" | tail -n 1) instructions"
     else
-        echo "passed: $name: $(head -n 1 "$room/counts") instructions with the call, wherever they differ"
-        passed=$((passed + 1))
+        pass "$name: $(head -n 1 "$room/counts") instructions with the call, wherever they differ"
     fi
+}
+
+# The count of the one call of a function.
+count_of() {
+    local count
+    count=$(counts "$@") && [[ $count =~ ^[1-9][0-9]*$ ]] && echo "$count"
+}
+
+# Checks that a function takes at most so many hundredths of an instruction for each of its bytes.
+check_bytes() {
+    local function=$1 length=$2 most=$3 name=$4 count
+    if ! count=$(count_of "$function" "$length"); then
+        fail "$name" log
+    elif [ $((100 * count)) -gt $((most * length)) ]; then
+        fail "$name: $count instructions, more than $most for 100 bytes"
+    else
+        pass "$name: $count instructions, at most $most for 100 bytes"
+    fi
+}
+
+# Checks that a function takes at most so many hundredths of the instructions that another takes.
+check_share() {
+    local function=$1 other=$2 count=$3 most=$4 name=$5 at_once in_turn
+    if ! at_once=$(count_of "$function" "$count") || ! in_turn=$(count_of "$other" "$count"); then
+        fail "$name" log
+    elif [ $((100 * at_once)) -gt $((most * in_turn)) ]; then
+        fail "$name: $at_once instructions, and $in_turn one by one: more than $most of 100"
+    else
+        pass "$name: $at_once instructions, and $in_turn one by one: at most $most of 100"
+    fi
+}
+
+# The build that runs here, by the name of its function in a count: c/join.sh gives it. Where the library holds one
+# build alone, its line for pkg-config says which.
+build_here() {
+    counts hash_many_blake2b 1 >"$room/counts" || return 1
+    case $(find "$room" -name 'count.*' -exec grep -ho 'blake2_c_blake2b_many_[a-z0-9]*' {} + | sort -u) in
+        *_v2) echo x86-64-v2 ;;
+        *_v3) echo x86-64-v3 ;;
+        *_one) sed -n 's/^Description: .* for \(x86-64-v[23]\)$/\1/p' "$folder/lib/pkgconfig/blake2_c.pc" ;;
+    esac
+}
+
+check_at_once() {
+    local name="four leaves at once" count
+    # Five and nine leaves: a state closes its first leaf alone, and takes four only where a byte follows them.
+    check_share hash_leaves_at_once hash_leaves_in_turn 5 85 "$name: an update of five leaves and a byte"
+    check_share hash_leaves_at_once hash_leaves_in_turn 9 80 "$name: an update of nine leaves and a byte"
+    check_bytes hash_root $((5 * 65536 + 1)) 450 "$name: blake2_c_tree_root of five leaves and a byte"
+    # check_bytes hash_root $((4 * 65536)) 450 "$name: blake2_c_tree_root of four leaves"
+    for count in 4 8; do
+        check_share hash_many_blake2b hash_each_blake2b $count 80 "blake2_c_blake2b_many of $count messages"
+    done
+    for count in 8 16; do
+        check_share hash_many_blake2s hash_each_blake2s $count 60 "blake2_c_blake2s_many of $count messages"
+    done
 }
 
 for tool in cc valgrind; do
@@ -57,20 +126,26 @@ for tool in cc valgrind; do
         finish
     fi
 done
-if ! cc -O0 -I"$folder/include/blake2_c" -o "$room/compare" "$here/count_instructions.c" \
-    "$folder/lib/libblake2_c.a" >"$room/log" 2>&1; then
-    echo "FAILED: the build of tools/count_instructions.c"
-    sed 's/^/    /' "$room/log"
-    failed=1
+if ! cc -O0 -I"$folder/include/blake2_c" -o "$room/calls" "$here/count_instructions.c" \
+    "$folder/lib/libblake2_c.a" -Wl,-z,now >"$room/log" 2>&1; then
+    fail "the build of tools/count_instructions.c" log
     finish
 fi
 for length in 1 8 15 16 17 31 32 33 63 64 65 200; do
-    check is_same "$length" "blake2_c_is_same of $length bytes"
+    check_same compare_is_same "$length" "blake2_c_is_same of $length bytes"
 done
 for length in 1 16 20 32 48 64; do
-    check blake2b "$length" "blake2_c_blake2b_verify of $length bytes"
+    check_same compare_blake2b "$length" "blake2_c_blake2b_verify of $length bytes"
 done
 for length in 1 8 16 20 28 32; do
-    check blake2s "$length" "blake2_c_blake2s_verify of $length bytes"
+    check_same compare_blake2s "$length" "blake2_c_blake2s_verify of $length bytes"
 done
+case $(build_here) in
+    x86-64-v3) check_at_once ;;
+    x86-64-v2)
+        echo "skipped: leaves and messages at once (the build for x86-64-v2 runs here, which gains little)"
+        skipped=$((skipped + 1))
+        ;;
+    *) fail "the name of the build that runs here" log ;;
+esac
 finish
