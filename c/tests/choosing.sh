@@ -164,6 +164,11 @@ test_of_build() {
         $(family_words "$2") && "$work/test_build" "$work/cases_$2"
 }
 
+keys_of_build() {
+    cc -std=gnu99 -O2 -Wl,-z,now -I"$include" -o "$work/keys_build" "$tests/key_scan.c" "$work/build_$1/libblake2_c.a" \
+        $(family_words "$2") && "$work/keys_build"
+}
+
 # Two modules, each with one build, and a program whose runs cross between them.
 runs_cross() {
     local build
@@ -182,6 +187,7 @@ test_builds() {
         check "a library with build $build alone (0: either)" make_build $build || return
         for family in b s; do
             if has python3; then check "test.c, blake2$family, by build $build" test_of_build $build $family; fi
+            check "key_scan.c, blake2$family, by build $build" keys_of_build $build $family
         done
     done
     if [ "$builds" != 2 ]; then check "runs that cross between the builds" runs_cross; fi

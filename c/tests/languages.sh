@@ -133,6 +133,22 @@ test_family() {
     fi
 }
 
+# What calls leave of a key on the dead stack, and in a state.
+scan_for_keys() {
+    cc -std=gnu99 -O2 "${warnings[@]}" -Wl,-z,now -I"$include" $(family_words "$family") -o "$work/key_scan" \
+        "$tests/key_scan.c" "$archive" && "$work/key_scan"
+}
+
+test_keys() {
+    for family in b s; do
+        if has cc; then
+            check "key_scan.c, blake2$family" scan_for_keys
+        else
+            skip "key_scan.c, blake2$family" "no cc"
+        fi
+    done
+}
+
 # A wrong tag takes as many instructions wherever it differs; leaves and messages are hashed at once.
 test_counts() {
     local line
@@ -169,6 +185,7 @@ test_languages() {
     else
         skip "the headers in C++" "no C++ compiler c++"
     fi
+    test_keys
     if has python3; then
         for family in b s; do test_family $family; done
         test_counts

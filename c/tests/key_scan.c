@@ -1,0 +1,276 @@
+/* Looks for copies of a key once a keyed call of blake2_c.h has returned: for each piece of 8 bytes of it, in 64 KiB of
+ * the dead stack below the caller. Prints for each call how many were found, the greatest number over messages of
+ * several lengths. A call that leaves more than the table below allows fails. So does a state that is not zero, byte by
+ * byte, after final, verify and wipe, and a search that misses a copy which is put there for it to find. Answers 0
+ * where none failed.
+ *
+ *   cc -std=gnu99 -O2 -Wl,-z,now -I FOLDER/include/blake2_c key_scan.c ARCHIVE -o key_scan
+ *   cc the same with -DTEST_S       the same of BLAKE2s
+ *
+ * With -z now no call goes by the dynamic linker, which would save vector registers on the stack. */
+#include <blake2_c.h>
+
+#include <stdio.h>
+#include <string.h>
+
+#ifdef TEST_S
+#define MAX 32
+#define BLOCK 64
+#define LANES 8
+#define BLAKE(name) vulfsjor_blake2s_##name
+#define ONE_CALL vulfsjor_blake2s
+#define EITHER(b, s) s
+#else
+#define MAX 64
+#define BLOCK 128
+#define LANES 4
+#define BLAKE(name) vulfsjor_blake2b_##name
+#define ONE_CALL vulfsjor_blake2b
+#define EITHER(b, s) b
+#endif
+
+/* The calls: what goes before, whether the state is zero then, and how many pieces of the key may be left on the dead
+ * stack, of BLAKE2b, whose key has 8 pieces, and of BLAKE2s, whose key has 4. These are the pieces that were found, the
+ * more of the builds for x86-64-v2 and x86-64-v3. */
+#define CALLS(CALL)                                                                          \
+    CALL(init_key, nothing, 0, EITHER(24, 12), "init_key")                                   \
+    CALL(init_salt, nothing, 0, EITHER(32, 16), "init_salt_personal with a key")             \
+    CALL(init_tree, nothing, 0, EITHER(24, 12), "init_tree with a key")                      \
+    CALL(refused_size, start, 1, EITHER(0, 0), "init_key, refused for its digest's length")  \
+    CALL(refused_salt, start, 1, EITHER(0, 0), "init_salt_personal, refused for its salt")   \
+    CALL(refused_depth, start, 1, EITHER(0, 0), "init_tree, refused for its depth")          \
+    CALL(one_call, nothing, 0, EITHER(99, 34), "the hash in one call")                       \
+    CALL(many_one, nothing, 0, EITHER(107, 38), "many, one message")                         \
+    CALL(many_lanes, nothing, 0, EITHER(87, 68), "many, as many as are hashed at once")      \
+    CALL(many_more, nothing, 0, EITHER(132, 82), "many, one more, of another length")        \
+    CALL(update, start, 0, EITHER(35, 2), "update")                                          \
+    CALL(update, start_and_take, 0, EITHER(0, 0), "update, after an update")                 \
+    CALL(set_last_node, start_and_take, 0, EITHER(0, 0), "set_last_node")                    \
+    CALL(final, start_and_take, 1, EITHER(59, 14), "final")                                  \
+    CALL(verify_right, start_and_take, 1, EITHER(59, 14), "verify, a right tag")             \
+    CALL(verify_wrong, start_and_take, 1, EITHER(59, 14), "verify, a wrong tag")             \
+    CALL(verify_short, start_and_take, 1, EITHER(59, 14), "verify, a tag of another length") \
+    CALL(reset, start_and_take, 0, EITHER(0, 0), "reset")                                    \
+    CALL(wipe, start_and_take, 1, EITHER(0, 0), "wipe")
+
+enum { DEPTH = 64 * 1024, PIECE = 8, LONGEST = 1000 };
+
+typedef BLAKE(state) state_t;
+
+/* What the calls are given, none of it on the stack. */
+static uint8_t key[MAX], message[LONGEST], salt[2 * MAX], tag[MAX], wrong[MAX], out[(LANES + 1) * MAX];
+static state_t state;
+static vulfsjor_message messages[LANES + 1];
+static vulfsjor_tree tree = {3, 4096, 2, 2, 0, MAX}, no_tree = {3, 4096, 2, 0, 0, MAX};
+static size_t length;
+
+/* What was on the dead stack. */
+static uint8_t stack[DEPTH];
+static int fails;
+
+static void fail(const char *name) {
+    printf("FAILED: %s, message of %zu bytes\n", name, length);
+    fails++;
+}
+
+/* ---- What goes before a call. */
+
+static void nothing(void) {}
+
+static void start(void) {
+    if (BLAKE(init_key)(&state, MAX, key, MAX)) fail("an init");
+}
+
+static void start_and_take(void) {
+    start();
+    if (BLAKE(update)(&state, message, length)) fail("an update");
+}
+
+/* ---- The calls. Each answers 0 where its status is the right one. */
+
+static int call_init_key(void) { return BLAKE(init_key)(&state, MAX, key, MAX); }
+
+static int call_init_salt(void) {
+    return BLAKE(init_salt_personal)(&state, MAX, key, MAX, salt, MAX / 4, salt, MAX / 4);
+}
+
+static int call_init_tree(void) {
+    return BLAKE(init_tree)(&state, MAX, key, MAX, salt, MAX / 4, salt, MAX / 4, &tree);
+}
+
+static int call_refused_size(void) { return !BLAKE(init_key)(&state, MAX + 1, key, MAX); }
+
+static int call_refused_salt(void) {
+    return !BLAKE(init_salt_personal)(&state, MAX, key, MAX, salt, MAX / 4 + 1, salt, 0);
+}
+
+static int call_refused_depth(void) {
+    return !BLAKE(init_tree)(&state, MAX, key, MAX, salt, 0, salt, 0, &no_tree);
+}
+
+static int call_one_call(void) { return ONE_CALL(out, MAX, message, length, key, MAX); }
+
+static int call_many_one(void) { return BLAKE(many)(out, MAX, messages, 1, key, MAX, 0, 0, 0, 0); }
+
+static int call_many_lanes(void) { return BLAKE(many)(out, MAX, messages, LANES, key, MAX, 0, 0, 0, 0); }
+
+static int call_many_more(void) { return BLAKE(many)(out, MAX, messages, LANES + 1, key, MAX, 0, 0, 0, 0); }
+
+static int call_update(void) { return BLAKE(update)(&state, message, length); }
+
+static int call_set_last_node(void) { return BLAKE(set_last_node)(&state, 1); }
+
+static int call_final(void) { return BLAKE(final)(&state, out, MAX); }
+
+static int call_verify_right(void) { return BLAKE(verify)(&state, tag, MAX); }
+
+static int call_verify_wrong(void) { return !BLAKE(verify)(&state, wrong, MAX); }
+
+static int call_verify_short(void) { return !BLAKE(verify)(&state, tag, MAX - 1); }
+
+static int call_reset(void) { return BLAKE(reset)(&state); }
+
+static int call_wipe(void) {
+    BLAKE(wipe)(&state);
+    return 0;
+}
+
+/* ---- The search. */
+
+/* Fills the stack below, so that what is found there is of the call. */
+static __attribute__((noinline)) void fill_stack(void) {
+    volatile uint8_t bytes[2 * DEPTH];
+
+    for (size_t i = 0; i < sizeof bytes; i++) bytes[i] = 0x55;
+}
+
+/* Makes the call, and copies the stack below this frame before anything else. */
+static __attribute__((noinline)) int call_and_keep(int (*call)(void)) {
+    int status = call();
+    const uint8_t *from;
+    void *to = stack;
+    size_t count = DEPTH;
+
+    __asm__ volatile("mov %%rsp, %0" : "=r"(from));
+    from -= DEPTH;
+    __asm__ volatile("rep movsb" : "+D"(to), "+S"(from), "+c"(count) : : "memory");
+    return status;
+}
+
+/* How often pieces of the key stand in what was kept. */
+static int pieces_on_stack(void) {
+    int found = 0;
+
+    for (size_t piece = 0; piece < MAX; piece += PIECE)
+        for (size_t at = 0; at + PIECE <= DEPTH; at++) found += !memcmp(stack + at, key + piece, PIECE);
+    return found;
+}
+
+static int pieces_after(void (*before)(void), int (*call)(void), const char *name) {
+    before();
+    fill_stack();
+    if (call_and_keep(call)) fail(name);
+    return pieces_on_stack();
+}
+
+static int is_zero(const void *memory, size_t size) {
+    const uint8_t *bytes = memory;
+    uint8_t bits = 0;
+
+    for (size_t i = 0; i < size; i++) bits |= bytes[i];
+    return bits == 0;
+}
+
+/* ---- Copies to be found. */
+
+/* Copies so many bytes of the key to its frame, as far below the caller's frame as the place says. */
+static size_t place, copied;
+static __attribute__((noinline)) int leave_a_copy(void) {
+    uint8_t frame[DEPTH - 256];
+
+    memcpy(frame + sizeof frame - place - copied, key, copied);
+    __asm__ volatile("" : : "r"(frame) : "memory");
+    return 0;
+}
+
+static void finds_copies(void) {
+    static const size_t places[] = {0, 1, 7, 4096, 32 * 1024, DEPTH - 256 - MAX};
+
+    for (size_t i = 0; i < sizeof places / sizeof *places; i++) {
+        for (copied = 0; copied <= MAX; copied++) {
+            int found;
+
+            place = places[i];
+            found = pieces_after(nothing, leave_a_copy, "a copy");
+            if (found != (int)(copied / PIECE)) {
+                printf("FAILED: a copy of %zu bytes, %zu below the frame: %d pieces found\n", copied, place, found);
+                fails++;
+            }
+        }
+    }
+}
+
+static void sees_bytes(void) {
+    for (size_t i = 0; i < sizeof state; i++) {
+        memset(&state, 0, sizeof state);
+        if (!is_zero(&state, sizeof state)) fail("zeros in the state");
+        ((uint8_t *)&state)[i] = 1;
+        if (is_zero(&state, sizeof state)) {
+            printf("FAILED: byte %zu of the state is not looked at\n", i);
+            fails++;
+        }
+    }
+}
+
+/* ---- All. */
+
+static const struct {
+    int (*call)(void);
+    void (*before)(void);
+    int wipes;
+    int most;
+    const char *name;
+} CALLED[] = {
+#define ENTRY(call, before, wipes, most, name) {call_##call, before, wipes, most, name},
+    CALLS(ENTRY)
+};
+
+/* Gives all calls a message of so many bytes. */
+static void take_length(size_t bytes) {
+    length = bytes;
+    for (size_t i = 0; i < LANES; i++) messages[i] = (vulfsjor_message){message, length};
+    messages[LANES] = (vulfsjor_message){message, length / 2};
+    if (ONE_CALL(tag, MAX, message, length, key, MAX)) fail("a tag");
+    memcpy(wrong, tag, MAX);
+    wrong[MAX - 1] ^= 1;
+}
+
+/* Makes a call over messages of several lengths. */
+static void try_call(size_t index) {
+    static const size_t lengths[] = {0, 1, BLOCK - 1, BLOCK, BLOCK + 1, 2 * BLOCK, LONGEST};
+    const char *name = CALLED[index].name;
+    int greatest = 0, most = CALLED[index].most;
+
+    for (size_t i = 0; i < sizeof lengths / sizeof *lengths; i++) {
+        int found;
+
+        take_length(lengths[i]);
+        found = pieces_after(CALLED[index].before, CALLED[index].call, name);
+        if (found > greatest) greatest = found;
+        if (CALLED[index].wipes && !is_zero(&state, sizeof state)) {
+            printf("FAILED: %s: the state is not zero, message of %zu bytes\n", name, length);
+            fails++;
+        }
+    }
+    printf("%s: %s: %d pieces, at most %d\n", greatest > most ? "FAILED" : "passed", name, greatest, most);
+    fails += greatest > most;
+}
+
+int main(void) {
+    for (size_t i = 0; i < MAX; i++) key[i] = (uint8_t)(0xA5 ^ (i * 37) ^ (i * i));
+    for (size_t i = 0; i < LONGEST; i++) message[i] = (uint8_t)(i * 11 + 3 + (i >> 4) * 5);
+    finds_copies();
+    sees_bytes();
+    for (size_t i = 0; i < sizeof CALLED / sizeof *CALLED; i++) try_call(i);
+    return fails != 0;
+}
