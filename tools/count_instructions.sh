@@ -4,8 +4,8 @@
 #   - comparisons of texts that differ at one place after the other: as many for each place, so that their time tells
 #     nothing of where a tag is wrong;
 #   - four leaves of a tree, four messages of BLAKE2b and eight of BLAKE2s, which the build for x86-64-v3 hashes at
-#     once: fewer than one by one, as no digest tells whether they were. The build for x86-64-v2 gains little by that,
-#     so there these are skipped.
+#     once: fewer than one by one, as no digest tells whether they were. The build for x86-64-v2 gains about 1 in
+#     100 by that, which is no bound, so there these are skipped.
 #
 # usage: tools/count_instructions.sh FOLDER
 #
@@ -110,6 +110,7 @@ check_at_once() {
     check_share hash_leaves_at_once hash_leaves_in_turn 5 85 "$name: an update of five leaves and a byte"
     check_share hash_leaves_at_once hash_leaves_in_turn 9 80 "$name: an update of nine leaves and a byte"
     check_bytes hash_root $((5 * 65536 + 1)) 450 "$name: blake2_c_tree_root of five leaves and a byte"
+    # Four leaves with nothing behind them, which a root that goes by a state takes one by one:
     # check_bytes hash_root $((4 * 65536)) 450 "$name: blake2_c_tree_root of four leaves"
     for count in 4 8; do
         check_share hash_many_blake2b hash_each_blake2b $count 80 "blake2_c_blake2b_many of $count messages"
