@@ -109,9 +109,9 @@ check_at_once() {
     # Five and nine leaves: a state closes its first leaf alone, and takes four only where a byte follows them.
     check_share hash_leaves_at_once hash_leaves_in_turn 5 85 "$name: an update of five leaves and a byte"
     check_share hash_leaves_at_once hash_leaves_in_turn 9 80 "$name: an update of nine leaves and a byte"
+    # One call for the whole input has its first four leaves at once too, with nothing behind them.
+    check_bytes hash_root $((4 * 65536)) 450 "$name: blake2_c_tree_root of four leaves"
     check_bytes hash_root $((5 * 65536 + 1)) 450 "$name: blake2_c_tree_root of five leaves and a byte"
-    # Four leaves with nothing behind them, which a root that goes by a state takes one by one:
-    # check_bytes hash_root $((4 * 65536)) 450 "$name: blake2_c_tree_root of four leaves"
     for count in 4 8; do
         check_share hash_many_blake2b hash_each_blake2b $count 80 "blake2_c_blake2b_many of $count messages"
     done

@@ -41,7 +41,7 @@
     CALL(refused_depth, start, 1, EITHER(0, 0), "init_tree, refused for its depth")          \
     CALL(one_call, nothing, 0, EITHER(99, 34), "the hash in one call")                       \
     CALL(many_one, nothing, 0, EITHER(107, 38), "many, one message")                         \
-    CALL(many_lanes, nothing, 0, EITHER(87, 68), "many, as many as are hashed at once")      \
+    CALL(many_lanes, nothing, 0, EITHER(88, 68), "many, as many as are hashed at once")      \
     CALL(many_more, nothing, 0, EITHER(132, 82), "many, one more, of another length")        \
     CALL(update, start, 0, EITHER(35, 2), "update")                                          \
     CALL(update, start_and_take, 0, EITHER(0, 0), "update, after an update")                 \
