@@ -5,6 +5,7 @@ ghost use Rattle.std.specs.Prelude.{negsuc, None};
 ghost use Rattle.blake2.specs.Family.{blake2b};
 ghost use Rattle.blake2.specs.States.{digest_of, node_digest_of};
 ghost use Rattle.blake2_words.specs.Hash.{AdmitsTree, sequential};
+ghost use Rattle.blake2_words.specs.Views.{tree_of};
 ghost use Rattle.blake2_digest.specs.States.{Fresh, NodeSet, Updated, StartedAgain, digest_now};
 ghost use Rattle.blake2_plain.specs.Arguments.{given_key, given_count, IsRefused};
 ghost use Rattle.blake2_plain.specs.Blake2b.{IsReady, meaning, zeros};
@@ -15,8 +16,15 @@ ghost use Rattle.blake2_c.specs.Trees.{place};
 
 mod many;
 
+use crate::scrub_stack;
 use blake2::{Blake2b512, Digest, Tree};
 use blake2_plain::blake2b::State;
+
+// Bytes of the stack that `begin` and `write_keyed` reach with all that they call, rounded up, as
+// built by LLVM for x86-64-v2 and for x86-64-v3.
+const BEGIN_BYTES: usize = 1024;
+
+const WRITE_BYTES: usize = 3072;
 
 // The digest of 64 bytes under no key, which needs no state.
 fn write_longest(out: &mut [u8], input: &[u8])
@@ -24,6 +32,28 @@ fn write_longest(out: &mut [u8], input: &[u8])
     ensures { out.new ≡ digest_of blake2b 64 [] [] None input.now }
 {
     out.copy_from_slice(&Blake2b512::digest(input));
+}
+
+// What `blake2_c_blake2b` does under a key, in a frame of its own, which the caller scrubs.
+#[inline(never)]
+fn write_keyed(out: &mut [u8], input: &[u8], key: &[u8]) -> i32
+    ensures status { Answers result (IsRefused blake2b (length out.old) key.now [] []
+        ⊎ IsTooLong (given_count blake2b key.now) (length input.now)) }
+    ensures digest { result ≡ pos 0
+        → out.new ≡ digest_of blake2b (length out.old) [] [] (given_key key.now) input.now }
+    ensures nothing { result ≡ negsuc 0 → out.new ≡ out.old }
+{
+    match State::new(out.len(), key, &[], &[]) {
+        Ok(mut run) => {
+            if input.len() as u64 > u64::MAX - run.counted() {
+                return -1;
+            }
+            run.update(input);
+            run.write_digest(out);
+            0
+        }
+        Err(_) => -1,
+    }
 }
 
 /// Writes the digest of the input in as many bytes as `out` has, 1 to 64, under a key of up to 64
@@ -41,16 +71,52 @@ pub extern "C" fn blake2_c_blake2b(out: &mut [u8], input: &[u8], key: &[u8]) -> 
         write_longest(out, input);
         return 0;
     }
-    match State::new(out.len(), key, &[], &[]) {
+    if !key.is_empty() {
+        let status = write_keyed(out, input, key);
+        scrub_stack::<WRITE_BYTES>();
+        return status;
+    }
+    match State::new(out.len(), &[], &[], &[]) {
         Ok(mut run) => {
-            if input.len() as u64 > u64::MAX - run.counted() {
-                return -1;
-            }
             run.update(input);
             run.write_digest(out);
             0
         }
         Err(_) => -1,
+    }
+}
+
+// What `blake2_c_blake2b_init_node` does under a key, at a place that is taken, in a frame of its
+// own, which the caller scrubs.
+#[inline(never)]
+fn begin(
+    state: &mut State,
+    output_size: usize,
+    key: &[u8],
+    salt: &[u8],
+    persona: &[u8],
+    tree: &Tree,
+) -> i32
+    requires tree { AdmitsTree blake2b (tree_of tree.now) }
+    ensures status { Answers result
+        (IsRefused blake2b output_size key.now salt.now persona.now) }
+    ensures ready { result ≡ pos 0 → IsReady state.new }
+    ensures size { result ≡ pos 0 → state.new.output_size ≡ output_size }
+    ensures fresh { result ≡ pos 0 → Fresh meaning
+        (node_digest_of blake2b output_size salt.now persona.now (given_key key.now)
+        (tree_of tree.now))
+        (given_count blake2b key.now) state.new }
+    ensures zeros { result ≡ negsuc 0 → state.new ≡ zeros }
+{
+    match State::new_with_tree(output_size, key, salt, persona, tree) {
+        Ok(made) => {
+            *state = made;
+            0
+        }
+        Err(_) => {
+            state.wipe();
+            -1
+        }
     }
 }
 
@@ -74,6 +140,11 @@ pub extern "C" fn blake2_c_blake2b_init(
         (given_count blake2b key.now) state.new }
     ensures zeros { result ≡ negsuc 0 → state.new ≡ zeros }
 {
+    if !key.is_empty() {
+        let status = begin(state, output_size, key, salt, persona, &Tree::sequential());
+        scrub_stack::<BEGIN_BYTES>();
+        return status;
+    }
     match State::new(output_size, key, salt, persona) {
         Ok(made) => {
             *state = made;
@@ -150,6 +221,11 @@ pub extern "C" fn blake2_c_blake2b_init_node(
     if !State::admits_tree(&tree) {
         state.wipe();
         return -1;
+    }
+    if !key.is_empty() {
+        let status = begin(state, output_size, key, salt, persona, &tree);
+        scrub_stack::<BEGIN_BYTES>();
+        return status;
     }
     match State::new_with_tree(output_size, key, salt, persona, &tree) {
         Ok(made) => {

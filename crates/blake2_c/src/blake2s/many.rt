@@ -9,12 +9,16 @@ ghost use Rattle.blake2_plain.specs.Arguments.{given_key, given_count, IsRefused
 ghost use Rattle.blake2_c.specs.Many.{AreCounted, IsRefusedMany, digests_of};
 ghost use Rattle.blake2_c.specs.Status.{Answers, IsTooLong};
 
-use crate::Text;
 use crate::many::{are_counted, is_room_for, write_digests};
+use crate::{Text, scrub_stack};
 use blake2::Tree;
 use blake2::many::blake2s::{accepts_eight, hash_eight_sized};
 use blake2::steps::Input;
 use blake2_plain::blake2s::State;
+
+// Bytes of the stack that `write_all` reaches with all that it calls, rounded up, as built by LLVM
+// for x86-64-v2 and for x86-64-v3.
+const WRITE_BYTES: usize = 5632;
 
 // The input of a message under these.
 fn input<'a>(key: &'a [u8], salt: &'a [u8], persona: &'a [u8], message: &'a [u8]) -> Input<'a>
@@ -117,10 +121,15 @@ pub extern "C" fn blake2_c_blake2s_many(
         return -1;
     }
     write_all(out, output_size, key, salt, persona, messages);
+    if !key.is_empty() {
+        scrub_stack::<WRITE_BYTES>();
+    }
     0
 }
 
-// Writes the digests of the messages.
+// Writes the digests of the messages, in a frame of its own: where there is a key, the caller
+// scrubs it.
+#[inline(never)]
 fn write_all(
     out: &mut [u8],
     size: usize,
