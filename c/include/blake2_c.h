@@ -21,9 +21,10 @@
  * says, and that what a call writes (the state, the output) overlaps nothing else that it is
  * given.
  *
- * Secrets: final and verify wipe the state. What a call leaves of a key on the stack and in
- * registers is not wiped: after an init with a key, or a hash with a key in one call, copies of
- * the whole key were found on the dead stack. */
+ * Secrets: final and verify wipe the state. A call that is given a key overwrites its part of the
+ * stack before it returns: no piece of the key was then found there. Registers are not wiped, nor
+ * what update, final and verify leave on the stack: copies of the key were found after the first
+ * update, and after a final or verify that had taken no input. */
 #ifndef BLAKE2_C_H
 #define BLAKE2_C_H
 

@@ -33,16 +33,16 @@
  * stack, of BLAKE2b, whose key has 8 pieces, and of BLAKE2s, whose key has 4. These are the pieces that were found, the
  * more of the builds for x86-64-v2 and x86-64-v3. */
 #define CALLS(CALL)                                                                          \
-    CALL(init_key, nothing, 0, EITHER(24, 12), "init_key")                                   \
-    CALL(init_salt, nothing, 0, EITHER(32, 16), "init_salt_personal with a key")             \
-    CALL(init_tree, nothing, 0, EITHER(24, 12), "init_tree with a key")                      \
+    CALL(init_key, nothing, 0, EITHER(0, 0), "init_key")                                     \
+    CALL(init_salt, nothing, 0, EITHER(0, 0), "init_salt_personal with a key")               \
+    CALL(init_tree, nothing, 0, EITHER(0, 0), "init_tree with a key")                        \
     CALL(refused_size, start, 1, EITHER(0, 0), "init_key, refused for its digest's length")  \
     CALL(refused_salt, start, 1, EITHER(0, 0), "init_salt_personal, refused for its salt")   \
     CALL(refused_depth, start, 1, EITHER(0, 0), "init_tree, refused for its depth")          \
-    CALL(one_call, nothing, 0, EITHER(99, 34), "the hash in one call")                       \
-    CALL(many_one, nothing, 0, EITHER(107, 38), "many, one message")                         \
-    CALL(many_lanes, nothing, 0, EITHER(88, 68), "many, as many as are hashed at once")      \
-    CALL(many_more, nothing, 0, EITHER(132, 82), "many, one more, of another length")        \
+    CALL(one_call, nothing, 0, EITHER(0, 0), "the hash in one call")                         \
+    CALL(many_one, nothing, 0, EITHER(0, 0), "many, one message")                            \
+    CALL(many_lanes, nothing, 0, EITHER(0, 0), "many, as many as are hashed at once")        \
+    CALL(many_more, nothing, 0, EITHER(0, 0), "many, one more, of another length")           \
     CALL(update, start, 0, EITHER(35, 2), "update")                                          \
     CALL(update, start_and_take, 0, EITHER(0, 0), "update, after an update")                 \
     CALL(set_last_node, start_and_take, 0, EITHER(0, 0), "set_last_node")                    \
