@@ -97,7 +97,8 @@
 //! - **When a tree**: for large inputs whose parts are hashed at once or checked alone. Its root depends on the
 //!   length of the leaves.
 //! - **Secrets**: a dropped hasher is wiped, and no `Debug` shows a byte of one. What moves of a value leave
-//!   behind on the stack, and what a call leaves of a key there, is not wiped.
+//!   behind on the stack, and what `update`, `finalize` and `verify` leave of a key there, is not wiped; what a
+//!   constructor and a call with a key leave there is.
 //!
 //! Without the feature `std`, which is on by default, the crate is `no_std`; hashers are then no
 //! `std::io::Write`.
