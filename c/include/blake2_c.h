@@ -3,9 +3,9 @@
  * C99 on and C++ from C++11 on.
  *
  * C programs call the functions vulfsjor_*. Each of these is inline, tests for null pointers, and
- * then makes one call of a function blake2_c_* of the library, which is proved to do what is said
- * here of the call, where the caller gives it what it asks for. The inline functions are C, which
- * no proof covers. Other languages call blake2_c_* themselves.
+ * then makes one call of a function blake2_c_* of the library. That one is proved to do what is
+ * said here of the call, where the caller gives it what it asks for. The inline functions are C,
+ * which no proof covers. Other languages call blake2_c_* themselves.
  *
  * Lengths are in bytes. A text is a pointer and a length, and a text of 0 bytes may be a null
  * pointer in a call of vulfsjor_*. No pointer that is given to blake2_c_* is null.
@@ -165,7 +165,10 @@ typedef char vulfsjor_layouts[sizeof(size_t) == 8 && sizeof(vulfsjor_blake2b_sta
                               sizeof(vulfsjor_blake2s_param) == 32 ? 1 : -1];
 
 /* ---- The functions of the library. No pointer is null, and a state is memory of written bytes,
- * whatever they are. Each does what is said of the call of its name below. */
+ * whatever they are. Each does what is said of the call of its name below, but for these: init does
+ * what is said of init_salt_personal, init_node what is said of init_tree, and init_block what is
+ * said of init_param. many refuses an out_length that is not count times output_size. is_same
+ * takes texts of two lengths too, which differ. state_size answers the bytes of a state. */
 
 uint32_t blake2_c_version(void);
 int32_t blake2_c_is_same(const uint8_t *a, size_t a_length, const uint8_t *b, size_t b_length);
@@ -272,8 +275,8 @@ static inline int vulfsjor_has_null(const vulfsjor_message *messages, size_t cou
 /* -- BLAKE2b */
 
 /* Begins a run with digests of outlen bytes, 1 to 64, under a key of keylen bytes, 0 to 64 (0 is
- * no key), with a salt and a persona of up to 16 bytes each (zeros behind either change
- * nothing). -1 where a length is not among these. */
+ * no key), with a salt and a persona of up to 16 bytes each. Zeros behind a salt or a persona
+ * change nothing. -1 where a length is not among these. */
 static inline int vulfsjor_blake2b_init_salt_personal(
     vulfsjor_blake2b_state *S, size_t outlen, const void *key, size_t keylen, const void *salt,
     size_t saltlen, const void *personal, size_t personallen) {
@@ -385,12 +388,12 @@ VULFSJOR_MUST_USE static inline int vulfsjor_blake2b(void *out, size_t outlen, c
                             keylen);
 }
 
-/* The digests of count messages, each as vulfsjor_blake2b has it, with a salt and a persona too, all
- * under the same arguments: digest i stands in the outlen bytes at out + i * outlen. Four messages
- * in a row of one length are hashed at once, which takes about half the time where the library is
- * built for vectors of 256 bits. -1 where vulfsjor_blake2b or an init refuses one of them, and where
- * out, messages or the bytes of one of them are null, whatever the count and the lengths; nothing
- * is then written. */
+/* The digests of count messages, each as vulfsjor_blake2b has it, with a salt and a persona too,
+ * all under the same arguments: digest i stands in the outlen bytes at out + i * outlen. Four
+ * messages in a row of one length are hashed at once; the build for x86-64-v3 takes fewer
+ * instructions so than one by one (docs/SPEED.md of the repository has times). -1 where
+ * vulfsjor_blake2b or an init refuses one of them. -1 too where out, messages or the bytes of one
+ * of them are null, whatever the count and the lengths. Nothing is then written. */
 VULFSJOR_MUST_USE static inline int vulfsjor_blake2b_many(
     void *out, size_t outlen, const vulfsjor_message *messages, size_t count, const void *key,
     size_t keylen, const void *salt, size_t saltlen, const void *personal, size_t personallen) {
@@ -529,8 +532,8 @@ static inline int vulfsjor_tree_init(vulfsjor_tree_state *S, size_t outlen, cons
 }
 
 /* Takes the input after all that was taken before, of any length. Whole leaves behind the open one
- * are hashed four at once, where more follows them, so long pieces are faster. -1 where the bytes
- * of all would be 2^58 or more. */
+ * are hashed four at once, where more follows them, so pieces of several leaves suit it best. -1
+ * where the bytes of all would be 2^58 or more. */
 VULFSJOR_MUST_USE static inline int vulfsjor_tree_update(vulfsjor_tree_state *S, const void *in,
                                                          size_t inlen) {
     if (!S || (!in && inlen)) return -1;

@@ -1,11 +1,11 @@
 /* The names of libb2, for programs that were written for it: put this folder before the others
  * where the compiler looks for headers, so that `#include <blake2.h>` finds this file, and link
  * with libblake2_c instead of libb2. What blake2_c.h says of a call holds here too, and one thing
- * more: what the calls of one name (blake2b, blake2s, blake2) write may overlap what they read.
+ * more: the digest that blake2b, blake2s or blake2 writes may overlap the input and the key.
  *
  * Stricter than libb2:
- *   - Null pointers: libb2 ends the program at most of them; here the call is refused (-1), an update
- *     of a null state with 0 bytes among them, which libb2 takes.
+ *   - Null pointers: libb2 ends the program at most of them; here the call is refused (-1). So is
+ *     an update of a null state with 0 bytes, which libb2 takes.
  *   - After final the state is zeros. A second final, or an update after it, is refused; libb2 goes
  *     on, to a digest without meaning. A state of zeros is refused at once.
  *   - init_param refuses a digest of 0 bytes, or of more than 64 (BLAKE2s: 32), and a key of more
@@ -13,7 +13,7 @@
  *   - A state has other fields, is larger (424 and 232 bytes, not 358 and 182), and asks for an
  *     alignment of 8. Of libb2's fields there is last_node, a size_t: set it to 1 before final.
  *
- * Not here: blake2sp, blake2bp, and the tags of libb2's structs. */
+ * Not here: blake2sp, blake2bp, BLAKE2_API, and the tags of libb2's structs. */
 #ifndef VULFSJOR_LIBB2_BLAKE2_H
 #define VULFSJOR_LIBB2_BLAKE2_H
 
