@@ -82,7 +82,7 @@ macro_rules! family {
             }
 
             /// The digests of several messages under these parameters. Messages in a row that have one length
-            #[doc = concat!("are hashed ", $at_once, " at once, which is faster than one after the other.")]
+            #[doc = concat!("are hashed ", $at_once, " at once, which is faster on a processor with AVX2.")]
             ///
             /// The parameters may leave out the size of the digests, which is `N`. Refused exactly where they
             /// name another, a place in a tree or the last-node flag, where a length is not the family's, or

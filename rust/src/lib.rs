@@ -96,9 +96,9 @@
 //!   a format asks for it.
 //! - **When a tree**: for large inputs whose parts are hashed at once or checked alone. Its root depends on the
 //!   length of the leaves.
-//! - **Secrets**: a dropped hasher is wiped, and no `Debug` shows a byte of one. What moves of a value leave
-//!   behind on the stack, and what `update`, `finalize` and `verify` leave of a key there, is not wiped; what a
-//!   constructor and a call with a key leave there is.
+//! - **Secrets**: a dropped hasher is wiped, and no `Debug` shows a byte of one. The library's calls that are
+//!   given a key overwrite what they leave of it on the stack; those below `update`, `finalize` and `verify` do
+//!   not. Where a value is moved, what it leaves at its old place is not wiped.
 //!
 //! Without the feature `std`, which is on by default, the crate is `no_std`; hashers are then no
 //! `std::io::Write`.
@@ -110,7 +110,7 @@ extern crate std;
 
 use core::fmt;
 
-/// A size, key, salt or persona has a length that the family does not take, or a tree a number.
+/// A length, or a number of a tree, that a call does not take. Each call says what it refuses.
 #[derive(Clone, Copy, Debug, PartialEq, Eq)]
 pub struct InvalidLength;
 

@@ -20,7 +20,7 @@ pub fn tree_root(
     tree_root_with_output_size(64, message, salt, persona, leaf_length)
 }
 
-/// The same in this many bytes, 1 to 64. Refused where [`tree_root`] is, and exactly for other sizes.
+/// The same in this many bytes, 1 to 64. Refused exactly where [`tree_root`] is, and for other sizes.
 pub fn tree_root_with_output_size(
     bytes: usize,
     message: impl AsRef<[u8]>,
@@ -64,7 +64,7 @@ impl TreeHasher {
         Self::with_output_size(64, salt, persona, leaf_length)
     }
 
-    /// One with a root of this many bytes, 1 to 64. Refused where `new` is, and exactly for other sizes.
+    /// One with a root of this many bytes, 1 to 64. Refused exactly where `new` is, and for other sizes.
     pub fn with_output_size(
         bytes: usize,
         salt: &[u8],
