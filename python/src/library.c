@@ -476,7 +476,7 @@ static PyObject *tree_root(PyObject *module, PyObject *args, PyObject *words) {
     #f "_many(messages, /, *, digest_size=" #size ", key=b'', salt=b'', person=b'')\n--\n\n"                   \
        "Return a list of the digests of the messages, each under these parameters.\n\n"                       \
        "Messages in a row that have one length are hashed " lanes " at once, which is faster\n"                \
-       "than one after the other."
+       "on a processor with AVX2."
 static PyMethodDef functions[] = {
     {"blake2b_many", (PyCFunction)(void (*)(void))many_b, METH_VARARGS | METH_KEYWORDS, MANY(blake2b, 64, "four")},
     {"blake2s_many", (PyCFunction)(void (*)(void))many_s, METH_VARARGS | METH_KEYWORDS, MANY(blake2s, 32, "eight")},
