@@ -1,6 +1,7 @@
 //! The lines of a script, read as calls.
 
-ghost use Rattle.std.specs.Prelude.{◌≡◌, ◌<◌, ◌≤◌, ◌∷◌, length, map, if◌then◌else◌, IfOk, IfErr, ok_or};
+ghost use Rattle.std.specs.Prelude.{◌≡◌, ◌<◌, ◌≤◌, ◌∷◌, length, map, if◌then◌else◌};
+ghost use Rattle.std.specs.Prelude.{IfOk, IfErr, ok_or};
 ghost use Rattle.std.specs.Char.{is_ascii_digit};
 ghost use Rattle.std.specs.List.{list_all};
 ghost use Rattle.std.specs.Option.{option_map};

@@ -325,8 +325,8 @@ pub extern "C" fn blake2_c_blake2s_verify(state: &mut State, tag: &[u8]) -> i32
 }
 
 /// Sets the last-node flag of the state, or clears it where `on` is 0: it says that this is the
-/// last node of its level in a tree of hashes (the BLAKE2 document, 2.10). A reset keeps it. Answers
-/// 0, or -1 where the state is not ready, and then stays as it is.
+/// last node of its level in a tree of hashes (the BLAKE2 document, 2.10). A reset keeps it.
+/// Answers 0, or -1 where the state is not ready, and then stays as it is.
 #[unsafe(no_mangle)]
 pub extern "C" fn blake2_c_blake2s_set_last_node(state: &mut State, on: u32) -> i32
     ensures status { Answers result (¬ IsReady state.old) }

@@ -10,8 +10,8 @@ ghost use Rattle.blake2_c.specs.Trees.{IsUntakableTree};
 use blake2_plain::tree::TreeState;
 use blake2_tree::{MESSAGE_LIMIT, tree_root};
 
-// Writes the root in `N` bytes. It knows the whole input, and so hashes the last four leaves at once
-// too, as a state can't.
+// Writes the root in `N` bytes. It knows the whole input, and so hashes the last four leaves at
+// once too, as a state can't.
 fn write_root<const N: usize>(
     out: &mut [u8],
     input: &[u8],
@@ -32,9 +32,9 @@ fn write_root<const N: usize>(
 }
 
 /// Writes the root of the input in as many bytes as `out` has, 1 to 64, where a leaf has
-/// `leaf_length` bytes, 1 at least (the BLAKE2 document, 2.10). Salt and persona have up to 16 bytes
-/// each, and the input fewer than 2^58. Answers 0, or -1 where one of these is not so; nothing is
-/// then written.
+/// `leaf_length` bytes, 1 at least (the BLAKE2 document, 2.10). Salt and persona have up to 16
+/// bytes each, and the input fewer than 2^58. Answers 0, or -1 where one of these is not so; nothing
+/// is then written.
 #[unsafe(no_mangle)]
 pub extern "C" fn blake2_c_tree_root(
     out: &mut [u8],

@@ -124,8 +124,8 @@ NamesFirstBad m first calls (NoSuchSlot i) = IsFirstBad m first calls i
 NamesFirstBad m first calls (TooLong i) = IsFirstBad m first calls i
 NamesFirstBad m first calls Memory = ⊤
 
--- the meaning of a state at its start whose digest of y is `digest y`, under its own last-node flag,
--- and which begins with n counted bytes
+-- the meaning of a state at its start whose digest of y is `digest y`, under its own last-node
+-- flag, and which begins with n counted bytes
 abbrev pub fresh_meaning : (List ℕ → List ℕ) → ℕ → Meaning (Unit {0})
 fresh_meaning digest n = record {
   future = λ _ _. digest;

@@ -73,7 +73,7 @@ impl Nodes {
         self.persona.as_slice()
     }
 
-    /// The place of a node: depth 0 is that of the leaves, and depth 1 that of the root, at offset 0.
+    /// The place of a node: depth 0 is that of the leaves, and depth 1 the root's, at offset 0.
     pub fn place(&self, node_offset: u64, node_depth: u8) -> Tree
         ensures { tree_of result
             ≡ place (parameters_of self.now).leaf_length node_offset node_depth }
