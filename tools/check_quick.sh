@@ -1,12 +1,13 @@
 #!/usr/bin/env bash
-# Checks tools/test_changed.sh, without proving anything: in a small repository of its own, whose command
-# `rt` and whose other checks are stand-ins that note how they were called. The last line is 'N passed,
-# M failed', and the status is 1 where one failed.
+# Checks ./test and tools/test_changed.sh, without proving anything: in a small repository of its own, whose
+# command `rt` and whose other checks are stand-ins that note how they were called. The last line is
+# 'N passed, M failed', and the status is 1 where one failed.
 set -u
 top=$(dirname "$(dirname "$(readlink -f "$0")")")
 room=$(mktemp -d)
 trap 'rm -rf "$room"' EXIT
 source "$top/tools/checks.sh"
+unset RT_JOBS
 
 show() {
     sed 's/^/  output: /' "$room/output"
@@ -29,6 +30,7 @@ cat >"$room/bin/rt" <<'END'
 room=$(dirname "$(dirname "$0")")
 echo "rt $1 in $(basename "$PWD")" >>"$room/calls"
 [ "$1" != test ] || echo "test result: ok. 3 passed; 0 failed; 0 ignored"
+[ "$1" != ci ] || { echo "$RT_JOBS" >"$room/jobs"; echo "20 passed, 0 failed"; }
 [ "$(cat "$room/fails" 2>/dev/null)" != "$(basename "$PWD")" ] || { echo "no proof of it"; exit 1; }
 END
 stand_in() {
@@ -50,6 +52,11 @@ git init -q . && git add -A && git -c user.name=n -c user.email=e commit -qm beg
 quick() {
     rm -f "$room/calls"
     PATH=$room/bin:$PATH ./test --quick "$@" >"$room/output" 2>&1
+    status=$?
+}
+whole() {
+    rm -f "$room/calls" "$room/jobs"
+    PATH=$room/bin:$PATH ./test >"$room/output" 2>"$room/errors"
     status=$?
 }
 undo() { git checkout -q . && git clean -qfd; }
@@ -124,6 +131,52 @@ quick nowhere
 holds "an unknown revision" ends 1 "0 passed, 1 failed"
 quick HEAD HEAD
 holds "two revisions" ends 1 "0 passed, 1 failed"
+
+all=("tools/check_b2.sh " "tools/check_quick.sh " "rt ci in repository" "tools/check_program.sh crates/b2/out/b2"
+    "c/run_tests.sh --after-ci" "tools/check_pages.sh ")
+on_processors() {
+    printf '#!/bin/sh\necho %s\n' "$1" >"$room/bin/nproc"
+    chmod +x "$room/bin/nproc"
+    whole
+    rm "$room/bin/nproc"
+}
+at_once() { [ "$(cat "$room/jobs")" -ge "$1" ] && [ "$(cat "$room/jobs")" -le "$2" ]; }
+timed() {
+    diff <(sed -nE 's/^== (.*) took [0-9]+m[0-9.]+s by the clock, [0-9]+m[0-9.]+s and .* \(user and system\)$/\1/p' \
+        "$room/errors") <(printf '%s\n' "${all[@]}" | sed 's/ in repository//; s/ .*//') >/dev/null
+}
+mkdir -p crates/low/out/rlib crates/b2/out/rlib
+touch crates/b2/out/rlib/stamp
+whole
+holds "all parts" calls "${all[@]}"
+holds "the counts of all parts" ends 0 "50 passed, 0 failed"
+holds "what was skipped" says "1 tests were skipped, as the lines 'skipped: ..' above say"
+holds "the time of each part" timed
+holds "what rt ci left without a stamp goes" [ ! -e crates/low/out/rlib ]
+holds "what it left whole stays" [ -e crates/b2/out/rlib/stamp ]
+on_processors 1
+holds "one proof on one processor" at_once 1 1
+on_processors 1000000
+room_for() { awk "/^$1:/ { print 1 + int(\$2 * $2 / 3000000) }" /proc/meminfo; }
+holds "as many proofs as memory has room for" at_once "$(room_for MemAvailable 0.7)" "$(room_for MemTotal 1)"
+RT_JOBS=3 whole
+holds "as many proofs as are asked for" [ "$(cat "$room/jobs")" = 3 ]
+for name in tools/check_b2.sh tools/check_quick.sh tools/check_program.sh c/run_tests.sh tools/check_pages.sh; do
+    echo "$name" >"$room/fails"
+    whole
+    holds "$name fails in the whole" ends 1 "50 passed, 1 failed"
+done
+echo repository >"$room/fails"
+whole
+holds "rt ci fails" ends 1 "30 passed, 1 failed"
+rm "$room/fails"
+stand_in tools/check_pages.sh "no counts"
+whole
+holds "a part without counts" ends 1 "43 passed, 1 failed"
+stand_in tools/check_pages.sh "5 passed, 2 failed"
+whole
+holds "failures are added" ends 1 "48 passed, 2 failed"
+undo
 ./test --other >"$room/output" 2>&1
 status=$?
 holds "an unknown word" ends 2 "0 passed, 1 failed"
