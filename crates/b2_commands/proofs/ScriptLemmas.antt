@@ -4,7 +4,7 @@ use Rattle.std.proofs.Common.{◌⊎◌, inl, inr, IfSome, refl, ap, ◌∙◌}
 use Rattle.std.specs.Prelude.{IsOkUnless, OnOk}
 use Rattle.std.specs.List.{flat_map}
 use Rattle.std.specs.Io.KnownBytes.{Appends, Keeps}
-use Rattle.blake2.specs.Play.{Slots, Outcome, after, and_then, play_call, play_from, play_fresh}
+use Rattle.blake2.specs.Play.{Slots, Outcome, after, followed_by, play_call, play_from, play_fresh}
 use Rattle.blake2.specs.Play.{fresh_meaning}
 use Rattle.blake2_runs.specs.declared.calls.Call.{Call}
 use Rattle.blake2_runs.specs.declared.calls.Call.TheVariants.{Update, Clone, Reset, Finalize}
@@ -30,7 +30,7 @@ call_unplaced digest n slots i (FinalizeReset k) = refl
 
 -- what a call leaves goes on in the same way
 goes_on : (played : Result Outcome ReplayFault) (f g : Slots → Result (List (List ℕ)) ReplayFault)
-    → ((slots : Slots) → f slots ≡ g slots) → and_then played f ≡ and_then played g
+    → ((slots : Slots) → f slots ≡ g slots) → followed_by played f ≡ followed_by played g
 goes_on (Ok left) f g same = ap (after left.digests) (same left.slots)
 goes_on (Err fault) f g same = refl
 
@@ -40,7 +40,7 @@ calls_unplaced : (digest : List ℕ → List ℕ) (n : ℕ) (calls : List Call) 
     ≡ play_from (fresh_meaning digest n) tt calls slots i
 calls_unplaced digest n [] slots i = refl
 calls_unplaced digest n (call ∷ calls) slots i =
-    ap (λ (played : Result Outcome ReplayFault). and_then played
+    ap (λ (played : Result Outcome ReplayFault). followed_by played
     (λ next. play_from (fresh_meaning digest n) tt (map unplaced calls) next (i + 1)))
     (call_unplaced digest n slots i call)
     ∙ goes_on (play_call (fresh_meaning digest n) tt slots i call) _ _

@@ -10,8 +10,8 @@ use Rattle.blake2_runs.specs.declared.calls.Call.TheVariants.{FinalizeReset}
 use Rattle.blake2_runs.specs.declared.calls.ReplayFault.{ReplayFault}
 use Rattle.blake2_runs.specs.declared.calls.ReplayFault.TheVariants.{TooLong}
 use Rattle.blake2_runs.specs.Play.{Taken, since_beginning, since_reset, Slots, Outcome, at_slot}
-use Rattle.blake2_runs.specs.Play.{and_more, digest_of, count_of, leaves}
-use Rattle.blake2_runs.specs.Play.{play_call, and_then, after, play, play_from, fresh_meaning}
+use Rattle.blake2_runs.specs.Play.{and_more, slot_digest, count_of, leaves}
+use Rattle.blake2_runs.specs.Play.{play_call, followed_by, after, play, play_from, fresh_meaning}
 use Rattle.blake2_runs.specs.Play.{play_fresh}
 
 -- what is done to a slot may be told in another way
@@ -24,7 +24,7 @@ at_slot_same i (Some taken) f g e = e taken
 -- and so may what comes of the slots
 and_then_same : (r : Result Outcome ReplayFault) (f g : Slots → Result (List (List ℕ)) ReplayFault)
     → ((next : Slots) → f next ≡ g next)
-    → and_then r f ≡ and_then r g
+    → followed_by r f ≡ followed_by r g
 and_then_same (Ok left) f g e = ap (after left.digests) (e left.slots)
 and_then_same (Err fault) f g e = refl
 
@@ -35,7 +35,7 @@ module _ {S : Type 0} (m : Meaning S) (first : S) (digest : Bool → List ℕ �
   made = fresh_meaning (digest (m.last_node first)) n
 
   -- each slot has the digest of what it has taken, whatever its mark
-  digest_same : (taken : Taken) → digest_of m first taken ≡ digest_of made tt taken
+  digest_same : (taken : Taken) → slot_digest m first taken ≡ slot_digest made tt taken
   digest_same (since_beginning x) = start.future (m.last_node first) x
   digest_same (since_reset x) = start.started (m.last_node first) x
 
@@ -67,7 +67,7 @@ module _ {S : Type 0} (m : Meaning S) (first : S) (digest : Bool → List ℕ �
       → play_from m first calls slots i ≡ play_from made tt calls slots i
   play_from_same [] slots i = refl
   play_from_same (call ∷ calls) slots i =
-      ap (λ (r : Result Outcome ReplayFault). and_then r
+      ap (λ (r : Result Outcome ReplayFault). followed_by r
       (λ (next : Slots). play_from m first calls next (i + 1))) (call_same slots i call)
       ∙ and_then_same (play_call made tt slots i call) _ _
       (λ next. play_from_same calls next (i + 1))

@@ -15,9 +15,9 @@ use Rattle.blake2_runs.specs.declared.calls.Call.TheVariants.{FinalizeReset}
 use Rattle.blake2_runs.specs.declared.calls.ReplayFault.{ReplayFault}
 use Rattle.blake2_runs.specs.declared.calls.ReplayFault.TheVariants.{NoSuchSlot, TooLong, Memory}
 use Rattle.blake2_runs.specs.Play.{Taken, since_beginning, since_reset, Slots, Outcome, and_more}
-use Rattle.blake2_runs.specs.Play.{digest_under, digest_of}
+use Rattle.blake2_runs.specs.Play.{digest_under, slot_digest}
 use Rattle.blake2_runs.specs.Play.{count_of, slot_of, leaves, at_slot, play_live, play_call}
-use Rattle.blake2_runs.specs.Holding.{StandsFor, SlotHolds, AllHold, WentOn, Answers}
+use Rattle.blake2_runs.specs.Holding.{StandsFor, SlotHolds, AllHold, HasPlayed, PlaysOrFails}
 
 -- the state at a place, put back there, leaves the states as they were
 pub put_back : {S : Type 0} (states : List (Option S)) (k : ℕ) (o : Option S) (h : S)
@@ -116,7 +116,7 @@ module _ {S : Type 0} (m : Meaning S) (first : S) where
 
   -- the digest of a state is that of its slot
   digest_stands : (taken : Taken) (h : S) → StandsFor m first taken h
-      → digest_now m h ≡ digest_of m first taken
+      → digest_now m h ≡ slot_digest m first taken
   digest_stands taken h stands =
       let flag : Bool = m.last_node first in
       ap (λ (own : Bool). m.future h own []) stands.last_node ∙ stands.future flag []
@@ -206,7 +206,7 @@ module _ {S : Type 0} {m : Meaning S} {first : S} {slots : Slots} {states : List
       → call ≡ kind → SlotHolds m first slot new
       → play_live m first slots i kind live.taken ≡ leaves (set slots (slot_of kind) slot) xs
       → digests ≡ earlier ++ xs
-      → WentOn m first (play_call m first slots i call) earlier (set states k new) digests
+      → HasPlayed m first (play_call m first slots i call) earlier (set states k new) digests
   gave_way kind slot new xs earlier digests is one left added =
       let here : k ≡ slot_of kind = live.named ∙ ap slot_of is in
       record {
@@ -224,7 +224,7 @@ module _ {S : Type 0} {m : Meaning S} {first : S} {slots : Slots} {states : List
   pub updated : (j n : ℕ) (x : Bor (List ℕ)) (new : S) (earlier : List (List ℕ))
       → call ≡ Update j x → n ≡ m.count h → length x.now ≤ 2 ^ 64 - 1 - n → n < 2 ^ 64
       → Updated m h x.now new
-      → WentOn m first (play_call m first slots i call) earlier (set states k (Some new)) earlier
+      → HasPlayed m first (play_call m first slots i call) earlier (set states k (Some new)) earlier
   updated j n x new earlier is e room below u =
       let fits : count_of m first live.taken + length x.now < 2 ^ 64 = omega (arith, counted n e) in
       let slot : Option Taken = Some (and_more live.taken x.now) in
@@ -244,7 +244,7 @@ module _ {S : Type 0} {m : Meaning S} {first : S} {slots : Slots} {states : List
 
   -- a copy became the next slot
   pub copied : (j : ℕ) (earlier : List (List ℕ)) → call ≡ Clone j
-      → WentOn m first (play_call m first slots i call) earlier (states ++ Some h ∷ []) earlier
+      → HasPlayed m first (play_call m first slots i call) earlier (states ++ Some h ∷ []) earlier
   copied j earlier is = record {
     outcome = record { slots = slots ++ Some live.taken ∷ []; digests = [] };
     played_is = plays_as (Clone j) is;
@@ -254,14 +254,14 @@ module _ {S : Type 0} {m : Meaning S} {first : S} {slots : Slots} {states : List
 
   -- the state was reset
   pub reset : (j : ℕ) (new : S) (earlier : List (List ℕ)) → call ≡ Reset j → StartedAgain m h new
-      → WentOn m first (play_call m first slots i call) earlier (set states k (Some new)) earlier
+      → HasPlayed m first (play_call m first slots i call) earlier (set states k (Some new)) earlier
   reset j new earlier is again =
       gave_way (Reset j) (Some (since_reset [])) (Some new) [] earlier earlier is
       (StandsFor-reset m first live.taken h new live.stands again) refl (sym (append-nil earlier))
 
   -- a digest of the state that comes behind the earlier ones is that of its slot
   digest_added : (d : List ℕ) (earlier digests : List (List ℕ)) → d ≡ digest_now m h
-      → digests ≡ earlier ++ d ∷ [] → digests ≡ earlier ++ digest_of m first live.taken ∷ []
+      → digests ≡ earlier ++ d ∷ [] → digests ≡ earlier ++ slot_digest m first live.taken ∷ []
   digest_added d earlier digests e added =
       let same = e ∙ digest_stands m first live.taken h live.stands in
       added ∙ ap (λ (x : List ℕ). earlier ++ x ∷ []) same
@@ -269,7 +269,7 @@ module _ {S : Type 0} {m : Meaning S} {first : S} {slots : Slots} {states : List
   -- the state answered its digest, and is gone
   pub finalized : (j : ℕ) (d : List ℕ) (earlier digests : List (List ℕ)) → call ≡ Finalize j
       → d ≡ digest_now m h → digests ≡ earlier ++ d ∷ []
-      → WentOn m first (play_call m first slots i call) earlier (set states k None) digests
+      → HasPlayed m first (play_call m first slots i call) earlier (set states k None) digests
   finalized j d earlier digests is e added =
       gave_way (Finalize j) None None _ earlier digests is tt refl
       (digest_added d earlier digests e added)
@@ -278,7 +278,7 @@ module _ {S : Type 0} {m : Meaning S} {first : S} {slots : Slots} {states : List
   pub finalized_reset : (j : ℕ) (new : S) (d : List ℕ) (earlier digests : List (List ℕ))
       → call ≡ FinalizeReset j → StartedAgain m h new → d ≡ digest_now m h
       → digests ≡ earlier ++ d ∷ []
-      → WentOn m first (play_call m first slots i call) earlier (set states k (Some new)) digests
+      → HasPlayed m first (play_call m first slots i call) earlier (set states k (Some new)) digests
   finalized_reset j new d earlier digests is again e added =
       gave_way (FinalizeReset j) (Some (since_reset [])) (Some new) _ earlier digests is
       (StandsFor-reset m first live.taken h new live.stands again) refl
@@ -288,7 +288,8 @@ module _ {S : Type 0} {m : Meaning S} {first : S} {slots : Slots} {states : List
 pub answers_by_push : {S : Type 0} {m : Meaning S} {first : S} {played : Result Outcome ReplayFault}
     {earlier digests : List (List ℕ)} {states : List (Option S)}
     (pushed : Result (Unit {0}) ReplayFault) (P : Type 0)
-    → OnOk pushed P → IsOkUnless pushed Memory → (P → WentOn m first played earlier states digests)
-    → Answers m first played earlier states digests pushed
+    → OnOk pushed P → IsOkUnless pushed Memory
+    → (P → HasPlayed m first played earlier states digests)
+    → PlaysOrFails m first played earlier states digests pushed
 answers_by_push (Ok _) P did refused f = f did
 answers_by_push (Err fault) P did refused f = inl refused

@@ -10,7 +10,7 @@ use Rattle.blake2_runs.specs.declared.calls.Call.TheVariants.{FinalizeReset}
 use Rattle.blake2_runs.specs.declared.calls.ReplayFault.{ReplayFault}
 use Rattle.blake2_runs.specs.declared.calls.ReplayFault.TheVariants.{NoSuchSlot, TooLong, Memory}
 use Rattle.blake2_runs.specs.Play.{Taken, since_beginning, Slots, Outcome, count_of, slot_of}
-use Rattle.blake2_runs.specs.Play.{at_slot, play_live, play_call, and_then}
+use Rattle.blake2_runs.specs.Play.{at_slot, play_live, play_call, followed_by}
 use Rattle.blake2_runs.specs.Play.{after, play_from, play, IsFirstBad, NamesFirstBad}
 
 -- what a list of calls answers: its digests, or the fault of its first bad call
@@ -112,7 +112,7 @@ module _ {S : Type 0} (m : Meaning S) (first : S) where
       → play_call m first slots i call ≡ r
       → ((next : Slots) → play_from m first calls next (i + 1) ≡ Err fault
       → StopsAfter calls next (i + 1) fault)
-      → and_then r (λ next. play_from m first calls next (i + 1)) ≡ Err fault
+      → followed_by r (λ next. play_from m first calls next (i + 1)) ≡ Err fault
       → StopsAfter (call ∷ calls) slots i fault
   stops_by call calls slots i fault (Err other) is later e =
       let same : other ≡ fault = cc in stops_here call calls slots i fault (is ∙ ap Err same)

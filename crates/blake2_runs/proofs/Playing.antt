@@ -8,7 +8,7 @@ use Rattle.blake2_digest.specs.States.{Meaning}
 use Rattle.blake2_runs.specs.declared.calls.Call.{Call}
 use Rattle.blake2_runs.specs.declared.calls.ReplayFault.{ReplayFault}
 use Rattle.blake2_runs.specs.declared.calls.ReplayFault.TheVariants.{Memory}
-use Rattle.blake2_runs.specs.Play.{Slots, Outcome, play_call, play_from, play, and_then, after}
+use Rattle.blake2_runs.specs.Play.{Slots, Outcome, play_call, play_from, play, followed_by, after}
 use Rattle.blake2_runs.specs.Holding.{AllHold}
 
 -- what a list of calls answers: its digests, or the fault of its first bad call
@@ -45,7 +45,7 @@ module _ {S : Type 0} (m : Meaning S) (first : S) where
   -- the list from the call at place i on: that call, and then the later ones
   play_at : (call : Call) (calls : List Call) (slots : Slots) (i : ℕ) → i < length calls
       → play_from m first (drop i calls) slots i
-      ≡ and_then (play_call m first slots i (get_or calls i call))
+      ≡ followed_by (play_call m first slots i (get_or calls i call))
       (λ next. play_from m first (drop (i + 1) calls) next (i + 1))
   play_at call calls slots i h =
       let e : drop i calls ≡ get_or calls i call ∷ drop (i + 1) calls =
@@ -62,7 +62,7 @@ module _ {S : Type 0} (m : Meaning S) (first : S) where
   play_on call calls slots left earlier digests i p h e on added =
       let later : Slots → Played = λ next. play_from m first (drop (i + 1) calls) next (i + 1) in
       e ∙ ap (after earlier) (play_at call calls slots i h
-      ∙ ap (λ (r : Result Outcome ReplayFault). and_then r later) on)
+      ∙ ap (λ (r : Result Outcome ReplayFault). followed_by r later) on)
       ∙ sym (after-after earlier left.digests (later left.slots))
       ∙ ap (λ (ds : List (List ℕ)). after ds (later left.slots)) (sym added)
 
@@ -77,7 +77,7 @@ module _ {S : Type 0} (m : Meaning S) (first : S) where
   play_stops call calls slots earlier i p fault h e (inr bad) =
       let later : Slots → Played = λ next. play_from m first (drop (i + 1) calls) next (i + 1) in
       inr (e ∙ ap (after earlier) (play_at call calls slots i h
-      ∙ ap (λ (r : Result Outcome ReplayFault). and_then r later) bad))
+      ∙ ap (λ (r : Result Outcome ReplayFault). followed_by r later) bad))
 
   -- all calls went on
   pub play_ends : (calls : List Call) (slots : Slots) (digests : List (List ℕ)) (i : ℕ) (p : Played)

@@ -33,8 +33,8 @@ pub record SourceState : Type 0 where
   pub failed : Bool
 
 -- how many bytes a read into a buffer of so many gives, where it answers no error
-abbrev pub given_count : SourceState → ℕ → ℕ
-given_count s room = min (min (length s.rest) room) (call_limit s.most s.before_error)
+abbrev pub read_count : SourceState → ℕ → ℕ
+read_count s room = min (min (length s.rest) room) (call_limit s.most s.before_error)
 
 -- the source once it has given n bytes
 abbrev pub given_state : SourceState → ℕ → SourceState
@@ -52,8 +52,8 @@ pub record SinkState : Type 0 where
   pub failed : Bool
 
 -- how many bytes of a piece of so many a write takes, where it answers no error
-abbrev pub taken_count : SinkState → ℕ → ℕ
-taken_count s size = min (min (length s.rest) size) (call_limit s.most s.before_error)
+abbrev pub write_count : SinkState → ℕ → ℕ
+write_count s size = min (min (length s.rest) size) (call_limit s.most s.before_error)
 
 -- the sink once it has taken n bytes of a piece; it has failed where these are none of a piece that
 -- is not empty

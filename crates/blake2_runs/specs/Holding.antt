@@ -31,24 +31,26 @@ AllHold m first [] (h ∷ hs) = ⊥
 AllHold m first (slot ∷ slots) [] = ⊥
 AllHold m first (slot ∷ slots) (h ∷ hs) = SlotHolds m first slot h × AllHold m first slots hs
 
--- a call went on as the definition says: the states stand for the slots that it leaves, and its
+-- a call was played as the definition says: the states stand for the slots that it leaves, and its
 -- digests came behind the earlier ones
-pub record WentOn {S : Type 0} (m : Meaning S) (first : S) (played : Result Outcome ReplayFault)
+pub record HasPlayed {S : Type 0} (m : Meaning S) (first : S) (played : Result Outcome ReplayFault)
     (earlier : List (List ℕ)) (states : List (Option S)) (digests : List (List ℕ)) : Type 0 where
   pub outcome : Outcome
   pub played_is : played ≡ Ok outcome
   pub held : AllHold m first outcome.slots states
   pub digests_are : digests ≡ earlier ++ outcome.digests
 
--- a call went on as the definition says, or gave its fault, or wanted memory
-abbrev pub Answers : {S : Type 0} → Meaning S → S → Result Outcome ReplayFault → List (List ℕ)
+-- a call was played as the definition says, or gave its fault, or wanted memory
+abbrev pub PlaysOrFails : {S : Type 0} → Meaning S → S → Result Outcome ReplayFault → List (List ℕ)
     → List (Option S) → List (List ℕ) → Result (Unit {0}) ReplayFault → Type 0
-Answers m first played earlier states digests (Ok _) = WentOn m first played earlier states digests
-Answers m first played earlier states digests (Err fault) = (fault ≡ Memory) ⊎ (played ≡ Err fault)
+PlaysOrFails m first played earlier states digests (Ok _) =
+    HasPlayed m first played earlier states digests
+PlaysOrFails m first played earlier states digests (Err fault) =
+    (fault ≡ Memory) ⊎ (played ≡ Err fault)
 
 -- what a call at place i does to any states that stand for slots
 abbrev pub PlaysCall : {S : Type 0} → Meaning S → ℕ → Call → List (Option S) → List (List ℕ)
     → List (Option S) → List (List ℕ) → Result (Unit {0}) ReplayFault → Type 0
 PlaysCall {S} m i call before earlier states digests result =
     (first : S) (slots : Slots) → AllHold m first slots before
-    → Answers m first (play_call m first slots i call) earlier states digests result
+    → PlaysOrFails m first (play_call m first slots i call) earlier states digests result

@@ -29,8 +29,8 @@ digest_under m first flag (since_beginning x) = m.future first flag x
 digest_under m first flag (since_reset x) = m.started first flag x
 
 -- the digest of a slot: no call of a list sets the flag, so it is that of the first state
-abbrev pub digest_of : {S : Type 0} → Meaning S → S → Taken → List ℕ
-digest_of m first taken = digest_under m first (m.last_node first) taken
+abbrev pub slot_digest : {S : Type 0} → Meaning S → S → Taken → List ℕ
+slot_digest m first taken = digest_under m first (m.last_node first) taken
 
 -- the bytes that a slot has counted
 abbrev pub count_of : {S : Type 0} → Meaning S → S → Taken → ℕ
@@ -69,9 +69,9 @@ play_live m first slots i (Update k x) taken =
 play_live m first slots i (Clone k) taken = leaves (slots ++ Some taken ∷ []) []
 play_live m first slots i (Reset k) taken = leaves (slice_set slots k (Some (since_reset []))) []
 play_live m first slots i (Finalize k) taken =
-    leaves (slice_set slots k None) (digest_of m first taken ∷ [])
+    leaves (slice_set slots k None) (slot_digest m first taken ∷ [])
 play_live m first slots i (FinalizeReset k) taken =
-    leaves (slice_set slots k (Some (since_reset []))) (digest_of m first taken ∷ [])
+    leaves (slice_set slots k (Some (since_reset []))) (slot_digest m first taken ∷ [])
 
 -- the call at place i does this to what its slot has taken, and is bad where the slot is absent or
 -- has ended
@@ -92,17 +92,17 @@ after earlier (Ok later) = Ok (earlier ++ later)
 after earlier (Err fault) = Err fault
 
 -- what a call leaves, and then what comes of the slots
-abbrev pub and_then : Result Outcome ReplayFault → (Slots → Result (List (List ℕ)) ReplayFault)
+abbrev pub followed_by : Result Outcome ReplayFault → (Slots → Result (List (List ℕ)) ReplayFault)
     → Result (List (List ℕ)) ReplayFault
-and_then (Ok left) f = after left.digests (f left.slots)
-and_then (Err fault) f = Err fault
+followed_by (Ok left) f = after left.digests (f left.slots)
+followed_by (Err fault) f = Err fault
 
 -- the calls from place i on, on these slots
 abbrev pub play_from : {S : Type 0} → Meaning S → S → List Call → Slots → ℕ
     → Result (List (List ℕ)) ReplayFault
 play_from m first [] slots i = Ok []
 play_from m first (call ∷ calls) slots i =
-    and_then (play_call m first slots i call) (λ next. play_from m first calls next (i + 1))
+    followed_by (play_call m first slots i call) (λ next. play_from m first calls next (i + 1))
 
 -- The digests of a list of calls, in the order of the calls, where slot 0 begins as this state.
 -- They exist where no call is bad; else the fault tells the place of the first bad call, and why it

@@ -1,4 +1,4 @@
--- What a run of the engine reads and writes.
+-- What the engine reads and writes.
 use Rattle.std.specs.Prelude.{◌≡◌, ℕ, ◌<◌, List, [], ◌∷◌, ◌++◌, length, Option}
 use Rattle.std.specs.Io.KnownBytes.{Consumes, IsAtEnd, Appends}
 use Rattle.hex.specs.Hex.{encode_lower}

@@ -4,7 +4,7 @@ ghost use Rattle.std.specs.Prelude.{◌≡◌, ◌↔◌, ◌≤◌, ◌||◌, l
 ghost use Rattle.std.specs.Prelude.{true, false};
 ghost use Rattle.std.specs.Io.{WritesAtMost};
 ghost use Rattle.std.specs.Io.KnownBytes.{WriteAppends};
-ghost use Rattle.blake2_runs.specs.Devices.{is_failed_write, SinkState, taken_count, taken_state};
+ghost use Rattle.blake2_runs.specs.Devices.{is_failed_write, SinkState, write_count, taken_state};
 
 use super::device::{DeviceError, Sink};
 use std::marker::Model;
@@ -81,7 +81,7 @@ impl Sink for SliceSink<'_> {
 
         // What it answers, and what it holds then.
         ensures refused { IsErr result ↔ (self.old.before_error ≡ Some 0) }
-        ensures count { IfOk result (λ n. n ≡ taken_count self.old (length buf.now)) }
+        ensures count { IfOk result (λ n. n ≡ write_count self.old (length buf.now)) }
         ensures taken { IfOk result (λ n. self.new ≡ taken_state self.old buf.now n) }
         ensures unmoved { OnErr result (self.new ≡ record self.old { failed = true }) }
     {

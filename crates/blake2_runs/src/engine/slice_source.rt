@@ -3,7 +3,7 @@
 ghost use Rattle.std.specs.Prelude.{◌≡◌, ◌↔◌, ◌≤◌, ◌||◌, length, Some, is_err, IsErr, IfOk, OnErr};
 ghost use Rattle.std.specs.Prelude.{true, false};
 ghost use Rattle.std.specs.Io.{ReadsAtMost};
-ghost use Rattle.blake2_runs.specs.Devices.{Gives, SourceState, given_count, given_state};
+ghost use Rattle.blake2_runs.specs.Devices.{Gives, SourceState, read_count, given_state};
 
 use super::device::{DeviceError, Source};
 use std::marker::Model;
@@ -64,7 +64,7 @@ impl Source for SliceSource<'_> {
 
         // What it answers, and what is left.
         ensures refused { IsErr result ↔ (self.old.before_error ≡ Some 0) }
-        ensures count { IfOk result (λ n. n ≡ given_count self.old (length buf.old)) }
+        ensures count { IfOk result (λ n. n ≡ read_count self.old (length buf.old)) }
         ensures given { IfOk result (λ n. self.new ≡ given_state self.old n) }
         ensures unmoved { OnErr result (self.new ≡ record self.old { failed = true }) }
     {
