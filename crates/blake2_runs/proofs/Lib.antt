@@ -1,5 +1,8 @@
 mod Beginning
-mod Keeping
+mod CallsOnSlots
+mod LiveCalls
 mod Placing
 mod Playing
+mod SlotPlaces
+mod Standing
 mod StreamLemmas

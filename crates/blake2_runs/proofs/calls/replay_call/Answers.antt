@@ -2,9 +2,10 @@ use Rattle.std.proofs.Common.{◌≡◌, ◌<◌, set, true, false, Some, inr, r
 use Rattle.std.proofs.Common.{arith, vec_len}
 use Rattle.blake2_runs.specs.Play.{Slots}
 use Rattle.blake2_runs.specs.Holding.{AllHold}
-use Rattle.blake2_runs.proofs.Keeping.{absent, Found, ended, Live, live, put_back, updated}
-use Rattle.blake2_runs.proofs.Keeping.{too_long, copied, reset}
-use Rattle.blake2_runs.proofs.Keeping.{finalized, finalized_reset, answers_by_push}
+use Rattle.blake2_runs.proofs.CallsOnSlots.{absent, Found, ended, Live, live}
+use Rattle.blake2_runs.proofs.LiveCalls.{updated, too_long, copied, reset, finalized}
+use Rattle.blake2_runs.proofs.LiveCalls.{finalized_reset, answers_by_push}
+use Rattle.blake2_runs.proofs.SlotPlaces.{put_back}
 use Rattle.blake2_runs.proofs.calls.replay_call.Given.{Over}
 use Rattle.blake2_runs.proofs.calls.replay_call.Goals as goal
 use Rattle.blake2_runs.proofs.calls.replay_call.Goals.{In-Some, In-Some-held}

@@ -1,0 +1,64 @@
+-- A state goes on standing for its slot, whatever it takes, and has the slot's digest.
+use Rattle.std.proofs.Common.{◌≡◌, ℕ, Bool, List, [], ◌++◌, refl, sym, ap, ◌∙◌, arith}
+use Rattle.std.proofs.Common.{length-append, append_assoc}
+use Rattle.std.proofs.lemmas.List.{append-nil}
+use Rattle.blake2_digest.specs.States.{Meaning, digest_now, Updated, StartedAgain}
+use Rattle.blake2_runs.specs.Play.{Taken, since_beginning, since_reset, and_more}
+use Rattle.blake2_runs.specs.Play.{digest_under, slot_digest}
+use Rattle.blake2_runs.specs.Holding.{StandsFor}
+
+module _ {S : Type 0} (m : Meaning S) (first : S) where
+  -- the first state stands for a slot that has taken nothing
+  pub StandsFor-first : StandsFor m first (since_beginning []) first
+  StandsFor-first = record {
+    future = λ flag y. refl;
+    started = λ flag y. refl;
+    last_node = refl;
+    count = omega arith;
+    start_count = refl;
+  }
+
+  -- a state that takes x stands for a slot that takes x
+  pub StandsFor-updated : (taken : Taken) (h n : S) (x : List ℕ) → StandsFor m first taken h
+      → Updated m h x n → StandsFor m first (and_more taken x) n
+  StandsFor-updated (since_beginning b) h n x stands u = record {
+    future = λ flag y. u.future flag y ∙ stands.future flag (x ++ y)
+        ∙ ap (m.future first flag) (sym (append_assoc b x y));
+    started = λ flag y. u.started flag y ∙ stands.started flag y;
+    last_node = u.last_node ∙ stands.last_node;
+    count = omega (arith, u.count, stands.count, length-append b x);
+    start_count = u.start_count ∙ stands.start_count;
+  }
+  StandsFor-updated (since_reset b) h n x stands u = record {
+    future = λ flag y. u.future flag y ∙ stands.future flag (x ++ y)
+        ∙ ap (m.started first flag) (sym (append_assoc b x y));
+    started = λ flag y. u.started flag y ∙ stands.started flag y;
+    last_node = u.last_node ∙ stands.last_node;
+    count = omega (arith, u.count, stands.count, length-append b x);
+    start_count = u.start_count ∙ stands.start_count;
+  }
+
+  -- a state that was reset stands for a slot that was reset
+  pub StandsFor-reset : (taken : Taken) (h n : S) → StandsFor m first taken h → StartedAgain m h n
+      → StandsFor m first (since_reset []) n
+  StandsFor-reset taken h n stands again = record {
+    future = λ flag y. again.future flag y ∙ stands.started flag y;
+    started = λ flag y. again.started flag y ∙ stands.started flag y;
+    last_node = again.last_node ∙ stands.last_node;
+    count = omega (arith, again.count, stands.start_count);
+    start_count = again.start_count ∙ stands.start_count;
+  }
+
+  -- a slot that takes nothing has the digest that it had
+  digest-nothing : (flag : Bool) (taken : Taken)
+      → digest_under m first flag (and_more taken []) ≡ digest_under m first flag taken
+  digest-nothing flag (since_beginning b) = ap (m.future first flag) (append-nil b)
+  digest-nothing flag (since_reset b) = ap (m.started first flag) (append-nil b)
+
+  -- the digest of a state is that of its slot
+  pub digest_stands : (taken : Taken) (h : S) → StandsFor m first taken h
+      → digest_now m h ≡ slot_digest m first taken
+  digest_stands taken h stands =
+      let flag : Bool = m.last_node first in
+      ap (λ (own : Bool). m.future h own []) stands.last_node ∙ stands.future flag []
+      ∙ digest-nothing flag taken
