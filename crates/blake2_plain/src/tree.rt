@@ -42,27 +42,6 @@ pub struct TreeState {
     pub persona: [u8; LABEL_BYTES],
 }
 
-// A state of leaf `i`.
-fn leaf_state(nodes: &Nodes, i: u64) -> State
-    ensures ready { IsNodeReady result }
-    ensures size { result.output_size ≡ 64 }
-    ensures fresh { Fresh meaning (node_digest 64 (parameters_of nodes.now) i 0) 0 result }
-{
-    node_state(nodes, 64, i, 0)
-}
-
-// A state of the root.
-fn root_state(nodes: &Nodes, output_size: usize) -> State
-    requires least { 1 ≤ output_size }
-    requires most { output_size ≤ 64 }
-    ensures ready { IsNodeReady result }
-    ensures size { result.output_size ≡ output_size }
-    ensures fresh { Fresh meaning
-        (node_digest output_size (parameters_of nodes.now) 0 1) 0 result }
-{
-    node_state(nodes, output_size, 0, 1)
-}
-
 // A state of a node.
 fn node_state(nodes: &Nodes, output_size: usize, node_offset: u64, node_depth: u8) -> State
     requires least { 1 ≤ output_size }
@@ -80,23 +59,6 @@ fn node_state(nodes: &Nodes, output_size: usize, node_offset: u64, node_depth: u
     }
 }
 
-// The same state again.
-fn copy_of(state: &State) -> State
-    ensures { result ≡ state.now }
-{
-    State {
-        chain: state.chain,
-        first: state.first,
-        counter: state.counter,
-        pending_length: state.pending_length,
-        start_length: state.start_length,
-        output_size: state.output_size,
-        last_node: state.last_node,
-        pending: state.pending,
-        start_block: state.start_block,
-    }
-}
-
 // The digest of a leaf.
 fn digest_of(leaf: &State) -> [u8; 64]
     requires ready { IsNodeReady leaf.now }
@@ -106,19 +68,6 @@ fn digest_of(leaf: &State) -> [u8; 64]
     let mut digest = [0; 64];
     leaf.write_digest(&mut digest);
     digest
-}
-
-// Gives a state these digests, in order.
-fn take_digests(root: &mut State, digests: &[[u8; 64]])
-    requires ready { IsNodeReady root.old }
-    requires counted { meaning.count root.old + length (concat digests.now) < 2 ^ 64 }
-    ensures ready { IsNodeReady root.new }
-    ensures size { root.new.output_size ≡ root.old.output_size }
-    ensures updated { Updated meaning root.old (concat digests.now) root.new }
-{
-    for digest in digests {
-        root.update(digest);
-    }
 }
 
 // Whether the bytes of so many leaves and `taken` more are below 2^58.
@@ -230,8 +179,8 @@ impl TreeState {
     {
         let nodes = Nodes::new(salt, persona, leaf_length);
         TreeState {
-            leaf: leaf_state(&nodes, 0),
-            root: root_state(&nodes, output_size),
+            leaf: node_state(&nodes, 64, 0, 0),
+            root: node_state(&nodes, output_size, 0, 1),
             closed: 0,
             leaf_length: u64::from(leaf_length),
             salt_length: salt.len(),
@@ -320,7 +269,7 @@ impl TreeState {
         self.leaf.update(head);
         self.root.update(&digest_of(&self.leaf));
         self.closed += 1;
-        self.leaf = leaf_state(&nodes, self.closed);
+        self.leaf = node_state(&nodes, 64, self.closed, 0);
         rest
     }
 
@@ -338,9 +287,9 @@ impl TreeState {
     {
         let nodes = self.nodes();
         let digests = nodes.hash_four(self.closed, false, input);
-        take_digests(&mut self.root, &digests);
+        self.root.update(digests.as_flattened());
         self.closed += 4;
-        self.leaf = leaf_state(&nodes, self.closed);
+        self.leaf = node_state(&nodes, 64, self.closed, 0);
         &input[4 * self.leaf_length as usize..]
     }
 
@@ -351,9 +300,9 @@ impl TreeState {
         requires room { self.now.root.output_size ≤ length out.old }
         ensures { out.new ≡ future self.now [] ++ drop self.now.root.output_size out.old }
     {
-        let mut leaf = copy_of(&self.leaf);
+        let mut leaf = State { ..self.leaf };
         leaf.set_last_node(true);
-        let mut root = copy_of(&self.root);
+        let mut root = State { ..self.root };
         root.update(&digest_of(&leaf));
         root.set_last_node(true);
         root.write_digest(out);

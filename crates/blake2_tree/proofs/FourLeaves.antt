@@ -1,16 +1,14 @@
 -- Four whole leaves at once: with more behind them, or the last of a message.
 use Rattle.blake2_tree.specs.Nodes.{node_digest, four_digests}
-use Rattle.blake2_words.proofs.RunSizes.{length-digest}
 use Rattle.blake2_words.proofs.Pieces.{piece-zero, piece-more}
 use Rattle.std.proofs.Common.{◌≡◌, ℕ, ◌+◌, ◌-◌, ◌*◌, ◌<◌, ◌≤◌, Bool, true}
 use Rattle.std.proofs.Common.{false, List, [], ◌++◌, length, take, drop, refl, sym, ap, ◌∙◌}
-use Rattle.std.proofs.Common.{arith, append-nil, length-append, length-drop, drop-drop}
+use Rattle.std.proofs.Common.{arith, append-nil, length-drop, drop-drop}
 use Rattle.std.proofs.Common.{◌∷◌}
 use Rattle.std.proofs.lemmas.List.{take_all, take-append-le}
 use Rattle.std.proofs.lemmas.List.{drop-append-le}
 use Rattle.std.specs.List.{concat}
-use Rattle.blake2_rows.specs.Family.{blake2b}
-use Rattle.blake2_tree.specs.TreeRoot.{TreeParameters, leaf, node}
+use Rattle.blake2_tree.specs.TreeRoot.{TreeParameters, leaf}
 use Rattle.blake2_tree.specs.TreeHashers.{later_digests}
 use Rattle.blake2_tree.proofs.Leaves.{later_digests-short, later_digests-long}
 use Rattle.blake2_tree.proofs.Lists.{concat-four}
@@ -91,22 +89,6 @@ later_digests-last_four s p x some whole =
     ∙ sym (concat-four (d p 0 false) (d (p + 1) 1 false) (d (p + 2) 2 false)
     (d (p + 3) 3 true) [])
     ∙ append-nil (concat (four_digests s p true x))
-
--- those of four leaves have 256 bytes
-pub length-four_digests : (s : TreeParameters) (p : ℕ) (last : Bool) (x : List ℕ)
-    → length (concat (four_digests s p last x)) ≡ 256
-length-four_digests s p last x =
-    let d : ℕ → Bool → ℕ → List ℕ = λ place on i.
-    node_digest 64 s place 0 on (leaf s.leaf_length x i) in
-    let size : (place : ℕ) (on : Bool) (i : ℕ) → length (d place on i) ≡ 64 = λ place on i.
-    length-digest blake2b 64 (node s place 0 on (leaf s.leaf_length x i)) (omega arith) in
-    simp length-append (omega (
-      arith,
-      size p false 0,
-      size (p + 1) false 1,
-      size (p + 2) false 2,
-      size (p + 3) last 3,
-    ))
 
 -- they do not read what follows them
 leaf-append : (size i : ℕ) (x y : List ℕ) → i * size + size ≤ length x

@@ -1,6 +1,6 @@
-pub mod FourLeaves
+mod FourLeaves
 mod Leaves
-pub mod Lists
+mod Lists
 mod NodeLemmas
 mod OpenLeaves
 mod PieceLengths

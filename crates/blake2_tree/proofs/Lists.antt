@@ -1,9 +1,8 @@
 -- Lists that are joined: over a range of numbers, and lists of texts.
-use Rattle.std.proofs.Common.{◌≡◌, ℕ, zero, suc, ◌+◌, ◌*◌, ◌<◌, ◌≤◌, List, [], ◌∷◌, ◌++◌}
-use Rattle.std.proofs.Common.{slice_index_or, length, take, drop, refl, sym, ap, ◌∙◌, arith}
+use Rattle.std.proofs.Common.{◌≡◌, ℕ, zero, suc, ◌+◌, ◌*◌, ◌<◌, List, [], ◌∷◌, ◌++◌}
+use Rattle.std.proofs.Common.{length, take, drop, refl, sym, ap, ◌∙◌, arith}
 use Rattle.std.proofs.Common.{append-nil, append_assoc, length-append}
-use Rattle.std.proofs.lemmas.List.{take_at, drop_at, take-append-drop, take_more}
-use Rattle.std.proofs.lemmas.List.Folds.{concat-append}
+use Rattle.std.proofs.lemmas.List.{take_at, drop_at}
 use Rattle.std.specs.List.{flat_map, range_with_len, concat}
 
 -- ---- lists over a range, joined
@@ -55,19 +54,3 @@ flat_map-range_more f g e a (suc n) = rw (e a, flat_map-range_more f g e (a + 1)
 pub concat-four : (a b c d rest : List ℕ) → concat (a ∷ b ∷ c ∷ d ∷ []) ++ rest
     ≡ a ++ (b ++ (c ++ (d ++ rest)))
 concat-four a b c d rest = simp (append_assoc, append-nil)
-
--- a list of texts, joined, up to one more
-pub concat-more : (texts : List (List ℕ)) (i : ℕ) → i < length texts
-    → concat (take (i + 1) texts) ≡ concat (take i texts) ++ slice_index_or texts i []
-concat-more texts i below =
-    ap concat (take_more texts i [] below) ∙ concat-append (take i texts)
-    (slice_index_or texts i [] ∷ [])
-    ∙ ap (λ text. concat (take i texts) ++ text) (append-nil (slice_index_or texts i []))
-
--- they are not longer than all of them
-pub length-concat_part : (texts : List (List ℕ)) (i : ℕ)
-    → length (concat (take i texts)) ≤ length (concat texts)
-length-concat_part texts i =
-    let whole : concat (take i texts) ++ concat (drop i texts) ≡ concat texts =
-    sym (concat-append (take i texts) (drop i texts)) ∙ ap concat (take-append-drop i texts) in
-    omega (arith, ap length whole, length-append (concat (take i texts)) (concat (drop i texts)))

@@ -173,19 +173,6 @@ root_to_come-last_four roots leaves s root taken last leaf place x some whole is
 
 -- ---- updates
 
--- two updates in turn are one of the joined inputs
-pub Updated-append : {R : Type 0} (roots : Meaning R) (first second third : R) (x y : List ℕ)
-    → Updated roots first x second → Updated roots second y third
-    → Updated roots first (x ++ y) third
-Updated-append roots first second third x y before after = record {
-  future = λ on z. after.future on z ∙ before.future on (y ++ z)
-      ∙ ap (roots.future first on) (sym (append_assoc x y z));
-  started = λ on z. after.started on z ∙ before.started on z;
-  last_node = after.last_node ∙ before.last_node;
-  count = omega (arith, after.count, before.count, length-append x y);
-  start_count = after.start_count ∙ before.start_count;
-}
-
 -- a leaf that was opened and took nothing is still as it was opened
 pub IsOpened-updated : {S : Type 0} (leaves : Meaning S) (s : TreeParameters) (place : ℕ)
     (old new : S) (x : List ℕ) → (leaves.count old ≡ 0 → IsOpened leaves s place old)

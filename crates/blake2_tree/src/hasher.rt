@@ -1,9 +1,7 @@
 //! The tree over a message that comes in pieces.
 
 ghost use Rattle.std.specs.Prelude.{◌≡◌, ℕ, ◌+◌, ◌*◌, ◌^◌, ◌<◌, ◌≤◌, List, [], ◌++◌, length, false};
-ghost use Rattle.std.specs.List.{concat};
 ghost use Rattle.blake2.specs.Hashers.{blake2b_meaning};
-ghost use Rattle.blake2_digest.specs.States.{Updated};
 ghost use Rattle.blake2_tree.specs.Nodes.{parameters_of, IsOpened};
 ghost use Rattle.blake2_tree.specs.TreeRoot.{tree_parameters, tree_root as root_of};
 
@@ -50,8 +48,8 @@ impl<const N: usize> TreeHasher<N> {
     {
         let nodes = Nodes::new(salt, persona, leaf_length);
         TreeHasher {
-            leaf: nodes.open_leaf(0),
-            root: nodes.open_root(),
+            leaf: nodes.open_node(0, 0),
+            root: nodes.open_node(0, 1),
             closed: 0,
             nodes,
         }
@@ -112,7 +110,7 @@ impl<const N: usize> TreeHasher<N> {
     {
         let (head, rest) = input.split_at(self.room() as usize);
         self.leaf.update(head);
-        let next = self.nodes.open_leaf(self.closed + 1);
+        let next = self.nodes.open_node(self.closed + 1, 0);
         let full = mem::replace(&mut self.leaf, next);
         self.root.update(&full.finalize_fixed());
         self.closed += 1;
@@ -129,9 +127,9 @@ impl<const N: usize> TreeHasher<N> {
         ensures empty { (blake2b_meaning 64).count self.new.leaf ≡ 0 }
     {
         let digests = self.nodes.hash_four(self.closed, false, input);
-        take_digests(&mut self.root, &digests);
+        self.root.update(digests.as_flattened());
         self.closed += 4;
-        self.leaf = self.nodes.open_leaf(self.closed);
+        self.leaf = self.nodes.open_node(self.closed, 0);
         &input[self.nodes.four_leaves()..]
     }
 
@@ -167,7 +165,7 @@ impl<const N: usize> TreeHasher<N> {
             leaf: _,
             mut root,
         } = self;
-        take_digests(&mut root, &digests);
+        root.update(digests.as_flattened());
         root.set_last_node(true);
         root.finalize_fixed()
     }
@@ -185,16 +183,6 @@ impl<const N: usize> TreeHasher<N> {
             self.update(rest);
             self.finalize()
         }
-    }
-}
-
-// Gives a hasher these digests, in order.
-fn take_digests<const N: usize>(root: &mut Blake2b<N>, digests: &[[u8; 64]])
-    requires { (blake2b_meaning N).count root.old + length (concat digests.now) < 2 ^ 64 }
-    ensures { Updated (blake2b_meaning N) root.old (concat digests.now) root.new }
-{
-    for digest in digests {
-        root.update(digest);
     }
 }
 

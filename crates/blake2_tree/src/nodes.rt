@@ -16,20 +16,6 @@ use blake2::steps::{Input, Tree};
 use blake2::{Blake2b, many};
 use std::alloc::{AllocError, Global};
 
-// The place of a node in a tree with leaves of this length.
-fn place(leaf_length: u32, node_offset: u64, node_depth: u8) -> Tree
-    ensures { tree_of result ≡ place leaf_length node_offset node_depth }
-{
-    Tree {
-        fanout: 0,
-        depth: 2,
-        leaf_length,
-        node_offset,
-        node_depth,
-        inner_length: 64,
-    }
-}
-
 /// What the nodes of one tree share: salt and persona of at most 16 bytes each, and the bytes of a
 /// leaf, 1 to 2^32 - 1.
 #[derive(Drop)]
@@ -78,24 +64,23 @@ impl Nodes {
         ensures { tree_of result
             ≡ place (parameters_of self.now).leaf_length node_offset node_depth }
     {
-        place(self.leaf_length, node_offset, node_depth)
+        Tree {
+            fanout: 0,
+            depth: 2,
+            leaf_length: self.leaf_length,
+            node_offset,
+            node_depth,
+            inner_length: 64,
+        }
     }
 
-    /// A hasher of leaf `i`.
-    pub(crate) fn open_leaf(&self, i: u64) -> Blake2b<64>
-        ensures { Fresh (blake2b_meaning 64)
-            (node_digest 64 (parameters_of self.now) i 0) 0 result }
-    {
-        let place = place(self.leaf_length, i, 0);
-        Blake2b::new_with_tree(self.salt.as_slice(), self.persona.as_slice(), &place)
-    }
-
-    /// A hasher of the root.
-    pub(crate) fn open_root<const N: usize>(&self) -> Blake2b<N>
+    /// A hasher of a node.
+    pub(crate) fn open_node<const N: usize>(&self, node_offset: u64, node_depth: u8) -> Blake2b<N>
         requires { N ≤ 64 }
-        ensures { Fresh (blake2b_meaning N) (node_digest N (parameters_of self.now) 0 1) 0 result }
+        ensures { Fresh (blake2b_meaning N)
+            (node_digest N (parameters_of self.now) node_offset node_depth) 0 result }
     {
-        let place = place(self.leaf_length, 0, 1);
+        let place = self.place(node_offset, node_depth);
         Blake2b::new_with_tree(self.salt.as_slice(), self.persona.as_slice(), &place)
     }
 
@@ -115,7 +100,7 @@ impl Nodes {
             salt: self.salt.as_slice(),
             persona: self.persona.as_slice(),
             key: None,
-            tree: place(self.leaf_length, node_offset, node_depth),
+            tree: self.place(node_offset, node_depth),
             last_node,
             message: bytes,
         }
@@ -174,7 +159,7 @@ impl Nodes {
         let count = piece_count(length, message);
         let mut digests = Vec::new(alloc);
         for i in 0..count {
-            let mut leaf = self.open_leaf(i as u64);
+            let mut leaf = self.open_node::<64>(i as u64, 0);
             leaf.set_last_node(i + 1 == count);
             leaf.update(piece(length, message, i));
             digests.extend_from_slice(&leaf.finalize_fixed())?;

@@ -11,10 +11,10 @@ pub returns-clause-root : goal.returns-clause-root
 unfolding future
 returns-clause-root c = λ y.
     let nodes = c.new-nodes.result in
-    let leaf = c.leaf_state.ensures.fresh in
+    let leaf = c.node_state.ensures.fresh in
     let given : TreeParameters =
     tree_parameters c.args.salt.now c.args.persona.now c.args.leaf_length in
-    let opened : IsOpened meaning (parameters_of nodes) 0 c.leaf_state.result =
+    let opened : IsOpened meaning (parameters_of nodes) 0 c.node_state.result =
     record { digests = leaf.future; empty = leaf.count } in
     let salt : take (length c.args.salt.now) c.padded.result ≡ c.args.salt.now =
     ap (take (length c.args.salt.now)) c.padded.ensures ∙ take-padded 16 c.args.salt.now in
@@ -24,9 +24,9 @@ returns-clause-root c = λ y.
     let kept : tree_parameters (take (length c.args.salt.now) c.padded.result)
     (take (length c.args.persona.now) c.padded-2.result) c.from.result ≡ given =
     (λ k. tree_parameters (salt k) (persona k) (c.from.ensures k)) in
-    ap (λ s. root_to_come meaning meaning s c.root_state.result c.leaf_state.result 1 y)
+    ap (λ s. root_to_come meaning meaning s c.node_state-2.result c.node_state.result 1 y)
     (kept ∙ sym c.new-nodes.ensures)
     ∙ root_to_come-made meaning meaning (parameters_of nodes) c.args.output_size
-    c.root_state.result c.leaf_state.result y
-    nodes.some_length opened c.root_state.ensures.fresh.future
+    c.node_state-2.result c.node_state.result y
+    nodes.some_length opened c.node_state-2.ensures.fresh.future
     ∙ ap (λ s. tree_root c.args.output_size s y) c.new-nodes.ensures

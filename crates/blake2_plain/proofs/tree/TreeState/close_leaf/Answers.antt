@@ -17,8 +17,8 @@ returns-clause-went_on c =
     let leaf = c.set_last_node.new.self in
     let full = c.update.new.self in
     let inner = c.set_last_node.ensures.set in
-    let fresh = c.leaf_state-self.ensures.fresh in
-    let opened : IsOpened meaning s (old.closed + 1) c.leaf_state-self.result =
+    let fresh = c.node_state-self.ensures.fresh in
+    let opened : IsOpened meaning s (old.closed + 1) c.node_state-self.result =
     rw (sym c.nodes-nodes.ensures) (record { digests = fresh.future; empty = fresh.count }) in
     let same_room : room old ≡ s.leaf_length - meaning.count leaf = omega (arith, inner.count) in
     let head : c.split_at.result.0.now ≡ take (s.leaf_length - meaning.count leaf) input =
@@ -31,10 +31,10 @@ returns-clause-went_on c =
     let left = length-drop (s.leaf_length - meaning.count leaf) input in
     record {
       future = λ y.
-          (λ k. root_to_come meaning meaning s c.update-2.new.self c.leaf_state-self.result
+          (λ k. root_to_come meaning meaning s c.update-2.new.self c.node_state-self.result
           (old.closed + 1 + 1) (rest k ++ y))
           ∙ root_to_come-closed meaning meaning s old.root c.update-2.new.self leaf full
-          c.leaf_state-self.result (old.closed + 1) input y
+          c.node_state-self.result (old.closed + 1) input y
           c.requires.ready.lengths.some (omega arith) inner.last_node (omega arith) filled closed
           opened
           ∙ root_to_come-set meaning meaning s old.root old.leaf leaf _ (old.closed + 1)

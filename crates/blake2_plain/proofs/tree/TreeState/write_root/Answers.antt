@@ -1,6 +1,5 @@
-use Rattle.std.proofs.Common.{◌≡◌, ◌∙◌, ◌+◌, ◌++◌, [], drop, ap}
+use Rattle.std.proofs.Common.{◌≡◌, ◌∙◌, ◌+◌, ◌++◌, [], drop}
 use Rattle.blake2_digest.specs.States.{digest_now}
-use Rattle.blake2_plain.specs.declared.blake2b.State.{State}
 use Rattle.blake2_plain.specs.Blake2b.{meaning}
 use Rattle.blake2_plain.specs.TreeStates.{parameters, future}
 use Rattle.blake2_tree.proofs.Roots.{root_to_come-finished}
@@ -11,11 +10,10 @@ unfolding future
 returns c =
     let old = c.args.self.now in
     let last = c.set_last_node-2.new.self in
-    let leaf_set = rw c.copy_of-leaf.ensures at c.set_last_node.ensures.set in
-    let taken = rw (c.digest_of.ensures, c.copy_of-root.ensures) at c.update.ensures.updated in
+    let leaf_set = c.set_last_node.ensures.set in
+    let taken = rw c.digest_of.ensures at c.update.ensures.updated in
     let size : last.output_size ≡ old.root.output_size =
-    c.set_last_node-2.ensures.size ∙ c.update.ensures.size
-    ∙ ap (λ (s : State). s.output_size) c.copy_of-root.ensures in
+    c.set_last_node-2.ensures.size ∙ c.update.ensures.size in
     let root : digest_now meaning last ≡ future old [] =
     root_to_come-finished meaning meaning (parameters old) old.root c.update.new.self last
     old.leaf c.set_last_node.new.self (old.closed + 1) leaf_set taken c.set_last_node-2.ensures.set

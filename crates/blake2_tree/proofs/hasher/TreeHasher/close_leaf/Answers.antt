@@ -13,10 +13,10 @@ returns g c =
     let input = c.args.input.now in
     let s = parameters_of old.nodes in
     let full = c.replace-full.result in
-    let opened : IsOpened (blake2b_meaning 64) s (old.closed + 1) c.open_leaf-next.result =
+    let opened : IsOpened (blake2b_meaning 64) s (old.closed + 1) c.open_node-next.result =
     record {
-      digests = c.open_leaf-next.ensures.future;
-      empty = c.open_leaf-next.ensures.count;
+      digests = c.open_node-next.ensures.future;
+      empty = c.open_node-next.ensures.count;
     } in
     let head : c.split_at.result.0.now ≡ take (room old) input =
     c.split_at.ensures.front ∙ ap (λ n. take n input) c.room.ensures in
@@ -33,7 +33,7 @@ returns g c =
           c.update-2.new.self (c.replace-full.ensures.after k)
           (old.closed + 1 + 1) (rest k ++ y))
           ∙ root_to_come-closed (blake2b_meaning g.row.N) (blake2b_meaning 64) s old.root
-          c.update-2.new.self old.leaf full c.open_leaf-next.result (old.closed + 1) input y
+          c.update-2.new.self old.leaf full c.open_node-next.result (old.closed + 1) input y
           old.nodes.some_length old.within_a_leaf old.not_the_last (omega arith) filled closed
           opened;
       count = omega (arith, empty, ap length rest, left, c.requires.more, old.within_a_leaf);

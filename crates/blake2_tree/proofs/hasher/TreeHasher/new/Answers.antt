@@ -10,9 +10,9 @@ pub returns-clause-root : goal.returns-clause-root
 unfolding future
 returns-clause-root g c = λ y.
     let nodes = c.new-nodes.result in
-    let leaf = c.open_leaf.ensures in
+    let leaf = c.open_node.ensures in
     root_to_come-made (blake2b_meaning g.row.N) (blake2b_meaning 64) (parameters_of nodes) g.row.N
-    c.open_root.result c.open_leaf.result y
+    c.open_node-2.result c.open_node.result y
     nodes.some_length
-    (record { digests = leaf.future; empty = leaf.count }) c.open_root.ensures.future
+    (record { digests = leaf.future; empty = leaf.count }) c.open_node-2.ensures.future
     ∙ ap (λ s. tree_root g.row.N s y) c.new-nodes.ensures

@@ -10,9 +10,9 @@ loop-i-preserved c =
     let s = parameters_of c.args.self.now in
     let message = c.args.message.now in
     let hashed =
-    digest_now-hashed (node_digest 64 s c.loop-i.i 0) c.open_leaf-leaf.result
+    digest_now-hashed (node_digest 64 s c.loop-i.i 0) c.open_node-leaf.result
     c.set_last_node.new.self c.update.new.self _ c.piece.result.now
-    c.open_leaf-leaf.ensures c.set_last_node.ensures c.update.ensures in
+    c.open_node-leaf.ensures c.set_last_node.ensures c.update.ensures in
     let leaf_is : c.finalize_fixed.result ≡ leaf_digest s message c.loop-i.i =
     c.finalize_fixed.ensures ∙ hashed
     ∙ (λ k. node_digest 64 s c.loop-i.i 0 (nat_eq (c.loop-i.i + 1) (c.piece_count-count.ensures k))

@@ -1,5 +1,5 @@
-use Rattle.std.proofs.Common.{arith}
-use Rattle.blake2_words.specs.Hash.{AreBytes}
+use Rattle.std.proofs.Common.{ap, arith}
+use Rattle.blake2_words.specs.Hash.{AreBytes, Tree}
 use Rattle.blake2_tree.specs.Nodes.{parameters_of}
 use Rattle.blake2_tree.proofs.NodeLemmas.{AreTaken, Accepts-node}
 use Rattle.blake2_tree.proofs.nodes.Nodes.node.Goals as goal
@@ -14,7 +14,7 @@ returns-clause-accepted c =
       persona_fits = persona.short;
       salt_is = salt.are;
       persona_is = persona.are;
-      leaf_length = omega arith;
+      leaf_length = omega (arith, ap (λ (t : Tree). t.leaf_length) c.place.ensures);
     } in
     let bytes : AreBytes c.args.bytes.now = λ i. omega (arith, c.type_inv.bytes i) in
     rw (salt.bytes, persona.bytes, c.place.ensures)
