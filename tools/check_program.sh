@@ -1,6 +1,7 @@
 #!/usr/bin/env bash
 # Runs the program b2 as a shell does, and checks what no proof sees of `main`: that it hands on every
-# argument and the three streams, and ends with the status that the run answers.
+# argument and the three streams, and ends with the status that the run answers. Then it holds each command
+# to the memory that docs/PROGRAM.md gives it.
 #
 # usage: tools/check_program.sh [PROGRAM]
 #
@@ -35,6 +36,12 @@ count() {
         echo "  wanted: $(head -c 300 "$room/wanted")"
         [ -s "$room/errors" ] && echo "  errors: $(head -c 300 "$room/errors")"
     } | cat -v >&2
+}
+
+# Counts a check of this name that failed before it had a run.
+fail() {
+    failed=$((failed + 1))
+    echo "FAILED: $1" >&2
 }
 
 # Checks a run over an input, which may hold escapes as printf takes them: wants STATUS and the line
@@ -167,13 +174,13 @@ ended "b2 sum b512 foo, its input closed" "$?" 2 "b2: wrong words"
 
 # An output that takes nothing: a full one, and a closed one. Nothing more is printed.
 : >"$room/output"
-for words in "sum b512" "script b512" "steps s256" "tree b512 4" "witness b512 61 62" "sum" "add"; do
+for given in "sum b512" "script b512" "steps s256" "tree b512 4" "witness b512 61 62" "sum" "add"; do
     # shellcheck disable=SC2086
-    printf 'f 0\n' | "$program" $words >/dev/full 2>"$room/errors"
-    ended "b2 $words, its output full" "$?" 1 ""
+    printf 'f 0\n' | "$program" $given >/dev/full 2>"$room/errors"
+    ended "b2 $given, its output full" "$?" 1 ""
     # shellcheck disable=SC2086
-    printf 'f 0\n' | "$program" $words >&- 2>"$room/errors"
-    ended "b2 $words, its output closed" "$?" 1 ""
+    printf 'f 0\n' | "$program" $given >&- 2>"$room/errors"
+    ended "b2 $given, its output closed" "$?" 1 ""
 done
 
 # Arguments that are no text can't be read.
@@ -184,6 +191,156 @@ says 1 "b2: no memory" sum b512 key=01 salt=02 persona=03 5 6 7 8 $'\xed\xa0\x80
 status=$?
 : >"$room/output"
 ended "b2 of no text, its output full" "$status" 1 ""
+
+# ---- Memory, by limits of address space.
+
+# Runs the program in so many KiB, over the file `input`. The shell sets the limit in a process of its own.
+run_in() {
+    local kib=$1
+    shift
+    sh -c 'ulimit -v "$0" && exec "$@"' "$kib" "$program" "$@" <"$room/input" >"$room/output" 2>"$room/errors"
+}
+
+# Whether these words, which are wrong ones, are told in so many KiB.
+is_told_in() {
+    run_in "$@"
+    [ $? -eq 2 ] && [ "$(cat "$room/output")" = "b2: wrong words" ]
+}
+
+# The fewest KiB in which the program tells that these words are wrong, for which it keeps its arguments alone: fewer
+# than 16 too many, and no more than 64 MiB.
+least_for() {
+    local low=0 high=65536 middle
+    is_told_in "$high" "$@" || return 1
+    while [ $((high - low)) -gt 16 ]; do
+        middle=$(((low + high) / 2))
+        if is_told_in "$middle" "$@"; then high=$middle; else low=$middle; fi
+    done
+    echo "$high"
+}
+
+# Checks a run in so many KiB beyond `least`, over the file `input`: wants STATUS, and what the file `wanted` has.
+# usage: ends_in KIB STATUS WORDS..
+ends_in() {
+    local kib=$1 wanted_status=$2 status
+    shift 2
+    run_in $((least + kib)) "$@"
+    status=$?
+    count "b2 $1 $2${3:+ ${3:0:20}} (in $kib KiB, over $(stat -c %s "$room/input") bytes)" "$status" "$wanted_status"
+}
+
+# Checks that a run has room, and prints this line, or what the file `wanted` has where LINE is -.
+# usage: has_room KIB LINE WORDS..
+has_room() {
+    local kib=$1
+    [ "$2" = - ] || echo "$2" >"$room/wanted"
+    shift 2
+    ends_in "$kib" 0 "$@"
+}
+
+# Checks that a run has too little: so the limit is in force, and want of memory is told.
+# usage: lacks_room KIB WORDS..
+lacks_room() {
+    local kib=$1
+    shift
+    echo "b2: no memory" >"$room/wanted"
+    ends_in "$kib" 1 "$@"
+}
+
+# Makes the file `input` of so many zeros.
+take_zeros() {
+    : >"$room/input"
+    truncate -s "$1" "$room/input"
+}
+
+# A fixed amount for `sum`. For `tree` a piece of about 64 KiB, or of five leaves where these are more, or of 64 KiB
+# again where five leaves are more than 16 MiB.
+check_memory_of_streams() {
+    take_zeros $((64 << 20))
+    has_room 64 "$zeros_64m" sum b512
+    has_room 64 "$zeros_64m_s256" sum s256 key=0102
+    take_zeros $((40 << 20))
+    has_room 128 "$root_of_longest" tree b512 4294967295
+    has_room 128 "$root_4m" tree b512 4194304
+    has_room 384 "$root_64k" tree b512 65536
+    has_room $((16384 + 64)) "$root_five" tree b512 3355443
+    lacks_room 8192 tree b512 3355443
+}
+
+# What the transcript of so many zeros, in whole blocks of BLAKE2b, is.
+transcript_of_zeros() {
+    echo "$words"
+    seq -f "e %.0f 0 00$zeros" 128 128 $(($1 - 128))
+    echo "e $1 1 00$zeros"
+}
+
+# The input, and the transcript, which has about as many bytes. The input is read into a list, which doubles as it
+# grows: so one byte more than a power of two may take twice as much.
+check_memory_of_steps() {
+    take_zeros $((4 << 20))
+    transcript_of_zeros $((4 << 20)) >"$room/wanted"
+    has_room $((10 << 10)) - steps b512
+    lacks_room $((4 << 10)) steps b512
+    take_zeros $(((4 << 20) + 128))
+    transcript_of_zeros $(((4 << 20) + 128)) >"$room/wanted"
+    has_room $((14 << 10)) - steps b512
+}
+
+# The input, its calls, the state of each slot and all digests: half of an update's text for its bytes, 96 bytes for
+# each call, 64 more for a digest, and 352 for a state, with a key 480.
+check_memory_of_scripts() {
+    local calls=65535
+    yes "u 0 $(printf '%04090d' 0)" | head -n 1024 | sed '$s/.*/f 0/' >"$room/input"
+    has_room $((7 << 10)) "$zeros_1023" script b512
+    lacks_room $((4 << 10)) script b512
+    : >"$room/wanted"
+    yes "r 0" | head -n $calls >"$room/input"
+    has_room $((6 << 10)) - script b512
+    yes "c 0" | head -n $calls >"$room/input"
+    has_room $((28 << 10)) - script b512
+    has_room $((36 << 10)) - script b512 "key=$long_key"
+    lacks_room $((2 << 10)) script b512
+    yes "$nothing" | head -n $calls >"$room/wanted"
+    yes "d 0" | head -n $calls >"$room/input"
+    has_room $((10 << 10)) - script b512
+}
+
+# The two messages, as long as arguments can be: 65,535 bytes.
+check_memory_of_witness() {
+    local message
+    message=$(printf '%0131070d' 0)
+    take_zeros 0
+    if least=$(least_for add b512 "$message" "$message"); then
+        has_room 512 none witness b512 "$message" "${message%0}1"
+    else
+        fail "b2 tells in 64 MiB that long words are wrong"
+    fi
+}
+
+zeros_64m=3f7d3846a5c75d2ca1ebeb0328ad85e11a015ea61ab23912f7b7314dc18d8efb
+zeros_64m=${zeros_64m}1eab781c5cd2297df734eca802f24e972d7130478a1b3dbcff1606b917c70880
+zeros_64m_s256=6fea37809ab8bb2b966175e79587e4ef4398884c70310b287c4ba5b7b4bf3e19
+zeros_1023=037872fda42f2ec5f5c8b9577527dcda3101a08fc81751f14d5d93860e5cc4d5
+zeros_1023=${zeros_1023}1907821b2affd9cb07790ea02d8901ae8117db466e3a11546b6e76b746c47d5e
+nothing=786a02f742015903c6c6fd852552d272912f4740e15847618a86e217f71f5419
+nothing=${nothing}d25e1031afee585313896444934eb04b903a685b1448b755d56f701afe9be2ce
+root_of_longest=5fb57c212ef72ebf1e0287af2f9397518028ef2257d8950cdb4865328f60b4fe
+root_of_longest=${root_of_longest}f3510e3f43963df6dca54015b59845c48ac351b80e2cc4f54ee1df1dc2038884
+root_4m=22f600948597a0a384a21df2487f973859cfebfdf914f9e16d2c1471f6d833a2
+root_4m=${root_4m}e1d57dd49a438c5bb0ce187dd9035578dee4e3f1d1d7eda3b34f58ce5a2fae61
+root_64k=30a4ea8885d81b896308f9077d26f2b16fd8ff3eb662e52d5ae8b260690c0b48
+root_64k=${root_64k}a65c70bcce1a5fa1fa3ad54c9517b13995048eb9a6302875eb4507aef96dbd2e
+root_five=adc2421b484c3134c45a7044a369965a64754f0bcf4ffcf3caf9cd74b00972e0
+root_five=${root_five}c250a693d180d9e5f0ff9e735737f39211276f134cab719bd04fb59601e915d2
+take_zeros 0
+if least=$(least_for add b512); then
+    check_memory_of_streams
+    check_memory_of_steps
+    check_memory_of_scripts
+else
+    fail "b2 tells in 64 MiB that its words are wrong"
+fi
+check_memory_of_witness
 
 echo "$passed passed, $failed failed"
 [ "$failed" -eq 0 ]
