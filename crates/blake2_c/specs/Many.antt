@@ -3,7 +3,7 @@ use Rattle.std.specs.Prelude.{ℕ, ◌*◌, ◌≢◌, ◌⊎◌, List, length}
 use Rattle.std.specs.List.{All, flat_map}
 use Rattle.blake2_rows.specs.Family.{Family}
 use Rattle.blake2.specs.States.{digest_of}
-use Rattle.blake2_plain.specs.Arguments.{given_key, given_count, IsRefused}
+use Rattle.blake2_plain.specs.Arguments.{given_key, given_count, IsRefusedState}
 use Rattle.blake2_c.specs.declared.Text.{Text}
 use Rattle.blake2_c.specs.Status.{IsTooLong}
 
@@ -22,5 +22,5 @@ AreCounted f key texts =
 -- texts, or one of these is too long
 abbrev pub IsRefusedMany : Family → ℕ → ℕ → List ℕ → List ℕ → List ℕ → List Text → Type 0
 IsRefusedMany f room size key salt persona texts =
-    IsRefused f size key salt persona ⊎ (room ≢ length texts * size)
+    IsRefusedState f size key salt persona ⊎ (room ≢ length texts * size)
     ⊎ (¬ AreCounted f key texts)

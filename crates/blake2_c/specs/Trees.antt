@@ -3,8 +3,8 @@ use Rattle.std.specs.Prelude.{ℕ, ◌+◌, ◌^◌, ◌≤◌, ◌⊎◌}
 use Rattle.blake2_words.specs.Hash.{Tree}
 
 -- the place of these numbers, in the order of the parameter block (the BLAKE2 document, 2.8)
-abbrev pub place : ℕ → ℕ → ℕ → ℕ → ℕ → ℕ → Tree
-place fanout depth leaf_length node_offset node_depth inner_length = record {
+abbrev pub given_place : ℕ → ℕ → ℕ → ℕ → ℕ → ℕ → Tree
+given_place fanout depth leaf_length node_offset node_depth inner_length = record {
   fanout = fanout;
   depth = depth;
   leaf_length = leaf_length;

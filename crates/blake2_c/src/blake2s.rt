@@ -7,12 +7,12 @@ ghost use Rattle.blake2.specs.States.{digest_of, node_digest_of};
 ghost use Rattle.blake2_words.specs.Hash.{AdmitsTree, sequential};
 ghost use Rattle.blake2_words.specs.Views.{tree_of};
 ghost use Rattle.blake2_digest.specs.States.{Fresh, NodeSet, Updated, StartedAgain, digest_now};
-ghost use Rattle.blake2_plain.specs.Arguments.{given_key, given_count, IsRefused};
+ghost use Rattle.blake2_plain.specs.Arguments.{given_key, given_count, IsRefusedState};
 ghost use Rattle.blake2_plain.specs.Blake2s.{IsReady, meaning, zeros};
 ghost use Rattle.blake2_plain.specs.Blocks.{block_digest, IsRefusedBlock};
 ghost use Rattle.blake2_plain.specs.States.{is_on};
 ghost use Rattle.blake2_c.specs.Status.{Answers, IsTooLong, IsUntakable, IsUngivable};
-ghost use Rattle.blake2_c.specs.Trees.{place};
+ghost use Rattle.blake2_c.specs.Trees.{given_place};
 
 mod many;
 
@@ -37,7 +37,7 @@ fn write_longest(out: &mut [u8], input: &[u8])
 // What `blake2_c_blake2s` does under a key, in a frame of its own, which the caller scrubs.
 #[inline(never)]
 fn write_keyed(out: &mut [u8], input: &[u8], key: &[u8]) -> i32
-    ensures status { Answers result (IsRefused blake2s (length out.old) key.now [] []
+    ensures status { Answers result (IsRefusedState blake2s (length out.old) key.now [] []
         ⊎ IsTooLong (given_count blake2s key.now) (length input.now)) }
     ensures digest { result ≡ pos 0
         → out.new ≡ digest_of blake2s (length out.old) [] [] (given_key key.now) input.now }
@@ -61,7 +61,7 @@ fn write_keyed(out: &mut [u8], input: &[u8], key: &[u8]) -> i32
 /// input and the key's block have 2^64 bytes; nothing is then written.
 #[unsafe(no_mangle)]
 pub extern "C" fn blake2_c_blake2s(out: &mut [u8], input: &[u8], key: &[u8]) -> i32
-    ensures status { Answers result (IsRefused blake2s (length out.old) key.now [] []
+    ensures status { Answers result (IsRefusedState blake2s (length out.old) key.now [] []
         ⊎ IsTooLong (given_count blake2s key.now) (length input.now)) }
     ensures digest { result ≡ pos 0
         → out.new ≡ digest_of blake2s (length out.old) [] [] (given_key key.now) input.now }
@@ -99,7 +99,7 @@ fn begin(
 ) -> i32
     requires tree { AdmitsTree blake2s (tree_of tree.now) }
     ensures status { Answers result
-        (IsRefused blake2s output_size key.now salt.now persona.now) }
+        (IsRefusedState blake2s output_size key.now salt.now persona.now) }
     ensures ready { result ≡ pos 0 → IsReady state.new }
     ensures size { result ≡ pos 0 → state.new.output_size ≡ output_size }
     ensures fresh { result ≡ pos 0 → Fresh meaning
@@ -132,7 +132,7 @@ pub extern "C" fn blake2_c_blake2s_init(
     persona: &[u8],
 ) -> i32
     ensures status { Answers result
-        (IsRefused blake2s output_size key.now salt.now persona.now) }
+        (IsRefusedState blake2s output_size key.now salt.now persona.now) }
     ensures ready { result ≡ pos 0 → IsReady state.new }
     ensures size { result ≡ pos 0 → state.new.output_size ≡ output_size }
     ensures fresh { result ≡ pos 0 → Fresh meaning
@@ -166,7 +166,7 @@ pub extern "C" fn blake2_c_blake2s_init_key(
     key: &[u8],
 ) -> i32
     ensures status { Answers result
-        ((key.now ≡ []) ⊎ IsRefused blake2s output_size key.now [] []) }
+        ((key.now ≡ []) ⊎ IsRefusedState blake2s output_size key.now [] []) }
     ensures ready { result ≡ pos 0 → IsReady state.new }
     ensures size { result ≡ pos 0 → state.new.output_size ≡ output_size }
     ensures fresh { result ≡ pos 0 → Fresh meaning
@@ -199,14 +199,14 @@ pub extern "C" fn blake2_c_blake2s_init_node(
     node_depth: u8,
     inner_length: u8,
 ) -> i32
-    ensures status { Answers result (IsRefused blake2s output_size key.now salt.now persona.now
+    ensures status { Answers result (IsRefusedState blake2s output_size key.now salt.now persona.now
         ⊎ (¬ AdmitsTree blake2s
-        (place fanout depth leaf_length node_offset node_depth inner_length))) }
+        (given_place fanout depth leaf_length node_offset node_depth inner_length))) }
     ensures ready { result ≡ pos 0 → IsReady state.new }
     ensures size { result ≡ pos 0 → state.new.output_size ≡ output_size }
     ensures fresh { result ≡ pos 0 → Fresh meaning
         (node_digest_of blake2s output_size salt.now persona.now (given_key key.now)
-        (place fanout depth leaf_length node_offset node_depth inner_length))
+        (given_place fanout depth leaf_length node_offset node_depth inner_length))
         (given_count blake2s key.now) state.new }
     ensures zeros { result ≡ negsuc 0 → state.new ≡ zeros }
 {

@@ -3,7 +3,7 @@
 ghost use Rattle.std.specs.Prelude.{◌≡◌, ℕ, ◌<◌, ◌≤◌, ◌^◌, ◌⊎◌, List, [], ◌++◌, length, drop, pos};
 ghost use Rattle.std.specs.Prelude.{negsuc};
 ghost use Rattle.blake2_tree.specs.TreeRoot.{tree_parameters, tree_root as root_of};
-ghost use Rattle.blake2_plain.specs.TreeStates.{IsReady, IsRefused, Took, future, count, zeros};
+ghost use Rattle.blake2_plain.specs.TreeStates.{IsReady, IsRefusedTree, Took, future, count, zeros};
 ghost use Rattle.blake2_c.specs.Status.{Answers, IsUngivable};
 ghost use Rattle.blake2_c.specs.Trees.{IsUntakableTree};
 
@@ -44,7 +44,7 @@ pub extern "C" fn blake2_c_tree_root(
     leaf_length: u32,
 ) -> i32
     ensures status { Answers result
-        (IsRefused (length out.old) (length salt.now) (length persona.now) leaf_length
+        (IsRefusedTree (length out.old) (length salt.now) (length persona.now) leaf_length
         ⊎ (2 ^ 58 ≤ length input.now)) }
     ensures root { result ≡ pos 0 → out.new ≡ root_of (length out.old)
         (tree_parameters salt.now persona.now leaf_length) input.now }
@@ -82,7 +82,7 @@ pub extern "C" fn blake2_c_tree_init(
     leaf_length: u32,
 ) -> i32
     ensures status { Answers result
-        (IsRefused output_size (length salt.now) (length persona.now) leaf_length) }
+        (IsRefusedTree output_size (length salt.now) (length persona.now) leaf_length) }
     ensures ready { result ≡ pos 0 → IsReady state.new }
     ensures size { result ≡ pos 0 → state.new.root.output_size ≡ output_size }
     ensures root { result ≡ pos 0 → (y : List ℕ) → future state.new y

@@ -14,7 +14,7 @@ given_count f (x ∷ xs) = block_bytes f
 
 -- the output size, the key, the salt or the persona has a length that the family does not take (RFC
 -- 7693, 2.1; the BLAKE2 document, 2.8)
-abbrev pub IsRefused : Family → ℕ → List ℕ → List ℕ → List ℕ → Type 0
-IsRefused f size key salt persona =
+abbrev pub IsRefusedState : Family → ℕ → List ℕ → List ℕ → List ℕ → Type 0
+IsRefusedState f size key salt persona =
     (size ≡ 0) ⊎ (output_bytes f < size) ⊎ (key_bytes f < length key)
     ⊎ (salt_bytes f < length salt) ⊎ (salt_bytes f < length persona)

@@ -74,8 +74,8 @@ pub record WentOn (old : TreeState) (input : List ℕ) (new : TreeState) (rest :
 
 -- a root of so many bytes, a salt or a persona of so many, or leaves of that length are none of a
 -- tree
-abbrev pub IsRefused : ℕ → ℕ → ℕ → ℕ → Type 0
-IsRefused size salt persona leaf_length =
+abbrev pub IsRefusedTree : ℕ → ℕ → ℕ → ℕ → Type 0
+IsRefusedTree size salt persona leaf_length =
     (size ≡ 0) ⊎ (64 < size) ⊎ (16 < salt) ⊎ (16 < persona) ⊎ (leaf_length ≡ 0)
 
 -- the state of zeros, which gives no root

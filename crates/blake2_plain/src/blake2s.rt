@@ -9,7 +9,7 @@ ghost use Rattle.blake2_words.specs.Views.{tree_of};
 ghost use Rattle.blake2_digest.specs.States.{Fresh, NodeSet, Updated, StartedAgain, digest_now};
 ghost use Rattle.blake2.specs.Cores.{CoreState};
 ghost use Rattle.blake2.specs.States.{node_digest_of};
-ghost use Rattle.blake2_plain.specs.Arguments.{given_key, given_count, IsRefused};
+ghost use Rattle.blake2_plain.specs.Arguments.{given_key, given_count, IsRefusedState};
 ghost use Rattle.blake2_plain.specs.Blocks.{block_start, block_digest, IsRefusedBlock};
 ghost use Rattle.blake2_plain.specs.Blake2s.{IsReady, meaning, zeros};
 ghost use Rattle.blake2_plain.specs.States.{is_on};
@@ -21,7 +21,7 @@ use blake2_digest::{
 use blake2_words::params::blake2s::start_of;
 use blake2_words::words::blake2s::to_words;
 
-/// A run of BLAKE2s as plain numbers. Every value of the fields is a state, and none is unsafe; it
+/// A state of BLAKE2s as plain numbers. Every value of the fields is one, and none is unsafe; it
 /// gives digests where it is ready ([`State::is_ready`]), as all are that a constructor has made.
 #[repr(C)]
 #[derive(Drop)]
@@ -158,7 +158,7 @@ impl State {
         persona: &[u8],
     ) -> Result<Self, InvalidLength>
         ensures refused { IsErr result
-            ↔ IsRefused blake2s output_size key.now salt.now persona.now }
+            ↔ IsRefusedState blake2s output_size key.now salt.now persona.now }
         ensures ready { IfOk result (λ s. IsReady s) }
         ensures size { IfOk result (λ s. s.output_size ≡ output_size) }
         ensures fresh { IfOk result (λ s. Fresh meaning
@@ -189,7 +189,7 @@ impl State {
     ) -> Result<Self, InvalidLength>
         requires tree { AdmitsTree blake2s (tree_of tree.now) }
         ensures refused { IsErr result
-            ↔ IsRefused blake2s output_size key.now salt.now persona.now }
+            ↔ IsRefusedState blake2s output_size key.now salt.now persona.now }
         ensures ready { IfOk result (λ s. IsReady s) }
         ensures size { IfOk result (λ s. s.output_size ≡ output_size) }
         ensures fresh { IfOk result (λ s. Fresh meaning

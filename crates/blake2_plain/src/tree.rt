@@ -10,7 +10,7 @@ ghost use Rattle.blake2_plain.specs.Blake2b.{IsReady as IsNodeReady, meaning};
 ghost use Rattle.blake2_tree.specs.Nodes.{parameters_of, node_digest};
 ghost use Rattle.blake2_tree.specs.TreeRoot.{tree_parameters, tree_root as root_of};
 ghost use Rattle.blake2_plain.specs.TreeStates.{HasLengths, HasCounts, IsReady, IsBegun};
-ghost use Rattle.blake2_plain.specs.TreeStates.{IsRefused, Took, WentOn};
+ghost use Rattle.blake2_plain.specs.TreeStates.{IsRefusedTree, Took, WentOn};
 ghost use Rattle.blake2_plain.specs.TreeStates.{parameters, room, future, count, zeros};
 
 use crate::blake2b::State;
@@ -148,7 +148,7 @@ impl TreeState {
         leaf_length: u32,
     ) -> Result<Self, InvalidLength>
         ensures refused { IsErr result
-            ↔ IsRefused output_size (length salt.now) (length persona.now) leaf_length }
+            ↔ IsRefusedTree output_size (length salt.now) (length persona.now) leaf_length }
         ensures ready { IfOk result (λ t. IsReady t) }
         ensures size { IfOk result (λ t. t.root.output_size ≡ output_size) }
         ensures root { IfOk result (λ t. (y : List ℕ) → future t y

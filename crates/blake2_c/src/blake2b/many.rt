@@ -5,7 +5,7 @@ ghost use Rattle.blake2.specs.Family.{blake2b};
 ghost use Rattle.blake2.specs.States.{digest_of};
 ghost use Rattle.blake2.specs.States as Held;
 ghost use Rattle.blake2_words.specs.Views.{input_of};
-ghost use Rattle.blake2_plain.specs.Arguments.{given_key, given_count, IsRefused};
+ghost use Rattle.blake2_plain.specs.Arguments.{given_key, given_count, IsRefusedState};
 ghost use Rattle.blake2_c.specs.Many.{AreCounted, IsRefusedMany, digests_of};
 ghost use Rattle.blake2_c.specs.Status.{Answers, IsTooLong};
 
@@ -37,7 +37,7 @@ fn input<'a>(key: &'a [u8], salt: &'a [u8], persona: &'a [u8], message: &'a [u8]
 
 // Writes the digest of one message at the beginning of `out`.
 fn write_one(out: &mut [u8], size: usize, key: &[u8], salt: &[u8], persona: &[u8], message: &[u8])
-    requires taken { ¬ IsRefused blake2b size key.now salt.now persona.now }
+    requires taken { ¬ IsRefusedState blake2b size key.now salt.now persona.now }
     requires counted { ¬ IsTooLong (given_count blake2b key.now) (length message.now) }
     requires room { size ≤ length out.old }
     ensures { out.new ≡ digest_of blake2b size salt.now persona.now (given_key key.now) message.now
@@ -63,7 +63,7 @@ fn write_next(
     persona: &[u8],
     messages: &[Text<'_>],
 ) -> usize
-    requires taken { ¬ IsRefused blake2b size key.now salt.now persona.now }
+    requires taken { ¬ IsRefusedState blake2b size key.now salt.now persona.now }
     requires counted { AreCounted blake2b key.now messages.now }
     requires some { 1 ≤ length messages.now }
     requires room { length messages.now * size ≤ length out.old }
@@ -134,7 +134,7 @@ fn write_all(
     persona: &[u8],
     messages: &[Text<'_>],
 )
-    requires taken { ¬ IsRefused blake2b size key.now salt.now persona.now }
+    requires taken { ¬ IsRefusedState blake2b size key.now salt.now persona.now }
     requires counted { AreCounted blake2b key.now messages.now }
     requires room { length out.old ≡ length messages.now * size }
     ensures { out.new ≡ digests_of blake2b size key.now salt.now persona.now messages.now }
