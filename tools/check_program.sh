@@ -1,24 +1,27 @@
 #!/usr/bin/env bash
 # Runs the program b2 as a shell does, and checks what no proof sees of `main`: that it hands on every
 # argument and the three streams, and ends with the status that the run answers. Then it holds each command
-# to the memory that docs/PROGRAM.md gives it.
+# to the memory that docs/PROGRAM.md gives it, and sees by a count of instructions that `tree` hashes four leaves at
+# once.
 #
 # usage: tools/check_program.sh [PROGRAM]
 #
 # PROGRAM is crates/b2/out/b2 where it is left out, which `rt ci` builds. Each check that fails is told
-# on standard error; the last line is 'N passed, M failed', and the status is 1 where one failed.
+# on standard error. valgrind counts the instructions: where it is absent these checks are skipped, each with a line.
+# The last line is 'N passed, M failed, K skipped', and the status is 1 where one failed.
 set -u
 top=$(dirname "$(dirname "$(readlink -f "$0")")")
 program=$(readlink -f "${1:-$top/crates/b2/out/b2}")
 if [ ! -x "$program" ]; then
     echo "tools/check_program.sh: no program stands at ${1:-$program}" >&2
-    echo "0 passed, 1 failed"
+    echo "0 passed, 1 failed, 0 skipped"
     exit 1
 fi
 room=$(mktemp -d)
 trap 'rm -rf "$room"' EXIT
 passed=0
 failed=0
+skipped=0
 
 # Counts a check of this name: the status, the output and the errors that the run left, against those
 # that are wanted. Standard error stays empty in every run.
@@ -342,5 +345,47 @@ else
 fi
 check_memory_of_witness
 
-echo "$passed passed, $failed failed"
+# ---- Four leaves at once, by a count of instructions.
+
+# How many of 100 instructions of the run that was counted are those of functions that hash several messages at once.
+share_at_once() {
+    awk '/^fn=/ { is_one = index($0, "fn=blake2_words::many::") == 1 }
+        /^calls=/ { getline; next }
+        /^[0-9]/ { all += $2; if (is_one) at_once += $2 }
+        END { print all ? int(100 * at_once / all) : 0 }' "$room/instructions"
+}
+
+# Checks a run of `tree` over so many zeros, of whose instructions LEAST in 100 are to be those that hash leaves at
+# once: no root tells whether they were.
+# usage: hashes_at_once LEAST BYTES ROOT LEAF
+hashes_at_once() {
+    local least=$1 leaf=$4 name="b2 tree b512 $4, of whose instructions $1 in 100 hash leaves at once" share status
+    if ! command -v valgrind >/dev/null; then
+        echo "skipped: $name (no valgrind)"
+        skipped=$((skipped + 1))
+        return
+    fi
+    take_zeros "$2"
+    rm -f "$room/instructions"
+    valgrind --tool=callgrind --compress-strings=no --compress-pos=no --callgrind-out-file="$room/instructions" \
+        --log-file="$room/log" "$program" tree b512 "$leaf" <"$room/input" >"$room/output" 2>"$room/errors"
+    status=$?
+    share=0
+    [ ! -s "$room/instructions" ] || share=$(share_at_once)
+    if [ "$share" -lt "$least" ]; then
+        fail "$name: $share"
+    else
+        ended "$name" "$status" 0 "$3"
+    fi
+}
+
+root_4k=688d8b10b8a9ea6806c037946b17b37e4b899862b02c00621b29c19c63c42e9d
+root_4k=${root_4k}b51f87dc042d0a84b7f00c481cdc5b4f2ed5deebad397e31a9a867cb78745152
+root_21=4fc8f357a4abb704ae8a666a865eea6211fb320885e40038df06aa75a0e78925
+root_21=${root_21}55687dbddb1f43db3188c250fca056b07870d3e78e50ea5998b45485d6d47d40
+# Pieces of 17 leaves, and of five, of which the fifth is closed alone.
+hashes_at_once 75 $((320 * 4096 + 1)) "$root_4k" 4096
+hashes_at_once 60 $((20 * 65536 + 1)) "$root_21" 65536
+
+echo "$passed passed, $failed failed, $skipped skipped"
 [ "$failed" -eq 0 ]

@@ -40,7 +40,7 @@ stand_in() {
     chmod +x "$1"
 }
 stand_in ./b2 ""
-stand_in tools/check_program.sh "5 passed, 0 failed"
+stand_in tools/check_program.sh "5 passed, 0 failed, 2 skipped"
 stand_in tools/check_b2.sh "6 passed, 0 failed"
 stand_in tools/check_quick.sh "4 passed, 0 failed"
 stand_in tools/check_pages.sh "7 passed, 0 failed"
@@ -80,6 +80,7 @@ holds "the lowest crate changed" calls "rt check in low" "rt check in middle" "r
 holds "each crate is counted" ends 0 "10 passed, 0 failed"
 holds "it says which crate stands on which" says "rt check in library, which stands on middle"
 holds "tests are counted" says "passed: rt test in vectors (3 passed; 0 failed)"
+holds "what a script skipped is told" says "passed: tools/check_program.sh out/b2-processor (5 passed, 0 failed, 2 skipped)"
 echo low >"$room/fails"
 quick
 holds "a refused crate fails" ends 1 "9 passed, 1 failed"
@@ -150,7 +151,7 @@ touch crates/b2/out/rlib/stamp
 whole
 holds "all parts" calls "${all[@]}"
 holds "the counts of all parts" ends 0 "50 passed, 0 failed"
-holds "what was skipped" says "1 tests were skipped, as the lines 'skipped: ..' above say"
+holds "what was skipped" says "3 tests were skipped, as the lines 'skipped: ..' above say"
 holds "the time of each part" timed
 holds "what rt ci left without a stamp goes" [ ! -e crates/low/out/rlib ]
 holds "what it left whole stays" [ -e crates/b2/out/rlib/stamp ]
@@ -170,12 +171,16 @@ echo repository >"$room/fails"
 whole
 holds "rt ci fails" ends 1 "30 passed, 1 failed"
 rm "$room/fails"
-stand_in tools/check_pages.sh "no counts"
-whole
-holds "a part without counts" ends 1 "43 passed, 1 failed"
-stand_in tools/check_pages.sh "5 passed, 2 failed"
-whole
-holds "failures are added" ends 1 "48 passed, 2 failed"
+for line in "5 passed, 2 failed, 1 skipped" "5 passed, 2 failed"; do
+    stand_in tools/check_pages.sh "$line"
+    whole
+    holds "a part that ends with '$line'" ends 1 "48 passed, 2 failed"
+done
+for line in "" "7 passed" "7 passed, 0 failed, 1 skip" "done: 7 passed, 0 failed"; do
+    stand_in tools/check_pages.sh "$line"
+    whole
+    holds "a part that ends with '$line'" ends 1 "43 passed, 1 failed"
+done
 undo
 ./test --other >"$room/output" 2>&1
 status=$?
