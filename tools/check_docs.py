@@ -167,14 +167,11 @@ def field_rows():
 
 def program_rows():
     """The rows that have the KINDs and the faults."""
-    names = {"Blake2b": "BLAKE2b", "Blake2s": "BLAKE2s"}
-    words = dict((case, word) for word, case in re.findall(
-        r'codes "([bs][0-9]+)"\) then Ok (Blake2[bs][0-9]+)', read("crates/b2_commands/specs/Words.antt")))
-    for case, size in (values(TASKS, "size_of") | values(TASKS, "compared_size")).items():
-        if case in words:
-            common = case in values(TASKS, "size_of")
-            taken = "all" if common and case.startswith("Blake2b") else "all but `tree`" if common else "`witness`"
-            yield f"| `{words[case]}` | {names[case[:7]]} | {size} | {taken} |"
+    words = read("crates/b2_commands/specs/Words.antt")
+    for name, of_b, of_s in (("kind_of", "all", "all but `tree`"), ("compared_kind_of", "`witness`", "`witness`")):
+        cases = re.search(rf"^{name} word =\n(.*?)\n\n", words, re.MULTILINE | re.DOTALL)[1]
+        for word, family, size in re.findall(r'codes "(\w+)"\) then Ok \(blake2([bs])_of ([0-9]+)\)', cases):
+            yield f"| `{word}` | BLAKE2{family} | {size} | {of_b if family == 'b' else of_s} |"
     texts, status = (values("crates/b2_commands/specs/Faults.antt", name) for name in ("fault_text", "status_of"))
     lines = values("crates/b2_commands/specs/Faults.antt", "line_number")
     for case, text in texts.items():

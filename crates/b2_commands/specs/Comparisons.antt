@@ -1,5 +1,5 @@
 -- What the program has read of the words of `witness`.
-use Rattle.b2_commands.specs.declared.witness.Comparison.{Comparison}
+use Rattle.b2_commands.specs.declared.comparison.Comparison.{Comparison}
 use Rattle.b2_commands.specs.Words.{Task}
 use Rattle.b2_commands.specs.Words.Task.{to_witness}
 

@@ -1,24 +1,28 @@
--- What is printed of a hash function or MAC.
-use Rattle.std.specs.Prelude.{ℕ, List, Option, Result}
-use Rattle.blake2.specs.Streams.{line_of}
-use Rattle.b2_commands.specs.declared.fault.Fault.{Fault}
-use Rattle.b2_commands.specs.declared.hash.Output.{Output}
-use Rattle.b2_commands.specs.declared.hash.Output.TheVariants.{Digest, Digests}
+-- What is printed of the input.
+use Rattle.std.specs.Prelude.{Bool, true, false, ◌&&◌, nat_lt}
+use Rattle.b2_commands.specs.declared.request.Output.{Output}
+use Rattle.b2_commands.specs.declared.request.Output.TheVariants.{Digest, Digests, Transcript, Root}
 use Rattle.b2_commands.specs.declared.words.Kind.{Kind}
-use Rattle.b2_commands.specs.Words.{Given, Task}
-use Rattle.b2_commands.specs.Words.Task.{to_sum, to_script}
-use Rattle.b2_commands.specs.Scripts.{script_digests}
-use Rattle.b2_commands.specs.Ends.{EndsBy, EndsByDigests}
+use Rattle.b2_commands.specs.Words.{Given, Task, is_blake2b, is_sized}
+use Rattle.b2_commands.specs.Words.Task.{to_sum, to_script, to_steps, to_tree}
 
 -- the task that prints it
-abbrev pub hash_task : Output → Kind → Given → Task
-hash_task Digest kind given = to_sum kind given
-hash_task Digests kind given = to_script kind given
+abbrev pub output_task : Output → Kind → Given → Task
+output_task Digest kind given = to_sum kind given
+output_task Digests kind given = to_script kind given
+output_task Transcript kind given = to_steps kind given
+output_task (Root leaf_length) kind given = to_tree kind leaf_length given
 
--- how the printing ends, where the digest of y is `digest y` and n bytes are counted at the start
-abbrev pub EndsFor : Output → (List ℕ → List ℕ) → ℕ → Result (Unit {0}) Fault → Option (List ℕ)
-    → Option (List ℕ) → Option (List ℕ) → Type 0
-EndsFor Digest digest n result left old new =
-    EndsBy (λ message. line_of (digest message)) n result left old new
-EndsFor Digests digest n result left old new =
-    EndsByDigests (script_digests digest n) result left old new
+-- whether the words of it may have a key: all but those of a root may
+abbrev pub takes_key : Output → Bool
+takes_key Digest = true
+takes_key Digests = true
+takes_key Transcript = true
+takes_key (Root leaf_length) = false
+
+-- whether it is printed of this kind: a root of BLAKE2b alone, with some bytes in a leaf
+abbrev pub is_taken : Output → Kind → Bool
+is_taken Digest kind = is_sized kind
+is_taken Digests kind = is_sized kind
+is_taken Transcript kind = is_sized kind
+is_taken (Root leaf_length) kind = is_sized kind && (is_blake2b kind.family && nat_lt 0 leaf_length)

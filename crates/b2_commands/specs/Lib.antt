@@ -7,6 +7,7 @@ pub mod Inputs
 pub mod Lines
 pub mod Options
 pub mod Reading
+pub mod Requests
 pub mod Scripts
 pub mod Tasks
 pub mod Trees

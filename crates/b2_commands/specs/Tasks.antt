@@ -1,66 +1,27 @@
 -- What the tasks of the program take and print.
-use Rattle.std.specs.Prelude.{◌≡◌, ℕ, ◌+◌, ◌<◌, ◌≤◌, ◌^◌, ◌⊎◌, ⊤, List, [], length, Option}
+use Rattle.std.specs.Prelude.{◌≡◌, ℕ, ◌+◌, ◌<◌, ◌≤◌, ◌^◌, ◌⊎◌, ⊤, Bool, List, [], length, Option}
 use Rattle.std.specs.Prelude.{unwrap_or, IfSome, Result, Err, IsOkAnd}
 use Rattle.std.specs.List.{flat_map}
 use Rattle.std.specs.Io.KnownBytes.{Appends}
 use Rattle.blake2.specs.Family.{Family, blake2b, blake2s}
-use Rattle.blake2.specs.Hash.{Input}
+use Rattle.blake2.specs.Hash.{Input, sequential}
 use Rattle.blake2.specs.Keys.{key_count, IsRefused}
-use Rattle.blake2.specs.States.{digest_of, input as input_of_parts}
+use Rattle.blake2.specs.States.{digest_of, node_digest_of, input as input_of_parts}
 use Rattle.blake2.specs.Streams.{line_of}
 use Rattle.blake2_tree.specs.TreeRoot.{tree_parameters, tree_root}
 use Rattle.b2_commands.specs.declared.fault.Fault.{Fault}
-use Rattle.b2_commands.specs.declared.words.Kind.{Kind}
-use Rattle.b2_commands.specs.declared.words.Kind.TheVariants.{Blake2b128, Blake2b256, Blake2b512}
-use Rattle.b2_commands.specs.declared.words.Kind.TheVariants.{Blake2s128, Blake2s256}
-use Rattle.b2_commands.specs.declared.tree_request.TreeKind.{TreeKind}
-use Rattle.b2_commands.specs.declared.tree_request.TreeKind.TheVariants as tree
-use Rattle.b2_commands.specs.declared.witness.WitnessKind.{WitnessKind}
-use Rattle.b2_commands.specs.declared.witness.WitnessKind.TheVariants.{Common, Blake2b0, Blake2b8}
-use Rattle.b2_commands.specs.declared.witness.WitnessKind.TheVariants.{Blake2s0, Blake2s8}
+use Rattle.b2_commands.specs.declared.words.Family.{Family as FamilyNamed}
+use Rattle.b2_commands.specs.declared.words.Family.TheVariants.{Blake2b, Blake2s}
 use Rattle.b2_commands.specs.Words.{Given, nothing_given, Task}
 use Rattle.b2_commands.specs.Words.Task.{to_sum, to_script, to_steps, to_witness, to_tree}
 use Rattle.b2_commands.specs.Lines.{transcript_lines}
 use Rattle.b2_commands.specs.Scripts.{script_digests}
 use Rattle.b2_commands.specs.Witnesses.{PrintsWitness}
 
--- the family of a kind
-abbrev pub family_of : Kind → Family
-family_of Blake2b128 = blake2b
-family_of Blake2b256 = blake2b
-family_of Blake2b512 = blake2b
-family_of Blake2s128 = blake2s
-family_of Blake2s256 = blake2s
-
--- the bytes of a kind's digest
-abbrev pub size_of : Kind → ℕ
-size_of Blake2b128 = 16
-size_of Blake2b256 = 32
-size_of Blake2b512 = 64
-size_of Blake2s128 = 16
-size_of Blake2s256 = 32
-
--- the family of a kind of `witness`
-abbrev pub compared_family : WitnessKind → Family
-compared_family (Common kind) = family_of kind
-compared_family Blake2b0 = blake2b
-compared_family Blake2b8 = blake2b
-compared_family Blake2s0 = blake2s
-compared_family Blake2s8 = blake2s
-
--- the bytes of its digests
-abbrev pub compared_size : WitnessKind → ℕ
-compared_size (Common kind) = size_of kind
-compared_size Blake2b0 = 0
-compared_size Blake2b8 = 1
-compared_size Blake2s0 = 0
-compared_size Blake2s8 = 1
-
--- the bytes of a root of `tree`
-abbrev pub root_size : TreeKind → ℕ
-root_size tree.Blake2b128 = 16
-root_size tree.Blake2b256 = 32
-root_size tree.Blake2b512 = 64
+-- the family that a kind names
+abbrev pub family_of : FamilyNamed → Family
+family_of Blake2b = blake2b
+family_of Blake2s = blake2s
 
 -- a key, a salt or a persona that is given has a length that the family does not take
 abbrev pub IsRefusedBy : Family → Given → Type 0
@@ -78,7 +39,12 @@ root_with n leaf_length given message =
     (tree_parameters (unwrap_or given.salt []) (unwrap_or given.persona []) leaf_length) message
 
 -- BLAKE2 of n bytes with the salt, the persona and the key that are given, as a function of the
--- message
+-- last-node flag and the message
+abbrev pub node_digest_with : Family → ℕ → Given → Bool → List ℕ → List ℕ
+node_digest_with f n given =
+    node_digest_of f n (unwrap_or given.salt []) (unwrap_or given.persona []) given.key sequential
+
+-- the same as a function of the message alone
 abbrev pub digest_with : Family → ℕ → Given → List ℕ → List ℕ
 digest_with f n given message =
     digest_of f n (unwrap_or given.salt []) (unwrap_or given.persona []) given.key message
@@ -90,9 +56,9 @@ input_with given message =
 
 -- a task has a key, a salt or a persona of a length that is not taken
 abbrev pub IsRefusedTask : Task → Type 0
-IsRefusedTask (to_sum kind given) = IsRefusedBy (family_of kind) given
-IsRefusedTask (to_script kind given) = IsRefusedBy (family_of kind) given
-IsRefusedTask (to_steps kind given) = IsRefusedBy (family_of kind) given
+IsRefusedTask (to_sum kind given) = IsRefusedBy (family_of kind.family) given
+IsRefusedTask (to_script kind given) = IsRefusedBy (family_of kind.family) given
+IsRefusedTask (to_steps kind given) = IsRefusedBy (family_of kind.family) given
 IsRefusedTask (to_witness kind a b) = ⊥
 IsRefusedTask (to_tree kind leaf_length given) = IsRefusedByTree given
 
@@ -103,9 +69,9 @@ IsTooLongBy f given input = 2 ^ 64 ≤ key_count f given.key + length input
 -- so they would be for a task. A script counts the bytes of each slot, `witness` reads no input,
 -- and a tree takes fewer than 2^58 bytes
 abbrev pub IsTooLongFor : Task → List ℕ → Type 0
-IsTooLongFor (to_sum kind given) input = IsTooLongBy (family_of kind) given input
+IsTooLongFor (to_sum kind given) input = IsTooLongBy (family_of kind.family) given input
 IsTooLongFor (to_script kind given) input = ⊥
-IsTooLongFor (to_steps kind given) input = IsTooLongBy (family_of kind) given input
+IsTooLongFor (to_steps kind given) input = IsTooLongBy (family_of kind.family) given input
 IsTooLongFor (to_witness kind a b) input = ⊥
 IsTooLongFor (to_tree kind leaf_length given) input = 2 ^ 58 ≤ length input
 
@@ -125,26 +91,26 @@ script_answer f n given script =
 -- a script has this fault
 abbrev pub IsFaultOfScript : Fault → Task → List ℕ → Type 0
 IsFaultOfScript fault (to_script kind given) input =
-    script_answer (family_of kind) (size_of kind) given input ≡ Err fault
+    script_answer (family_of kind.family) kind.bytes given input ≡ Err fault
 IsFaultOfScript fault task input = ⊥
 
 -- a sink took the output of a task over what a source had left; `witness` reads no input
 abbrev pub Outputs : Task → Option (List ℕ) → Option (List ℕ) → Option (List ℕ) → Type 0
 Outputs (to_sum kind given) left old new =
     IfSome left (λ input. Appends old new
-    (line_of (digest_with (family_of kind) (size_of kind) given input)))
+    (line_of (digest_with (family_of kind.family) kind.bytes given input)))
 Outputs (to_script kind given) left old new =
-    IfSome left (λ input. IsOkAnd (script_answer (family_of kind) (size_of kind) given input)
+    IfSome left (λ input. IsOkAnd (script_answer (family_of kind.family) kind.bytes given input)
     (λ digests. Appends old new (flat_map line_of digests)))
 Outputs (to_steps kind given) left old new =
     IfSome left (λ input.
-    Appends old new (transcript_lines (family_of kind) (size_of kind) (input_with given input)))
+    Appends old new (transcript_lines (family_of kind.family) kind.bytes (input_with given input)))
 Outputs (to_witness kind a b) left old new =
-    PrintsWitness (compared_family kind) (compared_size kind)
+    PrintsWitness (family_of kind.family) kind.bytes
     (input_with nothing_given a) (input_with nothing_given b) old new
 Outputs (to_tree kind leaf_length given) left old new =
     IfSome left (λ input. Appends old new
-    (line_of (root_with (root_size kind) leaf_length given input)))
+    (line_of (root_with kind.bytes leaf_length given input)))
 
 -- a task was done: it is not refused, the input that a source had left is not too long for it, and
 -- a sink took the whole output

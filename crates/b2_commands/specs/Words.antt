@@ -1,6 +1,6 @@
 -- What the words of the command line ask for. They are looked at from left to right, and the first
 -- fault is the answer.
-use Rattle.std.specs.Prelude.{◌≡◌, ⊤, ℕ, ◌^◌, ◌==◌, ◌&&◌, not, nat_lt, Bool, true, false}
+use Rattle.std.specs.Prelude.{◌≡◌, ⊤, ℕ, ◌^◌, ◌==◌, ◌&&◌, ◌||◌, not, nat_lt, Bool, true, false}
 use Rattle.std.specs.Prelude.{if◌then◌else◌, List, [], ◌∷◌, length, slice_index, codes, Option}
 use Rattle.std.specs.Prelude.{Some, None, is_some, position, Result, Ok, Err}
 use Rattle.std.specs.Char.{is_ascii_digit}
@@ -9,14 +9,9 @@ use Rattle.std.specs.Result.{result_map_both}
 use Rattle.std.specs.Str.{bytes_eq}
 use Rattle.std.specs.Str.Parse.{digits_value}
 use Rattle.hex.specs.Hex.{decode_of}
+use Rattle.b2_commands.specs.declared.words.Family.{Family}
+use Rattle.b2_commands.specs.declared.words.Family.TheVariants.{Blake2b, Blake2s}
 use Rattle.b2_commands.specs.declared.words.Kind.{Kind}
-use Rattle.b2_commands.specs.declared.words.Kind.TheVariants.{Blake2b128, Blake2b256, Blake2b512}
-use Rattle.b2_commands.specs.declared.words.Kind.TheVariants.{Blake2s128, Blake2s256}
-use Rattle.b2_commands.specs.declared.tree_request.TreeKind.{TreeKind}
-use Rattle.b2_commands.specs.declared.tree_request.TreeKind.TheVariants as tree
-use Rattle.b2_commands.specs.declared.witness.WitnessKind.{WitnessKind}
-use Rattle.b2_commands.specs.declared.witness.WitnessKind.TheVariants.{Common, Blake2b0, Blake2b8}
-use Rattle.b2_commands.specs.declared.witness.WitnessKind.TheVariants.{Blake2s0, Blake2s8}
 use Rattle.b2_commands.specs.declared.fault.Fault.{Fault}
 use Rattle.b2_commands.specs.declared.fault.Fault.TheVariants.{WrongWords, WrongHex, NoMemory}
 
@@ -32,36 +27,53 @@ IsReadingFault WrongHex expected = expected ≡ Err WrongHex
 IsReadingFault NoMemory expected = ⊤
 IsReadingFault fault expected = ⊥
 
+-- the kinds of BLAKE2b and of BLAKE2s whose digests have n bytes
+abbrev pub blake2b_of : ℕ → Kind
+blake2b_of n = record { family = Blake2b; bytes = n }
+
+abbrev pub blake2s_of : ℕ → Kind
+blake2s_of n = record { family = Blake2s; bytes = n }
+
 -- the kind that a word names
 abbrev pub kind_of : List ℕ → Result Kind Fault
 kind_of word =
-    if bytes_eq word (codes "b128") then Ok Blake2b128
-    else if bytes_eq word (codes "b256") then Ok Blake2b256
-    else if bytes_eq word (codes "b512") then Ok Blake2b512
-    else if bytes_eq word (codes "s128") then Ok Blake2s128
-    else if bytes_eq word (codes "s256") then Ok Blake2s256
+    if bytes_eq word (codes "b128") then Ok (blake2b_of 16)
+    else if bytes_eq word (codes "b256") then Ok (blake2b_of 32)
+    else if bytes_eq word (codes "b512") then Ok (blake2b_of 64)
+    else if bytes_eq word (codes "s128") then Ok (blake2s_of 16)
+    else if bytes_eq word (codes "s256") then Ok (blake2s_of 32)
     else Err WrongWords
+
+-- whether a family is BLAKE2b
+abbrev pub is_blake2b : Family → Bool
+is_blake2b Blake2b = true
+is_blake2b Blake2s = false
+
+-- whether a kind is one of these
+abbrev pub is_sized : Kind → Bool
+is_sized kind =
+    (kind.bytes == 16) || ((kind.bytes == 32) || (is_blake2b kind.family && (kind.bytes == 64)))
 
 -- the bytes of HEX: an even number of hexadecimal digits of either case, perhaps none
 abbrev pub hex_value : List ℕ → Result (List ℕ) Fault
 hex_value digits = result_map_both (λ bytes. bytes) (λ _. WrongHex) (decode_of digits)
 
 -- the kind of digests that `witness` compares, which a word names
-abbrev pub witness_kind_of : List ℕ → Result WitnessKind Fault
-witness_kind_of word =
-    if bytes_eq word (codes "b0") then Ok Blake2b0
-    else if bytes_eq word (codes "b8") then Ok Blake2b8
-    else if bytes_eq word (codes "s0") then Ok Blake2s0
-    else if bytes_eq word (codes "s8") then Ok Blake2s8
-    else and_then (kind_of word) (λ kind. Ok (Common kind))
+abbrev pub compared_kind_of : List ℕ → Result Kind Fault
+compared_kind_of word =
+    if bytes_eq word (codes "b0") then Ok (blake2b_of 0)
+    else if bytes_eq word (codes "b8") then Ok (blake2b_of 1)
+    else if bytes_eq word (codes "s0") then Ok (blake2s_of 0)
+    else if bytes_eq word (codes "s8") then Ok (blake2s_of 1)
+    else kind_of word
+
+-- a kind of BLAKE2b, of which alone there are trees
+abbrev pub tree_kind : Kind → Result Kind Fault
+tree_kind kind = if is_blake2b kind.family then Ok kind else Err WrongWords
 
 -- the kind of root that `tree` prints, which a word names
-abbrev pub tree_kind_of : List ℕ → Result TreeKind Fault
-tree_kind_of word =
-    if bytes_eq word (codes "b128") then Ok tree.Blake2b128
-    else if bytes_eq word (codes "b256") then Ok tree.Blake2b256
-    else if bytes_eq word (codes "b512") then Ok tree.Blake2b512
-    else Err WrongWords
+abbrev pub tree_kind_of : List ℕ → Result Kind Fault
+tree_kind_of word = and_then (kind_of word) tree_kind
 
 -- whether a word is a number of 1 to 2^32 - 1, in decimal digits without a leading zero (48)
 abbrev pub is_leaf_length : List ℕ → Bool
@@ -129,9 +141,9 @@ pub data Task : Type 0 where
   -- `steps KIND [key=HEX] [salt=HEX] [persona=HEX]`
   to_steps : Kind → Given → Task
   -- `witness KIND HEX HEX`
-  to_witness : WitnessKind → List ℕ → List ℕ → Task
+  to_witness : Kind → List ℕ → List ℕ → Task
   -- `tree KIND LEAF [salt=HEX] [persona=HEX]`
-  to_tree : TreeKind → ℕ → Given → Task
+  to_tree : Kind → ℕ → Given → Task
 
 -- the task of the words behind a command's name, KIND and what is given
 abbrev pub given_task : (Kind → Given → Task) → List (List ℕ) → Result Task Fault
@@ -141,24 +153,24 @@ given_task to (kind ∷ words) =
     (λ k. and_then (with_words true nothing_given words) (λ given. Ok (to k given)))
 
 -- the task of the words behind `witness`, where the kind and the messages before them are told
-abbrev pub rest_task : WitnessKind → List ℕ → List ℕ → List (List ℕ) → Result Task Fault
+abbrev pub rest_task : Kind → List ℕ → List ℕ → List (List ℕ) → Result Task Fault
 rest_task kind a b [] = Ok (to_witness kind a b)
 rest_task kind a b (word ∷ words) = Err WrongWords
 
-abbrev pub second_task : WitnessKind → List ℕ → List (List ℕ) → Result Task Fault
+abbrev pub second_task : Kind → List ℕ → List (List ℕ) → Result Task Fault
 second_task kind a [] = Err WrongWords
 second_task kind a (word ∷ words) = and_then (message_value word) (λ b. rest_task kind a b words)
 
-abbrev pub first_task : WitnessKind → List (List ℕ) → Result Task Fault
+abbrev pub first_task : Kind → List (List ℕ) → Result Task Fault
 first_task kind [] = Err WrongWords
 first_task kind (word ∷ words) = and_then (message_value word) (λ a. second_task kind a words)
 
 abbrev pub witness_task : List (List ℕ) → Result Task Fault
 witness_task [] = Err WrongWords
-witness_task (word ∷ words) = and_then (witness_kind_of word) (λ kind. first_task kind words)
+witness_task (word ∷ words) = and_then (compared_kind_of word) (λ kind. first_task kind words)
 
 -- the task of the words behind `tree`, and of those behind its KIND
-abbrev pub leaf_task : TreeKind → List (List ℕ) → Result Task Fault
+abbrev pub leaf_task : Kind → List (List ℕ) → Result Task Fault
 leaf_task kind [] = Err WrongWords
 leaf_task kind (leaf ∷ words) =
     and_then (leaf_value leaf)

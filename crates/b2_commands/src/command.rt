@@ -3,37 +3,27 @@
 ghost use Rattle.std.specs.Prelude.{◌≡◌, ◌≢◌, ◌<◌, ◌≤◌, false, length, map, IsTrue, IfOk, IfErr};
 ghost use Rattle.std.specs.Prelude.{IsOkAnd};
 ghost use Rattle.std.specs.String.{string_bytes};
-ghost use Rattle.b2_commands.specs.declared.words.Kind.{Kind};
-ghost use Rattle.b2_commands.specs.Words.{Given, Task, given_task, task_of, IsReadingFault};
-ghost use Rattle.b2_commands.specs.Options.{given_of};
+ghost use Rattle.b2_commands.specs.Words.{task_of, IsReadingFault};
 ghost use Rattle.b2_commands.specs.Tasks.{IsDone};
 ghost use Rattle.b2_commands.specs.Faults.{IsTold};
 ghost use Rattle.b2_commands.specs.Commands.{command_task};
 ghost use Rattle.b2_commands.specs.Ends.{EndsTask};
 
+use crate::comparison::Comparison;
 use crate::fault::Fault;
-use crate::hash::{Output, hash};
-use crate::steps::steps;
-use crate::tree::tree;
-use crate::tree_request::TreeRequest;
-use crate::witness::{Comparison, witness};
-use crate::words::{Kind, Options};
+use crate::hash::hash;
+use crate::request::{Output, Request};
+use crate::witness::witness;
 use blake2::engine::{Sink, Source};
 use std::alloc::Global;
 
 /// What the words ask for.
 #[derive(Drop)]
 enum Command {
-    /// `sum KIND [key=HEX] [salt=HEX] [persona=HEX]`: the digest of the input.
-    Sum(Kind, Options),
-    /// `script KIND [key=HEX] [salt=HEX] [persona=HEX]`: the digests that the input's calls answer.
-    Script(Kind, Options),
-    /// `steps KIND [key=HEX] [salt=HEX] [persona=HEX]`: the transcript of the input.
-    Steps(Kind, Options),
-    /// `witness KIND HEX HEX`: the pair of steps that two messages with one digest come to.
-    Witness(Comparison),
-    /// `tree KIND LEAF [salt=HEX] [persona=HEX]`: the root of a tree of hashes over the input.
-    Tree(TreeRequest),
+    /// `sum`, `script`, `steps` or `tree`.
+    Hash(Request),
+    /// `witness`.
+    Compare(Comparison),
 }
 
 impl Command {
@@ -49,38 +39,14 @@ impl Command {
             return Err(Fault::WrongWords);
         };
         match command.as_str() {
-            "sum" => {
-                let (kind, options) = kind_and_options(alloc, words)?;
-                Ok(Command::Sum(kind, options))
-            }
-            "script" => {
-                let (kind, options) = kind_and_options(alloc, words)?;
-                Ok(Command::Script(kind, options))
-            }
-            "steps" => {
-                let (kind, options) = kind_and_options(alloc, words)?;
-                Ok(Command::Steps(kind, options))
-            }
-            "witness" => Ok(Command::Witness(Comparison::from_words(alloc, words)?)),
-            "tree" => Ok(Command::Tree(TreeRequest::from_words(alloc, words)?)),
+            "sum" => Ok(Command::Hash(Request::from_words(alloc, Output::Digest, words)?)),
+            "script" => Ok(Command::Hash(Request::from_words(alloc, Output::Digests, words)?)),
+            "steps" => Ok(Command::Hash(Request::from_words(alloc, Output::Transcript, words)?)),
+            "witness" => Ok(Command::Compare(Comparison::from_words(alloc, words)?)),
+            "tree" => Ok(Command::Hash(Request::of_tree(alloc, words)?)),
             _ => Err(Fault::WrongWords),
         }
     }
-}
-
-// The KIND that the words begin with, and the options behind it.
-fn kind_and_options(alloc: Global, words: &[String]) -> Result<(Kind, Options), Fault>
-    ensures read { IfOk result (λ read. (to : Kind → Given → Task)
-        → given_task to (map string_bytes words.now) ≡ Ok (to read.0 (given_of read.1))) }
-    ensures fault { IfErr result (λ fault. (to : Kind → Given → Task)
-        → IsReadingFault fault (given_task to (map string_bytes words.now))) }
-    ensures memory { result ≡ Err Fault.NoMemory → 1 < length words.now }
-{
-    let Some((kind, words)) = words.split_first() else {
-        return Err(Fault::WrongWords);
-    };
-    let kind = Kind::from_word(kind.as_str())?;
-    Ok((kind, Options::from_words(alloc, true, words)?))
 }
 
 /// Does what the words say, without the program's name, to the source and the sink, and answers the
@@ -122,12 +88,7 @@ fn execute<S: Source, K: Sink>(
         (S.failed source.new) (K.failed sink.new) (K.held sink.old) (K.held sink.new) }
 {
     match command {
-        Command::Sum(kind, options) => { hash(alloc, Output::Digest, kind, &options, source, sink) }
-        Command::Script(kind, options) => {
-            hash(alloc, Output::Digests, kind, &options, source, sink)
-        }
-        Command::Steps(kind, options) => steps(alloc, kind, &options, source, sink),
-        Command::Witness(comparison) => witness(alloc, &comparison, sink),
-        Command::Tree(request) => tree(alloc, &request, source, sink),
+        Command::Hash(request) => hash(alloc, &request, source, sink),
+        Command::Compare(comparison) => witness(alloc, &comparison, sink),
     }
 }

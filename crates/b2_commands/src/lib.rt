@@ -4,16 +4,17 @@
 #![tactic(auto)]
 
 mod command;
+mod comparison;
 mod fault;
 mod hash;
 mod input;
 mod lines;
 mod print;
+mod request;
 mod script;
 mod steps;
 mod sum;
 mod tree;
-mod tree_request;
 mod witness;
 mod words;
 

@@ -7,46 +7,25 @@ ghost use Rattle.std.specs.Io.KnownBytes.{Appends};
 ghost use Rattle.blake2.specs.Family.{blake2b, blake2s};
 ghost use Rattle.blake2.specs.Keys.{key_count};
 ghost use Rattle.blake2.specs.Views.{entry_of, entries_of, input_of, key_of};
-ghost use Rattle.b2_commands.specs.Words.Task.{to_steps};
 ghost use Rattle.b2_commands.specs.Options.{given_of};
 ghost use Rattle.b2_commands.specs.Tasks.{input_with, IsRefusedBy};
-ghost use Rattle.b2_commands.specs.Ends.{EndsBy, EndsTask};
+ghost use Rattle.b2_commands.specs.Ends.{EndsBy};
 ghost use Rattle.b2_commands.specs.Inputs.{IsKeyOfBytes, IsOfBytes};
 ghost use Rattle.b2_commands.specs.Lines.{entry_line, words_line, transcript_lines};
 
 use crate::fault::Fault;
 use crate::input::{read_all, tell_bytes};
 use crate::print::Line;
-use crate::words::{Kind, Options};
+use crate::words::Options;
 use blake2::engine::{Sink, Source};
 use blake2::steps::{Entry, Input, Transcript, Tree};
 use blake2::{Blake2bVarCore, Blake2sVarCore};
 use std::alloc::Global;
 
-/// Prints the transcript of what the source gives: its parameter words, and then a line for each
-/// entry. The whole input is held in memory, and its transcript, of about as many bytes, beside it.
-pub(crate) fn steps<S: Source, K: Sink>(
-    alloc: Global,
-    kind: Kind,
-    options: &Options,
-    source: &mut S,
-    sink: &mut K,
-) -> Result<(), Fault>
-    requires source { S.failed source.old ≡ false }
-    requires sink { K.failed sink.old ≡ false }
-    ensures { EndsTask (to_steps kind (given_of options.now)) result (S.left source.old)
-        (S.failed source.new) (K.failed sink.new) (K.held sink.old) (K.held sink.new) }
-{
-    match kind {
-        Kind::Blake2b128 => steps_blake2b(alloc, options, 16, source, sink),
-        Kind::Blake2b256 => steps_blake2b(alloc, options, 32, source, sink),
-        Kind::Blake2b512 => steps_blake2b(alloc, options, 64, source, sink),
-        Kind::Blake2s128 => steps_blake2s(alloc, options, 16, source, sink),
-        Kind::Blake2s256 => steps_blake2s(alloc, options, 32, source, sink),
-    }
-}
-
-fn steps_blake2b<S: Source, K: Sink>(
+/// Prints the transcript of what the source gives under BLAKE2b: its parameter words, and then a
+/// line for each entry. The whole input is held in memory, and its transcript, of about as many
+/// bytes, beside it.
+pub(crate) fn steps_blake2b<S: Source, K: Sink>(
     alloc: Global,
     options: &Options,
     output_size: usize,
@@ -91,7 +70,8 @@ fn print_blake2b<K: Sink>(transcript: &Transcript<u64, 128>, sink: &mut K) -> Re
     print_entries(transcript.entries.as_slice(), sink)
 }
 
-fn steps_blake2s<S: Source, K: Sink>(
+/// The same of BLAKE2s.
+pub(crate) fn steps_blake2s<S: Source, K: Sink>(
     alloc: Global,
     options: &Options,
     output_size: usize,

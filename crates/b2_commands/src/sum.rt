@@ -1,8 +1,8 @@
 //! `b2 sum`: the digest of the input.
 
-ghost use Rattle.std.specs.Prelude.{◌≡◌, ◌≢◌, ◌≤◌, ◌↔◌, false, IsTrue};
+ghost use Rattle.std.specs.Prelude.{◌≡◌, ◌≢◌, ◌≤◌, ◌↔◌, ℕ, Bool, List, false, IsTrue};
 ghost use Rattle.std.specs.Result.{IsErrOf};
-ghost use Rattle.blake2.specs.States.{digest_after};
+ghost use Rattle.blake2.specs.States.{Fresh};
 ghost use Rattle.blake2.specs.Streams.{line_of};
 ghost use Rattle.b2_commands.specs.Ends.{EndsBy};
 
@@ -10,7 +10,8 @@ use crate::fault::Fault;
 use blake2::digest::FixedOutput;
 use blake2::engine::{Sink, Source, StreamFault, hash_stream};
 
-/// Prints the hasher's digest of what the source gives, as a line. It takes no memory.
+/// Prints the digest of what the source gives, as a line, with a hasher that has taken nothing yet.
+/// It takes no memory.
 pub(crate) fn sum<H, S, K, const N: usize>(
     hasher: H,
     source: &mut S,
@@ -27,9 +28,9 @@ where
     ensures read { IsErrOf result Fault.ReadFailed ↔ IsTrue (S.failed source.new) }
     ensures write { IsErrOf result Fault.WriteFailed ↔ IsTrue (K.failed sink.new) }
     ensures memory { result ≢ Err Fault.NoMemory }
-    ensures ends { EndsBy (λ message. line_of (digest_after H.meaning hasher message))
-        (H.meaning.count hasher) result
-        (S.left source.old) (K.held sink.old) (K.held sink.new) }
+    ensures ends { (digest : Bool → List ℕ → List ℕ) (n : ℕ) → Fresh H.meaning digest n hasher
+        → EndsBy (λ message. line_of (digest false message)) n result (S.left source.old)
+        (K.held sink.old) (K.held sink.new) }
 {
     match hash_stream(source, sink, hasher) {
         Ok(_) => Ok(()),

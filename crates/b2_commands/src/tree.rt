@@ -8,68 +8,49 @@ ghost use Rattle.blake2.specs.Streams.{line_of};
 ghost use Rattle.blake2_tree.specs.TreeHashers.{count, Took};
 ghost use Rattle.b2_commands.specs.declared.fault.Fault.TheVariants.{ReadFailed, TooLong};
 ghost use Rattle.b2_commands.specs.declared.fault.Fault.TheVariants.{WriteFailed};
-ghost use Rattle.b2_commands.specs.Ends.{EndsTask};
 ghost use Rattle.b2_commands.specs.Options.{given_of};
 ghost use Rattle.b2_commands.specs.Tasks.{IsRefusedByTree, root_with};
-ghost use Rattle.b2_commands.specs.Trees.{request_task, IsFaultOfTree};
+ghost use Rattle.b2_commands.specs.Trees.{IsFaultOfTree};
 
 use crate::fault::Fault;
 use crate::print::Line;
-use crate::tree_request::{TreeKind, TreeRequest};
+use crate::words::Options;
 use blake2::engine::{Sink, Source};
 use blake2_tree::{LABEL_BYTES, MESSAGE_LIMIT, TreeHasher, best_piece_length};
 use std::alloc::Global;
 
-/// Prints the root of what the source gives, as a line. It reads the source in pieces, and takes
-/// memory for one.
-pub(crate) fn tree<S: Source, K: Sink>(
+/// Prints the root of N bytes of what the source gives, as a line. It reads the source in pieces,
+/// and takes memory for one.
+pub(crate) fn tree<S: Source, K: Sink, const N: usize>(
     alloc: Global,
-    request: &TreeRequest,
-    source: &mut S,
-    sink: &mut K,
-) -> Result<(), Fault>
-    requires source { S.failed source.old ≡ false }
-    requires sink { K.failed sink.old ≡ false }
-    ensures { EndsTask (request_task request.now) result (S.left source.old)
-        (S.failed source.new) (K.failed sink.new) (K.held sink.old) (K.held sink.new) }
-{
-    match request.kind {
-        TreeKind::Blake2b128 => print_root::<S, K, 16>(alloc, request, source, sink),
-        TreeKind::Blake2b256 => print_root::<S, K, 32>(alloc, request, source, sink),
-        TreeKind::Blake2b512 => print_root::<S, K, 64>(alloc, request, source, sink),
-    }
-}
-
-// Prints the root in N bytes.
-fn print_root<S: Source, K: Sink, const N: usize>(
-    alloc: Global,
-    request: &TreeRequest,
+    leaf_length: u32,
+    options: &Options,
     source: &mut S,
     sink: &mut K,
 ) -> Result<(), Fault>
     requires size { N ≤ 64 }
+    requires leaf { 1 ≤ leaf_length }
     requires source { S.failed source.old ≡ false }
     requires sink { K.failed sink.old ≡ false }
-    ensures length { IsErrOf result Fault.WrongLength
-        ↔ IsRefusedByTree (given_of request.now.options) }
+    ensures length { IsErrOf result Fault.WrongLength ↔ IsRefusedByTree (given_of options.now) }
     ensures read { IsErrOf result Fault.ReadFailed ↔ IsTrue (S.failed source.new) }
     ensures write { IsErrOf result Fault.WriteFailed ↔ IsTrue (K.failed sink.new) }
     ensures root { OnOk result (IfSome (S.left source.old) (λ message. (length message < 2 ^ 58)
         × Appends (K.held sink.old) (K.held sink.new) (line_of
-        (root_with N request.now.leaf_length (given_of request.now.options) message)))) }
+        (root_with N leaf_length (given_of options.now) message)))) }
     ensures too_long { IsErrOf result Fault.TooLong
         → IfSome (S.left source.old) (λ message. 2 ^ 58 ≤ length message) }
     ensures fault { IfErr result IsFaultOfTree }
     ensures unprinted { IfErr result (λ fault. fault ≢ WriteFailed
         → Keeps (K.held sink.old) (K.held sink.new)) }
 {
-    let salt = request.options.salt();
-    let persona = request.options.persona();
+    let salt = options.salt();
+    let persona = options.persona();
     if salt.len() > LABEL_BYTES || persona.len() > LABEL_BYTES {
         return Err(Fault::WrongLength);
     }
-    let mut piece = vec![in alloc; 0u8; best_piece_length(request.leaf_length)]?;
-    let mut hasher = TreeHasher::<N>::new(salt, persona, request.leaf_length);
+    let mut piece = vec![in alloc; 0u8; best_piece_length(leaf_length)]?;
+    let mut hasher = TreeHasher::<N>::new(salt, persona, leaf_length);
     absorb(source, piece.as_mut_slice(), &mut hasher)?;
     let mut line = Line::new();
     line.push_hex(&hasher.finalize());

@@ -1,8 +1,9 @@
 //! The words of the command line, read from left to right.
 
-ghost use Rattle.std.specs.Prelude.{◌≡◌, ◌<◌, ◌↔◌, [], length, map, unwrap_or, IsTrue, IfOk, IfErr};
+ghost use Rattle.std.specs.Prelude.{◌≡◌, ◌<◌, ◌≤◌, [], length, map, unwrap_or, IsTrue, IfOk, IfErr};
 ghost use Rattle.std.specs.Prelude.{OnOk};
 ghost use Rattle.std.specs.String.{string_bytes};
+ghost use Rattle.blake2.specs.Family.{output_bytes};
 ghost use Rattle.blake2.specs.Views.{key_of};
 ghost use Rattle.b2_commands.specs.Words.{hex_value, message_value, IsReadingFault};
 
@@ -10,35 +11,76 @@ use crate::fault::Fault;
 use hex::FromHexError;
 use std::alloc::Global;
 
-/// The hash function of a command, named by its KIND: the family and the size of the digest.
-#[derive(Clone, Copy, Debug, PartialEq, Eq)]
-pub(crate) enum Kind {
-    /// `b128`: BLAKE2b with 16 bytes.
-    Blake2b128,
-    /// `b256`: BLAKE2b with 32 bytes.
-    Blake2b256,
-    /// `b512`: BLAKE2b with 64 bytes.
-    Blake2b512,
-    /// `s128`: BLAKE2s with 16 bytes.
-    Blake2s128,
-    /// `s256`: BLAKE2s with 32 bytes.
-    Blake2s256,
+/// A family of BLAKE2.
+#[derive(Clone, Copy)]
+pub(crate) enum Family {
+    /// BLAKE2b, with digests of up to 64 bytes.
+    Blake2b,
+    /// BLAKE2s, with digests of up to 32 bytes.
+    Blake2s,
+}
+
+/// The hash function of a command, named by its KIND.
+#[derive(Clone, Copy)]
+pub(crate) struct Kind {
+    pub(crate) family: Family,
+    /// The bytes of a digest.
+    pub(crate) bytes: usize,
 }
 
 impl Kind {
-    ghost use Rattle.b2_commands.specs.Words.{kind_of};
+    ghost use Rattle.b2_commands.specs.Tasks.{family_of};
+    ghost use Rattle.b2_commands.specs.Words.{blake2b_of, blake2s_of, kind_of, compared_kind_of};
+    ghost use Rattle.b2_commands.specs.Words.{is_sized};
+
+    // BLAKE2b with digests of so many bytes.
+    fn blake2b(bytes: usize) -> Kind
+        ensures { result ≡ blake2b_of bytes }
+    {
+        Kind {
+            family: Family::Blake2b,
+            bytes,
+        }
+    }
+
+    // BLAKE2s with digests of so many bytes.
+    fn blake2s(bytes: usize) -> Kind
+        ensures { result ≡ blake2s_of bytes }
+    {
+        Kind {
+            family: Family::Blake2s,
+            bytes,
+        }
+    }
 
     /// The kind of this name.
     pub(crate) fn from_word(word: &str) -> Result<Kind, Fault>
-        ensures { result ≡ kind_of word.now }
+        ensures kind { result ≡ kind_of word.now }
+        ensures sized { IfOk result (λ kind. IsTrue (is_sized kind)) }
+        ensures fits { IfOk result (λ kind. kind.bytes ≤ output_bytes (family_of kind.family)) }
     {
         match word {
-            "b128" => Ok(Kind::Blake2b128),
-            "b256" => Ok(Kind::Blake2b256),
-            "b512" => Ok(Kind::Blake2b512),
-            "s128" => Ok(Kind::Blake2s128),
-            "s256" => Ok(Kind::Blake2s256),
+            "b128" => Ok(Kind::blake2b(16)),
+            "b256" => Ok(Kind::blake2b(32)),
+            "b512" => Ok(Kind::blake2b(64)),
+            "s128" => Ok(Kind::blake2s(16)),
+            "s256" => Ok(Kind::blake2s(32)),
             _ => Err(Fault::WrongWords),
+        }
+    }
+
+    /// The kind of this name among those that `witness` compares: `b0`, `b8`, `s0` and `s8`, with
+    /// no bytes or 1, are more of them.
+    pub(crate) fn compared(word: &str) -> Result<Kind, Fault>
+        ensures kind { result ≡ compared_kind_of word.now }
+        ensures fits { IfOk result (λ kind. kind.bytes ≤ output_bytes (family_of kind.family)) }
+    {
+        match word {
+            "b0" => Ok(Kind::blake2b(0)),
+            "b8" => Ok(Kind::blake2b(1)),
+            "s0" => Ok(Kind::blake2s(0)),
+            "s8" => Ok(Kind::blake2s(1)),
+            _ => Kind::from_word(word),
         }
     }
 }
@@ -130,13 +172,6 @@ impl Options {
             Some(persona) => persona.as_slice(),
             None => &[],
         }
-    }
-
-    /// Whether none is given.
-    pub(crate) fn are_empty(&self) -> bool
-        ensures { IsTrue result ↔ (given_of self.now ≡ nothing_given) }
-    {
-        self.key.is_none() && self.salt.is_none() && self.persona.is_none()
     }
 }
 

@@ -1,5 +1,5 @@
 use Rattle.b2_commands.proofs.command.execute.Goals as goal
 
-pub returns-in-Witness : goal.returns-in-Witness
-returns-in-Witness g c =
-    rw (c.in-Witness.is, c.requires.source) (c.witness.ensures (g.S.Source.left c.args.source.now))
+pub returns-in-Compare : goal.returns-in-Compare
+returns-in-Compare g c =
+    rw (c.in-Compare.is, c.requires.source) (c.witness.ensures (g.S.Source.left c.args.source.now))

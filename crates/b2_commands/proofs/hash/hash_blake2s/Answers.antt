@@ -1,31 +1,38 @@
-use Rattle.std.proofs.Common.{◌≡◌, [], None, rules, sym, subst}
+use Rattle.std.proofs.Common.{rules}
 use Rattle.blake2.specs.Family.{blake2s}
-use Rattle.blake2.specs.Hash.{sequential}
 use Rattle.blake2.specs.Keys.{key_count}
-use Rattle.blake2.specs.States.{node_digest_of}
-use Rattle.blake2.specs.Views.{key_of}
-use Rattle.b2_commands.specs.Hashes.{EndsFor}
 use Rattle.b2_commands.specs.Options.{given_of}
-use Rattle.b2_commands.specs.Tasks.{digest_with}
-use Rattle.b2_commands.specs.Words.{Given, nothing_given}
+use Rattle.b2_commands.specs.Tasks.{node_digest_with}
+use Rattle.b2_commands.specs.Words.{blake2s_of}
+use Rattle.b2_commands.proofs.Hashing.{sum_ends, script_ends}
 use Rattle.b2_commands.proofs.hash.hash_blake2s.Goals as goal
 
--- the hash function, where nothing is given
-pub returns-then-are_empty-clause-ends : goal.returns-then-are_empty-clause-ends
-returns-then-are_empty-clause-ends g c =
-    let none : given_of c.args.options.now ≡ nothing_given = search rules in
-    subst (λ (given : Given). EndsFor c.args.output (digest_with blake2s g.row.N given)
-    (key_count blake2s given.key) c.print.result
-    (g.S.Source.left c.args.source.now) (g.K.Sink.held c.args.sink.now)
-    (g.K.Sink.held c.print.new.sink)) (sym none)
-    (c.print.ensures.ends (node_digest_of blake2s g.row.N [] [] None sequential) 0 c.new.ensures)
+pub returns-in_ok-mac_blake2s-in-Digest : goal.returns-in_ok-mac_blake2s-in-Digest
+returns-in_ok-mac_blake2s-in-Digest g c =
+    let given = given_of c.args.request.now.options in
+    let mac = c.in_ok-mac_blake2s-in-Digest.ensures in
+    let told = c.sum.ensures in
+    rw (c.in-Digest.is, c.requires.kind) (sum_ends (blake2s_of g.row.N) given c.sum.result _ _ _ _ _
+    (record {
+      taken = search rules;
+      length = told.length;
+      read = told.read;
+      write = told.write;
+    })
+    told.memory
+    (told.ends (node_digest_with blake2s g.row.N given) (key_count blake2s given.key) mac.made))
 
--- the MAC under what is given
-pub returns-in_ok-mac-clause-ends : goal.returns-in_ok-mac-clause-ends
-returns-in_ok-mac-clause-ends g c =
-    let key = key_of c.key.result in
-    let digest = node_digest_of blake2s g.row.N c.salt.result.now c.persona.result.now key
-    sequential in
-    let ends = c.print-else-are_empty.ensures.ends digest
-    (key_count blake2s key) c.in_ok-mac.ensures.made in
-    rw (c.salt.ensures, c.persona.ensures, c.key.ensures) at ends
+pub returns-in_ok-mac_blake2s-in-Digests : goal.returns-in_ok-mac_blake2s-in-Digests
+returns-in_ok-mac_blake2s-in-Digests g c =
+    let given = given_of c.args.request.now.options in
+    let mac = c.in_ok-mac_blake2s-in-Digests.ensures in
+    let told = c.script.ensures in
+    rw (c.in-Digests.is, c.requires.kind) (script_ends (blake2s_of g.row.N) given c.script.result
+    _ _ _ _ _
+    (record {
+      taken = search rules;
+      length = told.length;
+      read = told.read;
+      write = told.write;
+    })
+    (told.ends (node_digest_with blake2s g.row.N given) (key_count blake2s given.key) mac.made))

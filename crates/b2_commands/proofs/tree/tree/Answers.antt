@@ -1,53 +1,28 @@
-use Rattle.b2_commands.specs.declared.tree_request.TreeKind.TheVariants.{Blake2b128, Blake2b256}
-use Rattle.b2_commands.specs.declared.tree_request.TreeKind.TheVariants.{Blake2b512}
+use Rattle.std.proofs.Common.{◌≡◌, ◌∙◌, ◌∷◌, [], ◌++◌, ap, arith, length, rules}
+use Rattle.hex.specs.Hex.{encode_lower, lower_digits}
+use Rattle.hex.proofs.HexLemmas.{length-encode_with}
+use Rattle.blake2_tree.specs.TreeRoot.{tree_parameters, tree_root}
 use Rattle.b2_commands.specs.Options.{given_of}
-use Rattle.b2_commands.proofs.Rooting.{root_ends}
+use Rattle.b2_commands.specs.Tasks.{root_with}
+use Rattle.b2_commands.proofs.Rooting.{printed_root}
 use Rattle.b2_commands.proofs.tree.tree.Goals as goal
 
-pub returns-in-Blake2b128 : goal.returns-in-Blake2b128
-returns-in-Blake2b128 g c =
-    let request = c.args.request.now in
-    let told = c.print_root.ensures in
-    rw c.in-Blake2b128.is (root_ends Blake2b128 request.leaf_length
-    (given_of request.options) c.print_root.result _ _ _ _ _
-    (record {
-      refuses = told.length;
-      read = told.read;
-      write = told.write;
-      root = told.root;
-      too_long = told.too_long;
-      fault = told.fault;
-      unprinted = told.unprinted;
-    }))
+pub print-requires-clause-room : goal.print-requires-clause-room
+print-requires-clause-room g c =
+    let size : length c.finalize.result ≡ g.row.N = search rules in
+    rw (c.push_hex.ensures, c.new-line.ensures)
+    (omega (arith, c.requires.size, size, length-encode_with lower_digits c.finalize.result))
 
-pub returns-in-Blake2b256 : goal.returns-in-Blake2b256
-returns-in-Blake2b256 g c =
-    let request = c.args.request.now in
-    let told = c.print_root-in-Blake2b256.ensures in
-    rw c.in-Blake2b256.is (root_ends Blake2b256 request.leaf_length
-    (given_of request.options) c.print_root-in-Blake2b256.result _ _ _ _ _
-    (record {
-      refuses = told.length;
-      read = told.read;
-      write = told.write;
-      root = told.root;
-      too_long = told.too_long;
-      fault = told.fault;
-      unprinted = told.unprinted;
-    }))
-
-pub returns-in-Blake2b512 : goal.returns-in-Blake2b512
-returns-in-Blake2b512 g c =
-    let request = c.args.request.now in
-    let told = c.print_root-in-Blake2b512.ensures in
-    rw c.in-Blake2b512.is (root_ends Blake2b512 request.leaf_length
-    (given_of request.options) c.print_root-in-Blake2b512.result _ _ _ _ _
-    (record {
-      refuses = told.length;
-      read = told.read;
-      write = told.write;
-      root = told.root;
-      too_long = told.too_long;
-      fault = told.fault;
-      unprinted = told.unprinted;
-    }))
+pub returns-clause-root : goal.returns-clause-root
+returns-clause-root g c =
+    let taken = c.absorb.new.hasher in
+    printed_root (root_with g.row.N c.args.leaf_length
+    (given_of c.args.options.now)) c.new-hasher.result taken
+    (c.push_hex.new.self ++ 10 ∷ []) c.print.result _ _ _
+    (λ y. c.new-hasher.ensures.root y
+    ∙ (λ k. tree_root g.row.N (tree_parameters (c.salt-salt.ensures k)
+    (c.persona-persona.ensures k) c.args.leaf_length) y))
+    c.new-hasher.ensures.nothing c.in_ok-absorb.ensures.whole taken.counted
+    (ap (λ line. line ++ 10 ∷ []) (c.push_hex.ensures
+    ∙ (λ k. c.new-line.ensures k ++ encode_lower (c.finalize.ensures k))))
+    c.print.ensures.line

@@ -1,6 +1,6 @@
 use Rattle.std.proofs.Common.{◌≤◌, rules}
 use Rattle.b2_commands.proofs.Filling.{digits_value-some}
-use Rattle.b2_commands.proofs.tree_request.TreeRequest.leaf_of.Goals as goal
+use Rattle.b2_commands.proofs.request.Request.leaf_of.Goals as goal
 
 pub returns-clause-some : goal.returns-clause-some
 returns-clause-some c =
