@@ -1,10 +1,10 @@
 -- What a plain state of a tree means: the root that it will give, and the bytes that it has taken.
-use Rattle.std.specs.Prelude.{◌≡◌, ℕ, ◌+◌, ◌-◌, ◌*◌, ◌^◌, ◌<◌, ◌≤◌, ◌⊎◌, true, List, ◌++◌, length}
-use Rattle.std.specs.Prelude.{take, replicate}
+use Rattle.std.specs.Prelude.{◌≡◌, ℕ, ◌+◌, ◌*◌, ◌^◌, ◌<◌, ◌≤◌, ◌⊎◌, List, take, replicate}
 use Rattle.blake2_plain.specs.Blake2b as Node
 use Rattle.blake2_plain.specs.declared.tree.TreeState.{TreeState}
 use Rattle.blake2_tree.specs.Nodes.{IsOpened}
-use Rattle.blake2_tree.specs.TreeHashers.{digests_to_come}
+use Rattle.blake2_tree.specs.OpenTrees as Open
+use Rattle.blake2_tree.specs.OpenTrees.{OpenTree, open_tree}
 use Rattle.blake2_tree.specs.TreeRoot.{TreeParameters}
 
 -- what the nodes of its tree share: salt and persona stand at the beginning of their fields
@@ -15,19 +15,21 @@ parameters t = record {
   leaf_length = t.leaf_length;
 }
 
--- the bytes that the open leaf still takes
-abbrev pub room : TreeState → ℕ
-room t = t.leaf_length - Node.meaning.count t.leaf
+-- the tree that it holds
+abbrev pub state_tree : TreeState → OpenTree
+state_tree t = open_tree Node.meaning Node.meaning (parameters t) t.closed t.root t.leaf
 
 -- the root that the state gives once it has taken y too
-unfoldable pub future : TreeState → List ℕ → List ℕ
-future t y =
-    Node.meaning.future t.root true
-    (digests_to_come (parameters t) (Node.meaning.future t.leaf) (room t) (t.closed + 1) y)
+abbrev pub future : TreeState → List ℕ → List ℕ
+future t = Open.future (state_tree t)
 
 -- the bytes that it has taken
 abbrev pub count : TreeState → ℕ
-count t = t.closed * t.leaf_length + Node.meaning.count t.leaf
+count t = Open.count (state_tree t)
+
+-- the new state is the old one once it has taken x
+abbrev pub Took : TreeState → List ℕ → TreeState → Type 0
+Took old x new = Open.Took (state_tree old) x (state_tree new)
 
 -- its lengths are those of a tree
 pub record HasLengths (t : TreeState) : Type 0 where
@@ -56,21 +58,6 @@ pub record IsReady (t : TreeState) : Type 0 where
 -- the open leaf has taken nothing
 abbrev pub IsBegun : TreeState → Type 0
 IsBegun t = IsOpened Node.meaning (parameters t) t.closed t.leaf
-
--- the new state is the old one once it has taken x
-pub record Took (old : TreeState) (x : List ℕ) (new : TreeState) : Type 0 where
-  pub future : (y : List ℕ) → future new y ≡ future old (x ++ y)
-  pub count : count new ≡ count old + length x
-
--- the new state and the rest are the old one and the input, once some bytes of the input have gone
--- into the tree
-pub record WentOn (old : TreeState) (input : List ℕ) (new : TreeState) (rest : List ℕ)
-    : Type 0 where
-  pub future : (y : List ℕ) → future new (rest ++ y) ≡ future old (input ++ y)
-  pub count : count new + length rest ≡ count old + length input
-  -- fewer bytes are left that are not in closed leaves
-  pub fewer : Node.meaning.count new.leaf + length rest
-      < Node.meaning.count old.leaf + length input
 
 -- a root of so many bytes, a salt or a persona of so many, or leaves of that length are none of a
 -- tree

@@ -10,8 +10,9 @@ ghost use Rattle.blake2_plain.specs.Blake2b.{IsReady as IsNodeReady, meaning};
 ghost use Rattle.blake2_tree.specs.Nodes.{parameters_of, node_digest};
 ghost use Rattle.blake2_tree.specs.TreeRoot.{tree_parameters, tree_root as root_of};
 ghost use Rattle.blake2_plain.specs.TreeStates.{HasLengths, HasCounts, IsReady, IsBegun};
-ghost use Rattle.blake2_plain.specs.TreeStates.{IsRefusedTree, Took, WentOn};
-ghost use Rattle.blake2_plain.specs.TreeStates.{parameters, room, future, count, zeros};
+ghost use Rattle.blake2_plain.specs.TreeStates.{IsRefusedTree, Took};
+ghost use Rattle.blake2_plain.specs.TreeStates.{parameters, state_tree, future, count, zeros};
+ghost use Rattle.blake2_tree.specs.OpenTrees.{room, WentOn};
 
 use crate::blake2b::State;
 use blake2_digest::{InvalidLength, padded};
@@ -211,7 +212,7 @@ impl TreeState {
     // The bytes that the open leaf still takes.
     fn room(&self) -> u64
         requires { IsReady self.now }
-        ensures { result ≡ room self.now }
+        ensures { result ≡ room (state_tree self.now) }
     {
         self.leaf_length - self.leaf.counted()
     }
@@ -256,12 +257,12 @@ impl TreeState {
     // one and answers what is left of the input.
     fn close_leaf<'a>(&mut self, input: &'a [u8]) -> &'a [u8]
         requires ready { IsReady self.old }
-        requires more { room self.old < length input.now }
+        requires more { room (state_tree self.old) < length input.now }
         requires fits { count self.old + length input.now < 2 ^ 58 }
         ensures ready { IsReady self.new }
         ensures size { self.new.root.output_size ≡ self.old.root.output_size }
         ensures begun { IsBegun self.new }
-        ensures went_on { WentOn self.old input.now self.new result.now }
+        ensures went_on { WentOn (state_tree self.old) input.now (state_tree self.new) result.now }
     {
         let nodes = self.nodes();
         let (head, rest) = input.split_at(self.room() as usize);
@@ -283,7 +284,7 @@ impl TreeState {
         ensures ready { IsReady self.new }
         ensures size { self.new.root.output_size ≡ self.old.root.output_size }
         ensures begun { IsBegun self.new }
-        ensures went_on { WentOn self.old input.now self.new result.now }
+        ensures went_on { WentOn (state_tree self.old) input.now (state_tree self.new) result.now }
     {
         let nodes = self.nodes();
         let digests = nodes.hash_four(self.closed, false, input);

@@ -9,7 +9,7 @@ use Rattle.std.proofs.lemmas.List.{take_all, take-append-le}
 use Rattle.std.proofs.lemmas.List.{drop-append-le}
 use Rattle.std.specs.List.{concat}
 use Rattle.blake2_tree.specs.TreeRoot.{TreeParameters, leaf}
-use Rattle.blake2_tree.specs.TreeHashers.{later_digests}
+use Rattle.blake2_tree.specs.OpenTrees.{later_digests}
 use Rattle.blake2_tree.proofs.Leaves.{later_digests-short, later_digests-long}
 use Rattle.blake2_tree.proofs.Lists.{concat-four}
 

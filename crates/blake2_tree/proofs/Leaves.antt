@@ -9,7 +9,7 @@ use Rattle.std.specs.List.{flat_map, range_with_len}
 use Rattle.blake2_rows.specs.Family.{blake2b}
 use Rattle.blake2_words.specs.Hash.{Input, digest}
 use Rattle.blake2_tree.specs.TreeRoot.{TreeParameters, leaf_count, leaf, node, leaf_digests}
-use Rattle.blake2_tree.specs.TreeHashers.{later_digests}
+use Rattle.blake2_tree.specs.OpenTrees.{later_digests}
 use Rattle.blake2_tree.proofs.Lists.{flat_map-range_more}
 
 -- ---- how many there are

@@ -7,7 +7,7 @@ use Rattle.std.proofs.Math.Seq.{take-append-add, drop-append-add}
 use Rattle.blake2_rows.specs.Family.{blake2b}
 use Rattle.blake2_words.specs.Hash.{digest}
 use Rattle.blake2_tree.specs.TreeRoot.{TreeParameters, node}
-use Rattle.blake2_tree.specs.TreeHashers.{later_digests, digests_to_come}
+use Rattle.blake2_tree.specs.OpenTrees.{later_digests, digests_to_come}
 use Rattle.blake2_tree.proofs.Leaves.{later_digests-short, later_digests-long}
 
 -- the digests that y adds to an open leaf that has taken nothing are those of the leaves of y

@@ -1,4 +1,5 @@
 pub mod Nodes
+pub mod OpenTrees
 pub mod TreeHashers
 pub mod TreeRoot
 pub mod TreeWitnesses

@@ -33,7 +33,8 @@ pub struct TreeHasher<const N: usize> {
 }
 
 impl<const N: usize> TreeHasher<N> {
-    ghost use Rattle.blake2_tree.specs.TreeHashers.{future, count, room, Took, WentOn};
+    ghost use Rattle.blake2_tree.specs.OpenTrees.{room, WentOn};
+    ghost use Rattle.blake2_tree.specs.TreeHashers.{held_tree, future, count, Took};
 
     /// A hasher that has taken nothing. Salt and persona have at most 16 bytes each, and a leaf has
     /// `leaf_length` bytes, 1 to 2^32 - 1.
@@ -96,7 +97,7 @@ impl<const N: usize> TreeHasher<N> {
 
     // The bytes that the open leaf still takes.
     fn room(&self) -> u64
-        ensures { result ≡ room self.now }
+        ensures { result ≡ room (held_tree self.now) }
     {
         u64::from(self.nodes.leaf_length) - self.leaf.counted()
     }
@@ -104,9 +105,9 @@ impl<const N: usize> TreeHasher<N> {
     // Fills the open leaf up and closes it; it is not the last, since more follows. Opens the next
     // one and answers what is left of the input.
     fn close_leaf<'a>(&mut self, input: &'a [u8]) -> &'a [u8]
-        requires more { room self.old < length input.now }
+        requires more { room (held_tree self.old) < length input.now }
         requires fits { count self.old + length input.now < 2 ^ 58 }
-        ensures { WentOn self.old input.now self.new result.now }
+        ensures { WentOn (held_tree self.old) input.now (held_tree self.new) result.now }
     {
         let (head, rest) = input.split_at(self.room() as usize);
         self.leaf.update(head);
@@ -123,7 +124,7 @@ impl<const N: usize> TreeHasher<N> {
         requires empty { (blake2b_meaning 64).count self.old.leaf ≡ 0 }
         requires more { 4 * self.old.nodes.leaf_length < length input.now }
         requires fits { count self.old + length input.now < 2 ^ 58 }
-        ensures went_on { WentOn self.old input.now self.new result.now }
+        ensures went_on { WentOn (held_tree self.old) input.now (held_tree self.new) result.now }
         ensures empty { (blake2b_meaning 64).count self.new.leaf ≡ 0 }
     {
         let digests = self.nodes.hash_four(self.closed, false, input);

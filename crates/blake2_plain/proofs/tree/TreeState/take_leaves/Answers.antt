@@ -1,7 +1,7 @@
-use Rattle.std.proofs.Common.{◌∙◌, ◌+◌, arith}
+use Rattle.std.proofs.Common.{◌∙◌, arith}
 use Rattle.blake2_plain.specs.Blake2b.{meaning}
-use Rattle.blake2_plain.specs.TreeStates.{parameters, future}
-use Rattle.blake2_tree.proofs.Roots.{root_to_come-took}
+use Rattle.blake2_plain.specs.TreeStates.{parameters}
+use Rattle.blake2_tree.proofs.Roots.{Took-updated}
 use Rattle.blake2_plain.proofs.tree.TreeState.take_leaves.Goals as goal
 
 pub loop-self-smaller-then-rest-self : goal.loop-self-smaller-then-rest-self
@@ -23,14 +23,12 @@ loop-self-smaller c =
     )
 
 pub returns-clause-taken : goal.returns-clause-taken
-unfolding future
 returns-clause-taken c =
     let left = c.loop-self.self in
-    let updated = c.update.ensures.updated in
+    let took =
+    Took-updated meaning meaning (parameters left) left.closed left.root left.leaf c.update.new.self
+    c.loop-self.rest.now c.update.ensures.updated (omega arith) in
     record {
-      future = λ y.
-          root_to_come-took meaning meaning (parameters left) left.root left.leaf c.update.new.self
-          (left.closed + 1) c.loop-self.rest.now y updated (omega arith)
-          ∙ c.loop-self.invariant.future y;
-      count = omega (arith, updated.count, c.loop-self.invariant.count);
+      future = λ y. took.future y ∙ c.loop-self.invariant.future y;
+      count = took.count ∙ c.loop-self.invariant.count;
     }

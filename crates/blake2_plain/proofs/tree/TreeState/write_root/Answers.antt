@@ -1,21 +1,18 @@
-use Rattle.std.proofs.Common.{◌≡◌, ◌∙◌, ◌+◌, ◌++◌, [], drop}
+use Rattle.std.proofs.Common.{◌≡◌, ◌∙◌, ◌++◌, [], drop}
 use Rattle.blake2_digest.specs.States.{digest_now}
 use Rattle.blake2_plain.specs.Blake2b.{meaning}
 use Rattle.blake2_plain.specs.TreeStates.{parameters, future}
-use Rattle.blake2_tree.proofs.Roots.{root_to_come-finished}
+use Rattle.blake2_tree.proofs.Roots.{future-finished}
 use Rattle.blake2_plain.proofs.tree.TreeState.write_root.Goals as goal
 
 pub returns : goal.returns
-unfolding future
 returns c =
     let old = c.args.self.now in
     let last = c.set_last_node-2.new.self in
-    let leaf_set = c.set_last_node.ensures.set in
-    let taken = rw c.digest_of.ensures at c.update.ensures.updated in
     let size : last.output_size ≡ old.root.output_size =
     c.set_last_node-2.ensures.size ∙ c.update.ensures.size in
     let root : digest_now meaning last ≡ future old [] =
-    root_to_come-finished meaning meaning (parameters old) old.root c.update.new.self last
-    old.leaf c.set_last_node.new.self (old.closed + 1) leaf_set taken c.set_last_node-2.ensures.set
-    in
+    future-finished meaning meaning (parameters old) old.closed old.root c.update.new.self last
+    old.leaf c.set_last_node.new.self c.set_last_node.ensures.set
+    (rw c.digest_of.ensures at c.update.ensures.updated) c.set_last_node-2.ensures.set in
     c.write_digest.ensures ∙ (λ k. root k ++ drop (size k) c.args.out.now)

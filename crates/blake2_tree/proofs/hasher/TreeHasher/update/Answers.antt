@@ -1,8 +1,7 @@
-use Rattle.std.proofs.Common.{◌∙◌, ◌+◌, arith}
+use Rattle.std.proofs.Common.{◌∙◌, arith}
 use Rattle.blake2.specs.Hashers.{blake2b_meaning}
 use Rattle.blake2_tree.specs.Nodes.{parameters_of}
-use Rattle.blake2_tree.specs.TreeHashers.{future}
-use Rattle.blake2_tree.proofs.Roots.{root_to_come-took, IsOpened-updated}
+use Rattle.blake2_tree.proofs.Roots.{Took-updated, IsOpened-updated}
 use Rattle.blake2_tree.proofs.hasher.TreeHasher.update.Goals as goal
 
 pub loop-rest-preserved-then-rest-four_leaves : goal.loop-rest-preserved-then-rest-four_leaves
@@ -24,14 +23,13 @@ invariant_of-self-clause-opened g c =
     c.update.new.self c.loop-rest.rest.now left.opened c.update.ensures
 
 pub returns : goal.returns
-unfolding future
 returns g c =
     let left = c.loop-rest.self in
+    let took =
+    Took-updated (blake2b_meaning g.row.N) (blake2b_meaning 64) (parameters_of left.nodes)
+    left.closed left.root left.leaf c.update.new.self c.loop-rest.rest.now c.update.ensures
+    (omega arith) in
     record {
-      future = λ y.
-          root_to_come-took (blake2b_meaning g.row.N) (blake2b_meaning 64)
-          (parameters_of left.nodes) left.root left.leaf c.update.new.self
-          (left.closed + 1) c.loop-rest.rest.now y c.update.ensures (omega arith)
-          ∙ c.loop-rest.invariant.future y;
-      count = omega (arith, c.update.ensures.count, c.loop-rest.invariant.count);
+      future = λ y. took.future y ∙ c.loop-rest.invariant.future y;
+      count = took.count ∙ c.loop-rest.invariant.count;
     }
