@@ -196,9 +196,9 @@ def node_words():
     yield f"`tree` 2^{limit[1]} bytes or more"
     count = re.search(r"2 \^ ([0-9]+) ≤ key_count", read(TASKS))
     yield f"with the key's block, of 2^{count[1]} or more"
-    digits = re.search(r"nat_lt \(length digits\) ([0-9]+)", read("crates/b2_commands/specs/Scripts.antt"))
-    yield f"1 to {int(digits[1]) - 1} decimal digits with no leading zero"
-    leaf = re.search(r"digits_value 10 digits\) \(2 \^ ([0-9]+)\)", read("crates/b2_commands/specs/Words.antt"))
+    digits = re.search(r"slot_value digits = number_value ([0-9]+) digits", read("crates/b2_commands/specs/Scripts.antt"))
+    yield f"1 to {digits[1]} decimal digits with no leading zero"
+    leaf = re.search(r"nat_lt n \(2 \^ ([0-9]+)\)", read("crates/b2_commands/specs/Words.antt"))
     yield f"a decimal number of 1 to {2 ** int(leaf[1]) - 1}"
     yield f"a leaf length L of 1 to 2^{leaf[1]} - 1"
 

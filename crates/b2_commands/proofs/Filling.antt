@@ -1,16 +1,11 @@
--- A buffer that is filled from its front, and what is read of numbers.
-use Rattle.std.proofs.Common.{◌≡◌, ◌≢◌, ℕ, ◌+◌, ◌-◌, ◌*◌, ◌<◌, ◌≤◌, Bool, true, false, List, []}
-use Rattle.std.proofs.Common.{◌∷◌, ◌++◌, length, take, Option, Some, None, IfSome, refl, sym}
-use Rattle.std.proofs.Common.{ap, ◌∙◌, subst, arith, slice_index, append_assoc}
+-- A buffer that is filled from its front, and what a hasher takes of it.
+use Rattle.std.proofs.Common.{◌≡◌, ℕ, ◌+◌, ◌-◌, ◌≤◌, List, []}
+use Rattle.std.proofs.Common.{◌++◌, length, take, Option, Some, None, IfSome, refl, sym}
+use Rattle.std.proofs.Common.{ap, ◌∙◌, subst, arith, append_assoc}
 use Rattle.std.proofs.Common.{length-append}
 use Rattle.std.proofs.Math.Seq.{take-append-add}
-use Rattle.std.proofs.lemmas.Bool.Decides.{nat_tests}
 use Rattle.std.proofs.lemmas.List.{length-take-le, take-take}
 use Rattle.std.proofs.lemmas.Slice.{take-put_mid}
-use Rattle.std.specs.Char.{digit_value, is_ascii_digit}
-use Rattle.std.specs.List.{list_all}
-use Rattle.std.specs.Prelude.{if◌then◌else◌}
-use Rattle.std.specs.Str.Parse.{digits_value, digits_value_after}
 use Rattle.blake2_tree.specs.declared.hasher.TreeHasher.{TreeHasher}
 use Rattle.blake2_tree.specs.TreeHashers.{future, Took}
 use borrow.Rule.Slice.PartMut.{put_mid}
@@ -44,26 +39,3 @@ pub of_all : (P : List ℕ → Type 0) (left : Option (List ℕ)) (x : List ℕ)
     → IfSome left (λ all. x ≡ all) → P x → IfSome left P
 of_all P None x is holds = tt
 of_all P (Some all) x is holds = subst P is holds
-
--- ---- numbers
-
--- further digits make no number smaller
-after-le : (n : ℕ) (digits : List ℕ) → n ≤ digits_value_after 10 n digits
-after-le n [] = omega arith
-after-le n (c ∷ cs) = omega (arith, after-le (n * 10 + digit_value c) cs)
-
--- digits that do not begin with 0 write no 0
-pub digits_value-some : (digits : List ℕ) (n : ℕ) → 0 < length digits → slice_index digits 0 ≢ 48
-    → (if list_all is_ascii_digit digits then Some (digits_value 10 digits) else None) ≡ Some n
-    → 1 ≤ n
-digits_value-some [] n some first read = absurd (omega arith)
-digits_value-some (c ∷ cs) n some first read =
-    go (is_ascii_digit c) (list_all is_ascii_digit cs) refl refl
-  where
-    go : (b d : Bool) → is_ascii_digit c ≡ b → list_all is_ascii_digit cs ≡ d → 1 ≤ n
-    go true true is all =
-        let value : digits_value 10 (c ∷ cs) ≡ n = cc in
-        let digit : 1 ≤ digit_value c = grind (arith, nat_tests) in
-        omega (arith, value, digit, after-le (0 * 10 + digit_value c) cs)
-    go true false is all = cc
-    go false d is all = cc

@@ -5,6 +5,7 @@ pub mod Faults
 pub mod Hashes
 pub mod Inputs
 pub mod Lines
+pub mod Numbers
 pub mod Options
 pub mod Reading
 pub mod Requests

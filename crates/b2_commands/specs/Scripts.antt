@@ -1,15 +1,11 @@
--- What a script says, and the digests that it answers. 10 is a newline, 32 a space and 48
--- the digit 0.
-use Rattle.std.specs.Prelude.{ℕ, Bool, ◌+◌, ◌==◌, ◌&&◌, ◌||◌, not, nat_lt, if◌then◌else◌, List, []}
-use Rattle.std.specs.Prelude.{◌∷◌, length, codes, Option, Some, None, is_some, ok_or, position}
-use Rattle.std.specs.Prelude.{Result, Ok, Err, slice_index}
+-- What a script says, and the digests that it answers. 10 is a newline and 32 a space.
+use Rattle.std.specs.Prelude.{ℕ, ◌+◌, ◌==◌, if◌then◌else◌, List, [], ◌∷◌, codes, Option, Some, None}
+use Rattle.std.specs.Prelude.{is_some, ok_or, position, Result, Ok, Err}
 use Rattle.std.specs.Borrow.{Bor}
-use Rattle.std.specs.Char.{is_ascii_digit}
-use Rattle.std.specs.List.{before_first, after_first, slice_split, list_all}
+use Rattle.std.specs.List.{before_first, after_first, slice_split}
 use Rattle.std.specs.Option.{option_and_then, option_map}
 use Rattle.std.specs.Result.{result_map_both}
 use Rattle.std.specs.Str.{bytes_eq}
-use Rattle.std.specs.Str.Parse.{digits_value}
 use Rattle.blake2.specs.Play.{play_fresh}
 use Rattle.blake2_runs.specs.declared.calls.Call.{Call}
 use Rattle.blake2_runs.specs.declared.calls.Call.TheVariants.{Update, Clone, Reset, Finalize}
@@ -20,6 +16,7 @@ use Rattle.blake2_runs.specs.declared.calls.ReplayFault.TheVariants.{TooLong as 
 use Rattle.b2_commands.specs.declared.fault.Fault.{Fault}
 use Rattle.b2_commands.specs.declared.fault.Fault.TheVariants.{WrongLine, NoSuchSlot, LineTooLong}
 use Rattle.b2_commands.specs.declared.fault.Fault.TheVariants.{NoMemory}
+use Rattle.b2_commands.specs.Numbers.{number_value}
 use Rattle.b2_commands.specs.Words.{and_then, message_value}
 
 -- the line in the part behind the last newline: an empty part is no line
@@ -44,16 +41,9 @@ cut_at byte text =
     then Some (before_first (λ b. b == byte) text, after_first (λ b. b == byte) text)
     else None
 
--- whether a field is 1 to 9 decimal digits without a leading zero, or `0`
-abbrev pub is_slot : List ℕ → Bool
-is_slot digits =
-    nat_lt 0 (length digits) &&
-    (nat_lt (length digits) 10 &&
-    (list_all is_ascii_digit digits && ((length digits == 1) || not (slice_index digits 0 == 48))))
-
--- the slot that a field names
+-- the slot that a field names: 1 to 9 decimal digits without a leading zero
 abbrev pub slot_value : List ℕ → Option ℕ
-slot_value digits = if is_slot digits then Some (digits_value 10 digits) else None
+slot_value digits = number_value 9 digits
 
 -- bytes as a slice. What calls answer does not depend on where it lies
 abbrev pub slice_of : List ℕ → Bor (List ℕ)

@@ -1,14 +1,13 @@
 -- What the words of the command line ask for. They are looked at from left to right, and the first
 -- fault is the answer.
-use Rattle.std.specs.Prelude.{◌≡◌, ⊤, ℕ, ◌^◌, ◌==◌, ◌&&◌, ◌||◌, not, nat_lt, Bool, true, false}
-use Rattle.std.specs.Prelude.{if◌then◌else◌, List, [], ◌∷◌, length, slice_index, codes, Option}
+use Rattle.std.specs.Prelude.{◌≡◌, ⊤, ℕ, ◌^◌, ◌==◌, ◌&&◌, ◌||◌, nat_lt, Bool, true, false}
+use Rattle.std.specs.Prelude.{if◌then◌else◌, List, [], ◌∷◌, codes, Option}
 use Rattle.std.specs.Prelude.{Some, None, is_some, position, Result, Ok, Err}
-use Rattle.std.specs.Char.{is_ascii_digit}
-use Rattle.std.specs.List.{before_first, after_first, list_all}
+use Rattle.std.specs.List.{before_first, after_first}
 use Rattle.std.specs.Result.{result_map_both}
 use Rattle.std.specs.Str.{bytes_eq}
-use Rattle.std.specs.Str.Parse.{digits_value}
 use Rattle.hex.specs.Hex.{decode_of}
+use Rattle.b2_commands.specs.Numbers.{number_value}
 use Rattle.b2_commands.specs.declared.words.Family.{Family}
 use Rattle.b2_commands.specs.declared.words.Family.TheVariants.{Blake2b, Blake2s}
 use Rattle.b2_commands.specs.declared.words.Kind.{Kind}
@@ -75,18 +74,15 @@ tree_kind kind = if is_blake2b kind.family then Ok kind else Err WrongWords
 abbrev pub tree_kind_of : List ℕ → Result Kind Fault
 tree_kind_of word = and_then (kind_of word) tree_kind
 
--- whether a word is a number of 1 to 2^32 - 1, in decimal digits without a leading zero (48)
-abbrev pub is_leaf_length : List ℕ → Bool
-is_leaf_length digits =
-    nat_lt 0 (length digits) &&
-    (nat_lt (length digits) 11 &&
-    (not (slice_index digits 0 == 48) &&
-    (list_all is_ascii_digit digits && nat_lt (digits_value 10 digits) (2 ^ 32))))
+-- a number of bytes that a leaf can have
+abbrev pub some_leaf : Option ℕ → Result ℕ Fault
+some_leaf None = Err WrongWords
+some_leaf (Some n) = if nat_lt 0 n && nat_lt n (2 ^ 32) then Ok n else Err WrongWords
 
--- the bytes of a leaf that the word LEAF names
+-- the bytes of a leaf that the word LEAF names: 1 to 2^32 - 1 in decimal digits without a leading
+-- zero
 abbrev pub leaf_value : List ℕ → Result ℕ Fault
-leaf_value digits =
-    if is_leaf_length digits then Ok (digits_value 10 digits) else Err WrongWords
+leaf_value digits = some_leaf (number_value 10 digits)
 
 -- the bytes of HEX as a message: two or more hexadecimal digits, an even number, or `-` for none
 abbrev pub message_value : List ℕ → Result (List ℕ) Fault

@@ -9,6 +9,7 @@ mod fault;
 mod hash;
 mod input;
 mod lines;
+mod numbers;
 mod print;
 mod request;
 mod script;

@@ -1,17 +1,14 @@
 //! The lines of a script, read as calls.
 
-ghost use Rattle.std.specs.Prelude.{◌≡◌, ◌<◌, ◌≤◌, ◌∷◌, length, map, if◌then◌else◌};
-ghost use Rattle.std.specs.Prelude.{IfOk, IfErr, ok_or};
-ghost use Rattle.std.specs.Char.{is_ascii_digit};
-ghost use Rattle.std.specs.List.{list_all};
+ghost use Rattle.std.specs.Prelude.{◌≡◌, ◌<◌, ◌∷◌, length, map, IfOk, IfErr, ok_or};
 ghost use Rattle.std.specs.Option.{option_map};
-ghost use Rattle.std.specs.Str.Parse.{digits_value};
 ghost use Rattle.b2_commands.specs.declared.fault.Fault.TheVariants.{WrongLine};
 ghost use Rattle.b2_commands.specs.Scripts.{cut_at, lines_of, slot_value, call_at, script_calls};
 ghost use Rattle.b2_commands.specs.Scripts.{update_fields};
 ghost use Rattle.b2_commands.specs.Reading.{call_value, unplaced, IsLineFault};
 
 use crate::fault::Fault;
+use crate::numbers::number_of;
 use crate::words::message_of;
 use blake2::calls::Call;
 use std::alloc::{AllocError, Global};
@@ -136,28 +133,9 @@ fn split_once(text: &[u8], byte: u8) -> Option<(&[u8], &[u8])>
     Some((&text[..place], &text[place + 1..]))
 }
 
-// The slot that a field names: 1 to 9 decimal digits without a leading zero, or `0`.
+// The slot that a field names: 1 to 9 decimal digits without a leading zero.
 fn slot_of(digits: &[u8]) -> Option<usize>
     ensures { result ≡ slot_value digits.now }
 {
-    if digits.is_empty() || digits.len() > 9 || digits.len() > 1 && digits[0] == b'0' {
-        return None;
-    }
-    number_of(digits)
-}
-
-/// The number that at most 10 decimal digits write.
-pub(crate) fn number_of(digits: &[u8]) -> Option<usize>
-    requires { length digits.now ≤ 10 }
-    ensures { result ≡
-        (if list_all is_ascii_digit digits.now then Some (digits_value 10 digits.now) else None) }
-{
-    let mut number = 0;
-    for digit in digits {
-        if !digit.is_ascii_digit() {
-            return None;
-        }
-        number = 10 * number + usize::from(*digit - b'0');
-    }
-    Some(number)
+    number_of(digits, 9)
 }

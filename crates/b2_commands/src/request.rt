@@ -5,7 +5,7 @@ ghost use Rattle.std.specs.String.{string_bytes};
 ghost use Rattle.b2_commands.specs.Hashes.{output_task, takes_key, is_taken};
 
 use crate::fault::Fault;
-use crate::lines::number_of;
+use crate::numbers::number_of;
 use crate::words::{Family, Kind, Options};
 use std::alloc::Global;
 
@@ -93,10 +93,9 @@ impl Request {
         ensures value { result ≡ leaf_value digits.now }
         ensures some { IfOk result (λ n. 1 ≤ n) }
     {
-        if digits.is_empty() || digits.len() > 10 || digits[0] == b'0' {
-            return Err(Fault::WrongWords);
+        match number_of(digits, 10) {
+            Some(number) if number > 0 => u32::try_from(number).map_err(|_| Fault::WrongWords),
+            _ => Err(Fault::WrongWords),
         }
-        let number = number_of(digits).ok_or(Fault::WrongWords)?;
-        u32::try_from(number).map_err(|_| Fault::WrongWords)
     }
 }
