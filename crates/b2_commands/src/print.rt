@@ -12,10 +12,29 @@ use crate::fault::Fault;
 use blake2::engine::{Sink, write_whole};
 use std::marker::Model;
 
-// The bytes of the longest line, that of a step of BLAKE2b: a letter, eight words of 16 digits, a
-// counter of up to 20, a flag and a block of 256 digits, a space before each but the first, and a
-// newline.
-pub(crate) const LINE_BYTES: usize = 418;
+// The bytes of eight words as fields, of 16 digits each in BLAKE2b and of 8 in BLAKE2s. Before each
+// field stands a space.
+const WORDS_OF_64_BYTES: usize = 8 * (1 + 16);
+
+const WORDS_OF_32_BYTES: usize = 8 * (1 + 8);
+
+// The bytes of the longest number as a field, of 20 digits.
+const NUMBER_BYTES: usize = 1 + 20;
+
+// The bytes of a flag as a field.
+const FLAG_BYTES: usize = 1 + 1;
+
+// The bytes of a block of BLAKE2b as a field.
+const BLOCK_BYTES: usize = 1 + 2 * 128;
+
+/// The bytes of the longest line, that of a step of BLAKE2b: a letter, eight words, a counter, a
+/// flag, a block and a newline.
+pub(crate) const LINE_BYTES: usize = 1
+    + WORDS_OF_64_BYTES
+    + NUMBER_BYTES
+    + FLAG_BYTES
+    + BLOCK_BYTES
+    + 1;
 
 /// A line that is put together field by field, with a space before each, in memory of its own.
 #[derive(Drop)]
@@ -90,9 +109,9 @@ impl Line {
 
     /// Puts words behind the line as fields of 16 digits each.
     pub(crate) fn add_words_of_64(&mut self, words: &[u64; 8])
-        requires { length self.old + 136 ≤ LINE_BYTES }
+        requires { length self.old + WORDS_OF_64_BYTES ≤ LINE_BYTES }
         ensures added { self.new ≡ self.old ++ word_fields blake2b words.now }
-        ensures longer { length self.new ≡ length self.old + 136 }
+        ensures longer { length self.new ≡ length self.old + WORDS_OF_64_BYTES }
     {
         for word in words {
             self.add_bytes(&word.to_be_bytes());
@@ -101,9 +120,9 @@ impl Line {
 
     /// Puts words behind the line as fields of 8 digits each.
     pub(crate) fn add_words_of_32(&mut self, words: &[u32; 8])
-        requires { length self.old + 72 ≤ LINE_BYTES }
+        requires { length self.old + WORDS_OF_32_BYTES ≤ LINE_BYTES }
         ensures added { self.new ≡ self.old ++ word_fields blake2s words.now }
-        ensures longer { length self.new ≡ length self.old + 72 }
+        ensures longer { length self.new ≡ length self.old + WORDS_OF_32_BYTES }
     {
         for word in words {
             self.add_bytes(&word.to_be_bytes());
@@ -123,9 +142,9 @@ impl Line {
 
     /// Puts a number behind the line as a field, in decimal.
     pub(crate) fn add_number(&mut self, n: u64)
-        requires { length self.old + 21 ≤ LINE_BYTES }
+        requires { length self.old + NUMBER_BYTES ≤ LINE_BYTES }
         ensures added { self.new ≡ self.old ++ number_field n }
-        ensures longer { length self.new ≤ length self.old + 21 }
+        ensures longer { length self.new ≤ length self.old + NUMBER_BYTES }
     {
         self.push(b" ");
         self.push_decimal(n);
@@ -133,9 +152,9 @@ impl Line {
 
     /// Puts a flag behind the line as a field: `1` or `0`.
     pub(crate) fn add_flag(&mut self, flag: bool)
-        requires { length self.old + 2 ≤ LINE_BYTES }
+        requires { length self.old + FLAG_BYTES ≤ LINE_BYTES }
         ensures added { self.new ≡ self.old ++ flag_field flag }
-        ensures longer { length self.new ≡ length self.old + 2 }
+        ensures longer { length self.new ≡ length self.old + FLAG_BYTES }
     {
         self.push(if flag { b" 1" } else { b" 0" });
     }
