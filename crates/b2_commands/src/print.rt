@@ -6,6 +6,7 @@ ghost use Rattle.std.specs.Result.{IsErrOf};
 ghost use Rattle.std.specs.Io.KnownBytes.{Appends};
 ghost use Rattle.hex.specs.Hex.{encode_lower};
 ghost use Rattle.blake2.specs.Family.{blake2b, blake2s};
+ghost use Rattle.blake2.specs.Streams.{line_of};
 ghost use Rattle.b2_commands.specs.Lines.{bytes_field, word_fields, number_field, flag_field};
 
 use crate::fault::Fault;
@@ -171,4 +172,20 @@ impl Line {
         let bytes = &self.bytes[..];
         write_whole(sink, &bytes[..self.length]).map_err(|_| Fault::WriteFailed)
     }
+}
+
+/// Prints a digest as a line.
+pub(crate) fn print_digest<K: Sink, const N: usize>(
+    digest: &[u8; N],
+    sink: &mut K,
+) -> Result<(), Fault>
+    requires size { N ≤ 64 }
+    requires sink { K.failed sink.old ≡ false }
+    ensures write { IsErrOf result Fault.WriteFailed ↔ IsTrue (K.failed sink.new) }
+    ensures fault { IsOkUnless result Fault.WriteFailed }
+    ensures line { OnOk result (Appends (K.held sink.old) (K.held sink.new) (line_of digest.now)) }
+{
+    let mut line = Line::new();
+    line.push_hex(digest);
+    line.print(sink)
 }

@@ -14,7 +14,7 @@ ghost use Rattle.b2_commands.specs.Ends.{EndsByDigests};
 use crate::fault::Fault;
 use crate::input::read_all;
 use crate::lines::{calls_of, read_script};
-use crate::print::Line;
+use crate::print::print_digest;
 use blake2::calls::{ReplayFault, replay};
 use blake2::digest::{Duplicate, FixedOutput, FixedOutputReset, Reset, Update};
 use blake2::engine::{Sink, Source};
@@ -77,17 +77,4 @@ fn print_lines<K: Sink, const N: usize>(digests: &[[u8; N]], sink: &mut K) -> Re
         print_digest(digest, sink)?;
     }
     Ok(())
-}
-
-// Prints a digest as a line.
-fn print_digest<K: Sink, const N: usize>(digest: &[u8; N], sink: &mut K) -> Result<(), Fault>
-    requires size { N ≤ 64 }
-    requires sink { K.failed sink.old ≡ false }
-    ensures write { IsErrOf result Fault.WriteFailed ↔ IsTrue (K.failed sink.new) }
-    ensures fault { IsOkUnless result Fault.WriteFailed }
-    ensures line { OnOk result (Appends (K.held sink.old) (K.held sink.new) (line_of digest.now)) }
-{
-    let mut line = Line::new();
-    line.push_hex(digest);
-    line.print(sink)
 }

@@ -13,7 +13,7 @@ ghost use Rattle.b2_commands.specs.Tasks.{IsRefusedByTree, root_with};
 ghost use Rattle.b2_commands.specs.Trees.{IsFaultOfTree};
 
 use crate::fault::Fault;
-use crate::print::Line;
+use crate::print::print_digest;
 use crate::words::Options;
 use blake2::engine::{Sink, Source};
 use blake2_tree::{LABEL_BYTES, MESSAGE_LIMIT, TreeHasher, best_piece_length};
@@ -52,9 +52,7 @@ pub(crate) fn tree<S: Source, K: Sink, const N: usize>(
     let mut piece = vec![in alloc; 0u8; best_piece_length(leaf_length)]?;
     let mut hasher = TreeHasher::<N>::new(salt, persona, leaf_length);
     absorb(source, piece.as_mut_slice(), &mut hasher)?;
-    let mut line = Line::new();
-    line.push_hex(&hasher.finalize());
-    line.print(sink)
+    print_digest(&hasher.finalize(), sink)
 }
 
 // Hands all that the source gives to the hasher, as many bytes at a time as the buffer has: one at

@@ -1,7 +1,7 @@
 use Rattle.std.proofs.Common.{arith}
 use Rattle.hex.specs.Hex.{lower_digits}
 use Rattle.hex.proofs.HexLemmas.{length-encode_with}
-use Rattle.b2_commands.proofs.script.print_digest.Goals as goal
+use Rattle.b2_commands.proofs.print.print_digest.Goals as goal
 
 pub print-requires-clause-room : goal.print-requires-clause-room
 print-requires-clause-room g c =
