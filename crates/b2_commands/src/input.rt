@@ -1,8 +1,7 @@
-//! The whole of the input, and what proofs know of bytes.
+//! The whole of the input.
 
 ghost use Rattle.std.specs.Prelude.{◌≡◌, ◌↔◌, ◌⊎◌, false, IsTrue, IfOk, IfErr, IfSome};
 ghost use Rattle.std.specs.Result.{IsErrOf};
-ghost use Rattle.blake2.specs.Hash.{AreBytes};
 ghost use Rattle.b2_commands.specs.declared.fault.Fault.TheVariants.{ReadFailed, NoMemory};
 
 use crate::fault::Fault;
@@ -31,8 +30,3 @@ pub(crate) fn read_all<S: Source>(alloc: Global, source: &mut S) -> Result<Vec<u
         bytes.extend_from_slice(&buffer[..count])?;
     }
 }
-
-/// Does nothing. Proofs read from the type of the slice that each element is a byte.
-pub(crate) fn tell_bytes(slice: &[u8])
-    ensures { AreBytes slice.now }
-{}

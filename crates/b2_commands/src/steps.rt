@@ -5,6 +5,7 @@ ghost use Rattle.std.specs.List.{flat_map};
 ghost use Rattle.std.specs.Result.{IsErrOf};
 ghost use Rattle.std.specs.Io.KnownBytes.{Appends};
 ghost use Rattle.blake2.specs.Family.{blake2b, blake2s};
+ghost use Rattle.blake2.specs.Hash.{AreBytes};
 ghost use Rattle.blake2.specs.Keys.{key_count};
 ghost use Rattle.blake2.specs.Views.{entry_of, entries_of, input_of, key_of};
 ghost use Rattle.b2_commands.specs.Options.{given_of};
@@ -14,7 +15,7 @@ ghost use Rattle.b2_commands.specs.Inputs.{IsKeyOfBytes, IsOfBytes};
 ghost use Rattle.b2_commands.specs.Lines.{entry_line, words_line, transcript_lines};
 
 use crate::fault::Fault;
-use crate::input::{read_all, tell_bytes};
+use crate::input::read_all;
 use crate::print::Line;
 use crate::words::Options;
 use blake2::engine::{Sink, Source};
@@ -132,11 +133,15 @@ fn input_under<'a>(options: &'a Options, message: &'a [u8]) -> Input<'a>
     tell_bytes(input.salt);
     tell_bytes(input.persona);
     tell_key_bytes(&input.key);
-    tell_bytes(input.message);
     input
 }
 
-// Does nothing. Proofs read from the type of the key that each element is a byte.
+// Does nothing. Proofs read from the type of the slice that each element is a byte.
+fn tell_bytes(slice: &[u8])
+    ensures { AreBytes slice.now }
+{}
+
+// The same of a key, where there is one.
 fn tell_key_bytes(key: &Option<&[u8]>)
     ensures { IsKeyOfBytes (key_of key.now) }
 {

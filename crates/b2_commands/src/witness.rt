@@ -16,7 +16,6 @@ ghost use Rattle.b2_commands.specs.Witnesses.{PrintsWitness};
 
 use crate::comparison::Comparison;
 use crate::fault::Fault;
-use crate::input::tell_bytes;
 use crate::print::Line;
 use crate::words::Family;
 use blake2::engine::{Sink, write_whole};
@@ -98,7 +97,6 @@ fn unkeyed(message: &[u8]) -> Input<'_>
     ensures input { input_of result ≡ input_with nothing_given message.now }
     ensures accepted { (f : AnyFamily) → Accepts f (input_of result) }
 {
-    tell_bytes(message);
     Input {
         salt: &[],
         persona: &[],

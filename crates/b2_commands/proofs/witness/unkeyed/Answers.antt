@@ -1,5 +1,5 @@
 use Rattle.std.proofs.Common.{◌<◌, ◌^◌, List, ap, length, rules, ℕ, [], None}
-use Rattle.blake2.specs.Hash.{Input, Tree}
+use Rattle.blake2.specs.Hash.{AreBytes, Input, Tree}
 use Rattle.blake2.specs.States.{input}
 use Rattle.b2_commands.proofs.Accepting.{unkeyed_accepted}
 use Rattle.b2_commands.proofs.witness.unkeyed.Goals as goal
@@ -8,5 +8,6 @@ pub returns-clause-accepted : goal.returns-clause-accepted
 returns-clause-accepted c = λ f.
     let message : List ℕ = c.args.message.now in
     let short : length message < 2 ^ 64 = search rules in
+    let bytes : AreBytes message = search rules in
     let under : Tree → Input = λ t. record (input [] [] None message) { tree = t } in
-    unkeyed_accepted f _ message (ap under c.sequential.ensures) c.tell_bytes.ensures short
+    unkeyed_accepted f _ message (ap under c.sequential.ensures) bytes short
