@@ -7,7 +7,8 @@ ghost use Rattle.blake2.specs.States.{digest_of, node_digest_of};
 ghost use Rattle.blake2_words.specs.Hash.{AdmitsTree, sequential};
 ghost use Rattle.blake2_words.specs.Views.{tree_of};
 ghost use Rattle.blake2_digest.specs.States.{Fresh, NodeSet, Updated, StartedAgain, digest_now};
-ghost use Rattle.blake2_plain.specs.Arguments.{given_key, given_count, IsRefusedState};
+ghost use Rattle.blake2_plain.specs.Arguments.{given_key, given_count, digest_given};
+ghost use Rattle.blake2_plain.specs.Arguments.{IsRefusedState, IsRefusedGiven};
 ghost use Rattle.blake2_plain.specs.Blake2b.{IsReady, meaning, zeros};
 ghost use Rattle.blake2_plain.specs.Blocks.{block_digest, IsRefusedBlock};
 ghost use Rattle.blake2_plain.specs.States.{is_on};
@@ -18,6 +19,7 @@ mod many;
 
 use crate::scrub_stack;
 use blake2::{Blake2b512, Digest, Tree};
+use blake2_plain::StateParameters;
 use blake2_plain::blake2b::State;
 
 // Bytes of the stack that `begin` and `write_keyed` reach with all that they call, rounded up, as
@@ -43,7 +45,7 @@ fn write_keyed(out: &mut [u8], input: &[u8], key: &[u8]) -> i32
         → out.new ≡ digest_of blake2b (length out.old) [] [] (given_key key.now) input.now }
     ensures nothing { result ≡ negsuc 0 → out.new ≡ out.old }
 {
-    match State::new(out.len(), key, &[], &[]) {
+    match State::new(&StateParameters::keyed(out.len(), key)) {
         Ok(mut run) => {
             if input.len() as u64 > u64::MAX - run.counted() {
                 return -1;
@@ -76,7 +78,7 @@ pub extern "C" fn blake2_c_blake2b(out: &mut [u8], input: &[u8], key: &[u8]) -> 
         scrub_stack::<WRITE_BYTES>();
         return status;
     }
-    match State::new(out.len(), &[], &[], &[]) {
+    match State::new(&StateParameters::keyed(out.len(), &[])) {
         Ok(mut run) => {
             run.update(input);
             run.write_digest(out);
@@ -89,26 +91,16 @@ pub extern "C" fn blake2_c_blake2b(out: &mut [u8], input: &[u8], key: &[u8]) -> 
 // What `blake2_c_blake2b_init_node` does under a key, at a place that is taken, in a frame of its
 // own, which the caller scrubs.
 #[inline(never)]
-fn begin(
-    state: &mut State,
-    output_size: usize,
-    key: &[u8],
-    salt: &[u8],
-    persona: &[u8],
-    tree: &Tree,
-) -> i32
+fn begin(state: &mut State, given: &StateParameters<'_>, tree: &Tree) -> i32
     requires tree { AdmitsTree blake2b (tree_of tree.now) }
-    ensures status { Answers result
-        (IsRefusedState blake2b output_size key.now salt.now persona.now) }
+    ensures status { Answers result (IsRefusedGiven blake2b given.now) }
     ensures ready { result ≡ pos 0 → IsReady state.new }
-    ensures size { result ≡ pos 0 → state.new.output_size ≡ output_size }
-    ensures fresh { result ≡ pos 0 → Fresh meaning
-        (node_digest_of blake2b output_size salt.now persona.now (given_key key.now)
-        (tree_of tree.now))
-        (given_count blake2b key.now) state.new }
+    ensures size { result ≡ pos 0 → state.new.output_size ≡ given.now.output_size }
+    ensures fresh { result ≡ pos 0 → Fresh meaning (digest_given blake2b given.now (tree_of tree.now))
+        (given_count blake2b given.now.key.now) state.new }
     ensures zeros { result ≡ negsuc 0 → state.new ≡ zeros }
 {
-    match State::new_with_tree(output_size, key, salt, persona, tree) {
+    match State::new_with_tree(given, tree) {
         Ok(made) => {
             *state = made;
             0
@@ -140,12 +132,18 @@ pub extern "C" fn blake2_c_blake2b_init(
         (given_count blake2b key.now) state.new }
     ensures zeros { result ≡ negsuc 0 → state.new ≡ zeros }
 {
+    let given = StateParameters {
+        output_size,
+        key,
+        salt,
+        persona,
+    };
     if !key.is_empty() {
-        let status = begin(state, output_size, key, salt, persona, &Tree::sequential());
+        let status = begin(state, &given, &Tree::sequential());
         scrub_stack::<BEGIN_BYTES>();
         return status;
     }
-    match State::new(output_size, key, salt, persona) {
+    match State::new(&given) {
         Ok(made) => {
             *state = made;
             0
@@ -222,12 +220,18 @@ pub extern "C" fn blake2_c_blake2b_init_node(
         state.wipe();
         return -1;
     }
+    let given = StateParameters {
+        output_size,
+        key,
+        salt,
+        persona,
+    };
     if !key.is_empty() {
-        let status = begin(state, output_size, key, salt, persona, &tree);
+        let status = begin(state, &given, &tree);
         scrub_stack::<BEGIN_BYTES>();
         return status;
     }
-    match State::new_with_tree(output_size, key, salt, persona, &tree) {
+    match State::new_with_tree(&given, &tree) {
         Ok(made) => {
             *state = made;
             0

@@ -6,6 +6,7 @@ ghost use Rattle.blake2_rows.specs.Family.{blake2s};
 ghost use Rattle.blake2.specs.States.{digest_of};
 
 use blake2_digest::InvalidLength;
+use blake2_plain::StateParameters;
 use blake2_plain::blake2s::State;
 
 /// Fills `out` with the digest of the message in as many bytes as it has, 1 to 32.
@@ -16,7 +17,7 @@ pub fn fill(out: &mut [u8], message: &[u8]) -> Result<(), InvalidLength>
         (out.new ≡ digest_of blake2s (length out.old) [] [] None message.now) }
     ensures same { OnErr result (out.new ≡ out.old) }
 {
-    let mut state = State::new(out.len(), &[], &[], &[])?;
+    let mut state = State::new(&StateParameters::keyed(out.len(), &[]))?;
     state.update(message);
     state.write_digest(out);
     Ok(())

@@ -1,6 +1,9 @@
 -- What the constructors of plain states are given.
-use Rattle.std.specs.Prelude.{◌≡◌, ℕ, ◌<◌, ◌⊎◌, List, [], ◌∷◌, length, Option, Some, None}
+use Rattle.std.specs.Prelude.{◌≡◌, ℕ, ◌<◌, ◌⊎◌, Bool, List, [], ◌∷◌, length, Option, Some, None}
 use Rattle.blake2_rows.specs.Family.{Family, block_bytes, output_bytes, key_bytes, salt_bytes}
+use Rattle.blake2_words.specs.Hash.{Tree}
+use Rattle.blake2.specs.States.{node_digest_of}
+use Rattle.blake2_plain.specs.declared.StateParameters.{StateParameters}
 
 -- the key that bytes stand for: no bytes are no key
 abbrev pub given_key : List ℕ → Option (List ℕ)
@@ -18,3 +21,15 @@ abbrev pub IsRefusedState : Family → ℕ → List ℕ → List ℕ → List �
 IsRefusedState f size key salt persona =
     (size ≡ 0) ⊎ (output_bytes f < size) ⊎ (key_bytes f < length key)
     ⊎ (salt_bytes f < length salt) ⊎ (salt_bytes f < length persona)
+
+-- the same of a state's parameters
+abbrev pub IsRefusedGiven : Family → StateParameters → Type 0
+IsRefusedGiven f given =
+    IsRefusedState f given.output_size given.key.now given.salt.now given.persona.now
+
+-- BLAKE2 under a state's parameters at a place in a tree, as a function of the last-node flag and
+-- the message
+abbrev pub digest_given : Family → StateParameters → Tree → Bool → List ℕ → List ℕ
+digest_given f given tree =
+    node_digest_of f given.output_size given.salt.now given.persona.now (given_key given.key.now)
+    tree

@@ -9,11 +9,12 @@ ghost use Rattle.blake2_words.specs.Views.{tree_of};
 ghost use Rattle.blake2_digest.specs.States.{Fresh, NodeSet, Updated, StartedAgain, digest_now};
 ghost use Rattle.blake2.specs.Cores.{CoreState};
 ghost use Rattle.blake2.specs.States.{node_digest_of};
-ghost use Rattle.blake2_plain.specs.Arguments.{given_key, given_count, IsRefusedState};
+ghost use Rattle.blake2_plain.specs.Arguments.{given_count, IsRefusedGiven, digest_given};
 ghost use Rattle.blake2_plain.specs.Blocks.{block_start, block_digest, IsRefusedBlock};
 ghost use Rattle.blake2_plain.specs.Blake2b.{IsReady, meaning, zeros};
 ghost use Rattle.blake2_plain.specs.States.{is_on};
 
+use crate::StateParameters;
 use blake2::{Blake2bVarCore, Tree};
 use blake2_digest::{
     InvalidLength, LastNode, LazyBuffer, UpdateCore, VariableOutputCore, digest_into, is_same,
@@ -101,37 +102,50 @@ impl State {
     }
 
     // A state of these parameters that has taken nothing, under no key.
-    fn unkeyed(output_size: usize, salt: &[u8], persona: &[u8], tree: &Tree) -> Self
-        requires least { 1 ≤ output_size }
-        requires most { output_size ≤ 64 }
-        requires salt { length salt.now ≤ 16 }
-        requires persona { length persona.now ≤ 16 }
+    fn unkeyed(given: &StateParameters<'_>, tree: &Tree) -> Self
+        requires least { 1 ≤ given.now.output_size }
+        requires most { given.now.output_size ≤ 64 }
+        requires salt { length given.now.salt.now ≤ 16 }
+        requires persona { length given.now.persona.now ≤ 16 }
         requires tree { AdmitsTree blake2b (tree_of tree.now) }
         ensures ready { IsReady result }
-        ensures size { result.output_size ≡ output_size }
+        ensures size { result.output_size ≡ given.now.output_size }
         ensures fresh { Fresh meaning
-            (node_digest_of blake2b output_size salt.now persona.now None (tree_of tree.now))
+            (node_digest_of blake2b given.now.output_size given.now.salt.now given.now.persona.now
+            None (tree_of tree.now))
             0 result }
     {
+        let StateParameters {
+            output_size,
+            key: _,
+            salt,
+            persona,
+        } = *given;
         let core = Blake2bVarCore::new_with_tree(salt, persona, 0, output_size, tree);
         Self::starting_from(core.first_words(), output_size)
     }
 
     // A state under this key that has taken nothing else.
-    fn under_key(output_size: usize, key: &[u8], salt: &[u8], persona: &[u8], tree: &Tree) -> Self
-        requires least { 1 ≤ output_size }
-        requires most { output_size ≤ 64 }
-        requires key { length key.now ≤ 64 }
-        requires salt { length salt.now ≤ 16 }
-        requires persona { length persona.now ≤ 16 }
+    fn under_key(given: &StateParameters<'_>, tree: &Tree) -> Self
+        requires least { 1 ≤ given.now.output_size }
+        requires most { given.now.output_size ≤ 64 }
+        requires key { length given.now.key.now ≤ 64 }
+        requires salt { length given.now.salt.now ≤ 16 }
+        requires persona { length given.now.persona.now ≤ 16 }
         requires tree { AdmitsTree blake2b (tree_of tree.now) }
         ensures ready { IsReady result }
-        ensures size { result.output_size ≡ output_size }
+        ensures size { result.output_size ≡ given.now.output_size }
         ensures fresh { Fresh meaning
-            (node_digest_of blake2b output_size salt.now persona.now (Some key.now)
-            (tree_of tree.now))
+            (node_digest_of blake2b given.now.output_size given.now.salt.now given.now.persona.now
+            (Some given.now.key.now) (tree_of tree.now))
             128 result }
     {
+        let StateParameters {
+            output_size,
+            key,
+            salt,
+            persona,
+        } = *given;
         let core = Blake2bVarCore::new_with_tree(salt, persona, key.len(), output_size, tree);
         let first = core.first_words();
         let block = LazyBuffer::<128>::new(key).padded();
@@ -151,22 +165,14 @@ impl State {
     /// A state of these parameters that has taken nothing: a digest of 1 to 64 bytes, a key of up
     /// to 64 (none is no key), a salt and a persona of up to 16 each. Refused exactly for other
     /// lengths.
-    pub fn new(
-        output_size: usize,
-        key: &[u8],
-        salt: &[u8],
-        persona: &[u8],
-    ) -> Result<Self, InvalidLength>
-        ensures refused { IsErr result
-            ↔ IsRefusedState blake2b output_size key.now salt.now persona.now }
+    pub fn new(given: &StateParameters<'_>) -> Result<Self, InvalidLength>
+        ensures refused { IsErr result ↔ IsRefusedGiven blake2b given.now }
         ensures ready { IfOk result (λ s. IsReady s) }
-        ensures size { IfOk result (λ s. s.output_size ≡ output_size) }
+        ensures size { IfOk result (λ s. s.output_size ≡ given.now.output_size) }
         ensures fresh { IfOk result (λ s. Fresh meaning
-            (node_digest_of blake2b output_size salt.now persona.now (given_key key.now)
-            sequential)
-            (given_count blake2b key.now) s) }
+            (digest_given blake2b given.now sequential) (given_count blake2b given.now.key.now) s) }
     {
-        Self::new_with_tree(output_size, key, salt, persona, &Tree::sequential())
+        Self::new_with_tree(given, &Tree::sequential())
     }
 
     /// Whether BLAKE2b takes this place in a tree of hashes: at least one level, an inner node's
@@ -180,33 +186,26 @@ impl State {
     /// A state of a node of a tree of hashes that has taken nothing: of the parameters of `new`, at
     /// this place in the tree, one that `admits_tree` takes (the BLAKE2 document, 2.10). Its
     /// last-node flag is off. Refused exactly for the lengths that `new` refuses.
-    pub fn new_with_tree(
-        output_size: usize,
-        key: &[u8],
-        salt: &[u8],
-        persona: &[u8],
-        tree: &Tree,
-    ) -> Result<Self, InvalidLength>
+    #[inline]
+    pub fn new_with_tree(given: &StateParameters<'_>, tree: &Tree) -> Result<Self, InvalidLength>
         requires tree { AdmitsTree blake2b (tree_of tree.now) }
-        ensures refused { IsErr result
-            ↔ IsRefusedState blake2b output_size key.now salt.now persona.now }
+        ensures refused { IsErr result ↔ IsRefusedGiven blake2b given.now }
         ensures ready { IfOk result (λ s. IsReady s) }
-        ensures size { IfOk result (λ s. s.output_size ≡ output_size) }
+        ensures size { IfOk result (λ s. s.output_size ≡ given.now.output_size) }
         ensures fresh { IfOk result (λ s. Fresh meaning
-            (node_digest_of blake2b output_size salt.now persona.now (given_key key.now)
-            (tree_of tree.now))
-            (given_count blake2b key.now) s) }
+            (digest_given blake2b given.now (tree_of tree.now))
+            (given_count blake2b given.now.key.now) s) }
     {
-        if output_size == 0 || output_size > 64 {
+        if given.output_size == 0 || given.output_size > 64 {
             return Err(InvalidLength);
         }
-        if key.len() > 64 || salt.len() > 16 || persona.len() > 16 {
+        if given.key.len() > 64 || given.salt.len() > 16 || given.persona.len() > 16 {
             return Err(InvalidLength);
         }
-        if key.is_empty() {
-            return Ok(Self::unkeyed(output_size, salt, persona, tree));
+        if given.key.is_empty() {
+            return Ok(Self::unkeyed(given, tree));
         }
-        Ok(Self::under_key(output_size, key, salt, persona, tree))
+        Ok(Self::under_key(given, tree))
     }
 
     /// The state of a parameter block (the BLAKE2 document, 2.8) that has taken nothing, of as many

@@ -4,6 +4,38 @@
 
 #![tactic(auto)]
 
+ghost use Rattle.std.specs.Prelude.{◌≡◌, []};
+
 pub mod blake2b;
 pub mod blake2s;
 pub mod tree;
+
+/// What a state is made from (RFC 7693, 2.1; the BLAKE2 document, 2.8).
+#[derive(Clone, Copy)]
+pub struct StateParameters<'a> {
+    /// The bytes of the digest: 1 to 64 in BLAKE2b, 1 to 32 in BLAKE2s.
+    pub output_size: usize,
+    /// The key: up to 64 bytes in BLAKE2b and 32 in BLAKE2s. No bytes are no key.
+    pub key: &'a [u8],
+    /// At most 16 bytes in BLAKE2b and 8 in BLAKE2s; zeros behind it change nothing.
+    pub salt: &'a [u8],
+    /// At most 16 bytes in BLAKE2b and 8 in BLAKE2s; zeros behind it change nothing.
+    pub persona: &'a [u8],
+}
+
+impl<'a> StateParameters<'a> {
+    /// Those of this size and key, without salt and persona.
+    pub fn keyed(output_size: usize, key: &'a [u8]) -> Self
+        ensures size { result.output_size ≡ output_size }
+        ensures key { result.key.now ≡ key.now }
+        ensures salt { result.salt.now ≡ [] }
+        ensures persona { result.persona.now ≡ [] }
+    {
+        StateParameters {
+            output_size,
+            key,
+            salt: &[],
+            persona: &[],
+        }
+    }
+}

@@ -14,6 +14,7 @@ ghost use Rattle.blake2_plain.specs.TreeStates.{IsRefusedTree, Took};
 ghost use Rattle.blake2_plain.specs.TreeStates.{parameters, state_tree, future, count, zeros};
 ghost use Rattle.blake2_tree.specs.OpenTrees.{room, WentOn};
 
+use crate::StateParameters;
 use crate::blake2b::State;
 use blake2_digest::{InvalidLength, padded};
 use blake2_tree::nodes::Nodes;
@@ -53,7 +54,13 @@ fn node_state(nodes: &Nodes, output_size: usize, node_offset: u64, node_depth: u
         (node_digest output_size (parameters_of nodes.now) node_offset node_depth) 0 result }
 {
     let place = nodes.place(node_offset, node_depth);
-    match State::new_with_tree(output_size, &[], nodes.salt(), nodes.persona(), &place) {
+    let given = StateParameters {
+        output_size,
+        key: &[],
+        salt: nodes.salt(),
+        persona: nodes.persona(),
+    };
+    match State::new_with_tree(&given, &place) {
         Ok(state) => state,
         // Not reached: these lengths are all taken.
         Err(_) => State::zeros(),

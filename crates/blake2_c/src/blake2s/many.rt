@@ -1,11 +1,13 @@
 //! Several messages of BLAKE2s.
 
 ghost use Rattle.std.specs.Prelude.{◌≡◌, ◌*◌, ◌≤◌, ◌++◌, [], length, take, drop, pos, negsuc};
+ghost use Rattle.std.specs.Prelude.{false};
 ghost use Rattle.blake2.specs.Family.{blake2s};
-ghost use Rattle.blake2.specs.States.{digest_of};
 ghost use Rattle.blake2.specs.States as Held;
 ghost use Rattle.blake2_words.specs.Views.{input_of};
-ghost use Rattle.blake2_plain.specs.Arguments.{given_key, given_count, IsRefusedState};
+ghost use Rattle.blake2_words.specs.Hash.{sequential};
+ghost use Rattle.blake2_plain.specs.Arguments.{given_key, given_count, digest_given};
+ghost use Rattle.blake2_plain.specs.Arguments.{IsRefusedGiven};
 ghost use Rattle.blake2_c.specs.Many.{AreCounted, IsRefusedMany, digests_of};
 ghost use Rattle.blake2_c.specs.Status.{Answers, IsTooLong};
 
@@ -14,6 +16,7 @@ use crate::{Text, scrub_stack};
 use blake2::Tree;
 use blake2::many::blake2s::{accepts_eight, hash_eight_sized};
 use blake2::steps::Input;
+use blake2_plain::StateParameters;
 use blake2_plain::blake2s::State;
 
 // Bytes of the stack that `write_all` reaches with all that it calls, rounded up, as built by LLVM
@@ -36,14 +39,15 @@ fn input<'a>(key: &'a [u8], salt: &'a [u8], persona: &'a [u8], message: &'a [u8]
 }
 
 // Writes the digest of one message at the beginning of `out`.
-fn write_one(out: &mut [u8], size: usize, key: &[u8], salt: &[u8], persona: &[u8], message: &[u8])
-    requires taken { ¬ IsRefusedState blake2s size key.now salt.now persona.now }
-    requires counted { ¬ IsTooLong (given_count blake2s key.now) (length message.now) }
-    requires room { size ≤ length out.old }
-    ensures { out.new ≡ digest_of blake2s size salt.now persona.now (given_key key.now) message.now
-        ++ drop size out.old }
+fn write_one(out: &mut [u8], given: &StateParameters<'_>, message: &[u8])
+    requires taken { ¬ IsRefusedGiven blake2s given.now }
+    requires counted { ¬ IsTooLong (given_count blake2s given.now.key.now) (length message.now) }
+    requires room { given.now.output_size ≤ length out.old }
+    ensures { out.new
+        ≡ digest_given blake2s given.now sequential false message.now
+        ++ drop given.now.output_size out.old }
 {
-    match State::new(size, key, salt, persona) {
+    match State::new(given) {
         Ok(mut run) => {
             run.update(message);
             run.write_digest(out);
@@ -55,25 +59,25 @@ fn write_one(out: &mut [u8], size: usize, key: &[u8], salt: &[u8], persona: &[u8
 
 // Writes the digests of the first messages at the beginning of `out`, 8 where these are hashed at
 // once, else one, and answers of how many.
-fn write_next(
-    out: &mut [u8],
-    size: usize,
-    key: &[u8],
-    salt: &[u8],
-    persona: &[u8],
-    messages: &[Text<'_>],
-) -> usize
-    requires taken { ¬ IsRefusedState blake2s size key.now salt.now persona.now }
-    requires counted { AreCounted blake2s key.now messages.now }
+fn write_next(out: &mut [u8], given: &StateParameters<'_>, messages: &[Text<'_>]) -> usize
+    requires taken { ¬ IsRefusedGiven blake2s given.now }
+    requires counted { AreCounted blake2s given.now.key.now messages.now }
     requires some { 1 ≤ length messages.now }
-    requires room { length messages.now * size ≤ length out.old }
+    requires room { length messages.now * given.now.output_size ≤ length out.old }
     ensures some { 1 ≤ result }
     ensures most { result ≤ length messages.now }
     ensures digests { out.new
-        ≡ digests_of blake2s size key.now salt.now persona.now (take result messages.now)
-        ++ drop (result * size) out.old }
+        ≡ digests_of blake2s given.now.output_size given.now.key.now given.now.salt.now
+        given.now.persona.now (take result messages.now)
+        ++ drop (result * given.now.output_size) out.old }
 {
     if messages.len() >= 8 {
+        let StateParameters {
+            output_size,
+            key,
+            salt,
+            persona,
+        } = *given;
         let inputs = [
             input(key, salt, persona, messages[0].bytes),
             input(key, salt, persona, messages[1].bytes),
@@ -85,11 +89,11 @@ fn write_next(
             input(key, salt, persona, messages[7].bytes),
         ];
         if accepts_eight(&inputs) {
-            write_digests(out, size, &hash_eight_sized(size, &inputs));
+            write_digests(out, output_size, &hash_eight_sized(output_size, &inputs));
             return 8;
         }
     }
-    write_one(out, size, key, salt, persona, messages[0].bytes);
+    write_one(out, given, messages[0].bytes);
     1
 }
 
@@ -113,14 +117,20 @@ pub extern "C" fn blake2_c_blake2s_many(
         ≡ digests_of blake2s output_size key.now salt.now persona.now messages.now }
     ensures nothing { result ≡ negsuc 0 → out.new ≡ out.old }
 {
-    let counted = match State::new(output_size, key, salt, persona) {
+    let given = StateParameters {
+        output_size,
+        key,
+        salt,
+        persona,
+    };
+    let counted = match State::new(&given) {
         Ok(run) => run.counted(),
         Err(_) => return -1,
     };
     if !is_room_for(out.len(), messages.len(), output_size) || !are_counted(counted, messages) {
         return -1;
     }
-    write_all(out, output_size, key, salt, persona, messages);
+    write_all(out, &given, messages);
     if !key.is_empty() {
         scrub_stack::<WRITE_BYTES>();
     }
@@ -130,22 +140,16 @@ pub extern "C" fn blake2_c_blake2s_many(
 // Writes the digests of the messages, in a frame of its own: where there is a key, the caller
 // scrubs it.
 #[inline(never)]
-fn write_all(
-    out: &mut [u8],
-    size: usize,
-    key: &[u8],
-    salt: &[u8],
-    persona: &[u8],
-    messages: &[Text<'_>],
-)
-    requires taken { ¬ IsRefusedState blake2s size key.now salt.now persona.now }
-    requires counted { AreCounted blake2s key.now messages.now }
-    requires room { length out.old ≡ length messages.now * size }
-    ensures { out.new ≡ digests_of blake2s size key.now salt.now persona.now messages.now }
+fn write_all(out: &mut [u8], given: &StateParameters<'_>, messages: &[Text<'_>])
+    requires taken { ¬ IsRefusedGiven blake2s given.now }
+    requires counted { AreCounted blake2s given.now.key.now messages.now }
+    requires room { length out.old ≡ length messages.now * given.now.output_size }
+    ensures { out.new ≡ digests_of blake2s given.now.output_size given.now.key.now given.now.salt.now
+        given.now.persona.now messages.now }
 {
     let mut done = 0;
     while done < messages.len() {
-        let place = &mut out[done * size..];
-        done += write_next(place, size, key, salt, persona, &messages[done..]);
+        let place = &mut out[done * given.output_size..];
+        done += write_next(place, given, &messages[done..]);
     }
 }

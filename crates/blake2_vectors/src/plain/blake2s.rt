@@ -1,6 +1,7 @@
 //! Digests that hashlib gives, in pieces; refusals; what a wipe and a reset leave.
 
 use blake2::Tree;
+use blake2_plain::StateParameters;
 use blake2_plain::blake2s::State;
 use std::alloc::AllocError;
 
@@ -31,12 +32,32 @@ fn mark(state: &mut State, on: bool) -> bool {
     true
 }
 
+// What a state is made from.
+fn given<'a>(
+    output_size: usize,
+    key: &'a [u8],
+    salt: &'a [u8],
+    persona: &'a [u8],
+) -> StateParameters<'a> {
+    StateParameters {
+        output_size,
+        key,
+        salt,
+        persona,
+    }
+}
+
+// Whether a state is made from these.
+fn is_taken(output_size: usize, key: &[u8], salt: &[u8], persona: &[u8]) -> bool {
+    State::new(&given(output_size, key, salt, persona)).is_ok()
+}
+
 // A keyed node at this place, where the family has it.
 fn node(tree: &Tree) -> Option<State> {
     if !State::admits_tree(tree) {
         return None;
     }
-    match State::new_with_tree(20, b"key", b"salt", b"persona", tree) {
+    match State::new_with_tree(&given(20, b"key", b"salt", b"persona"), tree) {
         Ok(state) => Some(state),
         Err(_) => None,
     }
@@ -67,7 +88,7 @@ fn message() -> [u8; 300] {
 
 #[test]
 fn in_pieces_and_after_a_reset(rt: HostRuntime) -> Result<(), AllocError> {
-    let Ok(mut state) = State::new(20, b"key", b"salt", b"persona") else {
+    let Ok(mut state) = State::new(&given(20, b"key", b"salt", b"persona")) else {
         assert!(rt; false);
         return Ok(());
     };
@@ -135,12 +156,10 @@ fn a_keyed_node_of_a_tree(rt: HostRuntime) -> Result<(), AllocError> {
 #[test]
 fn refusals(rt: HostRuntime) {
     let long = [0; 33];
-    assert!(rt; State::new(0, b"", b"", b"").is_err() && State::new(33, b"", b"", b"").is_err());
-    assert!(rt;
-        State::new(32, &long, b"", b"").is_err() && State::new(32, &long[..32], b"", b"").is_ok()
-    );
-    assert!(rt; State::new(32, b"", &long[..9], b"").is_err());
-    assert!(rt; State::new(32, b"", b"", &long[..9]).is_err());
+    assert!(rt; !is_taken(0, b"", b"", b"") && !is_taken(33, b"", b"", b""));
+    assert!(rt; !is_taken(32, &long, b"", b"") && is_taken(32, &long[..32], b"", b""));
+    assert!(rt; !is_taken(32, b"", &long[..9], b""));
+    assert!(rt; !is_taken(32, b"", b"", &long[..9]));
     assert!(rt; State::from_block(&long[..32]).is_err() && State::from_block(&long[..31]).is_err());
     assert!(rt; !State::zeros().is_ready());
 }

@@ -12,13 +12,13 @@ use Rattle.blake2_c.proofs.blake2b.many.write_all.Goals as goal
 
 pub loop-done-preserved : goal.loop-done-preserved
 loop-done-preserved c =
-    let n : ℕ = c.args.size in
+    let n : ℕ = c.args.given.now.output_size in
     let messages = c.args.messages.now in
     let was = c.args.out.now in
     let done : ℕ = c.loop-done.done in
     let more : ℕ = c.write_next-done.result in
-    let of_text : Text → List ℕ = λ t. digest_of blake2b n c.args.salt.now c.args.persona.now
-    (given_key c.args.key.now) t.bytes.now in
+    let of_text : Text → List ℕ = λ t. digest_of blake2b n c.args.given.now.salt.now c.args.given.now.persona.now
+    (given_key c.args.given.now.key.now) t.bytes.now in
     let fits : done * n ≤ length was =
     omega (
       arith,

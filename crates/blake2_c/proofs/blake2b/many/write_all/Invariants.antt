@@ -8,8 +8,9 @@ abbrev pub invariant-loop-done : goal.invariant-loop-done
 invariant-loop-done l = record {
   within : l.done ≤ length l.messages;
   long : length l.out ≡ length l.fn.out;
-  written : l.out ≡ digests_of blake2b l.size l.key l.salt l.persona (take l.done l.messages)
-      ++ drop (l.done * l.size) l.fn.out;
+  written : l.out ≡ digests_of blake2b l.given.output_size l.given.key.now l.given.salt.now
+      l.given.persona.now (take l.done l.messages)
+      ++ drop (l.done * l.given.output_size) l.fn.out;
 }
 
 abbrev pub decreases-loop-done : goal.decreases-loop-done

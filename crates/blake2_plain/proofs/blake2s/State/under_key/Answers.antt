@@ -12,16 +12,16 @@ use Rattle.blake2_plain.proofs.blake2s.State.under_key.Goals as goal
 pub returns-clause-fresh : goal.returns-clause-fresh
 unfolding key_block padded
 returns-clause-fresh c =
-    let key : List ℕ = c.args.key.now in
+    let key : List ℕ = c.args.given.now.key.now in
     let size : length (key_block blake2s (Some key)) ≡ 64 =
     length-key_block_some blake2s key c.requires.key in
     let block : c.padded-block.result ≡ key_block blake2s (Some key) =
     c.padded-block.ensures ∙ ap (padded 64) c.new.ensures in
     let whole : take 64 c.padded-block.result ≡ key_block blake2s (Some key) =
     ap (take 64) block ∙ take_all 64 (key_block blake2s (Some key)) (omega (arith, size)) in
-    Fresh_sized blake2s (λ s. s.output_size) state_of c.args.output_size c.args.salt.now
-    c.args.persona.now (Some key) (tree_of c.args.tree.now) 64 _ size refl
-    (state-made blake2s (node_parameters c.args.output_size
-    (length key) c.args.salt.now c.args.persona.now (tree_of c.args.tree.now))
+    Fresh_sized blake2s (λ s. s.output_size) state_of c.args.given.now.output_size c.args.given.now.salt.now
+    c.args.given.now.persona.now (Some key) (tree_of c.args.tree.now) 64 _ size refl
+    (state-made blake2s (node_parameters c.args.given.now.output_size
+    (length key) c.args.given.now.salt.now c.args.given.now.persona.now (tree_of c.args.tree.now))
     (Some key) c.new_with_tree-core.result c.first_words-first.result _ _
     c.new_with_tree-core.ensures c.first_words-first.ensures whole whole)
