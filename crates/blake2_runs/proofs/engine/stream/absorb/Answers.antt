@@ -1,5 +1,6 @@
-use Rattle.std.proofs.Common.{◌∙◌, ap, false, ◌||◌, length-append, arith, take, ◌++◌}
+use Rattle.std.proofs.Common.{◌∙◌, ap, false, ◌||◌, length-append, arith, take, ◌++◌, rules}
 use Rattle.std.proofs.KnownBytes.{Consumes-trans}
+use Rattle.std.proofs.lemmas.Grind.{common_steps}
 use Rattle.blake2_digest.proofs.Texts.{AreBytes-append}
 use Rattle.blake2_runs.proofs.StreamLemmas.{Updated-trans}
 use Rattle.blake2_runs.proofs.engine.stream.absorb.Goals as goal
@@ -31,3 +32,15 @@ returns-then-count-room-clause-past_count g c = λ _.
       Consumes-trans _ _ _ before.0 piece before.3 read.bytes.0,
       omega (arith, length-append before.0 piece, read.bound.1, before.1, before.4.count),
     )
+
+pub returns-in_default-clause-read : goal.returns-in_default-clause-read
+returns-in_default-clause-read g c = search rules
+
+pub returns-in_default-clause-whole : goal.returns-in_default-clause-whole
+returns-in_default-clause-whole g c = search rules
+
+pub returns-then-count-room-clause-too_long : goal.returns-then-count-room-clause-too_long
+returns-then-count-room-clause-too_long g c = grind (arith, common_steps)
+
+pub returns-then-count-room-clause-whole : goal.returns-then-count-room-clause-whole
+returns-then-count-room-clause-whole g c = search rules
