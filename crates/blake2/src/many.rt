@@ -1,5 +1,5 @@
-//! Several messages of one length at once, one in each lane of the vectors. How much time that saves
-//! depends on the length of the processor's vectors: docs/SPEED.md has what was measured.
+//! Several messages of one length at once, one in each lane of the vectors. How much time that
+//! saves depends on the length of the processor's vectors: docs/SPEED.md has what was measured.
 //!
 //! ```rust
 //! use blake2::many;

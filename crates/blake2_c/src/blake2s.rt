@@ -244,10 +244,10 @@ pub extern "C" fn blake2_c_blake2s_init_node(
 }
 
 /// Begins a run in this state, whatever it was, from a parameter block of 32 bytes (the BLAKE2
-/// document, 2.8), whatever stands in its fields but a digest of 0 or more than 32 bytes or a key of
-/// more than 32. Where it names a key, the key's block, padded with zeros to 64 bytes, is the
-/// caller's to give as the first input. Answers 0, or -1 where the block is none of these; the state
-/// is then that of zeros.
+/// document, 2.8), whatever stands in its fields but a digest of 0 or more than 32 bytes or a key
+/// of more than 32. Where it names a key, the key's block, padded with zeros to 64 bytes, is the
+/// caller's to give as the first input. Answers 0, or -1 where the block is none of these; the
+/// state is then that of zeros.
 #[unsafe(no_mangle)]
 pub extern "C" fn blake2_c_blake2s_init_block(state: &mut State, block: &[u8]) -> i32
     ensures status { Answers result (IsRefusedBlock blake2s block.now) }

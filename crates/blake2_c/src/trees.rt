@@ -33,8 +33,8 @@ fn write_root<const N: usize>(
 
 /// Writes the root of the input in as many bytes as `out` has, 1 to 64, where a leaf has
 /// `leaf_length` bytes, 1 at least (the BLAKE2 document, 2.10). Salt and persona have up to 16
-/// bytes each, and the input fewer than 2^58. Answers 0, or -1 where one of these is not so; nothing
-/// is then written.
+/// bytes each, and the input fewer than 2^58. Answers 0, or -1 where one of these is not so;
+/// nothing is then written.
 #[unsafe(no_mangle)]
 pub extern "C" fn blake2_c_tree_root(
     out: &mut [u8],
