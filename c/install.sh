@@ -6,7 +6,7 @@
 #   c/install.sh --uninstall FOLDER
 #
 #   FOLDER/lib/libblake2_c.a                  the static library
-#   FOLDER/lib/libblake2_c.so.0.1.0           the shared one, with the links .so.0 and .so
+#   FOLDER/lib/libblake2_c.so.VERSION         the shared one, with the links .so.0 and .so
 #   FOLDER/lib/libblake2_c-libb2.a            the static one, with libb2's functions by their own names
 #   FOLDER/lib/pkgconfig/                     blake2_c.pc, and blake2_c-static.pc for the static one
 #   FOLDER/lib/blake2_c-libb2/                libb2.a and pkgconfig/libb2.pc, for what looks for libb2
@@ -57,7 +57,10 @@ include=$folder/include/blake2_c
 beside=$libdir/blake2_c-libb2
 root=${DESTDIR:-}
 
-files=("$libdir/libblake2_c.a" "$libdir/libblake2_c.so.0.1.0" "$libdir/libblake2_c.so.0"
+# The version, as the header has it.
+version=$(sed -n 's/^#define VULFSJOR_VERSION "\(.*\)"$/\1/p' "$here/include/blake2_c.h")
+
+files=("$libdir/libblake2_c.a" "$libdir/libblake2_c.so.$version" "$libdir/libblake2_c.so.0"
     "$libdir/libblake2_c.so" "$libdir/libblake2_c-libb2.a" "$libdir/pkgconfig/blake2_c.pc"
     "$libdir/pkgconfig/blake2_c-static.pc" "$beside/libb2.a" "$beside/pkgconfig/libb2.pc"
     "$include/blake2_c.h" "$include/libb2/blake2.h")
@@ -143,7 +146,7 @@ fi
 
 install -d "$root$libdir/pkgconfig" "${folders[@]/#/$root}"
 install -m 644 "$work/lib"/*.a "$root$libdir/"
-install -m 755 "$work/lib/libblake2_c.so.0.1.0" "$root$libdir/"
+install -m 755 "$work/lib/libblake2_c.so.$version" "$root$libdir/"
 cp -P "$work/lib/libblake2_c.so.0" "$work/lib/libblake2_c.so" "$root$libdir/"
 ln -sf ../libblake2_c-libb2.a "$root$beside/libb2.a"
 install -m 644 "$here/include/blake2_c.h" "$root$include/"
@@ -167,8 +170,8 @@ Cflags: -I$5
 Libs: $6
 END
 }
-write_words "$libdir/pkgconfig/blake2_c.pc" blake2_c 0.1.0 "" '${includedir}' '-L${libdir} -lblake2_c'
-write_words "$libdir/pkgconfig/blake2_c-static.pc" blake2_c-static 0.1.0 ", linked statically" '${includedir}' \
+write_words "$libdir/pkgconfig/blake2_c.pc" blake2_c "$version" "" '${includedir}' '-L${libdir} -lblake2_c'
+write_words "$libdir/pkgconfig/blake2_c-static.pc" blake2_c-static "$version" ", linked statically" '${includedir}' \
     '${libdir}/libblake2_c.a'
 write_words "$beside/pkgconfig/libb2.pc" libb2 0.98.1 ", in the place of libb2" '${libb2dir}' \
     '-L${libdir}/blake2_c-libb2 -lb2'

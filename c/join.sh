@@ -5,7 +5,7 @@
 #   c/join.sh FOLDER ONE.a                      one build
 #
 #   FOLDER/libblake2_c.a
-#   FOLDER/libblake2_c.so.0.1.0, with the links libblake2_c.so.0 and libblake2_c.so
+#   FOLDER/libblake2_c.so.VERSION, with the links libblake2_c.so.0 and libblake2_c.so
 #   FOLDER/libblake2_c-libb2.a               the first, with libb2's functions by their own names
 #
 # The functions are those that include/blake2_c.h declares: an archive with one more or one less is
@@ -24,6 +24,8 @@ if [ $# -lt 2 ] || [ $# -gt 3 ]; then
     exit 2
 fi
 [ $# -eq 3 ] || words+=(-DCHOOSE_ONE)
+# The version, as the header has it.
+version=$(sed -n 's/^#define VULFSJOR_VERSION "\(.*\)"$/\1/p' "$here/include/blake2_c.h")
 work=$(mktemp -d)
 trap 'rm -rf "$work"' EXIT
 
@@ -72,7 +74,7 @@ ar rcsD "$1/libblake2_c-libb2.a" "$work/libb2.o" "$work/blake2_c.o"
 
 { echo 'BLAKE2_C_0 {' && echo 'global:' && sed 's/$/;/' "$work/names" && echo 'local: *; };'; } >"$work/versions"
 join "$work/shown.o" -DCHOOSE_SHOWN
-"$cc" -shared -o "$1/libblake2_c.so.0.1.0" "$work/shown.o" -Wl,-soname,libblake2_c.so.0 \
+"$cc" -shared -o "$1/libblake2_c.so.$version" "$work/shown.o" -Wl,-soname,libblake2_c.so.0 \
     -Wl,--version-script="$work/versions" -Wl,-z,defs -Wl,-z,relro -Wl,-z,now -Wl,-z,noexecstack
-ln -sf libblake2_c.so.0.1.0 "$1/libblake2_c.so.0"
+ln -sf "libblake2_c.so.$version" "$1/libblake2_c.so.0"
 ln -sf libblake2_c.so.0 "$1/libblake2_c.so"
