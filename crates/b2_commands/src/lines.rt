@@ -38,17 +38,17 @@ impl ScriptCall {
         let Some((name, fields)) = split_once(line, b' ') else {
             return Err(wrong);
         };
-        if name == b"u".as_slice() {
+        if let [b'u'] = name {
             return update_of(alloc, number, fields);
         }
         let Some(slot) = slot_of(fields) else {
             return Err(wrong);
         };
         match name {
-            b"c" => Ok(ScriptCall::Clone(slot)),
-            b"r" => Ok(ScriptCall::Reset(slot)),
-            b"f" => Ok(ScriptCall::Finalize(slot)),
-            b"d" => Ok(ScriptCall::FinalizeReset(slot)),
+            [b'c'] => Ok(ScriptCall::Clone(slot)),
+            [b'r'] => Ok(ScriptCall::Reset(slot)),
+            [b'f'] => Ok(ScriptCall::Finalize(slot)),
+            [b'd'] => Ok(ScriptCall::FinalizeReset(slot)),
             _ => Err(wrong),
         }
     }
