@@ -45,6 +45,7 @@ stand_in tools/check_b2.sh "6 passed, 0 failed"
 stand_in tools/check_quick.sh "4 passed, 0 failed"
 stand_in tools/check_pages.sh "7 passed, 0 failed"
 stand_in c/run_tests.sh "8 passed, 0 failed, 1 skipped"
+stand_in tools/key_scan/run.sh "2 passed, 0 failed, 0 skipped"
 stand_in tools/processor.sh "processor"
 chmod +x "$room/bin/rt"
 git init -q . && git add -A && git -c user.name=n -c user.email=e commit -qm begun
@@ -72,6 +73,7 @@ holds "the counts" ends 0 "3 passed, 0 failed"
 holds "a crate is left out" says "left out: low"
 holds "edits are left out" says "left out: edits that must be refused (rt must-fail), programs as the second compiler builds them, proofs from nothing"
 holds "the library for C is left out" says "left out: the library from C, C++, Python and Rust (c/run_tests.sh)"
+holds "the stack is left out" says "left out: keys on the stack after calls in Rattle (tools/key_scan/run.sh)"
 
 echo >>crates/low/src/lib.rt
 quick
@@ -121,6 +123,11 @@ for folder in c rust rust-digest python; do
     holds "and its count" ends 0 "4 passed, 0 failed"
     undo
 done
+touch tools/key_scan/new
+quick
+holds "a file in tools/key_scan" calls "${always[@]}" "tools/key_scan/run.sh "
+holds "and its count" ends 0 "4 passed, 0 failed"
+undo
 
 echo >>crates/b2/src/lib.rt
 git -c user.name=n -c user.email=e commit -qam more
@@ -134,7 +141,7 @@ quick HEAD HEAD
 holds "two revisions" ends 1 "0 passed, 1 failed"
 
 all=("tools/check_b2.sh " "tools/check_quick.sh " "rt ci in repository" "tools/check_program.sh crates/b2/out/b2"
-    "c/run_tests.sh --after-ci" "tools/check_pages.sh ")
+    "c/run_tests.sh --after-ci" "tools/key_scan/run.sh --after-ci" "tools/check_pages.sh ")
 on_processors() {
     printf '#!/bin/sh\necho %s\n' "$1" >"$room/bin/nproc"
     chmod +x "$room/bin/nproc"
@@ -150,7 +157,7 @@ mkdir -p crates/low/out/rlib crates/b2/out/rlib
 touch crates/b2/out/rlib/stamp
 whole
 holds "all parts" calls "${all[@]}"
-holds "the counts of all parts" ends 0 "50 passed, 0 failed"
+holds "the counts of all parts" ends 0 "52 passed, 0 failed"
 holds "what was skipped" says "3 tests were skipped, as the lines 'skipped: ..' above say"
 holds "the time of each part" timed
 holds "what rt ci left without a stamp goes" [ ! -e crates/low/out/rlib ]
@@ -162,24 +169,25 @@ room_for() { awk "/^$1:/ { print 1 + int(\$2 * $2 / 3000000) }" /proc/meminfo; }
 holds "as many proofs as memory has room for" at_once "$(room_for MemAvailable 0.7)" "$(room_for MemTotal 1)"
 RT_JOBS=3 whole
 holds "as many proofs as are asked for" [ "$(cat "$room/jobs")" = 3 ]
-for name in tools/check_b2.sh tools/check_quick.sh tools/check_program.sh c/run_tests.sh tools/check_pages.sh; do
+for name in tools/check_b2.sh tools/check_quick.sh tools/check_program.sh c/run_tests.sh tools/key_scan/run.sh \
+    tools/check_pages.sh; do
     echo "$name" >"$room/fails"
     whole
-    holds "$name fails in the whole" ends 1 "50 passed, 1 failed"
+    holds "$name fails in the whole" ends 1 "52 passed, 1 failed"
 done
 echo repository >"$room/fails"
 whole
-holds "rt ci fails" ends 1 "30 passed, 1 failed"
+holds "rt ci fails" ends 1 "32 passed, 1 failed"
 rm "$room/fails"
 for line in "5 passed, 2 failed, 1 skipped" "5 passed, 2 failed"; do
     stand_in tools/check_pages.sh "$line"
     whole
-    holds "a part that ends with '$line'" ends 1 "48 passed, 2 failed"
+    holds "a part that ends with '$line'" ends 1 "50 passed, 2 failed"
 done
 for line in "" "7 passed" "7 passed, 0 failed, 1 skip" "done: 7 passed, 0 failed"; do
     stand_in tools/check_pages.sh "$line"
     whole
-    holds "a part that ends with '$line'" ends 1 "43 passed, 1 failed"
+    holds "a part that ends with '$line'" ends 1 "45 passed, 1 failed"
 done
 undo
 ./test --other >"$room/output" 2>&1

@@ -6,8 +6,9 @@
 # REVISION is HEAD where it is left out, so that the changes not yet committed count. Each crate in
 # which a file has changed is proved, and each that stands on such a crate; where they have tests, these
 # run. Where the program is among them it is built, and run as a shell does. Pages and scripts are
-# checked always, and the library for C where c/, rust/ or python/ has changed. What is left out is
-# said at the end: only `./test` is the verdict. The last line is 'N passed, M failed'.
+# checked always, the library for C where c/, rust/ or python/ has changed, and the stack after calls in
+# Rattle where tools/key_scan/ has. What is left out is said at the end: only `./test` is the verdict. The
+# last line is 'N passed, M failed'.
 set -u
 cd "$(dirname "$(dirname "$(readlink -f "$0")")")" || exit 1
 revision=${1:-HEAD}
@@ -103,6 +104,11 @@ if grep -qE '^(c|rust|rust-digest|python)/' <<<"$changed"; then
     part c/run_tests.sh
 else
     left_out+=("the library from C, C++, Python and Rust (c/run_tests.sh)")
+fi
+if grep -q '^tools/key_scan/' <<<"$changed"; then
+    part tools/key_scan/run.sh
+else
+    left_out+=("keys on the stack after calls in Rattle (tools/key_scan/run.sh)")
 fi
 echo "left out: edits that must be refused (rt must-fail), programs as the second compiler builds them, proofs from nothing"
 for part in "${left_out[@]}"; do echo "left out: $part"; done

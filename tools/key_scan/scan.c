@@ -1,72 +1,70 @@
-// Looks for copies of a key and of its tag on the dead stack, and in the vector registers, once a
-// keyed verification has returned.
+// Looks for copies of a secret on the dead stack once a call in Rattle has returned: for each piece of 8 bytes of a
+// key, of the tag, and of the chaining words that the last compression begins with. Prints for each form of the call
+// how many were found. A form that leaves more than the table below allows fails. Answers 0 where none failed.
 //
-// usage: scan [message length, 0 to 4096]
+// secrets.h is what secret_values.py prints: the secrets, and a message of 0, 64 or 1,000 bytes.
+#define _DEFAULT_SOURCE
+#include <setjmp.h>
+#include <signal.h>
 #include <stdint.h>
 #include <stdio.h>
-#include <stdlib.h>
 #include <string.h>
-#include <time.h>
+#include <sys/mman.h>
+
+#include "secrets.h"
 
 typedef _Bool keyed(const uint8_t *key, const uint8_t *message, size_t length, const uint8_t *tag, size_t tag_length);
 keyed keyed_b_by_value, keyed_b_wiped, keyed_b_scrubbed, keyed_s_by_value, keyed_s_wiped, keyed_s_scrubbed;
+keyed hashed_b_wiped, hashed_b_dropped, hashed_s_wiped, hashed_s_dropped;
+void settle_bytes(const uint8_t *bytes);
 
 // The stack that is looked at, in bytes below the frame of the caller, and a piece of a secret.
 enum { DEPTH = 64 * 1024, PIECE = 8 };
 
-static uint8_t key[64], message[4096], tag[64], stack[DEPTH], vectors[16 * 32];
+// One of three numbers, by the length of the message.
+#define AT(bytes_0, bytes_64, bytes_1000) (LENGTH == 0 ? bytes_0 : LENGTH == 64 ? bytes_64 : bytes_1000)
 
+// How many pieces of each secret a form may leave. Where that is not 0, so many were found, the more of the builds for
+// x86-64-v2 and x86-64-v3. A key of BLAKE2b has 8 pieces and one of BLAKE2s 4, and so have tags and chaining words. A
+// form that is not wiped leaves one piece of the key at least: else this looks in the wrong place.
 struct form {
     const char *name;
     keyed *call;
-    size_t bytes;  // of the key and of the tag
-    const char *tool;  // of the family's tag, as Python's hashlib has it
+    char family;
+    _Bool is_wiped;
+    int key, tag, chain;
 };
 
 static const struct form FORMS[] = {
-    {"BLAKE2b by value", keyed_b_by_value, 64, "blake2b"},
-    {"BLAKE2b wiped in place", keyed_b_wiped, 64, "blake2b"},
-    {"BLAKE2b scrubbed", keyed_b_scrubbed, 64, "blake2b"},
-    {"BLAKE2s by value", keyed_s_by_value, 32, "blake2s"},
-    {"BLAKE2s wiped in place", keyed_s_wiped, 32, "blake2s"},
-    {"BLAKE2s scrubbed", keyed_s_scrubbed, 32, "blake2s"},
+    {"BLAKE2b MAC by value", keyed_b_by_value, 'b', 0, AT(75, 30, 24), 8, AT(0, 16, 16)},
+    {"BLAKE2b MAC wiped in place", keyed_b_wiped, 'b', 1, AT(0, 35, 0), 0, 0},
+    {"BLAKE2b MAC scrubbed", keyed_b_scrubbed, 'b', 1, 0, 0, 0},
+    {"BLAKE2b hasher dropped", hashed_b_dropped, 'b', 0, AT(8, 8, 23), 0, 0},
+    {"BLAKE2b hasher wiped in place", hashed_b_wiped, 'b', 1, AT(0, 0, 18), 0, 0},
+    {"BLAKE2s MAC by value", keyed_s_by_value, 's', 0, AT(22, 14, 12), 6, AT(0, 8, 8)},
+    {"BLAKE2s MAC wiped in place", keyed_s_wiped, 's', 1, AT(0, 2, 0), 0, 0},
+    {"BLAKE2s MAC scrubbed", keyed_s_scrubbed, 's', 1, 0, 0, 0},
+    {"BLAKE2s hasher dropped", hashed_s_dropped, 's', 0, AT(4, 4, 1), 0, 0},
+    {"BLAKE2s hasher wiped in place", hashed_s_wiped, 's', 1, 0, 0, 0},
 };
 enum { COUNT = sizeof FORMS / sizeof *FORMS };
 
-// The tag of the message, from Python's hashlib.
-static void take_tag(const struct form *form, size_t length)
-{
-    char command[16384], *to = command;
-    to += sprintf(to, "python3 -c 'import hashlib,sys; sys.stdout.write(hashlib.%s(bytes(i * 11 + 3 + (i >> 4) * 5 & 255 "
-                      "for i in range(%zu)), key=bytes.fromhex(\"", form->tool, length);
-    for (size_t i = 0; i < form->bytes; i++)
-        to += sprintf(to, "%02x", key[i]);
-    sprintf(to, "\")).hexdigest())'");
-    FILE *answer = popen(command, "r");
-    for (size_t i = 0; i < form->bytes; i++) {
-        unsigned byte;
-        if (answer == NULL || fscanf(answer, "%2x", &byte) != 1)
-            puts("python3 gave no tag"), exit(1);
-        tag[i] = (uint8_t)byte;
-    }
-    pclose(answer);
-}
+static uint8_t stack[DEPTH], vectors[16 * 32];
+static int fails;
 
 // Fills the stack below, so that what is found there is of the call.
 static __attribute__((noinline)) void fill_stack(void)
 {
-    volatile uint8_t bytes[DEPTH];
-    for (size_t i = 0; i < DEPTH; i++)
+    volatile uint8_t bytes[2 * DEPTH];
+    for (size_t i = 0; i < sizeof bytes; i++)
         bytes[i] = 0x55;
 }
 
 // Runs a form, and copies the vector registers and the stack below this frame before anything else.
-static __attribute__((noinline)) void run(const struct form *form, size_t length)
+static __attribute__((noinline)) _Bool run(const struct form *form)
 {
-    volatile uint8_t frame[64];
-    frame[0] = 0;
-    if (!form->call(key, message, length, tag, form->bytes))
-        puts("the tag is refused"), exit(1);
+    int is_b = form->family == 'b';
+    _Bool is_taken = form->call(key, message, LENGTH, is_b ? tag_b : tag_s, is_b ? 64 : 32);
 #if defined(__AVX__)
     __asm__ volatile(
         "vmovdqu %%ymm0, 0(%0)\n vmovdqu %%ymm1, 32(%0)\n vmovdqu %%ymm2, 64(%0)\n vmovdqu %%ymm3, 96(%0)\n"
@@ -88,6 +86,7 @@ static __attribute__((noinline)) void run(const struct form *form, size_t length
     void *to = stack;
     size_t n = DEPTH;
     __asm__ volatile("rep movsb" : "+D"(to), "+S"(from), "+c"(n) :: "memory");
+    return is_taken;
 }
 
 // How often pieces of a secret stand in these bytes.
@@ -100,41 +99,85 @@ static int copies(const uint8_t *in, size_t size, const uint8_t *secret, size_t 
     return found;
 }
 
-// The best of many timings of a form, in nanoseconds.
-static double time_of(const struct form *form, size_t length)
+// Copies so many bytes of the key to a frame, as far from its end as `place` says: a form that leaves a copy.
+static size_t place, copied;
+static __attribute__((noinline)) _Bool leave_a_copy(const uint8_t *secret, const uint8_t *text, size_t length,
+                                                    const uint8_t *tag, size_t tag_length)
 {
-    double best = 1e9;
-    for (int turn = 0; turn < 200; turn++) {
-        struct timespec start, end;
-        clock_gettime(CLOCK_MONOTONIC, &start);
-        for (int i = 0; i < 1000; i++)
-            form->call(key, message, length, tag, form->bytes);
-        clock_gettime(CLOCK_MONOTONIC, &end);
-        double one = ((end.tv_sec - start.tv_sec) * 1e9 + (end.tv_nsec - start.tv_nsec)) / 1000;
-        best = one < best ? one : best;
-    }
-    return best;
+    uint8_t frame[DEPTH - 512];
+    memcpy(frame + sizeof frame - place - copied, secret, copied);
+    __asm__ volatile("" :: "r"(frame), "r"(text), "r"(length), "r"(tag), "r"(tag_length) : "memory");
+    return 1;
 }
 
-int main(int argc, char **argv)
+// Whether the search finds what is there, and no more.
+static _Bool finds_copies(void)
 {
-    size_t length = argc > 1 ? (size_t)atol(argv[1]) : 64;
-    if (length > sizeof message)
-        return 1;
-    for (int i = 0; i < 64; i++)
-        key[i] = (uint8_t)(0xA5 ^ (i * 37) ^ (i * i));
-    for (int i = 0; i < 4096; i++)
-        message[i] = (uint8_t)(i * 11 + 3 + (i >> 4) * 5);
-    printf("message of %zu bytes; pieces of %d bytes, of which a key of BLAKE2b has 8 and one of BLAKE2s 4\n", length, PIECE);
-    for (const struct form *form = FORMS; form < FORMS + COUNT; form++) {
-        take_tag(form, length);
-        fill_stack();
-        run(form, length);
-        printf("%-22s stack: key %2d tag %2d message %2d | vector registers: key %d tag %d | %.0f ns\n", form->name,
-               copies(stack, DEPTH, key, form->bytes), copies(stack, DEPTH, tag, form->bytes),
-               copies(stack, DEPTH, message, length < 64 ? length : 64),
-               copies(vectors, sizeof vectors, key, form->bytes), copies(vectors, sizeof vectors, tag, form->bytes),
-               time_of(form, length));
+    static const size_t PLACES[] = {0, 1, 7, 4096, DEPTH - 512 - 64};
+    const struct form form = {"a copy", leave_a_copy, 'b', 0, 0, 0, 0};
+    for (size_t i = 0; i < sizeof PLACES / sizeof *PLACES; i++)
+        for (copied = 0; copied <= 64; copied++) {
+            place = PLACES[i];
+            fill_stack();
+            run(&form);
+            if (copies(stack, DEPTH, key, 64) != (int)(copied / PIECE))
+                return 0;
+        }
+    return 1;
+}
+
+// Whether `settle`, which makes a compiler keep zeros, reads its 64 bytes to the last, and none behind them: a page
+// that can't be read stops it at each place but behind them.
+static sigjmp_buf before_the_read;
+static void stop(int number)
+{
+    siglongjmp(before_the_read, number);
+}
+
+static _Bool settle_reads_all(void)
+{
+    enum { PAGE = 4096, BYTES = 64 };
+    uint8_t *pages = mmap(NULL, 2 * PAGE, PROT_READ | PROT_WRITE, MAP_PRIVATE | MAP_ANONYMOUS, -1, 0);
+    volatile int stops = 0, readable;
+    if (pages == MAP_FAILED || mprotect(pages + PAGE, PAGE, PROT_NONE) != 0 || signal(SIGSEGV, stop) == SIG_ERR)
+        return 0;
+    for (readable = 0; readable <= BYTES; readable++) {
+        if (sigsetjmp(before_the_read, 1) == 0)
+            settle_bytes(pages + PAGE - readable);
+        else
+            stops += readable < BYTES ? 1 : BYTES;
     }
-    return 0;
+    signal(SIGSEGV, SIG_DFL);
+    return stops == BYTES;
+}
+
+static void look(const struct form *form)
+{
+    int is_b = form->family == 'b';
+    size_t size = is_b ? 64 : 32;
+    const uint8_t *tag = is_b ? tag_b : tag_s, *chain = is_b ? chain_b : chain_s;
+    fill_stack();
+    _Bool is_taken = run(form);
+    int in_key = copies(stack, DEPTH, key, size);
+    int in_tag = copies(stack, DEPTH, tag, size);
+    int in_chain = copies(stack, DEPTH, chain, is_b ? CHAIN_B : CHAIN_S);
+    _Bool fits = is_taken && in_key >= !form->is_wiped && in_key <= form->key && in_tag <= form->tag &&
+                 in_chain <= form->chain;
+    printf("%s: %s, message of %d bytes: key %d, tag %d, chaining words %d", fits ? "passed" : "FAILED", form->name,
+           LENGTH, in_key, in_tag, in_chain);
+    printf("; at most %d, %d, %d; in vector registers key %d, tag %d%s\n", form->key, form->tag, form->chain,
+           copies(vectors, sizeof vectors, key, size), copies(vectors, sizeof vectors, tag, size),
+           is_taken ? "" : "; the tag is refused");
+    fails += !fits;
+}
+
+int main(void)
+{
+    _Bool finds = finds_copies(), reads = settle_reads_all();
+    printf("%s: copies of 0 to 64 bytes are found at each depth\n", finds ? "passed" : "FAILED");
+    printf("%s: settle reads 64 bytes\n", reads ? "passed" : "FAILED");
+    fails = !finds + !reads;
+    for (const struct form *form = FORMS; form < FORMS + COUNT; form++)
+        look(form);
+    return fails != 0;
 }
