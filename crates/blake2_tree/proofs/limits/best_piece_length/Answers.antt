@@ -13,3 +13,7 @@ returns-then-whole-le-LONGEST_PIECE_BYTES-clause-least c =
     let fours : c.max-fours.result ≡ max (fit / 4) 1 = search rules in
     rw fours (piece-least leaf fit (fit / 4) (omega arith) (omega arith) (omega arith)
     (omega arith))
+
+pub returns-then-whole-le-LONGEST_PIECE_BYTES-clause-most :
+    goal.returns-then-whole-le-LONGEST_PIECE_BYTES-clause-most
+returns-then-whole-le-LONGEST_PIECE_BYTES-clause-most c = search rules
