@@ -19,7 +19,7 @@ use crate::sum::sum;
 use crate::tree::tree;
 use crate::words::{Family, Options};
 use blake2::engine::{Sink, Source};
-use blake2::{Blake2bMac, Blake2sMac};
+use blake2::{Blake2b, Blake2bMac, Blake2s, Blake2sMac, Digest};
 use std::alloc::Global;
 
 /// Prints what is asked for of what the source gives.
@@ -58,14 +58,16 @@ fn hash_blake2b<S: Source, K: Sink, const N: usize>(
 {
     let options = &request.options;
     match request.output {
+        Output::Digest if options.are_empty() => sum(Blake2b::<N>::new(), source, sink),
         Output::Digest => sum(mac_blake2b::<N>(options)?, source, sink),
+        Output::Digests if options.are_empty() => script(alloc, Blake2b::<N>::new(), source, sink),
         Output::Digests => script(alloc, mac_blake2b::<N>(options)?, source, sink),
         Output::Transcript => steps_blake2b(alloc, options, N, source, sink),
         Output::Root(leaf_length) => tree::<S, K, N>(alloc, leaf_length, options, source, sink),
     }
 }
 
-// The MAC under the options. Where none is given it is the hash function.
+// The MAC under the options.
 fn mac_blake2b<const N: usize>(options: &Options) -> Result<Blake2bMac<N>, Fault>
     requires size { N ≤ 64 }
     ensures length { IsErr result ↔ IsRefusedBy blake2b (given_of options.now) }
@@ -97,14 +99,16 @@ fn hash_blake2s<S: Source, K: Sink, const N: usize>(
 {
     let options = &request.options;
     match request.output {
+        Output::Digest if options.are_empty() => sum(Blake2s::<N>::new(), source, sink),
         Output::Digest => sum(mac_blake2s::<N>(options)?, source, sink),
+        Output::Digests if options.are_empty() => script(alloc, Blake2s::<N>::new(), source, sink),
         Output::Digests => script(alloc, mac_blake2s::<N>(options)?, source, sink),
         Output::Transcript => steps_blake2s(alloc, options, N, source, sink),
         Output::Root(_) => unreachable!(),
     }
 }
 
-// The MAC under the options. Where none is given it is the hash function.
+// The MAC under the options.
 fn mac_blake2s<const N: usize>(options: &Options) -> Result<Blake2sMac<N>, Fault>
     requires size { N ≤ 32 }
     ensures length { IsErr result ↔ IsRefusedBy blake2s (given_of options.now) }

@@ -1,6 +1,6 @@
 //! The words of the command line, read from left to right.
 
-ghost use Rattle.std.specs.Prelude.{◌≡◌, ◌<◌, ◌≤◌, [], length, map, unwrap_or, IsTrue, IfOk, IfErr};
+ghost use Rattle.std.specs.Prelude.{◌≡◌, ◌<◌, ◌≤◌, ◌↔◌, [], length, map, unwrap_or, IsTrue, IfOk, IfErr};
 ghost use Rattle.std.specs.Prelude.{OnOk};
 ghost use Rattle.std.specs.String.{string_bytes};
 ghost use Rattle.blake2.specs.Family.{output_bytes};
@@ -172,6 +172,13 @@ impl Options {
             Some(persona) => persona.as_slice(),
             None => &[],
         }
+    }
+
+    /// Whether none is given.
+    pub(crate) fn are_empty(&self) -> bool
+        ensures { IsTrue result ↔ (given_of self.now ≡ nothing_given) }
+    {
+        matches!((&self.key, &self.salt, &self.persona), (None, None, None))
     }
 }
 
