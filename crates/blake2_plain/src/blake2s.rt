@@ -186,6 +186,8 @@ impl State {
     /// A state of a node of a tree of hashes that has taken nothing: of the parameters of `new`, at
     /// this place in the tree, one that `admits_tree` takes (the BLAKE2 document, 2.10). Its
     /// last-node flag is off. Refused exactly for the lengths that `new` refuses.
+    // Inlined, so that under a key no frame reaches below the zeros that `blake2_c` writes over the
+    // stack (docs/WIPING.md).
     #[inline]
     pub fn new_with_tree(given: &StateParameters<'_>, tree: &Tree) -> Result<Self, InvalidLength>
         requires tree { AdmitsTree blake2s (tree_of tree.now) }
