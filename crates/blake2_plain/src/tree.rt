@@ -3,9 +3,8 @@
 //! runs. `blake2_c` shows it to C.
 
 ghost use Rattle.std.specs.Prelude.{◌≡◌, ℕ, ◌+◌, ◌*◌, ◌^◌, ◌<◌, ◌≤◌, ◌↔◌, List, [], ◌++◌, length};
-ghost use Rattle.std.specs.Prelude.{take, drop, IfOk, IsErr, IsTrue};
-ghost use Rattle.std.specs.List.{concat};
-ghost use Rattle.blake2_digest.specs.States.{Fresh, Updated, digest_now};
+ghost use Rattle.std.specs.Prelude.{drop, IfOk, IsErr, IsTrue};
+ghost use Rattle.blake2_digest.specs.States.{Fresh, digest_now};
 ghost use Rattle.blake2_plain.specs.Blake2b.{IsReady as IsNodeReady, meaning};
 ghost use Rattle.blake2_tree.specs.Nodes.{parameters_of, node_digest};
 ghost use Rattle.blake2_tree.specs.TreeRoot.{tree_parameters, tree_root as root_of};
