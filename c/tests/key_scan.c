@@ -30,8 +30,8 @@
 #endif
 
 /* The calls: what goes before, whether the state is zero then, and how many pieces of the key may be left on the dead
- * stack, of BLAKE2b, whose key has 8 pieces, and of BLAKE2s, whose key has 4. These are the pieces that were found, the
- * more of the builds for x86-64-v2 and x86-64-v3. */
+ * stack, of BLAKE2b, whose key has 8 pieces, and of BLAKE2s, whose key has 4: none, as the builds for x86-64-v2 and
+ * x86-64-v3 leave none. */
 #define CALLS(CALL)                                                                          \
     CALL(init_key, nothing, 0, EITHER(0, 0), "init_key")                                     \
     CALL(init_salt, nothing, 0, EITHER(0, 0), "init_salt_personal with a key")               \
@@ -43,13 +43,13 @@
     CALL(many_one, nothing, 0, EITHER(0, 0), "many, one message")                            \
     CALL(many_lanes, nothing, 0, EITHER(0, 0), "many, as many as are hashed at once")        \
     CALL(many_more, nothing, 0, EITHER(0, 0), "many, one more, of another length")           \
-    CALL(update, start, 0, EITHER(35, 2), "update")                                          \
+    CALL(update, start, 0, EITHER(0, 0), "update")                                           \
     CALL(update, start_and_take, 0, EITHER(0, 0), "update, after an update")                 \
     CALL(set_last_node, start_and_take, 0, EITHER(0, 0), "set_last_node")                    \
-    CALL(final, start_and_take, 1, EITHER(59, 14), "final")                                  \
-    CALL(verify_right, start_and_take, 1, EITHER(59, 14), "verify, a right tag")             \
-    CALL(verify_wrong, start_and_take, 1, EITHER(59, 14), "verify, a wrong tag")             \
-    CALL(verify_short, start_and_take, 1, EITHER(59, 14), "verify, a tag of another length") \
+    CALL(final, start_and_take, 1, EITHER(0, 0), "final")                                    \
+    CALL(verify_right, start_and_take, 1, EITHER(0, 0), "verify, a right tag")               \
+    CALL(verify_wrong, start_and_take, 1, EITHER(0, 0), "verify, a wrong tag")               \
+    CALL(verify_short, start_and_take, 1, EITHER(0, 0), "verify, a tag of another length")   \
     CALL(reset, start_and_take, 0, EITHER(0, 0), "reset")                                    \
     CALL(wipe, start_and_take, 1, EITHER(0, 0), "wipe")
 

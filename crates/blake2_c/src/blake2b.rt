@@ -1,7 +1,7 @@
 //! BLAKE2b with sizes that are chosen as the program runs.
 
-ghost use Rattle.std.specs.Prelude.{◌≡◌, ◌≢◌, ◌++◌, ◌⊎◌, [], length, drop, slice_index, pos};
-ghost use Rattle.std.specs.Prelude.{negsuc, None};
+ghost use Rattle.std.specs.Prelude.{◌≡◌, ◌≢◌, ◌↔◌, ◌+◌, ◌^◌, ◌<◌, ◌≤◌, ◌++◌, ◌⊎◌, [], length, drop};
+ghost use Rattle.std.specs.Prelude.{slice_index, pos, negsuc, None, IsTrue};
 ghost use Rattle.blake2.specs.Family.{blake2b};
 ghost use Rattle.blake2.specs.States.{digest_of, node_digest_of};
 ghost use Rattle.blake2_words.specs.Hash.{AdmitsTree, sequential};
@@ -27,6 +27,17 @@ use blake2_plain::blake2b::State;
 const BEGIN_BYTES: usize = 1024;
 
 const WRITE_BYTES: usize = 3072;
+
+// The same of `take`, and of `give` and `is_digest_of`.
+const TAKE_BYTES: usize = 1152;
+
+const GIVE_BYTES: usize = 1664;
+
+// Whether the key's block is pending: fewer bytes are compressed than a start leaves. It is then
+// the next block that is compressed.
+fn has_key_pending(state: &State) -> bool {
+    state.counter < state.start_length as u64
+}
 
 // The digest of 64 bytes under no key, which needs no state.
 fn write_longest(out: &mut [u8], input: &[u8])
@@ -269,6 +280,32 @@ pub extern "C" fn blake2_c_blake2b_init_block(state: &mut State, block: &[u8]) -
     }
 }
 
+// Takes the input, in a frame of its own, which the caller scrubs.
+#[inline(never)]
+fn take(state: &mut State, input: &[u8])
+    requires ready { IsReady state.old }
+    requires counted { meaning.count state.old + length input.now < 2 ^ 64 }
+    ensures ready { IsReady state.new }
+    ensures size { state.new.output_size ≡ state.old.output_size }
+    ensures taken { Updated meaning state.old input.now state.new }
+{
+    state.update(input);
+}
+
+// What `blake2_c_blake2b_update` does where the key's block is pending. Other updates are to make
+// no frame for this one.
+#[inline(never)]
+fn take_scrubbed(state: &mut State, input: &[u8])
+    requires ready { IsReady state.old }
+    requires counted { meaning.count state.old + length input.now < 2 ^ 64 }
+    ensures ready { IsReady state.new }
+    ensures size { state.new.output_size ≡ state.old.output_size }
+    ensures taken { Updated meaning state.old input.now state.new }
+{
+    take(state, input);
+    scrub_stack::<TAKE_BYTES>();
+}
+
 /// Takes the input after all that was taken before. Answers 0, or -1 where the state is not ready
 /// or its count would reach 2^64; the state then stays as it is.
 #[unsafe(no_mangle)]
@@ -286,8 +323,25 @@ pub extern "C" fn blake2_c_blake2b_update(state: &mut State, input: &[u8]) -> i3
     if input.len() as u64 > u64::MAX - state.counted() {
         return -1;
     }
-    state.update(input);
+    if has_key_pending(state) {
+        take_scrubbed(state, input);
+    } else {
+        state.update(input);
+    }
     0
+}
+
+// What `blake2_c_blake2b_final` does that is not refused, in a frame of its own, which the caller
+// scrubs where the key's block was pending.
+#[inline(never)]
+fn give(state: &mut State, out: &mut [u8])
+    requires ready { IsReady state.old }
+    requires room { state.old.output_size ≤ length out.old }
+    ensures output { out.new ≡ digest_now meaning state.old ++ drop state.old.output_size out.old }
+    ensures wiped { state.new ≡ zeros }
+{
+    state.write_digest(out);
+    state.wipe();
 }
 
 /// Writes the digest at the beginning of `out`, and wipes the state, which is then not ready.
@@ -306,9 +360,22 @@ pub extern "C" fn blake2_c_blake2b_final(state: &mut State, out: &mut [u8]) -> i
     if !state.is_ready() || out.len() < state.output_size {
         return -1;
     }
-    state.write_digest(out);
-    state.wipe();
+    let has_key = has_key_pending(state);
+    give(state, out);
+    if has_key {
+        scrub_stack::<GIVE_BYTES>();
+    }
     0
+}
+
+// Whether the tag is the whole digest, in a frame of its own, which the caller scrubs where the
+// key's block was pending.
+#[inline(never)]
+fn is_digest_of(state: &State, tag: &[u8]) -> bool
+    requires { IsReady state.now }
+    ensures { IsTrue result ↔ (tag.now ≡ digest_now meaning state.now) }
+{
+    state.is_digest(tag)
 }
 
 /// Whether the tag is the whole digest: 0, or -1 where it is not or the state is not ready. It
@@ -321,9 +388,13 @@ pub extern "C" fn blake2_c_blake2b_verify(state: &mut State, tag: &[u8]) -> i32
     ensures same { (¬ IsReady state.old) → state.new ≡ state.old }
 {
     let is_ready = state.is_ready();
-    let is_digest = is_ready && state.is_digest(tag);
+    let has_key = has_key_pending(state);
+    let is_digest = is_ready && is_digest_of(state, tag);
     if is_ready {
         state.wipe();
+    }
+    if has_key {
+        scrub_stack::<GIVE_BYTES>();
     }
     if is_digest { 0 } else { -1 }
 }
