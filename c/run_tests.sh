@@ -26,10 +26,10 @@ passed=0 failed=0 skipped=0
 cpu=() source=(--parts "$parts") only=
 while [ $# -gt 0 ]; do
     case $1 in
-        --cpu) cpu=(--cpu "${2-}"); shift 2 ;;
+        --cpu) cpu=(--cpu "${2-}"); shift $(($# > 1 ? 2 : 1)) ;;
         --after-ci) source=(--after-ci --parts "$parts"); shift ;;
-        --from) parts=$(readlink -f "${2-}"); source=(--from "$parts"); shift 2 ;;
-        --only) only=${2-}; shift 2 ;;
+        --from) parts=$(readlink -f "${2-}"); source=(--from "$parts"); shift $(($# > 1 ? 2 : 1)) ;;
+        --only) only=${2-}; shift $(($# > 1 ? 2 : 1)) ;;
         *) echo "usage: c/run_tests.sh [--cpu CPU] [--after-ci | --from PARTS] [--only PART]" >&2; exit 2 ;;
     esac
 done
