@@ -1,18 +1,18 @@
 -- Several messages side by side: their words, and what the last step of a compression makes of
 -- them.
-use Rattle.std.proofs.Common.{false, ◌≡◌, ℕ, zero, suc, ◌+◌, ◌-◌, ◌*◌, ◌%◌, ◌<◌, List, [], ◌∷◌}
+use Rattle.std.proofs.Common.{false, ◌≡◌, ℕ, zero, suc, ◌+◌, ◌-◌, ◌*◌, ◌<◌, ◌≤◌, List, [], ◌∷◌}
 use Rattle.std.proofs.Common.{length, get_or, slice_index, slice_index_or, bit_xor, replicate, map}
-use Rattle.std.proofs.Common.{take, drop, refl, sym, ap, ◌∙◌, arith}
-use Rattle.std.proofs.lemmas.List.{get_or-map, get_or_default, length-map}
+use Rattle.std.proofs.Common.{take, drop, refl, sym, ap, subst, ◌∙◌, arith, below_more, slice_set}
+use Rattle.std.proofs.lemmas.List.{ext_get_or, get_or-map, get_or_default, length-map}
+use Rattle.std.proofs.lemmas.List.{get_or-set_other, get_or-set_same}
 use Rattle.std.specs.Borrow.{Bor}
-use Rattle.blake2_rows.specs.Family.{Family, sigma, block_bytes}
-use Rattle.blake2_rows.specs.Round.{round}
+use Rattle.blake2_rows.specs.Family.{Family, block_bytes}
 use Rattle.blake2_rows.specs.Rows.{eight, lane}
-use Rattle.blake2_rows.proofs.Lanes.{lanes}
+use Rattle.blake2_rows.proofs.Lanes.{lane_of, lanes}
 use Rattle.blake2_rows.proofs.Words.{cells, cells-drop}
-use Rattle.blake2_words.specs.Hash.{Flags, Input, after_rounds, block_count, blocks, bytes_of}
-use Rattle.blake2_words.specs.Hash.{chain, compress, digest, inner, input_data, input_flags}
-use Rattle.blake2_words.specs.Hash.{input_start, last_chain, xor_words}
+use Rattle.blake2_words.specs.Hash.{Flags, Input, block_count, blocks}
+use Rattle.blake2_words.specs.Hash.{chain, compress, inner, input_data}
+use Rattle.blake2_words.specs.Hash.{last_chain, xor_words}
 use Rattle.blake2_rows.specs.Lanes.{in_lane}
 use Rattle.blake2_words.specs.Lanes.{after_blocks, block_lists, flags_at, texts}
 
@@ -20,6 +20,18 @@ use Rattle.blake2_words.specs.Lanes.{after_blocks, block_lists, flags_at, texts}
 pub lane_word : (rows : List (List ℕ)) (j k : ℕ) (d : List ℕ) → k < length rows
     → slice_index (get_or rows k d) j ≡ slice_index (in_lane j rows) k
 lane_word rows j k d h = sym (get_or-map (λ (row : List ℕ). slice_index row j) rows k d 0 h)
+
+-- the words of a lane, word by word
+pub lane_is : (n j : ℕ) (rows : List (List ℕ)) (words : List ℕ) → length rows ≡ n
+    → length words ≡ n
+    → ((k : ℕ) → k < n → slice_index (slice_index_or rows k []) j ≡ slice_index words k)
+    → in_lane j rows ≡ words
+lane_is n j rows words long many at =
+    let word : List ℕ → ℕ = λ row. slice_index row j in
+    let as_many : length (in_lane j rows) ≡ length rows = length-map rows word in
+    ext_get_or 0 (in_lane j rows) words (as_many ∙ long ∙ sym many)
+    (λ k lt. get_or-map word rows k [] 0 (omega (arith, as_many))
+    ∙ at k (omega (arith, as_many)))
 
 -- block j of several
 pub text_at : (blocks : List (Bor (List ℕ))) (j : ℕ) (d : Bor (List ℕ)) → j < length blocks
@@ -31,6 +43,22 @@ pub blocks_at : (lists : List (Bor (List (List ℕ)))) (j : ℕ) (d : Bor (List 
     → j < length lists → (get_or lists j d).now ≡ slice_index_or (block_lists lists) j []
 blocks_at lists j d h = sym (get_or-map (λ b. b.now) lists j d [] h)
 
+-- what a list of references to blocks has at the places where it has none
+abbrev pub no_blocks : Bor (List (List ℕ))
+no_blocks = record { ref_ptr = (0, 0); now = [] }
+
+-- what holds of what stands behind each of n references to blocks
+pub in_lists : (P : ℕ → List (List ℕ) → Type 0) (lists : List (Bor (List (List ℕ)))) (n i : ℕ)
+    → length lists ≡ n → n ≤ i → ((k : ℕ) → k < i → P k (slice_index_or lists k no_blocks).now)
+    → (k : ℕ) → k < n → P k (slice_index_or (block_lists lists) k [])
+in_lists P lists n i long all each k lt =
+    subst (P k) (blocks_at lists k no_blocks (omega arith)) (each k (omega arith))
+
+-- n blocks of an input's data from the second on
+abbrev pub AreLater : Family → Input → ℕ → List (List ℕ) → Type 0
+AreLater f a n later = (length later ≡ n) × ((i : ℕ) → i < n
+    → slice_index_or later i [] ≡ slice_index_or (blocks f (input_data f a)) (i + 1) [])
+
 -- block i of message j
 pub block_in_list : (lists : List (Bor (List (List ℕ)))) (j i : ℕ) (d : Bor (List (List ℕ)))
     (e : List ℕ) → j < length lists → i < length (get_or lists j d).now
@@ -39,6 +67,15 @@ pub block_in_list : (lists : List (Bor (List (List ℕ)))) (j i : ℕ) (d : Bor 
 block_in_list lists j i d e here within =
     get_or_default (get_or lists j d).now i e [] within
     ∙ ap (λ l. slice_index_or l i []) (blocks_at lists j d here)
+
+-- what holds of the elements below j, and of one that is put there, holds of those below j + 1
+pub set_more : {X : Type 0} (P : ℕ → X → Type 0) (xs : List X) (j : ℕ) (x d : X) → j < length xs
+    → ((k : ℕ) → k < j → P k (slice_index_or xs k d)) → P j x
+    → (k : ℕ) → k < j + 1 → P k (slice_index_or (slice_set xs j x) k d)
+set_more P xs j x d within before here =
+    below_more (λ k. P k (slice_index_or (slice_set xs j x) k d)) j
+    (λ k lt. subst (P k) (sym (get_or-set_other xs j k x d (λ e. absurd (omega arith))))
+    (before k lt)) (subst (P j) (sym (get_or-set_same xs j x d within)) here)
 
 -- no block yet
 pub none_after : (f : Family) (h : List ℕ) (d : List (List ℕ)) (t : ℕ) (flags : Flags)
@@ -78,16 +115,6 @@ later_after f h first d later (suc n) begun same =
     (λ k. compress f (before k) (same n (omega arith) k) (counted k) inner)
     ∙ ap (chain f h 0 d) next
 
--- one round more
-pub next_round : (f : Family) (n : ℕ) (v m u w : List ℕ)
-    → w ≡ round f u m (slice_index_or sigma (n % 10) []) → u ≡ after_rounds f v m n
-    → w ≡ after_rounds f v m (n + 1)
-unfolding after_rounds
-next_round f n v m u w e so_far =
-    let next : suc n ≡ n + 1 = omega arith in
-    e ∙ ap (λ l. round f l m (slice_index_or sigma (n % 10) [])) so_far
-    ∙ ap (after_rounds f v m) next
-
 -- eight words xored with both halves of sixteen
 pub xored : (h v : List ℕ) → length h ≡ 8 → length v ≡ 16
     → (let x : ℕ → ℕ = λ k. bit_xor (bit_xor (slice_index h k) (slice_index v k))
@@ -100,15 +127,38 @@ xored h v lh lv =
     ∙ (λ i. xor_words (xor_words (cells-drop h 0 8 lh i) (take 8 (cells-drop v 0 16 lv i)))
     (drop 8 (cells-drop v 0 16 lv i)))
 
--- the exclusive or of three words of a lane
-pub words_xored : (h v : List (List ℕ)) (j k l : ℕ) (a b c : List ℕ) → k < length h → k < length v
-    → l < length v
+-- word k of lane j of h, xored with those of both halves of v
+abbrev pub xor_at : List (List ℕ) → List (List ℕ) → ℕ → ℕ → ℕ
+xor_at h v j k =
+    bit_xor (bit_xor (slice_index (slice_index_or h k []) j) (slice_index (slice_index_or v k []) j))
+    (slice_index (slice_index_or v (8 + k) []) j)
+
+-- what stands elsewhere changes no word that is read
+pub xor_read : (h v : List (List ℕ)) (j k : ℕ) (a b c : List ℕ) → k < length h → k < length v
+    → 8 + k < length v
     → bit_xor (bit_xor (slice_index (get_or h k a) j) (slice_index (get_or v k b) j))
-    (slice_index (get_or v l c) j)
-    ≡ bit_xor (bit_xor (slice_index (in_lane j h) k) (slice_index (in_lane j v) k))
-    (slice_index (in_lane j v) l)
-words_xored h v j k l a b c hk vk vl = λ i. bit_xor
-    (bit_xor (lane_word h j k a hk i) (lane_word v j k b vk i)) (lane_word v j l c vl i)
+    (slice_index (get_or v (8 + k) c) j) ≡ xor_at h v j k
+xor_read h v j k a b c hk vk vl = λ i. bit_xor
+    (bit_xor (slice_index (get_or_default h k a [] hk i) j)
+    (slice_index (get_or_default v k b [] vk i) j))
+    (slice_index (get_or_default v (8 + k) c [] vl i) j)
+
+-- the eight words of a lane so made
+pub xored_lanes : (h v out : List (List ℕ)) (j : ℕ) → length h ≡ 8 → length v ≡ 16
+    → length out ≡ 8
+    → ((k : ℕ) → k < 8 → slice_index (slice_index_or out k []) j ≡ xor_at h v j k)
+    → in_lane j out ≡ xor_words (xor_words (in_lane j h) (take 8 (in_lane j v)))
+    (drop 8 (in_lane j v))
+xored_lanes h v out j lh lv long at =
+    let word : List ℕ → ℕ = λ row. slice_index row j in
+    let x : ℕ → ℕ = λ k. bit_xor (bit_xor (slice_index (in_lane j h) k)
+    (slice_index (in_lane j v) k)) (slice_index (in_lane j v) (8 + k)) in
+    lane_is 8 j out (lanes 8 x) long refl
+    (λ k lt. at k lt
+    ∙ (λ i. bit_xor (bit_xor (lane_word h j k [] (omega (arith, lh)) i)
+    (lane_word v j k [] (omega (arith, lv)) i)) (lane_word v j (8 + k) [] (omega (arith, lv)) i))
+    ∙ sym (lane_of 8 x k lt))
+    ∙ xored (in_lane j h) (in_lane j v) (length-map h word ∙ lh) (length-map v word ∙ lv)
 
 -- word k of column j of some rows is the word in lane j of row k, which is row p of h
 pub column_word : (h rows columns : List (List ℕ)) (p j k : ℕ) (d : List ℕ)
@@ -191,20 +241,11 @@ run_end f h z n t old new block flags before last compressed is_block counted =
     ∙ ap (λ m. compress f (chain f h 0 (blocks f z) m) (slice_index_or (blocks f z) m [])
     (0 + length z) flags) last
 
--- the first bytes of the last chaining words are the digest
-pub digest_of_run : (f : Family) (size : ℕ) (a : Input) (first last out : List ℕ)
-    → out ≡ take size (bytes_of f last)
-    → last ≡ last_chain f first 0 (input_data f a) (input_flags a) → first ≡ input_start f size a
-    → out ≡ digest f size a
-unfolding digest
-digest_of_run f size a first last out e run begun =
-    e ∙ ap (λ h. take size (bytes_of f h)) (run ∙ ap
-    (λ h. last_chain f h 0 (input_data f a) (input_flags a)) begun)
-
 -- n items, each mapped
-pub mapped : {X : Type 0} (n : ℕ) (g : X → List ℕ) (d : X) (xs : List X) → length xs ≡ n
-    → lanes n (λ j. g (get_or xs j d)) ≡ map g xs
-mapped zero g d [] long = refl
-mapped zero g d (x ∷ xs) long = absurd (omega arith)
-mapped (suc n) g d [] long = absurd (omega arith)
-mapped (suc n) g d (x ∷ xs) long = λ i. g x ∷ mapped n g d xs (omega arith) i
+pub mapped : {X : Type 0} (n : ℕ) (g : X → List ℕ) (d : X) (xs : List X) (ys : List (List ℕ))
+    → length xs ≡ n → length ys ≡ n
+    → ((j : ℕ) → j < n → slice_index_or ys j [] ≡ g (slice_index_or xs j d)) → ys ≡ map g xs
+mapped n g d xs ys long many at =
+    let as_many : length (map g xs) ≡ n = length-map xs g ∙ long in
+    ext_get_or [] ys (map g xs) (many ∙ sym as_many)
+    (λ j lt. at j (omega (arith, many)) ∙ sym (get_or-map g xs j d [] (omega (arith, many, long))))

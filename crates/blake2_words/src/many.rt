@@ -13,17 +13,17 @@ ghost use Rattle.blake2_words.specs.Views.{input_of};
 
 use crate::steps::Input;
 
-// The blocks of an input's data from the second on, where they stand in the message: all but the
-// last, which may be among them too.
+// So many blocks of an input's data from the second on, where they stand in the message. The last
+// of the data is not among them.
 #[inline(always)]
-fn later_blocks<'a, const B: usize>(input: &Input<'a>) -> &'a [[u8; B]]
+fn later_blocks<'a, const B: usize>(input: &Input<'a>, count: usize) -> &'a [[u8; B]]
     ghost f: { Family }
     requires family { block_bytes f ≡ B }
     requires accepted { Accepts f (input_of input.now) }
-    ensures blocks { (i : ℕ) → i + 2 < Run.step_count f (input_of input.now)
-        → slice_index_or result.now i [] ≡ slice_index_or
+    requires within { count + 2 ≤ Run.step_count f (input_of input.now) }
+    ensures long { length result.now ≡ count }
+    ensures blocks { (i : ℕ) → i < count → slice_index_or result.now i [] ≡ slice_index_or
         (blocks f (input_data f (input_of input.now))) (i + 1) [] }
-    ensures enough { Run.step_count f (input_of input.now) ≤ length result.now + 2 }
 {
     let message = input.message;
     let rest = match input.key {
@@ -31,5 +31,5 @@ fn later_blocks<'a, const B: usize>(input: &Input<'a>) -> &'a [[u8; B]]
         Some(_) => message,
     };
     let (blocks, _) = rest.as_chunks::<B>();
-    blocks
+    &blocks[..count]
 }

@@ -28,14 +28,32 @@ use crate::words::Flags;
 use crate::words::blake2b::{block_words, to_bytes};
 use blake2_rows::rows::u64x4;
 
-// Row k of several words a lane.
+// The row of word k of each of four messages.
 #[inline(always)]
-fn row<const N: usize>(words: &[[u64; N]; 4], k: usize) -> u64x4
-    requires { k < N }
+fn row(words: &[[u64; 8]; 4], k: usize) -> u64x4
+    requires { k < 8 }
     ensures { (j : ℕ) → j < 4
         → slice_index result j ≡ slice_index (slice_index_or words.now j []) k }
 {
     u64x4::new(words[0][k], words[1][k], words[2][k], words[3][k])
+}
+
+// The rows of the words of four messages.
+#[inline(always)]
+fn rows_of(words: &[[u64; 8]; 4]) -> [u64x4; 8]
+    ensures { (j k : ℕ) → j < 4 → k < 8
+        → lane result k j ≡ slice_index (slice_index_or words.now j []) k }
+{
+    [
+        row(words, 0),
+        row(words, 1),
+        row(words, 2),
+        row(words, 3),
+        row(words, 4),
+        row(words, 5),
+        row(words, 6),
+        row(words, 7),
+    ]
 }
 
 // The four words of a block from word k on.
@@ -115,29 +133,16 @@ fn begin(h: &[u64x4; 8], counter: u64, flags: &[Flags; 4]) -> [u64x4; 16]
         → in_lane j result
         ≡ before_rounds blake2b (in_lane j h.now) counter (flags_at flags.now j) }
 {
-    let w = [
+    let last = [
         last_words(counter, flags[0]),
         last_words(counter, flags[1]),
         last_words(counter, flags[2]),
         last_words(counter, flags[3]),
     ];
+    let w = rows_of(&last);
     [
-        h[0],
-        h[1],
-        h[2],
-        h[3],
-        h[4],
-        h[5],
-        h[6],
-        h[7],
-        row(&w, 0),
-        row(&w, 1),
-        row(&w, 2),
-        row(&w, 3),
-        row(&w, 4),
-        row(&w, 5),
-        row(&w, 6),
-        row(&w, 7),
+        h[0], h[1], h[2], h[3], h[4], h[5], h[6], h[7], w[0], w[1], w[2], w[3], w[4], w[5], w[6],
+        w[7],
     ]
 }
 
@@ -191,16 +196,11 @@ fn finish(h: &[u64x4; 8], v: &[u64x4; 16]) -> [u64x4; 8]
         ≡ xor_words (xor_words (in_lane j h.now) (take 8 (in_lane j v.now)))
         (drop 8 (in_lane j v.now)) }
 {
-    [
-        xor(h[0], v[0], v[8]),
-        xor(h[1], v[1], v[9]),
-        xor(h[2], v[2], v[10]),
-        xor(h[3], v[3], v[11]),
-        xor(h[4], v[4], v[12]),
-        xor(h[5], v[5], v[13]),
-        xor(h[6], v[6], v[14]),
-        xor(h[7], v[7], v[15]),
-    ]
+    let mut result = *h;
+    for k in 0..8 {
+        result[k] = xor(h[k], v[k], v[8 + k]);
+    }
+    result
 }
 
 /// F, the compression (RFC 7693, 3.2), of four messages at once: `h` holds their chaining words,
@@ -225,22 +225,11 @@ fn start(output_size: usize, inputs: &[Input<'_>; 4]) -> [u64x4; 8]
     ensures { (j : ℕ) → j < 4
         → in_lane j result ≡ input_start blake2b output_size (input_at inputs.now j) }
 {
-    let h = [
-        start_words(&parameters_of(&inputs[0], output_size)),
-        start_words(&parameters_of(&inputs[1], output_size)),
-        start_words(&parameters_of(&inputs[2], output_size)),
-        start_words(&parameters_of(&inputs[3], output_size)),
-    ];
-    [
-        row(&h, 0),
-        row(&h, 1),
-        row(&h, 2),
-        row(&h, 3),
-        row(&h, 4),
-        row(&h, 5),
-        row(&h, 6),
-        row(&h, 7),
-    ]
+    let mut words = [[0; 8]; 4];
+    for j in 0..4 {
+        words[j] = start_words(&parameters_of(&inputs[j], output_size));
+    }
+    rows_of(&words)
 }
 
 // Compresses blocks of each of four messages, one after another, as many of each, all under flags
@@ -306,11 +295,11 @@ fn absorb_inner(h: &mut [u64x4; 8], inputs: &[Input<'_>; 4])
     }
     let flags = [Flags::INNER; 4];
     compress_at(h, inputs, 0, 128, &flags);
-    let p0 = &later_blocks(&inputs[0])[..count - 2];
-    let p1 = &later_blocks(&inputs[1])[..count - 2];
-    let p2 = &later_blocks(&inputs[2])[..count - 2];
-    let p3 = &later_blocks(&inputs[3])[..count - 2];
-    compress_blocks(h, &[p0, p1, p2, p3], 256, &flags);
+    let mut later: [&[[u8; 128]]; 4] = [&[]; 4];
+    for j in 0..4 {
+        later[j] = later_blocks(&inputs[j], count - 2);
+    }
+    compress_blocks(h, &later, 256, &flags);
 }
 
 // The flags of the last compression of four inputs.
@@ -363,6 +352,27 @@ fn output<const N: usize>(h: &[u64x4; 2]) -> [u8; N]
     bytes
 }
 
+// The first N bytes of the last chaining words of each of four inputs, at digests of `output_size`
+// bytes.
+fn outputs<const N: usize>(output_size: usize, inputs: &[Input<'_>; 4]) -> [[u8; N]; 4]
+    requires room { N ≤ output_bytes blake2b }
+    requires size { output_size ≤ output_bytes blake2b }
+    requires accepted { AcceptsAtOnce blake2b 4 inputs.now }
+    ensures { (j : ℕ) → j < 4 → slice_index_or result j []
+        ≡ take N (bytes_of blake2b (last_chain blake2b
+        (input_start blake2b output_size (input_at inputs.now j)) 0
+        (input_data blake2b (input_at inputs.now j)) (input_flags (input_at inputs.now j)))) }
+{
+    let mut h = start(output_size, inputs);
+    absorb(&mut h, inputs);
+    let last = lanes(&h);
+    let mut outputs = [[0; N]; 4];
+    for j in 0..4 {
+        outputs[j] = output(&last[j]);
+    }
+    outputs
+}
+
 /// Whether `hash_four` takes these inputs: each is one that `accepts` takes, and of each as many
 /// bytes are counted, those of its message and 128 where it has a key.
 pub fn accepts_four(inputs: &[Input<'_>; 4]) -> bool
@@ -390,10 +400,7 @@ pub fn hash_four<const N: usize>(inputs: &[Input<'_>; 4]) -> [[u8; N]; 4]
     requires accepted { AcceptsAtOnce blake2b 4 inputs.now }
     ensures { result ≡ map (λ input. digest blake2b N (input_of input)) inputs.now }
 {
-    let mut h = start(N, inputs);
-    absorb(&mut h, inputs);
-    let [h0, h1, h2, h3] = lanes(&h);
-    [output(&h0), output(&h1), output(&h2), output(&h3)]
+    outputs(N, inputs)
 }
 
 /// The same with a size that is chosen as the program runs: the first `output_size` bytes of each
@@ -404,8 +411,5 @@ pub fn hash_four_sized(output_size: usize, inputs: &[Input<'_>; 4]) -> [[u8; 64]
     ensures { map (take output_size) result
         ≡ map (λ input. digest blake2b output_size (input_of input)) inputs.now }
 {
-    let mut h = start(output_size, inputs);
-    absorb(&mut h, inputs);
-    let [h0, h1, h2, h3] = lanes(&h);
-    [output(&h0), output(&h1), output(&h2), output(&h3)]
+    outputs(output_size, inputs)
 }

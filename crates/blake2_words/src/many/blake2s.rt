@@ -28,10 +28,10 @@ use crate::words::Flags;
 use crate::words::blake2s::{block_words, to_bytes, to_rows};
 use blake2_rows::rows::{u32x4, u32x8};
 
-// Row k of several words a lane.
+// The row of word k of each of eight messages.
 #[inline(always)]
-fn row<const N: usize>(words: &[[u32; N]; 8], k: usize) -> u32x8
-    requires { k < N }
+fn row(words: &[[u32; 8]; 8], k: usize) -> u32x8
+    requires { k < 8 }
     ensures { (j : ℕ) → j < 8
         → slice_index result j ≡ slice_index (slice_index_or words.now j []) k }
 {
@@ -45,6 +45,24 @@ fn row<const N: usize>(words: &[[u32; N]; 8], k: usize) -> u32x8
         words[6][k],
         words[7][k],
     ])
+}
+
+// The rows of the words of eight messages.
+#[inline(always)]
+fn rows_of(words: &[[u32; 8]; 8]) -> [u32x8; 8]
+    ensures { (j k : ℕ) → j < 8 → k < 8
+        → lane result k j ≡ slice_index (slice_index_or words.now j []) k }
+{
+    [
+        row(words, 0),
+        row(words, 1),
+        row(words, 2),
+        row(words, 3),
+        row(words, 4),
+        row(words, 5),
+        row(words, 6),
+        row(words, 7),
+    ]
 }
 
 // The eight words of a block from word k on.
@@ -141,7 +159,7 @@ fn begin(h: &[u32x8; 8], counter: u64, flags: &[Flags; 8]) -> [u32x8; 16]
         → in_lane j result
         ≡ before_rounds blake2s (in_lane j h.now) counter (flags_at flags.now j) }
 {
-    let w = [
+    let last = [
         last_words(counter, flags[0]),
         last_words(counter, flags[1]),
         last_words(counter, flags[2]),
@@ -151,23 +169,10 @@ fn begin(h: &[u32x8; 8], counter: u64, flags: &[Flags; 8]) -> [u32x8; 16]
         last_words(counter, flags[6]),
         last_words(counter, flags[7]),
     ];
+    let w = rows_of(&last);
     [
-        h[0],
-        h[1],
-        h[2],
-        h[3],
-        h[4],
-        h[5],
-        h[6],
-        h[7],
-        row(&w, 0),
-        row(&w, 1),
-        row(&w, 2),
-        row(&w, 3),
-        row(&w, 4),
-        row(&w, 5),
-        row(&w, 6),
-        row(&w, 7),
+        h[0], h[1], h[2], h[3], h[4], h[5], h[6], h[7], w[0], w[1], w[2], w[3], w[4], w[5], w[6],
+        w[7],
     ]
 }
 
@@ -219,16 +224,11 @@ fn finish(h: &[u32x8; 8], v: &[u32x8; 16]) -> [u32x8; 8]
         ≡ xor_words (xor_words (in_lane j h.now) (take 8 (in_lane j v.now)))
         (drop 8 (in_lane j v.now)) }
 {
-    [
-        xor(h[0], v[0], v[8]),
-        xor(h[1], v[1], v[9]),
-        xor(h[2], v[2], v[10]),
-        xor(h[3], v[3], v[11]),
-        xor(h[4], v[4], v[12]),
-        xor(h[5], v[5], v[13]),
-        xor(h[6], v[6], v[14]),
-        xor(h[7], v[7], v[15]),
-    ]
+    let mut result = *h;
+    for k in 0..8 {
+        result[k] = xor(h[k], v[k], v[8 + k]);
+    }
+    result
 }
 
 /// F, the compression (RFC 7693, 3.2), of eight messages at once: `h` holds their chaining words,
@@ -253,26 +253,11 @@ fn start(output_size: usize, inputs: &[Input<'_>; 8]) -> [u32x8; 8]
     ensures { (j : ℕ) → j < 8
         → in_lane j result ≡ input_start blake2s output_size (input_at inputs.now j) }
 {
-    let h = [
-        start_words(&parameters_of(&inputs[0], output_size)),
-        start_words(&parameters_of(&inputs[1], output_size)),
-        start_words(&parameters_of(&inputs[2], output_size)),
-        start_words(&parameters_of(&inputs[3], output_size)),
-        start_words(&parameters_of(&inputs[4], output_size)),
-        start_words(&parameters_of(&inputs[5], output_size)),
-        start_words(&parameters_of(&inputs[6], output_size)),
-        start_words(&parameters_of(&inputs[7], output_size)),
-    ];
-    [
-        row(&h, 0),
-        row(&h, 1),
-        row(&h, 2),
-        row(&h, 3),
-        row(&h, 4),
-        row(&h, 5),
-        row(&h, 6),
-        row(&h, 7),
-    ]
+    let mut words = [[0; 8]; 8];
+    for j in 0..8 {
+        words[j] = start_words(&parameters_of(&inputs[j], output_size));
+    }
+    rows_of(&words)
 }
 
 // Compresses blocks of each of eight messages, one after another, as many of each, all under flags
@@ -358,15 +343,11 @@ fn absorb_inner(h: &mut [u32x8; 8], inputs: &[Input<'_>; 8])
     }
     let flags = [Flags::INNER; 8];
     compress_at(h, inputs, 0, 64, &flags);
-    let p0 = &later_blocks(&inputs[0])[..count - 2];
-    let p1 = &later_blocks(&inputs[1])[..count - 2];
-    let p2 = &later_blocks(&inputs[2])[..count - 2];
-    let p3 = &later_blocks(&inputs[3])[..count - 2];
-    let p4 = &later_blocks(&inputs[4])[..count - 2];
-    let p5 = &later_blocks(&inputs[5])[..count - 2];
-    let p6 = &later_blocks(&inputs[6])[..count - 2];
-    let p7 = &later_blocks(&inputs[7])[..count - 2];
-    compress_blocks(h, &[p0, p1, p2, p3, p4, p5, p6, p7], 128, &flags);
+    let mut later: [&[[u8; 64]]; 8] = [&[]; 8];
+    for j in 0..8 {
+        later[j] = later_blocks(&inputs[j], count - 2);
+    }
+    compress_blocks(h, &later, 128, &flags);
 }
 
 // The flags of the last compression of eight inputs.
@@ -431,6 +412,27 @@ fn output<const N: usize>(h: &[u32x4; 2]) -> [u8; N]
     bytes
 }
 
+// The first N bytes of the last chaining words of each of eight inputs, at digests of `output_size`
+// bytes.
+fn outputs<const N: usize>(output_size: usize, inputs: &[Input<'_>; 8]) -> [[u8; N]; 8]
+    requires room { N ≤ output_bytes blake2s }
+    requires size { output_size ≤ output_bytes blake2s }
+    requires accepted { AcceptsAtOnce blake2s 8 inputs.now }
+    ensures { (j : ℕ) → j < 8 → slice_index_or result j []
+        ≡ take N (bytes_of blake2s (last_chain blake2s
+        (input_start blake2s output_size (input_at inputs.now j)) 0
+        (input_data blake2s (input_at inputs.now j)) (input_flags (input_at inputs.now j)))) }
+{
+    let mut h = start(output_size, inputs);
+    absorb(&mut h, inputs);
+    let last = lanes(&h);
+    let mut outputs = [[0; N]; 8];
+    for j in 0..8 {
+        outputs[j] = output(&last[j]);
+    }
+    outputs
+}
+
 /// Whether `hash_eight` takes these inputs: each is one that `accepts` takes, and of each as many
 /// bytes are counted, those of its message and 64 where it has a key.
 pub fn accepts_eight(inputs: &[Input<'_>; 8]) -> bool
@@ -458,19 +460,7 @@ pub fn hash_eight<const N: usize>(inputs: &[Input<'_>; 8]) -> [[u8; N]; 8]
     requires accepted { AcceptsAtOnce blake2s 8 inputs.now }
     ensures { result ≡ map (λ input. digest blake2s N (input_of input)) inputs.now }
 {
-    let mut h = start(N, inputs);
-    absorb(&mut h, inputs);
-    let [h0, h1, h2, h3, h4, h5, h6, h7] = lanes(&h);
-    [
-        output(&h0),
-        output(&h1),
-        output(&h2),
-        output(&h3),
-        output(&h4),
-        output(&h5),
-        output(&h6),
-        output(&h7),
-    ]
+    outputs(N, inputs)
 }
 
 /// The same with a size that is chosen as the program runs: the first `output_size` bytes of each
@@ -481,17 +471,5 @@ pub fn hash_eight_sized(output_size: usize, inputs: &[Input<'_>; 8]) -> [[u8; 32
     ensures { map (take output_size) result
         ≡ map (λ input. digest blake2s output_size (input_of input)) inputs.now }
 {
-    let mut h = start(output_size, inputs);
-    absorb(&mut h, inputs);
-    let [h0, h1, h2, h3, h4, h5, h6, h7] = lanes(&h);
-    [
-        output(&h0),
-        output(&h1),
-        output(&h2),
-        output(&h3),
-        output(&h4),
-        output(&h5),
-        output(&h6),
-        output(&h7),
-    ]
+    outputs(output_size, inputs)
 }

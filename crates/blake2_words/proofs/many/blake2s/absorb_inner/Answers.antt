@@ -1,96 +1,62 @@
-use Rattle.std.proofs.Common.{◌≡◌, ◌+◌, ◌-◌, ◌<◌, ◌≤◌, ℕ, List, [], ◌∷◌, length, take}
-use Rattle.std.proofs.Common.{slice_index_or, refl, ap, ◌∙◌, arith, rules}
-use Rattle.std.proofs.lemmas.List.{get_or-take, length-take-le}
+use Rattle.std.proofs.Common.{◌≡◌, ◌+◌, ◌-◌, ℕ, List, [], length, slice_index_or, refl, sym, ap}
+use Rattle.std.proofs.Common.{◌∙◌, arith, rules}
+use Rattle.std.specs.Borrow.{Bor}
+use Rattle.blake2_words.specs.declared.steps.Input as GivenInput
 use Rattle.blake2_rows.specs.Family.{blake2s}
 use Rattle.blake2_rows.specs.Lanes.{in_lane}
-use Rattle.blake2_rows.proofs.Lanes.{in_eight}
 use Rattle.blake2_words.specs.Hash.{blocks, chain, compress, input_data}
-use Rattle.blake2_words.specs.Lanes.{after_blocks, input_at}
+use Rattle.blake2_words.specs.Lanes.{after_blocks, block_lists, input_at}
 use Rattle.blake2_words.specs.Run.{step_count}
+use Rattle.blake2_words.proofs.Lanes.{AreLater, no_blocks, in_lists, set_more}
 use Rattle.blake2_words.proofs.Lanes.{no_block, block_more, inner_at, later_after}
 use Rattle.blake2_words.proofs.Streaming.{block_count-pos}
 use Rattle.blake2_words.proofs.many.blake2s.absorb_inner.Goals as goal
 
+-- the blocks of input k from the second on
+abbrev later_of : List GivenInput.Input → ℕ → ℕ → List (List ℕ) → Type 0
+later_of inputs n k = AreLater blake2s (input_at inputs k) n
+
 pub returns-then-count-eq1 : goal.returns-then-count-eq1
-returns-then-count-eq1 c j h =
-    let inputs = c.args.inputs.now in
-    let long : length inputs ≡ 8 = search rules in
-    no_block blake2s _ _ _ (omega (arith, c.step_count-count.ensures))
+returns-then-count-eq1 c j h = no_block blake2s _ _ _ (omega (arith, c.step_count-count.ensures))
+
+pub loop-j-preserved : goal.loop-j-preserved
+loop-j-preserved c =
+    record {
+      long = search rules;
+      at = set_more (λ k (x : Bor (List (List ℕ))). later_of c.args.inputs.now
+          (c.step_count-count.result - 2) k x.now) c.loop-j.later c.loop-j.j _ no_blocks
+          (omega (arith, c.loop-j.invariant.long)) c.loop-j.invariant.at
+          (c.later_blocks.ensures.long, c.later_blocks.ensures.blocks);
+    }
 
 pub compress_blocks-requires-clause-same_number : goal.compress_blocks-requires-clause-same_number
 compress_blocks-requires-clause-same_number c j h =
-    let inputs = c.args.inputs.now in
-    let long : length inputs ≡ 8 = search rules in
-    let n : ℕ = c.step_count-count.result - 2 in
-    let p0 = c.later_blocks.result.now in
-    let p1 = c.later_blocks-2.result.now in
-    let p2 = c.later_blocks-3.result.now in
-    let p3 = c.later_blocks-4.result.now in
-    let p4 = c.later_blocks-5.result.now in
-    let p5 = c.later_blocks-6.result.now in
-    let p6 = c.later_blocks-7.result.now in
-    let p7 = c.later_blocks-8.result.now in
-    let first = c.step_count-count.ensures in
-    let taken : (k : ℕ) (p : List (List ℕ)) → k < 8
-    → step_count blake2s (input_at inputs k) ≤ length p + 2 → length (take n p) ≡ n =
-    λ k p lt enough.
-    length-take-le n p (omega (arith, first, enough, c.requires.same_number k lt)) in
-    let all = taken 0 p0 (omega arith) c.later_blocks.ensures.enough in
-    let lists =
-    take n p0 ∷ take n p1 ∷ take n p2 ∷ take n p3 ∷ take n p4 ∷ take n p5 ∷ take n p6 ∷ take n p7
-    ∷ [] in
-    in_eight (λ k. length (slice_index_or lists k []) ≡ length (take n p0)) refl
-    (omega (arith, all, taken 1 p1 (omega arith) c.later_blocks-2.ensures.enough))
-    (omega (arith, all, taken 2 p2 (omega arith) c.later_blocks-3.ensures.enough))
-    (omega (arith, all, taken 3 p3 (omega arith) c.later_blocks-4.ensures.enough))
-    (omega (arith, all, taken 4 p4 (omega arith) c.later_blocks-5.ensures.enough))
-    (omega (arith, all, taken 5 p5 (omega arith) c.later_blocks-6.ensures.enough))
-    (omega (arith, all, taken 6 p6 (omega arith) c.later_blocks-7.ensures.enough))
-    (omega (arith, all, taken 7 p7 (omega arith) c.later_blocks-8.ensures.enough)) j h
+    let later = in_lists (later_of c.args.inputs.now (c.step_count-count.result - 2)) c.loop-j.later
+    8 c.loop-j.j c.loop-j.invariant.long c.loop-j-test.false c.loop-j.invariant.at in
+    (later j h).0 ∙ sym (later 0 (omega arith)).0
+
+pub compress_blocks-requires-clause-counted : goal.compress_blocks-requires-clause-counted
+compress_blocks-requires-clause-counted c =
+    let later = in_lists (later_of c.args.inputs.now (c.step_count-count.result - 2)) c.loop-j.later
+    8 c.loop-j.j c.loop-j.invariant.long c.loop-j-test.false c.loop-j.invariant.at in
+    omega (
+      arith,
+      (later 0 (omega arith)).0,
+      c.step_count-count.ensures,
+      c.requires.accepted 0 (omega arith),
+    )
 
 pub returns : goal.returns
 returns c j h =
     let inputs = c.args.inputs.now in
-    let long : length inputs ≡ 8 = search rules in
     let n : ℕ = c.step_count-count.result - 2 in
-    let p0 = c.later_blocks.result.now in
-    let p1 = c.later_blocks-2.result.now in
-    let p2 = c.later_blocks-3.result.now in
-    let p3 = c.later_blocks-4.result.now in
-    let p4 = c.later_blocks-5.result.now in
-    let p5 = c.later_blocks-6.result.now in
-    let p6 = c.later_blocks-7.result.now in
-    let p7 = c.later_blocks-8.result.now in
-    let first = c.step_count-count.ensures in
-    let lists =
-    take n p0 ∷ take n p1 ∷ take n p2 ∷ take n p3 ∷ take n p4 ∷ take n p5 ∷ take n p6 ∷ take n p7
-    ∷ [] in
-    let in_input : ℕ → ℕ → List ℕ = λ k i. slice_index_or
-    (blocks blake2s (input_data blake2s (input_at inputs k))) i [] in
-    let same = in_eight
-    (λ k. (i : ℕ) → i < n → slice_index_or (slice_index_or lists k []) i [] ≡ in_input k (i + 1))
-    (λ i lt. get_or-take n p0 i [] lt ∙ c.later_blocks.ensures.blocks i
-    (omega (arith, first, lt, c.requires.same_number 0 (omega arith))))
-    (λ i lt. get_or-take n p1 i [] lt ∙ c.later_blocks-2.ensures.blocks i
-    (omega (arith, first, lt, c.requires.same_number 1 (omega arith))))
-    (λ i lt. get_or-take n p2 i [] lt ∙ c.later_blocks-3.ensures.blocks i
-    (omega (arith, first, lt, c.requires.same_number 2 (omega arith))))
-    (λ i lt. get_or-take n p3 i [] lt ∙ c.later_blocks-4.ensures.blocks i
-    (omega (arith, first, lt, c.requires.same_number 3 (omega arith))))
-    (λ i lt. get_or-take n p4 i [] lt ∙ c.later_blocks-5.ensures.blocks i
-    (omega (arith, first, lt, c.requires.same_number 4 (omega arith))))
-    (λ i lt. get_or-take n p5 i [] lt ∙ c.later_blocks-6.ensures.blocks i
-    (omega (arith, first, lt, c.requires.same_number 5 (omega arith))))
-    (λ i lt. get_or-take n p6 i [] lt ∙ c.later_blocks-7.ensures.blocks i
-    (omega (arith, first, lt, c.requires.same_number 6 (omega arith))))
-    (λ i lt. get_or-take n p7 i [] lt ∙ c.later_blocks-8.ensures.blocks i
-    (omega (arith, first, lt, c.requires.same_number 7 (omega arith)))) j h in
+    let lists = block_lists c.loop-j.later in
+    let later = in_lists (later_of inputs n) c.loop-j.later 8 c.loop-j.j c.loop-j.invariant.long
+    c.loop-j-test.false c.loop-j.invariant.at in
+    let count = (later 0 (omega arith)).0 in
     let some = block_count-pos blake2s (length (input_data blake2s (input_at inputs 0))) in
-    let count = length-take-le n p0
-    (omega (arith, first, c.later_blocks.ensures.enough, c.requires.same_number 0 (omega arith)))
-    in
     let all : n + 1 ≡ step_count blake2s (input_at inputs 0) - 1 =
-    omega (arith, first, some, c.if-count-eq1.false) in
+    omega (arith, c.step_count-count.ensures, some, c.if-count-eq1.false) in
     let all_blocks = blocks blake2s (input_data blake2s (input_at inputs j)) in
     let begun : in_lane j c.compress_at.new.h
     ≡ chain blake2s (in_lane j c.args.h.now) 0 all_blocks 1 =
@@ -100,5 +66,6 @@ returns c j h =
     c.compress_blocks.ensures j h
     ∙ (λ k. after_blocks blake2s (in_lane j c.compress_at.new.h) (slice_index_or lists j []) 128
     (inner_at 8 j k) (count k))
-    ∙ later_after blake2s (in_lane j c.args.h.now) _ _ (slice_index_or lists j []) n begun same
+    ∙ later_after blake2s (in_lane j c.args.h.now) _ _ (slice_index_or lists j []) n begun
+    (later j h).1
     ∙ ap (chain blake2s (in_lane j c.args.h.now) 0 all_blocks) all

@@ -1,6 +1,6 @@
 use Rattle.std.proofs.Common.{◌≡◌, ◌<◌, ℕ, List, [], ◌∷◌, ◌++◌, length, get_or, slice_index}
-use Rattle.std.proofs.Common.{slice_index_or, ◌∙◌, arith, rules}
-use Rattle.std.proofs.lemmas.List.{length-map}
+use Rattle.std.proofs.Common.{slice_index_or, ap, ◌∙◌, arith, rules}
+use Rattle.std.proofs.lemmas.List.{get_or_default, length-map}
 use Rattle.blake2_rows.specs.Family.{blake2s}
 use Rattle.blake2_rows.specs.Lanes.{in_lane}
 use Rattle.blake2_rows.proofs.Lanes.{in_each}
@@ -60,13 +60,19 @@ returns c j h =
         ),
       ),
     ) j h in
+    let many : length c.rows_of-w.result ≡ 8 = search rules in
+    let last : (k : ℕ) (d : List ℕ) → k < 8
+    → slice_index (get_or c.rows_of-w.result k d) j ≡ slice_index (slice_index_or ws j []) k =
+    λ k d lt. ap (λ (row : List ℕ). slice_index row j)
+    (get_or_default c.rows_of-w.result k d [] (omega (arith, many))) ∙ c.rows_of-w.ensures j k h lt in
     let word : (k : ℕ) (d : List ℕ) → k < 8 → slice_index (get_or rows k d) j ≡ slice_index u k =
     λ k d lt. lane_word rows j k d (omega arith) in
     (λ i. word 0 c.index-h-0.result (omega arith) i ∷ word 1 c.index-h-1.result (omega arith) i
     ∷ word 2 c.index-h-2.result (omega arith) i ∷ word 3 c.index-h-3.result (omega arith) i
     ∷ word 4 c.index-h-4.result (omega arith) i ∷ word 5 c.index-h-5.result (omega arith) i
     ∷ word 6 c.index-h-6.result (omega arith) i ∷ word 7 c.index-h-7.result (omega arith) i
-    ∷ c.row.ensures j h i ∷ c.row-2.ensures j h i ∷ c.row-3.ensures j h i ∷ c.row-4.ensures j h i
-    ∷ c.row-5.ensures j h i ∷ c.row-6.ensures j h i ∷ c.row-7.ensures j h i
-    ∷ c.row-8.ensures j h i ∷ [])
+    ∷ last 0 c.index-w-0.result (omega arith) i ∷ last 1 c.index-w-1.result (omega arith) i
+    ∷ last 2 c.index-w-2.result (omega arith) i ∷ last 3 c.index-w-3.result (omega arith) i
+    ∷ last 4 c.index-w-4.result (omega arith) i ∷ last 5 c.index-w-5.result (omega arith) i
+    ∷ last 6 c.index-w-6.result (omega arith) i ∷ last 7 c.index-w-7.result (omega arith) i ∷ [])
     ∙ (λ i. cells-drop u 0 8 lu i ++ cells-drop (slice_index_or ws j []) 0 8 lw i) ∙ begun

@@ -1,32 +1,27 @@
-use Rattle.std.proofs.Common.{◌≡◌, ℕ, List, [], ◌∷◌, length, slice_index, ◌∙◌, arith, rules}
-use Rattle.std.proofs.lemmas.List.{length-map}
-use Rattle.blake2_rows.specs.Lanes.{in_lane}
-use Rattle.blake2_words.proofs.Lanes.{words_xored, xored}
+use Rattle.std.proofs.Common.{◌≡◌, ◌<◌, ℕ, [], length, slice_index}
+use Rattle.std.proofs.Common.{◌∙◌, arith, rules}
+use Rattle.std.proofs.Math.Nat.{lt_of_lt_of_le}
+use Rattle.blake2_words.proofs.Lanes.{set_more, xor_at, xor_read, xored_lanes}
 use Rattle.blake2_words.proofs.many.blake2s.finish.Goals as goal
+
+pub loop-k-preserved : goal.loop-k-preserved
+loop-k-preserved c =
+    let h = c.args.h.now in
+    let v = c.args.v.now in
+    let lh : length h ≡ 8 = search rules in
+    let lv : length v ≡ 16 = search rules in
+    let here : (j : ℕ) → j < 8 → slice_index c.xor.result j ≡ xor_at h v j c.loop-k.k =
+    λ j lt. c.xor.ensures j lt ∙ xor_read h v j c.loop-k.k _ _ _ (omega (arith, lh))
+    (omega (arith, lv)) (omega (arith, lv)) in
+    record {
+      long = search rules;
+      at = set_more (λ k x. (j : ℕ) → j < 8 → slice_index x j
+          ≡ xor_at h v j k) c.loop-k.result c.loop-k.k _ []
+          (omega (arith, c.loop-k.invariant.long)) c.loop-k.invariant.at here;
+    }
 
 pub returns : goal.returns
 returns c j h =
-    let rows = c.args.h.now in
-    let mixed = c.args.v.now in
-    let lh : length rows ≡ 8 = search rules in
-    let lv : length mixed ≡ 16 = search rules in
-    let x0 = c.xor.ensures j h ∙ words_xored rows mixed j 0 8 _ _ _ (omega arith) (omega arith)
-    (omega arith) in
-    let x1 = c.xor-2.ensures j h ∙ words_xored rows mixed j 1 9 _ _ _ (omega arith) (omega arith)
-    (omega arith) in
-    let x2 = c.xor-3.ensures j h ∙ words_xored rows mixed j 2 10 _ _ _ (omega arith) (omega arith)
-    (omega arith) in
-    let x3 = c.xor-4.ensures j h ∙ words_xored rows mixed j 3 11 _ _ _ (omega arith) (omega arith)
-    (omega arith) in
-    let x4 = c.xor-5.ensures j h ∙ words_xored rows mixed j 4 12 _ _ _ (omega arith) (omega arith)
-    (omega arith) in
-    let x5 = c.xor-6.ensures j h ∙ words_xored rows mixed j 5 13 _ _ _ (omega arith) (omega arith)
-    (omega arith) in
-    let x6 = c.xor-7.ensures j h ∙ words_xored rows mixed j 6 14 _ _ _ (omega arith) (omega arith)
-    (omega arith) in
-    let x7 = c.xor-8.ensures j h ∙ words_xored rows mixed j 7 15 _ _ _ (omega arith) (omega arith)
-    (omega arith) in
-    (λ i. x0 i ∷ x1 i ∷ x2 i ∷ x3 i ∷ x4 i ∷ x5 i ∷ x6 i ∷ x7 i ∷ [])
-    ∙ xored (in_lane j rows) (in_lane j mixed) (length-map rows
-    (λ (row : List ℕ). slice_index row j) ∙ lh) (length-map mixed
-    (λ (row : List ℕ). slice_index row j) ∙ lv)
+    xored_lanes c.args.h.now c.args.v.now c.loop-k.result j (search rules) (search rules)
+    c.loop-k.invariant.long
+    (λ k lt. c.loop-k.invariant.at k (lt_of_lt_of_le lt c.loop-k-test.false) j h)
