@@ -3,7 +3,7 @@ use Rattle.std.proofs.Common.{slice_index_or, ap, ◌∙◌, arith, rules}
 use Rattle.std.proofs.lemmas.List.{get_or_default, length-map}
 use Rattle.blake2_rows.specs.Family.{blake2b}
 use Rattle.blake2_rows.specs.Lanes.{in_lane}
-use Rattle.blake2_rows.proofs.Lanes.{in_each}
+use Rattle.blake2_rows.proofs.Lanes.{in_four}
 use Rattle.blake2_rows.proofs.Words.{cells-drop}
 use Rattle.blake2_words.specs.Hash.{before_rounds}
 use Rattle.blake2_words.specs.Lanes.{flags_at}
@@ -15,21 +15,17 @@ returns c j h =
     let rows = c.args.h.now in
     let flags = c.args.flags.now in
     let long : length rows ≡ 8 = search rules in
-    let many : length flags ≡ 4 = search rules in
+    let all : length flags ≡ 4 = search rules in
     let u : List ℕ = in_lane j rows in
     let ws : List (List ℕ) = c.last_words.result ∷ c.last_words-2.result ∷ c.last_words-3.result
     ∷ c.last_words-4.result ∷ [] in
     let lu : length u ≡ 8 = length-map rows (λ (row : List ℕ). slice_index row j) ∙ long in
-    let lw = in_each 4 (λ k. length (slice_index_or ws k []) ≡ 8)
-    (search rules, (search rules, (search rules, (search rules, tt)))) j h in
-    let begun = in_each 4 (λ k. u ++ slice_index_or ws k []
-    ≡ before_rounds blake2b u c.args.counter (flags_at flags k)) (
-      c.last_words.ensures u,
-      (
-        c.last_words-2.ensures u,
-        (c.last_words-3.ensures u, (c.last_words-4.ensures u, tt)),
-      ),
-    ) j h in
+    let lw = in_four (λ k. length (slice_index_or ws k []) ≡ 8)
+    (search rules) (search rules) (search rules) (search rules) j h in
+    let begun = in_four (λ k. u ++ slice_index_or ws k []
+    ≡ before_rounds blake2b u c.args.counter (flags_at flags k))
+    (c.last_words.ensures u) (c.last_words-2.ensures u) (c.last_words-3.ensures u)
+    (c.last_words-4.ensures u) j h in
     let many : length c.rows_of-w.result ≡ 8 = search rules in
     let last : (k : ℕ) (d : List ℕ) → k < 8
     → slice_index (get_or c.rows_of-w.result k d) j ≡ slice_index (slice_index_or ws j []) k =
