@@ -330,16 +330,6 @@ fn absorb(h: &mut [u64x4; 8], inputs: &[Input<'_>; 4])
     compress_at(h, inputs, last, counted::<128>(&inputs[0]), &flags);
 }
 
-// The chaining words of each message.
-#[inline(always)]
-fn lanes(h: &[u64x4; 8]) -> [[u64x4; 2]; 4]
-    ensures { (j : ℕ) → j < 4 → eight (slice_index_or result j []) ≡ in_lane j h.now }
-{
-    let [a0, a1, a2, a3] = u64x4::transpose([h[0], h[1], h[2], h[3]]);
-    let [b0, b1, b2, b3] = u64x4::transpose([h[4], h[5], h[6], h[7]]);
-    [[a0, b0], [a1, b1], [a2, b2], [a3, b3]]
-}
-
 // The first N bytes of the chaining words of a message.
 fn output<const N: usize>(h: &[u64x4; 2]) -> [u8; N]
     requires { N ≤ output_bytes blake2b }
@@ -365,10 +355,11 @@ fn outputs<const N: usize>(output_size: usize, inputs: &[Input<'_>; 4]) -> [[u8;
 {
     let mut h = start(output_size, inputs);
     absorb(&mut h, inputs);
-    let last = lanes(&h);
+    let low = u64x4::transpose([h[0], h[1], h[2], h[3]]);
+    let high = u64x4::transpose([h[4], h[5], h[6], h[7]]);
     let mut outputs = [[0; N]; 4];
     for j in 0..4 {
-        outputs[j] = output(&last[j]);
+        outputs[j] = output(&[low[j], high[j]]);
     }
     outputs
 }

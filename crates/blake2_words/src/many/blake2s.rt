@@ -382,24 +382,6 @@ fn absorb(h: &mut [u32x8; 8], inputs: &[Input<'_>; 8])
     compress_at(h, inputs, last, counted::<64>(&inputs[0]), &flags);
 }
 
-// The chaining words of each message.
-#[inline(always)]
-fn lanes(h: &[u32x8; 8]) -> [[u32x4; 2]; 8]
-    ensures { (j : ℕ) → j < 8 → eight (slice_index_or result j []) ≡ in_lane j h.now }
-{
-    let [h0, h1, h2, h3, h4, h5, h6, h7] = u32x8::transpose(*h);
-    [
-        to_rows(&h0.to_array()),
-        to_rows(&h1.to_array()),
-        to_rows(&h2.to_array()),
-        to_rows(&h3.to_array()),
-        to_rows(&h4.to_array()),
-        to_rows(&h5.to_array()),
-        to_rows(&h6.to_array()),
-        to_rows(&h7.to_array()),
-    ]
-}
-
 // The first N bytes of the chaining words of a message.
 fn output<const N: usize>(h: &[u32x4; 2]) -> [u8; N]
     requires { N ≤ output_bytes blake2s }
@@ -425,10 +407,10 @@ fn outputs<const N: usize>(output_size: usize, inputs: &[Input<'_>; 8]) -> [[u8;
 {
     let mut h = start(output_size, inputs);
     absorb(&mut h, inputs);
-    let last = lanes(&h);
+    let words = u32x8::transpose(h);
     let mut outputs = [[0; N]; 8];
     for j in 0..8 {
-        outputs[j] = output(&last[j]);
+        outputs[j] = output(&to_rows(&words[j].to_array()));
     }
     outputs
 }

@@ -1,4 +1,4 @@
-use Rattle.std.proofs.Common.{◌≡◌, ◌<◌, ℕ, [], length, slice_index_or, take}
+use Rattle.std.proofs.Common.{◌≡◌, ◌<◌, ℕ, [], ◌∷◌, length, slice_index_or, take}
 use Rattle.blake2_rows.specs.Family.{blake2b}
 use Rattle.blake2_rows.specs.Rows.{eight}
 use Rattle.blake2_words.specs.Hash.{bytes_of}
@@ -7,6 +7,6 @@ use Rattle.blake2_words.proofs.many.blake2b.outputs.Given as goal
 abbrev pub invariant-loop-j : goal.invariant-loop-j
 invariant-loop-j g l = record {
   long : length l.outputs ≡ 4;
-  at : (k : ℕ) → k < l.j → slice_index_or l.outputs k []
-      ≡ take g.row.N (bytes_of blake2b (eight (slice_index_or l.last k [])));
+  at : (k : ℕ) → k < l.j → slice_index_or l.outputs k [] ≡ take g.row.N (bytes_of blake2b
+      (eight (slice_index_or l.low k [] ∷ slice_index_or l.high k [] ∷ [])));
 }
