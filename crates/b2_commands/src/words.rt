@@ -1,7 +1,7 @@
 //! The words of the command line, read from left to right.
 
-ghost use Rattle.std.specs.Prelude.{◌≡◌, ◌<◌, ◌≤◌, ◌↔◌, [], length, map, unwrap_or, IsTrue, IfOk, IfErr};
-ghost use Rattle.std.specs.Prelude.{OnOk};
+ghost use Rattle.std.specs.Prelude.{◌≡◌, ◌<◌, ◌≤◌, ◌↔◌, [], length, map, unwrap_or, IsTrue};
+ghost use Rattle.std.specs.Prelude.{IfOk, IfErr, OnOk};
 ghost use Rattle.std.specs.String.{string_bytes};
 ghost use Rattle.blake2.specs.Family.{output_bytes};
 ghost use Rattle.blake2.specs.Views.{key_of};

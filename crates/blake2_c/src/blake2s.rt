@@ -107,7 +107,8 @@ fn begin(state: &mut State, given: &StateParameters<'_>, tree: &Tree) -> i32
     ensures status { Answers result (IsRefusedGiven blake2s given.now) }
     ensures ready { result ≡ pos 0 → IsReady state.new }
     ensures size { result ≡ pos 0 → state.new.output_size ≡ given.now.output_size }
-    ensures fresh { result ≡ pos 0 → Fresh meaning (digest_given blake2s given.now (tree_of tree.now))
+    ensures fresh { result ≡ pos 0
+        → Fresh meaning (digest_given blake2s given.now (tree_of tree.now))
         (given_count blake2s given.now.key.now) state.new }
     ensures zeros { result ≡ negsuc 0 → state.new ≡ zeros }
 {

@@ -109,9 +109,9 @@ where
 /// Plays the calls in their order on the state `first` in slot 0, and answers the digests in the
 /// order of their calls, `N` bytes each.
 ///
-/// No call is played after the first bad one: its fault is answered in place of the digests. At each
-/// call the slot is looked at first, then the length, and then memory is asked for; room for slot 0
-/// is asked for before the first call. All states are dropped.
+/// No call is played after the first bad one: its fault is answered in place of the digests. At
+/// each call the slot is looked at first, then the length, and then memory is asked for; room for
+/// slot 0 is asked for before the first call. All states are dropped.
 pub fn replay<H, const N: usize>(
     alloc: Global,
     first: H,

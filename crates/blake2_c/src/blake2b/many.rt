@@ -140,8 +140,8 @@ fn write_all(out: &mut [u8], given: &StateParameters<'_>, messages: &[Text<'_>])
     requires taken { ¬ IsRefusedGiven blake2b given.now }
     requires counted { AreCounted blake2b given.now.key.now messages.now }
     requires room { length out.old ≡ length messages.now * given.now.output_size }
-    ensures { out.new ≡ digests_of blake2b given.now.output_size given.now.key.now given.now.salt.now
-        given.now.persona.now messages.now }
+    ensures { out.new ≡ digests_of blake2b given.now.output_size given.now.key.now
+        given.now.salt.now given.now.persona.now messages.now }
 {
     let mut done = 0;
     while done < messages.len() {

@@ -14,6 +14,6 @@ pieces-preserved g c =
         before.taken.0 ++ piece,
         Consumes-trans _ _ _ before.taken.0 piece before.taken.1 c.in_ok-filled.ensures.bytes,
         Took-trans c.args.hasher.now c.pieces.hasher c.update.new.self before.taken.0 piece
-        before.taken.2 c.update.ensures,
+            before.taken.2 c.update.ensures,
       );
     }
