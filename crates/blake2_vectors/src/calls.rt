@@ -8,8 +8,8 @@ use std::alloc::Global;
 use std::process::Abort;
 use std::test::Fail;
 
-// Whether a list of calls answers these digests, in hexadecimal.
-fn digests_are<H, const N: usize>(
+/// Whether a list of calls answers these digests, in hexadecimal.
+pub(crate) fn digests_are<H, const N: usize>(
     alloc: Global,
     first: H,
     calls: &[Call<'_>],

@@ -13,7 +13,7 @@ ghost use Rattle.blake2.specs.Hashers.{blake2s_meaning, blake2s_mac_meaning, bla
 ghost use Rattle.blake2.specs.Hashers.{blake2b_mac_state, blake2s_mac_state};
 ghost use Rattle.blake2.specs.States.{Fresh, IsWiped, digest_of, node_digest_of};
 
-use crate::inputs::reads;
+use crate::inputs::{place, reads};
 use blake2::digest::{
     CustomizedInit, Digest, FixedOutput, InvalidLength, InvalidOutputSize, KeyInit, LazyBuffer,
     Mac, TreeNode, Update, VariableOutputCore, VariableOutputCoreCustomized, Wipe,
@@ -21,7 +21,6 @@ use blake2::digest::{
 use blake2::{
     Blake2b512, Blake2bMac512, Blake2bVarCore, Blake2s256, Blake2sMac256, Blake2sVarCore, Tree,
 };
-use std::test::Fail;
 
 // ---- Wipe
 
@@ -220,115 +219,117 @@ fn blake2s_mac(key: &[u8]) -> Result<Blake2sMac256, InvalidLength>
 // ---- the calls at work: digests are those of `hashlib`
 
 #[test]
-fn wipe_by_the_trait(rt: HostRuntime) -> Result<(), Fail> {
+fn wipe_buffers_and_cores_by_the_trait(rt: HostRuntime) {
     let mut buffer = LazyBuffer::<128>::new(b"abc");
     wipe_buffer(&mut buffer);
-    assert_eq!(rt; buffer.get_pos(), 3);
-    assert_eq!(rt; buffer.padded(), [0; 128]);
+    assert!(rt; buffer.get_pos() == 3);
+    assert!(rt; buffer.padded() == [0; 128]);
     let mut core = customized_blake2b_core(b"persona", 64);
     wipe_blake2b_core(&mut core);
-    assert_eq!(rt; (core.chain_words(), core.first_words()), ([0; 8], [0; 8]));
+    assert!(rt; core.chain_words() == [0; 8]);
+    assert!(rt; core.first_words() == [0; 8]);
     let mut core = customized_blake2s_core(b"persona", 32);
     wipe_blake2s_core(&mut core);
-    assert_eq!(rt; (core.chain_words(), core.first_words()), ([0; 8], [0; 8]));
+    assert!(rt; core.chain_words() == [0; 8]);
+    assert!(rt; core.first_words() == [0; 8]);
+}
+
+#[test]
+fn wipe_hashers_by_the_trait(rt: HostRuntime) {
     let mut hasher = Blake2b512::new().chain_update(b"abc");
     wipe_blake2b(&mut hasher);
-    assert_eq!(rt; hasher.counted(), 3);
+    assert!(rt; hasher.counted() == 3);
     let mut hasher = Blake2s256::new().chain_update(b"abc");
     wipe_blake2s(&mut hasher);
-    assert_eq!(rt; hasher.counted(), 3);
+    assert!(rt; hasher.counted() == 3);
+}
+
+#[test]
+fn wipe_macs_by_the_trait(rt: HostRuntime) -> Result<(), InvalidLength> {
     let mut mac = blake2b_mac(b"key")?;
     wipe_blake2b_mac(&mut mac);
-    assert_eq!(rt; mac.counted(), 128);
+    assert!(rt; mac.counted() == 128);
     let mut mac = blake2s_mac(b"key")?;
     wipe_blake2s_mac(&mut mac);
-    assert_eq!(rt; mac.counted(), 64);
+    assert!(rt; mac.counted() == 64);
     Ok(())
 }
 
 #[test]
-fn make_cores_by_the_traits(rt: HostRuntime) -> Result<(), Fail> {
+fn make_cores_by_the_traits(rt: HostRuntime) -> Result<(), InvalidOutputSize> {
     let first = 0x6a09e667f3bcc908;
-    assert_eq!(rt; blake2b_core(48)?.first_words()[0], first ^ 0x01010030);
-    assert_eq!(rt; blake2b_core(65).err(), Some(InvalidOutputSize));
-    assert_eq!(rt; blake2s_core(31)?.first_words()[0], 0x6a09e667 ^ 0x0101001f);
-    assert_eq!(rt; blake2s_core(33).err(), Some(InvalidOutputSize));
+    assert!(rt; blake2b_core(48)?.first_words()[0] == first ^ 0x01010030);
+    assert!(rt; matches!(blake2b_core(65), Err(InvalidOutputSize)));
+    assert!(rt; blake2s_core(31)?.first_words()[0] == 0x6a09e667 ^ 0x0101001f);
+    assert!(rt; matches!(blake2s_core(33), Err(InvalidOutputSize)));
     let words = customized_blake2b_core(b"persona", 64).first_words();
-    assert_eq!(rt; words[0], first ^ 0x01010040);
-    assert_eq!(rt; words[6], 0x1f83d9abfb41bd6b ^ 0x616e6f73726570);
+    assert!(rt; words[0] == first ^ 0x01010040);
+    assert!(rt; words[6] == 0x1f83d9abfb41bd6b ^ 0x616e6f73726570);
     let words = customized_blake2s_core(b"persona", 32).first_words();
-    assert_eq!(rt; words[0], 0x6a09e667 ^ 0x01010020);
-    assert_eq!(rt; words[6], 0x1f83d9ab ^ 0x73726570);
-    assert_eq!(rt; words[7], 0x5be0cd19 ^ 0x616e6f);
+    assert!(rt; words[0] == 0x6a09e667 ^ 0x01010020);
+    assert!(rt; words[6] == 0x1f83d9ab ^ 0x73726570);
+    assert!(rt; words[7] == 0x5be0cd19 ^ 0x616e6f);
     Ok(())
 }
 
 #[test]
-fn hash_by_the_traits(rt: HostRuntime) -> Result<(), Fail> {
-    let tree = Tree {
-        fanout: 3,
-        depth: 2,
-        leaf_length: 4096,
-        node_offset: 7,
-        node_depth: 1,
-        inner_length: 32,
-    };
-    assert!(rt; Blake2bVarCore::admits_tree(&tree) && Blake2sVarCore::admits_tree(&tree));
-    let personal = customized_blake2b(b"persona").chain_update(b"abc");
-    assert!(rt;
-        reads(
-            &personal.finalize(),
-            "836239e2d9b59f053c4a710efb47c09fb819c7a5c8241aef8ea9a6cad7eaf99e\
-         4bdfaf023f46bbe2333e56f552cb85cb7e85c9dac8d03cf58d7eb21063076c93",
-        )
-    );
-    assert!(rt;
-        reads(
-            &blake2b_digest(b"abc"),
-            "ba80a53f981c4d0d6a2797b69f12f6e94c212f14685ac4b74b12bb6fdbffa2d1\
-         7d87c5392aab792dc252d5de4533cc9518d38aa8dbf1925ab92386edd4009923",
-        )
-    );
+fn hash_by_the_traits_of_blake2b(rt: HostRuntime) -> Result<(), InvalidLength> {
+    let tree = place();
+    assert!(rt; Blake2bVarCore::admits_tree(&tree));
     let keyed = blake2b_mac(b"key")?.chain_update(b"abc");
-    assert!(rt;
-        reads(
-            &keyed.finalize_fixed(),
+    let personal = customized_blake2b(b"persona").chain_update(b"abc");
+    for (digest, wanted) in [
+        (
+            personal.finalize(),
+            "836239e2d9b59f053c4a710efb47c09fb819c7a5c8241aef8ea9a6cad7eaf99e\
+             4bdfaf023f46bbe2333e56f552cb85cb7e85c9dac8d03cf58d7eb21063076c93",
+        ),
+        (
+            blake2b_digest(b"abc"),
+            "ba80a53f981c4d0d6a2797b69f12f6e94c212f14685ac4b74b12bb6fdbffa2d1\
+             7d87c5392aab792dc252d5de4533cc9518d38aa8dbf1925ab92386edd4009923",
+        ),
+        (
+            keyed.finalize_fixed(),
             "5c6a9a4ae911c02fb7e71a991eb9aea371ae993d4842d206e6020d46f5e41358\
-         c6d5c277c110ef86c959ed63e6ecaaaceaaff38019a43264ae06acf73b9550b1",
-        )
-    );
-    assert!(rt;
-        reads(
-            &last_blake2b_digest(&tree, b"abc"),
+             c6d5c277c110ef86c959ed63e6ecaaaceaaff38019a43264ae06acf73b9550b1",
+        ),
+        (
+            last_blake2b_digest(&tree, b"abc"),
             "339840bfb4fcf86bd23f4e22e0fb7220814bce9a254d3b25b1df24479ec1a883\
-         57e85c7881ba2ddc1349170d681cade2e6b10e4336349113a0d95f860cd4585b",
-        )
-    );
-    let personal = customized_blake2s(b"persona").chain_update(b"abc");
-    assert!(rt;
-        reads(
-            &personal.finalize(),
-            "0936fa60dce8a8dd117dc74b29d5a4720e3901bf2317d21575defdbf4b87898a",
-        )
-    );
-    assert!(rt;
-        reads(
-            &blake2s_digest(b"abc"),
-            "508c5e8c327c14e2e1a72ba34eeb452f37458b209ed63a294d999b4c86675982",
-        )
-    );
+             57e85c7881ba2ddc1349170d681cade2e6b10e4336349113a0d95f860cd4585b",
+        ),
+    ] {
+        assert!(rt; reads(&digest, wanted), "{wanted}");
+    }
+    Ok(())
+}
+
+#[test]
+fn hash_by_the_traits_of_blake2s(rt: HostRuntime) -> Result<(), InvalidLength> {
+    let tree = place();
+    assert!(rt; Blake2sVarCore::admits_tree(&tree));
     let keyed = blake2s_mac(b"key")?.chain_update(b"abc");
-    assert!(rt;
-        reads(
-            &keyed.finalize_fixed(),
+    let personal = customized_blake2s(b"persona").chain_update(b"abc");
+    for (digest, wanted) in [
+        (
+            personal.finalize(),
+            "0936fa60dce8a8dd117dc74b29d5a4720e3901bf2317d21575defdbf4b87898a",
+        ),
+        (
+            blake2s_digest(b"abc"),
+            "508c5e8c327c14e2e1a72ba34eeb452f37458b209ed63a294d999b4c86675982",
+        ),
+        (
+            keyed.finalize_fixed(),
             "3f9723437b033bf0c1f4df43cafd0776068cb0a95912de13f3b2952a3aba764d",
-        )
-    );
-    assert!(rt;
-        reads(
-            &last_blake2s_digest(&tree, b"abc"),
+        ),
+        (
+            last_blake2s_digest(&tree, b"abc"),
             "310f6db4d75ec40e5d9bec0cc45d228b46dec4e075cf61a8da736206a24f3196",
-        )
-    );
+        ),
+    ] {
+        assert!(rt; reads(&digest, wanted), "{wanted}");
+    }
     Ok(())
 }

@@ -1,5 +1,6 @@
-//! A key, lengths, messages and pieces that several tests share.
+//! A key, lengths, a place in a tree, messages and pieces that several tests share.
 
+use blake2::Tree;
 use blake2::digest::Update;
 use std::process::Abort;
 
@@ -11,6 +12,18 @@ pub(crate) const KEY: [u8; 32] = [
 
 /// Lengths in bytes about the ends of blocks, and of two blocks.
 pub(crate) const LENGTHS: [usize; 11] = [0, 1, 63, 64, 65, 127, 128, 129, 255, 256, 257];
+
+/// A node's place: the eighth of its level, over leaves, in a tree of two levels.
+pub(crate) fn place() -> Tree {
+    Tree {
+        fanout: 3,
+        depth: 2,
+        leaf_length: 4096,
+        node_offset: 7,
+        node_depth: 1,
+        inner_length: 32,
+    }
+}
 
 /// Fills the bytes with 0 to 250, again and again.
 pub(crate) fn count_up(bytes: &mut [u8]) {

@@ -1,38 +1,27 @@
 //! Lists of calls on hashers of a node of a tree, with its last-node flag on and off. The expected
 //! digests are those of `hashlib`.
 
-ghost use Rattle.std.specs.Prelude.{◌≤◌};
-
+use crate::calls::digests_are;
+use crate::inputs::place;
 use blake2::calls::{Call, ReplayFault, replay};
 use blake2::digest::{Duplicate, FixedOutputReset, TreeNode};
-use blake2::{Blake2b512, Blake2bVarCore, Blake2s256, Blake2sVarCore, LastNode, Tree};
+use blake2::{Blake2b512, Blake2bVarCore, Blake2s256, Blake2sVarCore, LastNode};
 use std::alloc::Global;
 use std::process::Abort;
 use std::test::Fail;
 
-// A node's place: the eighth of its level, over leaves, in a tree of two levels.
-fn place() -> Tree {
-    Tree {
-        fanout: 3,
-        depth: 2,
-        leaf_length: 4096,
-        node_offset: 7,
-        node_depth: 1,
-        inner_length: 32,
-    }
-}
-
-// The digests of calls on a node with this flag, in hexadecimal, each before a semicolon: of `abc`
-// taken in two pieces, of the same by a copy, of nothing by a copy made after the reset, and of
-// `abc` after a byte that a reset drops.
-fn digests_of<H, const N: usize>(
+// Whether calls on a node with this flag give these digests: first that of `abc`, which comes in
+// two pieces, by the node and by a copy of it; then that of nothing, by a copy made after the
+// reset; and that of `abc` after a byte that a reset drops.
+fn gives<H, const N: usize>(
     alloc: Global,
     mut node: H,
     last_node: bool,
-) -> Result<String, Fail>
+    abc: &str,
+    nothing: &str,
+) -> Result<bool, ReplayFault>
 where
     H: FixedOutputReset<N> + TreeNode + Duplicate + Drop,
-    requires { N ≤ 64 }
 {
     let calls = [
         Call::Update(0, b"ab"),
@@ -49,13 +38,7 @@ where
         Call::Finalize(0),
     ];
     node.set_last_node(last_node);
-    let digests = replay::<H, N>(alloc, node, &calls)?;
-    let mut text = String::new(alloc);
-    for digest in &digests {
-        text.push_str(hex::encode(alloc, &digest[..])?.as_str())?;
-        text.push_str(";")?;
-    }
-    Ok(text)
+    digests_are::<H, N>(alloc, node, &calls, &[abc, abc, nothing, abc])
 }
 
 #[test]
@@ -63,30 +46,26 @@ fn replay_a_node_of_blake2b(rt: HostRuntime) -> Result<(), Fail> {
     let tree = place();
     assert!(rt; Blake2bVarCore::admits_tree(&tree));
     let node = Blake2b512::new_with_tree(b"salt", b"persona", &tree);
-    let off = digests_of::<Blake2b512, 64>(rt.alloc(), node.duplicate(), false)?;
-    assert_eq!(rt;
-        off.as_str(),
-        "e36876d2b9b9aca2fa3a8193a6809c52f8febab7bcb5e83830d4e6cfc6a11ae6\
-         fbd2870e04324a3decc2045daddcd3cadcd653ac914a7c447d3a99866d02b92f;\
-         e36876d2b9b9aca2fa3a8193a6809c52f8febab7bcb5e83830d4e6cfc6a11ae6\
-         fbd2870e04324a3decc2045daddcd3cadcd653ac914a7c447d3a99866d02b92f;\
-         3d59e5c8686c29a37571d990be92b97dd0b9ab98931d17bd31608b6d25bd5b39\
-         eae5ce834929709795c01045c7d4d3ca20c23f47ec0d8e91df8d97958fb81b05;\
-         e36876d2b9b9aca2fa3a8193a6809c52f8febab7bcb5e83830d4e6cfc6a11ae6\
-         fbd2870e04324a3decc2045daddcd3cadcd653ac914a7c447d3a99866d02b92f;"
-    );
-    let on = digests_of::<Blake2b512, 64>(rt.alloc(), node, true)?;
-    assert_eq!(rt;
-        on.as_str(),
-        "1ec9dd67f8741526f23ff15a7b3aedf226971512c3c7bdedccc0ecd93cac3e49\
-         9ac6f5055a81215852506ff86bbbc33facf5e97b448f3809759a8546636f675e;\
-         1ec9dd67f8741526f23ff15a7b3aedf226971512c3c7bdedccc0ecd93cac3e49\
-         9ac6f5055a81215852506ff86bbbc33facf5e97b448f3809759a8546636f675e;\
-         f8a07066cdb79d76de17cc31efbcaa1be4f0eeadcf515da9ad47aab3f3a299a8\
-         4ce67a4fedce56c383af698462715b76e98ea0674e343dc0a20add2725288252;\
-         1ec9dd67f8741526f23ff15a7b3aedf226971512c3c7bdedccc0ecd93cac3e49\
-         9ac6f5055a81215852506ff86bbbc33facf5e97b448f3809759a8546636f675e;"
-    );
+    for (last_node, abc, nothing) in [
+        (
+            false,
+            "e36876d2b9b9aca2fa3a8193a6809c52f8febab7bcb5e83830d4e6cfc6a11ae6\
+             fbd2870e04324a3decc2045daddcd3cadcd653ac914a7c447d3a99866d02b92f",
+            "3d59e5c8686c29a37571d990be92b97dd0b9ab98931d17bd31608b6d25bd5b39\
+             eae5ce834929709795c01045c7d4d3ca20c23f47ec0d8e91df8d97958fb81b05",
+        ),
+        (
+            true,
+            "1ec9dd67f8741526f23ff15a7b3aedf226971512c3c7bdedccc0ecd93cac3e49\
+             9ac6f5055a81215852506ff86bbbc33facf5e97b448f3809759a8546636f675e",
+            "f8a07066cdb79d76de17cc31efbcaa1be4f0eeadcf515da9ad47aab3f3a299a8\
+             4ce67a4fedce56c383af698462715b76e98ea0674e343dc0a20add2725288252",
+        ),
+    ] {
+        let node = node.duplicate();
+        let is_given = gives::<_, 64>(rt.alloc(), node, last_node, abc, nothing)?;
+        assert!(rt; is_given, "{last_node}");
+    }
     Ok(())
 }
 
@@ -95,22 +74,22 @@ fn replay_a_node_of_blake2s(rt: HostRuntime) -> Result<(), Fail> {
     let tree = place();
     assert!(rt; Blake2sVarCore::admits_tree(&tree));
     let node = Blake2s256::new_with_tree(b"salt", b"persona", &tree);
-    let off = digests_of::<Blake2s256, 32>(rt.alloc(), node.duplicate(), false)?;
-    assert_eq!(rt;
-        off.as_str(),
-        "ab4f0247fba5f6654011fb114e7955a15d368d3b20c488a1d1be94f0ae045363;\
-         ab4f0247fba5f6654011fb114e7955a15d368d3b20c488a1d1be94f0ae045363;\
-         d01bba4e957d848f6866b8c5c3f6ed494e5c850c42c379629d328504a12e6016;\
-         ab4f0247fba5f6654011fb114e7955a15d368d3b20c488a1d1be94f0ae045363;"
-    );
-    let on = digests_of::<Blake2s256, 32>(rt.alloc(), node, true)?;
-    assert_eq!(rt;
-        on.as_str(),
-        "066781ddcfaf0a12df13e3c9425d22323cf8feb073804e2de1fc9b734f2bd65b;\
-         066781ddcfaf0a12df13e3c9425d22323cf8feb073804e2de1fc9b734f2bd65b;\
-         d26ae5763a91c93fc77e19a31bffe5130f18654b6c4de3580a66c5ef71041ff8;\
-         066781ddcfaf0a12df13e3c9425d22323cf8feb073804e2de1fc9b734f2bd65b;"
-    );
+    for (last_node, abc, nothing) in [
+        (
+            false,
+            "ab4f0247fba5f6654011fb114e7955a15d368d3b20c488a1d1be94f0ae045363",
+            "d01bba4e957d848f6866b8c5c3f6ed494e5c850c42c379629d328504a12e6016",
+        ),
+        (
+            true,
+            "066781ddcfaf0a12df13e3c9425d22323cf8feb073804e2de1fc9b734f2bd65b",
+            "d26ae5763a91c93fc77e19a31bffe5130f18654b6c4de3580a66c5ef71041ff8",
+        ),
+    ] {
+        let node = node.duplicate();
+        let is_given = gives::<_, 32>(rt.alloc(), node, last_node, abc, nothing)?;
+        assert!(rt; is_given, "{last_node}");
+    }
     Ok(())
 }
 

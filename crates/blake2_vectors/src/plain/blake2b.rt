@@ -1,9 +1,9 @@
 //! Digests that hashlib gives, in pieces; refusals; what a wipe and a reset leave.
 
+use crate::inputs::{count_up, reads};
 use blake2::Tree;
 use blake2_plain::StateParameters;
 use blake2_plain::blake2b::State;
-use std::alloc::AllocError;
 
 // Takes the input where the state can.
 fn take(state: &mut State, input: &[u8]) -> bool {
@@ -77,56 +77,46 @@ fn accepts(state: &State, tag: &[u8]) -> bool {
     state.is_ready() && state.is_digest(tag)
 }
 
-// Each byte is its place modulo 251.
-fn message() -> [u8; 300] {
-    let mut text = [0; 300];
-    for (i, byte) in text.iter_mut().enumerate() {
-        *byte = (i % 251) as u8;
-    }
-    text
-}
-
 #[test]
-fn in_pieces_and_after_a_reset(rt: HostRuntime) -> Result<(), AllocError> {
+fn in_pieces_and_after_a_reset(rt: HostRuntime) {
     let Ok(mut state) = State::new(&given(20, b"key", b"salt", b"persona")) else {
         assert!(rt; false);
-        return Ok(());
+        return;
     };
-    let text = message();
+    let mut text = [0; 300];
+    count_up(&mut text);
     let mut out = [0; 20];
     assert!(rt; take(&mut state, &text[..3]) && start_again(&mut state));
     assert!(rt; take(&mut state, &text[..7]) && take(&mut state, &text[7..]));
     assert!(rt; give(&state, &mut out));
     let wanted = "7ad5dc2e868f563e16bada5547b7f4e84fe3db49";
-    assert_eq!(rt; hex::encode(rt.alloc(), &out[..])?.as_str(), wanted);
+    assert!(rt; reads(&out, wanted));
     assert!(rt; accepts(&state, &out) && !accepts(&state, &out[..19]));
     out[19] ^= 1;
     assert!(rt; !accepts(&state, &out) && !give(&state, &mut out[..19]));
     state.wipe();
     assert!(rt; !state.is_ready() && state.first == [0; 8] && state.start_block == [0; 128]);
-    Ok(())
 }
 
 #[test]
-fn from_a_node_of_a_tree(rt: HostRuntime) -> Result<(), AllocError> {
+fn from_a_node_of_a_tree(rt: HostRuntime) {
     // Fanout 2, depth 3, leaves of 4,096 bytes, node 5 of depth 1, inner length 64 (the BLAKE2
     // document, 2.8).
     let mut block = [0; 64];
     block[..18].copy_from_slice(&[64, 0, 2, 3, 0, 16, 0, 0, 5, 0, 0, 0, 0, 0, 0, 0, 1, 64]);
     let Ok(mut state) = State::from_block(&block) else {
         assert!(rt; false);
-        return Ok(());
+        return;
     };
     let mut out = [0; 64];
     assert!(rt; take(&mut state, b"abc") && give(&state, &mut out));
     let wanted = "89ac394621e9b04625bc4da49cd8976f9feec66402217e136b26c7e9f40f08be\
         4ba126114472d1aea920e9c6a2f2d3ad577c1e7aedd5d5ac266b3b177dcbb444";
-    assert_eq!(rt; hex::encode(rt.alloc(), &out[..])?.as_str(), wanted);
-    Ok(())
+    assert!(rt; reads(&out, wanted));
 }
 
 #[test]
-fn a_keyed_node_of_a_tree(rt: HostRuntime) -> Result<(), AllocError> {
+fn a_keyed_node_of_a_tree(rt: HostRuntime) {
     let mut tree = Tree {
         fanout: 2,
         depth: 3,
@@ -137,21 +127,20 @@ fn a_keyed_node_of_a_tree(rt: HostRuntime) -> Result<(), AllocError> {
     };
     let Some(mut state) = node(&tree) else {
         assert!(rt; false);
-        return Ok(());
+        return;
     };
     let mut out = [0; 20];
     assert!(rt; take(&mut state, b"abc") && give(&state, &mut out));
     let wanted = "175b5f9bce20ac14476a90f58f14b6495b14ae81";
-    assert_eq!(rt; hex::encode(rt.alloc(), &out[..])?.as_str(), wanted);
+    assert!(rt; reads(&out, wanted));
     // The last node of its level, also after a reset, which keeps the flag.
     let wanted = "12442b5f86379fe8f3a95801253b0b71e42bcacd";
     assert!(rt; mark(&mut state, true) && give(&state, &mut out));
-    assert_eq!(rt; hex::encode(rt.alloc(), &out[..])?.as_str(), wanted);
+    assert!(rt; reads(&out, wanted));
     assert!(rt; start_again(&mut state) && take(&mut state, b"abc") && give(&state, &mut out));
-    assert_eq!(rt; hex::encode(rt.alloc(), &out[..])?.as_str(), wanted);
+    assert!(rt; reads(&out, wanted));
     tree.depth = 0;
     assert!(rt; node(&tree).is_none());
-    Ok(())
 }
 
 #[test]

@@ -2,9 +2,9 @@
 
 ghost use Rattle.std.specs.Prelude.{◌≤◌, length};
 
+use crate::inputs::count_up;
 use blake2_plain::tree::TreeState;
 use blake2_tree::tree_root;
-use std::test::Fail;
 
 // The roots that a state gives between two pieces of a message and after them; it counts both.
 fn roots_of_pieces(leaf_length: u32, first: &[u8], second: &[u8]) -> Option<([u8; 64], [u8; 64])>
@@ -29,11 +29,9 @@ fn roots_of_pieces(leaf_length: u32, first: &[u8], second: &[u8]) -> Option<([u8
 
 // Up to more than nine leaves, and each cut.
 #[test]
-fn plain_roots_of_every_cut(rt: HostRuntime) -> Result<(), Fail> {
+fn plain_roots_of_every_cut(rt: HostRuntime) {
     let mut text = [0; 160];
-    for (i, byte) in text.iter_mut().enumerate() {
-        *byte = (i % 251) as u8;
-    }
+    count_up(&mut text);
     for (leaf_length, length) in [(1, 20), (7, 70), (16, 160), (200, 160)] {
         assert!(rt; 1 <= leaf_length && length <= text.len());
         let message = &text[..length];
@@ -41,19 +39,15 @@ fn plain_roots_of_every_cut(rt: HostRuntime) -> Result<(), Fail> {
         for cut in 0..length {
             let (first, second) = message.split_at(cut);
             let between = tree_root::<64>(b"salt", b"persona", leaf_length, first);
-            assert_eq!(rt;
-                roots_of_pieces(leaf_length, first, second),
-                Some((between, root)),
-                "{leaf_length}, {cut}"
-            );
+            let roots = roots_of_pieces(leaf_length, first, second);
+            assert!(rt; roots == Some((between, root)), "{leaf_length}, {cut}");
         }
     }
-    Ok(())
 }
 
 // The bytes behind the root stay.
 #[test]
-fn plain_root_of_twenty_bytes(rt: HostRuntime) -> Result<(), Fail> {
+fn plain_root_of_twenty_bytes(rt: HostRuntime) {
     let salt = b"0123456789abcdef";
     let persona = b"fedcba9876543210";
     let root = tree_root::<20>(salt, persona, u32::MAX, b"abc");
@@ -62,14 +56,13 @@ fn plain_root_of_twenty_bytes(rt: HostRuntime) -> Result<(), Fail> {
             state.update(b"abc");
             let mut out = [7; 24];
             state.write_root(&mut out);
-            assert_eq!(rt; &out[..20], root.as_slice());
-            assert_eq!(rt; &out[20..], [7; 4].as_slice());
+            assert!(rt; &out[..20] == root.as_slice());
+            assert!(rt; &out[20..] == [7; 4].as_slice());
             state.wipe();
             assert!(rt; !state.is_ready());
         }
         Err(_) => assert!(rt; false),
     }
-    Ok(())
 }
 
 #[test]

@@ -4,6 +4,7 @@
 ghost use Rattle.std.specs.Prelude.{◌≡◌, ◌≤◌, length};
 
 use super::node;
+use crate::inputs::{count_up, reads};
 use blake2::Blake2b256;
 use blake2::digest::Digest;
 use blake2_tree::{TreeHasher, tree_root};
@@ -91,49 +92,34 @@ fn roots_by_nodes(rt: HostRuntime) -> Result<(), Fail> {
         assert!(rt; length <= message.len() && leaves <= 3);
         let message = &message[..length];
         let found = tree_root::<64>(&[], &[], 4, message);
-        assert_eq!(rt; hex::encode(rt.alloc(), &found[..])?.as_str(), root);
-        assert_eq!(rt;
-            (found, root_message),
-            root_by_nodes(rt.alloc(), message, leaves)?
-        );
+        assert!(rt; reads(&found, root), "{length}");
+        let by_nodes = root_by_nodes(rt.alloc(), message, leaves)?;
+        assert!(rt; by_nodes == (found, root_message), "{length}");
         for cut in 0..message.len() + 1 {
             let (first, second) = message.split_at(cut);
-            assert_eq!(rt;
-                root_of_pieces(first, second),
-                Some(found),
-                "{length}, {cut}"
-            );
+            let of_pieces = root_of_pieces(first, second);
+            assert!(rt; of_pieces == Some(found), "{length}, {cut}");
         }
     }
     Ok(())
 }
 
-// The bytes of a text count up, and begin anew after 250.
-fn text() -> [u8; 2000] {
-    let mut text = [0; 2000];
-    for (i, byte) in text.iter_mut().enumerate() {
-        *byte = (i % 251) as u8;
-    }
-    text
-}
-
 // Up to ten leaves of four bytes, and each cut: four leaves at once stand on both sides of it.
 #[test]
 fn roots_of_every_cut(rt: HostRuntime) -> Result<(), Fail> {
-    let text = text();
+    let mut text = [0; 2000];
+    count_up(&mut text);
     for length in 1..42 {
         let message = &text[..length];
         let root = tree_root::<64>(&[], &[], 4, message);
         let leaves = (length as u64).div_ceil(4);
         assert!(rt; leaves <= 11);
-        assert_eq!(rt; root, root_by_nodes(rt.alloc(), message, leaves)?.0);
+        let (by_nodes, _) = root_by_nodes(rt.alloc(), message, leaves)?;
+        assert!(rt; root == by_nodes, "{length}");
         for cut in 0..length {
             let (first, second) = message.split_at(cut);
-            assert_eq!(rt;
-                root_of_pieces(first, second),
-                Some(root),
-                "{length}, {cut}"
-            );
+            let of_pieces = root_of_pieces(first, second);
+            assert!(rt; of_pieces == Some(root), "{length}, {cut}");
         }
     }
     Ok(())
@@ -160,7 +146,8 @@ fn joined_roots(alloc: Global, text: &[u8], leaf_length: u32) -> Result<Vec<u8>,
 // `trees`, the digest of them for each length of a leaf.
 #[test]
 fn roots_around_each_number_of_leaves(rt: HostRuntime) -> Result<(), Fail> {
-    let text = text();
+    let mut text = [0; 2000];
+    count_up(&mut text);
     for (leaf_length, wanted) in [
         (
             1,
@@ -197,25 +184,16 @@ fn roots_around_each_number_of_leaves(rt: HostRuntime) -> Result<(), Fail> {
     ] {
         assert!(rt; 1 <= leaf_length && leaf_length <= 200);
         let roots = joined_roots(rt.alloc(), &text, leaf_length)?;
-        let digest = Blake2b256::digest(&roots);
-        assert_eq!(rt;
-            hex::encode(rt.alloc(), &digest[..])?.as_str(),
-            wanted,
-            "{leaf_length}"
-        );
+        assert!(rt; reads(&Blake2b256::digest(&roots), wanted), "{leaf_length}");
     }
     Ok(())
 }
 
 // Leaves of the greatest length, with the longest salt and persona.
 #[test]
-fn root_of_one_leaf(rt: HostRuntime) -> Result<(), Fail> {
+fn root_of_one_leaf(rt: HostRuntime) {
     let root = tree_root::<20>(b"0123456789abcdef", b"fedcba9876543210", u32::MAX, b"abc");
-    assert_eq!(rt;
-        hex::encode(rt.alloc(), &root[..])?.as_str(),
-        "e48365e95438791be6e2a59b38f636c8bad1b703"
-    );
+    assert!(rt; reads(&root, "e48365e95438791be6e2a59b38f636c8bad1b703"));
     let none: [u8; 0] = tree_root(b"", b"", 1, b"abc");
-    assert_eq!(rt; none, []);
-    Ok(())
+    assert!(rt; none == []);
 }

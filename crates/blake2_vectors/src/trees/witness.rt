@@ -26,11 +26,11 @@ fn witness_of_roots(rt: HostRuntime) -> Result<(), Fail> {
         return Ok(());
     };
     for (step, message) in [(x, b"a"), (y, b"b")] {
-        assert_eq!(rt; step.chain, START);
-        assert_eq!(rt; step.counter, 64);
+        assert!(rt; step.chain == START);
+        assert!(rt; step.counter == 64);
         assert!(rt; step.last && step.last_node);
-        assert_eq!(rt; step.block[..64], node(0, 0, true, message)[..]);
-        assert_eq!(rt; step.block[64..], [0; 64][..]);
+        assert!(rt; step.block[..64] == node(0, 0, true, message)[..]);
+        assert!(rt; step.block[64..] == [0; 64][..]);
     }
     Ok(())
 }
@@ -47,11 +47,8 @@ fn no_witness(rt: HostRuntime) -> Result<(), Fail> {
         (64, b"", b"\0"),
     ] {
         assert!(rt; size <= 64 && a.len() < 10 && b.len() < 10);
-        assert_eq!(rt;
-            tree_witness(alloc, b"salt", b"persona", 4, size, a, b)?,
-            None,
-            "{size}"
-        );
+        let found = tree_witness(alloc, b"salt", b"persona", 4, size, a, b)?;
+        assert!(rt; found.is_none(), "{size}");
     }
     Ok(())
 }
@@ -74,6 +71,6 @@ fn witness_of_a_found_pair(rt: HostRuntime) -> Result<(), Fail> {
     let found = tree_witness(rt.alloc(), &[], &[], 4, 1, &a, &b)?;
     assert!(rt; matches!(found, Some(TreeWitness::Root(x, y)) if x != y));
     let copy = found;
-    assert_eq!(rt; found, copy);
+    assert!(rt; found == copy);
     Ok(())
 }
