@@ -96,7 +96,7 @@ are_left_by_ci() {
 }
 
 # Proves blake2_c and builds it for this processor over the crates that `rt ci` has left, by the command
-# that rt itself calls.
+# that rt itself calls. What is proved does not go by the processor, so the second takes the first one's work.
 build_after_ci() {
     local cpu=$1 kit words=() name
     kit=$(dirname "$(rt doc)")
@@ -108,11 +108,12 @@ build_after_ci() {
         fi
     done
     for name in "$kit/rlibs" "$top"/crates/*/out/rlib; do words+=(-L "dependency=$name"); done
-    mkdir -p "$top/crates/blake2_c/out"
+    mkdir -p "$top/crates/blake2_c/out" "$work/proved"
     cd "$top/crates/blake2_c" &&
         "$kit/bin/rattle" build --crate-name blake2_c src/lib.rt "${words[@]}" --crate-type staticlib \
             --antt-project "$kit/rattle/logic/antt-project.json" --logic-built "$kit/logic_built" \
-            --jobs 2 --cpu "$cpu" --toolchain "$kit/toolchain" --backend llvm -o out/libblake2_c.a
+            --incremental "$work/proved" --jobs 2 --cpu "$cpu" --toolchain "$kit/toolchain" --backend llvm \
+            -o out/libblake2_c.a
 }
 
 build_by_rt() { cd "$top/crates/blake2_c" && rt lib --cpu "$1"; }

@@ -12,8 +12,8 @@
 #   libb2       libb2's functions by their own names, and its own tests
 #   wrappers    Rust and Python, by rust/run_tests.sh and python/run_tests.sh
 #
-# A test whose tool is absent is skipped, and a line says so. The last line counts, and the status is 0
-# where no test failed.
+# The parts go side by side, each in a folder of its own, and are shown in this order. A test whose tool is absent is
+# skipped, and a line says so. The last line counts, and the status is 0 where no test failed.
 set -u
 here=$(dirname "$(readlink -f "$0")")
 top=$(dirname "$here")
@@ -22,15 +22,28 @@ work=$(mktemp -d)
 trap 'rm -rf "$work"' EXIT
 prefix=$work/prefix
 parts=$work/parts
+cases=$work/cases
 passed=0 failed=0 skipped=0
-cpu=() source=(--parts "$parts") only=
+cpu=() source=(--parts "$parts") chosen=(languages choosing installing libb2 wrappers)
+
+refuse() {
+    echo "usage: c/run_tests.sh [--cpu CPU] [--after-ci | --from PARTS] [--only PART]" >&2
+    exit 2
+}
+
 while [ $# -gt 0 ]; do
     case $1 in
         --cpu) cpu=(--cpu "${2-}"); shift $(($# > 1 ? 2 : 1)) ;;
         --after-ci) source=(--after-ci --parts "$parts"); shift ;;
         --from) parts=$(readlink -f "${2-}"); source=(--from "$parts"); shift $(($# > 1 ? 2 : 1)) ;;
-        --only) only=${2-}; shift $(($# > 1 ? 2 : 1)) ;;
-        *) echo "usage: c/run_tests.sh [--cpu CPU] [--after-ci | --from PARTS] [--only PART]" >&2; exit 2 ;;
+        --only)
+            case ${2-} in
+                languages | choosing | installing | libb2 | wrappers) chosen=("$2") ;;
+                *) refuse ;;
+            esac
+            shift 2
+            ;;
+        *) refuse ;;
     esac
 done
 
@@ -93,18 +106,39 @@ else
     skip "all tests" "the toolchain's command rt is not on the PATH"
     finish
 fi
+mkdir "$cases"
 if has python3; then
     for family in b s; do
-        python3 "$tests/cases.py" $family >"$work/cases_$family"
+        python3 "$tests/cases.py" $family >"$cases/$family"
     done
 fi
 
 # ---- the parts
 
-for part in languages choosing installing libb2 wrappers; do
-    if [ -z "$only" ] || [ "$only" = "$part" ]; then
-        . "$tests/$part.sh"
-        "test_$part"
+# Runs a part in a folder of its own, and leaves what it counted there.
+run_part() {
+    work=$work/$1
+    passed=0 failed=0 skipped=0
+    mkdir "$work" && . "$tests/$1.sh" || return
+    "test_$1"
+    echo "$passed $failed $skipped" >"$work/counts"
+}
+
+# Shows what a part printed, and adds its counts. One that ended before it had counted fails.
+show_part() {
+    local counted=(0 1 0)
+    cat "$work/$1.shown"
+    if [ -s "$work/$1/counts" ]; then
+        read -ra counted <"$work/$1/counts"
+    else
+        echo "FAILED: the part $1 did not count its tests"
     fi
-done
+    passed=$((passed + counted[0]))
+    failed=$((failed + counted[1]))
+    skipped=$((skipped + counted[2]))
+}
+
+for part in "${chosen[@]}"; do run_part "$part" >"$work/$part.shown" 2>&1 & done
+wait
+for part in "${chosen[@]}"; do show_part "$part"; done
 finish

@@ -161,7 +161,7 @@ make_build() { "$here/join.sh" --test "$1" "$work/build_$1" "$parts/x86-64-v2.a"
 
 test_of_build() {
     cc -std=c99 -O2 -I"$include" -o "$work/test_build" "$tests/test.c" "$work/build_$1/libblake2_c.a" \
-        $(family_words "$2") && "$work/test_build" "$work/cases_$2"
+        $(family_words "$2") && "$work/test_build" "$cases/$2"
 }
 
 keys_of_build() {

@@ -8,20 +8,20 @@ compile() {
 }
 
 compile_and_run() {
-    compile "$@" && "$1" "$work/cases_$family"
+    compile "$@" && "$1" "$cases/$family"
 }
 
 with_shared_library() {
     compile "$work/test_shared" -O2 $(family_words "$family") "$shared" &&
-        LD_LIBRARY_PATH=$prefix/lib "$work/test_shared" "$work/cases_$family"
+        LD_LIBRARY_PATH=$prefix/lib "$work/test_shared" "$cases/$family"
 }
 
 # A hundred cases of each kind, which valgrind takes in seconds.
 run_in_valgrind() {
-    { grep ^h "$work/cases_$family" | awk 'NR % 8 == 0' | head -80
-      grep ^n "$work/cases_$family" | head -20
-      grep ^r "$work/cases_$family" | head -20
-      grep ^t "$work/cases_$family" | head -20; } >"$work/few"
+    { grep ^h "$cases/$family" | awk 'NR % 8 == 0' | head -80
+      grep ^n "$cases/$family" | head -20
+      grep ^r "$cases/$family" | head -20
+      grep ^t "$cases/$family" | head -20; } >"$work/few"
     compile "$work/test_plain" -O1 $(family_words "$family") "$archive" &&
         valgrind -q --error-exitcode=9 --leak-check=full "$work/test_plain" "$work/few"
 }

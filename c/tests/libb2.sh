@@ -7,7 +7,7 @@ names_of_libb2() {
     local family=$1
     shift
     cc -std=c99 -g -O1 "${warnings[@]}" $(family_words "$family") -o "$work/libb2_names" "$tests/libb2.c" "$@" &&
-        "$work/libb2_names" "$work/cases_$family"
+        "$work/libb2_names" "$cases/$family"
 }
 
 # What a configure script does to find libb2: a program that names one function and has no header of it.
