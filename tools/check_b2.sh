@@ -33,10 +33,16 @@ cat >"$room/bin/rt" <<'END'
 room=$(dirname "$(dirname "$0")")
 echo "$PWD: $*" >>"$room/calls"
 for crate in low middle b2; do
+    rm -rf "../$crate/out/rlib"
     echo "rt: chose --jobs 4 for $crate"
     echo "so far: 0 of 4 functions checked; the verdict comes last"
     [ "$crate" != middle ] || { [ ! -e "$room/slow" ] || sleep 2; echo "so far: 2 of 4 functions checked"; }
-    mkdir -p "../$crate/out/incremental" "../$crate/out/rlib"
+    # what the script has left by now of the crates below
+    [ "$crate" != b2 ] || { [ ! -e "$room/slow" ] || sleep 1; (cd .. && echo */out/incremental) >"$room/work"; }
+    mkdir -p "../$crate/out/incremental"
+    [ "$crate" != b2 ] || break
+    mkdir "../$crate/out/rlib"
+    [ -e "$room/no library" ] || : >"../$crate/out/rlib/stamp"
 done
 case $(cat "$room/turn" 2>/dev/null) in
     fail)
@@ -67,6 +73,9 @@ calls() { [ "$(cat "$room/calls" 2>/dev/null | wc -l)" -eq "$1" ]; }
 ends() { [ "$status" -eq "$1" ]; }
 prints() { [ "$(cat "$room/output")" = "$1" ]; }
 tells() { grep -qF -- "$1" "$room/errors"; }
+tells_once() { [ "$(grep -cF -- "$1" "$room/errors")" -eq 1 ]; }
+tells_not() { ! tells "$1"; }
+finds_work() { [ "$(cat "$room/work")" = "$1" ]; }
 tells_nothing() { [ ! -s "$room/errors" ]; }
 stands() { [ -e "$1" ]; }
 stands_not() { [ ! -e "$1" ]; }
@@ -96,9 +105,11 @@ holds "progress counts crates below" tells "b2: middle: 2 of 4 functions proved;
 holds "the rest is taken to last as the first half" grep -qE '50 percent.* about 0:0[234] minutes left' "$room/errors"
 holds "the last crate is the last part" tells "b2: b2: 0 of 4 functions proved; 66 percent"
 holds "the program is kept" stands "$program"
+holds "the checker's work is removed as the next crate begins" finds_work "*/out/incremental"
 holds "the checker's work is removed" stands_not "$repository/crates/low/out/incremental"
+holds "the last crate's is removed too" stands_not "$repository/crates/b2/out/incremental"
 holds "what was proved is kept" stands "$repository/crates/low/out/rlib"
-holds "the removal is told" tells "removed the checker's work"
+holds "the removal is told once" tells_once "removed the checker's work"
 holds "nothing is left of the build" stands_not "$repository/out/begun".*
 
 settle
@@ -131,16 +142,32 @@ done
 b2 --build
 holds "a change of no source builds nothing" calls 0
 
+touch "$room/slow"
 rm -f "$program"
 mkdir -p "$repository/crates/low/out/incremental"
 b2 --build
 holds "work that stood before is kept" stands "$repository/crates/low/out/incremental"
+holds "and while the next crates are built" finds_work low/out/incremental
 holds "work of this build is removed" stands_not "$repository/crates/middle/out/incremental"
 rm -rf "$program" "$repository"/crates/*/out/incremental
+touch "$room/no library"
+b2 --build
+rm "$room/no library"
+holds "work stays while its library is not made" finds_work "low/out/incremental middle/out/incremental"
+holds "and goes with the last" stands_not "$repository/crates/middle/out/incremental"
+rm -f "$program"
 b2 --build --keep
+rm "$room/slow"
 holds "work is kept where asked" stands "$repository/crates/middle/out/incremental"
+holds "and while the next crates are built, where asked" \
+    finds_work "low/out/incremental middle/out/incremental"
+holds "no removal is told where work is kept" tells_not "removed the checker's work"
 holds "a build with --keep runs nothing" prints ""
 holds "a build with --keep ends with 0" ends 0
+rm -f "$program"
+b2 --build
+holds "no removal is told where all work stood before" tells_not "removed the checker's work"
+rm -rf "$repository"/crates/*/out/incremental
 
 echo edit >"$room/turn"
 rm -f "$program" "$room/calls"
@@ -158,6 +185,7 @@ holds "a failed build tells the cause" tells "error: no proof of the goal"
 holds "a failed build names its log" tells "the whole log is $program.log"
 holds "a failed build leaves no program" stands_not "$program"
 holds "a failed build leaves no file" stands_not "$repository/out/begun".*
+holds "a failed build keeps the work of the crate that failed" stands "$repository/crates/b2/out/incremental"
 rm -f "$room/turn" "$room/bin/rt"
 printf in | PATH=/usr/bin:/bin "$repository/b2" sum b512 >"$room/output" 2>"$room/errors"
 status=$?
