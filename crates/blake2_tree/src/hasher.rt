@@ -143,6 +143,7 @@ impl<const N: usize> TreeHasher<N> {
             → future self.new (result.now ++ y) ≡ future self.old (input.now ++ y) }
         ensures count { count self.new + length result.now ≡ count self.old + length input.now }
         ensures empty { (blake2b_meaning 64).count self.new.leaf ≡ 0 }
+        ensures short { length result.now ≤ 4 * self.new.nodes.leaf_length }
     {
         let mut rest = input;
         while rest.len() > self.nodes.four_leaves() {
