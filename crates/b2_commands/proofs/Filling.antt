@@ -1,7 +1,7 @@
 -- A buffer that is filled from its front, and what a hasher takes of it.
-use Rattle.std.proofs.Common.{◌≡◌, ℕ, ◌+◌, ◌-◌, ◌≤◌, List, []}
-use Rattle.std.proofs.Common.{◌++◌, length, take, Option, Some, None, IfSome, refl, sym}
-use Rattle.std.proofs.Common.{ap, ◌∙◌, subst, arith, append_assoc}
+use Rattle.std.proofs.Common.{◌≡◌, ℕ, ◌+◌, ◌-◌, ◌≤◌, List}
+use Rattle.std.proofs.Common.{◌++◌, length, take, refl, sym}
+use Rattle.std.proofs.Common.{ap, ◌∙◌, arith, append_assoc}
 use Rattle.std.proofs.Common.{length-append}
 use Rattle.std.proofs.Math.Seq.{take-append-add}
 use Rattle.std.proofs.lemmas.List.{length-take-le, take-take}
@@ -24,18 +24,9 @@ take-more a ys i n within long few =
 
 -- ---- taking
 
-pub Took-nil : {n : ℕ} (t : TreeHasher n) → Took t [] t
-Took-nil t = record { future = λ y. refl; count = omega arith }
-
 pub Took-trans : {n : ℕ} (a b c : TreeHasher n) (x y : List ℕ) → Took a x b → Took b y c
     → Took a (x ++ y) c
 Took-trans a b c x y first second = record {
   future = λ z. second.future z ∙ first.future (y ++ z) ∙ ap (future a) (sym (append_assoc x y z));
   count = omega (arith, first.count, second.count, length-append x y);
 }
-
--- what holds of some bytes holds of all that a source had left, where they are that
-pub of_all : (P : List ℕ → Type 0) (left : Option (List ℕ)) (x : List ℕ)
-    → IfSome left (λ all. x ≡ all) → P x → IfSome left P
-of_all P None x is holds = tt
-of_all P (Some all) x is holds = subst P is holds

@@ -11,11 +11,6 @@ abbrev pub behind : List Call → Result (List Call) Fault → Result (List Call
 behind calls (Ok later) = Ok (calls ++ later)
 behind calls (Err fault) = Err fault
 
--- nothing stands before the calls
-pub behind_none : (calls : Result (List Call) Fault) → calls ≡ behind [] calls
-behind_none (Ok calls) = refl
-behind_none (Err fault) = refl
-
 -- one call more stands behind the earlier ones
 one_more : (calls : List Call) (call : Call) (later : Result (List Call) Fault)
     → behind calls (and_then later (λ more. Ok (call ∷ more))) ≡ behind (calls ++ call ∷ []) later

@@ -176,16 +176,6 @@ Fresh_unflagged m digest counted new made = record {
   start_count = made.start_count;
 }
 
-pub Updated_unflagged : {S : Type 0} (m : Meaning S) (old : S) (x : List ℕ) (new : S)
-    → Updated m old x new → Updated (unflagged m) old x new
-Updated_unflagged m old x new kept = record {
-  future = kept.future;
-  started = kept.started;
-  last_node = refl;
-  count = kept.count;
-  start_count = kept.start_count;
-}
-
 -- ---- keys
 
 -- no key counts for nothing, and a key for a block

@@ -50,29 +50,10 @@ pub AreWords-rotate : (f : Family) (v : List ℕ) (d a r : ℕ) → AreWords f v
 AreWords-rotate f v d a r h = AreWords-set f v d _ h
     (rotate_right-lt f _ r (xor_lt (bits (word f)) _ _ (h d) (h a)))
 
--- G leaves words
-pub AreWords-mix : (f : Family) (v : List ℕ) (a b c d x y : ℕ) → AreWords f v
-    → AreWords f (mix f v a b c d x y)
-unfolding mix
-AreWords-mix f v a b c d x y h =
-    AreWords-rotate f _ b c _ (AreWords-plus f _ c d 0
-    (AreWords-rotate f _ d a _ (AreWords-plus f _ a b y
-    (AreWords-rotate f _ b c _ (AreWords-plus f _ c d 0
-    (AreWords-rotate f _ d a _ (AreWords-plus f v a b x h)))))))
-
 -- a round keeps the length
 pub length-round : (f : Family) (v m s : List ℕ) → length (round f v m s) ≡ length v
 unfolding round
 length-round f v m s = simp length-mix
-
--- a round leaves words
-pub AreWords-round : (f : Family) (v m s : List ℕ) → AreWords f v → AreWords f (round f v m s)
-unfolding round
-AreWords-round f v m s h =
-    AreWords-mix f _ 3 4 9 14 _ _ (AreWords-mix f _ 2 7 8 13 _ _
-    (AreWords-mix f _ 1 6 11 12 _ _ (AreWords-mix f _ 0 5 10 15 _ _
-    (AreWords-mix f _ 3 7 11 15 _ _ (AreWords-mix f _ 2 6 10 14 _ _
-    (AreWords-mix f _ 1 5 9 13 _ _ (AreWords-mix f v 0 4 8 12 _ _ h)))))))
 
 -- n elements of l, from place i on
 abbrev pub cells : List ℕ → ℕ → ℕ → List ℕ

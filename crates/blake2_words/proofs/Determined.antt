@@ -1,7 +1,7 @@
 -- What parameter words, blocks and counters tell of their input.
-use Rattle.std.proofs.Common.{◌≡◌, ℕ, ◌+◌, ◌-◌, ◌*◌, ◌≤◌, List, [], ◌++◌, length, refl, sym, ap}
+use Rattle.std.proofs.Common.{◌≡◌, ℕ, ◌*◌, ◌≤◌, List, [], ◌++◌, length, refl, sym, ap}
 use Rattle.std.proofs.Common.{◌∙◌, arith, Option, Some, None}
-use Rattle.blake2_rows.specs.Family.{Family, block_bytes, key_bytes, salt_bytes, output_bytes}
+use Rattle.blake2_rows.specs.Family.{Family, block_bytes, key_bytes, output_bytes}
 use Rattle.blake2_words.specs.Hash.{Flags, inner, Fits, input_parameters, padded, parameter_words}
 use Rattle.blake2_words.specs.Hash.{key_block, key_size, Input, input_data}
 use Rattle.blake2_words.specs.Inputs.{Accepts, KeyFits, Same}

@@ -1,5 +1,5 @@
 -- A key and a message that are read make the data that they were read from.
-use Rattle.std.proofs.Common.{◌≡◌, ℕ, zero, suc, ◌+◌, ◌-◌, ◌<◌, ◌≤◌, inl, inr, List, ◌++◌, length}
+use Rattle.std.proofs.Common.{◌≡◌, ℕ, zero, suc, ◌<◌, ◌≤◌, inl, inr, List, ◌++◌, length}
 use Rattle.std.proofs.Common.{take, drop, refl, sym, ◌∙◌, arith, get_or}
 use Rattle.std.proofs.lemmas.List.{get_or-take, length-take-le, take-append-drop}
 use Rattle.std.proofs.lemmas.Grind.{same_number_lists}
@@ -11,7 +11,6 @@ use Rattle.blake2_words.specs.Reader.{told_key, told_message}
 use Rattle.blake2_words.proofs.ParameterSizes.{key_bytes_fit}
 use Rattle.blake2_words.proofs.ByteSizes.{length-padded, AreBytes-take, AreBytes-drop}
 use Rattle.blake2_words.proofs.Padding.{padded-past, padded-before}
-use Rattle.blake2_words.proofs.ParametersNamed.{whole}
 
 -- key and message make the data that they were read from
 pub key_data : (f : Family) (n : ℕ) (z : List ℕ) → n ≤ key_bytes f

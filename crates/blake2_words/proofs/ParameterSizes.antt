@@ -1,17 +1,15 @@
--- How long the parameter block and the words made of it are, and that they are bytes and words.
-use Rattle.std.proofs.Common.{◌≡◌, ℕ, zero, suc, ◌-◌, ◌*◌, ◌/◌, ◌^◌, ◌<◌, ◌≤◌, List, [], ◌∷◌}
+-- How long the parameter block and the words made of it are, and that the block is of bytes.
+use Rattle.std.proofs.Common.{◌≡◌, ℕ, zero, suc, ◌*◌, ◌/◌, ◌^◌, ◌<◌, ◌≤◌, List, [], ◌∷◌}
 use Rattle.std.proofs.Common.{length, take, sym, ◌∙◌, arith, length-append, mod-lt}
 use Rattle.std.specs.Int.{to_le_bytes, bytes_low_first, w32, w64}
 use Rattle.blake2_rows.specs.Family.{Family, blake2b, blake2s, word_bytes, block_bytes, key_bytes}
 use Rattle.blake2_rows.specs.Family.{output_bytes, offset_bytes, iv}
-use Rattle.blake2_rows.specs.Round.{AreWords}
 use Rattle.blake2_rows.proofs.Texts.{AreBytes-append}
 use Rattle.blake2_words.specs.Hash.{Fits, Parameters, AreBytes, padded, parameter_block}
 use Rattle.blake2_words.specs.Hash.{parameter_words, start, Tree}
-use Rattle.blake2_words.proofs.WordSizes.{length-xor_words, AreWords-xor_words, length-iv}
-use Rattle.blake2_words.proofs.WordSizes.{AreWords-iv}
+use Rattle.blake2_words.proofs.WordSizes.{length-xor_words, length-iv}
 use Rattle.blake2_words.proofs.ByteSizes.{length-words_of, AreBytes-take, AreBytes-zeros}
-use Rattle.blake2_words.proofs.ByteSizes.{AreWords-words_of, length-padded, AreBytes-padded}
+use Rattle.blake2_words.proofs.ByteSizes.{length-padded, AreBytes-padded}
 
 -- the digits of a number in base 256 are bytes
 pub AreBytes-low : (i n x : ℕ) → AreBytes (bytes_low_first i n x)
@@ -98,21 +96,8 @@ pub length-parameter_words : (f : Family) (p : Parameters) → length (parameter
 unfolding parameter_words
 length-parameter_words f p = length-words_of f 8 _
 
--- the parameter words are words
-pub AreWords-parameter_words : (f : Family) (p : Parameters) → AreParameters f p
-    → AreWords f (parameter_words f p)
-unfolding parameter_words
-AreWords-parameter_words f p h = AreWords-words_of f 8 (parameter_block f p)
-    (AreBytes-parameter_block f p h)
-
 -- the start words are eight
 pub length-start : (f : Family) (p : Parameters) → length (start f p) ≡ 8
 unfolding start
 length-start f p = length-xor_words (iv f) _ (length-iv f ∙ sym (length-parameter_words f p))
     ∙ length-iv f
-
--- the start words are words
-pub AreWords-start : (f : Family) (p : Parameters) → AreParameters f p → AreWords f (start f p)
-unfolding start
-AreWords-start f p h = AreWords-xor_words f (iv f) (parameter_words f p) (AreWords-iv f)
-    (AreWords-parameter_words f p h)

@@ -1,5 +1,5 @@
 -- The bytes of parameter words name the parameters that they were made of.
-use Rattle.std.proofs.Common.{◌≡◌, ℕ, ◌+◌, ◌-◌, ◌^◌, ◌<◌, List, ◌++◌, length, take, drop, sym, ap}
+use Rattle.std.proofs.Common.{◌≡◌, ℕ, ◌+◌, ◌^◌, ◌<◌, List, ◌++◌, length, take, drop, sym, ap}
 use Rattle.std.proofs.Common.{subst, ◌∙◌, arith}
 use Rattle.std.proofs.lemmas.List.{take_at, drop_at}
 use Rattle.std.proofs.lemmas.Nat.{from_le_bytes-to_le_bytes_4, from_le_bytes-to_le_bytes_8}
@@ -7,7 +7,7 @@ use Rattle.std.specs.Int.{from_le_bytes, to_le_bytes, w64}
 use Rattle.blake2_rows.specs.Family.{Family, blake2b, blake2s, offset_bytes, reserved_bytes}
 use Rattle.blake2_rows.specs.Family.{salt_bytes}
 use Rattle.blake2_words.specs.Hash.{AreBytes, Fits, Parameters, bytes_of, words_of, padded}
-use Rattle.blake2_words.specs.Hash.{parameter_block, parameter_words, key_size}
+use Rattle.blake2_words.specs.Hash.{parameter_block, parameter_words}
 use Rattle.blake2_words.specs.Reader.{parameters_in}
 use Rattle.blake2_words.proofs.ParameterSizes.{AreParameters}
 use Rattle.blake2_words.proofs.ByteSizes.{length-padded, AreBytes-take, AreBytes-drop}

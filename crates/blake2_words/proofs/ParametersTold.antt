@@ -1,10 +1,10 @@
 -- Parameter words tell the parameters.
-use Rattle.std.proofs.Common.{◌≡◌, ℕ, ◌+◌, ◌-◌, ◌^◌, ◌<◌, List, ◌++◌, take, drop, sym, ap, ◌∙◌}
+use Rattle.std.proofs.Common.{◌≡◌, ℕ, ◌^◌, ◌<◌, List, ◌++◌, take, drop, sym, ap, ◌∙◌}
 use Rattle.std.proofs.Common.{arith, get_or}
 use Rattle.std.specs.Int.{to_le_bytes, w32, w64}
 use Rattle.blake2_rows.specs.Family.{Family, blake2b, blake2s, salt_bytes, iv}
 use Rattle.blake2_words.specs.Hash.{Fits, Parameters, bytes_of, padded, parameter_block}
-use Rattle.blake2_words.specs.Hash.{parameter_words, start, key_size}
+use Rattle.blake2_words.specs.Hash.{parameter_words, start}
 use Rattle.blake2_words.proofs.ParameterSizes.{AreParameters, length-parameter_words}
 use Rattle.blake2_words.proofs.ByteSizes.{length-padded}
 use Rattle.blake2_words.proofs.WordSizes.{length-iv}

@@ -14,7 +14,7 @@ use Rattle.blake2_words.specs.Hash.{AreBytes, block_count}
 use Rattle.blake2_words.specs.Transcript.{Entry, joined}
 use Rattle.blake2_words.specs.Run.{no_entry}
 use Rattle.blake2_words.specs.Reader.{told_count, last_entry, told_key, told_message, AreInner}
-use Rattle.blake2_words.specs.Reader.{IsInner, AreWhole, IsWhole, IsRun, HasKey, EndsRun}
+use Rattle.blake2_words.specs.Reader.{IsInner, AreWhole, IsRun, HasKey, EndsRun}
 use Rattle.blake2_words.specs.Reader.{IsZeroFrom}
 use Rattle.blake2_rows.proofs.Texts.{AreBytes-append}
 
@@ -59,24 +59,6 @@ last_entry-snoc xs e =
     ap (λ (i : ℕ). get_or (xs ++ e ∷ []) i no_entry) at
     ∙ get_or-append_right xs (e ∷ []) (length xs) (length xs) no_entry refl (omega arith)
     ∙ ap (λ (i : ℕ). get_or (e ∷ []) i no_entry) first
-
--- what holds of each entry of xs, and of e, holds of each of both
-snoc_each : (xs : List Entry) (e : Entry) (P : Entry → Type 0)
-    → ((i : ℕ) → i < length xs → P (get_or xs i no_entry)) → P e
-    → (i : ℕ) → i < length (xs ++ e ∷ []) → P (get_or (xs ++ e ∷ []) i no_entry)
-snoc_each xs e P each here i h = elim (cases_lt i (length xs)) [
-  | inl below ↦ subst P (sym (get_or_append_left xs (e ∷ []) no_entry i below)) (each i below)
-  | inr past ↦
-      (let total = length-append xs (e ∷ []) in
-      let at : length (xs ++ e ∷ []) - 1 ≡ i = omega arith in
-      subst P (sym (last_entry-snoc xs e) ∙ ap (λ (k : ℕ). get_or (xs ++ e
-      ∷ []) k no_entry) at) here)
-]
-
--- its blocks are whole
-pub whole-snoc : (f : Family) (xs : List Entry) (e : Entry) → AreWhole f xs → IsWhole f e
-    → AreWhole f (xs ++ e ∷ [])
-whole-snoc f xs e front here = snoc_each xs e (IsWhole f) front here
 
 -- ---- a run from its last entry and those before
 

@@ -1,18 +1,16 @@
--- How long the chaining words of a run and its digest are, and that they are words and bytes.
-use Rattle.std.proofs.Common.{◌≡◌, ℕ, zero, suc, ◌+◌, ◌-◌, ◌*◌, ◌^◌, ◌<◌, ◌≤◌, List, [], ◌∷◌}
+-- How long the chaining words of a run and its digest are, and that the bytes of words are bytes.
+use Rattle.std.proofs.Common.{◌≡◌, ℕ, zero, suc, ◌+◌, ◌*◌, ◌≤◌, List, [], ◌∷◌}
 use Rattle.std.proofs.Common.{length, refl, ap, ◌∙◌, arith, length-append}
 use Rattle.std.proofs.lemmas.List.{length-take-le}
 use Rattle.std.specs.Int.{to_le_bytes}
 use Rattle.std.specs.List.{flat_map}
-use Rattle.blake2_rows.specs.Family.{Family, blake2b, blake2s, word, word_bytes, block_bytes}
+use Rattle.blake2_rows.specs.Family.{Family, blake2b, blake2s, word, word_bytes}
 use Rattle.blake2_rows.specs.Family.{output_bytes}
-use Rattle.blake2_rows.specs.Round.{AreWords}
 use Rattle.blake2_rows.proofs.Texts.{AreBytes-append}
 use Rattle.blake2_words.specs.Hash.{input_flags, Flags, inner, input_parameters, AreBytes}
 use Rattle.blake2_words.specs.Hash.{bytes_of, chain, last_chain, Input, input_start, input_data}
 use Rattle.blake2_words.specs.Hash.{digest}
-use Rattle.blake2_words.proofs.WordSizes.{length-compress, AreWords-compress}
-use Rattle.blake2_words.proofs.ByteSizes.{AreBytes-take}
+use Rattle.blake2_words.proofs.WordSizes.{length-compress}
 use Rattle.blake2_words.proofs.ParameterSizes.{AreBytes-low, length-start}
 
 -- ---- the run
@@ -23,15 +21,6 @@ pub length-chain : (f : Family) (h : List ℕ) (c : ℕ) (d : List (List ℕ)) (
 unfolding chain
 length-chain f h c d zero e = e
 length-chain f h c d (suc i) e = length-compress f _ _ _ inner (length-chain f h c d i e)
-
--- the chaining words are words
-pub AreWords-chain : (f : Family) (h : List ℕ) (c : ℕ) (d : List (List ℕ)) (i : ℕ)
-    → c + i * block_bytes f < 2 ^ 64 → AreWords f h → AreWords f (chain f h c d i)
-unfolding chain
-AreWords-chain f h c d zero t a = a
-AreWords-chain f h c d (suc i) t a =
-    let here : suc i * block_bytes f ≡ (i + 1) * block_bytes f = omega arith in
-    AreWords-compress f _ _ _ inner (omega arith) (AreWords-chain f h c d i (omega arith) a)
 
 -- and so are the last ones
 pub length-last_chain : (f : Family) (h : List ℕ) (c : ℕ) (z : List ℕ) (flags : Flags)
@@ -73,7 +62,7 @@ length-digest f size a fits =
     eight_words blake2b = refl
     eight_words blake2s = refl
 
--- ---- the digest's bytes
+-- ---- the bytes of words
 
 -- the bytes of a word are bytes
 AreBytes-le_bytes : (f : Family) (x : ℕ) → AreBytes (to_le_bytes (word f) x)
@@ -86,8 +75,3 @@ unfolding bytes_of
 AreBytes-bytes_of f [] = λ i. omega arith
 AreBytes-bytes_of f (x ∷ ws) = AreBytes-append (to_le_bytes (word f) x)
     (flat_map (to_le_bytes (word f)) ws) (AreBytes-le_bytes f x) (AreBytes-bytes_of f ws)
-
--- a digest is of bytes
-pub AreBytes-digest : (f : Family) (size : ℕ) (a : Input) → AreBytes (digest f size a)
-unfolding digest
-AreBytes-digest f size a = AreBytes-take size _ (AreBytes-bytes_of f _)
