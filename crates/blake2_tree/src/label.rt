@@ -19,7 +19,7 @@ impl Model for Label {
 
     ghost view = { λ l. take l.length l.bytes };
 
-    ghost invariant = { λ l. l.length ≤ 16 };
+    ghost invariant = { λ l. (l.length ≤ 16) × AreBytes (take l.length l.bytes) };
 }
 
 impl Label {
@@ -40,13 +40,6 @@ impl Label {
         ensures short { length self.now ≤ 16 }
         ensures are { AreBytes self.now }
     {
-        let kept = &self.bytes[..self.length];
-        tell_bytes(kept);
-        kept
+        &self.bytes[..self.length]
     }
 }
-
-// Does nothing. Proofs read from the type of the slice that each element is a byte.
-fn tell_bytes(_text: &[u8])
-    ensures { AreBytes _text.now }
-{}
