@@ -3,7 +3,7 @@
 ghost use Rattle.std.specs.Prelude.{◌≡◌, ◌+◌, ◌*◌, ◌^◌, ◌<◌, ◌++◌, false, [], length, None};
 ghost use Rattle.blake2_rows.specs.Family.{blake2b, blake2s};
 ghost use Rattle.blake2.specs.States.{digest_of};
-ghost use Rattle.blake2_callers.specs.Pieces.{joined};
+ghost use Rattle.blake2_callers.specs.Pieces.{one_message};
 
 use blake2::digest::Digest;
 use blake2::{Blake2b512, Blake2s256};
@@ -21,8 +21,8 @@ pub fn digest_of_parts(first: &[u8], second: &[u8]) -> [u8; 64]
 
 /// The digest of all pieces taken as one message.
 pub fn digest_of_pieces(pieces: &[&[u8]]) -> [u8; 32]
-    requires { length (joined pieces.now) < 2 ^ 64 }
-    ensures { result ≡ digest_of blake2s 32 [] [] None (joined pieces.now) }
+    requires { length (one_message pieces.now) < 2 ^ 64 }
+    ensures { result ≡ digest_of blake2s 32 [] [] None (one_message pieces.now) }
 {
     let mut hasher = Blake2s256::new();
     for piece in pieces {

@@ -7,8 +7,8 @@ use Rattle.std.proofs.lemmas.Grind.{common_steps}
 use lib.Bits.{or_zero_l, xor_zero_l, xor_zero_r, xor_self, xor_assoc}
 
 -- numbers whose bits differ nowhere are equal
-xor_cancel : (x y : ℕ) → bit_xor x y ≡ 0 → x ≡ y
-xor_cancel x y e =
+equal_bits : (x y : ℕ) → bit_xor x y ≡ 0 → x ≡ y
+equal_bits x y e =
     sym (xor_zero_r x) ∙ ap (bit_xor x) (sym (xor_self y)) ∙ sym (xor_assoc x y y)
     ∙ ap (λ z. bit_xor z y) e ∙ xor_zero_l y
 
@@ -18,7 +18,7 @@ pub none_differ : (d x y : ℕ) → (bit_or d (bit_xor x y) ≡ 0) ↔ ((d ≡ 0
 none_differ d x y = (
   λ h. (
     omega (arith, le_or_l d (bit_xor x y)),
-    xor_cancel x y (omega (arith, le_or_r d (bit_xor x y))),
+    equal_bits x y (omega (arith, le_or_r d (bit_xor x y))),
   ),
   λ h. ap (λ z. bit_or z (bit_xor x y)) h.0 ∙ or_zero_l _ ∙ ap (bit_xor x) (sym h.1) ∙ xor_self x,
 )

@@ -6,7 +6,7 @@ ghost use Rattle.std.specs.Prelude.{◌≡◌, ℕ, ◌+◌, ◌*◌, ◌^◌, �
 ghost use Rattle.std.specs.Prelude.{drop, IfOk, IsErr, IsTrue};
 ghost use Rattle.blake2_digest.specs.States.{Fresh, digest_now};
 ghost use Rattle.blake2_plain.specs.Blake2b.{IsReady as IsNodeReady, meaning};
-ghost use Rattle.blake2_tree.specs.Nodes.{parameters_of, node_digest};
+ghost use Rattle.blake2_tree.specs.Nodes.{shared_parameters, node_digest};
 ghost use Rattle.blake2_tree.specs.TreeRoot.{tree_parameters, tree_root as root_of};
 ghost use Rattle.blake2_plain.specs.TreeStates.{HasLengths, HasCounts, IsReady, IsBegun};
 ghost use Rattle.blake2_plain.specs.TreeStates.{IsRefusedTree, Took};
@@ -50,7 +50,7 @@ fn node_state(nodes: &Nodes, output_size: usize, node_offset: u64, node_depth: u
     ensures ready { IsNodeReady result }
     ensures size { result.output_size ≡ output_size }
     ensures fresh { Fresh meaning
-        (node_digest output_size (parameters_of nodes.now) node_offset node_depth) 0 result }
+        (node_digest output_size (shared_parameters nodes.now) node_offset node_depth) 0 result }
 {
     let place = nodes.place(node_offset, node_depth);
     let given = StateParameters {
@@ -200,7 +200,7 @@ impl TreeState {
     // What its nodes share.
     fn nodes(&self) -> Nodes
         requires { IsReady self.now }
-        ensures { parameters_of result ≡ parameters self.now }
+        ensures { shared_parameters result ≡ parameters self.now }
     {
         let salt = &self.salt[..self.salt_length];
         let persona = &self.persona[..self.persona_length];

@@ -27,8 +27,8 @@ less f v c d = set v c ((slice_index v c + (2 ^ bits (word f) - slice_index v d)
 abbrev pub unrotate : Family → List ℕ → ℕ → ℕ → ℕ → List ℕ
 unrotate f v d a r = set v d (bit_xor (rotate_left (word f) (slice_index v d) r) (slice_index v a))
 
--- w is made of v by a step that back undoes
-pub record Step (f : Family) (v w : List ℕ) (back : List ℕ → List ℕ) : Type 0 where
+-- back undoes the step that made w of v, which leaves words and the length
+pub record Undoes (f : Family) (v w : List ℕ) (back : List ℕ → List ℕ) : Type 0 where
   pub words : AreWords f w
   pub long : length w ≡ length v
   pub undone : back w ≡ v
@@ -72,10 +72,10 @@ xor_twice : (a b : ℕ) → bit_xor (bit_xor a b) b ≡ a
 xor_twice a b = xor_assoc a b b ∙ ap (bit_xor a) (xor_self b) ∙ xor_zero_r a
 
 -- a second write at the place of the first, of a number x made of the first one and another place
-rewritten : (f : Family) (v : List ℕ) (a b p : ℕ) (g : ℕ → ℕ → ℕ) → a < length v → b ≢ a
+written_twice : (f : Family) (v : List ℕ) (a b p : ℕ) (g : ℕ → ℕ → ℕ) → a < length v → b ≢ a
     → set (set v a p) a (g (slice_index (set v a p) a) (slice_index (set v a p) b))
     ≡ set v a (g p (slice_index v b))
-rewritten f v a b p g fits other =
+written_twice f v a b p g fits other =
     rw (get_or-set_same v a p 0 fits, get_or-set_other v a b p 0 other)
     (set-set v a p (g p (slice_index v b)))
 
@@ -83,13 +83,13 @@ rewritten f v a b p g fits other =
 restored : (f : Family) (v : List ℕ) (a b p : ℕ) (g : ℕ → ℕ → ℕ) → a < length v → b ≢ a
     → g p (slice_index v b) ≡ slice_index v a
     → set (set v a p) a (g (slice_index (set v a p) a) (slice_index (set v a p) b)) ≡ v
-restored f v a b p g fits other same = rewritten f v a b p g fits other ∙ ap (set v a) same
+restored f v a b p g fits other same = written_twice f v a b p g fits other ∙ ap (set v a) same
     ∙ set-get_or v a 0
 
 -- v[a] := v[a] + v[b] + x is undone by `minus`
 pub plus_step : (f : Family) (v : List ℕ) (a b x : ℕ) → AreWords f v → x < 2 ^ bits (word f)
     → a < length v → b ≢ a
-    → Step f v (plus f v a b x) (λ w. minus f w a b x)
+    → Undoes f v (plus f v a b x) (λ w. minus f w a b x)
 plus_step f v a b x words low fits other =
     let m : ℕ = 2 ^ bits (word f) in
     record {
@@ -102,7 +102,7 @@ plus_step f v a b x words low fits other =
 -- `minus` is undone by v[a] := v[a] + v[b] + x
 pub minus_step : (f : Family) (v : List ℕ) (a b x : ℕ) → AreWords f v → x < 2 ^ bits (word f)
     → a < length v → b ≢ a
-    → Step f v (minus f v a b x) (λ w. plus f w a b x)
+    → Undoes f v (minus f v a b x) (λ w. plus f w a b x)
 minus_step f v a b x words low fits other =
     let m : ℕ = 2 ^ bits (word f) in
     record {
@@ -114,7 +114,7 @@ minus_step f v a b x words low fits other =
 
 -- v[c] := v[c] + v[d] is undone by `less`
 pub single_plus_step : (f : Family) (v : List ℕ) (c d : ℕ) → AreWords f v → c < length v → d ≢ c
-    → Step f v (plus f v c d 0) (λ w. less f w c d)
+    → Undoes f v (plus f v c d 0) (λ w. less f w c d)
 single_plus_step f v c d words fits other =
     let m : ℕ = 2 ^ bits (word f) in
     record {
@@ -126,7 +126,7 @@ single_plus_step f v c d words fits other =
 
 -- `less` is undone by v[c] := v[c] + v[d]
 pub less_step : (f : Family) (v : List ℕ) (c d : ℕ) → AreWords f v → c < length v → d ≢ c
-    → Step f v (less f v c d) (λ w. plus f w c d 0)
+    → Undoes f v (less f v c d) (λ w. plus f w c d 0)
 less_step f v c d words fits other =
     let m : ℕ = 2 ^ bits (word f) in
     record {
@@ -138,7 +138,7 @@ less_step f v c d words fits other =
 
 -- v[d] := (v[d] ^ v[a]) >>> r is undone by `unrotate`
 pub rotate_step : (f : Family) (v : List ℕ) (d a r : ℕ) → AreWords f v → d < length v → a ≢ d
-    → Step f v (rotate f v d a r) (λ w. unrotate f w d a r)
+    → Undoes f v (rotate f v d a r) (λ w. unrotate f w d a r)
 rotate_step f v d a r words fits other =
     let x : ℕ = slice_index v d in
     let y : ℕ = slice_index v a in
@@ -152,7 +152,7 @@ rotate_step f v d a r words fits other =
 
 -- `unrotate` is undone by v[d] := (v[d] ^ v[a]) >>> r
 pub unrotate_step : (f : Family) (v : List ℕ) (d a r : ℕ) → AreWords f v → d < length v → a ≢ d
-    → Step f v (unrotate f v d a r) (λ w. rotate f w d a r)
+    → Undoes f v (unrotate f v d a r) (λ w. rotate f w d a r)
 unrotate_step f v d a r words fits other =
     let x : ℕ = slice_index v d in
     let y : ℕ = slice_index v a in

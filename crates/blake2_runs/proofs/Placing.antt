@@ -14,7 +14,7 @@ use Rattle.blake2_runs.specs.Play.{at_slot, play_live, play_call, followed_by}
 use Rattle.blake2_runs.specs.Play.{after, play_from, play, IsFirstBad, NamesFirstBad}
 
 -- what a list of calls answers: its digests, or the fault of its first bad call
-abbrev Played : Type 0
+abbrev pub Played : Type 0
 Played = Result (List (List ℕ)) ReplayFault
 
 -- a fault of the call at place i

@@ -10,10 +10,7 @@ use Rattle.blake2_runs.specs.declared.calls.ReplayFault.{ReplayFault}
 use Rattle.blake2_runs.specs.declared.calls.ReplayFault.TheVariants.{Memory}
 use Rattle.blake2_runs.specs.Play.{Slots, Outcome, play_call, play_from, play, followed_by, after}
 use Rattle.blake2_runs.specs.Holding.{AllHold}
-
--- what a list of calls answers: its digests, or the fault of its first bad call
-abbrev Played : Type 0
-Played = Result (List (List ℕ)) ReplayFault
+use Rattle.blake2_runs.proofs.Placing.{Played}
 
 -- digests that come in two parts
 after-after : (xs ys : List (List ℕ)) (p : Played) → after (xs ++ ys) p ≡ after xs (after ys p)

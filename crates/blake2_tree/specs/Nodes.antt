@@ -7,8 +7,8 @@ use Rattle.blake2_tree.specs.declared.nodes.Nodes.{Nodes}
 use Rattle.blake2_tree.specs.TreeRoot.{TreeParameters, leaf, node}
 
 -- what they share
-abbrev pub parameters_of : Nodes → TreeParameters
-parameters_of n = record { salt = n.salt; persona = n.persona; leaf_length = n.leaf_length }
+abbrev pub shared_parameters : Nodes → TreeParameters
+shared_parameters n = record { salt = n.salt; persona = n.persona; leaf_length = n.leaf_length }
 
 -- the digest of a node, of its flag and its bytes
 abbrev pub node_digest : ℕ → TreeParameters → ℕ → ℕ → Bool → List ℕ → List ℕ

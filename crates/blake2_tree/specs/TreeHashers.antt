@@ -2,14 +2,14 @@
 use Rattle.std.specs.Prelude.{ℕ, List}
 use Rattle.blake2.specs.Hashers.{blake2b_meaning}
 use Rattle.blake2_tree.specs.declared.hasher.TreeHasher.{TreeHasher}
-use Rattle.blake2_tree.specs.Nodes.{parameters_of}
+use Rattle.blake2_tree.specs.Nodes.{shared_parameters}
 use Rattle.blake2_tree.specs.OpenTrees as Open
 use Rattle.blake2_tree.specs.OpenTrees.{OpenTree, open_tree}
 
 -- the tree that it holds
 abbrev pub held_tree : {n : ℕ} → TreeHasher n → OpenTree
 held_tree {n} t =
-    open_tree (blake2b_meaning n) (blake2b_meaning 64) (parameters_of t.nodes) t.closed t.root
+    open_tree (blake2b_meaning n) (blake2b_meaning 64) (shared_parameters t.nodes) t.closed t.root
     t.leaf
 
 -- the root of n bytes that the hasher gives once it has taken y too

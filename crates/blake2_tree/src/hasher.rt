@@ -2,7 +2,7 @@
 
 ghost use Rattle.std.specs.Prelude.{◌≡◌, ℕ, ◌+◌, ◌*◌, ◌^◌, ◌<◌, ◌≤◌, List, [], ◌++◌, length, false};
 ghost use Rattle.blake2.specs.Hashers.{blake2b_meaning};
-ghost use Rattle.blake2_tree.specs.Nodes.{parameters_of, IsOpened};
+ghost use Rattle.blake2_tree.specs.Nodes.{shared_parameters, IsOpened};
 ghost use Rattle.blake2_tree.specs.TreeRoot.{tree_parameters, tree_root as root_of};
 
 use crate::nodes::Nodes;
@@ -27,7 +27,7 @@ pub struct TreeHasher<const N: usize> {
     ghost digests_taken: { (blake2b_meaning N).count root ≡ 64 * closed },
     // A leaf that has no bytes yet is as it was opened.
     ghost opened: { (blake2b_meaning 64).count leaf ≡ 0
-        → IsOpened (blake2b_meaning 64) (parameters_of nodes) closed leaf },
+        → IsOpened (blake2b_meaning 64) (shared_parameters nodes) closed leaf },
     // The digest of the open leaf still fits the root's count.
     ghost one_more_fits: { closed + 1 < 2 ^ 58 },
 }

@@ -27,14 +27,14 @@ pub struct Nodes {
 }
 
 impl Nodes {
-    ghost use Rattle.blake2_tree.specs.Nodes.{parameters_of, node_digest, four_digests};
+    ghost use Rattle.blake2_tree.specs.Nodes.{shared_parameters, node_digest, four_digests};
 
     /// Keeps what the nodes share.
     pub fn new(salt: &[u8], persona: &[u8], leaf_length: u32) -> Self
         requires salt { length salt.now ≤ 16 }
         requires persona { length persona.now ≤ 16 }
         requires leaf_length { 1 ≤ leaf_length }
-        ensures { parameters_of result ≡ tree_parameters salt.now persona.now leaf_length }
+        ensures { shared_parameters result ≡ tree_parameters salt.now persona.now leaf_length }
     {
         Nodes {
             salt: Label::new(salt),
@@ -45,7 +45,7 @@ impl Nodes {
 
     /// The salt, 0 to 16 bytes.
     pub fn salt(&self) -> &[u8]
-        ensures is { result.now ≡ (parameters_of self.now).salt }
+        ensures is { result.now ≡ (shared_parameters self.now).salt }
         ensures short { length result.now ≤ 16 }
     {
         self.salt.as_slice()
@@ -53,7 +53,7 @@ impl Nodes {
 
     /// The persona, 0 to 16 bytes.
     pub fn persona(&self) -> &[u8]
-        ensures is { result.now ≡ (parameters_of self.now).persona }
+        ensures is { result.now ≡ (shared_parameters self.now).persona }
         ensures short { length result.now ≤ 16 }
     {
         self.persona.as_slice()
@@ -62,7 +62,7 @@ impl Nodes {
     /// The place of a node: depth 0 is that of the leaves, and depth 1 the root's, at offset 0.
     pub fn place(&self, node_offset: u64, node_depth: u8) -> Tree
         ensures { tree_of result
-            ≡ place (parameters_of self.now).leaf_length node_offset node_depth }
+            ≡ place (shared_parameters self.now).leaf_length node_offset node_depth }
     {
         Tree {
             fanout: 0,
@@ -78,7 +78,7 @@ impl Nodes {
     pub(crate) fn open_node<const N: usize>(&self, node_offset: u64, node_depth: u8) -> Blake2b<N>
         requires { N ≤ 64 }
         ensures { Fresh (blake2b_meaning N)
-            (node_digest N (parameters_of self.now) node_offset node_depth) 0 result }
+            (node_digest N (shared_parameters self.now) node_offset node_depth) 0 result }
     {
         let place = self.place(node_offset, node_depth);
         Blake2b::new_with_tree(self.salt.as_slice(), self.persona.as_slice(), &place)
@@ -93,7 +93,7 @@ impl Nodes {
         bytes: &'a [u8],
     ) -> Input<'a>
         ensures is { input_of result
-            ≡ node (parameters_of self.now) node_offset node_depth last_node bytes.now }
+            ≡ node (shared_parameters self.now) node_offset node_depth last_node bytes.now }
         ensures accepted { Accepts blake2b (input_of result) }
     {
         Input {
@@ -109,7 +109,7 @@ impl Nodes {
     /// Leaf `i` of a message, as an input.
     pub(crate) fn leaf<'a>(&'a self, message: &'a [u8], i: usize) -> Input<'a>
         requires { i < leaf_count self.now.leaf_length (length message.now) }
-        ensures is { input_of result ≡ leaf_input (parameters_of self.now) message.now i }
+        ensures is { input_of result ≡ leaf_input (shared_parameters self.now) message.now i }
         ensures accepted { Accepts blake2b (input_of result) }
     {
         let length = self.leaf_length as usize;
@@ -119,7 +119,7 @@ impl Nodes {
 
     /// The root over the joined digests of the leaves, as an input.
     pub(crate) fn root<'a>(&'a self, digests: &'a [u8]) -> Input<'a>
-        ensures is { input_of result ≡ root_over (parameters_of self.now) digests.now }
+        ensures is { input_of result ≡ root_over (shared_parameters self.now) digests.now }
         ensures accepted { Accepts blake2b (input_of result) }
     {
         self.node(0, 1, true, digests)
@@ -137,7 +137,7 @@ impl Nodes {
     pub fn hash_four(&self, i: u64, last: bool, text: &[u8]) -> [[u8; 64]; 4]
         requires place { i + 3 < 2 ^ 64 }
         requires whole { 4 * self.now.leaf_length ≤ length text.now }
-        ensures { result ≡ four_digests (parameters_of self.now) i last text.now }
+        ensures { result ≡ four_digests (shared_parameters self.now) i last text.now }
     {
         let length = self.leaf_length as usize;
         let leaves = [
@@ -153,7 +153,7 @@ impl Nodes {
     pub(crate) fn leaf_digests(&self, alloc: Global, message: &[u8]) -> Result<Vec<u8>, AllocError>
         requires { length message.now < 2 ^ 58 }
         ensures { IfOk result (λ digests.
-            digests.items ≡ leaf_digests (parameters_of self.now) message.now) }
+            digests.items ≡ leaf_digests (shared_parameters self.now) message.now) }
     {
         let length = self.leaf_length as usize;
         let count = piece_count(length, message);

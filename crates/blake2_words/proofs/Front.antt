@@ -54,11 +54,11 @@ kept_differs xs ys i x y of_a of_b differ = record {
 }
 
 -- what holds of equal pairs below i holds of the pair i too, where it is equal
-one_more : (xs ys : List Step) (i : ℕ) (P : ℕ → Type 0)
+still_equal : (xs ys : List Step) (i : ℕ) (P : ℕ → Type 0)
     → ((k : ℕ) (d : Step) → P k → k < i → get_or xs k d ≡ get_or ys k d)
     → ((d : Step) → get_or xs i d ≡ get_or ys i d)
     → (k : ℕ) (d : Step) → P k → k < i + 1 → get_or xs k d ≡ get_or ys k d
-one_more xs ys i P below here k d p h = elim (cases_lt k i) [
+still_equal xs ys i P below here k d p h = elim (cases_lt k i) [
   | inl lt ↦ below k d p lt
   | inr past ↦ (let e : i ≡ k = omega arith in subst (λ (m : ℕ). get_or xs m d ≡ get_or ys m d) e
       (here d))
@@ -73,14 +73,14 @@ kept_same xs ys i x y here k = record {
   of_a = k.of_a;
   of_b = k.of_b;
   differ = k.differ;
-  after = λ m d past h. one_more xs ys i (λ (n : ℕ). k.place < n)
+  after = λ m d past h. still_equal xs ys i (λ (n : ℕ). k.place < n)
       (λ n e p l. k.after n e p l) here m d past h;
 }
 
 -- and where none was kept, still none is
 none_same : (xs ys : List Step) (i : ℕ) → ((d : Step) → get_or xs i d ≡ get_or ys i d)
     → NoPair xs ys i → NoPair xs ys (i + 1)
-none_same xs ys i here all k d h = one_more xs ys i (λ (n : ℕ). Unit {0})
+none_same xs ys i here all k d h = still_equal xs ys i (λ (n : ℕ). Unit {0})
     (λ n e p l. all n e l) here k d tt h
 
 -- ---- the walk's step

@@ -92,12 +92,12 @@ given_first f es e whole some at =
     ∙ (whole 0 (omega (arith, length-map es entry_of))).length_is
 
 -- the first block is that of a key where it is zero behind the key
-pub given_key : {B : ℕ} (f : Family) (n : ℕ) (es : List (GivenEntry.Entry B))
+pub given_has_key : {B : ℕ} (f : Family) (n : ℕ) (es : List (GivenEntry.Entry B))
     (e : GivenEntry.Entry B) → 0 < length es → e ≡ get_or es 0 e
     → length e.block ≡ block_bytes f → block_bytes f ≤ told_count (map entry_of es)
     → IsZeroFrom n e.block → HasKey f n (map entry_of es)
-given_key f n [] e some at whole counted zeros = absurd (omega arith)
-given_key f n (x ∷ es) e some at whole counted zeros =
+given_has_key f n [] e some at whole counted zeros = absurd (omega arith)
+given_has_key f n (x ∷ es) e some at whole counted zeros =
     has_key f n (entry_of x) (map entry_of es) (ap (λ (y : GivenEntry.Entry _). length y.block)
     (sym at) ∙ whole) counted
     (subst (λ (y : GivenEntry.Entry _). IsZeroFrom n y.block) at zeros)

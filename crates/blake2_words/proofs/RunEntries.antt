@@ -9,7 +9,7 @@ use Rattle.std.proofs.lemmas.List.Folds.{concat-append}
 use Rattle.std.proofs.lemmas.Bool.{cases_lt}
 use Rattle.std.proofs.Math.Seq.{take-append-add}
 use Rattle.std.specs.List.{concat}
-use Rattle.blake2_rows.specs.Family.{Family, blake2b, blake2s, block_bytes}
+use Rattle.blake2_rows.specs.Family.{Family, block_bytes}
 use Rattle.blake2_words.specs.Hash.{AreBytes, block_count}
 use Rattle.blake2_words.specs.Transcript.{Entry, joined}
 use Rattle.blake2_words.specs.Run.{no_entry}
@@ -17,6 +17,7 @@ use Rattle.blake2_words.specs.Reader.{told_count, last_entry, told_key, told_mes
 use Rattle.blake2_words.specs.Reader.{IsInner, AreWhole, IsRun, HasKey, EndsRun}
 use Rattle.blake2_words.specs.Reader.{IsZeroFrom}
 use Rattle.blake2_rows.proofs.Texts.{AreBytes-append}
+use Rattle.blake2_words.proofs.InputBlocks.{block_within}
 
 -- ---- the bytes of blocks joined
 
@@ -62,11 +63,6 @@ last_entry-snoc xs e =
 
 -- ---- a run from its last entry and those before
 
--- the blocks before the last are of counted bytes
-before_last : (f : Family) (n c : ℕ) → n + 1 ≡ block_count f c → n * block_bytes f ≤ c
-before_last blake2b n c e = omega arith
-before_last blake2s n c e = omega arith
-
 -- a run's last entry ends it
 pub run_ends : (f : Family) (xs : List Entry) (e : Entry) → IsRun f (xs ++ e ∷ [])
     → EndsRun f (length xs) e
@@ -89,7 +85,8 @@ pub run_zeros : (f : Family) (xs : List Entry) (e : Entry) → AreWhole f xs →
     → IsZeroFrom (e.counter - length xs * block_bytes f) e.block
 run_zeros f xs e whole run j past =
     let n : ℕ = length xs * block_bytes f in
-    let low : n ≤ e.counter = before_last f (length xs) e.counter (run_ends f xs e run).number in
+    let end : EndsRun f (length xs) e = run_ends f xs e run in
+    let low : n ≤ e.counter = block_within f e.counter (length xs) (omega (arith, end.number)) in
     let counts : told_count (xs ++ e ∷ []) ≡ e.counter =
     ap (λ (x : Entry). x.counter) (last_entry-snoc xs e) in
     let at : n + j - n ≡ j = omega arith in
@@ -107,7 +104,7 @@ run_from f xs e whole end inners zeros =
     let total = length-append xs (e ∷ []) in
     let at : last_entry (xs ++ e ∷ []) ≡ e = last_entry-snoc xs e in
     let counts : told_count (xs ++ e ∷ []) ≡ e.counter = ap (λ (x : Entry). x.counter) at in
-    let low : n ≤ e.counter = before_last f (length xs) e.counter end.number in
+    let low : n ≤ e.counter = block_within f e.counter (length xs) (omega (arith, end.number)) in
     record {
       number = total ∙ end.number ∙ ap (block_count f) (sym counts);
       below = λ i h. subst (IsInner f i) (sym (get_or_append_left xs (e

@@ -6,7 +6,7 @@ use Rattle.std.specs.Prelude.{drop, replicate, bit_xor, slice_index_or, Option, 
 use Rattle.std.specs.Int.{from_le_bytes, to_le_bytes, w32, w64}
 use Rattle.std.specs.List.{flat_map, range_with_len}
 use mir.Val.{bits}
-use Rattle.blake2_rows.specs.Blocks
+use Rattle.blake2_rows.specs.Blocks.{chunk_count}
 pub use Rattle.blake2_rows.specs.Texts.{AreBytes}
 unfoldable pub use Rattle.blake2_rows.specs.Texts.{padded}
 use Rattle.blake2_rows.specs.Family.{Family, word, word_bytes, block_bytes, rounds, key_bytes}
@@ -166,7 +166,7 @@ data_bytes f key message = key_block f key ++ message
 
 -- dd, how many blocks n bytes fill: one at least
 abbrev pub block_count : Family → ℕ → ℕ
-block_count f n = Blocks.block_count (block_bytes f) n
+block_count f n = chunk_count (block_bytes f) n
 
 -- the first n blocks of z, each the next B bytes, with zeros where z has ended
 unfoldable pub cut : Family → ℕ → List ℕ → List (List ℕ)

@@ -3,11 +3,11 @@
 use Rattle.std.specs.Prelude.{◌≡◌, ◌≢◌, ℕ, ◌*◌, ◌<◌, List, [], length, map, take, drop}
 use Rattle.std.specs.Prelude.{slice_index_or}
 use Rattle.std.specs.List.{range_with_len}
-use Rattle.blake2_rows.specs.Blocks.{block_count}
+use Rattle.blake2_rows.specs.Blocks.{chunk_count}
 
 -- how many pieces n bytes make, ceil(n / size) and at least one
 abbrev pub piece_count : ℕ → ℕ → ℕ
-piece_count = block_count
+piece_count = chunk_count
 
 -- piece i: bytes i·size to (i+1)·size of the text, or as many as there are
 abbrev pub piece : ℕ → List ℕ → ℕ → List ℕ

@@ -3,7 +3,7 @@
 ghost use Rattle.std.specs.Prelude.{◌≡◌, ℕ, ◌+◌, ◌-◌, ◌*◌, ◌^◌, ◌<◌, ◌≤◌, List, [], length, take};
 ghost use Rattle.std.specs.Prelude.{replicate};
 ghost use Rattle.blake2_rows.specs.Family.{blake2s};
-ghost use Rattle.blake2_digest.specs.Blocks.{block_count};
+ghost use Rattle.blake2_digest.specs.Blocks.{chunk_count};
 ghost use Rattle.blake2.specs.Cores.{completed, last_output, core_restarted, core_node_set};
 ghost use Rattle.blake2.specs.Cores.{core_wiped};
 
@@ -37,7 +37,7 @@ pub(crate) struct Blake2sContext {
     ghost within_a_block: { length buffer ≤ 64 },
     ghost counted: { core.count + length buffer < 2 ^ 64 },
     // All blocks of the counted bytes but one are compressed.
-    ghost one_block_left: { core.count ≡ 64 * (block_count 64 (core.count + length buffer) - 1) },
+    ghost one_block_left: { core.count ≡ 64 * (chunk_count 64 (core.count + length buffer) - 1) },
 }
 
 impl Blake2sContext {

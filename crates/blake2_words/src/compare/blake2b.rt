@@ -14,7 +14,7 @@ ghost use Rattle.blake2_words.specs.Run;
 
 use super::inputs::same;
 use crate::params::blake2b as params;
-use crate::steps::blocks::{entry_at, parameters_of, step_count};
+use crate::steps::blocks::{entry_at, input_parameters, step_count};
 use crate::steps::{Entry, Input, Step};
 use crate::words::{Flags, blake2b as words};
 use blake2_rows::rows::u64x4;
@@ -26,7 +26,7 @@ fn start(input: &Input<'_>, output_size: usize) -> [u64x4; 2]
     requires size { output_size ≤ output_bytes blake2b }
     ensures { eight result ≡ input_start blake2b output_size (input_of input.now) }
 {
-    params::start_rows(&parameters_of(input, output_size))
+    params::start_rows(&input_parameters(input, output_size))
 }
 
 // The step of an entry, at the chaining words before it.

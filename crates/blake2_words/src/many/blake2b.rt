@@ -23,7 +23,7 @@ use crate::consts::{BLAKE2B_IV, SIGMA};
 use crate::params::blake2b::start_words;
 use crate::steps::Input;
 use crate::steps::blake2b::accepts;
-use crate::steps::blocks::{block_at, counted, parameters_of, step_count};
+use crate::steps::blocks::{block_at, counted, input_parameters, step_count};
 use crate::words::Flags;
 use crate::words::blake2b::{block_words, to_bytes};
 use blake2_rows::rows::u64x4;
@@ -227,7 +227,7 @@ fn start(output_size: usize, inputs: &[Input<'_>; 4]) -> [u64x4; 8]
 {
     let mut words = [[0; 8]; 4];
     for j in 0..4 {
-        words[j] = start_words(&parameters_of(&inputs[j], output_size));
+        words[j] = start_words(&input_parameters(&inputs[j], output_size));
     }
     rows_of(&words)
 }

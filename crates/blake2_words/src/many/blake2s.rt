@@ -23,7 +23,7 @@ use crate::consts::{BLAKE2S_IV, SIGMA};
 use crate::params::blake2s::start_words;
 use crate::steps::Input;
 use crate::steps::blake2s::accepts;
-use crate::steps::blocks::{block_at, counted, parameters_of, step_count};
+use crate::steps::blocks::{block_at, counted, input_parameters, step_count};
 use crate::words::Flags;
 use crate::words::blake2s::{block_words, to_bytes, to_rows};
 use blake2_rows::rows::{u32x4, u32x8};
@@ -255,7 +255,7 @@ fn start(output_size: usize, inputs: &[Input<'_>; 8]) -> [u32x8; 8]
 {
     let mut words = [[0; 8]; 8];
     for j in 0..8 {
-        words[j] = start_words(&parameters_of(&inputs[j], output_size));
+        words[j] = start_words(&input_parameters(&inputs[j], output_size));
     }
     rows_of(&words)
 }

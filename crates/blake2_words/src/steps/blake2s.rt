@@ -38,7 +38,7 @@ pub fn transcript(
     ensures steps { IfOk result
         (λ t. entries_of t ≡ map entry (steps blake2s output_size (input_of input.now))) }
 {
-    let words = params::parameter_words(&blocks::parameters_of(input, output_size));
+    let words = params::parameter_words(&blocks::input_parameters(input, output_size));
     let entries = blocks::entries(alloc, input)?;
     Ok(Transcript { words, entries })
 }

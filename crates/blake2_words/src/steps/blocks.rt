@@ -4,7 +4,7 @@ ghost use Rattle.std.specs.Prelude.{◌≡◌, ◌+◌, ◌<◌, ◌≤◌, ◌*
 ghost use Rattle.std.specs.Prelude.{slice_index_or, [], IfOk};
 ghost use Rattle.blake2_rows.specs.Family.{Family, block_bytes};
 ghost use Rattle.blake2_words.specs.Hash;
-ghost use Rattle.blake2_words.specs.Hash.{input_data, input_parameters, blocks, steps};
+ghost use Rattle.blake2_words.specs.Hash.{input_data, blocks, steps};
 ghost use Rattle.blake2_words.specs.Inputs.{Accepts};
 ghost use Rattle.blake2_words.specs.Transcript.{entry};
 ghost use Rattle.blake2_words.specs.Views.{input_of, entry_of, given_parameters, key_of};
@@ -41,8 +41,8 @@ fn key_size(key: &Option<&[u8]>) -> usize
 }
 
 // What the parameter block of an input names, at a digest of `output_size` bytes.
-pub(crate) fn parameters_of<'a>(input: &Input<'a>, output_size: usize) -> Parameters<'a>
-    ensures { given_parameters result ≡ input_parameters output_size (input_of input.now) }
+pub(crate) fn input_parameters<'a>(input: &Input<'a>, output_size: usize) -> Parameters<'a>
+    ensures { given_parameters result ≡ Hash.input_parameters output_size (input_of input.now) }
 {
     Parameters {
         output_size,

@@ -6,7 +6,7 @@ use Rattle.std.proofs.lemmas.List.Folds.{length-flat_map-take}
 use Rattle.blake2_rows.specs.Family.{blake2s}
 use Rattle.blake2.specs.Hashers.{blake2s_meaning}
 use Rattle.blake2.specs.States.{digest_of}
-use Rattle.blake2_callers.specs.Pieces.{joined}
+use Rattle.blake2_callers.specs.Pieces.{one_message}
 use Rattle.blake2_callers.proofs.Pieces.{joined_more}
 use Rattle.blake2_callers.proofs.hashes.digest_of_pieces.Goals as goal
 
@@ -24,15 +24,15 @@ loop-piece-preserved c =
     let xs = c.args.pieces.now in
     let i : ℕ = c.loop-piece.piece-index in
     let x : List ℕ = (get_or xs i no_piece).now in
-    let more : joined (take (i + 1) xs) ≡ joined (take i xs) ++ x =
+    let more : one_message (take (i + 1) xs) ≡ one_message (take i xs) ++ x =
     joined_more xs i no_piece c.loop-piece-test.true in
     record {
       future = λ y. c.update.ensures.future false y ∙ c.loop-piece.invariant.future (x ++ y)
-          ∙ ap (digest_of blake2s 32 [] [] None) (sym (append_assoc (joined (take i xs)) x y)
+          ∙ ap (digest_of blake2s 32 [] [] None) (sym (append_assoc (one_message (take i xs)) x y)
           ∙ ap (λ (z : List ℕ). z ++ y) (sym more));
       last_node = c.update.ensures.last_node ∙ c.loop-piece.invariant.last_node;
       count = c.update.ensures.count ∙ ap (λ (n : ℕ). n + length x) c.loop-piece.invariant.count
-          ∙ sym (length-append (joined (take i xs)) x) ∙ ap length (sym more);
+          ∙ sym (length-append (one_message (take i xs)) x) ∙ ap length (sym more);
     }
 
 pub returns : goal.returns
@@ -41,5 +41,6 @@ returns c =
     let off = ap (λ (flag : Bool). (blake2s_meaning 32).future c.loop-piece.hasher flag
     []) c.loop-piece.invariant.last_node in
     c.finalize.ensures ∙ off ∙ c.loop-piece.invariant.future []
-    ∙ ap (digest_of blake2s 32 [] [] None) (append-nil (joined (take c.loop-piece.piece-index xs))
-    ∙ ap joined (take_all c.loop-piece.piece-index xs c.loop-piece-test.false))
+    ∙ ap (digest_of blake2s 32 [] [] None)
+    (append-nil (one_message (take c.loop-piece.piece-index xs))
+    ∙ ap one_message (take_all c.loop-piece.piece-index xs c.loop-piece-test.false))

@@ -1,7 +1,7 @@
 use Rattle.std.proofs.Common.{◌≡◌, take, length, ap, sym, ◌∙◌}
 use Rattle.blake2_digest.proofs.Texts.{take-padded}
 use Rattle.blake2_plain.specs.Blake2b.{meaning}
-use Rattle.blake2_tree.specs.Nodes.{parameters_of}
+use Rattle.blake2_tree.specs.Nodes.{shared_parameters}
 use Rattle.blake2_tree.specs.TreeRoot.{TreeParameters, tree_parameters, tree_root}
 use Rattle.blake2_tree.specs.OpenTrees.{open_tree, future}
 use Rattle.blake2_tree.proofs.Roots.{future-made}
@@ -22,6 +22,6 @@ returns-clause-root c = λ y.
     (λ k. tree_parameters (salt k) (persona k) (c.from.ensures k)) in
     ap (λ s. future (open_tree meaning meaning s 0 c.node_state-2.result c.node_state.result) y)
     (kept ∙ sym c.new-nodes.ensures)
-    ∙ future-made meaning meaning (parameters_of nodes) c.args.output_size c.node_state-2.result
+    ∙ future-made meaning meaning (shared_parameters nodes) c.args.output_size c.node_state-2.result
     c.node_state.result y nodes.some_length c.node_state.ensures.fresh c.node_state-2.ensures.fresh
     ∙ ap (λ s. tree_root c.args.output_size s y) c.new-nodes.ensures

@@ -1,7 +1,7 @@
 use Rattle.std.proofs.Common.{◌≡◌, false, rules, ◌∙◌, drop, ap}
 use Rattle.std.proofs.lemmas.List.{take_rest}
 use Rattle.blake2.specs.Hashers.{blake2b_meaning}
-use Rattle.blake2_tree.specs.Nodes.{parameters_of, four_digests}
+use Rattle.blake2_tree.specs.Nodes.{shared_parameters, four_digests}
 use Rattle.blake2_tree.proofs.Roots.{WentOn-four}
 use Rattle.blake2_tree.proofs.hasher.TreeHasher.close_four.Goals as goal
 
@@ -9,7 +9,7 @@ pub returns-clause-went_on : goal.returns-clause-went_on
 returns-clause-went_on g c =
     let old = c.args.self.now in
     let input = c.args.input.now in
-    let s = parameters_of old.nodes in
+    let s = shared_parameters old.nodes in
     let digests : c.hash_four-digests.result ≡ four_digests s old.closed false input =
     search rules in
     WentOn-four (blake2b_meaning g.row.N) (blake2b_meaning 64) s old.closed old.root

@@ -1,14 +1,14 @@
 use Rattle.std.proofs.Common.{◌+◌, ◌∙◌}
 use Rattle.blake2.specs.Hashers.{blake2b_meaning}
 use Rattle.blake2_digest.specs.States.{Fresh}
-use Rattle.blake2_tree.specs.Nodes.{parameters_of, node_digest}
+use Rattle.blake2_tree.specs.Nodes.{shared_parameters, node_digest}
 use Rattle.blake2_tree.proofs.Roots.{WentOn-closed}
 use Rattle.blake2_tree.proofs.hasher.TreeHasher.close_leaf.Goals as goal
 
 pub returns : goal.returns
 returns g c =
     let old = c.args.self.now in
-    let s = parameters_of old.nodes in
+    let s = shared_parameters old.nodes in
     let filled = rw (← c.replace-full.ensures.value) at c.update.ensures in
     let fresh : Fresh (blake2b_meaning 64) (node_digest 64 s (old.closed + 1) 0) 0
     c.replace-full.new.dest =

@@ -1,6 +1,6 @@
 use Rattle.std.proofs.Common.{◌∙◌, arith}
 use Rattle.blake2.specs.Hashers.{blake2b_meaning}
-use Rattle.blake2_tree.specs.Nodes.{parameters_of}
+use Rattle.blake2_tree.specs.Nodes.{shared_parameters}
 use Rattle.blake2_tree.proofs.Roots.{Took-updated, IsOpened-updated}
 use Rattle.blake2_tree.proofs.hasher.TreeHasher.update.Goals as goal
 
@@ -19,14 +19,14 @@ loop-rest-preserved g c = record {
 pub invariant_of-self-clause-opened : goal.invariant_of-self-clause-opened
 invariant_of-self-clause-opened g c =
     let left = c.loop-rest.self in
-    IsOpened-updated (blake2b_meaning 64) (parameters_of left.nodes) left.closed left.leaf
+    IsOpened-updated (blake2b_meaning 64) (shared_parameters left.nodes) left.closed left.leaf
     c.update.new.self c.loop-rest.rest.now left.opened c.update.ensures
 
 pub returns : goal.returns
 returns g c =
     let left = c.loop-rest.self in
     let took =
-    Took-updated (blake2b_meaning g.row.N) (blake2b_meaning 64) (parameters_of left.nodes)
+    Took-updated (blake2b_meaning g.row.N) (blake2b_meaning 64) (shared_parameters left.nodes)
     left.closed left.root left.leaf c.update.new.self c.loop-rest.rest.now c.update.ensures
     (omega arith) in
     record {

@@ -1,5 +1,5 @@
 use Rattle.std.proofs.Common.{◌≡◌, ◌∙◌, ◌+◌, nat_eq, ap, sym, ◌++◌, length, arith}
-use Rattle.blake2_tree.specs.Nodes.{parameters_of, node_digest}
+use Rattle.blake2_tree.specs.Nodes.{shared_parameters, node_digest}
 use Rattle.blake2_tree.specs.TreeRoot.{leaf_count}
 use Rattle.blake2_tree.proofs.NodeLemmas.{digest_now-hashed, leaf_digest, digests_before}
 use Rattle.blake2_tree.proofs.NodeLemmas.{digests_before-more, leaf_digests-all}
@@ -7,7 +7,7 @@ use Rattle.blake2_tree.proofs.nodes.Nodes.leaf_digests.Goals as goal
 
 pub loop-i-preserved : goal.loop-i-preserved
 loop-i-preserved c =
-    let s = parameters_of c.args.self.now in
+    let s = shared_parameters c.args.self.now in
     let message = c.args.message.now in
     let hashed =
     digest_now-hashed (node_digest 64 s c.loop-i.i 0) c.open_node-leaf.result
@@ -23,7 +23,7 @@ loop-i-preserved c =
 
 pub returns : goal.returns
 returns c =
-    let s = parameters_of c.args.self.now in
+    let s = shared_parameters c.args.self.now in
     let all : c.loop-i.i ≡ leaf_count s.leaf_length (length c.args.message.now) = omega arith in
     c.loop-i.invariant ∙ ap (digests_before s c.args.message.now) all
     ∙ leaf_digests-all s c.args.message.now

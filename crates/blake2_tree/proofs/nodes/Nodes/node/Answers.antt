@@ -1,6 +1,6 @@
 use Rattle.std.proofs.Common.{ap, arith}
 use Rattle.blake2_words.specs.Hash.{AreBytes, Tree}
-use Rattle.blake2_tree.specs.Nodes.{parameters_of}
+use Rattle.blake2_tree.specs.Nodes.{shared_parameters}
 use Rattle.blake2_tree.proofs.NodeLemmas.{AreTaken, Accepts-node}
 use Rattle.blake2_tree.proofs.nodes.Nodes.node.Goals as goal
 
@@ -8,7 +8,7 @@ pub returns-clause-accepted : goal.returns-clause-accepted
 returns-clause-accepted c =
     let salt = c.as_slice.ensures in
     let persona = c.as_slice-2.ensures in
-    let p = parameters_of c.args.self.now in
+    let p = shared_parameters c.args.self.now in
     let taken : AreTaken p = record {
       salt_fits = salt.short;
       persona_fits = persona.short;

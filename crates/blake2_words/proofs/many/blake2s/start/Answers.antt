@@ -13,7 +13,7 @@ loop-j-preserved c = record {
   long = search rules;
   at = set_more (λ k x. x ≡ input_start blake2s c.args.output_size (input_at c.args.inputs.now k))
       c.loop-j.words c.loop-j.j _ [] (omega (arith, c.loop-j.invariant.long)) c.loop-j.invariant.at
-      (c.start_words.ensures ∙ ap (start blake2s) c.parameters_of.ensures);
+      (c.start_words.ensures ∙ ap (start blake2s) c.input_parameters.ensures);
 }
 
 pub returns : goal.returns

@@ -4,5 +4,5 @@ use Rattle.blake2_words.proofs.steps.blake2s.transcript.Goals as goal
 
 pub returns-clause-transcript : goal.returns-clause-transcript
 returns-clause-transcript c =
-    transcript_from blake2s c.args.output_size _ _ _ _ c.parameters_of.ensures
+    transcript_from blake2s c.args.output_size _ _ _ _ c.input_parameters.ensures
     c.parameter_words-words.ensures (c.in_ok-entries.ensures c.args.output_size)

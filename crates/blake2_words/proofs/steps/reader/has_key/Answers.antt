@@ -3,7 +3,7 @@ use Rattle.blake2_rows.specs.Family.{block_bytes}
 use Rattle.blake2_words.specs.declared.steps.Entry.{Entry}
 use Rattle.blake2_words.specs.Views.{entry_of}
 use Rattle.blake2_words.specs.Reader.{told_count}
-use Rattle.blake2_words.proofs.GivenEntries.{given_count, given_key, given_key_zeros}
+use Rattle.blake2_words.proofs.GivenEntries.{given_count, given_has_key, given_key_zeros}
 use Rattle.blake2_words.proofs.steps.reader.has_key.Goals as goal
 
 pub returns-then-last : goal.returns-then-last
@@ -17,7 +17,7 @@ returns-then-last g c =
     let at_last : last ≡ get_or es (length es - 1) last = assumption c.in-Some-Some.ensures' in
     let whole : length first.block ≡ block_bytes g.f = c.is_zero_from.ensures.whole ∙ sym family in
     let counts : told_count (map entry_of es) ≡ last.counter = given_count es last some at_last in (
-      λ t. given_key g.f c.args.key_size es first some at_first whole (omega arith)
+      λ t. given_has_key g.f c.args.key_size es first some at_first whole (omega arith)
           (c.is_zero_from.ensures.zero.0 t),
       λ key. c.is_zero_from.ensures.zero.1 (given_key_zeros g.f c.args.key_size es first some
           at_first whole key),
