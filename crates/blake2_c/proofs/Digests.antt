@@ -1,11 +1,11 @@
 -- Digests that are written one behind the other.
-use Rattle.std.proofs.Common.{◌≡◌, ℕ, zero, suc, ◌+◌, ◌-◌, ◌≤◌, List, [], ◌∷◌, ◌++◌, length, map, take}
-use Rattle.std.proofs.Common.{drop, slice_index_or, refl, sym, ap, ap₂, ◌∙◌, append-nil, append_assoc}
-use Rattle.std.proofs.Common.{length-append, arith}
+use Rattle.std.proofs.Common.{◌≡◌, ℕ, zero, suc, ◌+◌, ◌-◌, ◌≤◌, List, [], ◌∷◌, ◌++◌, length, map}
+use Rattle.std.proofs.Common.{take, drop, slice_index_or, refl, sym, ap, ap₂, ◌∙◌, append-nil}
+use Rattle.std.proofs.Common.{append_assoc, length-append, arith}
 use Rattle.std.specs.List.{concat, flat_map}
 use Rattle.std.proofs.lemmas.Grind.{flat_map-append}
-use Rattle.std.proofs.lemmas.List.{take-append-drop, take-take, drop-take, take_all, drop_all, take_at}
-use Rattle.std.proofs.lemmas.List.{drop_at, drop-drop, length-drop}
+use Rattle.std.proofs.lemmas.List.{take-append-drop, take-take, drop-take, take_all, drop_all}
+use Rattle.std.proofs.lemmas.List.{take_at, drop_at, drop-drop, length-drop}
 use borrow.Rule.Slice.PartMut.{put_mid}
 use Rattle.blake2_rows.proofs.Lanes.{lanes}
 
@@ -42,7 +42,14 @@ pub put_more : (a m : ℕ) (was xs ys front more : List ℕ) → a ≤ length wa
     → put_mid a (length xs - a) xs ys ≡ (front ++ more) ++ drop (a + m) was
 put_more a m was xs ys front more fits same begun e =
     let long : length front ≡ a =
-    omega (arith, fits, same, ap length begun, length-append front (drop a was), length-drop a was) in
+    omega (
+      arith,
+      fits,
+      same,
+      ap length begun,
+      length-append front (drop a was),
+      length-drop a was,
+    ) in
     let left : take a xs ≡ front = ap (take a) begun ∙ take_at front (drop a was) a long in
     let right : drop a xs ≡ drop a was = ap (drop a) begun ∙ drop_at front (drop a was) a long in
     let size = length-drop a xs in

@@ -24,8 +24,8 @@ module _ {S : Type 0} (m : Meaning S) (first : S) where
   slot_at (slot ∷ slots) (h ∷ hs) (suc k) d all le = slot_at slots hs k d all.1 (omega arith)
 
   -- there is no slot behind the last state
-  pub slot_beyond : (slots : Slots) (states : List (Option S)) (k : ℕ) → AllHold m first slots states
-      → length states ≤ k
+  pub slot_beyond : (slots : Slots) (states : List (Option S)) (k : ℕ)
+      → AllHold m first slots states → length states ≤ k
       → get_or slots k None ≡ None
   slot_beyond [] [] k all h = refl
   slot_beyond [] (h ∷ hs) k all _ = absurd all

@@ -1,4 +1,5 @@
--- How long the best piece of a message is, where y leaves fit its usual length, and q fours of them.
+-- How long the best piece of a message is, where y leaves fit its usual length, and q fours of
+-- them.
 use Rattle.std.proofs.Common.{ℕ, ◌+◌, ◌*◌, ◌<◌, ◌≤◌, max, inl, inr, arith}
 use Rattle.std.proofs.lemmas.Bool.{cases_lt}
 use Rattle.std.proofs.Math.Nat.{mul-le-mul_left}

@@ -61,7 +61,8 @@ pub determined : (f : Family) (size size' : ℕ) (a b : Input) → Accepts f a �
 determined f size size' a b p q h h' words joined nodes =
     let same = parameter_words_cancel f (input_parameters size a) (input_parameters size' b)
     (accepted-parameters f size a p h) (accepted-parameters f size' b q h') words in
-    let both = same_key f a.key b.key a.message b.message p.key_fits q.key_fits same.keys joined in (
+    let both =
+    same_key f a.key b.key a.message b.message p.key_fits q.key_fits same.keys joined in (
       same.sizes,
       record {
         salt = same.salts;

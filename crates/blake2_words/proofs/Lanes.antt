@@ -130,7 +130,8 @@ xored h v lh lv =
 -- word k of lane j of h, xored with those of both halves of v
 abbrev pub xor_at : List (List ℕ) → List (List ℕ) → ℕ → ℕ → ℕ
 xor_at h v j k =
-    bit_xor (bit_xor (slice_index (slice_index_or h k []) j) (slice_index (slice_index_or v k []) j))
+    bit_xor (bit_xor (slice_index (slice_index_or h k []) j)
+    (slice_index (slice_index_or v k []) j))
     (slice_index (slice_index_or v (8 + k) []) j)
 
 -- what stands elsewhere changes no word that is read

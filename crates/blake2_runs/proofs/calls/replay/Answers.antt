@@ -67,7 +67,8 @@ returns-in_err-replay_call-clause-fault g c =
     rw (given.1, given.2) (stopped g (goal.at.returns-in_err-replay_call-clause-fault g
     c).In_err-replay_call)
 
-pub returns-in_err-replay_call-clause-fresh_fault : goal.returns-in_err-replay_call-clause-fresh_fault
+pub returns-in_err-replay_call-clause-fresh_fault :
+    goal.returns-in_err-replay_call-clause-fresh_fault
 returns-in_err-replay_call-clause-fresh_fault g c =
     let given = err_from_is_err_and c.from_residual-in_err-replay_call.result
     c.from_residual-in_err-replay_call.ensures.1 in
@@ -93,7 +94,8 @@ returns-in_err-replay_call-clause-place g c =
     let stop = stopped g (goal.at.returns-in_err-replay_call-clause-place g c).In_err-replay_call in
     rw (given.1, given.2) (names_first_bad g.H.Update.meaning c.args.first c.args.calls.now _ stop)
 
-pub returns-in_err-replay_call-clause-no_bad_call : goal.returns-in_err-replay_call-clause-no_bad_call
+pub returns-in_err-replay_call-clause-no_bad_call :
+    goal.returns-in_err-replay_call-clause-no_bad_call
 returns-in_err-replay_call-clause-no_bad_call g c = λ good.
     let given = err_from_is_err_and c.from_residual-in_err-replay_call.result
     c.from_residual-in_err-replay_call.ensures.1 in

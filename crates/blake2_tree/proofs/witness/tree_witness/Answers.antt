@@ -18,7 +18,8 @@ returns-then-ne-clause-some c =
     let some_from : IsSome c.in_ok-pair.pair → IsSome c.map.result = search rules in
     ((λ some. roots.0 (collide.0 (some_of some))), (λ both. some_from (collide.1 (roots.1 both))))
 
-pub first_difference-requires-clause-equally_many : goal.first_difference-requires-clause-equally_many
+pub first_difference-requires-clause-equally_many :
+    goal.first_difference-requires-clause-equally_many
 first_difference-requires-clause-equally_many c =
     let s = tree_parameters c.args.salt.now c.args.persona.now c.args.leaf_length in
     let same : leaf_digests s c.args.a.now ≡ leaf_digests s c.args.b.now = search rules in

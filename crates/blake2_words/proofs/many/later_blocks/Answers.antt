@@ -1,5 +1,5 @@
-use Rattle.std.proofs.Common.{◌≡◌, ◌∙◌, ◌+◌, ◌≤◌, ℕ, List, [], length, slice_index_or, drop, ap, sym}
-use Rattle.std.proofs.Common.{arith}
+use Rattle.std.proofs.Common.{◌≡◌, ◌∙◌, ◌+◌, ◌≤◌, ℕ, List, [], length, slice_index_or, drop, ap}
+use Rattle.std.proofs.Common.{sym, arith}
 use Rattle.std.proofs.lemmas.List.{get_or-take, length-take-le, take_rest}
 use Rattle.blake2_rows.specs.Family.{block_bytes}
 use Rattle.blake2_words.specs.Hash.{input_data}

@@ -12,8 +12,9 @@ pub returns-then-accepts_four-clause-digests : goal.returns-then-accepts_four-cl
 returns-then-accepts_four-clause-digests c =
     let n : ℕ = c.args.given.now.output_size in
     let messages = c.args.messages.now in
-    let of_text : Text → List ℕ = λ t. digest_of blake2b n c.args.given.now.salt.now c.args.given.now.persona.now
-    (given_key c.args.given.now.key.now) t.bytes.now in
+    let given = c.args.given.now in
+    let of_text : Text → List ℕ = λ t. digest_of blake2b n given.salt.now given.persona.now
+    (given_key given.key.now) t.bytes.now in
     let digests = c.hash_four_sized.result in
     let each : map (take n) digests ≡ map of_text (take 4 messages) =
     c.hash_four_sized.ensures

@@ -17,8 +17,9 @@ loop-done-preserved c =
     let was = c.args.out.now in
     let done : ℕ = c.loop-done.done in
     let more : ℕ = c.write_next-done.result in
-    let of_text : Text → List ℕ = λ t. digest_of blake2s n c.args.given.now.salt.now c.args.given.now.persona.now
-    (given_key c.args.given.now.key.now) t.bytes.now in
+    let given = c.args.given.now in
+    let of_text : Text → List ℕ = λ t. digest_of blake2s n given.salt.now given.persona.now
+    (given_key given.key.now) t.bytes.now in
     let fits : done * n ≤ length was =
     omega (
       arith,
@@ -40,7 +41,8 @@ loop-done-preserved c =
       within = search rules;
       long = search rules;
       written = put_more (done * n) (more * n) was out c.write_next-done.new.out
-          (flat_map of_text (take done messages)) (flat_map of_text (take more (drop done messages)))
+          (flat_map of_text (take done messages))
+          (flat_map of_text (take more (drop done messages)))
           fits c.loop-done.invariant.long c.loop-done.invariant.written
           next
           ∙ ap₂ (λ l m. l ++ drop m was) (sym (flat_more of_text done more messages)) at;

@@ -7,12 +7,12 @@ use Rattle.blake2_plain.proofs.blake2s.State.new_with_tree.Goals as goal
 
 pub returns-then-is_empty-clause-fresh : goal.returns-then-is_empty-clause-fresh
 returns-then-is_empty-clause-fresh c =
-    Fresh-given_none meaning blake2s c.args.given.now.output_size c.args.given.now.salt.now c.args.given.now.persona.now
-    c.args.given.now.key.now (tree_of c.args.tree.now) _
+    Fresh-given_none meaning blake2s c.args.given.now.output_size c.args.given.now.salt.now
+    c.args.given.now.persona.now c.args.given.now.key.now (tree_of c.args.tree.now) _
     (sym c.is_empty.ensures ∙ c.if-is_empty.true) c.unkeyed.ensures.fresh
 
 pub returns-clause-fresh : goal.returns-clause-fresh
 returns-clause-fresh c =
-    Fresh-given_some meaning blake2s c.args.given.now.output_size c.args.given.now.salt.now c.args.given.now.persona.now
-    c.args.given.now.key.now (tree_of c.args.tree.now) _
+    Fresh-given_some meaning blake2s c.args.given.now.output_size c.args.given.now.salt.now
+    c.args.given.now.persona.now c.args.given.now.key.now (tree_of c.args.tree.now) _
     (sym c.is_empty.ensures ∙ c.if-is_empty.false) c.under_key.ensures.fresh

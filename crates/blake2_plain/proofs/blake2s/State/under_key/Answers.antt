@@ -19,8 +19,9 @@ returns-clause-fresh c =
     c.padded-block.ensures ∙ ap (padded 64) c.new.ensures in
     let whole : take 64 c.padded-block.result ≡ key_block blake2s (Some key) =
     ap (take 64) block ∙ take_all 64 (key_block blake2s (Some key)) (omega (arith, size)) in
-    Fresh_sized blake2s (λ s. s.output_size) state_of c.args.given.now.output_size c.args.given.now.salt.now
-    c.args.given.now.persona.now (Some key) (tree_of c.args.tree.now) 64 _ size refl
+    Fresh_sized blake2s (λ s. s.output_size) state_of c.args.given.now.output_size
+    c.args.given.now.salt.now c.args.given.now.persona.now (Some key)
+    (tree_of c.args.tree.now) 64 _ size refl
     (state-made blake2s (node_parameters c.args.given.now.output_size
     (length key) c.args.given.now.salt.now c.args.given.now.persona.now (tree_of c.args.tree.now))
     (Some key) c.new_with_tree-core.result c.first_words-first.result _ _

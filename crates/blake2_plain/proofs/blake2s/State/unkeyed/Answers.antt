@@ -12,10 +12,12 @@ use Rattle.blake2_plain.proofs.blake2s.State.unkeyed.Goals as goal
 pub returns-clause-fresh : goal.returns-clause-fresh
 unfolding key_block
 returns-clause-fresh c =
-    Fresh_sized blake2s (λ s. s.output_size) state_of c.args.given.now.output_size c.args.given.now.salt.now
-    c.args.given.now.persona.now None (tree_of c.args.tree.now) 0 _ (length-key_block_none blake2s)
+    Fresh_sized blake2s (λ s. s.output_size) state_of c.args.given.now.output_size
+    c.args.given.now.salt.now c.args.given.now.persona.now None (tree_of c.args.tree.now) 0 _
+    (length-key_block_none blake2s)
     (ap (λ (s : State). s.output_size) c.starting_from.ensures)
     (ap state_of c.starting_from.ensures ∙ state-made blake2s
-    (node_parameters c.args.given.now.output_size 0 c.args.given.now.salt.now c.args.given.now.persona.now
-    (tree_of c.args.tree.now)) None c.new_with_tree-core.result c.first_words.result _ _
+    (node_parameters c.args.given.now.output_size 0 c.args.given.now.salt.now
+    c.args.given.now.persona.now (tree_of c.args.tree.now)) None
+    c.new_with_tree-core.result c.first_words.result _ _
     c.new_with_tree-core.ensures c.first_words.ensures refl refl)

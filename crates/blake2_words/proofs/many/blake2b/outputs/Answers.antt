@@ -53,8 +53,9 @@ returns g c j lt =
     (row 7 _ (omega arith)) in
     let input = input_at c.args.inputs.now j in
     c.loop-j.invariant.at j (lt_of_lt_of_le lt c.loop-j-test.false)
-    ∙ ap (λ (w : List ℕ). take g.row.N (bytes_of blake2b w)) (two_columns h first last a b j [] [] long
-    long_a long_b lt (λ k l. c.transpose-low.ensures k j l lt)
-    (λ k l. c.transpose-high.ensures k j l lt) is_first is_last
+    ∙ ap (λ (w : List ℕ). take g.row.N (bytes_of blake2b w))
+    (two_columns h first last a b j [] [] long long_a long_b lt
+    (λ k l. c.transpose-low.ensures k j l lt) (λ k l. c.transpose-high.ensures k j l lt)
+    is_first is_last
     ∙ c.absorb.ensures j lt ∙ ap (λ (w : List ℕ). last_chain blake2b w 0 (input_data blake2b input)
     (input_flags input)) (c.start-h.ensures j lt))

@@ -33,7 +33,8 @@ returns c j h =
     let last : (k : ℕ) (d : List ℕ) → k < 8
     → slice_index (get_or c.rows_of-w.result k d) j ≡ slice_index (slice_index_or ws j []) k =
     λ k d lt. ap (λ (row : List ℕ). slice_index row j)
-    (get_or_default c.rows_of-w.result k d [] (omega (arith, many))) ∙ c.rows_of-w.ensures j k h lt in
+    (get_or_default c.rows_of-w.result k d [] (omega (arith, many)))
+    ∙ c.rows_of-w.ensures j k h lt in
     let word : (k : ℕ) (d : List ℕ) → k < 8 → slice_index (get_or rows k d) j ≡ slice_index u k =
     λ k d lt. lane_word rows j k d (omega arith) in
     (λ i. word 0 c.index-h-0.result (omega arith) i ∷ word 1 c.index-h-1.result (omega arith) i

@@ -7,5 +7,6 @@ abbrev pub invariant-loop-j : goal.invariant-loop-j
 invariant-loop-j g l = record {
   long : length l.outputs ≡ 8;
   at : (k : ℕ) → k < l.j → (length (slice_index_or l.words k []) ≡ 8)
-      × (slice_index_or l.outputs k [] ≡ take g.row.N (bytes_of blake2s (slice_index_or l.words k [])));
+      × (slice_index_or l.outputs k []
+      ≡ take g.row.N (bytes_of blake2s (slice_index_or l.words k [])));
 }

@@ -63,9 +63,10 @@ returns c j k jl kl =
         (
           ap (λ w. slice_index w j) (c.low_halves-3.ensures
               ∙ (λ i. first 2 0 (c.columns_within-a0.ensures i)
-              ∷ first 2 1 (c.columns_within-a0.ensures i) ∷ first 2 2 (c.columns_within-a0.ensures i)
-              ∷ first 2 3 (c.columns_within-a0.ensures i) ∷ first 2 0 (c.columns_within-e0.ensures i)
-              ∷ first 2 1 (c.columns_within-e0.ensures i) ∷ first 2 2 (c.columns_within-e0.ensures i)
+              ∷ first 2 1 (c.columns_within-a0.ensures i) ∷ first 2 2
+              (c.columns_within-a0.ensures i) ∷ first 2 3 (c.columns_within-a0.ensures i)
+              ∷ first 2 0 (c.columns_within-e0.ensures i) ∷ first 2 1
+              (c.columns_within-e0.ensures i) ∷ first 2 2 (c.columns_within-e0.ensures i)
               ∷ first 2 3 (c.columns_within-e0.ensures i) ∷ [])) ∙ given 2,
           (
             ap (λ w. slice_index w j) (c.low_halves-4.ensures
