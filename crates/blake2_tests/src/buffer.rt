@@ -4,8 +4,8 @@ ghost use Rattle.std.specs.Prelude.{◌≡◌, ◌+◌, ◌*◌, ◌^◌, ◌<�
 ghost use Rattle.std.proofs.Common.{arith, length-append};
 
 use blake2::digest::{Duplicate, LazyBuffer, Reset, UpdateCore, Wipe};
+use std::alloc::AllocError;
 use std::marker::Model;
-use std::test::Fail;
 
 // A core that counts the blocks of 64 bytes that it takes.
 struct Counter {
@@ -65,7 +65,7 @@ fn holds_the_last_block_back(rt: HostRuntime) {
 }
 
 #[test]
-fn keeps_its_bytes(rt: HostRuntime) -> Result<(), Fail> {
+fn keeps_its_bytes(rt: HostRuntime) -> Result<(), AllocError> {
     let mut buffer = LazyBuffer::<4>::new(b"abc");
     let mut copy = buffer.clone()?;
     let mut twin = buffer.duplicate();

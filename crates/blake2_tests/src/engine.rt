@@ -1,7 +1,7 @@
 //! The engine over devices that give little or fail, with a hash function of the tests' own: the
 //! value of the bytes as the digits of a number in base 31, modulo 2^32.
 
-ghost use Rattle.std.specs.Prelude.{◌≡◌, ◌+◌, ◌*◌, ◌%◌, ◌^◌, false, fold, IfOk};
+ghost use Rattle.std.specs.Prelude.{◌≡◌, ◌+◌, ◌*◌, ◌%◌, ◌^◌, ◌≤◌, false, fold, IfOk};
 ghost use Rattle.std.proofs.Common.{arith};
 ghost use Rattle.std.specs.Int.{to_be_bytes, w32};
 ghost use Rattle.blake2_runs.specs.Streams.{line_of};
@@ -14,7 +14,6 @@ use blake2::engine::{
 use std::alloc::Global;
 use std::io;
 use std::io::{ErrorKind, Read, Write};
-use std::test::Fail;
 
 #[derive(Drop)]
 struct Base31 {
@@ -69,64 +68,76 @@ fn line_in_memory(alloc: Global, bytes: &[u8]) -> Result<Vec<u8>, StreamFault>
 }
 
 #[test]
-fn writes_the_line(rt: HostRuntime) -> Result<(), Fail> {
-    let many = vec![in rt.alloc(); b'a'; 10000]?;
+fn writes_the_line(rt: HostRuntime) {
+    let many = [b'a'; 10000];
     for (bytes, line) in [
         ("".as_bytes(), "00000000\n"),
         ("abc".as_bytes(), "00017862\n"),
-        (many.as_slice(), "fd23f100\n"),
+        (&many, "fd23f100\n"),
     ] {
         let written = line_in_memory(rt.alloc(), bytes);
         assert!(rt;
-            written.is_ok_and(|text| text.as_slice() == line.as_bytes()),
+            matches!(&written, Ok(text) if text.as_slice() == line.as_bytes()),
             "{line}"
         );
     }
-    Ok(())
+}
+
+// Streams `abc` between devices in memory, the sink over this room: the answer, whether the source
+// and the sink have failed, and how many bytes the sink took.
+fn stream_between(
+    most_given: usize,
+    read_fails: Option<usize>,
+    most_taken: usize,
+    write_fails: Option<usize>,
+    room: &mut [u8],
+) -> (Result<u64, StreamFault>, bool, bool, usize)
+    requires given { 1 ≤ most_given }
+    requires taken { 1 ≤ most_taken }
+{
+    let mut source = SliceSource::new(b"abc", most_given, read_fails);
+    let mut sink = SliceSink::new(room, most_taken, write_fails);
+    let answer = hash_stream(&mut source, &mut sink, fresh());
+    (answer, source.failed(), sink.failed(), sink.written())
 }
 
 #[test]
-fn devices_over_memory(rt: HostRuntime) -> Result<(), Fail> {
+fn devices_over_memory(rt: HostRuntime) {
     // The most that a read gives and when it fails; the same of a write, after the bytes of room;
     // the answer; and how many bytes of the line were taken.
-    for ((most_given, read_fails), (size, most_taken, write_fails), answer, taken) in [
-        ((1, None), (9, 1, None), Ok(3), 9),
-        ((2, Some(0)), (9, 9, None), Err(StreamFault::Read), 0),
-        ((4, Some(2)), (9, 9, None), Err(StreamFault::Read), 0),
-        ((4, Some(3)), (9, 9, None), Err(StreamFault::Read), 0),
-        ((4, Some(4)), (9, 9, None), Ok(3), 9),
-        ((4, None), (8, 4, None), Err(StreamFault::Write), 8),
-        ((4, None), (9, 4, Some(8)), Err(StreamFault::Write), 8),
-        ((4, None), (9, 4, Some(9)), Ok(3), 9),
-        ((4, None), (9, 4, Some(0)), Err(StreamFault::Write), 0),
-        ((4, None), (0, 4, None), Err(StreamFault::Write), 0),
+    for (most_given, read_fails, size, most_taken, write_fails, answer, taken) in [
+        (1, None, 9, 1, None, Ok(3), 9),
+        (2, Some(0), 9, 9, None, Err(StreamFault::Read), 0),
+        (4, Some(2), 9, 9, None, Err(StreamFault::Read), 0),
+        (4, Some(3), 9, 9, None, Err(StreamFault::Read), 0),
+        (4, Some(4), 9, 9, None, Ok(3), 9),
+        (4, None, 8, 4, None, Err(StreamFault::Write), 8),
+        (4, None, 9, 4, Some(8), Err(StreamFault::Write), 8),
+        (4, None, 9, 4, Some(9), Ok(3), 9),
+        (4, None, 9, 4, Some(0), Err(StreamFault::Write), 0),
+        (4, None, 0, 4, None, Err(StreamFault::Write), 0),
     ] {
-        assert!(rt; most_given >= 1 && most_taken >= 1 && size <= 9);
-        let mut source = SliceSource::new(b"abc", most_given, read_fails);
+        assert!(rt; most_given >= 1 && most_taken >= 1 && size <= 9 && taken <= 9);
         let mut room = [0u8; 9];
-        let mut sink = SliceSink::new(&mut room[..size], most_taken, write_fails);
-        let found = hash_stream(&mut source, &mut sink, fresh());
-        assert!(rt; found == answer, "{answer:?} {taken}");
-        assert!(rt;
-            source.failed() == (answer == Err(StreamFault::Read)),
-            "{answer:?} {taken}"
+        let (found, read_failed, write_failed, written) = stream_between(
+            most_given,
+            read_fails,
+            most_taken,
+            write_fails,
+            &mut room[..size],
         );
+        let are_told = read_failed == (answer == Err(StreamFault::Read))
+            && write_failed == (answer == Err(StreamFault::Write));
+        let is_written = written == taken && room[..taken] == b"00017862\n"[..taken];
         assert!(rt;
-            sink.failed() == (answer == Err(StreamFault::Write)),
-            "{answer:?} {taken}"
-        );
-        let written = sink.written();
-        assert!(rt; written == taken && written <= 9, "{answer:?} {taken}");
-        assert!(rt;
-            &room[..written] == &b"00017862\n"[..written],
+            found == answer && are_told && is_written,
             "{answer:?} {taken}"
         );
     }
-    Ok(())
 }
 
 #[test]
-fn counts_below_2_64(rt: HostRuntime) -> Result<(), Fail> {
+fn counts_below_2_64(rt: HostRuntime) {
     for (count, answer, written) in [
         (u64::MAX - 3, Ok(3), 9),
         (u64::MAX - 2, Err(StreamFault::TooLong), 0),
@@ -139,7 +150,6 @@ fn counts_below_2_64(rt: HostRuntime) -> Result<(), Fail> {
         let found = hash_stream(&mut source, &mut sink, hasher);
         assert!(rt; found == answer && sink.written() == written, "{count}");
     }
-    Ok(())
 }
 
 // Gives one byte a read, and an error in mid-stream; after it the reads go on.
@@ -163,16 +173,17 @@ impl Read for Interrupted {
 }
 
 #[test]
-fn a_reader_fails_in_mid_stream(rt: HostRuntime) -> Result<(), Fail> {
+fn a_reader_fails_in_mid_stream(rt: HostRuntime) {
     let mut source = IoSource::new(Interrupted { reads: 0 });
     let mut room = [0u8; 9];
     let mut sink = SliceSink::new(&mut room, 9, None);
     let answer = hash_stream(&mut source, &mut sink, fresh());
+    let (failed, written) = (source.failed(), sink.written());
+    let reads = source.into_inner().reads;
     assert!(rt; answer == Err(StreamFault::Read));
-    assert!(rt; sink.written() == 0);
-    assert!(rt; source.failed());
-    assert!(rt; source.into_inner().reads == 3);
-    Ok(())
+    assert!(rt; written == 0);
+    assert!(rt; failed);
+    assert!(rt; reads == 3);
 }
 
 // Takes two bytes, then none, and then answers errors.
@@ -197,21 +208,31 @@ impl Write for Filling {
 }
 
 #[test]
-fn a_writer_fills_up(rt: HostRuntime) -> Result<(), Fail> {
+fn a_writer_fills_up(rt: HostRuntime) {
     let mut sink = IoSink::new(Filling { writes: 0 });
-    assert!(rt; write_whole(&mut sink, b"ab") == Ok(()));
-    assert!(rt; sink.write(b"") == Ok(0));
-    assert!(rt; !sink.failed());
-    assert!(rt; sink.write(b"c") == Err(DeviceError));
-    assert!(rt; sink.failed());
+    let whole = write_whole(&mut sink, b"ab");
+    let nothing = sink.write(b"");
+    let failed_before = sink.failed();
+    let more = sink.write(b"c");
+    let failed_after = sink.failed();
+    drop(sink);
+    assert!(rt; whole == Ok(()));
+    assert!(rt; nothing == Ok(0));
+    assert!(rt; !failed_before);
+    assert!(rt; more == Err(DeviceError));
+    assert!(rt; failed_after);
+}
 
+#[test]
+fn a_writer_fills_up_in_mid_stream(rt: HostRuntime) {
     let mut sink = IoSink::new(Filling { writes: 0 });
     let mut source = SliceSource::new(b"abc", 4, None);
     let answer = hash_stream(&mut source, &mut sink, fresh());
+    let failed = sink.failed();
+    let writes = sink.into_inner().writes;
     assert!(rt; answer == Err(StreamFault::Write));
-    assert!(rt; sink.failed());
-    assert!(rt; sink.into_inner().writes == 2);
-    Ok(())
+    assert!(rt; failed);
+    assert!(rt; writes == 2);
 }
 
 // Fails its first write, by an error or by taking no byte, and takes all that comes later.
@@ -250,61 +271,95 @@ impl FailsOnce {
     }
 }
 
-#[test]
-fn a_writer_that_fails_is_not_tried_again(rt: HostRuntime) -> Result<(), Fail> {
-    for by_error in [true, false] {
-        let mut sink = IoSink::new(FailsOnce::new(by_error));
-        let answer = sink.write(b"abc");
-        let wanted = if by_error { Err(DeviceError) } else { Ok(0) };
-        assert!(rt;
-            answer == wanted && sink.failed(),
-            "by an error: {by_error}"
-        );
-        assert!(rt; sink.into_inner().later == 0, "by an error: {by_error}");
+// What one write of `abc` to a sink that fails once answers, whether the sink has then failed, and
+// how many writes come later.
+fn write_once(by_error: bool) -> (Result<usize, DeviceError>, bool, u32) {
+    let mut sink = IoSink::new(FailsOnce::new(by_error));
+    let answer = sink.write(b"abc");
+    let failed = sink.failed();
+    (answer, failed, sink.into_inner().later)
+}
 
-        let mut sink = IoSink::new(FailsOnce::new(by_error));
-        let answer = write_whole(&mut sink, b"abc");
-        assert!(rt; answer == Err(DeviceError), "by an error: {by_error}");
-        assert!(rt; sink.into_inner().later == 0, "by an error: {by_error}");
+// What it answers to whole writes, and how many writes come later.
+fn write_whole_once(by_error: bool) -> (Result<(), DeviceError>, u32) {
+    let mut sink = IoSink::new(FailsOnce::new(by_error));
+    let answer = write_whole(&mut sink, b"abc");
+    (answer, sink.into_inner().later)
+}
 
-        let mut sink = IoSink::new(FailsOnce::new(by_error));
-        let mut source = SliceSource::new(b"abc", 4, None);
-        let answer = hash_stream(&mut source, &mut sink, fresh());
-        assert!(rt;
-            answer == Err(StreamFault::Write),
-            "by an error: {by_error}"
-        );
-        assert!(rt; sink.into_inner().later == 0, "by an error: {by_error}");
-    }
-    Ok(())
+// What a stream to it answers, and how many writes come later.
+fn stream_once(by_error: bool) -> (Result<u64, StreamFault>, u32) {
+    let mut sink = IoSink::new(FailsOnce::new(by_error));
+    let mut source = SliceSource::new(b"abc", 4, None);
+    let answer = hash_stream(&mut source, &mut sink, fresh());
+    (answer, sink.into_inner().later)
 }
 
 #[test]
-fn errors_come_after_their_bytes(rt: HostRuntime) -> Result<(), Fail> {
+fn a_writer_that_fails_is_not_tried_again(rt: HostRuntime) {
+    for (by_error, wanted) in [(true, Err(DeviceError)), (false, Ok(0))] {
+        let (answer, failed, later) = write_once(by_error);
+        assert!(rt;
+            answer == wanted && failed && later == 0,
+            "by an error: {by_error}"
+        );
+        let (answer, later) = write_whole_once(by_error);
+        assert!(rt;
+            answer == Err(DeviceError) && later == 0,
+            "by an error: {by_error}"
+        );
+        let (answer, later) = stream_once(by_error);
+        assert!(rt;
+            answer == Err(StreamFault::Write) && later == 0,
+            "by an error: {by_error}"
+        );
+    }
+}
+
+#[test]
+fn errors_of_a_source_come_after_its_bytes(rt: HostRuntime) {
     let mut piece = [0u8; 2];
     let mut source = SliceSource::new(b"abc", 3, Some(3));
-    assert!(rt; source.read(&mut piece) == Ok(2));
-    assert!(rt; &piece == b"ab");
-    assert!(rt; source.read(&mut piece) == Ok(1));
-    assert!(rt; &piece == b"cb");
-    assert!(rt; !source.failed());
-    assert!(rt; source.read(&mut piece) == Err(DeviceError));
-    assert!(rt; source.read(&mut piece) == Err(DeviceError));
-    assert!(rt; source.failed());
+    let first = (source.read(&mut piece), piece);
+    let second = (source.read(&mut piece), piece);
+    let failed_before = source.failed();
+    let third = source.read(&mut piece);
+    let fourth = source.read(&mut piece);
+    let failed_after = source.failed();
+    assert!(rt; first == (Ok(2), *b"ab"));
+    assert!(rt; second == (Ok(1), *b"cb"));
+    assert!(rt; !failed_before);
+    assert!(rt; third == Err(DeviceError));
+    assert!(rt; fourth == Err(DeviceError));
+    assert!(rt; failed_after);
+}
 
+#[test]
+fn a_source_that_ends_before_its_error(rt: HostRuntime) {
+    let mut piece = [0u8; 2];
     let mut source = SliceSource::new(b"", 3, Some(1));
-    assert!(rt; source.read(&mut piece) == Ok(0));
-    assert!(rt; source.read(&mut piece) == Ok(0));
-    assert!(rt; !source.failed());
+    let first = source.read(&mut piece);
+    let second = source.read(&mut piece);
+    let failed = source.failed();
+    assert!(rt; first == Ok(0));
+    assert!(rt; second == Ok(0));
+    assert!(rt; !failed);
+}
 
+#[test]
+fn errors_of_a_sink_come_after_its_bytes(rt: HostRuntime) {
     let mut room = [0u8; 4];
     let mut sink = SliceSink::new(&mut room, 2, Some(3));
-    assert!(rt; sink.write(b"abc") == Ok(2));
-    assert!(rt; sink.write(b"de") == Ok(1));
-    assert!(rt; !sink.failed());
-    assert!(rt; sink.write(b"e") == Err(DeviceError));
-    assert!(rt; sink.failed());
-    assert!(rt; sink.written() == 3);
-    assert!(rt; &room == b"abd\0");
-    Ok(())
+    let first = sink.write(b"abc");
+    let second = sink.write(b"de");
+    let failed_before = sink.failed();
+    let third = sink.write(b"e");
+    let (failed_after, written) = (sink.failed(), sink.written());
+    assert!(rt; first == Ok(2));
+    assert!(rt; second == Ok(1));
+    assert!(rt; !failed_before);
+    assert!(rt; third == Err(DeviceError));
+    assert!(rt; failed_after);
+    assert!(rt; written == 3);
+    assert!(rt; room == *b"abd\0");
 }

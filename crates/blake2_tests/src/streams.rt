@@ -6,44 +6,56 @@ use blake2::digest::{KeyInit, Mac};
 use blake2::engine::{Sink, SliceSink, SliceSource, Source, StreamFault, hash_stream};
 use blake2::{Blake2b, Blake2b512, Blake2bMac, Blake2s, Digest};
 use std::process::Abort;
-use std::test::Fail;
 
 // What is written for `abc`.
 const LINE: &[u8] = b"ba80a53f981c4d0d6a2797b69f12f6e94c212f14685ac4b74b12bb6fdbffa2d1\
     7d87c5392aab792dc252d5de4533cc9518d38aa8dbf1925ab92386edd4009923\n";
 
+// Hashes `abc` between devices that move at most so many bytes a call, the sink over this room: the
+// answer, whether the source and the sink have failed, and how many bytes the sink took.
+fn hash_between(
+    most: usize,
+    source_fails: Option<usize>,
+    room: &mut [u8],
+    sink_fails: Option<usize>,
+) -> (Result<u64, StreamFault>, bool, bool, usize)
+    requires { 1 ≤ most }
+{
+    let mut source = SliceSource::new(b"abc", most, source_fails);
+    let mut sink = SliceSink::new(room, most, sink_fails);
+    let answer = hash_stream(&mut source, &mut sink, Blake2b512::new());
+    (answer, source.failed(), sink.failed(), sink.written())
+}
+
 #[test]
-fn hash_between_little_devices(rt: HostRuntime) -> Result<(), Fail> {
-    for ((most, source_fails), (size, sink_fails), answer, taken) in [
-        ((1, None), (129, None), Ok(3), 129),
-        ((129, Some(0)), (129, None), Err(StreamFault::Read), 0),
-        ((129, Some(3)), (129, None), Err(StreamFault::Read), 0),
-        ((129, Some(4)), (129, None), Ok(3), 129),
-        ((129, None), (128, None), Err(StreamFault::Write), 128),
-        ((129, None), (129, Some(128)), Err(StreamFault::Write), 128),
-        ((129, None), (129, Some(129)), Ok(3), 129),
-        ((129, None), (0, None), Err(StreamFault::Write), 0),
-        ((129, None), (129, Some(5)), Err(StreamFault::Write), 5),
+fn hash_between_little_devices(rt: HostRuntime) {
+    for (most, source_fails, size, sink_fails, answer, taken) in [
+        (1, None, 129, None, Ok(3), 129),
+        (129, Some(0), 129, None, Err(StreamFault::Read), 0),
+        (129, Some(3), 129, None, Err(StreamFault::Read), 0),
+        (129, Some(4), 129, None, Ok(3), 129),
+        (129, None, 128, None, Err(StreamFault::Write), 128),
+        (129, None, 129, Some(128), Err(StreamFault::Write), 128),
+        (129, None, 129, Some(129), Ok(3), 129),
+        (129, None, 0, None, Err(StreamFault::Write), 0),
+        (129, None, 129, Some(5), Err(StreamFault::Write), 5),
     ] {
-        assert!(rt; most >= 1 && size <= 129);
-        let mut source = SliceSource::new(b"abc", most, source_fails);
+        assert!(rt; most >= 1 && size <= 129 && taken <= LINE.len().min(129));
         let mut room = [0u8; 129];
-        let mut sink = SliceSink::new(&mut room[..size], most, sink_fails);
-        let found = hash_stream(&mut source, &mut sink, Blake2b512::new());
-        assert!(rt; found == answer, "{answer:?} {taken}");
+        let (found, source_failed, sink_failed, written) = hash_between(
+            most,
+            source_fails,
+            &mut room[..size],
+            sink_fails,
+        );
+        let are_told = source_failed == (answer == Err(StreamFault::Read))
+            && sink_failed == (answer == Err(StreamFault::Write));
+        let is_written = written == taken && room[..taken] == LINE[..taken];
         assert!(rt;
-            source.failed() == (answer == Err(StreamFault::Read)),
+            found == answer && are_told && is_written,
             "{answer:?} {taken}"
         );
-        assert!(rt;
-            sink.failed() == (answer == Err(StreamFault::Write)),
-            "{answer:?} {taken}"
-        );
-        let written = sink.written();
-        assert!(rt; written == taken && written <= 129, "{answer:?} {taken}");
-        assert!(rt; &room[..written] == &LINE[..written], "{answer:?} {taken}");
     }
-    Ok(())
 }
 
 #[test]
@@ -53,9 +65,10 @@ fn fail_to_read_in_mid_stream(rt: HostRuntime) {
     let mut room = [0u8; 129];
     let mut sink = SliceSink::new(&mut room, 129, None);
     let found = hash_stream(&mut source, &mut sink, Blake2b512::new());
+    let (failed, written) = ((source.failed(), sink.failed()), sink.written());
     assert!(rt; found == Err(StreamFault::Read));
-    assert!(rt; source.failed() && !sink.failed());
-    assert!(rt; sink.written() == 0);
+    assert!(rt; failed == (true, false));
+    assert!(rt; written == 0);
 }
 
 // Checks that a digest of no bytes is a newline alone, over messages of each length.
@@ -69,8 +82,10 @@ fn check_empty_lines<H: Digest<0> + Drop>(rt: &impl Abort)
         let mut sink = SliceSink::new(&mut room, 2, None);
         let found = hash_stream(&mut source, &mut sink, H::new());
         let written = sink.written();
-        assert!(rt; found == Ok(length as u64) && written == 1, "{length}");
-        assert!(rt; room == [b'\n', 0], "{length}");
+        assert!(rt;
+            found == Ok(length as u64) && written == 1 && room == [b'\n', 0],
+            "{length}"
+        );
     }
 }
 
