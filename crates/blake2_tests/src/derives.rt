@@ -9,9 +9,9 @@ use blake2::engine::{DeviceError, StreamFault};
 use blake2::rows::{u32x4, u64x4};
 use blake2::steps::{Entry, Input, Reading, Step, Tree};
 use blake2_tree::{TreeWitness, tree_witness};
-use std::alloc::AllocError;
+use std::alloc::{AllocError, Global};
+use std::fmt;
 use std::process::Abort;
-use std::test::Fail;
 
 // Checks that each value is equal to itself alone.
 fn check_different<T: Eq>(rt: &impl Abort, values: &[T]) {
@@ -23,76 +23,113 @@ fn check_different<T: Eq>(rt: &impl Abort, values: &[T]) {
 }
 
 // Checks the copies and clones of values, no two of which are equal.
-fn check_copies<T: Copy + Eq>(rt: &impl Abort, values: &[T]) -> Result<(), AllocError> {
+fn check_copies<T: Copy + Eq>(rt: &impl Abort, values: &[T]) {
     check_different(rt, values);
     for (i, value) in values.iter().enumerate() {
         let copy = *value;
-        assert!(rt; copy == *value && value.clone()? == *value, "{i}");
+        let clone: Result<T, AllocError> = value.clone();
+        assert!(rt; copy == *value && clone == Ok(*value), "{i}");
     }
-    Ok(())
+}
+
+// Whether `Debug` writes this of the value.
+fn debugs<T: fmt::Debug>(alloc: Global, value: &T, wanted: &str) -> Result<bool, AllocError> {
+    Ok(format!(in alloc; "{value:?}")?.as_str() == wanted)
+}
+
+// Whether what `Debug` writes of the value begins so.
+fn debug_begins<T: fmt::Debug>(alloc: Global, value: &T, name: &str) -> Result<bool, AllocError> {
+    Ok(format!(in alloc; "{value:?}")?.as_str().starts_with(name))
+}
+
+const STREAM_FAULTS: [StreamFault; 3] = [
+    StreamFault::Read,
+    StreamFault::TooLong,
+    StreamFault::Write,
+];
+
+const REPLAY_FAULTS: [ReplayFault; 4] = [
+    ReplayFault::NoSuchSlot(1),
+    ReplayFault::NoSuchSlot(2),
+    ReplayFault::TooLong(1),
+    ReplayFault::Memory,
+];
+
+#[test]
+fn copy_faults(rt: HostRuntime) {
+    check_copies(&rt, &[InvalidOutputSize]);
+    check_copies(&rt, &[InvalidLength]);
+    check_copies(&rt, &[MacError]);
+    check_copies(&rt, &[DeviceError]);
+    check_copies(&rt, &[Lazy]);
+    check_copies(&rt, &[TruncSide::Left, TruncSide::Right]);
+    check_copies(&rt, &STREAM_FAULTS);
+    check_copies(&rt, &REPLAY_FAULTS);
 }
 
 #[test]
-fn copy_faults(rt: HostRuntime) -> Result<(), Fail> {
-    check_copies(&rt, &[InvalidOutputSize])?;
-    check_copies(&rt, &[InvalidLength])?;
-    check_copies(&rt, &[MacError])?;
-    check_copies(&rt, &[DeviceError])?;
-    check_copies(&rt, &[Lazy])?;
-    check_copies(&rt, &[TruncSide::Left, TruncSide::Right])?;
-    let streams = [StreamFault::Read, StreamFault::TooLong, StreamFault::Write];
-    check_copies(&rt, &streams)?;
-    let replays = [
-        ReplayFault::NoSuchSlot(1),
-        ReplayFault::NoSuchSlot(2),
-        ReplayFault::TooLong(1),
-        ReplayFault::Memory,
-    ];
-    check_copies(&rt, &replays)?;
-    let text = format!(in rt.alloc(); "{:?} {streams:?} {replays:?}", DeviceError)?;
-    let wanted = "DeviceError [Read, TooLong, Write] \
-                  [NoSuchSlot(1), NoSuchSlot(2), TooLong(1), Memory]";
-    assert!(rt; text.as_str() == wanted);
-    let lengths = (InvalidOutputSize, InvalidLength, MacError);
-    let text = format!(in rt.alloc(); "{lengths:?} {Lazy:?} {:?}", TruncSide::Left)?;
-    assert!(rt; text.as_str() == "(InvalidOutputSize, InvalidLength, MacError) Lazy Left");
-    Ok(())
+fn print_faults(rt: HostRuntime) {
+    let faults = (DeviceError, STREAM_FAULTS, REPLAY_FAULTS);
+    let wanted = "(DeviceError, [Read, TooLong, Write], \
+                  [NoSuchSlot(1), NoSuchSlot(2), TooLong(1), Memory])";
+    assert!(rt; debugs(rt.alloc(), &faults, wanted) == Ok(true));
+    let faults = (
+        InvalidOutputSize,
+        InvalidLength,
+        MacError,
+        Lazy,
+        TruncSide::Left,
+    );
+    let wanted = "(InvalidOutputSize, InvalidLength, MacError, Lazy, Left)";
+    assert!(rt; debugs(rt.alloc(), &faults, wanted) == Ok(true));
 }
 
 #[test]
-fn copy_entries_and_steps(rt: HostRuntime) -> Result<(), Fail> {
+fn copy_entries(rt: HostRuntime) {
+    let first = entry(b"a", 1, true);
     let entries: [Entry<64>; 5] = [
-        entry(b"a", 1, true),
+        first,
         entry(b"b", 1, true),
         entry(b"a", 2, true),
         entry(b"a", 1, false),
         Entry {
             last_node: true,
-            ..entry(b"a", 1, true)
+            ..first
         },
     ];
-    check_copies(&rt, &entries)?;
+    check_copies(&rt, &entries);
+}
+
+#[test]
+fn copy_steps(rt: HostRuntime) {
     let chain = [1, 2, 3, 4, 5, 6, 7, 8];
+    let last = step(chain, &[9; 128], 10, true);
     let steps: [Step<u64, 128>; 6] = [
         step(chain, &[9; 128], 10, false),
         step([1, 2, 3, 4, 5, 6, 7, 9], &[9; 128], 10, false),
         step(chain, &[9; 127], 10, false),
         step(chain, &[9; 128], 11, false),
-        step(chain, &[9; 128], 10, true),
+        last,
         Step {
             last_node: true,
-            ..step(chain, &[9; 128], 10, true)
+            ..last
         },
     ];
-    check_copies(&rt, &steps)?;
-    Ok(())
+    check_copies(&rt, &steps);
+}
+
+// Two steps that differ in their blocks.
+fn two_steps() -> [Step<u64, 128>; 2] {
+    let chain = [1, 2, 3, 4, 5, 6, 7, 8];
+    [
+        step(chain, &[9; 128], 10, true),
+        step(chain, &[9; 127], 10, true),
+    ]
 }
 
 #[test]
-fn copy_witnesses_of_trees(rt: HostRuntime) -> Result<(), Fail> {
-    let chain = [1, 2, 3, 4, 5, 6, 7, 8];
-    let x: Step<u64, 128> = step(chain, &[9; 128], 10, true);
-    let y: Step<u64, 128> = step(chain, &[9; 127], 10, true);
+fn copy_witnesses_of_trees(rt: HostRuntime) {
+    let [x, y] = two_steps();
     check_copies(
         &rt,
         &[
@@ -101,7 +138,7 @@ fn copy_witnesses_of_trees(rt: HostRuntime) -> Result<(), Fail> {
             TreeWitness::Root(x, x),
             TreeWitness::Leaf(0, x, y),
         ],
-    )?;
+    );
     check_copies(
         &rt,
         &[
@@ -110,20 +147,21 @@ fn copy_witnesses_of_trees(rt: HostRuntime) -> Result<(), Fail> {
             TreeWitness::Leaf(0, x, x),
             TreeWitness::Leaf(1, x, y),
         ],
-    )?;
-    for (witness, name) in [
-        (TreeWitness::Root(x, y), "Root(Step"),
-        (TreeWitness::Leaf(7, x, y), "Leaf(7, Step"),
-    ] {
-        let text = format!(in rt.alloc(); "{witness:?}")?;
-        assert!(rt; text.as_str().starts_with(name), "{name}");
-    }
-    Ok(())
+    );
+}
+
+#[test]
+fn print_witnesses_and_places(rt: HostRuntime) {
+    let alloc = rt.alloc();
+    let [x, y] = two_steps();
+    assert!(rt; debug_begins(alloc, &TreeWitness::Root(x, y), "Root(Step") == Ok(true));
+    assert!(rt; debug_begins(alloc, &TreeWitness::Leaf(7, x, y), "Leaf(7, Step") == Ok(true));
+    assert!(rt; debug_begins(alloc, &Tree::sequential(), "Tree") == Ok(true));
 }
 
 // Of trees without salt and persona: one message has no witness, nor have two whose roots differ.
 #[test]
-fn no_witness_of_bare_trees(rt: HostRuntime) -> Result<(), Fail> {
+fn no_witness_of_bare_trees(rt: HostRuntime) {
     for (size, a, b) in [
         (0, "a", "a"),
         (0, "", ""),
@@ -136,10 +174,9 @@ fn no_witness_of_bare_trees(rt: HostRuntime) -> Result<(), Fail> {
     ] {
         let (a_bytes, b_bytes) = (a.as_bytes(), b.as_bytes());
         assert!(rt; size <= 64 && a_bytes.len() < 10 && b_bytes.len() < 10);
-        let found = tree_witness(rt.alloc(), &[], &[], 4, size, a_bytes, b_bytes)?;
-        assert!(rt; found.is_none(), "{size} {a} {b}");
+        let found = tree_witness(rt.alloc(), &[], &[], 4, size, a_bytes, b_bytes);
+        assert!(rt; matches!(found, Ok(None)), "{size} {a} {b}");
     }
-    Ok(())
 }
 
 // Places in trees, each of which differs from the first in one number at most.
@@ -169,27 +206,42 @@ fn places() -> [Tree; 7] {
 }
 
 #[test]
-fn copy_places_in_trees(rt: HostRuntime) -> Result<(), Fail> {
-    check_copies(&rt, &places())?;
-    let text = format!(in rt.alloc(); "{:?}", Tree::sequential())?;
-    assert!(rt; text.as_str().starts_with("Tree"));
-    Ok(())
+fn copy_places_in_trees(rt: HostRuntime) {
+    check_copies(&rt, &places());
 }
 
 #[test]
-fn copy_lanes_calls_and_inputs(rt: HostRuntime) -> Result<(), Fail> {
+fn copy_lanes(rt: HostRuntime) {
     let row = u64x4::new(1, 2, 3, 4);
     let copy = row;
     assert!(rt; copy.to_bytes() == row.to_bytes());
-    assert!(rt; row.clone()?.to_bytes() == row.to_bytes());
+    assert!(rt; matches!(row.clone(), Ok(clone) if clone.to_bytes() == row.to_bytes()));
     let row = u32x4::new(1, 2, 3, 4);
     let copy = row;
     assert!(rt; copy.to_bytes() == row.to_bytes());
-    assert!(rt; row.clone()?.to_bytes() == row.to_bytes());
+    assert!(rt; matches!(row.clone(), Ok(clone) if clone.to_bytes() == row.to_bytes()));
+}
+
+#[test]
+fn copy_calls(rt: HostRuntime) {
     let call = Call::Update(7, b"abc");
     let copy = call;
     assert!(rt; matches!(copy, Call::Update(7, b"abc")));
-    assert!(rt; matches!(call.clone()?, Call::Update(7, b"abc")));
+    assert!(rt; matches!(call.clone(), Ok(Call::Update(7, b"abc"))));
+}
+
+// Whether the input has the parts of the one that `copy_inputs` copies.
+fn is_given(input: &Input<'_>) -> bool {
+    matches!(input.key, Some(key) if key == b"key".as_slice())
+        && input.salt == b"salt".as_slice()
+        && input.persona == b"persona".as_slice()
+        && input.message == b"message".as_slice()
+        && input.tree.node_offset == 1
+        && input.last_node
+}
+
+#[test]
+fn copy_inputs(rt: HostRuntime) {
     let given = Input {
         tree: Tree {
             node_offset: 1,
@@ -199,52 +251,56 @@ fn copy_lanes_calls_and_inputs(rt: HostRuntime) -> Result<(), Fail> {
         ..input(Some(b"key"), b"salt", b"persona", b"message")
     };
     let copy = given;
-    for input in [given, copy, given.clone()?] {
-        assert!(rt; input.key.map(|key| key == b"key".as_slice()) == Some(true));
-        assert!(rt; input.salt == b"salt".as_slice());
-        assert!(rt; input.persona == b"persona".as_slice());
-        assert!(rt; input.message == b"message".as_slice());
-        assert!(rt; input.tree.node_offset == 1);
-        assert!(rt; input.last_node);
+    assert!(rt; is_given(&given));
+    assert!(rt; is_given(&copy));
+    assert!(rt; matches!(given.clone(), Ok(clone) if is_given(&clone)));
+}
+
+#[test]
+fn compare_transcripts(rt: HostRuntime) -> Result<(), AllocError> {
+    let alloc = rt.alloc();
+    let words = [1u32, 2, 3, 4, 5, 6, 7, 8];
+    let entries: [Entry<64>; 2] = [entry(b"a", 64, false), entry(b"b", 65, true)];
+    let mut transcripts = Vec::new(alloc);
+    for (words, entries) in [
+        (words, &entries[..]),
+        ([1, 2, 3, 4, 5, 6, 7, 9], &entries),
+        (words, &entries[..1]),
+        (words, &[entries[1], entries[0]]),
+    ] {
+        transcripts.push(transcript(alloc, words, entries)?)?;
     }
+    check_different(&rt, transcripts.as_slice());
     Ok(())
 }
 
 #[test]
-fn compare_transcripts_and_readings(rt: HostRuntime) -> Result<(), Fail> {
-    let alloc = rt.alloc();
-    let words = [1u32, 2, 3, 4, 5, 6, 7, 8];
-    let entries: [Entry<64>; 2] = [entry(b"a", 64, false), entry(b"b", 65, true)];
-    check_different(
-        &rt,
-        &[
-            transcript(alloc, words, &entries)?,
-            transcript(alloc, [1, 2, 3, 4, 5, 6, 7, 9], &entries)?,
-            transcript(alloc, words, &entries[..1])?,
-            transcript(alloc, words, &[entries[1], entries[0]])?,
-        ],
-    );
-    let node = Input {
-        tree: Tree {
-            node_depth: 1,
-            ..Tree::sequential()
-        },
-        ..unkeyed(b"message")
+fn compare_readings(rt: HostRuntime) -> Result<(), AllocError> {
+    let whole = unkeyed(b"message");
+    let tree = Tree {
+        node_depth: 1,
+        ..Tree::sequential()
     };
-    let last_node = Input {
-        last_node: true,
-        ..unkeyed(b"message")
-    };
-    let readings: [Reading<8>; 8] = [
-        reading(alloc, &unkeyed(b"message"), 32)?,
-        reading(alloc, &unkeyed(b"message"), 31)?,
-        reading(alloc, &unkeyed(b"messages"), 32)?,
-        reading(alloc, &input(None, b"salt", b"", b"message"), 32)?,
-        reading(alloc, &input(None, b"", b"persona", b"message"), 32)?,
-        reading(alloc, &input(Some(&[0]), b"", b"", b"message"), 32)?,
-        reading(alloc, &node, 32)?,
-        reading(alloc, &last_node, 32)?,
-    ];
-    check_different(&rt, &readings);
+    let mut readings: Vec<Reading<8>> = Vec::new(rt.alloc());
+    for (given, output_size) in [
+        (whole, 32),
+        (whole, 31),
+        (unkeyed(b"messages"), 32),
+        (input(None, b"salt", b"", b"message"), 32),
+        (input(None, b"", b"persona", b"message"), 32),
+        (input(Some(&[0]), b"", b"", b"message"), 32),
+        (Input { tree, ..whole }, 32),
+        (
+            Input {
+                last_node: true,
+                ..whole
+            },
+            32,
+        ),
+    ] {
+        assert!(rt; given.salt.len() <= 8 && given.persona.len() <= 8);
+        readings.push(reading(rt.alloc(), &given, output_size)?)?;
+    }
+    check_different(&rt, readings.as_slice());
     Ok(())
 }
