@@ -5,7 +5,7 @@ ghost use Rattle.std.specs.Prelude.{◌≡◌, ◌≤◌, [], length};
 
 pub(crate) use blake2::digest::padded;
 use blake2::steps::{Entry, Input, Reading, Step, Transcript, Tree};
-use blake2::{Blake2b256, Digest};
+use blake2::{Blake2b256, Blake2bVarCore, Blake2sVarCore, Digest};
 use std::alloc::{AllocError, Global};
 
 /// Fills the bytes with 0 to 250, again and again.
@@ -118,6 +118,34 @@ pub(crate) fn read_input<'a, const S: usize>(read: &'a Reading<S>) -> Input<'a> 
         last_node: read.last_node,
         ..input(key, &read.salt, &read.persona, read.message.as_slice())
     }
+}
+
+/// Whether BLAKE2b reads the transcript as this input, which it accepts, at this output size.
+pub(crate) fn blake2b_reads_as(
+    alloc: Global,
+    told: &Transcript<u64, 128>,
+    input: &Input<'_>,
+    output_size: usize,
+) -> Result<bool, AllocError> {
+    if !Blake2bVarCore::accepts(input) {
+        return Ok(false);
+    }
+    let wanted = reading(alloc, input, output_size)?;
+    Ok(Blake2bVarCore::read_transcript(alloc, told)? == Some(wanted))
+}
+
+/// Whether BLAKE2s reads the transcript as this input, which it accepts, at this output size.
+pub(crate) fn blake2s_reads_as(
+    alloc: Global,
+    told: &Transcript<u32, 64>,
+    input: &Input<'_>,
+    output_size: usize,
+) -> Result<bool, AllocError> {
+    if !Blake2sVarCore::accepts(input) {
+        return Ok(false);
+    }
+    let wanted = reading(alloc, input, output_size)?;
+    Ok(Blake2sVarCore::read_transcript(alloc, told)? == Some(wanted))
 }
 
 /// Whether BLAKE2b-256 of the bytes is this in hexadecimal.

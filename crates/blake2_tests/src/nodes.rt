@@ -4,11 +4,14 @@
 
 ghost use Rattle.std.specs.Prelude.{◌≤◌};
 
-use crate::inputs::{count_up, digest_is, entry, input, reading, step, transcript, unkeyed};
-use blake2::steps::{Entry, Input, Reading, Step, Tree};
+use crate::inputs::{
+    blake2b_reads_as, blake2s_reads_as, count_up, digest_is, entry, input, step, transcript,
+    unkeyed,
+};
+use blake2::steps::{Entry, Input, Step, Tree};
 use blake2::{Blake2b512, Blake2bVarCore, Blake2s256, Blake2sVarCore, Digest, LastNode};
 use std::alloc::{AllocError, Global};
-use std::test::Fail;
+use std::process::Abort;
 
 // The place of the node with this number among 64, where node offsets have 64 bits less `shift`,
 // and outputs at most `longest` bytes.
@@ -37,8 +40,31 @@ fn add_entries<const B: usize>(
     Ok(())
 }
 
+// Adds BLAKE2b's digest of a node, and the words and the entries of its transcript, and checks that
+// this is read as the node.
+fn add_node_of_blake2b(
+    rt: &impl Abort,
+    alloc: Global,
+    node: &Input<'_>,
+    outputs: &mut Vec<u8>,
+    transcripts: &mut Vec<u8>,
+) -> Result<(), AllocError> {
+    assert!(rt; Blake2bVarCore::accepts(node) && Blake2bVarCore::admits_tree(&node.tree));
+    let mut hasher = Blake2b512::new_with_tree(node.salt, node.persona, &node.tree);
+    hasher.set_last_node(node.last_node);
+    Digest::update(&mut hasher, node.message);
+    outputs.extend_from_slice(&hasher.finalize())?;
+    let told = Blake2bVarCore::transcript(alloc, node, 64)?;
+    let words = told.words.map(|word| word.to_le_bytes());
+    transcripts.extend_from_slice(words.as_flattened())?;
+    add_entries(transcripts, told.entries.as_slice())?;
+    let is_read = blake2b_reads_as(alloc, &told, node, 64);
+    assert!(rt; is_read == Ok(true), "{} bytes", node.message.len());
+    Ok(())
+}
+
 #[test]
-fn hash_nodes_of_blake2b(rt: HostRuntime) -> Result<(), Fail> {
+fn hash_nodes_of_blake2b(rt: HostRuntime) {
     let alloc = rt.alloc();
     let mut bytes = [0; 320];
     count_up(&mut bytes);
@@ -55,30 +81,40 @@ fn hash_nodes_of_blake2b(rt: HostRuntime) -> Result<(), Fail> {
                 &bytes[..5 * i],
             )
         };
-        if !Blake2bVarCore::accepts(&node) || !Blake2bVarCore::admits_tree(&node.tree) {
-            return Err(Fail::from("a node is not accepted"));
-        }
-        let mut hasher = Blake2b512::new_with_tree(node.salt, node.persona, &node.tree);
-        hasher.set_last_node(node.last_node);
-        Digest::update(&mut hasher, node.message);
-        outputs.extend_from_slice(&hasher.finalize())?;
-        let told = Blake2bVarCore::transcript(alloc, &node, 64)?;
-        for word in &told.words {
-            transcripts.extend_from_slice(&word.to_le_bytes())?;
-        }
-        add_entries(&mut transcripts, told.entries.as_slice())?;
-        let read = Blake2bVarCore::read_transcript(alloc, &told)?;
-        assert!(rt; read == Some(reading(alloc, &node, 64)?), "{number}");
+        let added = add_node_of_blake2b(&rt, alloc, &node, &mut outputs, &mut transcripts);
+        assert!(rt; added == Ok(()), "{number}");
     }
     let wanted = "743494e239b845379ce3db0c03d9c6c6828864db7264aedb66b4fa41ec51901d";
-    assert!(rt; digest_is(alloc, outputs.as_slice(), wanted)?);
+    assert!(rt; digest_is(alloc, outputs.as_slice(), wanted) == Ok(true));
     let wanted = "9dc50af7ecb732cdb106a820c118ee976b365e5733a15eb5a95d514e6236a0db";
-    assert!(rt; digest_is(alloc, transcripts.as_slice(), wanted)?);
+    assert!(rt; digest_is(alloc, transcripts.as_slice(), wanted) == Ok(true));
+}
+
+// Adds BLAKE2s's digest of a node, and the words and the entries of its transcript, and checks that
+// this is read as the node.
+fn add_node_of_blake2s(
+    rt: &impl Abort,
+    alloc: Global,
+    node: &Input<'_>,
+    outputs: &mut Vec<u8>,
+    transcripts: &mut Vec<u8>,
+) -> Result<(), AllocError> {
+    assert!(rt; Blake2sVarCore::accepts(node) && Blake2sVarCore::admits_tree(&node.tree));
+    let mut hasher = Blake2s256::new_with_tree(node.salt, node.persona, &node.tree);
+    hasher.set_last_node(node.last_node);
+    Digest::update(&mut hasher, node.message);
+    outputs.extend_from_slice(&hasher.finalize())?;
+    let told = Blake2sVarCore::transcript(alloc, node, 32)?;
+    let words = told.words.map(|word| word.to_le_bytes());
+    transcripts.extend_from_slice(words.as_flattened())?;
+    add_entries(transcripts, told.entries.as_slice())?;
+    let is_read = blake2s_reads_as(alloc, &told, node, 32);
+    assert!(rt; is_read == Ok(true), "{} bytes", node.message.len());
     Ok(())
 }
 
 #[test]
-fn hash_nodes_of_blake2s(rt: HostRuntime) -> Result<(), Fail> {
+fn hash_nodes_of_blake2s(rt: HostRuntime) {
     let alloc = rt.alloc();
     let mut bytes = [0; 320];
     count_up(&mut bytes);
@@ -90,40 +126,32 @@ fn hash_nodes_of_blake2s(rt: HostRuntime) -> Result<(), Fail> {
             last_node: i % 3 == 0,
             ..input(None, &bytes[..i % 9], &bytes[..2 * i % 9], &bytes[..5 * i])
         };
-        if !Blake2sVarCore::accepts(&node) || !Blake2sVarCore::admits_tree(&node.tree) {
-            return Err(Fail::from("a node is not accepted"));
-        }
-        let mut hasher = Blake2s256::new_with_tree(node.salt, node.persona, &node.tree);
-        hasher.set_last_node(node.last_node);
-        Digest::update(&mut hasher, node.message);
-        outputs.extend_from_slice(&hasher.finalize())?;
-        let told = Blake2sVarCore::transcript(alloc, &node, 32)?;
-        for word in &told.words {
-            transcripts.extend_from_slice(&word.to_le_bytes())?;
-        }
-        add_entries(&mut transcripts, told.entries.as_slice())?;
-        let read = Blake2sVarCore::read_transcript(alloc, &told)?;
-        assert!(rt; read == Some(reading(alloc, &node, 32)?), "{number}");
+        let added = add_node_of_blake2s(&rt, alloc, &node, &mut outputs, &mut transcripts);
+        assert!(rt; added == Ok(()), "{number}");
     }
     let wanted = "d2d1ec99c81c273452aa7241f907a5dabf6cc3a797c4fef5894148c7d8a4194a";
-    assert!(rt; digest_is(alloc, outputs.as_slice(), wanted)?);
+    assert!(rt; digest_is(alloc, outputs.as_slice(), wanted) == Ok(true));
     let wanted = "2aa6df9354f3469b353a468efcf02435da6adc234e18c1d3efe639626d6a8b13";
-    assert!(rt; digest_is(alloc, transcripts.as_slice(), wanted)?);
-    Ok(())
+    assert!(rt; digest_is(alloc, transcripts.as_slice(), wanted) == Ok(true));
 }
 
-// What BLAKE2b reads the transcript of these words and entries as.
-fn blake2b_reading(
+// Whether BLAKE2b reads the transcript of these words and entries as this input at its greatest
+// size, or as none.
+fn blake2b_reads(
     alloc: Global,
     words: [u64; 8],
     entries: &[Entry<128>],
-) -> Result<Option<Reading<16>>, AllocError> {
+    wanted: Option<&Input<'_>>,
+) -> Result<bool, AllocError> {
     let told = transcript(alloc, words, entries)?;
-    Blake2bVarCore::read_transcript(alloc, &told)
+    match wanted {
+        Some(input) => blake2b_reads_as(alloc, &told, input, 64),
+        None => Ok(Blake2bVarCore::read_transcript(alloc, &told)?.is_none()),
+    }
 }
 
 #[test]
-fn read_places_of_blake2b(rt: HostRuntime) -> Result<(), AllocError> {
+fn read_places_of_blake2b(rt: HostRuntime) {
     let alloc = rt.alloc();
     let block = [0x2a; 128];
     let whole = Tree::sequential();
@@ -161,26 +189,23 @@ fn read_places_of_blake2b(rt: HostRuntime) -> Result<(), AllocError> {
     ] {
         let mut words = [0x01010040, 0, 0, 0, 0, 0, 0, 0];
         words[place] = word;
-        let read = blake2b_reading(alloc, words, &[entry(&block, 128, true)])?;
-        let wanted = match tree {
-            Some(tree) => Some(reading(
-                alloc,
-                &Input {
+        let entries = [entry(&block, 128, true)];
+        let read = match tree {
+            Some(tree) => {
+                let input = Input {
                     tree,
                     ..unkeyed(&block)
-                },
-                64,
-            )?),
-            None => None,
+                };
+                blake2b_reads(alloc, words, &entries, Some(&input))
+            }
+            None => blake2b_reads(alloc, words, &entries, None),
         };
-        assert!(rt; read == wanted, "{place} {word:x}");
+        assert!(rt; read == Ok(true), "{place} {word:x}");
     }
-    Ok(())
 }
 
 #[test]
-fn read_the_last_node_of_blake2b(rt: HostRuntime) -> Result<(), AllocError> {
-    let alloc = rt.alloc();
+fn read_the_last_node_of_blake2b(rt: HostRuntime) {
     let message = [0x2a; 129];
     let words = [0x01010040, 0, 0, 0, 0, 0, 0, 0];
     for (first, second) in [(false, false), (false, true), (true, false), (true, true)] {
@@ -194,25 +219,19 @@ fn read_the_last_node_of_blake2b(rt: HostRuntime) -> Result<(), AllocError> {
                 ..entry(&message[128..], 129, true)
             },
         ];
-        let read = blake2b_reading(alloc, words, &entries)?;
         let input = Input {
             last_node: second,
             ..unkeyed(&message)
         };
-        let wanted = if first {
-            None
-        } else {
-            Some(reading(alloc, &input, 64)?)
-        };
-        assert!(rt; read == wanted, "{first} {second}");
+        let wanted = if first { None } else { Some(&input) };
+        let read = blake2b_reads(rt.alloc(), words, &entries, wanted);
+        assert!(rt; read == Ok(true), "{first} {second}");
     }
-    Ok(())
 }
 
 // The flag of the only entry, over no message, one of a byte and one of a block.
 #[test]
-fn read_the_last_node_in_one_entry_of_blake2b(rt: HostRuntime) -> Result<(), AllocError> {
-    let alloc = rt.alloc();
+fn read_the_last_node_in_one_entry_of_blake2b(rt: HostRuntime) {
     let message = [0x2a; 128];
     let words = [0x01010040, 0, 0, 0, 0, 0, 0, 0];
     for (length, last_node) in [
@@ -228,29 +247,32 @@ fn read_the_last_node_in_one_entry_of_blake2b(rt: HostRuntime) -> Result<(), All
             last_node,
             ..entry(message, length as u64, true)
         };
-        let read = blake2b_reading(alloc, words, &[told])?;
         let input = Input {
             last_node,
             ..unkeyed(message)
         };
-        let wanted = reading(alloc, &input, 64)?;
-        assert!(rt; read == Some(wanted), "{length} {last_node}");
+        let read = blake2b_reads(rt.alloc(), words, &[told], Some(&input));
+        assert!(rt; read == Ok(true), "{length} {last_node}");
     }
-    Ok(())
 }
 
-// What BLAKE2s reads the transcript of these words and entries as.
-fn blake2s_reading(
+// Whether BLAKE2s reads the transcript of these words and entries as this input at its greatest
+// size, or as none.
+fn blake2s_reads(
     alloc: Global,
     words: [u32; 8],
     entries: &[Entry<64>],
-) -> Result<Option<Reading<8>>, AllocError> {
+    wanted: Option<&Input<'_>>,
+) -> Result<bool, AllocError> {
     let told = transcript(alloc, words, entries)?;
-    Blake2sVarCore::read_transcript(alloc, &told)
+    match wanted {
+        Some(input) => blake2s_reads_as(alloc, &told, input, 32),
+        None => Ok(Blake2sVarCore::read_transcript(alloc, &told)?.is_none()),
+    }
 }
 
 #[test]
-fn read_places_of_blake2s(rt: HostRuntime) -> Result<(), AllocError> {
+fn read_places_of_blake2s(rt: HostRuntime) {
     let alloc = rt.alloc();
     let block = [0x2a; 64];
     let whole = Tree::sequential();
@@ -294,26 +316,23 @@ fn read_places_of_blake2s(rt: HostRuntime) -> Result<(), AllocError> {
     ] {
         let mut words = [0x01010020, 0, 0, 0, 0, 0, 0, 0];
         words[place] = word;
-        let read = blake2s_reading(alloc, words, &[entry(&block, 64, true)])?;
-        let wanted = match tree {
-            Some(tree) => Some(reading(
-                alloc,
-                &Input {
+        let entries = [entry(&block, 64, true)];
+        let read = match tree {
+            Some(tree) => {
+                let input = Input {
                     tree,
                     ..unkeyed(&block)
-                },
-                32,
-            )?),
-            None => None,
+                };
+                blake2s_reads(alloc, words, &entries, Some(&input))
+            }
+            None => blake2s_reads(alloc, words, &entries, None),
         };
-        assert!(rt; read == wanted, "{place} {word:x}");
+        assert!(rt; read == Ok(true), "{place} {word:x}");
     }
-    Ok(())
 }
 
 #[test]
-fn read_the_last_node_of_blake2s(rt: HostRuntime) -> Result<(), AllocError> {
-    let alloc = rt.alloc();
+fn read_the_last_node_of_blake2s(rt: HostRuntime) {
     let message = [0x2a; 65];
     let words = [0x01010020, 0, 0, 0, 0, 0, 0, 0];
     for (first, second) in [(false, false), (false, true), (true, false), (true, true)] {
@@ -327,25 +346,19 @@ fn read_the_last_node_of_blake2s(rt: HostRuntime) -> Result<(), AllocError> {
                 ..entry(&message[64..], 65, true)
             },
         ];
-        let read = blake2s_reading(alloc, words, &entries)?;
         let input = Input {
             last_node: second,
             ..unkeyed(&message)
         };
-        let wanted = if first {
-            None
-        } else {
-            Some(reading(alloc, &input, 32)?)
-        };
-        assert!(rt; read == wanted, "{first} {second}");
+        let wanted = if first { None } else { Some(&input) };
+        let read = blake2s_reads(rt.alloc(), words, &entries, wanted);
+        assert!(rt; read == Ok(true), "{first} {second}");
     }
-    Ok(())
 }
 
 // The same of BLAKE2s.
 #[test]
-fn read_the_last_node_in_one_entry_of_blake2s(rt: HostRuntime) -> Result<(), AllocError> {
-    let alloc = rt.alloc();
+fn read_the_last_node_in_one_entry_of_blake2s(rt: HostRuntime) {
     let message = [0x2a; 64];
     let words = [0x01010020, 0, 0, 0, 0, 0, 0, 0];
     for (length, last_node) in [
@@ -361,15 +374,13 @@ fn read_the_last_node_in_one_entry_of_blake2s(rt: HostRuntime) -> Result<(), All
             last_node,
             ..entry(message, length as u64, true)
         };
-        let read = blake2s_reading(alloc, words, &[told])?;
         let input = Input {
             last_node,
             ..unkeyed(message)
         };
-        let wanted = reading(alloc, &input, 32)?;
-        assert!(rt; read == Some(wanted), "{length} {last_node}");
+        let read = blake2s_reads(rt.alloc(), words, &[told], Some(&input));
+        assert!(rt; read == Ok(true), "{length} {last_node}");
     }
-    Ok(())
 }
 
 // The last step of BLAKE2b over `a` at the size 0, from the start words of this node offset.
@@ -391,7 +402,7 @@ fn blake2b_last(node_offset: u64, last_node: bool) -> Step<u64, 128> {
 }
 
 #[test]
-fn witness_nodes_of_blake2b(rt: HostRuntime) -> Result<(), Fail> {
+fn witness_nodes_of_blake2b(rt: HostRuntime) {
     let alloc = rt.alloc();
     let a = unkeyed(b"a");
     for (node_offset, last_node) in [(0, true), (1, false), (1, true)] {
@@ -404,22 +415,19 @@ fn witness_nodes_of_blake2b(rt: HostRuntime) -> Result<(), Fail> {
             last_node,
             ..a
         };
-        if !Blake2bVarCore::accepts(&a) || !Blake2bVarCore::accepts(&b) {
-            return Err(Fail::from("a node is not accepted"));
+        assert!(rt; Blake2bVarCore::accepts(&a) && Blake2bVarCore::accepts(&b));
+        let x = blake2b_last(0, false);
+        let y = blake2b_last(node_offset, last_node);
+        let found = Blake2bVarCore::witness(alloc, &a, &b, 0);
+        assert!(rt; found == Ok(Some((x, y))), "{node_offset} {last_node}");
+        for (a, b, output_size) in [(a, b, 64), (b, b, 0)] {
+            let found = Blake2bVarCore::witness(alloc, &a, &b, output_size);
+            assert!(rt;
+                matches!(found, Ok(None)),
+                "{node_offset} {last_node} {output_size}"
+            );
         }
-        let wanted = (blake2b_last(0, false), blake2b_last(node_offset, last_node));
-        let found = Blake2bVarCore::witness(alloc, &a, &b, 0)?;
-        assert!(rt; found == Some(wanted), "{node_offset} {last_node}");
-        assert!(rt;
-            Blake2bVarCore::witness(alloc, &a, &b, 64)?.is_none(),
-            "{node_offset} {last_node}"
-        );
-        assert!(rt;
-            Blake2bVarCore::witness(alloc, &b, &b, 0)?.is_none(),
-            "{node_offset} {last_node}"
-        );
     }
-    Ok(())
 }
 
 // The last step of BLAKE2s over `a` at the size 0, from the start words of this node offset.
@@ -441,7 +449,7 @@ fn blake2s_last(node_offset: u32, last_node: bool) -> Step<u32, 64> {
 }
 
 #[test]
-fn witness_nodes_of_blake2s(rt: HostRuntime) -> Result<(), Fail> {
+fn witness_nodes_of_blake2s(rt: HostRuntime) {
     let alloc = rt.alloc();
     let a = unkeyed(b"a");
     for (node_offset, last_node) in [(0, true), (1, false), (1, true)] {
@@ -454,23 +462,17 @@ fn witness_nodes_of_blake2s(rt: HostRuntime) -> Result<(), Fail> {
             last_node,
             ..a
         };
-        if !Blake2sVarCore::accepts(&a) || !Blake2sVarCore::accepts(&b) {
-            return Err(Fail::from("a node is not accepted"));
+        assert!(rt; Blake2sVarCore::accepts(&a) && Blake2sVarCore::accepts(&b));
+        let x = blake2s_last(0, false);
+        let y = blake2s_last(node_offset as u32, last_node);
+        let found = Blake2sVarCore::witness(alloc, &a, &b, 0);
+        assert!(rt; found == Ok(Some((x, y))), "{node_offset} {last_node}");
+        for (a, b, output_size) in [(a, b, 32), (b, b, 0)] {
+            let found = Blake2sVarCore::witness(alloc, &a, &b, output_size);
+            assert!(rt;
+                matches!(found, Ok(None)),
+                "{node_offset} {last_node} {output_size}"
+            );
         }
-        let wanted = (
-            blake2s_last(0, false),
-            blake2s_last(node_offset as u32, last_node),
-        );
-        let found = Blake2sVarCore::witness(alloc, &a, &b, 0)?;
-        assert!(rt; found == Some(wanted), "{node_offset} {last_node}");
-        assert!(rt;
-            Blake2sVarCore::witness(alloc, &a, &b, 32)?.is_none(),
-            "{node_offset} {last_node}"
-        );
-        assert!(rt;
-            Blake2sVarCore::witness(alloc, &b, &b, 0)?.is_none(),
-            "{node_offset} {last_node}"
-        );
     }
-    Ok(())
 }

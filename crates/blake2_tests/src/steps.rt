@@ -3,111 +3,114 @@
 
 ghost use Rattle.std.specs.Prelude.{◌≤◌};
 
-use crate::inputs::{count_up, entry, input, reading, transcript, unkeyed};
+use crate::inputs::{
+    blake2b_reads_as, blake2s_reads_as, count_up, entry, input, transcript, unkeyed,
+};
 use blake2::laws::transcripts;
-use blake2::steps::{Entry, Input, Reading, Transcript};
+use blake2::steps::{Entry, Input, Transcript};
 use blake2::{Blake2bVarCore, Blake2sVarCore};
 use std::alloc::{AllocError, Global};
 use std::process::Abort;
 
-// BLAKE2b writes this transcript of the input, and reads it as the input.
+// BLAKE2b writes the transcript of these words and entries for the input, and reads it as that.
 fn check_blake2b(
     rt: &impl Abort,
     alloc: Global,
     input: &Input<'_>,
     output_size: usize,
-    wanted: &Transcript<u64, 128>,
+    words: [u64; 8],
+    entries: &[Entry<128>],
 ) -> Result<(), AllocError>
     requires { output_size ≤ 64 }
 {
     assert!(rt; Blake2bVarCore::accepts(input));
+    let wanted = transcript(alloc, words, entries)?;
     let written = Blake2bVarCore::transcript(alloc, input, output_size)?;
-    assert!(rt; written == *wanted, "{written:?}");
-    assert!(rt; transcripts::blake2b::equal(&written, wanted));
-    let read = Blake2bVarCore::read_transcript(alloc, wanted)?;
-    assert!(rt; read == Some(reading(alloc, input, output_size)?));
+    assert!(rt; written == wanted, "{written:?}");
+    assert!(rt; transcripts::blake2b::equal(&written, &wanted));
+    assert!(rt; blake2b_reads_as(alloc, &wanted, input, output_size)?);
     Ok(())
 }
 
-// BLAKE2s writes this transcript of the input, and reads it as the input.
+// BLAKE2s writes the transcript of these words and entries for the input, and reads it as that.
 fn check_blake2s(
     rt: &impl Abort,
     alloc: Global,
     input: &Input<'_>,
     output_size: usize,
-    wanted: &Transcript<u32, 64>,
+    words: [u32; 8],
+    entries: &[Entry<64>],
 ) -> Result<(), AllocError>
     requires { output_size ≤ 32 }
 {
     assert!(rt; Blake2sVarCore::accepts(input));
+    let wanted = transcript(alloc, words, entries)?;
     let written = Blake2sVarCore::transcript(alloc, input, output_size)?;
-    assert!(rt; written == *wanted, "{written:?}");
-    assert!(rt; transcripts::blake2s::equal(&written, wanted));
-    let read = Blake2sVarCore::read_transcript(alloc, wanted)?;
-    assert!(rt; read == Some(reading(alloc, input, output_size)?));
+    assert!(rt; written == wanted, "{written:?}");
+    assert!(rt; transcripts::blake2s::equal(&written, &wanted));
+    assert!(rt; blake2s_reads_as(alloc, &wanted, input, output_size)?);
     Ok(())
 }
 
 #[test]
-fn write_and_read_no_message(rt: HostRuntime) -> Result<(), AllocError> {
-    let alloc = rt.alloc();
+fn write_and_read_no_message(rt: HostRuntime) {
+    let (alloc, input) = (rt.alloc(), unkeyed(b""));
     let words = [0x01010040, 0, 0, 0, 0, 0, 0, 0];
-    let wanted = transcript(alloc, words, &[entry(b"", 0, true)])?;
-    check_blake2b(&rt, alloc, &unkeyed(b""), 64, &wanted)?;
+    let entries = [entry(b"", 0, true)];
+    assert!(rt; check_blake2b(&rt, alloc, &input, 64, words, &entries) == Ok(()));
     let words = [0x01010020, 0, 0, 0, 0, 0, 0, 0];
-    let wanted = transcript(alloc, words, &[entry(b"", 0, true)])?;
-    check_blake2s(&rt, alloc, &unkeyed(b""), 32, &wanted)
+    let entries = [entry(b"", 0, true)];
+    assert!(rt; check_blake2s(&rt, alloc, &input, 32, words, &entries) == Ok(()));
 }
 
 #[test]
-fn write_and_read_messages_of_blake2b(rt: HostRuntime) -> Result<(), AllocError> {
+fn write_and_read_messages_of_blake2b(rt: HostRuntime) {
     let alloc = rt.alloc();
     let message = [0x2a; 129];
     let block = &message[..128];
     let words = [0x01010040, 0, 0, 0, 0, 0, 0, 0];
-    let wanted = transcript(alloc, words, &[entry(block, 128, true)])?;
-    check_blake2b(&rt, alloc, &unkeyed(block), 64, &wanted)?;
+    let entries = [entry(block, 128, true)];
+    assert!(rt; check_blake2b(&rt, alloc, &unkeyed(block), 64, words, &entries) == Ok(()));
     let entries = [entry(block, 128, false), entry(&[0x2a], 129, true)];
-    let wanted = transcript(alloc, words, &entries)?;
-    check_blake2b(&rt, alloc, &unkeyed(&message), 64, &wanted)?;
+    assert!(rt; check_blake2b(&rt, alloc, &unkeyed(&message), 64, words, &entries) == Ok(()));
     let words = [0x01010010, 0, 0, 0, 0, 0, 0, 0];
     let entries = [entry(b"", 128, false), entry(b"", 256, true)];
-    let wanted = transcript(alloc, words, &entries)?;
-    check_blake2b(&rt, alloc, &unkeyed(&[0; 256]), 16, &wanted)
+    assert!(rt; check_blake2b(&rt, alloc, &unkeyed(&[0; 256]), 16, words, &entries) == Ok(()));
 }
 
 #[test]
-fn write_and_read_messages_of_blake2s(rt: HostRuntime) -> Result<(), AllocError> {
+fn write_and_read_messages_of_blake2s(rt: HostRuntime) {
     let alloc = rt.alloc();
     let message = [0x2a; 129];
     let block = &message[..64];
     let words = [0x01010020, 0, 0, 0, 0, 0, 0, 0];
-    let wanted = transcript(alloc, words, &[entry(block, 64, true)])?;
-    check_blake2s(&rt, alloc, &unkeyed(block), 32, &wanted)?;
-    let entries = [entry(block, 64, false), entry(block, 128, true)];
-    let wanted = transcript(alloc, words, &entries)?;
-    check_blake2s(&rt, alloc, &unkeyed(&message[..128]), 32, &wanted)?;
+    let entries = [entry(block, 64, true)];
+    assert!(rt; check_blake2s(&rt, alloc, &unkeyed(block), 32, words, &entries) == Ok(()));
+    let (input, entries) = (
+        unkeyed(&message[..128]),
+        [entry(block, 64, false), entry(block, 128, true)],
+    );
+    assert!(rt; check_blake2s(&rt, alloc, &input, 32, words, &entries) == Ok(()));
     let entries = [
         entry(block, 64, false),
         entry(block, 128, false),
         entry(&[0x2a], 129, true),
     ];
-    let wanted = transcript(alloc, words, &entries)?;
-    check_blake2s(&rt, alloc, &unkeyed(&message), 32, &wanted)
+    assert!(rt; check_blake2s(&rt, alloc, &unkeyed(&message), 32, words, &entries) == Ok(()));
 }
 
 #[test]
-fn write_and_read_a_key_and_a_persona(rt: HostRuntime) -> Result<(), AllocError> {
+fn write_and_read_a_key_and_a_persona(rt: HostRuntime) {
     let alloc = rt.alloc();
     let mut key = [0; 32];
     count_up(&mut key);
     let input = input(Some(&key), b"", b"personal", b"");
     let words = [0x01012040, 0, 0, 0, 0, 0, 0x6c616e6f73726570, 0];
-    let wanted = transcript(alloc, words, &[entry(&key, 128, true)])?;
-    check_blake2b(&rt, alloc, &input, 64, &wanted)?;
+    let entries = [entry(&key, 128, true)];
+    assert!(rt; check_blake2b(&rt, alloc, &input, 64, words, &entries) == Ok(()));
     let words = [0x01012020, 0, 0, 0, 0, 0, 0x73726570, 0x6c616e6f];
-    let wanted = transcript(alloc, words, &[entry(&key, 64, true)])?;
-    check_blake2s(&rt, alloc, &input, 32, &wanted)
+    let entries = [entry(&key, 64, true)];
+    assert!(rt; check_blake2s(&rt, alloc, &input, 32, words, &entries) == Ok(()));
 }
 
 // The words of BLAKE2b for the output size 64, a key of one byte, the salt `abc` and the persona
@@ -124,8 +127,7 @@ const WORDS: [u64; 8] = [
 ];
 
 #[test]
-fn write_and_read_all_parts_of_blake2b(rt: HostRuntime) -> Result<(), AllocError> {
-    let alloc = rt.alloc();
+fn write_and_read_all_parts_of_blake2b(rt: HostRuntime) {
     let message = [0x2a; 200];
     let input = input(Some(&[1]), b"abc", b"0123456789abcdef", &message);
     let entries = [
@@ -133,13 +135,11 @@ fn write_and_read_all_parts_of_blake2b(rt: HostRuntime) -> Result<(), AllocError
         entry(&message[..128], 256, false),
         entry(&message[..72], 328, true),
     ];
-    let wanted = transcript(alloc, WORDS, &entries)?;
-    check_blake2b(&rt, alloc, &input, 64, &wanted)
+    assert!(rt; check_blake2b(&rt, rt.alloc(), &input, 64, WORDS, &entries) == Ok(()));
 }
 
 #[test]
-fn write_and_read_all_parts_of_blake2s(rt: HostRuntime) -> Result<(), AllocError> {
-    let alloc = rt.alloc();
+fn write_and_read_all_parts_of_blake2s(rt: HostRuntime) {
     let message = [0x2a; 100];
     let input = input(Some(&[1]), b"abc", b"01234567", &message);
     let words = [0x01010120, 0, 0, 0, 0x636261, 0, 0x33323130, 0x37363534];
@@ -148,8 +148,7 @@ fn write_and_read_all_parts_of_blake2s(rt: HostRuntime) -> Result<(), AllocError
         entry(&message[..64], 128, false),
         entry(&message[..36], 164, true),
     ];
-    let wanted = transcript(alloc, words, &entries)?;
-    check_blake2s(&rt, alloc, &input, 32, &wanted)
+    assert!(rt; check_blake2s(&rt, rt.alloc(), &input, 32, words, &entries) == Ok(()));
 }
 
 // Whether some input of BLAKE2b has a transcript of these words and entries.
@@ -163,7 +162,7 @@ fn blake2b_reads(
 }
 
 #[test]
-fn read_no_input_from_other_words(rt: HostRuntime) -> Result<(), AllocError> {
+fn read_no_input_from_other_words(rt: HostRuntime) {
     let entries = [entry(&[0x2a; 128], 128, true)];
     for (first, second, is_read) in [
         (0x01010040, 0, true),
@@ -172,14 +171,13 @@ fn read_no_input_from_other_words(rt: HostRuntime) -> Result<(), AllocError> {
         (0x01014140, 0, false),
     ] {
         let words = [first, second, 0, 0, 0, 0, 0, 0];
-        let read = blake2b_reads(rt.alloc(), words, &entries)?;
-        assert!(rt; read == is_read, "{first:x} {second}");
+        let read = blake2b_reads(rt.alloc(), words, &entries);
+        assert!(rt; read == Ok(is_read), "{first:x} {second}");
     }
-    Ok(())
 }
 
 #[test]
-fn read_no_sizes_past_the_limits(rt: HostRuntime) -> Result<(), AllocError> {
+fn read_no_sizes_past_the_limits(rt: HostRuntime) {
     let entries = [entry(b"", 128, true)];
     for (first, is_read) in [
         (0x01014040, true),
@@ -188,9 +186,8 @@ fn read_no_sizes_past_the_limits(rt: HostRuntime) -> Result<(), AllocError> {
         (0x01010040, true),
         (0x01010041, false),
     ] {
-        let words = [first, 0, 0, 0, 0, 0, 0, 0];
-        let read = blake2b_reads(rt.alloc(), words, &entries)?;
-        assert!(rt; read == is_read, "BLAKE2b {first:x}");
+        let read = blake2b_reads(rt.alloc(), [first, 0, 0, 0, 0, 0, 0, 0], &entries);
+        assert!(rt; read == Ok(is_read), "BLAKE2b {first:x}");
     }
     let entries = [entry(b"", 64, true)];
     for (first, is_read) in [
@@ -200,17 +197,16 @@ fn read_no_sizes_past_the_limits(rt: HostRuntime) -> Result<(), AllocError> {
         (0x01010020, true),
         (0x01010021, false),
     ] {
-        let read = blake2s_reading(rt.alloc(), first, &entries)?;
-        assert!(rt; read.is_some() == is_read, "BLAKE2s {first:x}");
+        let read = blake2s_reads(rt.alloc(), first, &entries);
+        assert!(rt; read == Ok(is_read), "BLAKE2s {first:x}");
     }
-    Ok(())
 }
 
 #[test]
-fn read_no_input_from_other_entries(rt: HostRuntime) -> Result<(), AllocError> {
+fn read_no_input_from_other_entries(rt: HostRuntime) {
     let alloc = rt.alloc();
     let words = [0x01010040, 0, 0, 0, 0, 0, 0, 0];
-    assert!(rt; !blake2b_reads(alloc, words, &[])?);
+    assert!(rt; blake2b_reads(alloc, words, &[]) == Ok(false));
     let first = [0x2a; 128];
     for (first_is_last, counter, is_read) in [
         (false, 129, true),
@@ -221,39 +217,48 @@ fn read_no_input_from_other_entries(rt: HostRuntime) -> Result<(), AllocError> {
             entry(&first, 128, first_is_last),
             entry(&[0x2a], counter, true),
         ];
-        let read = blake2b_reads(alloc, words, &entries)?;
-        assert!(rt; read == is_read, "{first_is_last} {counter}");
+        let read = blake2b_reads(alloc, words, &entries);
+        assert!(rt; read == Ok(is_read), "{first_is_last} {counter}");
     }
     for place in 1..128usize {
         let mut second = entry(&[0x2a], 129, true);
         second.block[place] = 1;
-        let read = blake2b_reads(alloc, words, &[entry(&first, 128, false), second])?;
-        assert!(rt; !read, "{place}");
+        let read = blake2b_reads(alloc, words, &[entry(&first, 128, false), second]);
+        assert!(rt; read == Ok(false), "{place}");
     }
-    assert!(rt; blake2b_reads(alloc, WORDS, &[entry(&[1], 128, true)])?);
-    assert!(rt; !blake2b_reads(alloc, WORDS, &[entry(&[1], 127, true)])?);
-    Ok(())
+    for (counter, is_read) in [(128, true), (127, false)] {
+        let read = blake2b_reads(alloc, WORDS, &[entry(&[1], counter, true)]);
+        assert!(rt; read == Ok(is_read), "{counter}");
+    }
 }
 
-// What BLAKE2s reads the transcript of these words and entries as.
-fn blake2s_reading(
+// The transcript of BLAKE2s that has these entries and, but for the first, words of zeros.
+fn blake2s_told(
     alloc: Global,
     first_word: u32,
     entries: &[Entry<64>],
-) -> Result<Option<Reading<8>>, AllocError> {
-    let words = [first_word, 0, 0, 0, 0, 0, 0, 0];
-    let transcript = transcript(alloc, words, entries)?;
-    Blake2sVarCore::read_transcript(alloc, &transcript)
+) -> Result<Transcript<u32, 64>, AllocError> {
+    transcript(alloc, [first_word, 0, 0, 0, 0, 0, 0, 0], entries)
+}
+
+// Whether some input of BLAKE2s has it.
+fn blake2s_reads(
+    alloc: Global,
+    first_word: u32,
+    entries: &[Entry<64>],
+) -> Result<bool, AllocError> {
+    let told = blake2s_told(alloc, first_word, entries)?;
+    Ok(Blake2sVarCore::read_transcript(alloc, &told)?.is_some())
 }
 
 #[test]
 fn read_a_key_of_a_zero_byte(rt: HostRuntime) -> Result<(), AllocError> {
     let alloc = rt.alloc();
+    let read = blake2s_reads(alloc, 0x01010120, &[entry(&[0, 1], 64, true)]);
+    assert!(rt; read == Ok(false));
     let input = input(Some(&[0]), b"", b"", b"");
-    let read = blake2s_reading(alloc, 0x01010120, &[entry(b"", 64, true)])?;
-    assert!(rt; read == Some(reading(alloc, &input, 32)?));
-    let read = blake2s_reading(alloc, 0x01010120, &[entry(&[0, 1], 64, true)])?;
-    assert!(rt; read == None);
+    let told = blake2s_told(alloc, 0x01010120, &[entry(b"", 64, true)])?;
+    assert!(rt; blake2s_reads_as(alloc, &told, &input, 32) == Ok(true));
     Ok(())
 }
 
@@ -261,10 +266,10 @@ fn read_a_key_of_a_zero_byte(rt: HostRuntime) -> Result<(), AllocError> {
 fn read_zero_blocks(rt: HostRuntime) -> Result<(), AllocError> {
     let alloc = rt.alloc();
     let none = [entry(b"", 0, true)];
-    let read = blake2s_reading(alloc, 0x01010000, &none)?;
-    assert!(rt; read == Some(reading(alloc, &unkeyed(b""), 0)?));
-    assert!(rt; blake2s_reading(alloc, 0x01010021, &none)?.is_none());
+    assert!(rt; blake2s_reads(alloc, 0x01010021, &none) == Ok(false));
     let entries = [entry(b"", 64, false), entry(b"", 64, true)];
-    assert!(rt; blake2s_reading(alloc, 0x01010020, &entries)?.is_none());
+    assert!(rt; blake2s_reads(alloc, 0x01010020, &entries) == Ok(false));
+    let told = blake2s_told(alloc, 0x01010000, &none)?;
+    assert!(rt; blake2s_reads_as(alloc, &told, &unkeyed(b""), 0) == Ok(true));
     Ok(())
 }
