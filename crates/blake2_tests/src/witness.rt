@@ -8,8 +8,8 @@ ghost use Rattle.std.specs.Prelude.{◌≤◌, length};
 use crate::inputs::{input, padded, step, unkeyed};
 use blake2::steps::{Input, Step};
 use blake2::{Blake2b, Blake2bVarCore, Blake2s, Blake2sVarCore, Digest};
-use std::alloc::Global;
-use std::test::Fail;
+use std::alloc::AllocError;
+use std::process::Abort;
 
 // A last step of BLAKE2b, whose chaining words are the start words after the first of them.
 fn blake2b_last(first_word: u64, beginning: &[u8], counter: u64) -> Step<u64, 128>
@@ -39,34 +39,54 @@ fn blake2s_last(first_word: u32, beginning: &[u8], counter: u64) -> Step<u32, 64
     step(chain, beginning, counter, true)
 }
 
-// The witness of two inputs that BLAKE2b accepts.
+// The witness of two inputs, which BLAKE2b is checked to accept.
 fn blake2b_witness(
-    alloc: Global,
+    rt: &(impl Abort + AllocGlobal),
     a: &Input<'_>,
     b: &Input<'_>,
     output_size: usize,
-) -> Result<Option<(Step<u64, 128>, Step<u64, 128>)>, Fail>
+) -> Result<Option<(Step<u64, 128>, Step<u64, 128>)>, AllocError>
     requires { output_size ≤ 64 }
 {
-    if !Blake2bVarCore::accepts(a) || !Blake2bVarCore::accepts(b) {
-        return Err(Fail::from("an input is not accepted"));
-    }
-    Ok(Blake2bVarCore::witness(alloc, a, b, output_size)?)
+    assert!(rt; Blake2bVarCore::accepts(a) && Blake2bVarCore::accepts(b));
+    Blake2bVarCore::witness(rt.alloc(), a, b, output_size)
 }
 
-// The witness of two inputs that BLAKE2s accepts.
+// The witness of two inputs, which BLAKE2s is checked to accept.
 fn blake2s_witness(
-    alloc: Global,
+    rt: &(impl Abort + AllocGlobal),
     a: &Input<'_>,
     b: &Input<'_>,
     output_size: usize,
-) -> Result<Option<(Step<u32, 64>, Step<u32, 64>)>, Fail>
+) -> Result<Option<(Step<u32, 64>, Step<u32, 64>)>, AllocError>
     requires { output_size ≤ 32 }
 {
-    if !Blake2sVarCore::accepts(a) || !Blake2sVarCore::accepts(b) {
-        return Err(Fail::from("an input is not accepted"));
-    }
-    Ok(Blake2sVarCore::witness(alloc, a, b, output_size)?)
+    assert!(rt; Blake2sVarCore::accepts(a) && Blake2sVarCore::accepts(b));
+    Blake2sVarCore::witness(rt.alloc(), a, b, output_size)
+}
+
+// Whether two inputs have no witness.
+fn blake2b_has_none(
+    rt: &(impl Abort + AllocGlobal),
+    a: &Input<'_>,
+    b: &Input<'_>,
+    output_size: usize,
+) -> bool
+    requires { output_size ≤ 64 }
+{
+    matches!(blake2b_witness(rt, a, b, output_size), Ok(None))
+}
+
+// The same of BLAKE2s.
+fn blake2s_has_none(
+    rt: &(impl Abort + AllocGlobal),
+    a: &Input<'_>,
+    b: &Input<'_>,
+    output_size: usize,
+) -> bool
+    requires { output_size ≤ 32 }
+{
+    matches!(blake2s_witness(rt, a, b, output_size), Ok(None))
 }
 
 // An input that has a salt alone.
@@ -80,88 +100,63 @@ fn keyed<'a>(key: &'a [u8]) -> Input<'a> {
 }
 
 #[test]
-fn witness_nothing(rt: HostRuntime) -> Result<(), Fail> {
-    let alloc = rt.alloc();
+fn witness_nothing(rt: HostRuntime) {
     for (a, b) in [
         (unkeyed(b""), unkeyed(b"")),
         (unkeyed(b"a"), unkeyed(b"a")),
         (salted(b"a"), salted(b"a\0")),
     ] {
         let (length, salt) = (a.message.len(), a.salt.len());
-        assert!(rt;
-            blake2b_witness(alloc, &a, &b, 0)?.is_none(),
-            "{length} {salt}"
-        );
-        assert!(rt;
-            blake2b_witness(alloc, &a, &b, 64)?.is_none(),
-            "{length} {salt}"
-        );
-        assert!(rt;
-            blake2s_witness(alloc, &a, &b, 0)?.is_none(),
-            "{length} {salt}"
-        );
-        assert!(rt;
-            blake2s_witness(alloc, &a, &b, 32)?.is_none(),
-            "{length} {salt}"
-        );
+        let found = blake2b_has_none(&rt, &a, &b, 0) && blake2b_has_none(&rt, &a, &b, 64);
+        assert!(rt; found, "{length} {salt}");
+        let found = blake2s_has_none(&rt, &a, &b, 0) && blake2s_has_none(&rt, &a, &b, 32);
+        assert!(rt; found, "{length} {salt}");
     }
     let (a, b) = (unkeyed(b"abc"), unkeyed(b""));
-    assert!(rt; blake2b_witness(alloc, &a, &b, 64)?.is_none());
-    assert!(rt; blake2s_witness(alloc, &a, &b, 32)?.is_none());
-    Ok(())
+    assert!(rt; blake2b_has_none(&rt, &a, &b, 64));
+    assert!(rt; blake2s_has_none(&rt, &a, &b, 32));
 }
 
 #[test]
-fn witness_messages_of_one_block_of_blake2b(rt: HostRuntime) -> Result<(), Fail> {
-    let alloc = rt.alloc();
+fn witness_messages_of_one_block_of_blake2b(rt: HostRuntime) {
     let word = 0x6a09e667f2bdc908;
-    let found = blake2b_witness(alloc, &unkeyed(b"a"), &unkeyed(b"b"), 0)?;
+    let found = blake2b_witness(&rt, &unkeyed(b"a"), &unkeyed(b"b"), 0);
     let wanted = (blake2b_last(word, b"a", 1), blake2b_last(word, b"b", 1));
-    assert!(rt; found == Some(wanted));
-    let found = blake2b_witness(alloc, &unkeyed(b""), &unkeyed(b"\0"), 0)?;
+    assert!(rt; found == Ok(Some(wanted)));
+    let found = blake2b_witness(&rt, &unkeyed(b""), &unkeyed(b"\0"), 0);
     let wanted = (blake2b_last(word, b"", 0), blake2b_last(word, b"", 1));
-    assert!(rt; found == Some(wanted));
-    Ok(())
+    assert!(rt; found == Ok(Some(wanted)));
 }
 
 #[test]
-fn witness_messages_of_one_block_of_blake2s(rt: HostRuntime) -> Result<(), Fail> {
-    let alloc = rt.alloc();
+fn witness_messages_of_one_block_of_blake2s(rt: HostRuntime) {
     let word = 0x6b08e667;
-    let found = blake2s_witness(alloc, &unkeyed(b"a"), &unkeyed(b"b"), 0)?;
+    let found = blake2s_witness(&rt, &unkeyed(b"a"), &unkeyed(b"b"), 0);
     let wanted = (blake2s_last(word, b"a", 1), blake2s_last(word, b"b", 1));
-    assert!(rt; found == Some(wanted));
-    let found = blake2s_witness(alloc, &unkeyed(b""), &unkeyed(b"\0"), 0)?;
+    assert!(rt; found == Ok(Some(wanted)));
+    let found = blake2s_witness(&rt, &unkeyed(b""), &unkeyed(b"\0"), 0);
     let wanted = (blake2s_last(word, b"", 0), blake2s_last(word, b"", 1));
-    assert!(rt; found == Some(wanted));
-    Ok(())
+    assert!(rt; found == Ok(Some(wanted)));
 }
 
 #[test]
-fn witness_a_key_and_a_message_like_its_block(rt: HostRuntime) -> Result<(), Fail> {
-    let alloc = rt.alloc();
+fn witness_a_key_and_a_message_like_its_block(rt: HostRuntime) {
     let block: [u8; 128] = padded(b"a");
-    let found = blake2b_witness(alloc, &keyed(b"a"), &unkeyed(&block), 0)?;
-    let wanted = (
-        blake2b_last(0x6a09e667f2bdc808, b"a", 128),
-        blake2b_last(0x6a09e667f2bdc908, b"a", 128),
-    );
-    assert!(rt; found == Some(wanted));
+    let found = blake2b_witness(&rt, &keyed(b"a"), &unkeyed(&block), 0);
+    let x = blake2b_last(0x6a09e667f2bdc808, b"a", 128);
+    let y = blake2b_last(0x6a09e667f2bdc908, b"a", 128);
+    assert!(rt; found == Ok(Some((x, y))));
     let block: [u8; 64] = padded(b"a");
-    let found = blake2s_witness(alloc, &keyed(b"a"), &unkeyed(&block), 0)?;
-    let wanted = (
-        blake2s_last(0x6b08e767, b"a", 64),
-        blake2s_last(0x6b08e667, b"a", 64),
-    );
-    assert!(rt; found == Some(wanted));
-    Ok(())
+    let found = blake2s_witness(&rt, &keyed(b"a"), &unkeyed(&block), 0);
+    let x = blake2s_last(0x6b08e767, b"a", 64);
+    let y = blake2s_last(0x6b08e667, b"a", 64);
+    assert!(rt; found == Ok(Some((x, y))));
 }
 
 #[test]
-fn witness_different_numbers_of_steps(rt: HostRuntime) -> Result<(), Fail> {
-    let alloc = rt.alloc();
+fn witness_different_numbers_of_steps_of_blake2b(rt: HostRuntime) {
     let message = [0x2a; 129];
-    let found = blake2b_witness(alloc, &unkeyed(&message[..128]), &unkeyed(&message), 0)?;
+    let found = blake2b_witness(&rt, &unkeyed(&message[..128]), &unkeyed(&message), 0);
     let chain = [
         0x13673313fdf2b8ad,
         0xb2290069c00c8332,
@@ -172,22 +167,22 @@ fn witness_different_numbers_of_steps(rt: HostRuntime) -> Result<(), Fail> {
         0x2f2ba951b4342179,
         0xa82e70ad2c8be8bd,
     ];
-    let wanted = (
-        blake2b_last(0x6a09e667f2bdc908, &message[..128], 128),
-        step(chain, &message[..1], 129, true),
-    );
-    assert!(rt; found == Some(wanted));
-    let found = blake2s_witness(alloc, &unkeyed(&message[..64]), &unkeyed(&message[..65]), 0)?;
+    let x = blake2b_last(0x6a09e667f2bdc908, &message[..128], 128);
+    let y = step(chain, &message[..1], 129, true);
+    assert!(rt; found == Ok(Some((x, y))));
+}
+
+#[test]
+fn witness_different_numbers_of_steps_of_blake2s(rt: HostRuntime) {
+    let message = [0x2a; 65];
+    let found = blake2s_witness(&rt, &unkeyed(&message[..64]), &unkeyed(&message), 0);
     let chain = [
         0xca0e0a4b, 0xfef79605, 0xa2e4c3df, 0x62cb01ab, 0x45d5d3d6, 0x293c6464, 0x0719df00,
         0xc6972108,
     ];
-    let wanted = (
-        blake2s_last(0x6b08e667, &message[..64], 64),
-        step(chain, &message[..1], 65, true),
-    );
-    assert!(rt; found == Some(wanted));
-    Ok(())
+    let x = blake2s_last(0x6b08e667, &message[..64], 64);
+    let y = step(chain, &message[..1], 65, true);
+    assert!(rt; found == Ok(Some((x, y))));
 }
 
 // Of the 257 messages of two bytes that are the numbers 0 to 256 two with equal digests of one
@@ -210,25 +205,27 @@ fn equal_digests<H: Digest<1> + Drop>() -> Option<(u16, u16)>
 }
 
 #[test]
-fn witness_equal_digests_of_one_byte(rt: HostRuntime) -> Result<(), Fail> {
-    let alloc = rt.alloc();
+fn witness_equal_digests_of_one_byte_of_blake2b(rt: HostRuntime) {
     let Some((a, b)) = equal_digests::<Blake2b<1>>() else {
-        return Err(Fail::from("no equal digests of BLAKE2b"));
+        assert!(rt; false, "no equal digests");
+        return;
     };
     assert!(rt; a != b);
     let (a, b) = (a.to_be_bytes(), b.to_be_bytes());
     let word = 0x6a09e667f2bdc909;
-    let wanted = (blake2b_last(word, &a, 2), blake2b_last(word, &b, 2));
-    let found = blake2b_witness(alloc, &unkeyed(&a), &unkeyed(&b), 1)?;
-    assert!(rt; found == Some(wanted));
+    let (x, y) = (blake2b_last(word, &a, 2), blake2b_last(word, &b, 2));
+    assert!(rt; blake2b_witness(&rt, &unkeyed(&a), &unkeyed(&b), 1) == Ok(Some((x, y))));
+}
+
+#[test]
+fn witness_equal_digests_of_one_byte_of_blake2s(rt: HostRuntime) {
     let Some((a, b)) = equal_digests::<Blake2s<1>>() else {
-        return Err(Fail::from("no equal digests of BLAKE2s"));
+        assert!(rt; false, "no equal digests");
+        return;
     };
     assert!(rt; a != b);
     let (a, b) = (a.to_be_bytes(), b.to_be_bytes());
     let word = 0x6b08e666;
-    let wanted = (blake2s_last(word, &a, 2), blake2s_last(word, &b, 2));
-    let found = blake2s_witness(alloc, &unkeyed(&a), &unkeyed(&b), 1)?;
-    assert!(rt; found == Some(wanted));
-    Ok(())
+    let (x, y) = (blake2s_last(word, &a, 2), blake2s_last(word, &b, 2));
+    assert!(rt; blake2s_witness(&rt, &unkeyed(&a), &unkeyed(&b), 1) == Ok(Some((x, y))));
 }
