@@ -5,9 +5,10 @@ ghost use Rattle.std.specs.Prelude.{◌≤◌};
 
 use crate::inputs::{entry, input, reading, step, transcript, unkeyed};
 use blake2::calls::{Call, ReplayFault, replay};
+use blake2::steps::{Input, Reading, Transcript};
 use blake2::{Blake2b512, Blake2bVarCore, Blake2sVarCore, Digest};
 use std::alloc::{AllocError, Global};
-use std::test::Fail;
+use std::process::Abort;
 
 // Takes all memory of the process but 65,536 bytes that lie together, in blocks that halve, down
 // to the smallest.
@@ -42,13 +43,26 @@ fn plug(alloc: Global, left: usize) -> Result<Vec<u8>, AllocError>
 // Under a hoard each try has 16 bytes more than the one before, and the first has none.
 const TRIES: usize = 512;
 
-// Whether memory was refused at the first tries, and at no later one.
-fn are_first(refused: &[usize]) -> bool {
-    let mut are_first = !refused.is_empty() && refused.len() < TRIES;
-    for (place, tries) in refused.iter().enumerate() {
-        are_first = are_first && *tries == place;
+// What a try finds: the answer, a refusal for want of memory, or anything else.
+#[derive(Copy, Clone, PartialEq, Eq)]
+enum Found {
+    Answer,
+    Refusal,
+    Other,
+}
+
+// Checks that memory was refused at the first tries, and that all later ones found the answer.
+fn check_found(rt: &impl Abort, found: &[Found]) {
+    let mut refused = 0usize;
+    for (tries, found) in found.iter().enumerate() {
+        if *found == Found::Refusal {
+            assert!(rt; refused == tries, "{tries}");
+            refused = refused.saturating_add(1);
+        } else {
+            assert!(rt; *found == Found::Answer, "{tries}");
+        }
     }
-    are_first
+    assert!(rt; 0 < refused && refused < found.len(), "{refused}");
 }
 
 // Whether requests for a byte of memory, and for sixteen, are refused.
@@ -73,9 +87,10 @@ const NOTHING: [u8; 64] = [
     0x90, 0x3a, 0x68, 0x5b, 0x14, 0x48, 0xb7, 0x55, 0xd5, 0x6f, 0x70, 0x1a, 0xfe, 0x9b, 0xe2, 0xce,
 ];
 
-#[test]
-fn refuse_memory_to_replay(rt: HostRuntime) -> Result<(), Fail> {
-    let alloc = rt.alloc();
+// What a list of calls finds where so many bytes are left.
+fn replay_with(alloc: Global, left: usize) -> Found
+    requires { left ≤ 65536 }
+{
     let calls = [
         Call::Update(0, b"ab"),
         Call::Clone(0),
@@ -85,23 +100,27 @@ fn refuse_memory_to_replay(rt: HostRuntime) -> Result<(), Fail> {
         Call::Finalize(1),
         Call::Finalize(0),
     ];
-    let wanted = [ABC, ABC, NOTHING];
-    let mut refused = Vec::with_capacity(alloc, TRIES)?;
-    let hoard = hoard(alloc)?;
+    let plug = plug(alloc, left);
+    let found = replay::<_, 64>(alloc, Blake2b512::new(), &calls);
+    if plug.is_err() {
+        return Found::Other;
+    }
+    match found {
+        Ok(digests) if digests.as_slice() == [ABC, ABC, NOTHING].as_slice() => Found::Answer,
+        Err(ReplayFault::Memory) => Found::Refusal,
+        _ => Found::Other,
+    }
+}
+
+#[test]
+fn refuse_memory_to_replay(rt: HostRuntime) -> Result<(), AllocError> {
+    let mut found = [Found::Other; TRIES];
+    let hoard = hoard(rt.alloc())?;
     for tries in 0..TRIES {
-        let plug = plug(alloc, 16 * tries)?;
-        let found = replay::<_, 64>(alloc, Blake2b512::new(), &calls);
-        drop(plug);
-        match found {
-            Ok(digests) => assert!(rt; digests.as_slice() == wanted.as_slice(), "{tries}"),
-            Err(fault) => {
-                assert!(rt; fault == ReplayFault::Memory, "{tries}");
-                refused.push(tries)?;
-            }
-        }
+        found[tries] = replay_with(rt.alloc(), 16 * tries);
     }
     drop(hoard);
-    assert!(rt; are_first(refused.as_slice()), "{refused:?}");
+    check_found(&rt, &found);
     Ok(())
 }
 
@@ -139,81 +158,115 @@ fn are_later_owed(alloc: Global, is_enough: bool) -> bool {
     is_good_owed & is_owed(alloc, is_enough, &calls, owed)
 }
 
-#[test]
-fn refuse_no_memory_before_a_bad_call(rt: HostRuntime) -> Result<(), Fail> {
-    let alloc = rt.alloc();
-    let mut refused = Vec::with_capacity(alloc, TRIES)?;
-    let mut are_owed = true;
-    let hoard = hoard(alloc)?;
-    for tries in 0..TRIES {
-        let plug = plug(alloc, 16 * tries)?;
-        let is_enough = replay::<_, 64>(alloc, Blake2b512::new(), &[]).is_ok();
-        are_owed &= are_first_owed(alloc, is_enough) & are_later_owed(alloc, is_enough);
-        drop(plug);
-        if !is_enough {
-            refused.push(tries)?;
-        }
+// What lists with a bad call find where so many bytes are left: the answer where there is memory
+// for slot 0, and all are refused by what they owe.
+fn replay_bad_with(alloc: Global, left: usize) -> Found
+    requires { left ≤ 65536 }
+{
+    let plug = plug(alloc, left);
+    let is_enough = replay::<_, 64>(alloc, Blake2b512::new(), &[]).is_ok();
+    let are_owed = are_first_owed(alloc, is_enough) & are_later_owed(alloc, is_enough);
+    if plug.is_err() || !are_owed {
+        return Found::Other;
     }
-    drop(hoard);
-    assert!(rt; are_owed);
-    assert!(rt; are_first(refused.as_slice()));
-    Ok(())
+    if is_enough {
+        Found::Answer
+    } else {
+        Found::Refusal
+    }
 }
 
 #[test]
-fn refuse_memory_to_transcripts_and_their_reader(rt: HostRuntime) -> Result<(), Fail> {
+fn refuse_no_memory_before_a_bad_call(rt: HostRuntime) -> Result<(), AllocError> {
+    let mut found = [Found::Other; TRIES];
+    let hoard = hoard(rt.alloc())?;
+    for tries in 0..TRIES {
+        found[tries] = replay_bad_with(rt.alloc(), 16 * tries);
+    }
+    drop(hoard);
+    check_found(&rt, &found);
+    Ok(())
+}
+
+// The words of BLAKE2b for the output size 64, a key of one byte, the salt `abc` and the persona
+// `0123456789abcdef`.
+const WORDS: [u64; 8] = [
+    0x01010140,
+    0,
+    0,
+    0,
+    0x636261,
+    0,
+    0x3736353433323130,
+    0x6665646362613938,
+];
+
+// What a transcript finds where so many bytes are left.
+fn transcript_with(
+    alloc: Global,
+    left: usize,
+    input: &Input<'_>,
+    wanted: &Transcript<u64, 128>,
+) -> Found
+    requires { left ≤ 65536 }
+{
+    let plug = plug(alloc, left);
+    if plug.is_err() || !Blake2bVarCore::accepts(input) {
+        return Found::Other;
+    }
+    match Blake2bVarCore::transcript(alloc, input, 64) {
+        Ok(found) if found == *wanted => Found::Answer,
+        Err(AllocError) => Found::Refusal,
+        _ => Found::Other,
+    }
+}
+
+// What its reader finds where so many bytes are left.
+fn reading_with(
+    alloc: Global,
+    left: usize,
+    told: &Transcript<u64, 128>,
+    wanted: &Reading<16>,
+) -> Found
+    requires { left ≤ 65536 }
+{
+    let plug = plug(alloc, left);
+    if plug.is_err() {
+        return Found::Other;
+    }
+    match Blake2bVarCore::read_transcript(alloc, told) {
+        Ok(Some(found)) if found == *wanted => Found::Answer,
+        Err(AllocError) => Found::Refusal,
+        _ => Found::Other,
+    }
+}
+
+#[test]
+fn refuse_memory_to_transcripts_and_their_reader(rt: HostRuntime) -> Result<(), AllocError> {
     let alloc = rt.alloc();
     let message = [0x2a; 200];
     let input = input(Some(&[1]), b"abc", b"0123456789abcdef", &message);
-    assert!(rt; Blake2bVarCore::accepts(&input));
-    let words = [
-        0x01010140,
-        0,
-        0,
-        0,
-        0x636261,
-        0,
-        0x3736353433323130,
-        0x6665646362613938,
-    ];
     let entries = [
         entry(&[1], 128, false),
         entry(&message[..128], 256, false),
         entry(&message[..72], 328, true),
     ];
-    let wanted = transcript(alloc, words, &entries)?;
+    let wanted = transcript(alloc, WORDS, &entries)?;
     let wanted_reading = reading(alloc, &input, 64)?;
-    let mut refused = Vec::with_capacity(alloc, TRIES)?;
-    let mut refused_readings = Vec::with_capacity(alloc, TRIES)?;
+    let (mut written, mut read) = ([Found::Other; TRIES], [Found::Other; TRIES]);
     let hoard = hoard(alloc)?;
     for tries in 0..TRIES {
-        let first_plug = plug(alloc, 16 * tries)?;
-        let found = Blake2bVarCore::transcript(alloc, &input, 64);
-        drop(first_plug);
-        match found {
-            Ok(found) => assert!(rt; found == wanted, "{tries}"),
-            Err(AllocError) => refused.push(tries)?,
-        }
-        let second_plug = plug(alloc, 16 * tries)?;
-        let found = Blake2bVarCore::read_transcript(alloc, &wanted);
-        drop(second_plug);
-        match found {
-            Ok(found) => assert!(rt; found.as_ref() == Some(&wanted_reading), "{tries}"),
-            Err(AllocError) => refused_readings.push(tries)?,
-        }
+        written[tries] = transcript_with(alloc, 16 * tries, &input, &wanted);
+        read[tries] = reading_with(alloc, 16 * tries, &wanted, &wanted_reading);
     }
     drop(hoard);
-    assert!(rt; are_first(refused.as_slice()), "{refused:?}");
-    assert!(rt;
-        are_first(refused_readings.as_slice()),
-        "{refused_readings:?}"
-    );
+    check_found(&rt, &written);
+    check_found(&rt, &read);
     Ok(())
 }
 
-#[test]
-fn read_no_input_without_memory(rt: HostRuntime) -> Result<(), Fail> {
-    let alloc = rt.alloc();
+// Transcripts of BLAKE2b that are those of no input.
+fn forged(alloc: Global) -> Result<Vec<Transcript<u64, 128>>, AllocError> {
     let words = [0x01010040, 0, 0, 0, 0, 0, 0, 0];
     let block = [0x2a; 128];
     let mut told = Vec::new(alloc);
@@ -225,66 +278,47 @@ fn read_no_input_without_memory(rt: HostRuntime) -> Result<(), Fail> {
     ] {
         let mut last = entry(&[0x2a], counter, true);
         last.block[place] = byte;
-        told.push(transcript(alloc, words, &[entry(&block, 128, first_is_last), last])?)?;
+        let entries = [entry(&block, 128, first_is_last), last];
+        told.push(transcript(alloc, words, &entries)?)?;
     }
-    for words in [
-        [0x01010040, 0, 0x10000, 0, 0, 0, 0, 0],
-        [0x01014140, 0, 0, 0, 0, 0, 0, 0],
+    let whole = entry(&block, 128, true);
+    for (words, entries) in [
+        ([0x01010040, 0, 0x10000, 0, 0, 0, 0, 0], &[whole][..]),
+        ([0x01014140, 0, 0, 0, 0, 0, 0, 0], &[whole]),
+        (words, &[]),
+        (WORDS, &[entry(&[1], 127, true)]),
     ] {
-        told.push(transcript(alloc, words, &[entry(&block, 128, true)])?)?;
+        told.push(transcript(alloc, words, entries)?)?;
     }
-    told.push(transcript(alloc, words, &[])?)?;
-    let keyed = [
-        0x01010140,
-        0,
-        0,
-        0,
-        0x636261,
-        0,
-        0x3736353433323130,
-        0x6665646362613938,
-    ];
-    told.push(transcript(alloc, keyed, &[entry(&[1], 127, true)])?)?;
-    let mut read = Vec::with_capacity(alloc, told.len())?;
+    Ok(told)
+}
+
+#[test]
+fn read_no_input_without_memory(rt: HostRuntime) -> Result<(), AllocError> {
+    let alloc = rt.alloc();
+    let told = forged(alloc)?;
+    let mut are_read = true;
     let hoard = hoard(alloc)?;
     let plug = plug(alloc, 0)?;
     let refused_before = is_refused(alloc);
     for transcript in &told {
-        read.push(Blake2bVarCore::read_transcript(alloc, transcript))?;
+        are_read &= matches!(Blake2bVarCore::read_transcript(alloc, transcript), Ok(None));
     }
     let refused_after = is_refused(alloc);
     drop(plug);
     drop(hoard);
     assert!(rt; refused_before && refused_after);
-    for (place, found) in read.iter().enumerate() {
-        assert!(rt; found == &Ok(None), "{place}");
-    }
+    assert!(rt; told.len() == 8 && are_read);
     Ok(())
 }
 
-#[test]
-fn witness_without_memory(rt: HostRuntime) -> Result<(), AllocError> {
-    let alloc = rt.alloc();
+// Whether BLAKE2b has the witness of `a` and `b` at the size 0, and none at the size 64, nor one of
+// `a` and itself.
+fn blake2b_witnesses(alloc: Global) -> bool {
     let (a, b) = (unkeyed(b"a"), unkeyed(b"b"));
-    assert!(rt; Blake2bVarCore::accepts(&a) && Blake2bVarCore::accepts(&b));
-    assert!(rt; Blake2sVarCore::accepts(&a) && Blake2sVarCore::accepts(&b));
-    let hoard = hoard(alloc)?;
-    let plug = plug(alloc, 0)?;
-    let refused_before = is_refused(alloc);
-    let by_blake2b = Blake2bVarCore::witness(alloc, &a, &b, 0);
-    let by_blake2s = Blake2sVarCore::witness(alloc, &a, &b, 0);
-    let nothing = [
-        Blake2bVarCore::witness(alloc, &a, &b, 64),
-        Blake2bVarCore::witness(alloc, &a, &a, 0),
-    ];
-    let nothing_by_blake2s = [
-        Blake2sVarCore::witness(alloc, &a, &b, 32),
-        Blake2sVarCore::witness(alloc, &b, &b, 0),
-    ];
-    let refused_after = is_refused(alloc);
-    drop(plug);
-    drop(hoard);
-    assert!(rt; refused_before && refused_after);
+    if !Blake2bVarCore::accepts(&a) || !Blake2bVarCore::accepts(&b) {
+        return false;
+    }
     // The start words of a digest of no bytes: IV xored with the parameter words (RFC 7693, 2.5).
     let chain = [
         0x6a09e667f2bdc908,
@@ -297,14 +331,40 @@ fn witness_without_memory(rt: HostRuntime) -> Result<(), AllocError> {
         0x5be0cd19137e2179,
     ];
     let wanted = (step(chain, b"a", 1, true), step(chain, b"b", 1, true));
-    assert!(rt; by_blake2b == Ok(Some(wanted)));
+    Blake2bVarCore::witness(alloc, &a, &b, 0) == Ok(Some(wanted))
+        && Blake2bVarCore::witness(alloc, &a, &b, 64) == Ok(None)
+        && Blake2bVarCore::witness(alloc, &a, &a, 0) == Ok(None)
+}
+
+// The same of BLAKE2s, whose greatest size is 32, and of `b` and itself.
+fn blake2s_witnesses(alloc: Global) -> bool {
+    let (a, b) = (unkeyed(b"a"), unkeyed(b"b"));
+    if !Blake2sVarCore::accepts(&a) || !Blake2sVarCore::accepts(&b) {
+        return false;
+    }
     let chain = [
         0x6b08e667, 0xbb67ae85, 0x3c6ef372, 0xa54ff53a, 0x510e527f, 0x9b05688c, 0x1f83d9ab,
         0x5be0cd19,
     ];
     let wanted = (step(chain, b"a", 1, true), step(chain, b"b", 1, true));
-    assert!(rt; by_blake2s == Ok(Some(wanted)));
-    assert!(rt; nothing == [Ok(None), Ok(None)]);
-    assert!(rt; nothing_by_blake2s == [Ok(None), Ok(None)]);
+    Blake2sVarCore::witness(alloc, &a, &b, 0) == Ok(Some(wanted))
+        && Blake2sVarCore::witness(alloc, &a, &b, 32) == Ok(None)
+        && Blake2sVarCore::witness(alloc, &b, &b, 0) == Ok(None)
+}
+
+#[test]
+fn witness_without_memory(rt: HostRuntime) -> Result<(), AllocError> {
+    let alloc = rt.alloc();
+    let hoard = hoard(alloc)?;
+    let plug = plug(alloc, 0)?;
+    let refused_before = is_refused(alloc);
+    let by_blake2b = blake2b_witnesses(alloc);
+    let by_blake2s = blake2s_witnesses(alloc);
+    let refused_after = is_refused(alloc);
+    drop(plug);
+    drop(hoard);
+    assert!(rt; refused_before && refused_after);
+    assert!(rt; by_blake2b);
+    assert!(rt; by_blake2s);
     Ok(())
 }
