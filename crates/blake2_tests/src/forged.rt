@@ -16,11 +16,12 @@ trait Steps<W, const B: usize> {
     // The words with a bit of one of them turned.
     fn turned(words: &[W; 8], place: usize, bit: usize) -> [W; 8];
 
-    // The transcript of an input that is accepted, at the greatest size.
+    // The transcript of an input, which is checked to be accepted, at a size that the family has.
     fn written(
         rt: &impl Abort,
         alloc: Global,
         input: &Input<'_>,
+        output_size: usize,
     ) -> Result<Transcript<W, B>, AllocError>;
 
     // Whether the transcript is read. It is then checked to be that of the input that is read.
@@ -40,9 +41,10 @@ impl Steps<u64, 128> for Blake2bVarCore {
         rt: &impl Abort,
         alloc: Global,
         input: &Input<'_>,
+        output_size: usize,
     ) -> Result<Transcript<u64, 128>, AllocError> {
-        assert!(rt; Blake2bVarCore::accepts(input));
-        Blake2bVarCore::transcript(alloc, input, 64)
+        assert!(rt; Blake2bVarCore::accepts(input) && output_size <= 64);
+        Blake2bVarCore::transcript(alloc, input, output_size)
     }
 
     fn is_read(
@@ -53,9 +55,7 @@ impl Steps<u64, 128> for Blake2bVarCore {
         let Some(read) = Blake2bVarCore::read_transcript(alloc, told)? else {
             return Ok(false);
         };
-        let input = read_input(&read);
-        assert!(rt; Blake2bVarCore::accepts(&input) && read.output_size <= 64);
-        let written = Blake2bVarCore::transcript(alloc, &input, read.output_size)?;
+        let written = Self::written(rt, alloc, &read_input(&read), read.output_size)?;
         assert!(rt; written == *told, "{told:?}");
         Ok(true)
     }
@@ -74,9 +74,10 @@ impl Steps<u32, 64> for Blake2sVarCore {
         rt: &impl Abort,
         alloc: Global,
         input: &Input<'_>,
+        output_size: usize,
     ) -> Result<Transcript<u32, 64>, AllocError> {
-        assert!(rt; Blake2sVarCore::accepts(input));
-        Blake2sVarCore::transcript(alloc, input, 32)
+        assert!(rt; Blake2sVarCore::accepts(input) && output_size <= 32);
+        Blake2sVarCore::transcript(alloc, input, output_size)
     }
 
     fn is_read(
@@ -87,9 +88,7 @@ impl Steps<u32, 64> for Blake2sVarCore {
         let Some(read) = Blake2sVarCore::read_transcript(alloc, told)? else {
             return Ok(false);
         };
-        let input = read_input(&read);
-        assert!(rt; Blake2sVarCore::accepts(&input) && read.output_size <= 32);
-        let written = Blake2sVarCore::transcript(alloc, &input, read.output_size)?;
+        let written = Self::written(rt, alloc, &read_input(&read), read.output_size)?;
         assert!(rt; written == *told, "{told:?}");
         Ok(true)
     }
@@ -157,6 +156,21 @@ fn read_words<C: Steps<W, B>, W: Copy + Drop, const B: usize>(
     Ok((sizes, texts))
 }
 
+// An entry with one bit turned: of its counter, then of one of its two flags, then of its block.
+fn turned_entry<const B: usize>(entry: &Entry<B>, bit: usize) -> Entry<B> {
+    let mut other = *entry;
+    if bit < 64 {
+        other.counter ^= 1u64.wrapping_shl(bit as u32);
+    } else if bit == 64 {
+        other.last = !entry.last;
+    } else if bit == 65 {
+        other.last_node = !entry.last_node;
+    } else if let Some(byte) = other.block.get_mut((bit - 66) / 8) {
+        *byte ^= 1u8.wrapping_shl(((bit - 66) % 8) as u32);
+    }
+    other
+}
+
 // How many transcripts are read of those with one bit of an entry turned: of a counter, of one of
 // the two flags, and of a block.
 fn read_entries<C: Steps<W, B>, W: Copy + Drop, const B: usize>(
@@ -168,30 +182,42 @@ fn read_entries<C: Steps<W, B>, W: Copy + Drop, const B: usize>(
 {
     let (mut counters, mut flags, mut blocks) = (0u32, 0u32, 0u32);
     for (place, entry) in told.entries.iter().enumerate() {
-        for bit in 0..64 {
-            let mut other = *entry;
-            other.counter ^= 1u64.wrapping_shl(bit);
+        for bit in 0..66 + 8 * B {
+            let other = turned_entry(entry, bit);
             let is_read = is_read_with::<C, W, B>(rt, alloc, told, told.words, place, other)?;
-            counters = counters.saturating_add(u32::from(is_read));
-        }
-        let mut other = *entry;
-        other.last = !entry.last;
-        let is_read = is_read_with::<C, W, B>(rt, alloc, told, told.words, place, other)?;
-        flags = flags.saturating_add(u32::from(is_read));
-        let mut other = *entry;
-        other.last_node = !entry.last_node;
-        let is_read = is_read_with::<C, W, B>(rt, alloc, told, told.words, place, other)?;
-        flags = flags.saturating_add(u32::from(is_read));
-        for bit in 0..8 * B {
-            let mut other = *entry;
-            if let Some(byte) = other.block.get_mut(bit / 8) {
-                *byte ^= 1u8.wrapping_shl((bit % 8) as u32);
-            }
-            let is_read = is_read_with::<C, W, B>(rt, alloc, told, told.words, place, other)?;
-            blocks = blocks.saturating_add(u32::from(is_read));
+            counters = counters.saturating_add(u32::from(is_read && bit < 64));
+            flags = flags.saturating_add(u32::from(is_read && 64 <= bit && bit < 66));
+            blocks = blocks.saturating_add(u32::from(is_read && 66 <= bit));
         }
     }
     Ok((counters, flags, blocks))
+}
+
+// Whether the transcript is read with these entries in place of its own.
+fn is_read_of<C: Steps<W, B>, W: Copy + Drop, const B: usize>(
+    rt: &impl Abort,
+    alloc: Global,
+    told: &Transcript<W, B>,
+    entries: &[Entry<B>],
+) -> Result<bool, AllocError>
+    requires { B ≤ 128 }
+{
+    let changed = transcript(alloc, told.words, entries)?;
+    C::is_read(rt, alloc, &changed)
+}
+
+// Whether the transcript is read with one more entry behind its own.
+fn is_read_longer<C: Steps<W, B>, W: Copy + Drop, const B: usize>(
+    rt: &impl Abort,
+    alloc: Global,
+    told: &Transcript<W, B>,
+    more: Entry<B>,
+) -> Result<bool, AllocError>
+    requires { B ≤ 128 }
+{
+    let mut longer = transcript(alloc, told.words, told.entries.as_slice())?;
+    longer.entries.push(more)?;
+    C::is_read(rt, alloc, &longer)
 }
 
 // Checks that no other list of the same entries is read: none that lacks its first or its last
@@ -200,23 +226,22 @@ fn check_other_lists<C: Steps<W, B>, W: Copy + Drop, const B: usize>(
     rt: &impl Abort,
     alloc: Global,
     told: &Transcript<W, B>,
-) -> Result<(), AllocError>
+)
     requires { B ≤ 128 }
 {
     let entries = told.entries.as_slice();
     for (i, first) in entries.iter().enumerate() {
-        let beginning = transcript(alloc, told.words, &entries[..i])?;
-        assert!(rt; !C::is_read(rt, alloc, &beginning)?);
-        let end = transcript(alloc, told.words, &entries[i + 1..])?;
-        assert!(rt; !C::is_read(rt, alloc, &end)?);
-        let mut longer = transcript(alloc, told.words, entries)?;
-        longer.entries.push(*first)?;
-        assert!(rt; !C::is_read(rt, alloc, &longer)?);
+        let beginning = is_read_of::<C, W, B>(rt, alloc, told, &entries[..i]);
+        assert!(rt; beginning == Ok(false), "{i}");
+        let end = is_read_of::<C, W, B>(rt, alloc, told, &entries[i + 1..]);
+        assert!(rt; end == Ok(false), "{i}");
+        let longer = is_read_longer::<C, W, B>(rt, alloc, told, *first);
+        assert!(rt; longer == Ok(false), "{i}");
         for j in 0..i {
-            assert!(rt; !is_read_swapped::<C, W, B>(rt, alloc, told, i, j)?);
+            let swapped = is_read_swapped::<C, W, B>(rt, alloc, told, i, j);
+            assert!(rt; swapped == Ok(false), "{i} {j}");
         }
     }
-    Ok(())
 }
 
 // Checks a transcript that is read and all its changes, and how many of these are read.
@@ -226,23 +251,19 @@ fn check_changes<C: Steps<W, B>, W: Copy + Drop, const B: usize>(
     told: &Transcript<W, B>,
     words: (u32, u32),
     entries: (u32, u32, u32),
-) -> Result<(), AllocError>
+)
     requires { B ≤ 128 }
 {
-    assert!(rt; C::is_read(rt, alloc, told)?);
-    assert!(rt;
-        read_words::<C, W, B>(rt, alloc, told)? == words,
-        "{words:?}"
-    );
-    assert!(rt;
-        read_entries::<C, W, B>(rt, alloc, told)? == entries,
-        "{entries:?}"
-    );
-    check_other_lists::<C, W, B>(rt, alloc, told)
+    assert!(rt; C::is_read(rt, alloc, told) == Ok(true));
+    let found = read_words::<C, W, B>(rt, alloc, told);
+    assert!(rt; found == Ok(words), "{words:?}");
+    let found = read_entries::<C, W, B>(rt, alloc, told);
+    assert!(rt; found == Ok(entries), "{entries:?}");
+    check_other_lists::<C, W, B>(rt, alloc, told);
 }
 
 #[test]
-fn read_changed_transcripts(rt: HostRuntime) -> Result<(), AllocError> {
+fn read_changed_transcripts_of_blake2b(rt: HostRuntime) -> Result<(), AllocError> {
     let message = [0x2a; 200];
     for (key, salt, persona, length, words, entries) in [
         (None, "", "", 128, (1, 256), (0, 1, 1024)),
@@ -258,9 +279,15 @@ fn read_changed_transcripts(rt: HostRuntime) -> Result<(), AllocError> {
     ] {
         assert!(rt; length <= 200);
         let input = input(key, salt.as_bytes(), persona.as_bytes(), &message[..length]);
-        let told = Blake2bVarCore::written(&rt, rt.alloc(), &input)?;
-        check_changes::<Blake2bVarCore, u64, 128>(&rt, rt.alloc(), &told, words, entries)?;
+        let told = Blake2bVarCore::written(&rt, rt.alloc(), &input, 64)?;
+        check_changes::<Blake2bVarCore, u64, 128>(&rt, rt.alloc(), &told, words, entries);
     }
+    Ok(())
+}
+
+#[test]
+fn read_changed_transcripts_of_blake2s(rt: HostRuntime) -> Result<(), AllocError> {
+    let message = [0x2a; 200];
     for (key, salt, persona, length, words, entries) in [
         (None, "", "", 64, (1, 128), (0, 1, 512)),
         (None, "", "", 65, (1, 128), (5, 1, 520)),
@@ -275,8 +302,8 @@ fn read_changed_transcripts(rt: HostRuntime) -> Result<(), AllocError> {
     ] {
         assert!(rt; length <= 200);
         let input = input(key, salt.as_bytes(), persona.as_bytes(), &message[..length]);
-        let told = Blake2sVarCore::written(&rt, rt.alloc(), &input)?;
-        check_changes::<Blake2sVarCore, u32, 64>(&rt, rt.alloc(), &told, words, entries)?;
+        let told = Blake2sVarCore::written(&rt, rt.alloc(), &input, 32)?;
+        check_changes::<Blake2sVarCore, u32, 64>(&rt, rt.alloc(), &told, words, entries);
     }
     Ok(())
 }
@@ -315,14 +342,14 @@ fn read_long_transcripts(rt: HostRuntime) -> Result<(), AllocError> {
         ),
     ] {
         let input = input(key, b"abc", b"", &message);
-        let told = Blake2bVarCore::written(&rt, alloc, &input)?;
-        assert!(rt; Blake2bVarCore::is_read(&rt, alloc, &told)?);
-        let entries = told.entries.as_slice();
-        assert!(rt; entries_are(alloc, entries, of_blake2b)?, "{of_blake2b}");
-        let told = Blake2sVarCore::written(&rt, alloc, &input)?;
-        assert!(rt; Blake2sVarCore::is_read(&rt, alloc, &told)?);
-        let entries = told.entries.as_slice();
-        assert!(rt; entries_are(alloc, entries, of_blake2s)?, "{of_blake2s}");
+        let told = Blake2bVarCore::written(&rt, alloc, &input, 64)?;
+        assert!(rt; Blake2bVarCore::is_read(&rt, alloc, &told) == Ok(true));
+        let are_told = entries_are(alloc, told.entries.as_slice(), of_blake2b);
+        assert!(rt; are_told == Ok(true), "{of_blake2b}");
+        let told = Blake2sVarCore::written(&rt, alloc, &input, 32)?;
+        assert!(rt; Blake2sVarCore::is_read(&rt, alloc, &told) == Ok(true));
+        let are_told = entries_are(alloc, told.entries.as_slice(), of_blake2s);
+        assert!(rt; are_told == Ok(true), "{of_blake2s}");
     }
     Ok(())
 }
