@@ -15,6 +15,12 @@ pub(crate) fn count_up(bytes: &mut [u8]) {
     }
 }
 
+/// The number that a row begins with, and what stands behind it and a bar.
+pub(crate) fn numbered(row: &str) -> Option<(usize, &str)> {
+    let (number, rest) = row.split_once('|')?;
+    Some((number.parse().ok()?, rest))
+}
+
 /// An input of these parts, of a hash which is the whole tree, with the last-node flag off.
 pub(crate) fn input<'a>(
     key: Option<&'a [u8]>,

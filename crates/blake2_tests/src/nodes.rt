@@ -135,17 +135,29 @@ fn hash_nodes_of_blake2s(rt: HostRuntime) {
     assert!(rt; digest_is(alloc, transcripts.as_slice(), wanted) == Ok(true));
 }
 
+// A place at depth 1 of this fanout, leaf length, node offset, node depth and inner length.
+fn at(fanout: u8, leaf_length: u32, node_offset: u64, node_depth: u8, inner_length: u8) -> Tree {
+    Tree {
+        fanout,
+        depth: 1,
+        leaf_length,
+        node_offset,
+        node_depth,
+        inner_length,
+    }
+}
+
 // Whether BLAKE2b reads the transcript of these words and entries as this input at its greatest
 // size, or as none.
 fn blake2b_reads(
     alloc: Global,
     words: [u64; 8],
     entries: &[Entry<128>],
-    wanted: Option<&Input<'_>>,
+    wanted: Option<Input<'_>>,
 ) -> Result<bool, AllocError> {
     let told = transcript(alloc, words, entries)?;
     match wanted {
-        Some(input) => blake2b_reads_as(alloc, &told, input, 64),
+        Some(input) => blake2b_reads_as(alloc, &told, &input, 64),
         None => Ok(Blake2bVarCore::read_transcript(alloc, &told)?.is_none()),
     }
 }
@@ -154,52 +166,27 @@ fn blake2b_reads(
 fn read_places_of_blake2b(rt: HostRuntime) {
     let alloc = rt.alloc();
     let block = [0x2a; 128];
-    let whole = Tree::sequential();
     for (place, word, tree) in [
         (2, 0x10000, None),
         (2, 0x4100, None),
         (3, 1, None),
         (0, 0x00010040, None),
-        (
-            2,
-            0x4001,
-            Some(Tree {
-                node_depth: 1,
-                inner_length: 64,
-                ..whole
-            }),
-        ),
-        (0, 0x01000040, Some(Tree { fanout: 0, ..whole })),
-        (
-            1,
-            1,
-            Some(Tree {
-                node_offset: 1,
-                ..whole
-            }),
-        ),
-        (
-            0,
-            0x0000000701010040,
-            Some(Tree {
-                leaf_length: 7,
-                ..whole
-            }),
-        ),
+        (2, 0x4001, Some(at(1, 0, 0, 1, 64))),
+        (0, 0x01000040, Some(at(0, 0, 0, 0, 0))),
+        (1, 1, Some(at(1, 0, 1, 0, 0))),
+        (0, 0x0000000701010040, Some(at(1, 7, 0, 0, 0))),
     ] {
         let mut words = [0x01010040, 0, 0, 0, 0, 0, 0, 0];
         words[place] = word;
         let entries = [entry(&block, 128, true)];
-        let read = match tree {
-            Some(tree) => {
-                let input = Input {
-                    tree,
-                    ..unkeyed(&block)
-                };
-                blake2b_reads(alloc, words, &entries, Some(&input))
-            }
-            None => blake2b_reads(alloc, words, &entries, None),
+        let wanted = match tree {
+            Some(tree) => Some(Input {
+                tree,
+                ..unkeyed(&block)
+            }),
+            None => None,
         };
+        let read = blake2b_reads(alloc, words, &entries, wanted);
         assert!(rt; read == Ok(true), "{place} {word:x}");
     }
 }
@@ -223,7 +210,7 @@ fn read_the_last_node_of_blake2b(rt: HostRuntime) {
             last_node: second,
             ..unkeyed(&message)
         };
-        let wanted = if first { None } else { Some(&input) };
+        let wanted = if first { None } else { Some(input) };
         let read = blake2b_reads(rt.alloc(), words, &entries, wanted);
         assert!(rt; read == Ok(true), "{first} {second}");
     }
@@ -251,7 +238,7 @@ fn read_the_last_node_in_one_entry_of_blake2b(rt: HostRuntime) {
             last_node,
             ..unkeyed(message)
         };
-        let read = blake2b_reads(rt.alloc(), words, &[told], Some(&input));
+        let read = blake2b_reads(rt.alloc(), words, &[told], Some(input));
         assert!(rt; read == Ok(true), "{length} {last_node}");
     }
 }
@@ -262,11 +249,11 @@ fn blake2s_reads(
     alloc: Global,
     words: [u32; 8],
     entries: &[Entry<64>],
-    wanted: Option<&Input<'_>>,
+    wanted: Option<Input<'_>>,
 ) -> Result<bool, AllocError> {
     let told = transcript(alloc, words, entries)?;
     match wanted {
-        Some(input) => blake2s_reads_as(alloc, &told, input, 32),
+        Some(input) => blake2s_reads_as(alloc, &told, &input, 32),
         None => Ok(Blake2sVarCore::read_transcript(alloc, &told)?.is_none()),
     }
 }
@@ -275,58 +262,26 @@ fn blake2s_reads(
 fn read_places_of_blake2s(rt: HostRuntime) {
     let alloc = rt.alloc();
     let block = [0x2a; 64];
-    let whole = Tree::sequential();
     for (place, word, tree) in [
         (3, 0x21000000, None),
         (0, 0x00010020, None),
-        (
-            3,
-            0x20010000,
-            Some(Tree {
-                node_depth: 1,
-                inner_length: 32,
-                ..whole
-            }),
-        ),
-        (0, 0x01000020, Some(Tree { fanout: 0, ..whole })),
-        (
-            2,
-            1,
-            Some(Tree {
-                node_offset: 1,
-                ..whole
-            }),
-        ),
-        (
-            3,
-            1,
-            Some(Tree {
-                node_offset: 0x1_0000_0000,
-                ..whole
-            }),
-        ),
-        (
-            1,
-            7,
-            Some(Tree {
-                leaf_length: 7,
-                ..whole
-            }),
-        ),
+        (3, 0x20010000, Some(at(1, 0, 0, 1, 32))),
+        (0, 0x01000020, Some(at(0, 0, 0, 0, 0))),
+        (2, 1, Some(at(1, 0, 1, 0, 0))),
+        (3, 1, Some(at(1, 0, 0x1_0000_0000, 0, 0))),
+        (1, 7, Some(at(1, 7, 0, 0, 0))),
     ] {
         let mut words = [0x01010020, 0, 0, 0, 0, 0, 0, 0];
         words[place] = word;
         let entries = [entry(&block, 64, true)];
-        let read = match tree {
-            Some(tree) => {
-                let input = Input {
-                    tree,
-                    ..unkeyed(&block)
-                };
-                blake2s_reads(alloc, words, &entries, Some(&input))
-            }
-            None => blake2s_reads(alloc, words, &entries, None),
+        let wanted = match tree {
+            Some(tree) => Some(Input {
+                tree,
+                ..unkeyed(&block)
+            }),
+            None => None,
         };
+        let read = blake2s_reads(alloc, words, &entries, wanted);
         assert!(rt; read == Ok(true), "{place} {word:x}");
     }
 }
@@ -350,7 +305,7 @@ fn read_the_last_node_of_blake2s(rt: HostRuntime) {
             last_node: second,
             ..unkeyed(&message)
         };
-        let wanted = if first { None } else { Some(&input) };
+        let wanted = if first { None } else { Some(input) };
         let read = blake2s_reads(rt.alloc(), words, &entries, wanted);
         assert!(rt; read == Ok(true), "{first} {second}");
     }
@@ -378,7 +333,7 @@ fn read_the_last_node_in_one_entry_of_blake2s(rt: HostRuntime) {
             last_node,
             ..unkeyed(message)
         };
-        let read = blake2s_reads(rt.alloc(), words, &[told], Some(&input));
+        let read = blake2s_reads(rt.alloc(), words, &[told], Some(input));
         assert!(rt; read == Ok(true), "{length} {last_node}");
     }
 }
