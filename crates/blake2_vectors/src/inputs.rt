@@ -41,6 +41,11 @@ pub(crate) fn reads(bytes: &[u8], digits: &str) -> bool {
     }
 }
 
+/// Checks that these digits are the bytes, as `reads` tells.
+pub(crate) fn check_digits(rt: &impl Abort, bytes: &[u8], digits: &str) {
+    assert!(rt; reads(bytes, digits), "not {digits}");
+}
+
 /// Takes a short piece, where few bytes are counted so far, and checks the new count.
 pub(crate) fn take<S: Update>(rt: &impl Abort, state: &mut S, piece: &[u8]) {
     let before = state.counted();

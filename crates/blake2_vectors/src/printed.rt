@@ -1,35 +1,75 @@
-//! What `Debug` writes of a MAC at several sizes: its name and size, and nothing of its key.
+//! What `Debug` writes of cores and MACs: their names, the sizes of MACs, and nothing of what they
+//! hold. And the names of the algorithms.
 
-use blake2::digest::KeyInit;
-use blake2::{Blake2bMac, Blake2sMac};
-use std::alloc::{AllocError, Global};
+ghost use Rattle.std.specs.Prelude.{◌≤◌};
+
+use blake2::digest::{AlgorithmName, KeyInit};
+use blake2::{
+    Blake2bMac, Blake2bMac512, Blake2bVarCore, Blake2sMac, Blake2sMac256, Blake2sVarCore,
+};
 use std::fmt;
+use std::process::Abort;
 
-// Whether `Debug` writes this of the value.
-fn debugs<T: fmt::Debug>(alloc: Global, value: &T, wanted: &str) -> Result<bool, AllocError> {
-    Ok(format!(in alloc; "{value:?}")?.as_str() == wanted)
+// Checks that `Debug` writes this of the value.
+fn check_debug<T: fmt::Debug>(rt: &(impl Abort + AllocGlobal), value: &T, wanted: &str) {
+    let text = format!(in rt.alloc(); "{value:?}").expect(rt, wanted);
+    assert!(rt; text.as_str() == wanted, "{text} in place of {wanted}");
+}
+
+// Checks that `Debug` writes this of a MAC.
+fn check_mac<M, const K: usize>(rt: &(impl Abort + AllocGlobal), wanted: &str)
+where
+    M: KeyInit<K> + fmt::Debug + Drop,
+    requires supported { M.is_supported }
+    requires key { K ≤ 64 }
+{
+    check_debug(rt, &M::new(&[0x2a; K]), wanted);
 }
 
 #[test]
-fn print_macs_of_blake2b(rt: HostRuntime) -> Result<(), AllocError> {
-    let (alloc, key) = (rt.alloc(), [0x2a; 64]);
-    assert!(rt; debugs(alloc, &Blake2bMac::<1>::new(&key), "Blake2bMac1 { ... }")?);
-    assert!(rt; debugs(alloc, &Blake2bMac::<16>::new(&key), "Blake2bMac16 { ... }")?);
-    assert!(rt; debugs(alloc, &Blake2bMac::<20>::new(&key), "Blake2bMac20 { ... }")?);
-    assert!(rt; debugs(alloc, &Blake2bMac::<32>::new(&key), "Blake2bMac32 { ... }")?);
-    assert!(rt; debugs(alloc, &Blake2bMac::<48>::new(&key), "Blake2bMac48 { ... }")?);
-    assert!(rt; debugs(alloc, &Blake2bMac::<63>::new(&key), "Blake2bMac63 { ... }")?);
-    Ok(())
+fn print_macs_of_blake2b(rt: HostRuntime) {
+    check_mac::<Blake2bMac<1>, 64>(&rt, "Blake2bMac1 { ... }");
+    check_mac::<Blake2bMac<9>, 64>(&rt, "Blake2bMac9 { ... }");
+    check_mac::<Blake2bMac<16>, 64>(&rt, "Blake2bMac16 { ... }");
+    check_mac::<Blake2bMac<20>, 64>(&rt, "Blake2bMac20 { ... }");
+    check_mac::<Blake2bMac<32>, 64>(&rt, "Blake2bMac32 { ... }");
+    check_mac::<Blake2bMac<48>, 64>(&rt, "Blake2bMac48 { ... }");
+    check_mac::<Blake2bMac<63>, 64>(&rt, "Blake2bMac63 { ... }");
+    check_mac::<Blake2bMac512, 64>(&rt, "Blake2bMac64 { ... }");
 }
 
 #[test]
-fn print_macs_of_blake2s(rt: HostRuntime) -> Result<(), AllocError> {
-    let (alloc, key) = (rt.alloc(), [0x2a; 32]);
-    assert!(rt; debugs(alloc, &Blake2sMac::<1>::new(&key), "Blake2sMac1 { ... }")?);
-    assert!(rt; debugs(alloc, &Blake2sMac::<8>::new(&key), "Blake2sMac8 { ... }")?);
-    assert!(rt; debugs(alloc, &Blake2sMac::<16>::new(&key), "Blake2sMac16 { ... }")?);
-    assert!(rt; debugs(alloc, &Blake2sMac::<20>::new(&key), "Blake2sMac20 { ... }")?);
-    assert!(rt; debugs(alloc, &Blake2sMac::<28>::new(&key), "Blake2sMac28 { ... }")?);
-    assert!(rt; debugs(alloc, &Blake2sMac::<31>::new(&key), "Blake2sMac31 { ... }")?);
-    Ok(())
+fn print_macs_of_blake2s(rt: HostRuntime) {
+    check_mac::<Blake2sMac<0>, 32>(&rt, "Blake2sMac0 { ... }");
+    check_mac::<Blake2sMac<1>, 32>(&rt, "Blake2sMac1 { ... }");
+    check_mac::<Blake2sMac<8>, 32>(&rt, "Blake2sMac8 { ... }");
+    check_mac::<Blake2sMac<16>, 32>(&rt, "Blake2sMac16 { ... }");
+    check_mac::<Blake2sMac<20>, 32>(&rt, "Blake2sMac20 { ... }");
+    check_mac::<Blake2sMac<28>, 32>(&rt, "Blake2sMac28 { ... }");
+    check_mac::<Blake2sMac<31>, 32>(&rt, "Blake2sMac31 { ... }");
+    check_mac::<Blake2sMac256, 32>(&rt, "Blake2sMac32 { ... }");
+}
+
+#[test]
+fn print_cores(rt: HostRuntime) {
+    let core = Blake2bVarCore::new_with_params(b"", b"", 0, 64);
+    check_debug(&rt, &core, "Blake2bVarCore { ... }");
+    let core = Blake2sVarCore::new_with_params(b"", b"", 0, 32);
+    check_debug(&rt, &core, "Blake2sVarCore { ... }");
+}
+
+// The names of the algorithms, by its `Debug`.
+struct Names;
+
+impl fmt::Debug for Names {
+    fn fmt<W: fmt::Write>(&self, f: &mut fmt::Formatter<W>) -> fmt::Result {
+        Blake2bVarCore::write_alg_name(f)?;
+        f.write_str(" ")?;
+        Blake2sVarCore::write_alg_name(f)
+    }
+}
+
+#[test]
+fn print_names(rt: HostRuntime) {
+    check_debug(&rt, &Names, "Blake2b Blake2s");
 }
