@@ -1,33 +1,33 @@
 //! Lists of calls on hashers and MACs.
 
-use crate::inputs::{KEY, count_up, reads, take};
+use crate::inputs::{KEY, check_digits, count_up, reads, take};
 use blake2::calls::{Call, ReplayFault, replay};
 use blake2::digest::{Duplicate, FixedOutput, FixedOutputReset, Reset, Update};
 use blake2::{Blake2b256, Blake2b512, Blake2bMac512, Blake2s256, Blake2sMac256, Digest};
-use std::alloc::Global;
 use std::process::Abort;
-use std::test::Fail;
 
-/// Whether a list of calls answers these digests, in hexadecimal.
-pub(crate) fn digests_are<H, const N: usize>(
-    alloc: Global,
+/// Checks that a list of calls answers these digests, in hexadecimal.
+pub(crate) fn check_replay<H, const N: usize>(
+    rt: &(impl Abort + AllocGlobal),
     first: H,
     calls: &[Call<'_>],
     wanted: &[&str],
-) -> Result<bool, ReplayFault>
+)
 where
     H: Update + FixedOutputReset<N> + FixedOutput<N> + Reset + Duplicate + Drop,
 {
-    let digests = replay::<H, N>(alloc, first, calls)?;
-    let mut are_equal = digests.len() == wanted.len();
-    for (digest, digits) in digests.iter().zip(wanted.iter()) {
-        are_equal = are_equal && reads(digest.as_slice(), digits);
+    let digests = replay::<H, N>(rt.alloc(), first, calls).expect(rt, "digests");
+    assert!(rt; digests.len() == wanted.len(), "{wanted:?}");
+    for (i, (digest, digits)) in digests.iter().zip(wanted.iter()).enumerate() {
+        assert!(rt;
+            reads(digest.as_slice(), digits),
+            "digest {i} is not {digits}"
+        );
     }
-    Ok(are_equal)
 }
 
 #[test]
-fn copy_and_finalize_hashers(rt: HostRuntime) -> Result<(), Fail> {
+fn copy_and_finalize_hashers(rt: HostRuntime) {
     let calls = [
         Call::Update(0, b"ab"),
         Call::Clone(0),
@@ -41,17 +41,14 @@ fn copy_and_finalize_hashers(rt: HostRuntime) -> Result<(), Fail> {
                7d87c5392aab792dc252d5de4533cc9518d38aa8dbf1925ab92386edd4009923";
     let nothing = "786a02f742015903c6c6fd852552d272912f4740e15847618a86e217f71f5419\
                    d25e1031afee585313896444934eb04b903a685b1448b755d56f701afe9be2ce";
-    let wanted = [abc, abc, nothing];
-    assert!(rt; digests_are::<_, 64>(rt.alloc(), Blake2b512::new(), &calls, &wanted)?);
+    check_replay::<_, 64>(&rt, Blake2b512::new(), &calls, &[abc, abc, nothing]);
     let abc = "508c5e8c327c14e2e1a72ba34eeb452f37458b209ed63a294d999b4c86675982";
     let nothing = "69217a3079908094e11121d042354a7c1f55b6482ca1a51e1b250dfd1ed0eef9";
-    let wanted = [abc, abc, nothing];
-    assert!(rt; digests_are::<_, 32>(rt.alloc(), Blake2s256::new(), &calls, &wanted)?);
-    Ok(())
+    check_replay::<_, 32>(&rt, Blake2s256::new(), &calls, &[abc, abc, nothing]);
 }
 
 #[test]
-fn reset_macs(rt: HostRuntime) -> Result<(), Fail> {
+fn reset_macs(rt: HostRuntime) {
     let calls = [
         Call::Update(0, b"a"),
         Call::Reset(0),
@@ -59,14 +56,13 @@ fn reset_macs(rt: HostRuntime) -> Result<(), Fail> {
         Call::Clone(0),
         Call::Finalize(1),
     ];
-    let mac = Blake2sMac256::new_with_salt_and_personal(Some(&KEY), b"", b"personal")?;
+    let mac = Blake2sMac256::new_with_salt_and_personal(Some(&KEY), b"", b"personal");
     let output = "25a4ee63b594aed3f88a971e1877ef7099534f9097291f88fb86c79b5e70d022";
-    assert!(rt; digests_are::<_, 32>(rt.alloc(), mac, &calls, &[output, output])?);
-    let mac = Blake2bMac512::new_with_salt_and_personal(Some(&KEY), b"", b"personal")?;
+    check_replay::<_, 32>(&rt, mac.expect(&rt, output), &calls, &[output, output]);
+    let mac = Blake2bMac512::new_with_salt_and_personal(Some(&KEY), b"", b"personal");
     let output = "03de3b295dcfc3b25b05abb09bc95fe3e9ff3073638badc68101d1e42019d077\
                   1dd07525a3aae8318e92c5e5d967ba92e4810d0021d7bf3b49da0b4b4a8a4e1f";
-    assert!(rt; digests_are::<_, 64>(rt.alloc(), mac, &calls, &[output, output])?);
-    Ok(())
+    check_replay::<_, 64>(&rt, mac.expect(&rt, output), &calls, &[output, output]);
 }
 
 #[test]
@@ -79,42 +75,35 @@ fn refuse_the_first_bad_call(rt: HostRuntime) {
     assert!(rt; matches!(refused, Err(ReplayFault::NoSuchSlot(0))));
 }
 
-// The digest of the digests of the beginnings of 1 to 1,000 bytes, each by a copy in a slot of its
-// own. The expected ones are those of `tools/expected_values.py`, under `replays`.
-fn digest_of_beginnings<H, const N: usize>(
-    rt: &impl Abort,
-    alloc: Global,
-    first: H,
-) -> Result<[u8; 32], Fail>
+// Checks the digest of the digests of the beginnings of 1 to 1,000 bytes, each by a copy in a slot
+// of its own. The expected ones are those of `tools/expected_values.py`, under `replays`.
+fn check_beginnings<H, const N: usize>(rt: &(impl Abort + AllocGlobal), first: H, wanted: &str)
 where
     H: Update + FixedOutputReset<N> + FixedOutput<N> + Reset + Duplicate + Drop,
 {
     let mut message = [0; 1000];
     count_up(&mut message);
-    let mut calls = Vec::new(alloc);
+    let mut calls = Vec::new(rt.alloc());
     for byte in message.chunks(1) {
-        calls.push(Call::Update(0, byte))?;
-        calls.push(Call::Clone(0))?;
+        calls.push(Call::Update(0, byte)).expect(rt, "an update");
+        calls.push(Call::Clone(0)).expect(rt, "a clone");
     }
     for slot in 1..1001 {
-        calls.push(Call::Finalize(slot))?;
+        calls.push(Call::Finalize(slot)).expect(rt, "a digest");
     }
-    let digests = replay::<H, N>(alloc, first, calls.as_slice())?;
-    assert!(rt; digests.len() == 1000);
+    let digests = replay::<H, N>(rt.alloc(), first, calls.as_slice()).expect(rt, wanted);
+    assert!(rt; digests.len() == 1000, "{wanted}");
     let mut hasher = Blake2b256::new();
     for digest in &digests {
         take(rt, &mut hasher, digest.as_slice());
     }
-    Ok(hasher.finalize())
+    check_digits(rt, &hasher.finalize(), wanted);
 }
 
 #[test]
-fn replay_many_calls(rt: HostRuntime) -> Result<(), Fail> {
-    let digest = digest_of_beginnings::<_, 64>(&rt, rt.alloc(), Blake2b512::new())?;
+fn replay_many_calls(rt: HostRuntime) {
     let wanted = "f61444b1133ce519c8e309676d976e14a98ba4e21c946441e322928df26b1abe";
-    assert!(rt; reads(&digest, wanted));
-    let digest = digest_of_beginnings::<_, 32>(&rt, rt.alloc(), Blake2s256::new())?;
+    check_beginnings::<_, 64>(&rt, Blake2b512::new(), wanted);
     let wanted = "1da4761ee42dd01f62e8cc09ddc9f446059b364fb051a82b3451349af905ab41";
-    assert!(rt; reads(&digest, wanted));
-    Ok(())
+    check_beginnings::<_, 32>(&rt, Blake2s256::new(), wanted);
 }
