@@ -3,15 +3,13 @@
 
 ghost use Rattle.std.specs.Prelude.{◌≤◌, length};
 
-use crate::inputs::{LENGTHS, count_up, reads, take};
+use crate::inputs::{LENGTHS, check_digits, count_up, reads, take};
 use blake2::digest::{Duplicate, FixedOutput, FixedOutputReset, Reset};
 use blake2::{
     Blake2b128, Blake2b256, Blake2b512, Blake2bMac512, Blake2s128, Blake2s256, Blake2sMac256,
     Digest,
 };
-use std::alloc::AllocError;
 use std::process::Abort;
-use std::test::Fail;
 
 // Checks that a state gives this output once it has taken the piece.
 fn check_output<S: FixedOutput<N> + Drop, const N: usize>(
@@ -37,12 +35,7 @@ fn output_of<S: FixedOutput<N> + Duplicate + Drop, const N: usize>(
 }
 
 // Checks copies, resets and digests between two pieces, and gives the output for both.
-fn check_pieces<S, const N: usize>(
-    rt: &impl Abort,
-    start: &S,
-    message: &[u8],
-    at: usize,
-) -> Result<[u8; N], AllocError>
+fn check_pieces<S, const N: usize>(rt: &impl Abort, start: &S, message: &[u8], at: usize) -> [u8; N]
 where
     S: FixedOutputReset<N> + Duplicate + Clone + Drop,
     requires { at ≤ length message.now }
@@ -53,7 +46,8 @@ where
     let of_both = output_of(rt, start, message);
     let mut state = start.duplicate();
     take(rt, &mut state, first);
-    check_output(rt, state.clone()?, second, of_both.as_slice());
+    let clone = state.clone().expect(rt, "a clone");
+    check_output(rt, clone, second, of_both.as_slice());
     check_output(rt, state.duplicate(), second, of_both.as_slice());
     let mut reset = state.duplicate();
     reset.reset();
@@ -63,11 +57,11 @@ where
     assert!(rt; output.as_slice() == of_first.as_slice());
     check_output(rt, again, second, of_second.as_slice());
     check_output(rt, state, second, of_both.as_slice());
-    Ok(of_both)
+    of_both
 }
 
-// Checks each pair of lengths, and gives BLAKE2b-256 of all outputs for both pieces.
-fn digest_of_outputs<S, const N: usize>(rt: &impl Abort, start: &S) -> Result<[u8; 32], AllocError>
+// Checks each pair of lengths, and BLAKE2b-256 of all outputs for both pieces.
+fn check_outputs<S, const N: usize>(rt: &impl Abort, start: &S, wanted: &str)
 where
     S: FixedOutputReset<N> + Duplicate + Clone + Drop,
 {
@@ -77,96 +71,93 @@ where
     for first in LENGTHS {
         for second in LENGTHS {
             assert!(rt; first <= 257 && second <= 257);
-            let output: [u8; N] = check_pieces(rt, start, &message[..first + second], first)?;
+            let output: [u8; N] = check_pieces(rt, start, &message[..first + second], first);
             take(rt, &mut outputs, output.as_slice());
         }
     }
-    Ok(outputs.finalize())
+    check_digits(rt, &outputs.finalize(), wanted);
 }
 
 #[test]
-fn hash_two_pieces_by_blake2b(rt: HostRuntime) -> Result<(), Fail> {
+fn hash_two_pieces_by_blake2b(rt: HostRuntime) {
     let wanted = "350ea43946262be65cbea82c6834f599e396f2b3bc19a82058e584b5ceff5298";
-    assert!(rt; reads(&digest_of_outputs(&rt, &Blake2b128::new())?, wanted));
+    check_outputs(&rt, &Blake2b128::new(), wanted);
     let wanted = "9ef56fa22be8e82b255cef96b293856fbe401912660aaa2a86d53e76ac0badc2";
-    assert!(rt; reads(&digest_of_outputs(&rt, &Blake2b256::new())?, wanted));
+    check_outputs(&rt, &Blake2b256::new(), wanted);
     let wanted = "e3daa74c613f0eb619f757374ee61d8caa318610cd6e3ffc8e14a812095aa278";
-    assert!(rt; reads(&digest_of_outputs(&rt, &Blake2b512::new())?, wanted));
-    Ok(())
+    check_outputs(&rt, &Blake2b512::new(), wanted);
 }
 
 #[test]
-fn hash_two_pieces_by_blake2s(rt: HostRuntime) -> Result<(), Fail> {
+fn hash_two_pieces_by_blake2s(rt: HostRuntime) {
     let wanted = "e15b12367b4746be0955f31902ab2a7574f2f81a9806bf26467ecbc2f7f99b5e";
-    assert!(rt; reads(&digest_of_outputs(&rt, &Blake2s128::new())?, wanted));
+    check_outputs(&rt, &Blake2s128::new(), wanted);
     let wanted = "7b55b8396e3d36ec1a00e70509b7de72ee48b643d354128566218889bb906b43";
-    assert!(rt; reads(&digest_of_outputs(&rt, &Blake2s256::new())?, wanted));
-    Ok(())
+    check_outputs(&rt, &Blake2s256::new(), wanted);
+}
+
+// Checks the outputs of BLAKE2b's MAC under these.
+fn check_blake2b(rt: &impl Abort, key: Option<&[u8]>, salt: &[u8], persona: &[u8], wanted: &str) {
+    let start = Blake2bMac512::new_with_salt_and_personal(key, salt, persona).expect(rt, wanted);
+    check_outputs(rt, &start, wanted);
+}
+
+// Checks the outputs of BLAKE2s's MAC under these.
+fn check_blake2s(rt: &impl Abort, key: Option<&[u8]>, salt: &[u8], persona: &[u8], wanted: &str) {
+    let start = Blake2sMac256::new_with_salt_and_personal(key, salt, persona).expect(rt, wanted);
+    check_outputs(rt, &start, wanted);
 }
 
 #[test]
-fn authenticate_two_pieces(rt: HostRuntime) -> Result<(), Fail> {
-    for (key, salt, persona, by_blake2b, by_blake2s) in [
-        (
-            Some(&[42u8][..]),
-            "",
-            "",
-            "f23c3e6e036e16dfc1a0f0b28ca81196436de0bd0ab659a349cb839c9e4fd3ea",
-            "5dcf7679b0de239a0d1326df502c2d8bfdbe69ee6e8343af6fbd13c04b9fa226",
-        ),
-        (
-            None,
-            "",
-            "",
-            "e3daa74c613f0eb619f757374ee61d8caa318610cd6e3ffc8e14a812095aa278",
-            "7b55b8396e3d36ec1a00e70509b7de72ee48b643d354128566218889bb906b43",
-        ),
-        (
-            Some(&[42u8][..]),
-            "salt",
-            "persona",
-            "4bfda7e2578e6bba3c638b27d879477b7520016e5a9df98acf8be7367d5fb1a5",
-            "8fc5772e4fbb5348aa7cc5137208ecc7d48ef654d0253717db00215dd7242521",
-        ),
-        (
-            None,
-            "salt",
-            "persona",
-            "f63ba749914457e114385f39ab53f788e3e2f2412d19ec0986f3b82ac54dc6e9",
-            "b8567a8c63227534d0f2f24350a2516f2545f3f2081ccded8591d47881f59a20",
-        ),
-    ] {
-        let (salt, persona) = (salt.as_bytes(), persona.as_bytes());
-        let start = Blake2bMac512::new_with_salt_and_personal(key, salt, persona)?;
-        let digest = digest_of_outputs(&rt, &start)?;
-        assert!(rt; reads(&digest, by_blake2b), "{by_blake2b}");
-        let start = Blake2sMac256::new_with_salt_and_personal(key, salt, persona)?;
-        let digest = digest_of_outputs(&rt, &start)?;
-        assert!(rt; reads(&digest, by_blake2s), "{by_blake2s}");
-    }
-    Ok(())
+fn authenticate_two_pieces_by_blake2b(rt: HostRuntime) {
+    let wanted = "f23c3e6e036e16dfc1a0f0b28ca81196436de0bd0ab659a349cb839c9e4fd3ea";
+    check_blake2b(&rt, Some(&[42]), b"", b"", wanted);
+    let wanted = "e3daa74c613f0eb619f757374ee61d8caa318610cd6e3ffc8e14a812095aa278";
+    check_blake2b(&rt, None, b"", b"", wanted);
+    let wanted = "4bfda7e2578e6bba3c638b27d879477b7520016e5a9df98acf8be7367d5fb1a5";
+    check_blake2b(&rt, Some(&[42]), b"salt", b"persona", wanted);
+    let wanted = "f63ba749914457e114385f39ab53f788e3e2f2412d19ec0986f3b82ac54dc6e9";
+    check_blake2b(&rt, None, b"salt", b"persona", wanted);
 }
 
 #[test]
-fn keep_key_salt_and_persona_over_resets(rt: HostRuntime) -> Result<(), Fail> {
+fn authenticate_two_pieces_by_blake2s(rt: HostRuntime) {
+    let wanted = "5dcf7679b0de239a0d1326df502c2d8bfdbe69ee6e8343af6fbd13c04b9fa226";
+    check_blake2s(&rt, Some(&[42]), b"", b"", wanted);
+    let wanted = "7b55b8396e3d36ec1a00e70509b7de72ee48b643d354128566218889bb906b43";
+    check_blake2s(&rt, None, b"", b"", wanted);
+    let wanted = "8fc5772e4fbb5348aa7cc5137208ecc7d48ef654d0253717db00215dd7242521";
+    check_blake2s(&rt, Some(&[42]), b"salt", b"persona", wanted);
+    let wanted = "b8567a8c63227534d0f2f24350a2516f2545f3f2081ccded8591d47881f59a20";
+    check_blake2s(&rt, None, b"salt", b"persona", wanted);
+}
+
+// Checks the output for `hello` of a MAC that a reset made forget `world`, and then again.
+fn check_resets<M: FixedOutputReset<N> + Drop, const N: usize>(
+    rt: &impl Abort,
+    mut mac: M,
+    wanted: &str,
+) {
+    take(rt, &mut mac, b"world");
+    mac.reset();
+    take(rt, &mut mac, b"hello");
+    assert!(rt;
+        reads(mac.finalize_fixed_reset().as_slice(), wanted),
+        "{wanted}"
+    );
+    take(rt, &mut mac, b"hello");
+    assert!(rt; reads(mac.finalize_fixed().as_slice(), wanted), "{wanted}");
+}
+
+#[test]
+fn keep_key_salt_and_persona_over_resets(rt: HostRuntime) {
+    let mac = Blake2bMac512::new_with_salt_and_personal(Some(&[42]), b"salt", b"persona");
     let wanted = "09fa78046355a58ececd765baba1728f205a607b426735d29db84ac43afddf1c\
                   7296b4541530caa9acc98df48f9e5ca355fae94ba05fd79b046c4025259aa4e1";
-    let mut mac = Blake2bMac512::new_with_salt_and_personal(Some(&[42]), b"salt", b"persona")?;
-    take(&rt, &mut mac, b"world");
-    mac.reset();
-    take(&rt, &mut mac, b"hello");
-    assert!(rt; reads(&mac.finalize_fixed_reset(), wanted));
-    take(&rt, &mut mac, b"hello");
-    assert!(rt; reads(&mac.finalize_fixed(), wanted));
+    check_resets(&rt, mac.expect(&rt, wanted), wanted);
+    let mac = Blake2sMac256::new_with_salt_and_personal(Some(&[42]), b"salt", b"persona");
     let wanted = "30d8bff3d330fe5584722b37eeb1eb479b9a0090a956d88c4a672dfcc5a2d995";
-    let mut mac = Blake2sMac256::new_with_salt_and_personal(Some(&[42]), b"salt", b"persona")?;
-    take(&rt, &mut mac, b"world");
-    mac.reset();
-    take(&rt, &mut mac, b"hello");
-    assert!(rt; reads(&mac.finalize_fixed_reset(), wanted));
-    take(&rt, &mut mac, b"hello");
-    assert!(rt; reads(&mac.finalize_fixed(), wanted));
-    Ok(())
+    check_resets(&rt, mac.expect(&rt, wanted), wanted);
 }
 
 // Checks the calls of `Digest` between two pieces, and takes the digests of the first and of the
@@ -200,8 +191,8 @@ fn check_digest_calls<H: Digest<N> + Drop, const N: usize>(
     check_output(rt, hasher, second, of_both.as_slice());
 }
 
-// Checks each pair of lengths, and gives BLAKE2b-256 of the digests of both pieces.
-fn digest_of_pieces<H: Digest<N> + Drop, const N: usize>(rt: &impl Abort) -> [u8; 32]
+// Checks each pair of lengths, and BLAKE2b-256 of the digests of both pieces.
+fn check_hasher<H: Digest<N> + Drop, const N: usize>(rt: &impl Abort, wanted: &str)
     requires supported { H.is_supported }
     requires size { N ≤ 64 }
 {
@@ -214,34 +205,20 @@ fn digest_of_pieces<H: Digest<N> + Drop, const N: usize>(rt: &impl Abort) -> [u8
             check_digest_calls::<H, N>(rt, &mut digests, &message[..first + second], first);
         }
     }
-    digests.finalize()
+    check_digits(rt, &digests.finalize(), wanted);
 }
 
 // The expected digests are those of `tools/expected_values.py`, under `resets`.
 #[test]
 fn reset_between_two_pieces(rt: HostRuntime) {
-    for (digest, wanted) in [
-        (
-            digest_of_pieces::<Blake2b128, 16>(&rt),
-            "172193683d7b8c95cfcab29b74b22869c51db37129aa2321d25c0593d813c9ca",
-        ),
-        (
-            digest_of_pieces::<Blake2b256, 32>(&rt),
-            "f0467383d8f965217da130a1cac7995388fdb34f2486ed56909c02a7db816f26",
-        ),
-        (
-            digest_of_pieces::<Blake2b512, 64>(&rt),
-            "88c13660c1020ae1b7dce870880a12f0e0e339202afc06926a99057f6041866f",
-        ),
-        (
-            digest_of_pieces::<Blake2s128, 16>(&rt),
-            "c2c5307c91d9cd03b1474edc286b274c9f61a645f00e9f3b441e442fab7b6d3c",
-        ),
-        (
-            digest_of_pieces::<Blake2s256, 32>(&rt),
-            "603246713ad142197ce49439f222de0ea3b5a6ebfc729670533f3e31d6339296",
-        ),
-    ] {
-        assert!(rt; reads(&digest, wanted), "{wanted}");
-    }
+    let wanted = "172193683d7b8c95cfcab29b74b22869c51db37129aa2321d25c0593d813c9ca";
+    check_hasher::<Blake2b128, 16>(&rt, wanted);
+    let wanted = "f0467383d8f965217da130a1cac7995388fdb34f2486ed56909c02a7db816f26";
+    check_hasher::<Blake2b256, 32>(&rt, wanted);
+    let wanted = "88c13660c1020ae1b7dce870880a12f0e0e339202afc06926a99057f6041866f";
+    check_hasher::<Blake2b512, 64>(&rt, wanted);
+    let wanted = "c2c5307c91d9cd03b1474edc286b274c9f61a645f00e9f3b441e442fab7b6d3c";
+    check_hasher::<Blake2s128, 16>(&rt, wanted);
+    let wanted = "603246713ad142197ce49439f222de0ea3b5a6ebfc729670533f3e31d6339296";
+    check_hasher::<Blake2s256, 32>(&rt, wanted);
 }

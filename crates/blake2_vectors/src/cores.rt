@@ -3,7 +3,7 @@
 
 ghost use Rattle.std.specs.Prelude.{◌≡◌, ◌<◌, ◌≤◌};
 
-use crate::inputs::{LENGTHS, count_up, reads, take};
+use crate::inputs::{LENGTHS, check_digits, count_up, take};
 use blake2::digest::{
     Duplicate, InvalidOutputSize, LazyBuffer, VariableOutputCore, VariableOutputCoreCustomized,
 };
@@ -52,35 +52,33 @@ where
 }
 
 #[test]
-fn finalize_the_core_of_blake2b(rt: HostRuntime) -> Result<(), InvalidOutputSize> {
+fn finalize_the_core_of_blake2b(rt: HostRuntime) {
     let mut plain = Blake2b256::new();
     let mut personal = Blake2b256::new();
     for size in 0..65 {
-        let core: Blake2bVarCore = made(size)?;
+        let core: Blake2bVarCore = made(size).expect(&rt, "a core of this size");
         take_outputs(&rt, &mut plain, &core, size);
         let core = Blake2bVarCore::new_customized(b"personal", size);
         take_outputs(&rt, &mut personal, &core, size);
     }
     let wanted = "8359d20c2d32a48c2c1940e3df5e754ae35f8b88263ac5e01f7c1eaee9278987";
-    assert!(rt; reads(&plain.finalize(), wanted));
+    check_digits(&rt, &plain.finalize(), wanted);
     let wanted = "8d9ab80949f0f9f1d52bf15e09e1ec4a6b4097957d4be7a2cc6b8e150e5e47c8";
-    assert!(rt; reads(&personal.finalize(), wanted));
-    Ok(())
+    check_digits(&rt, &personal.finalize(), wanted);
 }
 
 #[test]
-fn finalize_the_core_of_blake2s(rt: HostRuntime) -> Result<(), InvalidOutputSize> {
+fn finalize_the_core_of_blake2s(rt: HostRuntime) {
     let mut plain = Blake2b256::new();
     let mut personal = Blake2b256::new();
     for size in 0..33 {
-        let core: Blake2sVarCore = made(size)?;
+        let core: Blake2sVarCore = made(size).expect(&rt, "a core of this size");
         take_outputs(&rt, &mut plain, &core, size);
         let core = Blake2sVarCore::new_customized(b"personal", size);
         take_outputs(&rt, &mut personal, &core, size);
     }
     let wanted = "f5c9a322ee79902b135543a3f1d30948bc454da0ab85f64fd95d352dcf1f443e";
-    assert!(rt; reads(&plain.finalize(), wanted));
+    check_digits(&rt, &plain.finalize(), wanted);
     let wanted = "1deef65a1a3f3099c816f9b7a3ec0d07c1f12966ae31593e56ea076cc396e158";
-    assert!(rt; reads(&personal.finalize(), wanted));
-    Ok(())
+    check_digits(&rt, &personal.finalize(), wanted);
 }

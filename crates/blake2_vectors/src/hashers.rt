@@ -2,7 +2,7 @@
 
 ghost use Rattle.std.specs.Prelude.{◌≡◌, ◌+◌, ◌^◌, ◌<◌, ◌≤◌, length};
 
-use crate::inputs::{reads, take};
+use crate::inputs::{check_digits, reads, take};
 use blake2::{Blake2b, Blake2b512, Blake2s, Blake2s256, Digest};
 use std::process::Abort;
 
@@ -18,58 +18,38 @@ fn digest_of_two<H: Digest<N> + Drop, const N: usize>(message: &[u8], at: usize)
     hasher.finalize()
 }
 
-// Whether each digest of the message, whole and cut after each byte, is the one wanted.
-fn digests_are<H: Digest<N> + Drop, const N: usize>(message: &[u8], wanted: &str) -> bool
+// Checks each digest of the message, whole and cut after each byte.
+fn check_cuts<H: Digest<N> + Drop, const N: usize>(rt: &impl Abort, message: &[u8], wanted: &str)
     requires supported { H.is_supported }
     requires size { N ≤ 64 }
 {
     for at in 0..message.len() {
-        if !reads(digest_of_two::<H, N>(message, at).as_slice(), wanted) {
-            return false;
-        }
+        let digest = digest_of_two::<H, N>(message, at);
+        assert!(rt;
+            reads(digest.as_slice(), wanted),
+            "cut after {at}, {wanted}"
+        );
     }
-    reads(H::digest(message).as_slice(), wanted)
+    check_digits(rt, H::digest(message).as_slice(), wanted);
 }
 
 #[test]
 fn hash_whole_and_cut_after_each_byte(rt: HostRuntime) {
-    for (message, wanted) in [
-        (
-            "",
-            "786a02f742015903c6c6fd852552d272912f4740e15847618a86e217f71f5419\
-             d25e1031afee585313896444934eb04b903a685b1448b755d56f701afe9be2ce",
-        ),
-        (
-            "abc",
-            "ba80a53f981c4d0d6a2797b69f12f6e94c212f14685ac4b74b12bb6fdbffa2d1\
-             7d87c5392aab792dc252d5de4533cc9518d38aa8dbf1925ab92386edd4009923",
-        ),
-        (
-            "hello world",
-            "021ced8799296ceca557832ab941a50b4a11f83478cf141f51f933f653ab9fbc\
-             c05a037cddbed06e309bf334942c4e58cdf1a46e237911ccd7fcf9787cbc7fd0",
-        ),
-    ] {
-        let agrees = digests_are::<Blake2b512, 64>(message.as_bytes(), wanted);
-        assert!(rt; agrees, "BLAKE2b-512 of {message:?}");
-    }
-    for (message, wanted) in [
-        (
-            "",
-            "69217a3079908094e11121d042354a7c1f55b6482ca1a51e1b250dfd1ed0eef9",
-        ),
-        (
-            "abc",
-            "508c5e8c327c14e2e1a72ba34eeb452f37458b209ed63a294d999b4c86675982",
-        ),
-        (
-            "hello world",
-            "9aec6806794561107e594b1f6a8a6b0c92a0cba9acf5e5e93cca06f781813b0b",
-        ),
-    ] {
-        let agrees = digests_are::<Blake2s256, 32>(message.as_bytes(), wanted);
-        assert!(rt; agrees, "BLAKE2s-256 of {message:?}");
-    }
+    let wanted = "786a02f742015903c6c6fd852552d272912f4740e15847618a86e217f71f5419\
+         d25e1031afee585313896444934eb04b903a685b1448b755d56f701afe9be2ce";
+    check_cuts::<Blake2b512, 64>(&rt, b"", wanted);
+    let wanted = "ba80a53f981c4d0d6a2797b69f12f6e94c212f14685ac4b74b12bb6fdbffa2d1\
+         7d87c5392aab792dc252d5de4533cc9518d38aa8dbf1925ab92386edd4009923";
+    check_cuts::<Blake2b512, 64>(&rt, b"abc", wanted);
+    let wanted = "021ced8799296ceca557832ab941a50b4a11f83478cf141f51f933f653ab9fbc\
+         c05a037cddbed06e309bf334942c4e58cdf1a46e237911ccd7fcf9787cbc7fd0";
+    check_cuts::<Blake2b512, 64>(&rt, b"hello world", wanted);
+    let wanted = "69217a3079908094e11121d042354a7c1f55b6482ca1a51e1b250dfd1ed0eef9";
+    check_cuts::<Blake2s256, 32>(&rt, b"", wanted);
+    let wanted = "508c5e8c327c14e2e1a72ba34eeb452f37458b209ed63a294d999b4c86675982";
+    check_cuts::<Blake2s256, 32>(&rt, b"abc", wanted);
+    let wanted = "9aec6806794561107e594b1f6a8a6b0c92a0cba9acf5e5e93cca06f781813b0b";
+    check_cuts::<Blake2s256, 32>(&rt, b"hello world", wanted);
 }
 
 // The digest of a message that comes in these pieces.
@@ -100,17 +80,11 @@ fn hash_three_pieces(rt: HostRuntime) {
 #[test]
 fn hash_over_block_boundaries(rt: HostRuntime) {
     let message = [42u8; 300];
-    let agrees = digests_are::<Blake2b512, 64>(
-        &message,
-        "77ecafa11c24fe1fe99b68cee2ea44cfcb48de579aec5e6e6ea6704409b0756b\
-         1be69c7358b8d2fa601f64ffe43e9fed90f6f0b0ccb357fbea4e5660b9f735a0",
-    );
-    assert!(rt; agrees);
-    let agrees = digests_are::<Blake2s256, 32>(
-        &message,
-        "b18c5abf3e48843fb7efce3826710aa625d60ced6102849ffb07a6ee293e7a12",
-    );
-    assert!(rt; agrees);
+    let wanted = "77ecafa11c24fe1fe99b68cee2ea44cfcb48de579aec5e6e6ea6704409b0756b\
+         1be69c7358b8d2fa601f64ffe43e9fed90f6f0b0ccb357fbea4e5660b9f735a0";
+    check_cuts::<Blake2b512, 64>(&rt, &message, wanted);
+    let wanted = "b18c5abf3e48843fb7efce3826710aa625d60ced6102849ffb07a6ee293e7a12";
+    check_cuts::<Blake2s256, 32>(&rt, &message, wanted);
 }
 
 #[test]
