@@ -13,7 +13,7 @@ ghost use Rattle.blake2.specs.Hashers.{blake2s_meaning, blake2s_mac_meaning, bla
 ghost use Rattle.blake2.specs.Hashers.{blake2b_mac_state, blake2s_mac_state};
 ghost use Rattle.blake2.specs.States.{Fresh, IsWiped, digest_of, node_digest_of};
 
-use crate::inputs::{place, reads};
+use crate::inputs::{check_digits, place};
 use blake2::digest::{
     CustomizedInit, Digest, FixedOutput, InvalidLength, InvalidOutputSize, KeyInit, LazyBuffer,
     Mac, TreeNode, Update, VariableOutputCore, VariableOutputCoreCustomized, Wipe,
@@ -245,91 +245,72 @@ fn wipe_hashers_by_the_trait(rt: HostRuntime) {
 }
 
 #[test]
-fn wipe_macs_by_the_trait(rt: HostRuntime) -> Result<(), InvalidLength> {
-    let mut mac = blake2b_mac(b"key")?;
+fn wipe_macs_by_the_trait(rt: HostRuntime) {
+    let mut mac = blake2b_mac(b"key").expect(&rt, "a MAC of BLAKE2b");
     wipe_blake2b_mac(&mut mac);
     assert!(rt; mac.counted() == 128);
-    let mut mac = blake2s_mac(b"key")?;
+    let mut mac = blake2s_mac(b"key").expect(&rt, "a MAC of BLAKE2s");
     wipe_blake2s_mac(&mut mac);
     assert!(rt; mac.counted() == 64);
-    Ok(())
 }
 
 #[test]
-fn make_cores_by_the_traits(rt: HostRuntime) -> Result<(), InvalidOutputSize> {
-    let first = 0x6a09e667f3bcc908;
-    assert!(rt; blake2b_core(48)?.first_words()[0] == first ^ 0x01010030);
-    assert!(rt; matches!(blake2b_core(65), Err(InvalidOutputSize)));
-    assert!(rt; blake2s_core(31)?.first_words()[0] == 0x6a09e667 ^ 0x0101001f);
-    assert!(rt; matches!(blake2s_core(33), Err(InvalidOutputSize)));
+fn make_cores_by_the_traits_of_blake2b(rt: HostRuntime) {
+    let [first, ..] = blake2b_core(48).expect(&rt, "a core").first_words();
+    assert!(rt; first == 0x6a09e667f3bcc908 ^ 0x01010030);
+    assert!(rt; blake2b_core(65).is_err());
     let words = customized_blake2b_core(b"persona", 64).first_words();
-    assert!(rt; words[0] == first ^ 0x01010040);
+    assert!(rt; words[0] == 0x6a09e667f3bcc908 ^ 0x01010040);
     assert!(rt; words[6] == 0x1f83d9abfb41bd6b ^ 0x616e6f73726570);
+}
+
+#[test]
+fn make_cores_by_the_traits_of_blake2s(rt: HostRuntime) {
+    let [first, ..] = blake2s_core(31).expect(&rt, "a core").first_words();
+    assert!(rt; first == 0x6a09e667 ^ 0x0101001f);
+    assert!(rt; blake2s_core(33).is_err());
     let words = customized_blake2s_core(b"persona", 32).first_words();
     assert!(rt; words[0] == 0x6a09e667 ^ 0x01010020);
     assert!(rt; words[6] == 0x1f83d9ab ^ 0x73726570);
     assert!(rt; words[7] == 0x5be0cd19 ^ 0x616e6f);
-    Ok(())
 }
 
 #[test]
-fn hash_by_the_traits_of_blake2b(rt: HostRuntime) -> Result<(), InvalidLength> {
+fn hash_by_the_traits_of_blake2b(rt: HostRuntime) {
+    let personal = customized_blake2b(b"persona").chain_update(b"abc");
+    let wanted = "836239e2d9b59f053c4a710efb47c09fb819c7a5c8241aef8ea9a6cad7eaf99e\
+         4bdfaf023f46bbe2333e56f552cb85cb7e85c9dac8d03cf58d7eb21063076c93";
+    check_digits(&rt, &personal.finalize(), wanted);
+    let wanted = "ba80a53f981c4d0d6a2797b69f12f6e94c212f14685ac4b74b12bb6fdbffa2d1\
+         7d87c5392aab792dc252d5de4533cc9518d38aa8dbf1925ab92386edd4009923";
+    check_digits(&rt, &blake2b_digest(b"abc"), wanted);
+    let keyed = blake2b_mac(b"key")
+        .expect(&rt, "a MAC")
+        .chain_update(b"abc");
+    let wanted = "5c6a9a4ae911c02fb7e71a991eb9aea371ae993d4842d206e6020d46f5e41358\
+         c6d5c277c110ef86c959ed63e6ecaaaceaaff38019a43264ae06acf73b9550b1";
+    check_digits(&rt, &keyed.finalize_fixed(), wanted);
     let tree = place();
     assert!(rt; Blake2bVarCore::admits_tree(&tree));
-    let keyed = blake2b_mac(b"key")?.chain_update(b"abc");
-    let personal = customized_blake2b(b"persona").chain_update(b"abc");
-    for (digest, wanted) in [
-        (
-            personal.finalize(),
-            "836239e2d9b59f053c4a710efb47c09fb819c7a5c8241aef8ea9a6cad7eaf99e\
-             4bdfaf023f46bbe2333e56f552cb85cb7e85c9dac8d03cf58d7eb21063076c93",
-        ),
-        (
-            blake2b_digest(b"abc"),
-            "ba80a53f981c4d0d6a2797b69f12f6e94c212f14685ac4b74b12bb6fdbffa2d1\
-             7d87c5392aab792dc252d5de4533cc9518d38aa8dbf1925ab92386edd4009923",
-        ),
-        (
-            keyed.finalize_fixed(),
-            "5c6a9a4ae911c02fb7e71a991eb9aea371ae993d4842d206e6020d46f5e41358\
-             c6d5c277c110ef86c959ed63e6ecaaaceaaff38019a43264ae06acf73b9550b1",
-        ),
-        (
-            last_blake2b_digest(&tree, b"abc"),
-            "339840bfb4fcf86bd23f4e22e0fb7220814bce9a254d3b25b1df24479ec1a883\
-             57e85c7881ba2ddc1349170d681cade2e6b10e4336349113a0d95f860cd4585b",
-        ),
-    ] {
-        assert!(rt; reads(&digest, wanted), "{wanted}");
-    }
-    Ok(())
+    let wanted = "339840bfb4fcf86bd23f4e22e0fb7220814bce9a254d3b25b1df24479ec1a883\
+         57e85c7881ba2ddc1349170d681cade2e6b10e4336349113a0d95f860cd4585b";
+    check_digits(&rt, &last_blake2b_digest(&tree, b"abc"), wanted);
 }
 
 #[test]
-fn hash_by_the_traits_of_blake2s(rt: HostRuntime) -> Result<(), InvalidLength> {
+fn hash_by_the_traits_of_blake2s(rt: HostRuntime) {
+    let personal = customized_blake2s(b"persona").chain_update(b"abc");
+    let wanted = "0936fa60dce8a8dd117dc74b29d5a4720e3901bf2317d21575defdbf4b87898a";
+    check_digits(&rt, &personal.finalize(), wanted);
+    let wanted = "508c5e8c327c14e2e1a72ba34eeb452f37458b209ed63a294d999b4c86675982";
+    check_digits(&rt, &blake2s_digest(b"abc"), wanted);
+    let keyed = blake2s_mac(b"key")
+        .expect(&rt, "a MAC")
+        .chain_update(b"abc");
+    let wanted = "3f9723437b033bf0c1f4df43cafd0776068cb0a95912de13f3b2952a3aba764d";
+    check_digits(&rt, &keyed.finalize_fixed(), wanted);
     let tree = place();
     assert!(rt; Blake2sVarCore::admits_tree(&tree));
-    let keyed = blake2s_mac(b"key")?.chain_update(b"abc");
-    let personal = customized_blake2s(b"persona").chain_update(b"abc");
-    for (digest, wanted) in [
-        (
-            personal.finalize(),
-            "0936fa60dce8a8dd117dc74b29d5a4720e3901bf2317d21575defdbf4b87898a",
-        ),
-        (
-            blake2s_digest(b"abc"),
-            "508c5e8c327c14e2e1a72ba34eeb452f37458b209ed63a294d999b4c86675982",
-        ),
-        (
-            keyed.finalize_fixed(),
-            "3f9723437b033bf0c1f4df43cafd0776068cb0a95912de13f3b2952a3aba764d",
-        ),
-        (
-            last_blake2s_digest(&tree, b"abc"),
-            "310f6db4d75ec40e5d9bec0cc45d228b46dec4e075cf61a8da736206a24f3196",
-        ),
-    ] {
-        assert!(rt; reads(&digest, wanted), "{wanted}");
-    }
-    Ok(())
+    let wanted = "310f6db4d75ec40e5d9bec0cc45d228b46dec4e075cf61a8da736206a24f3196";
+    check_digits(&rt, &last_blake2s_digest(&tree, b"abc"), wanted);
 }

@@ -44,58 +44,20 @@ pub(crate) fn compress(h: [u32; 8], block: &[u8; 64], counter: u64, last: bool) 
             *word = u32::from_le_bytes(*bytes);
         }
     }
-    let [h0, h1, h2, h3, h4, h5, h6, h7] = h;
-    let [i0, i1, i2, i3, i4, i5, i6, i7] = BLAKE2S_IV;
-    let t0 = (counter % (1 << 32)) as u32;
-    let t1 = (counter >> 32) as u32;
-    let f0 = if last { u32::MAX } else { 0 };
-    let mut v = [
-        h0,
-        h1,
-        h2,
-        h3,
-        h4,
-        h5,
-        h6,
-        h7,
-        i0,
-        i1,
-        i2,
-        i3,
-        i4 ^ t0,
-        i5 ^ t1,
-        i6 ^ f0,
-        i7,
-    ];
+    let mut v = [0; 16];
+    v[..8].copy_from_slice(&h);
+    v[8..].copy_from_slice(&BLAKE2S_IV);
+    v[12] ^= (counter % (1 << 32)) as u32;
+    v[13] ^= (counter >> 32) as u32;
+    if last {
+        v[14] ^= u32::MAX;
+    }
     for row in SIGMA {
         v = round(v, &m, &row);
     }
-    let [
-        v0,
-        v1,
-        v2,
-        v3,
-        v4,
-        v5,
-        v6,
-        v7,
-        v8,
-        v9,
-        v10,
-        v11,
-        v12,
-        v13,
-        v14,
-        v15,
-    ] = v;
-    [
-        h0 ^ v0 ^ v8,
-        h1 ^ v1 ^ v9,
-        h2 ^ v2 ^ v10,
-        h3 ^ v3 ^ v11,
-        h4 ^ v4 ^ v12,
-        h5 ^ v5 ^ v13,
-        h6 ^ v6 ^ v14,
-        h7 ^ v7 ^ v15,
-    ]
+    let mut h = h;
+    for (i, word) in h.iter_mut().enumerate() {
+        *word ^= v[i % 8] ^ v[8 + i % 8];
+    }
+    h
 }

@@ -10,9 +10,10 @@ use blake2::{
     Blake2b, Blake2b128, Blake2b256, Blake2b512, Blake2bMac, Blake2bMac512, Blake2bVarCore,
     Blake2s, Blake2s128, Blake2s256, Blake2sMac, Blake2sMac256, Blake2sVarCore,
 };
+use std::process::Abort;
 
-// Block and output of a core, and the end that outputs are cut from.
-fn core_sizes<C, const B: usize, const M: usize>() -> (usize, usize, TruncSide)
+// Checks block and output of a core, and that outputs are cut from the left end.
+fn check_core<C, const B: usize, const M: usize>(rt: &impl Abort)
 where
     C: BlockSizeUser
         + OutputSizeUser
@@ -21,49 +22,51 @@ where
         + HashMarker
         + ZeroizeOnDrop,
 {
-    (C::BLOCK_SIZE, C::OUTPUT_SIZE, C::TRUNC_SIDE)
+    assert!(rt; C::BLOCK_SIZE == B && C::OUTPUT_SIZE == M, "{B}, {M}");
+    assert!(rt; C::TRUNC_SIDE == TruncSide::Left, "{B}, {M}");
 }
 
-// Block and output of a hasher.
-fn hasher_sizes<H: BlockSizeUser + OutputSizeUser + HashMarker + ZeroizeOnDrop>() -> (
-    usize,
-    usize,
+// Checks block and output of a hasher.
+fn check_hasher<H: BlockSizeUser + OutputSizeUser + HashMarker + ZeroizeOnDrop>(
+    rt: &impl Abort,
+    block: usize,
+    output: usize,
 ) {
-    (H::BLOCK_SIZE, H::OUTPUT_SIZE)
+    assert!(rt;
+        H::BLOCK_SIZE == block && H::OUTPUT_SIZE == output,
+        "{block}, {output}"
+    );
 }
 
-// Longest key and output of a MAC.
-fn mac_sizes<M: KeySizeUser + OutputSizeUser + MacMarker + ZeroizeOnDrop>() -> (usize, usize) {
-    (M::KEY_SIZE, M::OUTPUT_SIZE)
+// Checks longest key and output of a MAC.
+fn check_mac<M: KeySizeUser + OutputSizeUser + MacMarker + ZeroizeOnDrop>(
+    rt: &impl Abort,
+    key: usize,
+    output: usize,
+) {
+    assert!(rt;
+        M::KEY_SIZE == key && M::OUTPUT_SIZE == output,
+        "{key}, {output}"
+    );
 }
 
 #[test]
 fn tell_sizes(rt: HostRuntime) {
-    let core = core_sizes::<Blake2bVarCore, 128, 64>();
-    assert!(rt; core == (128, 64, TruncSide::Left));
-    let core = core_sizes::<Blake2sVarCore, 64, 32>();
-    assert!(rt; core == (64, 32, TruncSide::Left));
-    for (hasher, wanted) in [
-        (hasher_sizes::<Blake2b<0>>(), (128, 0)),
-        (hasher_sizes::<Blake2b<63>>(), (128, 63)),
-        (hasher_sizes::<Blake2b128>(), (128, 16)),
-        (hasher_sizes::<Blake2b256>(), (128, 32)),
-        (hasher_sizes::<Blake2b512>(), (128, 64)),
-        (hasher_sizes::<Blake2s<0>>(), (64, 0)),
-        (hasher_sizes::<Blake2s<31>>(), (64, 31)),
-        (hasher_sizes::<Blake2s128>(), (64, 16)),
-        (hasher_sizes::<Blake2s256>(), (64, 32)),
-    ] {
-        assert!(rt; hasher == wanted, "{wanted:?}");
-    }
-    for (mac, wanted) in [
-        (mac_sizes::<Blake2bMac<0>>(), (64, 0)),
-        (mac_sizes::<Blake2bMac<20>>(), (64, 20)),
-        (mac_sizes::<Blake2bMac512>(), (64, 64)),
-        (mac_sizes::<Blake2sMac<0>>(), (32, 0)),
-        (mac_sizes::<Blake2sMac<20>>(), (32, 20)),
-        (mac_sizes::<Blake2sMac256>(), (32, 32)),
-    ] {
-        assert!(rt; mac == wanted, "{wanted:?}");
-    }
+    check_core::<Blake2bVarCore, 128, 64>(&rt);
+    check_core::<Blake2sVarCore, 64, 32>(&rt);
+    check_hasher::<Blake2b<0>>(&rt, 128, 0);
+    check_hasher::<Blake2b<63>>(&rt, 128, 63);
+    check_hasher::<Blake2b128>(&rt, 128, 16);
+    check_hasher::<Blake2b256>(&rt, 128, 32);
+    check_hasher::<Blake2b512>(&rt, 128, 64);
+    check_hasher::<Blake2s<0>>(&rt, 64, 0);
+    check_hasher::<Blake2s<31>>(&rt, 64, 31);
+    check_hasher::<Blake2s128>(&rt, 64, 16);
+    check_hasher::<Blake2s256>(&rt, 64, 32);
+    check_mac::<Blake2bMac<0>>(&rt, 64, 0);
+    check_mac::<Blake2bMac<20>>(&rt, 64, 20);
+    check_mac::<Blake2bMac512>(&rt, 64, 64);
+    check_mac::<Blake2sMac<0>>(&rt, 32, 0);
+    check_mac::<Blake2sMac<20>>(&rt, 32, 20);
+    check_mac::<Blake2sMac256>(&rt, 32, 32);
 }
