@@ -4,6 +4,7 @@ use crate::inputs::{count_up, reads};
 use blake2::Tree;
 use blake2_plain::StateParameters;
 use blake2_plain::blake2s::State;
+use std::process::Abort;
 
 // Takes the input where the state can.
 fn take(state: &mut State, input: &[u8]) -> bool {
@@ -57,10 +58,7 @@ fn node(tree: &Tree) -> Option<State> {
     if !State::admits_tree(tree) {
         return None;
     }
-    match State::new_with_tree(&given(20, b"key", b"salt", b"persona"), tree) {
-        Ok(state) => Some(state),
-        Err(_) => None,
-    }
+    State::new_with_tree(&given(20, b"key", b"salt", b"persona"), tree).ok()
 }
 
 // Goes back to the start where the state has one.
@@ -77,23 +75,32 @@ fn accepts(state: &State, tag: &[u8]) -> bool {
     state.is_ready() && state.is_digest(tag)
 }
 
-#[test]
-fn in_pieces_and_after_a_reset(rt: HostRuntime) {
-    let Ok(mut state) = State::new(&given(20, b"key", b"salt", b"persona")) else {
-        assert!(rt; false);
-        return;
-    };
+// A keyed state that has taken 300 bytes in two pieces, after a reset behind three bytes.
+fn in_pieces(rt: &impl Abort) -> State {
+    let made = State::new(&given(20, b"key", b"salt", b"persona"));
+    let mut state = made.expect(rt, "a keyed state");
     let mut text = [0; 300];
     count_up(&mut text);
-    let mut out = [0; 20];
     assert!(rt; take(&mut state, &text[..3]) && start_again(&mut state));
     assert!(rt; take(&mut state, &text[..7]) && take(&mut state, &text[7..]));
+    state
+}
+
+#[test]
+fn in_pieces_and_after_a_reset(rt: HostRuntime) {
+    let state = in_pieces(&rt);
+    let mut out = [0; 20];
     assert!(rt; give(&state, &mut out));
     let wanted = "3c4eb23323bc8b4dd1d2f1421170a6584a46556a";
     assert!(rt; reads(&out, wanted));
     assert!(rt; accepts(&state, &out) && !accepts(&state, &out[..19]));
     out[19] ^= 1;
     assert!(rt; !accepts(&state, &out) && !give(&state, &mut out[..19]));
+}
+
+#[test]
+fn after_a_wipe(rt: HostRuntime) {
+    let mut state = in_pieces(&rt);
     state.wipe();
     assert!(rt; !state.is_ready() && state.first == [0; 8] && state.start_block == [0; 64]);
 }
@@ -104,10 +111,7 @@ fn from_a_node_of_a_tree(rt: HostRuntime) {
     // document, 2.8).
     let mut block = [0; 32];
     block[..16].copy_from_slice(&[32, 0, 2, 3, 0, 16, 0, 0, 5, 0, 0, 0, 0, 0, 1, 32]);
-    let Ok(mut state) = State::from_block(&block) else {
-        assert!(rt; false);
-        return;
-    };
+    let mut state = State::from_block(&block).expect(&rt, "a node");
     let mut out = [0; 32];
     assert!(rt; take(&mut state, b"abc") && give(&state, &mut out));
     let wanted = "4e3f59091cd7e7a9fed4ff8c600e8b6f834d33efb2ebaabe2a1cc11ee44378ee";
@@ -124,10 +128,7 @@ fn a_keyed_node_of_a_tree(rt: HostRuntime) {
         node_depth: 1,
         inner_length: 32,
     };
-    let Some(mut state) = node(&tree) else {
-        assert!(rt; false);
-        return;
-    };
+    let mut state = node(&tree).expect(&rt, "a node");
     let mut out = [0; 20];
     assert!(rt; take(&mut state, b"abc") && give(&state, &mut out));
     let wanted = "55e4285ff1ff765463e13a3e9a7a826dc915fd78";

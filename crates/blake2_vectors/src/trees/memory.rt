@@ -3,9 +3,9 @@
 
 ghost use Rattle.std.specs.Prelude.{◌≤◌};
 
+use super::root_steps;
 use blake2_tree::{TreeWitness, tree_root, tree_witness};
 use std::alloc::{AllocError, Global};
-use std::test::Fail;
 
 // Takes all memory of the process but 65,536 bytes that lie together, in blocks that halve, down
 // to the smallest.
@@ -40,76 +40,114 @@ fn plug(alloc: Global, left: usize) -> Result<Vec<u8>, AllocError>
 // Under a hoard each try has 16 bytes more than the one before, and the first has none.
 const TRIES: usize = 512;
 
-// The witness of two messages of two leaves, at roots of no bytes, which are equal. It asks for the
-// 64 bytes of a leaf's digest, and not for more the longer a leaf is: so it has enough under a
-// budget that is far below 64 bytes for each byte of the messages. The refusals are those of the
-// least budgets, and some of them come behind the first request, which a control makes too.
-#[test]
-fn refuse_memory_to_a_witness(rt: HostRuntime) -> Result<(), Fail> {
-    let alloc = rt.alloc();
-    let a = [b'a'; 2000];
-    let b = [b'b'; 2000];
-    let wanted = tree_witness(alloc, &[], &[], 1000, 0, &a, &b)?;
-    let mut refused = Vec::with_capacity(alloc, TRIES)?;
-    let mut behind_the_first = false;
+// The witness of two messages of two leaves, at roots of no bytes, which are equal.
+fn witness_of_two_leaves(alloc: Global) -> Result<Option<TreeWitness>, AllocError> {
+    tree_witness(alloc, &[], &[], 1000, 0, &[b'a'; 2000], &[b'b'; 2000])
+}
+
+// What that witness is with so many bytes left by a hoard, and whether 128 bytes are granted then.
+fn witness_within(
+    alloc: Global,
+    left: usize,
+) -> Result<(Result<Option<TreeWitness>, AllocError>, bool), AllocError>
+    requires { left ≤ 65536 }
+{
+    let plug = plug(alloc, left)?;
+    let first: Result<Vec<u8>, AllocError> = Vec::with_capacity(alloc, 128);
+    let first_fits = first.is_ok();
+    drop(first);
+    let found = witness_of_two_leaves(alloc);
+    drop(plug);
+    Ok((found, first_fits))
+}
+
+// Asks for the witness under a hoard, with 16 bytes more in each try. Gives the try behind the last
+// that was refused; whether one was refused where its first request would have been granted; and
+// the first that is wrong: it gave another witness, or was refused behind one that was not.
+fn tries(
+    alloc: Global,
+    wanted: &Option<TreeWitness>,
+) -> Result<(usize, bool, Option<usize>), AllocError> {
+    let mut refused = 0;
+    let mut is_behind_the_first = false;
+    let mut wrong = None;
     let hoard = hoard(alloc)?;
     for tries in 0..TRIES {
-        let plug = plug(alloc, 16 * tries)?;
-        let first: Result<Vec<u8>, AllocError> = Vec::with_capacity(alloc, 128);
-        let first_fits = first.is_ok();
-        drop(first);
-        let found = tree_witness(alloc, &[], &[], 1000, 0, &a, &b);
-        drop(plug);
-        match found {
-            Ok(found) => assert_eq!(rt; found, wanted, "{tries}"),
-            Err(AllocError) => {
-                refused.push(tries)?;
-                behind_the_first = behind_the_first || first_fits;
-            }
+        let (found, first_fits) = witness_within(alloc, 16 * tries)?;
+        let is_right = match found {
+            Ok(found) => found == *wanted,
+            Err(AllocError) => refused == tries,
+        };
+        if found.is_err() {
+            refused = tries + 1;
+            is_behind_the_first = is_behind_the_first || first_fits;
+        }
+        if !is_right && wrong.is_none() {
+            wrong = Some(tries);
         }
     }
     drop(hoard);
+    Ok((refused, is_behind_the_first, wrong))
+}
+
+// A witness asks for the 64 bytes of a leaf's digest, and not for more the longer a leaf is: so it
+// has enough under a budget that is far below 64 bytes for each byte of the messages. The refusals
+// are those of the least budgets, and some of them come behind the first request, which a control
+// makes too.
+#[test]
+fn refuse_memory_to_a_witness(rt: HostRuntime) {
+    let wanted = witness_of_two_leaves(rt.alloc()).expect(&rt, "a witness");
     assert!(rt; matches!(wanted, Some(TreeWitness::Root(..))));
-    assert!(rt; !refused.is_empty() && refused.len() < TRIES, "{refused:?}");
-    for (i, tries) in refused.iter().enumerate() {
-        assert!(rt; i == *tries, "{refused:?}");
-    }
-    assert!(rt; behind_the_first, "{refused:?}");
-    Ok(())
+    let found = tries(rt.alloc(), &wanted).expect(&rt, "room for the hoard");
+    let (refused, is_behind_the_first, wrong) = found;
+    assert!(rt; wrong.is_none(), "{wrong:?}");
+    assert!(rt; 0 < refused && refused < TRIES, "{refused}");
+    assert!(rt; is_behind_the_first, "{refused}");
 }
 
 // Where there is memory, a witness of messages of more than 4,096 leaves, whose last ones differ.
 #[test]
-fn witness_of_many_leaves(rt: HostRuntime) -> Result<(), Fail> {
-    let alloc = rt.alloc();
+fn witness_of_many_leaves(rt: HostRuntime) {
     let a = [0; 4100];
     let mut b = a;
     b[4099] = 1;
-    let found = tree_witness(alloc, &[], &[], 1, 0, &a, &b)?;
-    let Some(TreeWitness::Root(x, y)) = found else {
-        assert!(rt; false, "no pair of roots");
-        return Ok(());
-    };
+    let (x, y) = root_steps(&rt, tree_witness(rt.alloc(), &[], &[], 1, 0, &a, &b));
     assert!(rt; x.last && x.counter == 64 * 4100 && y.counter == 64 * 4100);
     assert!(rt; x.block[..64] == y.block[..64]);
     assert!(rt; x.block[64..] != y.block[64..]);
-    assert!(rt; tree_witness(alloc, &[], &[], 1, 64, &a, &a)?.is_none());
-    assert!(rt; tree_witness(alloc, &[], &[], 1, 64, &a, &b)?.is_none());
-    Ok(())
 }
 
+// The same messages have none at roots of 64 bytes, nor has one of them with itself.
 #[test]
-fn roots_without_memory(rt: HostRuntime) -> Result<(), Fail> {
-    let alloc = rt.alloc();
-    let message = b"abcdefghijklmnopqrstuvwxyz";
-    let wanted = tree_root::<64>(b"salt", b"persona", 4, message);
+fn no_witness_of_many_leaves(rt: HostRuntime) {
+    let a = [0; 4100];
+    let mut b = a;
+    b[4099] = 1;
+    assert!(rt; tree_witness(rt.alloc(), &[], &[], 1, 64, &a, &a) == Ok(None));
+    assert!(rt; tree_witness(rt.alloc(), &[], &[], 1, 64, &a, &b) == Ok(None));
+}
+
+// The root of a message of seven leaves.
+fn root_of_letters() -> [u8; 64] {
+    tree_root::<64>(b"salt", b"persona", 4, b"abcdefghijklmnopqrstuvwxyz")
+}
+
+// That root under a hoard, and whether a byte is granted then.
+fn root_without_memory(alloc: Global) -> Result<([u8; 64], bool), AllocError> {
     let hoard = hoard(alloc)?;
     let plug = plug(alloc, 0)?;
     let one_byte: Result<Vec<u8>, AllocError> = Vec::with_capacity(alloc, 1);
-    let root = tree_root::<64>(b"salt", b"persona", 4, message);
+    let root = root_of_letters();
     drop(plug);
     drop(hoard);
-    assert!(rt; one_byte.is_err());
-    assert_eq!(rt; root, wanted);
-    Ok(())
+    Ok((root, one_byte.is_ok()))
+}
+
+#[test]
+fn roots_without_memory(rt: HostRuntime) {
+    let wanted = root_of_letters();
+    let found = root_without_memory(rt.alloc());
+    let (root, is_granted) = found.expect(&rt, "room for the hoard");
+    assert!(rt; !is_granted);
+    assert!(rt; root == wanted);
 }

@@ -51,18 +51,14 @@ fn plain_root_of_twenty_bytes(rt: HostRuntime) {
     let salt = b"0123456789abcdef";
     let persona = b"fedcba9876543210";
     let root = tree_root::<20>(salt, persona, u32::MAX, b"abc");
-    match TreeState::new(20, salt, persona, u32::MAX) {
-        Ok(mut state) => {
-            state.update(b"abc");
-            let mut out = [7; 24];
-            state.write_root(&mut out);
-            assert!(rt; &out[..20] == root.as_slice());
-            assert!(rt; &out[20..] == [7; 4].as_slice());
-            state.wipe();
-            assert!(rt; !state.is_ready());
-        }
-        Err(_) => assert!(rt; false),
-    }
+    let mut state = TreeState::new(20, salt, persona, u32::MAX).expect(&rt, "a state");
+    state.update(b"abc");
+    let mut out = [7; 24];
+    state.write_root(&mut out);
+    assert!(rt; &out[..20] == root.as_slice());
+    assert!(rt; &out[20..] == [7; 4].as_slice());
+    state.wipe();
+    assert!(rt; !state.is_ready());
 }
 
 #[test]

@@ -1,8 +1,11 @@
 //! Witnesses of two messages with one root.
 
-use super::node;
-use blake2_tree::{TreeWitness, tree_root, tree_witness};
-use std::test::Fail;
+ghost use Rattle.std.specs.Prelude.{◌≤◌, length};
+
+use super::{node, root_steps};
+use blake2::steps::Step;
+use blake2_tree::{tree_root, tree_witness};
+use std::process::Abort;
 
 // IV xored with the first parameter words of a root of no bytes over leaves of four: fanout 0,
 // depth 2, leaf length 4; offset 0; node depth 1, inner length 64 (the BLAKE2 document, 2.8).
@@ -17,45 +20,47 @@ const START: [u64; 8] = [
     0x5be0cd19137e2179,
 ];
 
+// The step of a root over one leaf.
+fn root_step(message: &[u8; 1]) -> Step<u64, 128> {
+    let mut block = [0; 128];
+    block[..64].copy_from_slice(&node(0, 0, true, message));
+    Step {
+        chain: START,
+        block,
+        counter: 64,
+        last: true,
+        last_node: true,
+    }
+}
+
 // Roots of no bytes are all equal: of two messages of one leaf each, the steps of the roots.
 #[test]
-fn witness_of_roots(rt: HostRuntime) -> Result<(), Fail> {
-    let found = tree_witness(rt.alloc(), &[], &[], 4, 0, b"a", b"b")?;
-    let Some(TreeWitness::Root(x, y)) = found else {
-        assert!(rt; false, "no pair of roots");
-        return Ok(());
-    };
-    for (step, message) in [(x, b"a"), (y, b"b")] {
-        assert!(rt; step.chain == START);
-        assert!(rt; step.counter == 64);
-        assert!(rt; step.last && step.last_node);
-        assert!(rt; step.block[..64] == node(0, 0, true, message)[..]);
-        assert!(rt; step.block[64..] == [0; 64][..]);
-    }
-    Ok(())
+fn witness_of_roots(rt: HostRuntime) {
+    let (x, y) = root_steps(&rt, tree_witness(rt.alloc(), &[], &[], 4, 0, b"a", b"b"));
+    assert!(rt; x == root_step(b"a"), "{x:?}");
+    assert!(rt; y == root_step(b"b"), "{y:?}");
+}
+
+// Checks that two messages have no witness at roots of this size.
+fn check_none(rt: &(impl Abort + AllocGlobal), size: usize, a: &[u8], b: &[u8]) {
+    assert!(rt; size <= 64 && a.len() < 10 && b.len() < 10);
+    let found = tree_witness(rt.alloc(), b"salt", b"persona", 4, size, a, b);
+    assert!(rt; found == Ok(None), "{size}, {a:?}, {b:?}");
 }
 
 // The same message has no witness, nor have messages whose roots differ.
 #[test]
-fn no_witness(rt: HostRuntime) -> Result<(), Fail> {
-    let alloc = rt.alloc();
-    for (size, a, b) in [
-        (0, b"a" as &[u8], b"a" as &[u8]),
-        (64, b"abcdefghi", b"abcdefghi"),
-        (64, b"abcdefghi", b"abcdefghj"),
-        (64, b"abcd", b"abcde"),
-        (64, b"", b"\0"),
-    ] {
-        assert!(rt; size <= 64 && a.len() < 10 && b.len() < 10);
-        let found = tree_witness(alloc, b"salt", b"persona", 4, size, a, b)?;
-        assert!(rt; found.is_none(), "{size}");
-    }
-    Ok(())
+fn no_witness(rt: HostRuntime) {
+    check_none(&rt, 0, b"a", b"a");
+    check_none(&rt, 64, b"abcdefghi", b"abcdefghi");
+    check_none(&rt, 64, b"abcdefghi", b"abcdefghj");
+    check_none(&rt, 64, b"abcd", b"abcde");
+    check_none(&rt, 64, b"", b"\0");
 }
 
 // Two of 257 messages have one root of one byte.
 #[test]
-fn witness_of_a_found_pair(rt: HostRuntime) -> Result<(), Fail> {
+fn witness_of_a_found_pair(rt: HostRuntime) {
     let mut pair = None;
     for i in 0..257u16 {
         let a = i.to_be_bytes();
@@ -67,10 +72,10 @@ fn witness_of_a_found_pair(rt: HostRuntime) -> Result<(), Fail> {
             }
         }
     }
-    let (a, b) = pair.ok_or("no pair")?;
-    let found = tree_witness(rt.alloc(), &[], &[], 4, 1, &a, &b)?;
-    assert!(rt; matches!(found, Some(TreeWitness::Root(x, y)) if x != y));
+    let (a, b) = pair.expect(&rt, "no pair");
+    let found = tree_witness(rt.alloc(), &[], &[], 4, 1, &a, &b);
     let copy = found;
     assert!(rt; found == copy);
-    Ok(())
+    let (x, y) = root_steps(&rt, found);
+    assert!(rt; x != y);
 }
