@@ -1,5 +1,8 @@
 //! Runs of the program over memory. Expected digests are `hashlib`'s, and those that stand for
 //! many lines come from `tools/expected_values.py`.
+//!
+//! The checks assert by themselves, with the words of the command as message, so that the tests
+//! have no errors to pass on: each of those would be one more way out of a test to prove.
 
 mod devices;
 mod large;
@@ -16,9 +19,9 @@ mod witness;
 
 use b2_commands::run;
 use blake2::engine::{IoSink, SliceSource};
+use blake2::{Blake2b256, Digest};
 use std::alloc::{AllocError, Global};
 use std::process::Abort;
-use std::test::Fail;
 
 // The words of a command line, which spaces part.
 fn words_of(alloc: Global, text: &str) -> Result<Vec<String>, AllocError> {
@@ -43,39 +46,113 @@ fn run_over(
     Ok((status, sink.into_inner()))
 }
 
-// Pieces of text one after the other, each so many times.
-fn text_of(alloc: Global, pieces: &[(&str, usize)]) -> Result<String, AllocError> {
-    let mut text = String::new(alloc);
-    for (piece, times) in pieces {
-        for _ in 0..*times {
+// Adds pieces, which bars part, to a text. Before a star a piece has how often it comes: `3*ab` is
+// `ababab`, and so is `2*ab|ab`.
+fn push_pieces(text: &mut String, pieces: &str) -> Result<(), AllocError> {
+    for piece in pieces.split('|') {
+        let (times, piece) = match piece.split_once('*') {
+            Some((times, piece)) => (times.parse().unwrap_or(0), piece),
+            None => (1usize, piece),
+        };
+        for _ in 0..times {
             text.push_str(piece)?;
         }
+    }
+    Ok(())
+}
+
+// The text of these parts, one after the other, each of pieces.
+fn text_of(alloc: Global, parts: &[&str]) -> Result<String, AllocError> {
+    let mut text = String::new(alloc);
+    for part in parts {
+        push_pieces(&mut text, part)?;
     }
     Ok(text)
 }
 
-// Checks what a run printed, and its status.
-fn check_run(
-    rt: &impl Abort,
-    words: &str,
-    run: (u8, Vec<u8>),
-    status: u8,
-    text: &str,
-) -> Result<(), Fail> {
-    let (found_status, output) = run;
-    let found = str::from_utf8(output.as_slice())?;
-    assert_eq!(rt; found, text, "b2 {words}");
-    assert_eq!(rt; found_status, status, "b2 {words}");
-    Ok(())
+// Whether this is the digest of the outputs, BLAKE2b-256 in hexadecimal.
+fn is_digest_of(outputs: &[u8], digits: &str) -> bool {
+    let mut wanted = [0u8; 32];
+    hex::decode_to_slice(digits, &mut wanted).is_ok() && wanted == Blake2b256::digest(outputs)
 }
 
-// Checks that a command over an input prints these pieces of text, with status 0.
-fn check_prints(
+// What a command of these parts prints over an input, and nothing where it does not succeed.
+fn output_of(alloc: Global, parts: &[&str], input: &[u8]) -> Vec<u8> {
+    if let Ok(words) = text_of(alloc, parts) {
+        if let Ok((0, output)) = run_over(alloc, words.as_str(), input, None) {
+            return output;
+        }
+    }
+    Vec::new(alloc)
+}
+
+// Runs a command of these parts over an input, and adds what it prints: it has to print something.
+fn add_output(
+    rt: &(impl Abort + AllocGlobal),
+    outputs: &mut Vec<u8>,
+    parts: &[&str],
+    input: &[u8],
+) {
+    let output = output_of(rt.alloc(), parts, input);
+    assert!(rt; !output.is_empty(), "b2 {parts:?}: {} bytes", input.len());
+    let added = outputs.extend_from_slice(output.as_slice());
+    added.expect(rt, "memory for the test");
+}
+
+// Checks the status of a command over an input, which fails after so many bytes, and what it
+// prints.
+fn check_run(
     rt: &(impl Abort + AllocGlobal),
     words: &str,
     input: &[u8],
-    pieces: &[(&str, usize)],
-) -> Result<(), Fail> {
-    let run = run_over(rt.alloc(), words, input, None)?;
-    check_run(rt, words, run, 0, text_of(rt.alloc(), pieces)?.as_str())
+    fail_at: Option<usize>,
+    status: u8,
+    text: &str,
+) {
+    let run = run_over(rt.alloc(), words, input, fail_at);
+    let (found_status, output) = run.expect(rt, words);
+    let found = str::from_utf8(output.as_slice()).unwrap_or("bytes that are no text");
+    assert_eq!(rt; (found_status, found), (status, text), "b2 {words}");
+}
+
+// Checks the status of a command, and that it prints this line alone.
+fn check_line(
+    rt: &(impl Abort + AllocGlobal),
+    words: &str,
+    input: &[u8],
+    fail_at: Option<usize>,
+    status: u8,
+    line: &str,
+) {
+    let text = text_of(rt.alloc(), &[line, "\n"]).expect(rt, words);
+    check_run(rt, words, input, fail_at, status, text.as_str());
+}
+
+// Checks that a command whose second half are these words prints this line alone, with status 0.
+fn check_command(
+    rt: &(impl Abort + AllocGlobal),
+    command: &str,
+    rest: &str,
+    input: &[u8],
+    line: &str,
+) {
+    let words = text_of(rt.alloc(), &[command, " ", rest]).expect(rt, rest);
+    check_line(rt, words.as_str(), input, None, 0, line);
+}
+
+// Checks commands, a row each, with bars between the words, the input and the line that is printed.
+fn check_rows(rt: &(impl Abort + AllocGlobal), rows: &str, fail_at: Option<usize>, status: u8) {
+    for row in rows.lines() {
+        let (words, rest) = row.split_once('|').unwrap_or((row, ""));
+        let (input, line) = rest
+            .split_once('|')
+            .unwrap_or((rest, "a row without a line"));
+        check_line(rt, words, input.as_bytes(), fail_at, status, line);
+    }
+}
+
+// Checks that a command over an input prints a text, with status 0.
+fn check_prints(rt: &(impl Abort + AllocGlobal), words: &str, input: &[u8], parts: &[&str]) {
+    let text = text_of(rt.alloc(), parts).expect(rt, words);
+    check_run(rt, words, input, None, 0, text.as_str());
 }

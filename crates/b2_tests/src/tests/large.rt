@@ -2,11 +2,9 @@
 //! input are those of `tools/expected_values.py`, under `large`.
 
 use super::script::check_wrong;
-use super::{check_run, run_over};
-use blake2::{Blake2b256, Digest};
+use super::{check_command, is_digest_of, output_of, text_of};
 use std::alloc::{AllocError, Global};
 use std::process::Abort;
-use std::test::Fail;
 
 // The bytes of the input.
 const INPUT_BYTES: usize = (1 << 20) + 1;
@@ -42,44 +40,51 @@ fn large_input(alloc: Global) -> Result<Vec<u8>, AllocError> {
     Ok(input)
 }
 
-#[test]
-fn takes_a_large_input(rt: HostRuntime) -> Result<(), Fail> {
-    let alloc = rt.alloc();
+// Checks a KIND over the input and over a script that takes it.
+fn check_kind(
+    rt: &(impl Abort + AllocGlobal),
+    kind: &str,
+    digests: &str,
+    input: &[u8],
+    script: &[u8],
+) {
+    let (digest, steps_digest) = digests.split_once('|').unwrap_or((digests, ""));
+    check_command(rt, "sum", kind, input, digest);
+    check_command(rt, "script", kind, script, digest);
+    let transcript = output_of(rt.alloc(), &["steps ", kind], input);
+    assert!(rt;
+        is_digest_of(transcript.as_slice(), steps_digest),
+        "b2 steps {kind}"
+    );
+}
+
+// The input, its digits, and a script that takes it.
+fn large_texts(alloc: Global) -> Result<(Vec<u8>, String, String), AllocError> {
     let input = large_input(alloc)?;
     let digits = hex::encode(alloc, input.as_slice())?;
-    let script = format!(in alloc; "u 0 {digits}\nf 0\n")?;
-    for row in DIGESTS.lines() {
-        let (kind, digests) = row.split_once('|').ok_or("a row without digests")?;
-        let (digest, steps_digest) = digests.split_once('|').ok_or("a row with one digest")?;
-        let line = format!(in alloc; "{digest}\n")?;
-        let words = format!(in alloc; "sum {kind}")?;
-        let run = run_over(alloc, words.as_str(), input.as_slice(), None)?;
-        check_run(&rt, words.as_str(), run, 0, line.as_str())?;
-        let words = format!(in alloc; "script {kind}")?;
-        let run = run_over(alloc, words.as_str(), script.as_bytes(), None)?;
-        check_run(&rt, words.as_str(), run, 0, line.as_str())?;
-        let words = format!(in alloc; "steps {kind}")?;
-        let (status, output) = run_over(alloc, words.as_str(), input.as_slice(), None)?;
-        let found = hex::encode(alloc, &Blake2b256::digest(output.as_slice())[..])?;
-        assert!(rt; status == 0 && found.as_str() == steps_digest, "b2 {words}");
-    }
-    let words = format!(in alloc; "witness b512 {digits} {digits}")?;
-    let run = run_over(alloc, words.as_str(), b"", None)?;
-    check_run(&rt, "witness b512", run, 0, "none\n")
+    let script = text_of(alloc, &["u 0 ", digits.as_str(), "\nf 0\n"])?;
+    Ok((input, digits, script))
 }
 
 #[test]
-fn takes_a_large_input_as_a_tree(rt: HostRuntime) -> Result<(), Fail> {
-    let alloc = rt.alloc();
-    let input = large_input(alloc)?;
-    for row in ROOTS.lines() {
-        let (leaf, root) = row.split_once('|').ok_or("a row without a root")?;
-        let line = format!(in alloc; "{root}\n")?;
-        let words = format!(in alloc; "tree b256 {leaf}")?;
-        let run = run_over(alloc, words.as_str(), input.as_slice(), None)?;
-        check_run(&rt, words.as_str(), run, 0, line.as_str())?;
+fn takes_a_large_input(rt: HostRuntime) {
+    let (input, digits, script) = large_texts(rt.alloc()).expect(&rt, "memory for the test");
+    for row in DIGESTS.lines() {
+        let (kind, digests) = row.split_once('|').unwrap_or((row, ""));
+        check_kind(&rt, kind, digests, input.as_slice(), script.as_bytes());
     }
-    Ok(())
+    let digits = digits.as_str();
+    let none = output_of(rt.alloc(), &["witness b512 ", digits, " ", digits], b"");
+    assert!(rt; none.as_slice() == b"none\n".as_slice(), "b2 witness b512");
+}
+
+#[test]
+fn takes_a_large_input_as_a_tree(rt: HostRuntime) {
+    let input = large_input(rt.alloc()).expect(&rt, "memory for the test");
+    for row in ROOTS.lines() {
+        let (leaf, root) = row.split_once('|').unwrap_or((row, ""));
+        check_command(&rt, "tree b256", leaf, input.as_slice(), root);
+    }
 }
 
 // A script of ten thousand lines, of which the one at this place, from 0, is another.
@@ -92,23 +97,26 @@ fn script_with(alloc: Global, place: usize, line: &str, other: &str) -> Result<S
     Ok(script)
 }
 
+// Checks which line of such a script is refused: the lines, the other one and the cause are given
+// between bars.
+fn check_other_line(rt: &(impl Abort + AllocGlobal), place: usize, lines: &str) {
+    let (line, rest) = lines.split_once('|').unwrap_or((lines, ""));
+    let (other, cause) = rest.split_once('|').unwrap_or((rest, ""));
+    let script = script_with(rt.alloc(), place, line, other).expect(rt, lines);
+    let fault = format!(in rt.alloc(); "b2: line {}: {cause}", place.saturating_add(1));
+    check_wrong(rt, script.as_bytes(), fault.expect(rt, lines).as_str());
+}
+
 #[test]
-fn names_a_line_of_ten_thousand(rt: HostRuntime) -> Result<(), Fail> {
-    let alloc = rt.alloc();
+fn names_a_line_of_ten_thousand(rt: HostRuntime) {
     for place in [
         0, 1, 8, 9, 98, 99, 999, 1023, 1024, 4095, 4096, 5000, 8999, 9998, 9999,
     ] {
-        for (line, other, cause) in [
-            ("u 0 61", "u 0 6", "wrong line"),
-            ("d 0", "", "wrong line"),
-            ("c 0", "c 00", "wrong line"),
-            ("u 0 6162", "u 10001 61", "no such slot"),
-            ("r 0", "f 99999", "no such slot"),
-        ] {
-            let script = script_with(alloc, place, line, other)?;
-            let fault = format!(in alloc; "b2: line {}: {cause}\n", place + 1)?;
-            check_wrong(&rt, script.as_bytes(), fault.as_str())?;
-        }
+        // The lines, the other line, and the cause.
+        check_other_line(&rt, place, "u 0 61|u 0 6|wrong line");
+        check_other_line(&rt, place, "d 0||wrong line");
+        check_other_line(&rt, place, "c 0|c 00|wrong line");
+        check_other_line(&rt, place, "u 0 6162|u 10001 61|no such slot");
+        check_other_line(&rt, place, "r 0|f 99999|no such slot");
     }
-    Ok(())
 }

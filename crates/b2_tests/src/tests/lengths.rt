@@ -2,11 +2,9 @@
 //! byte and of the greatest length. The digests are those of `tools/expected_values.py`, under
 //! `texts` and `longest`.
 
-use super::run_over;
-use blake2::{Blake2b256, Digest};
+use super::{add_output, is_digest_of, text_of};
 use std::alloc::{AllocError, Global};
 use std::process::Abort;
-use std::test::Fail;
 
 // The words of a command, and the digest of what it prints over texts of 4,090 to 4,100 and of
 // 8,186 to 8,196 bytes.
@@ -49,109 +47,110 @@ pub(super) fn script_of(alloc: Global, length: usize) -> Result<Vec<u8>, AllocEr
     Ok(script)
 }
 
-// Runs a command over an input, checks that it succeeds, and adds what it prints.
-fn add_output(
+// A text of so many bytes, 8 and more, that a command takes: a script, or letters a.
+fn input_of(alloc: Global, words: &str, length: usize) -> Result<Vec<u8>, AllocError> {
+    if words.starts_with("script") {
+        script_of(alloc, length)
+    } else {
+        vec![in alloc; b'a'; length]
+    }
+}
+
+// Runs a command over a text of so many bytes, and adds what it prints.
+fn add_output_over(
     rt: &(impl Abort + AllocGlobal),
     outputs: &mut Vec<u8>,
     words: &str,
-    input: &[u8],
-) -> Result<(), Fail> {
-    let (status, output) = run_over(rt.alloc(), words, input, None)?;
-    assert!(rt; status == 0, "b2 {words}: {} bytes", input.len());
-    outputs.extend_from_slice(output.as_slice())?;
-    Ok(())
-}
-
-// Checks the digest of what commands print.
-fn check_outputs(
-    rt: &(impl Abort + AllocGlobal),
-    words: &str,
-    outputs: &[u8],
-    wanted: &str,
-) -> Result<(), Fail> {
-    let digest = hex::encode(rt.alloc(), &Blake2b256::digest(outputs)[..])?;
-    assert!(rt; digest.as_str() == wanted, "b2 {words}");
-    Ok(())
+    length: usize,
+) {
+    let input = input_of(rt.alloc(), words, length).expect(rt, words);
+    assert!(rt; input.len() == length, "b2 {words}: {length} bytes");
+    add_output(rt, outputs, &[words], input.as_slice());
 }
 
 #[test]
-fn takes_texts_about_the_ends_of_pieces(rt: HostRuntime) -> Result<(), Fail> {
-    let alloc = rt.alloc();
+fn takes_texts_about_the_ends_of_pieces(rt: HostRuntime) {
     for row in TEXTS.lines() {
-        let (words, wanted) = row.split_once('|').ok_or("a row without a digest")?;
-        let mut outputs = Vec::new(alloc);
-        for i in 0..22usize {
-            let length = if i < 11 { 4090 + i } else { 8175 + i };
-            let text = if words.starts_with("script") {
-                script_of(alloc, length)?
-            } else {
-                vec![in alloc; b'a'; length]?
-            };
-            assert!(rt; text.len() == length, "b2 {words}: {length} bytes");
-            add_output(&rt, &mut outputs, words, text.as_slice())?;
+        let (words, wanted) = row.split_once('|').unwrap_or((row, ""));
+        let mut outputs = Vec::new(rt.alloc());
+        for i in 0..11 {
+            add_output_over(&rt, &mut outputs, words, 4090 + i);
         }
-        check_outputs(&rt, words, outputs.as_slice(), wanted)?;
+        for i in 0..11 {
+            add_output_over(&rt, &mut outputs, words, 8186 + i);
+        }
+        assert!(rt; is_digest_of(outputs.as_slice(), wanted), "b2 {words}");
     }
-    Ok(())
 }
 
 // Words NAME=HEX for a key, a salt and a persona of so many bytes of 0, 1, 2 and so on.
 fn options_of(alloc: Global, lengths: (usize, usize, usize)) -> Result<String, AllocError> {
-    let mut bytes = [0u8; 64];
-    for (i, byte) in bytes.iter_mut().enumerate() {
-        *byte = i as u8;
-    }
+    let digits = "000102030405060708090a0b0c0d0e0f101112131415161718191a1b1c1d1e1f\
+                  202122232425262728292a2b2c2d2e2f303132333435363738393a3b3c3d3e3f";
     let (key, salt, persona) = lengths;
-    let key = hex::encode(alloc, &bytes[..key.min(64)])?;
-    let salt = hex::encode(alloc, &bytes[..salt.min(64)])?;
-    let persona = hex::encode(alloc, &bytes[..persona.min(64)])?;
-    format!(in alloc; "key={key} salt={salt} persona={persona}")
+    let key = digits.get(..2 * key.min(64)).unwrap_or("");
+    let salt = digits.get(..2 * salt.min(64)).unwrap_or("");
+    let persona = digits.get(..2 * persona.min(64)).unwrap_or("");
+    text_of(alloc, &["key=", key, " salt=", salt, " persona=", persona])
 }
 
-// What `sum`, `script` and `steps` print over `abc` under a KIND and options of these lengths.
+// Adds what `sum`, `script` and `steps` print over `abc` under a KIND and options of these lengths.
 fn add_outputs(
     rt: &(impl Abort + AllocGlobal),
     sums: &mut Vec<u8>,
     transcripts: &mut Vec<u8>,
     kind: &str,
     lengths: (usize, usize, usize),
-) -> Result<(), Fail> {
-    let alloc = rt.alloc();
-    let options = options_of(alloc, lengths)?;
-    let words = format!(in alloc; "sum {kind} {options}")?;
-    add_output(rt, sums, words.as_str(), b"abc")?;
-    let words = format!(in alloc; "script {kind} {options}")?;
-    add_output(rt, sums, words.as_str(), b"u 0 616263\nf 0\n")?;
-    let words = format!(in alloc; "steps {kind} {options}")?;
-    add_output(rt, transcripts, words.as_str(), b"abc")
+) {
+    let options = options_of(rt.alloc(), lengths).expect(rt, kind);
+    let options = options.as_str();
+    add_output(rt, sums, &["sum ", kind, " ", options], b"abc");
+    add_output(
+        rt,
+        sums,
+        &["script ", kind, " ", options],
+        b"u 0 616263\nf 0\n",
+    );
+    add_output(rt, transcripts, &["steps ", kind, " ", options], b"abc");
+}
+
+// Checks a KIND whose longest key, and whose longest salt and persona, have so many bytes.
+fn check_lengths(
+    rt: &(impl Abort + AllocGlobal),
+    kind: &str,
+    digests: &str,
+    key: usize,
+    text: usize,
+) {
+    let (sum_digest, steps_digest) = digests.split_once('|').unwrap_or((digests, ""));
+    let (mut sums, mut transcripts) = (Vec::new(rt.alloc()), Vec::new(rt.alloc()));
+    for lengths in [
+        (1, 1, 1),
+        (1, 1, text),
+        (1, text, 1),
+        (1, text, text),
+        (key, 1, 1),
+        (key, 1, text),
+        (key, text, 1),
+        (key, text, text),
+    ] {
+        add_outputs(rt, &mut sums, &mut transcripts, kind, lengths);
+    }
+    assert!(rt; is_digest_of(sums.as_slice(), sum_digest), "b2 sum {kind}");
+    assert!(rt;
+        is_digest_of(transcripts.as_slice(), steps_digest),
+        "b2 steps {kind}"
+    );
 }
 
 #[test]
-fn takes_options_of_each_length(rt: HostRuntime) -> Result<(), Fail> {
-    let alloc = rt.alloc();
+fn takes_options_of_each_length(rt: HostRuntime) {
     for row in LONGEST.lines() {
-        let (kind, digests) = row.split_once('|').ok_or("a row without digests")?;
-        let (sum_digest, steps_digest) = digests.split_once('|').ok_or("a row with one digest")?;
-        let (key, text) = if kind.starts_with("b") {
-            (64, 16)
+        let (kind, digests) = row.split_once('|').unwrap_or((row, ""));
+        if kind.starts_with("b") {
+            check_lengths(&rt, kind, digests, 64, 16);
         } else {
-            (32, 8)
-        };
-        let (mut sums, mut transcripts) = (Vec::new(alloc), Vec::new(alloc));
-        for lengths in [
-            (1, 1, 1),
-            (1, 1, text),
-            (1, text, 1),
-            (1, text, text),
-            (key, 1, 1),
-            (key, 1, text),
-            (key, text, 1),
-            (key, text, text),
-        ] {
-            add_outputs(&rt, &mut sums, &mut transcripts, kind, lengths)?;
+            check_lengths(&rt, kind, digests, 32, 8);
         }
-        check_outputs(&rt, kind, sums.as_slice(), sum_digest)?;
-        check_outputs(&rt, kind, transcripts.as_slice(), steps_digest)?;
     }
-    Ok(())
 }

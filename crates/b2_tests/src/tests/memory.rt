@@ -7,7 +7,6 @@ use b2_commands::run;
 use blake2::engine::{SliceSink, SliceSource};
 use std::alloc::{AllocError, Global};
 use std::process::Abort;
-use std::test::Fail;
 
 // The bytes that a hoard leaves together: those of the shortest piece of a tree's input, and more.
 const SPARE_BYTES: usize = 131_072;
@@ -56,6 +55,82 @@ fn run_with_memory(
     Ok((status, sink.written()))
 }
 
+// What a command does where so many bytes of memory are left.
+#[derive(Clone, Copy, PartialEq)]
+enum Answer {
+    // It answers that memory is wanted, with status 1.
+    Refused,
+    // It prints the text that is wanted, with status 0.
+    Printed,
+    // It does anything else.
+    Other,
+}
+
+fn answer_with_memory(
+    alloc: Global,
+    words: &[String],
+    input: &[u8],
+    wanted: &str,
+    left: usize,
+) -> Answer
+    requires { left ≤ 131072 }
+{
+    let mut room = [0u8; 1024];
+    let Ok((status, written)) = run_with_memory(alloc, words, input, &mut room, left) else {
+        return Answer::Other;
+    };
+    let printed = room.get(..written).unwrap_or(b"");
+    if status == 0 && printed == wanted.as_bytes() {
+        Answer::Printed
+    } else if status == 1 && printed == b"b2: no memory\n".as_slice() {
+        Answer::Refused
+    } else {
+        Answer::Other
+    }
+}
+
+// How many of the tries are refused, where all of them stand before those that print what is
+// wanted, and there is none of another kind. Each has so many bytes more than the one before it,
+// and the first has none.
+fn count_refused(
+    alloc: Global,
+    words: &[String],
+    input: &[u8],
+    wanted: &str,
+    step: usize,
+) -> Option<usize>
+    requires { step ≤ 128 }
+{
+    let mut refused = 0usize;
+    for tries in 0..TRIES {
+        match answer_with_memory(alloc, words, input, wanted, step * tries) {
+            Answer::Refused if refused == tries => refused = tries + 1,
+            Answer::Printed => {}
+            _ => return None,
+        }
+    }
+    Some(refused)
+}
+
+// The same of a command whose words are to be parted, and a text that is to be made, before the
+// memory is taken.
+fn count_refused_of(
+    alloc: Global,
+    text: &str,
+    input: &[u8],
+    wanted: &[&str],
+    step: usize,
+) -> Result<Option<usize>, AllocError>
+    requires { step ≤ 128 }
+{
+    let words = words_of(alloc, text)?;
+    let wanted = text_of(alloc, wanted)?;
+    let hoard = hoard(alloc)?;
+    let refused = count_refused(alloc, words.as_slice(), input, wanted.as_str(), step);
+    drop(hoard);
+    Ok(refused)
+}
+
 // Checks a command where no memory is left, and at each further try with so many bytes more. At
 // the first tries it answers that memory is wanted, with status 1, and at all others it prints the
 // text, with status 0.
@@ -63,66 +138,16 @@ fn check_refusals(
     rt: &(impl Abort + AllocGlobal),
     text: &str,
     input: &[u8],
-    wanted: &str,
+    wanted: &[&str],
     step: usize,
-) -> Result<(), Fail>
+)
     requires { step ≤ 128 }
 {
-    let words = words_of(rt.alloc(), text)?;
-    let mut room = [0u8; 1024];
-    let hoard = hoard(rt.alloc())?;
-    let mut refused = 0usize;
-    for tries in 0..TRIES {
-        let (status, written) = run_with_memory(
-            rt.alloc(),
-            words.as_slice(),
-            input,
-            &mut room,
-            step * tries,
-        )?;
-        let printed = str::from_utf8(room.get(..written).unwrap_or(b""))?;
-        if printed == "b2: no memory\n" {
-            assert!(rt; status == 1 && refused == tries, "b2 {text}: try {tries}");
-            refused = refused.saturating_add(1);
-        } else {
-            assert!(rt; status == 0 && printed == wanted, "b2 {text}: try {tries}");
-        }
-    }
-    drop(hoard);
+    let refused = count_refused_of(rt.alloc(), text, input, wanted, step);
     assert!(rt;
-        0 < refused && refused < TRIES,
-        "b2 {text}: {refused} refused"
+        matches!(refused, Ok(Some(refused)) if 0 < refused && refused < TRIES),
+        "b2 {text}"
     );
-    Ok(())
-}
-
-// Checks a command that takes no memory: it prints the text where no memory is left, and where
-// requests for a byte and for sixteen are refused before it and after it.
-fn check_without_memory(
-    rt: &(impl Abort + AllocGlobal),
-    text: &str,
-    input: &[u8],
-    wanted: (u8, &str),
-) -> Result<(), Fail> {
-    let words = words_of(rt.alloc(), text)?;
-    let mut room = [0u8; 256];
-    let hoard = hoard(rt.alloc())?;
-    let plug: Vec<u8> = Vec::with_capacity(rt.alloc(), SPARE_BYTES)?;
-    let refused_before = is_refused(rt.alloc());
-    let mut source = SliceSource::new(input, 4096, None);
-    let mut sink = SliceSink::new(&mut room, 4096, None);
-    let status = run(rt.alloc(), words.as_slice(), &mut source, &mut sink);
-    let refused_after = is_refused(rt.alloc());
-    drop(plug);
-    drop(hoard);
-    assert!(rt; refused_before && refused_after, "b2 {text}");
-    let written = sink.written();
-    let printed = str::from_utf8(room.get(..written).unwrap_or(b""))?;
-    assert!(rt;
-        (status, printed) == wanted,
-        "b2 {text}: {status} {printed}"
-    );
-    Ok(())
 }
 
 // Whether requests for a byte of memory, and for sixteen, are refused.
@@ -132,93 +157,99 @@ fn is_refused(alloc: Global) -> bool {
     one.is_err() && sixteen.is_err()
 }
 
+// The status of a command where no memory is left, and how many bytes it prints into the room; or
+// none where a request for a byte or for sixteen is granted before it or after it.
+fn run_without_memory(
+    alloc: Global,
+    text: &str,
+    input: &[u8],
+    room: &mut [u8],
+) -> Result<Option<(u8, usize)>, AllocError> {
+    let words = words_of(alloc, text)?;
+    let hoard = hoard(alloc)?;
+    let plug: Vec<u8> = Vec::with_capacity(alloc, SPARE_BYTES)?;
+    let refused_before = is_refused(alloc);
+    let mut source = SliceSource::new(input, 4096, None);
+    let mut sink = SliceSink::new(room, 4096, None);
+    let status = run(alloc, words.as_slice(), &mut source, &mut sink);
+    let refused_after = is_refused(alloc);
+    drop(plug);
+    drop(hoard);
+    if refused_before && refused_after {
+        Ok(Some((status, sink.written())))
+    } else {
+        Ok(None)
+    }
+}
+
+// Checks a command that takes no memory: it prints the text where no memory is left.
+fn check_without_memory(
+    rt: &(impl Abort + AllocGlobal),
+    words: &str,
+    input: &[u8],
+    status: u8,
+    text: &str,
+) {
+    let mut room = [0u8; 256];
+    let found = run_without_memory(rt.alloc(), words, input, &mut room);
+    let is_right = match found {
+        Ok(Some((found, written))) => {
+            found == status && room.get(..written) == Some(text.as_bytes())
+        }
+        _ => false,
+    };
+    assert!(rt; is_right, "b2 {words}");
+}
+
 const STEP: &str =
     "s 6a09e667f2bdc908 bb67ae8584caa73b 3c6ef372fe94f82b a54ff53a5f1d36f1 510e527fade682d1 \
     9b05688c2b3e6c1f 1f83d9abfb41bd6b 5be0cd19137e2179 1 1 ";
 
 #[test]
-fn each_request_for_memory_refused(rt: HostRuntime) -> Result<(), Fail> {
+fn each_request_for_memory_refused(rt: HostRuntime) {
     check_refusals(
         &rt,
         "sum b128 key=0102 salt=73616c74 persona=706572736f6e61",
         b"abc",
-        "64e477c9f5c0ba5bd0d2d41455c1fb48\n",
+        &["64e477c9f5c0ba5bd0d2d41455c1fb48\n"],
         16,
-    )?;
+    );
+    let abc = "ba80a53f981c4d0d6a2797b69f12f6e94c212f14685ac4b74b12bb6fdbffa2d1\
+        7d87c5392aab792dc252d5de4533cc9518d38aa8dbf1925ab92386edd4009923\n";
+    let nothing = "786a02f742015903c6c6fd852552d272912f4740e15847618a86e217f71f5419\
+        d25e1031afee585313896444934eb04b903a685b1448b755d56f701afe9be2ce\n";
     let lines = b"u 0 6162\nc 0\nu 0 63\nd 0\nu 1 63\nf 1\nf 0\n";
-    let digests = text_of(
-        rt.alloc(),
-        &[
-            (
-                "ba80a53f981c4d0d6a2797b69f12f6e94c212f14685ac4b74b12bb6fdbffa2d1\
-                7d87c5392aab792dc252d5de4533cc9518d38aa8dbf1925ab92386edd4009923\n",
-                2,
-            ),
-            (
-                "786a02f742015903c6c6fd852552d272912f4740e15847618a86e217f71f5419\
-                d25e1031afee585313896444934eb04b903a685b1448b755d56f701afe9be2ce\n",
-                1,
-            ),
-        ],
-    )?;
-    check_refusals(&rt, "script b512", lines, digests.as_str(), 16)?;
-    let transcript = text_of(
-        rt.alloc(),
-        &[
-            ("w 0000000001010040", 1),
-            (" 0000000000000000", 7),
-            ("\ne 128 1 ", 1),
-            ("2a", 128),
-            ("\n", 1),
-        ],
-    )?;
-    check_refusals(&rt, "steps b512", &[0x2a; 128], transcript.as_str(), 16)?;
-    let pair = text_of(
-        rt.alloc(),
-        &[
-            (STEP, 1),
-            ("61", 1),
-            ("00", 127),
-            ("\n", 1),
-            (STEP, 1),
-            ("62", 1),
-            ("00", 127),
-            ("\n", 1),
-        ],
-    )?;
-    check_refusals(&rt, "witness b0 61 62", b"", pair.as_str(), 16)?;
+    check_refusals(&rt, "script b512", lines, &[abc, abc, nothing], 16);
+    let transcript = "w 0000000001010040|7* 0000000000000000|\ne 128 1 |128*2a|\n";
+    check_refusals(&rt, "steps b512", &[0x2a; 128], &[transcript], 16);
+    let root = "14b0752e3ca5c2b4f5df98dcb4fab97caeda23424260d531f9b0b52310bb58ee\
+        cb6e13211a8298c3e52d543a21efa545053f3006100629ff6bd181611b38f8c8\n";
+    check_refusals(&rt, "tree b512 4 salt= persona=", b"abcde", &[root], 128);
+}
+
+#[test]
+fn each_request_of_a_witness_refused(rt: HostRuntime) {
+    let pair = [STEP, "61|127*00|\n", STEP, "62|127*00|\n"];
+    check_refusals(&rt, "witness b0 61 62", b"", &pair, 16);
     for words in [
         "witness b0 61 61",
         "witness b512 61 62",
         "witness s256 61 -",
         "witness s8 - 62",
     ] {
-        check_refusals(&rt, words, b"", "none\n", 16)?;
+        check_refusals(&rt, words, b"", &["none\n"], 16);
     }
-    check_refusals(
-        &rt,
-        "tree b512 4 salt= persona=",
-        b"abcde",
-        "14b0752e3ca5c2b4f5df98dcb4fab97caeda23424260d531f9b0b52310bb58ee\
-        cb6e13211a8298c3e52d543a21efa545053f3006100629ff6bd181611b38f8c8\n",
-        128,
-    )
 }
 
 #[test]
-fn answers_that_take_no_memory(rt: HostRuntime) -> Result<(), Fail> {
+fn answers_that_take_no_memory(rt: HostRuntime) {
     let digest = "508c5e8c327c14e2e1a72ba34eeb452f37458b209ed63a294d999b4c86675982\n";
-    for (words, input, wanted) in [
-        ("sum s256", "abc", (0, digest)),
-        ("witness b512 - -", "", (0, "none\n")),
-        ("witness s0 - -", "", (0, "none\n")),
-        ("", "", (2, "b2: wrong words\n")),
-        ("sum b999", "", (2, "b2: wrong words\n")),
-        ("tree s256 4", "", (2, "b2: wrong words\n")),
-        ("steps b512 key=", "", (2, "b2: wrong length\n")),
-        ("sum b512 salt=1", "", (2, "b2: wrong hex\n")),
-    ] {
-        check_without_memory(&rt, words, input.as_bytes(), wanted)?;
-    }
-    Ok(())
+    check_without_memory(&rt, "sum s256", b"abc", 0, digest);
+    check_without_memory(&rt, "witness b512 - -", b"", 0, "none\n");
+    check_without_memory(&rt, "witness s0 - -", b"", 0, "none\n");
+    check_without_memory(&rt, "", b"", 2, "b2: wrong words\n");
+    check_without_memory(&rt, "sum b999", b"", 2, "b2: wrong words\n");
+    check_without_memory(&rt, "tree s256 4", b"", 2, "b2: wrong words\n");
+    check_without_memory(&rt, "steps b512 key=", b"", 2, "b2: wrong length\n");
+    check_without_memory(&rt, "sum b512 salt=1", b"", 2, "b2: wrong hex\n");
 }

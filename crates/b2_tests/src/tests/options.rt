@@ -1,9 +1,7 @@
 //! Every choice of key, salt and persona that are given or absent, at each KIND.
 
-use super::{check_run, run_over};
-use blake2::{Blake2b256, Digest};
+use super::{check_command, is_digest_of, output_of};
 use std::process::Abort;
-use std::test::Fail;
 
 // KIND and the words behind it; the line of `sum` over `abc`; and the digest of what `steps`
 // prints over it.
@@ -107,37 +105,22 @@ f09484c33891817f12b95a8e134c2045b11203591f35219de7dfbce9bd15cc8f|\
 38f719806c4729bb860b50ca06d49c42d43ae9fdc53536ff5e83df7e66288ad8\n\
 ";
 
-// Checks what a command prints over an input, under these options.
-fn check_line(
-    rt: &(impl Abort + AllocGlobal),
-    command: &str,
-    options: &str,
-    input: &[u8],
-    digest: &str,
-) -> Result<(), Fail> {
-    let words = format!(in rt.alloc(); "{command} {options}")?;
-    let line = format!(in rt.alloc(); "{digest}\n")?;
-    let run = run_over(rt.alloc(), words.as_str(), input, None)?;
-    check_run(rt, words.as_str(), run, 0, line.as_str())
-}
-
 // Checks the digest of what `steps` prints over `abc`, under these options.
-fn check_steps(rt: &(impl Abort + AllocGlobal), options: &str, digest: &str) -> Result<(), Fail> {
-    let words = format!(in rt.alloc(); "steps {options}")?;
-    let (status, output) = run_over(rt.alloc(), words.as_str(), b"abc", None)?;
-    let found = hex::encode(rt.alloc(), &Blake2b256::digest(output.as_slice())[..])?;
-    assert!(rt; status == 0 && found.as_str() == digest, "b2 {words}");
-    Ok(())
+fn check_steps(rt: &(impl Abort + AllocGlobal), options: &str, digest: &str) {
+    let transcript = output_of(rt.alloc(), &["steps ", options], b"abc");
+    assert!(rt;
+        is_digest_of(transcript.as_slice(), digest),
+        "b2 steps {options}"
+    );
 }
 
 #[test]
-fn takes_each_choice_of_options(rt: HostRuntime) -> Result<(), Fail> {
+fn takes_each_choice_of_options(rt: HostRuntime) {
     for row in OPTIONS.lines() {
-        let (options, digests) = row.split_once('|').ok_or("a row without digests")?;
-        let (digest, steps_digest) = digests.split_once('|').ok_or("a row with one digest")?;
-        check_line(&rt, "sum", options, b"abc", digest)?;
-        check_line(&rt, "script", options, b"u 0 616263\nf 0\n", digest)?;
-        check_steps(&rt, options, steps_digest)?;
+        let (options, digests) = row.split_once('|').unwrap_or((row, ""));
+        let (digest, steps_digest) = digests.split_once('|').unwrap_or((digests, ""));
+        check_command(&rt, "sum", options, b"abc", digest);
+        check_command(&rt, "script", options, b"u 0 616263\nf 0\n", digest);
+        check_steps(&rt, options, steps_digest);
     }
-    Ok(())
 }
