@@ -9,7 +9,7 @@ use blake2::engine::{DeviceError, StreamFault};
 use blake2::rows::{u32x4, u64x4};
 use blake2::steps::{Entry, Input, Reading, Step, Tree};
 use blake2_tree::{TreeWitness, tree_witness};
-use std::alloc::{AllocError, Global};
+use std::alloc::AllocError;
 use std::fmt;
 use std::process::Abort;
 
@@ -32,14 +32,19 @@ fn check_copies<T: Copy + Eq>(rt: &impl Abort, values: &[T]) {
     }
 }
 
-// Whether `Debug` writes this of the value.
-fn debugs<T: fmt::Debug>(alloc: Global, value: &T, wanted: &str) -> Result<bool, AllocError> {
-    Ok(format!(in alloc; "{value:?}")?.as_str() == wanted)
+// Checks that `Debug` writes this of the value.
+fn check_debug<T: fmt::Debug>(rt: &(impl Abort + AllocGlobal), value: &T, wanted: &str) {
+    let text = format!(in rt.alloc(); "{value:?}").expect(rt, wanted);
+    assert!(rt; text.as_str() == wanted, "{text} in place of {wanted}");
 }
 
-// Whether what `Debug` writes of the value begins so.
-fn debug_begins<T: fmt::Debug>(alloc: Global, value: &T, name: &str) -> Result<bool, AllocError> {
-    Ok(format!(in alloc; "{value:?}")?.as_str().starts_with(name))
+// Checks that what `Debug` writes of the value begins with its name.
+fn check_name<T: fmt::Debug>(rt: &(impl Abort + AllocGlobal), value: &T, name: &str) {
+    let text = format!(in rt.alloc(); "{value:?}").expect(rt, name);
+    assert!(rt;
+        text.as_str().starts_with(name),
+        "{text} in place of {name}"
+    );
 }
 
 const STREAM_FAULTS: [StreamFault; 3] = [
@@ -72,7 +77,7 @@ fn print_faults(rt: HostRuntime) {
     let faults = (DeviceError, STREAM_FAULTS, REPLAY_FAULTS);
     let wanted = "(DeviceError, [Read, TooLong, Write], \
                   [NoSuchSlot(1), NoSuchSlot(2), TooLong(1), Memory])";
-    assert!(rt; debugs(rt.alloc(), &faults, wanted) == Ok(true));
+    check_debug(&rt, &faults, wanted);
     let faults = (
         InvalidOutputSize,
         InvalidLength,
@@ -81,7 +86,7 @@ fn print_faults(rt: HostRuntime) {
         TruncSide::Left,
     );
     let wanted = "(InvalidOutputSize, InvalidLength, MacError, Lazy, Left)";
-    assert!(rt; debugs(rt.alloc(), &faults, wanted) == Ok(true));
+    check_debug(&rt, &faults, wanted);
 }
 
 #[test]
@@ -152,11 +157,10 @@ fn copy_witnesses_of_trees(rt: HostRuntime) {
 
 #[test]
 fn print_witnesses_and_places(rt: HostRuntime) {
-    let alloc = rt.alloc();
     let [x, y] = two_steps();
-    assert!(rt; debug_begins(alloc, &TreeWitness::Root(x, y), "Root(Step") == Ok(true));
-    assert!(rt; debug_begins(alloc, &TreeWitness::Leaf(7, x, y), "Leaf(7, Step") == Ok(true));
-    assert!(rt; debug_begins(alloc, &Tree::sequential(), "Tree") == Ok(true));
+    check_name(&rt, &TreeWitness::Root(x, y), "Root(Step");
+    check_name(&rt, &TreeWitness::Leaf(7, x, y), "Leaf(7, Step");
+    check_name(&rt, &Tree::sequential(), "Tree");
 }
 
 // Of trees without salt and persona: one message has no witness, nor have two whose roots differ.
@@ -257,25 +261,24 @@ fn copy_inputs(rt: HostRuntime) {
 }
 
 #[test]
-fn compare_transcripts(rt: HostRuntime) -> Result<(), AllocError> {
-    let alloc = rt.alloc();
+fn compare_transcripts(rt: HostRuntime) {
     let words = [1u32, 2, 3, 4, 5, 6, 7, 8];
     let entries: [Entry<64>; 2] = [entry(b"a", 64, false), entry(b"b", 65, true)];
-    let mut transcripts = Vec::new(alloc);
+    let mut transcripts = Vec::new(rt.alloc());
     for (words, entries) in [
         (words, &entries[..]),
         ([1, 2, 3, 4, 5, 6, 7, 9], &entries),
         (words, &entries[..1]),
         (words, &[entries[1], entries[0]]),
     ] {
-        transcripts.push(transcript(alloc, words, entries)?)?;
+        let told = transcript(&rt, words, entries);
+        transcripts.push(told).expect(&rt, "room for a transcript");
     }
     check_different(&rt, transcripts.as_slice());
-    Ok(())
 }
 
 #[test]
-fn compare_readings(rt: HostRuntime) -> Result<(), AllocError> {
+fn compare_readings(rt: HostRuntime) {
     let whole = unkeyed(b"message");
     let tree = Tree {
         node_depth: 1,
@@ -299,8 +302,8 @@ fn compare_readings(rt: HostRuntime) -> Result<(), AllocError> {
         ),
     ] {
         assert!(rt; given.salt.len() <= 8 && given.persona.len() <= 8);
-        readings.push(reading(rt.alloc(), &given, output_size)?)?;
+        let read = reading(&rt, &given, output_size);
+        readings.push(read).expect(&rt, "room for a reading");
     }
     check_different(&rt, readings.as_slice());
-    Ok(())
 }

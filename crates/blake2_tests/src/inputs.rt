@@ -6,7 +6,7 @@ ghost use Rattle.std.specs.Prelude.{◌≡◌, ◌≤◌, [], length};
 pub(crate) use blake2::digest::padded;
 use blake2::steps::{Entry, Input, Reading, Step, Transcript, Tree};
 use blake2::{Blake2b256, Blake2bVarCore, Blake2sVarCore, Digest};
-use std::alloc::{AllocError, Global};
+use std::process::Abort;
 
 /// Fills the bytes with 0 to 250, again and again.
 pub(crate) fn count_up(bytes: &mut [u8]) {
@@ -63,12 +63,12 @@ pub(crate) fn entry<const B: usize>(beginning: &[u8], counter: u64, last: bool) 
 
 /// A transcript of these words and entries.
 pub(crate) fn transcript<W: Drop, const B: usize>(
-    alloc: Global,
+    rt: &(impl Abort + AllocGlobal),
     words: [W; 8],
     entries: &[Entry<B>],
-) -> Result<Transcript<W, B>, AllocError> {
-    let entries = entries.to_vec(alloc)?;
-    Ok(Transcript { words, entries })
+) -> Transcript<W, B> {
+    let entries = entries.to_vec(rt.alloc()).expect(rt, "room for entries");
+    Transcript { words, entries }
 }
 
 /// A step whose block goes on with zeros behind these bytes, with the last-node flag off.
@@ -91,26 +91,27 @@ pub(crate) fn step<W: Drop, const B: usize>(
 
 /// What a transcript of this input and output size is read as.
 pub(crate) fn reading<const S: usize>(
-    alloc: Global,
+    rt: &(impl Abort + AllocGlobal),
     input: &Input<'_>,
     output_size: usize,
-) -> Result<Reading<S>, AllocError>
+) -> Reading<S>
     requires salt { length input.now.salt.now ≤ S }
     requires persona { length input.now.persona.now ≤ S }
 {
     let key = match input.key {
-        Some(key) => Some(key.to_vec(alloc)?),
+        Some(key) => Some(key.to_vec(rt.alloc()).expect(rt, "room for a key")),
         None => None,
     };
-    Ok(Reading {
+    let message = input.message.to_vec(rt.alloc());
+    Reading {
         output_size,
         salt: padded(input.salt),
         persona: padded(input.persona),
         key,
         tree: input.tree,
         last_node: input.last_node,
-        message: input.message.to_vec(alloc)?,
-    })
+        message: message.expect(rt, "room for a message"),
+    }
 }
 
 /// The input that a reading tells.
@@ -128,34 +129,34 @@ pub(crate) fn read_input<'a, const S: usize>(read: &'a Reading<S>) -> Input<'a> 
 
 /// Whether BLAKE2b reads the transcript as this input, which it accepts, at this output size.
 pub(crate) fn blake2b_reads_as(
-    alloc: Global,
+    rt: &(impl Abort + AllocGlobal),
     told: &Transcript<u64, 128>,
     input: &Input<'_>,
     output_size: usize,
-) -> Result<bool, AllocError> {
+) -> bool {
     if !Blake2bVarCore::accepts(input) {
-        return Ok(false);
+        return false;
     }
-    let wanted = reading(alloc, input, output_size)?;
-    Ok(Blake2bVarCore::read_transcript(alloc, told)? == Some(wanted))
+    let wanted = reading(rt, input, output_size);
+    Blake2bVarCore::read_transcript(rt.alloc(), told) == Ok(Some(wanted))
 }
 
 /// Whether BLAKE2s reads the transcript as this input, which it accepts, at this output size.
 pub(crate) fn blake2s_reads_as(
-    alloc: Global,
+    rt: &(impl Abort + AllocGlobal),
     told: &Transcript<u32, 64>,
     input: &Input<'_>,
     output_size: usize,
-) -> Result<bool, AllocError> {
+) -> bool {
     if !Blake2sVarCore::accepts(input) {
-        return Ok(false);
+        return false;
     }
-    let wanted = reading(alloc, input, output_size)?;
-    Ok(Blake2sVarCore::read_transcript(alloc, told)? == Some(wanted))
+    let wanted = reading(rt, input, output_size);
+    Blake2sVarCore::read_transcript(rt.alloc(), told) == Ok(Some(wanted))
 }
 
 /// Whether BLAKE2b-256 of the bytes is this in hexadecimal.
-pub(crate) fn digest_is(alloc: Global, bytes: &[u8], wanted: &str) -> Result<bool, AllocError> {
-    let digest = hex::encode(alloc, &Blake2b256::digest(bytes)[..])?;
-    Ok(digest.as_str() == wanted)
+pub(crate) fn digest_is(bytes: &[u8], wanted: &str) -> bool {
+    let mut digest = [0u8; 32];
+    hex::decode_to_slice(wanted, &mut digest).is_ok() && digest == Blake2b256::digest(bytes)
 }

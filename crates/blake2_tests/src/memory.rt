@@ -113,15 +113,14 @@ fn replay_with(alloc: Global, left: usize) -> Found
 }
 
 #[test]
-fn refuse_memory_to_replay(rt: HostRuntime) -> Result<(), AllocError> {
+fn refuse_memory_to_replay(rt: HostRuntime) {
     let mut found = [Found::Other; TRIES];
-    let hoard = hoard(rt.alloc())?;
+    let hoard = hoard(rt.alloc()).expect(&rt, "room for the hoard");
     for tries in 0..TRIES {
         found[tries] = replay_with(rt.alloc(), 16 * tries);
     }
     drop(hoard);
     check_found(&rt, &found);
-    Ok(())
 }
 
 // Whether a list of calls is refused by what it owes where there is memory for slot 0, and else by
@@ -177,15 +176,14 @@ fn replay_bad_with(alloc: Global, left: usize) -> Found
 }
 
 #[test]
-fn refuse_no_memory_before_a_bad_call(rt: HostRuntime) -> Result<(), AllocError> {
+fn refuse_no_memory_before_a_bad_call(rt: HostRuntime) {
     let mut found = [Found::Other; TRIES];
-    let hoard = hoard(rt.alloc())?;
+    let hoard = hoard(rt.alloc()).expect(&rt, "room for the hoard");
     for tries in 0..TRIES {
         found[tries] = replay_bad_with(rt.alloc(), 16 * tries);
     }
     drop(hoard);
     check_found(&rt, &found);
-    Ok(())
 }
 
 // The words of BLAKE2b for the output size 64, a key of one byte, the salt `abc` and the persona
@@ -242,7 +240,7 @@ fn reading_with(
 }
 
 #[test]
-fn refuse_memory_to_transcripts_and_their_reader(rt: HostRuntime) -> Result<(), AllocError> {
+fn refuse_memory_to_transcripts_and_their_reader(rt: HostRuntime) {
     let alloc = rt.alloc();
     let message = [0x2a; 200];
     let input = input(Some(&[1]), b"abc", b"0123456789abcdef", &message);
@@ -251,10 +249,10 @@ fn refuse_memory_to_transcripts_and_their_reader(rt: HostRuntime) -> Result<(), 
         entry(&message[..128], 256, false),
         entry(&message[..72], 328, true),
     ];
-    let wanted = transcript(alloc, WORDS, &entries)?;
-    let wanted_reading = reading(alloc, &input, 64)?;
+    let wanted = transcript(&rt, WORDS, &entries);
+    let wanted_reading = reading(&rt, &input, 64);
     let (mut written, mut read) = ([Found::Other; TRIES], [Found::Other; TRIES]);
-    let hoard = hoard(alloc)?;
+    let hoard = hoard(alloc).expect(&rt, "room for the hoard");
     for tries in 0..TRIES {
         written[tries] = transcript_with(alloc, 16 * tries, &input, &wanted);
         read[tries] = reading_with(alloc, 16 * tries, &wanted, &wanted_reading);
@@ -262,14 +260,13 @@ fn refuse_memory_to_transcripts_and_their_reader(rt: HostRuntime) -> Result<(), 
     drop(hoard);
     check_found(&rt, &written);
     check_found(&rt, &read);
-    Ok(())
 }
 
 // Transcripts of BLAKE2b that are those of no input.
-fn forged(alloc: Global) -> Result<Vec<Transcript<u64, 128>>, AllocError> {
+fn forged(rt: &(impl Abort + AllocGlobal)) -> Vec<Transcript<u64, 128>> {
     let words = [0x01010040, 0, 0, 0, 0, 0, 0, 0];
     let block = [0x2a; 128];
-    let mut told = Vec::new(alloc);
+    let mut told = Vec::new(rt.alloc());
     for (place, byte, first_is_last, counter) in [
         (1, 1, false, 129),
         (127, 255, false, 129),
@@ -279,7 +276,8 @@ fn forged(alloc: Global) -> Result<Vec<Transcript<u64, 128>>, AllocError> {
         let mut last = entry(&[0x2a], counter, true);
         last.block[place] = byte;
         let entries = [entry(&block, 128, first_is_last), last];
-        told.push(transcript(alloc, words, &entries)?)?;
+        let forged = transcript(rt, words, &entries);
+        told.push(forged).expect(rt, "room for a transcript");
     }
     let whole = entry(&block, 128, true);
     for (words, entries) in [
@@ -288,18 +286,19 @@ fn forged(alloc: Global) -> Result<Vec<Transcript<u64, 128>>, AllocError> {
         (words, &[]),
         (WORDS, &[entry(&[1], 127, true)]),
     ] {
-        told.push(transcript(alloc, words, entries)?)?;
+        let forged = transcript(rt, words, entries);
+        told.push(forged).expect(rt, "room for a transcript");
     }
-    Ok(told)
+    told
 }
 
 #[test]
-fn read_no_input_without_memory(rt: HostRuntime) -> Result<(), AllocError> {
+fn read_no_input_without_memory(rt: HostRuntime) {
     let alloc = rt.alloc();
-    let told = forged(alloc)?;
+    let told = forged(&rt);
     let mut are_read = true;
-    let hoard = hoard(alloc)?;
-    let plug = plug(alloc, 0)?;
+    let hoard = hoard(alloc).expect(&rt, "room for the hoard");
+    let plug = plug(alloc, 0).expect(&rt, "a plug");
     let refused_before = is_refused(alloc);
     for transcript in &told {
         are_read &= matches!(Blake2bVarCore::read_transcript(alloc, transcript), Ok(None));
@@ -309,7 +308,6 @@ fn read_no_input_without_memory(rt: HostRuntime) -> Result<(), AllocError> {
     drop(hoard);
     assert!(rt; refused_before && refused_after);
     assert!(rt; told.len() == 8 && are_read);
-    Ok(())
 }
 
 // Whether BLAKE2b has the witness of `a` and `b` at the size 0, and none at the size 64, nor one of
@@ -353,10 +351,10 @@ fn blake2s_witnesses(alloc: Global) -> bool {
 }
 
 #[test]
-fn witness_without_memory(rt: HostRuntime) -> Result<(), AllocError> {
+fn witness_without_memory(rt: HostRuntime) {
     let alloc = rt.alloc();
-    let hoard = hoard(alloc)?;
-    let plug = plug(alloc, 0)?;
+    let hoard = hoard(alloc).expect(&rt, "room for the hoard");
+    let plug = plug(alloc, 0).expect(&rt, "a plug");
     let refused_before = is_refused(alloc);
     let by_blake2b = blake2b_witnesses(alloc);
     let by_blake2s = blake2s_witnesses(alloc);
@@ -366,5 +364,4 @@ fn witness_without_memory(rt: HostRuntime) -> Result<(), AllocError> {
     assert!(rt; refused_before && refused_after);
     assert!(rt; by_blake2b);
     assert!(rt; by_blake2s);
-    Ok(())
 }

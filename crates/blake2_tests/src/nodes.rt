@@ -10,7 +10,6 @@ use crate::inputs::{
 };
 use blake2::steps::{Entry, Input, Step, Tree};
 use blake2::{Blake2b512, Blake2bVarCore, Blake2s256, Blake2sVarCore, Digest, LastNode};
-use std::alloc::{AllocError, Global};
 use std::process::Abort;
 
 // The place of the node with this number among 64, where node offsets have 64 bits less `shift`,
@@ -26,49 +25,49 @@ fn place(number: u8, shift: u32, longest: u32) -> Tree {
     }
 }
 
+// Adds some bytes.
+fn add(rt: &impl Abort, bytes: &mut Vec<u8>, more: &[u8]) {
+    bytes.extend_from_slice(more).expect(rt, "room for them");
+}
+
 // Adds the counter, the two flags and the block of each entry.
-fn add_entries<const B: usize>(
-    bytes: &mut Vec<u8>,
-    entries: &[Entry<B>],
-) -> Result<(), AllocError> {
+fn add_entries<const B: usize>(rt: &impl Abort, bytes: &mut Vec<u8>, entries: &[Entry<B>]) {
     for entry in entries {
-        bytes.extend_from_slice(&entry.counter.to_le_bytes())?;
-        bytes.push(u8::from(entry.last))?;
-        bytes.push(u8::from(entry.last_node))?;
-        bytes.extend_from_slice(&entry.block)?;
+        let counter = entry.counter.to_le_bytes();
+        let flags = [u8::from(entry.last), u8::from(entry.last_node)];
+        for piece in [counter.as_slice(), &flags, &entry.block] {
+            add(rt, bytes, piece);
+        }
     }
-    Ok(())
 }
 
 // Adds BLAKE2b's digest of a node, and the words and the entries of its transcript, and checks that
 // this is read as the node.
 fn add_node_of_blake2b(
-    rt: &impl Abort,
-    alloc: Global,
+    rt: &(impl Abort + AllocGlobal),
     node: &Input<'_>,
     outputs: &mut Vec<u8>,
     transcripts: &mut Vec<u8>,
-) -> Result<(), AllocError> {
+) {
     assert!(rt; Blake2bVarCore::accepts(node) && Blake2bVarCore::admits_tree(&node.tree));
     let mut hasher = Blake2b512::new_with_tree(node.salt, node.persona, &node.tree);
     hasher.set_last_node(node.last_node);
     Digest::update(&mut hasher, node.message);
-    outputs.extend_from_slice(&hasher.finalize())?;
-    let told = Blake2bVarCore::transcript(alloc, node, 64)?;
+    add(rt, outputs, &hasher.finalize());
+    let told = Blake2bVarCore::transcript(rt.alloc(), node, 64);
+    let told = told.expect(rt, "room for a transcript");
     let words = told.words.map(|word| word.to_le_bytes());
-    transcripts.extend_from_slice(words.as_flattened())?;
-    add_entries(transcripts, told.entries.as_slice())?;
-    let is_read = blake2b_reads_as(alloc, &told, node, 64);
-    assert!(rt; is_read == Ok(true), "{} bytes", node.message.len());
-    Ok(())
+    add(rt, transcripts, words.as_flattened());
+    add_entries(rt, transcripts, told.entries.as_slice());
+    let is_read = blake2b_reads_as(rt, &told, node, 64);
+    assert!(rt; is_read, "{} bytes", node.message.len());
 }
 
 #[test]
 fn hash_nodes_of_blake2b(rt: HostRuntime) {
-    let alloc = rt.alloc();
     let mut bytes = [0; 320];
     count_up(&mut bytes);
-    let (mut outputs, mut transcripts) = (Vec::new(alloc), Vec::new(alloc));
+    let (mut outputs, mut transcripts) = (Vec::new(rt.alloc()), Vec::new(rt.alloc()));
     for number in 0..64u8 {
         let i = number as usize;
         let node = Input {
@@ -81,44 +80,41 @@ fn hash_nodes_of_blake2b(rt: HostRuntime) {
                 &bytes[..5 * i],
             )
         };
-        let added = add_node_of_blake2b(&rt, alloc, &node, &mut outputs, &mut transcripts);
-        assert!(rt; added == Ok(()), "{number}");
+        add_node_of_blake2b(&rt, &node, &mut outputs, &mut transcripts);
     }
     let wanted = "743494e239b845379ce3db0c03d9c6c6828864db7264aedb66b4fa41ec51901d";
-    assert!(rt; digest_is(alloc, outputs.as_slice(), wanted) == Ok(true));
+    assert!(rt; digest_is(outputs.as_slice(), wanted));
     let wanted = "9dc50af7ecb732cdb106a820c118ee976b365e5733a15eb5a95d514e6236a0db";
-    assert!(rt; digest_is(alloc, transcripts.as_slice(), wanted) == Ok(true));
+    assert!(rt; digest_is(transcripts.as_slice(), wanted));
 }
 
 // Adds BLAKE2s's digest of a node, and the words and the entries of its transcript, and checks that
 // this is read as the node.
 fn add_node_of_blake2s(
-    rt: &impl Abort,
-    alloc: Global,
+    rt: &(impl Abort + AllocGlobal),
     node: &Input<'_>,
     outputs: &mut Vec<u8>,
     transcripts: &mut Vec<u8>,
-) -> Result<(), AllocError> {
+) {
     assert!(rt; Blake2sVarCore::accepts(node) && Blake2sVarCore::admits_tree(&node.tree));
     let mut hasher = Blake2s256::new_with_tree(node.salt, node.persona, &node.tree);
     hasher.set_last_node(node.last_node);
     Digest::update(&mut hasher, node.message);
-    outputs.extend_from_slice(&hasher.finalize())?;
-    let told = Blake2sVarCore::transcript(alloc, node, 32)?;
+    add(rt, outputs, &hasher.finalize());
+    let told = Blake2sVarCore::transcript(rt.alloc(), node, 32);
+    let told = told.expect(rt, "room for a transcript");
     let words = told.words.map(|word| word.to_le_bytes());
-    transcripts.extend_from_slice(words.as_flattened())?;
-    add_entries(transcripts, told.entries.as_slice())?;
-    let is_read = blake2s_reads_as(alloc, &told, node, 32);
-    assert!(rt; is_read == Ok(true), "{} bytes", node.message.len());
-    Ok(())
+    add(rt, transcripts, words.as_flattened());
+    add_entries(rt, transcripts, told.entries.as_slice());
+    let is_read = blake2s_reads_as(rt, &told, node, 32);
+    assert!(rt; is_read, "{} bytes", node.message.len());
 }
 
 #[test]
 fn hash_nodes_of_blake2s(rt: HostRuntime) {
-    let alloc = rt.alloc();
     let mut bytes = [0; 320];
     count_up(&mut bytes);
-    let (mut outputs, mut transcripts) = (Vec::new(alloc), Vec::new(alloc));
+    let (mut outputs, mut transcripts) = (Vec::new(rt.alloc()), Vec::new(rt.alloc()));
     for number in 0..64u8 {
         let i = number as usize;
         let node = Input {
@@ -126,13 +122,12 @@ fn hash_nodes_of_blake2s(rt: HostRuntime) {
             last_node: i % 3 == 0,
             ..input(None, &bytes[..i % 9], &bytes[..2 * i % 9], &bytes[..5 * i])
         };
-        let added = add_node_of_blake2s(&rt, alloc, &node, &mut outputs, &mut transcripts);
-        assert!(rt; added == Ok(()), "{number}");
+        add_node_of_blake2s(&rt, &node, &mut outputs, &mut transcripts);
     }
     let wanted = "d2d1ec99c81c273452aa7241f907a5dabf6cc3a797c4fef5894148c7d8a4194a";
-    assert!(rt; digest_is(alloc, outputs.as_slice(), wanted) == Ok(true));
+    assert!(rt; digest_is(outputs.as_slice(), wanted));
     let wanted = "2aa6df9354f3469b353a468efcf02435da6adc234e18c1d3efe639626d6a8b13";
-    assert!(rt; digest_is(alloc, transcripts.as_slice(), wanted) == Ok(true));
+    assert!(rt; digest_is(transcripts.as_slice(), wanted));
 }
 
 // A place at depth 1 of this fanout, leaf length, node offset, node depth and inner length.
@@ -150,21 +145,20 @@ fn at(fanout: u8, leaf_length: u32, node_offset: u64, node_depth: u8, inner_leng
 // Whether BLAKE2b reads the transcript of these words and entries as this input at its greatest
 // size, or as none.
 fn blake2b_reads(
-    alloc: Global,
+    rt: &(impl Abort + AllocGlobal),
     words: [u64; 8],
     entries: &[Entry<128>],
     wanted: Option<Input<'_>>,
-) -> Result<bool, AllocError> {
-    let told = transcript(alloc, words, entries)?;
+) -> bool {
+    let told = transcript(rt, words, entries);
     match wanted {
-        Some(input) => blake2b_reads_as(alloc, &told, &input, 64),
-        None => Ok(Blake2bVarCore::read_transcript(alloc, &told)?.is_none()),
+        Some(input) => blake2b_reads_as(rt, &told, &input, 64),
+        None => Blake2bVarCore::read_transcript(rt.alloc(), &told) == Ok(None),
     }
 }
 
 #[test]
 fn read_places_of_blake2b(rt: HostRuntime) {
-    let alloc = rt.alloc();
     let block = [0x2a; 128];
     for (place, word, tree) in [
         (2, 0x10000, None),
@@ -186,8 +180,8 @@ fn read_places_of_blake2b(rt: HostRuntime) {
             }),
             None => None,
         };
-        let read = blake2b_reads(alloc, words, &entries, wanted);
-        assert!(rt; read == Ok(true), "{place} {word:x}");
+        let is_read = blake2b_reads(&rt, words, &entries, wanted);
+        assert!(rt; is_read, "{place} {word:x}");
     }
 }
 
@@ -211,8 +205,8 @@ fn read_the_last_node_of_blake2b(rt: HostRuntime) {
             ..unkeyed(&message)
         };
         let wanted = if first { None } else { Some(input) };
-        let read = blake2b_reads(rt.alloc(), words, &entries, wanted);
-        assert!(rt; read == Ok(true), "{first} {second}");
+        let is_read = blake2b_reads(&rt, words, &entries, wanted);
+        assert!(rt; is_read, "{first} {second}");
     }
 }
 
@@ -238,29 +232,28 @@ fn read_the_last_node_in_one_entry_of_blake2b(rt: HostRuntime) {
             last_node,
             ..unkeyed(message)
         };
-        let read = blake2b_reads(rt.alloc(), words, &[told], Some(input));
-        assert!(rt; read == Ok(true), "{length} {last_node}");
+        let is_read = blake2b_reads(&rt, words, &[told], Some(input));
+        assert!(rt; is_read, "{length} {last_node}");
     }
 }
 
 // Whether BLAKE2s reads the transcript of these words and entries as this input at its greatest
 // size, or as none.
 fn blake2s_reads(
-    alloc: Global,
+    rt: &(impl Abort + AllocGlobal),
     words: [u32; 8],
     entries: &[Entry<64>],
     wanted: Option<Input<'_>>,
-) -> Result<bool, AllocError> {
-    let told = transcript(alloc, words, entries)?;
+) -> bool {
+    let told = transcript(rt, words, entries);
     match wanted {
-        Some(input) => blake2s_reads_as(alloc, &told, &input, 32),
-        None => Ok(Blake2sVarCore::read_transcript(alloc, &told)?.is_none()),
+        Some(input) => blake2s_reads_as(rt, &told, &input, 32),
+        None => Blake2sVarCore::read_transcript(rt.alloc(), &told) == Ok(None),
     }
 }
 
 #[test]
 fn read_places_of_blake2s(rt: HostRuntime) {
-    let alloc = rt.alloc();
     let block = [0x2a; 64];
     for (place, word, tree) in [
         (3, 0x21000000, None),
@@ -281,8 +274,8 @@ fn read_places_of_blake2s(rt: HostRuntime) {
             }),
             None => None,
         };
-        let read = blake2s_reads(alloc, words, &entries, wanted);
-        assert!(rt; read == Ok(true), "{place} {word:x}");
+        let is_read = blake2s_reads(&rt, words, &entries, wanted);
+        assert!(rt; is_read, "{place} {word:x}");
     }
 }
 
@@ -306,8 +299,8 @@ fn read_the_last_node_of_blake2s(rt: HostRuntime) {
             ..unkeyed(&message)
         };
         let wanted = if first { None } else { Some(input) };
-        let read = blake2s_reads(rt.alloc(), words, &entries, wanted);
-        assert!(rt; read == Ok(true), "{first} {second}");
+        let is_read = blake2s_reads(&rt, words, &entries, wanted);
+        assert!(rt; is_read, "{first} {second}");
     }
 }
 
@@ -333,8 +326,8 @@ fn read_the_last_node_in_one_entry_of_blake2s(rt: HostRuntime) {
             last_node,
             ..unkeyed(message)
         };
-        let read = blake2s_reads(rt.alloc(), words, &[told], Some(input));
-        assert!(rt; read == Ok(true), "{length} {last_node}");
+        let is_read = blake2s_reads(&rt, words, &[told], Some(input));
+        assert!(rt; is_read, "{length} {last_node}");
     }
 }
 

@@ -9,108 +9,102 @@ use crate::inputs::{
 use blake2::laws::transcripts;
 use blake2::steps::{Entry, Input, Transcript};
 use blake2::{Blake2bVarCore, Blake2sVarCore};
-use std::alloc::{AllocError, Global};
 use std::process::Abort;
 
 // BLAKE2b writes the transcript of these words and entries for the input, and reads it as that.
 fn check_blake2b(
-    rt: &impl Abort,
-    alloc: Global,
+    rt: &(impl Abort + AllocGlobal),
     input: &Input<'_>,
     output_size: usize,
     words: [u64; 8],
     entries: &[Entry<128>],
-) -> Result<(), AllocError>
+)
     requires { output_size ≤ 64 }
 {
     assert!(rt; Blake2bVarCore::accepts(input));
-    let wanted = transcript(alloc, words, entries)?;
-    let written = Blake2bVarCore::transcript(alloc, input, output_size)?;
+    let wanted = transcript(rt, words, entries);
+    let written = Blake2bVarCore::transcript(rt.alloc(), input, output_size);
+    let written = written.expect(rt, "room for a transcript");
     assert!(rt; written == wanted, "{written:?}");
     assert!(rt; transcripts::blake2b::equal(&written, &wanted));
-    assert!(rt; blake2b_reads_as(alloc, &wanted, input, output_size)?);
-    Ok(())
+    assert!(rt; blake2b_reads_as(rt, &wanted, input, output_size));
 }
 
 // BLAKE2s writes the transcript of these words and entries for the input, and reads it as that.
 fn check_blake2s(
-    rt: &impl Abort,
-    alloc: Global,
+    rt: &(impl Abort + AllocGlobal),
     input: &Input<'_>,
     output_size: usize,
     words: [u32; 8],
     entries: &[Entry<64>],
-) -> Result<(), AllocError>
+)
     requires { output_size ≤ 32 }
 {
     assert!(rt; Blake2sVarCore::accepts(input));
-    let wanted = transcript(alloc, words, entries)?;
-    let written = Blake2sVarCore::transcript(alloc, input, output_size)?;
+    let wanted = transcript(rt, words, entries);
+    let written = Blake2sVarCore::transcript(rt.alloc(), input, output_size);
+    let written = written.expect(rt, "room for a transcript");
     assert!(rt; written == wanted, "{written:?}");
     assert!(rt; transcripts::blake2s::equal(&written, &wanted));
-    assert!(rt; blake2s_reads_as(alloc, &wanted, input, output_size)?);
-    Ok(())
+    assert!(rt; blake2s_reads_as(rt, &wanted, input, output_size));
 }
 
 #[test]
 fn write_and_read_no_message(rt: HostRuntime) {
-    let (alloc, input) = (rt.alloc(), unkeyed(b""));
+    let input = unkeyed(b"");
     let words = [0x01010040, 0, 0, 0, 0, 0, 0, 0];
     let entries = [entry(b"", 0, true)];
-    assert!(rt; check_blake2b(&rt, alloc, &input, 64, words, &entries) == Ok(()));
+    check_blake2b(&rt, &input, 64, words, &entries);
     let words = [0x01010020, 0, 0, 0, 0, 0, 0, 0];
     let entries = [entry(b"", 0, true)];
-    assert!(rt; check_blake2s(&rt, alloc, &input, 32, words, &entries) == Ok(()));
+    check_blake2s(&rt, &input, 32, words, &entries);
 }
 
 #[test]
 fn write_and_read_messages_of_blake2b(rt: HostRuntime) {
-    let alloc = rt.alloc();
     let message = [0x2a; 129];
     let block = &message[..128];
     let words = [0x01010040, 0, 0, 0, 0, 0, 0, 0];
     let entries = [entry(block, 128, true)];
-    assert!(rt; check_blake2b(&rt, alloc, &unkeyed(block), 64, words, &entries) == Ok(()));
+    check_blake2b(&rt, &unkeyed(block), 64, words, &entries);
     let entries = [entry(block, 128, false), entry(&[0x2a], 129, true)];
-    assert!(rt; check_blake2b(&rt, alloc, &unkeyed(&message), 64, words, &entries) == Ok(()));
+    check_blake2b(&rt, &unkeyed(&message), 64, words, &entries);
     let words = [0x01010010, 0, 0, 0, 0, 0, 0, 0];
     let entries = [entry(b"", 128, false), entry(b"", 256, true)];
-    assert!(rt; check_blake2b(&rt, alloc, &unkeyed(&[0; 256]), 16, words, &entries) == Ok(()));
+    check_blake2b(&rt, &unkeyed(&[0; 256]), 16, words, &entries);
 }
 
 #[test]
 fn write_and_read_messages_of_blake2s(rt: HostRuntime) {
-    let alloc = rt.alloc();
     let message = [0x2a; 129];
     let block = &message[..64];
     let words = [0x01010020, 0, 0, 0, 0, 0, 0, 0];
     let entries = [entry(block, 64, true)];
-    assert!(rt; check_blake2s(&rt, alloc, &unkeyed(block), 32, words, &entries) == Ok(()));
+    check_blake2s(&rt, &unkeyed(block), 32, words, &entries);
     let (input, entries) = (
         unkeyed(&message[..128]),
         [entry(block, 64, false), entry(block, 128, true)],
     );
-    assert!(rt; check_blake2s(&rt, alloc, &input, 32, words, &entries) == Ok(()));
+    check_blake2s(&rt, &input, 32, words, &entries);
     let entries = [
         entry(block, 64, false),
         entry(block, 128, false),
         entry(&[0x2a], 129, true),
     ];
-    assert!(rt; check_blake2s(&rt, alloc, &unkeyed(&message), 32, words, &entries) == Ok(()));
+    check_blake2s(&rt, &unkeyed(&message), 32, words, &entries);
 }
 
 #[test]
 fn write_and_read_a_key_and_a_persona(rt: HostRuntime) {
-    let alloc = rt.alloc();
     let mut key = [0; 32];
     count_up(&mut key);
     let input = input(Some(&key), b"", b"personal", b"");
     let words = [0x01012040, 0, 0, 0, 0, 0, 0x6c616e6f73726570, 0];
     let entries = [entry(&key, 128, true)];
-    assert!(rt; check_blake2b(&rt, alloc, &input, 64, words, &entries) == Ok(()));
+    check_blake2b(&rt, &input, 64, words, &entries);
     let words = [0x01012020, 0, 0, 0, 0, 0, 0x73726570, 0x6c616e6f];
     let entries = [entry(&key, 64, true)];
-    assert!(rt; check_blake2s(&rt, alloc, &input, 32, words, &entries) == Ok(()));
+    check_blake2s(&rt, &input, 32, words, &entries);
 }
 
 // The words of BLAKE2b for the output size 64, a key of one byte, the salt `abc` and the persona
@@ -135,7 +129,7 @@ fn write_and_read_all_parts_of_blake2b(rt: HostRuntime) {
         entry(&message[..128], 256, false),
         entry(&message[..72], 328, true),
     ];
-    assert!(rt; check_blake2b(&rt, rt.alloc(), &input, 64, WORDS, &entries) == Ok(()));
+    check_blake2b(&rt, &input, 64, WORDS, &entries);
 }
 
 #[test]
@@ -148,17 +142,14 @@ fn write_and_read_all_parts_of_blake2s(rt: HostRuntime) {
         entry(&message[..64], 128, false),
         entry(&message[..36], 164, true),
     ];
-    assert!(rt; check_blake2s(&rt, rt.alloc(), &input, 32, words, &entries) == Ok(()));
+    check_blake2s(&rt, &input, 32, words, &entries);
 }
 
 // Whether some input of BLAKE2b has a transcript of these words and entries.
-fn blake2b_reads(
-    alloc: Global,
-    words: [u64; 8],
-    entries: &[Entry<128>],
-) -> Result<bool, AllocError> {
-    let transcript = transcript(alloc, words, entries)?;
-    Ok(Blake2bVarCore::read_transcript(alloc, &transcript)?.is_some())
+fn blake2b_reads(rt: &(impl Abort + AllocGlobal), words: [u64; 8], entries: &[Entry<128>]) -> bool {
+    let told = transcript(rt, words, entries);
+    let read = Blake2bVarCore::read_transcript(rt.alloc(), &told);
+    read.expect(rt, "room for a reading").is_some()
 }
 
 #[test]
@@ -171,8 +162,8 @@ fn read_no_input_from_other_words(rt: HostRuntime) {
         (0x01014140, 0, false),
     ] {
         let words = [first, second, 0, 0, 0, 0, 0, 0];
-        let read = blake2b_reads(rt.alloc(), words, &entries);
-        assert!(rt; read == Ok(is_read), "{first:x} {second}");
+        let read = blake2b_reads(&rt, words, &entries);
+        assert!(rt; read == is_read, "{first:x} {second}");
     }
 }
 
@@ -186,8 +177,8 @@ fn read_no_sizes_past_the_limits(rt: HostRuntime) {
         (0x01010040, true),
         (0x01010041, false),
     ] {
-        let read = blake2b_reads(rt.alloc(), [first, 0, 0, 0, 0, 0, 0, 0], &entries);
-        assert!(rt; read == Ok(is_read), "BLAKE2b {first:x}");
+        let read = blake2b_reads(&rt, [first, 0, 0, 0, 0, 0, 0, 0], &entries);
+        assert!(rt; read == is_read, "BLAKE2b {first:x}");
     }
     let entries = [entry(b"", 64, true)];
     for (first, is_read) in [
@@ -197,16 +188,15 @@ fn read_no_sizes_past_the_limits(rt: HostRuntime) {
         (0x01010020, true),
         (0x01010021, false),
     ] {
-        let read = blake2s_reads(rt.alloc(), first, &entries);
-        assert!(rt; read == Ok(is_read), "BLAKE2s {first:x}");
+        let read = blake2s_reads(&rt, first, &entries);
+        assert!(rt; read == is_read, "BLAKE2s {first:x}");
     }
 }
 
 #[test]
 fn read_no_input_from_other_entries(rt: HostRuntime) {
-    let alloc = rt.alloc();
     let words = [0x01010040, 0, 0, 0, 0, 0, 0, 0];
-    assert!(rt; blake2b_reads(alloc, words, &[]) == Ok(false));
+    assert!(rt; !blake2b_reads(&rt, words, &[]));
     let first = [0x2a; 128];
     for (first_is_last, counter, is_read) in [
         (false, 129, true),
@@ -217,59 +207,52 @@ fn read_no_input_from_other_entries(rt: HostRuntime) {
             entry(&first, 128, first_is_last),
             entry(&[0x2a], counter, true),
         ];
-        let read = blake2b_reads(alloc, words, &entries);
-        assert!(rt; read == Ok(is_read), "{first_is_last} {counter}");
+        let read = blake2b_reads(&rt, words, &entries);
+        assert!(rt; read == is_read, "{first_is_last} {counter}");
     }
     for place in 1..128usize {
         let mut second = entry(&[0x2a], 129, true);
         second.block[place] = 1;
-        let read = blake2b_reads(alloc, words, &[entry(&first, 128, false), second]);
-        assert!(rt; read == Ok(false), "{place}");
+        let read = blake2b_reads(&rt, words, &[entry(&first, 128, false), second]);
+        assert!(rt; !read, "{place}");
     }
     for (counter, is_read) in [(128, true), (127, false)] {
-        let read = blake2b_reads(alloc, WORDS, &[entry(&[1], counter, true)]);
-        assert!(rt; read == Ok(is_read), "{counter}");
+        let read = blake2b_reads(&rt, WORDS, &[entry(&[1], counter, true)]);
+        assert!(rt; read == is_read, "{counter}");
     }
 }
 
 // The transcript of BLAKE2s that has these entries and, but for the first, words of zeros.
 fn blake2s_told(
-    alloc: Global,
+    rt: &(impl Abort + AllocGlobal),
     first_word: u32,
     entries: &[Entry<64>],
-) -> Result<Transcript<u32, 64>, AllocError> {
-    transcript(alloc, [first_word, 0, 0, 0, 0, 0, 0, 0], entries)
+) -> Transcript<u32, 64> {
+    transcript(rt, [first_word, 0, 0, 0, 0, 0, 0, 0], entries)
 }
 
 // Whether some input of BLAKE2s has it.
-fn blake2s_reads(
-    alloc: Global,
-    first_word: u32,
-    entries: &[Entry<64>],
-) -> Result<bool, AllocError> {
-    let told = blake2s_told(alloc, first_word, entries)?;
-    Ok(Blake2sVarCore::read_transcript(alloc, &told)?.is_some())
+fn blake2s_reads(rt: &(impl Abort + AllocGlobal), first_word: u32, entries: &[Entry<64>]) -> bool {
+    let told = blake2s_told(rt, first_word, entries);
+    let read = Blake2sVarCore::read_transcript(rt.alloc(), &told);
+    read.expect(rt, "room for a reading").is_some()
 }
 
 #[test]
-fn read_a_key_of_a_zero_byte(rt: HostRuntime) -> Result<(), AllocError> {
-    let alloc = rt.alloc();
-    let read = blake2s_reads(alloc, 0x01010120, &[entry(&[0, 1], 64, true)]);
-    assert!(rt; read == Ok(false));
+fn read_a_key_of_a_zero_byte(rt: HostRuntime) {
+    let read = blake2s_reads(&rt, 0x01010120, &[entry(&[0, 1], 64, true)]);
+    assert!(rt; !read);
     let input = input(Some(&[0]), b"", b"", b"");
-    let told = blake2s_told(alloc, 0x01010120, &[entry(b"", 64, true)])?;
-    assert!(rt; blake2s_reads_as(alloc, &told, &input, 32) == Ok(true));
-    Ok(())
+    let told = blake2s_told(&rt, 0x01010120, &[entry(b"", 64, true)]);
+    assert!(rt; blake2s_reads_as(&rt, &told, &input, 32));
 }
 
 #[test]
-fn read_zero_blocks(rt: HostRuntime) -> Result<(), AllocError> {
-    let alloc = rt.alloc();
+fn read_zero_blocks(rt: HostRuntime) {
     let none = [entry(b"", 0, true)];
-    assert!(rt; blake2s_reads(alloc, 0x01010021, &none) == Ok(false));
+    assert!(rt; !blake2s_reads(&rt, 0x01010021, &none));
     let entries = [entry(b"", 64, false), entry(b"", 64, true)];
-    assert!(rt; blake2s_reads(alloc, 0x01010020, &entries) == Ok(false));
-    let told = blake2s_told(alloc, 0x01010000, &none)?;
-    assert!(rt; blake2s_reads_as(alloc, &told, &unkeyed(b""), 0) == Ok(true));
-    Ok(())
+    assert!(rt; !blake2s_reads(&rt, 0x01010020, &entries));
+    let told = blake2s_told(&rt, 0x01010000, &none);
+    assert!(rt; blake2s_reads_as(&rt, &told, &unkeyed(b""), 0));
 }
