@@ -27,6 +27,7 @@ take-more a ys i n within long few =
 pub Took-trans : {n : ℕ} (a b c : TreeHasher n) (x y : List ℕ) → Took a x b → Took b y c
     → Took a (x ++ y) c
 Took-trans a b c x y first second = record {
+  shared = second.shared ∙ first.shared;
   future = λ z. second.future z ∙ first.future (y ++ z) ∙ ap (future a) (sym (append_assoc x y z));
   count = omega (arith, first.count, second.count, length-append x y);
 }

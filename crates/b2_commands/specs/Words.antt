@@ -26,10 +26,11 @@ IsReadingFault WrongHex expected = expected ≡ Err WrongHex
 IsReadingFault NoMemory expected = ⊤
 IsReadingFault fault expected = ⊥
 
--- the kinds of BLAKE2b and of BLAKE2s whose digests have n bytes
+-- the kind of BLAKE2b whose digests have n bytes
 abbrev pub blake2b_of : ℕ → Kind
 blake2b_of n = record { family = Blake2b; bytes = n }
 
+-- the kind of BLAKE2s whose digests have n bytes
 abbrev pub blake2s_of : ℕ → Kind
 blake2s_of n = record { family = Blake2s; bytes = n }
 
@@ -148,30 +149,34 @@ given_task to (kind ∷ words) =
     and_then (kind_of kind)
     (λ k. and_then (with_words true nothing_given words) (λ given. Ok (to k given)))
 
--- the task of the words behind `witness`, where the kind and the messages before them are told
+-- the task of the words behind KIND and both messages of `witness`: there are none
 abbrev pub rest_task : Kind → List ℕ → List ℕ → List (List ℕ) → Result Task Fault
 rest_task kind a b [] = Ok (to_witness kind a b)
 rest_task kind a b (word ∷ words) = Err WrongWords
 
+-- the task of the words behind KIND and the first message of `witness`
 abbrev pub second_task : Kind → List ℕ → List (List ℕ) → Result Task Fault
 second_task kind a [] = Err WrongWords
 second_task kind a (word ∷ words) = and_then (message_value word) (λ b. rest_task kind a b words)
 
+-- the task of the words behind KIND of `witness`
 abbrev pub first_task : Kind → List (List ℕ) → Result Task Fault
 first_task kind [] = Err WrongWords
 first_task kind (word ∷ words) = and_then (message_value word) (λ a. second_task kind a words)
 
+-- the task of the words behind `witness`
 abbrev pub witness_task : List (List ℕ) → Result Task Fault
 witness_task [] = Err WrongWords
 witness_task (word ∷ words) = and_then (compared_kind_of word) (λ kind. first_task kind words)
 
--- the task of the words behind `tree`, and of those behind its KIND
+-- the task of the words behind KIND of `tree`
 abbrev pub leaf_task : Kind → List (List ℕ) → Result Task Fault
 leaf_task kind [] = Err WrongWords
 leaf_task kind (leaf ∷ words) =
     and_then (leaf_value leaf)
     (λ n. and_then (with_words false nothing_given words) (λ given. Ok (to_tree kind n given)))
 
+-- the task of the words behind `tree`
 abbrev pub tree_task : List (List ℕ) → Result Task Fault
 tree_task [] = Err WrongWords
 tree_task (word ∷ words) = and_then (tree_kind_of word) (λ kind. leaf_task kind words)

@@ -19,7 +19,7 @@ pub enum Fault {
     WrongHex,
     /// A key, salt or persona of a length that the MAC or the tree refuses.
     WrongLength,
-    /// The script's line of this number, from 1, is none.
+    /// The script's line of this number, counted from 1, is malformed.
     WrongLine(usize),
     /// The call of this line names a slot that is absent or has ended.
     NoSuchSlot(usize),

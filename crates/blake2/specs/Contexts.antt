@@ -6,16 +6,18 @@ use Rattle.blake2.specs.declared.contexts.blake2b.Blake2bContext.{Blake2bContext
 use Rattle.blake2.specs.declared.contexts.blake2s.Blake2sContext.{Blake2sContext}
 use Rattle.blake2.specs.States.{State, Meaning, meaning_by}
 
--- a context holds a core and pending bytes
+-- the state of a context of BLAKE2b, which holds a core and pending bytes, beside a start block
 abbrev pub blake2b_context_state : List ℕ → Blake2bContext → State
 blake2b_context_state block s = record { core = s.core; pending = s.buffer; start_block = block }
 
+-- the state of a context of BLAKE2s beside a start block
 abbrev pub blake2s_context_state : List ℕ → Blake2sContext → State
 blake2s_context_state block s = record { core = s.core; pending = s.buffer; start_block = block }
 
--- the outputs of n bytes that a context will give, and the bytes that it counts
+-- the outputs of n bytes that a context of BLAKE2b will give, and the bytes that it counts
 abbrev pub blake2b_context_meaning : ℕ → List ℕ → Meaning Blake2bContext
 blake2b_context_meaning n block = meaning_by blake2b n (blake2b_context_state block)
 
+-- the same of a context of BLAKE2s
 abbrev pub blake2s_context_meaning : ℕ → List ℕ → Meaning Blake2sContext
 blake2s_context_meaning n block = meaning_by blake2s n (blake2s_context_state block)

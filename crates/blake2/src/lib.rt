@@ -38,6 +38,8 @@ mod hashers;
 mod macs;
 pub mod many;
 pub mod steps;
+#[cfg(test)]
+mod tests;
 
 pub use blake2_digest as digest;
 pub use blake2_digest::{Digest, LastNode};

@@ -1,6 +1,6 @@
 //! BLAKE2s with sizes that are chosen as the program runs.
 
-ghost use Rattle.std.specs.Prelude.{◌≡◌, ◌≢◌, ◌↔◌, ◌+◌, ◌^◌, ◌<◌, ◌≤◌, ◌++◌, ◌⊎◌, [], length, drop};
+ghost use Rattle.std.specs.Prelude.{◌≡◌, ◌≢◌, ◌↔◌, ◌+◌, ◌-◌, ◌^◌, ◌<◌, ◌≤◌, ◌++◌, ◌⊎◌, [], length, drop};
 ghost use Rattle.std.specs.Prelude.{slice_index, pos, negsuc, None, IsTrue};
 ghost use Rattle.blake2.specs.Family.{blake2s};
 ghost use Rattle.blake2.specs.States.{digest_of, node_digest_of};
@@ -17,8 +17,8 @@ ghost use Rattle.blake2_c.specs.Trees.{given_place};
 
 mod many;
 
-use crate::scrub_stack;
 use blake2::{Blake2s256, Digest, Tree};
+use blake2_digest::scrub_stack;
 use blake2_plain::StateParameters;
 use blake2_plain::blake2s::State;
 
@@ -99,8 +99,8 @@ pub extern "C" fn blake2_c_blake2s(out: &mut [u8], input: &[u8], key: &[u8]) -> 
     }
 }
 
-// What `blake2_c_blake2s_init_node` does under a key, at a place that is taken, in a frame of its
-// own, which the caller scrubs.
+// What `blake2_c_blake2s_init_node` does at a place that is taken, in a frame of its own, which the
+// caller scrubs if there is a key.
 #[inline(never)]
 fn begin(state: &mut State, given: &StateParameters<'_>, tree: &Tree) -> i32
     requires tree { AdmitsTree blake2s (tree_of tree.now) }
@@ -150,21 +150,11 @@ pub extern "C" fn blake2_c_blake2s_init(
         salt,
         persona,
     };
+    let status = begin(state, &given, &Tree::sequential());
     if !key.is_empty() {
-        let status = begin(state, &given, &Tree::sequential());
         scrub_stack::<BEGIN_BYTES>();
-        return status;
     }
-    match State::new(&given) {
-        Ok(made) => {
-            *state = made;
-            0
-        }
-        Err(_) => {
-            state.wipe();
-            -1
-        }
-    }
+    status
 }
 
 /// The same under a key of 1 to 32 bytes, without salt and persona. Refused also where there is no
@@ -238,21 +228,11 @@ pub extern "C" fn blake2_c_blake2s_init_node(
         salt,
         persona,
     };
+    let status = begin(state, &given, &tree);
     if !key.is_empty() {
-        let status = begin(state, &given, &tree);
         scrub_stack::<BEGIN_BYTES>();
-        return status;
     }
-    match State::new_with_tree(&given, &tree) {
-        Ok(made) => {
-            *state = made;
-            0
-        }
-        Err(_) => {
-            state.wipe();
-            -1
-        }
-    }
+    status
 }
 
 /// Begins a run in this state, whatever it was, from a parameter block of 32 bytes (the BLAKE2
@@ -454,6 +434,20 @@ pub extern "C" fn blake2_c_blake2s_digest_size(state: &State) -> usize
     } else {
         0
     }
+}
+
+/// The bytes of messages that the state has absorbed since its last start: those of the key's block
+/// are not counted. 0 where the state is not ready.
+#[unsafe(no_mangle)]
+pub extern "C" fn blake2_c_blake2s_count(state: &State) -> u64
+    ensures ready { IsReady state.now
+        → result ≡ meaning.count state.now - meaning.start_count state.now }
+    ensures unready { (¬ IsReady state.now) → result ≡ 0 }
+{
+    if !state.is_ready() {
+        return 0;
+    }
+    state.counted().saturating_sub(state.start_length as u64)
 }
 
 /// The bytes of a state.

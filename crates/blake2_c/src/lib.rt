@@ -9,7 +9,7 @@
 
 #![tactic(auto)]
 
-ghost use Rattle.std.specs.Prelude.{◌≡◌, ◌≢◌, ◌<◌, ◌^◌};
+ghost use Rattle.std.specs.Prelude.{◌≡◌, ◌≢◌};
 ghost use Rattle.blake2_c.specs.Status.{Answers};
 
 mod blake2b;
@@ -17,23 +17,13 @@ mod blake2s;
 mod many;
 mod trees;
 
-use blake2_digest::{is_same, settle};
+use blake2_digest::is_same;
 
 /// A text among several, as `vulfsjor_message` of the header: a pointer and a length.
 #[repr(C)]
 pub struct Text<'a> {
     /// Its bytes.
     pub bytes: &'a [u8],
-}
-
-// Writes so many zeros over the stack below the frame of the caller, where calls that have returned
-// left copies of a key. That a compiler keeps the zeros is no promise: see docs/WIPING.md.
-#[inline(never)]
-fn scrub_stack<const N: usize>()
-    requires { N < 2 ^ 63 }
-{
-    let zeros = [0; N];
-    settle(&zeros);
 }
 
 // The version of the library (https://semver.org), each number below 256. It stands here alone:

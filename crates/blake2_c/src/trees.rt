@@ -1,14 +1,24 @@
 //! The root of a tree of hashes with two levels over BLAKE2b, as the crate `blake2_tree` has it.
 
 ghost use Rattle.std.specs.Prelude.{◌≡◌, ℕ, ◌<◌, ◌≤◌, ◌^◌, ◌⊎◌, List, [], ◌++◌, length, drop, pos};
-ghost use Rattle.std.specs.Prelude.{negsuc};
-ghost use Rattle.blake2_tree.specs.TreeRoot.{tree_parameters, tree_root as root_of};
+ghost use Rattle.std.specs.Prelude.{◌+◌, negsuc, false};
+ghost use Rattle.blake2_rows.specs.Family.{blake2b};
+ghost use Rattle.blake2_words.specs.Hash.{digest};
+ghost use Rattle.blake2_tree.specs.TreeRoot.{tree_parameters, tree_root as root_of, root_over};
+ghost use Rattle.blake2_tree.specs.TreeRoot.{leaf_count};
+ghost use Rattle.blake2_tree.specs.Ranges.{range_digests, ArePartOfAll, IsRootOfCuts};
+ghost use Rattle.blake2_tree.specs.Ranges.{IsRootOfChanges};
+ghost use Rattle.blake2_tree.specs.LeafUpdates.{next_leaf, TookLeaves};
+ghost use Rattle.blake2_plain.specs.States.{is_on};
 ghost use Rattle.blake2_plain.specs.TreeStates.{IsReady, IsRefusedTree, Took, future, count, zeros};
+ghost use Rattle.blake2_plain.specs.TreeStates.{IsAsOpened, parameters, state_tree};
 ghost use Rattle.blake2_c.specs.Status.{Answers, IsUngivable};
-ghost use Rattle.blake2_c.specs.Trees.{IsUntakableTree};
+ghost use Rattle.blake2_c.specs.Trees.{IsUntakableTree, IsRefusedRange, IsRefusedDigests};
+ghost use Rattle.blake2_c.specs.Trees.{IsRefusedNext, IsRefusedUpdate};
 
-use blake2_plain::tree::TreeState;
-use blake2_tree::{MESSAGE_LIMIT, tree_root};
+use crate::many::is_room_for;
+use blake2_plain::tree::{TreeState, write_root_of_leaves};
+use blake2_tree::{LABEL_BYTES, MESSAGE_LIMIT, hash_leaves, is_range, leaf_count, tree_root};
 
 // Writes the root in `N` bytes. It knows the whole input, and so hashes the last four leaves at
 // once too, as a state can't.
@@ -88,6 +98,9 @@ pub extern "C" fn blake2_c_tree_init(
     ensures root { result ≡ pos 0 → (y : List ℕ) → future state.new y
         ≡ root_of output_size (tree_parameters salt.now persona.now leaf_length) y }
     ensures nothing { result ≡ pos 0 → count state.new ≡ 0 }
+    ensures shared { result ≡ pos 0
+        → parameters state.new ≡ tree_parameters salt.now persona.now leaf_length }
+    ensures opened { result ≡ pos 0 → IsAsOpened state.new }
     ensures zeros { result ≡ negsuc 0 → state.new ≡ zeros }
 {
     match TreeState::new(output_size, salt, persona, leaf_length) {
@@ -111,6 +124,7 @@ pub extern "C" fn blake2_c_tree_update(state: &mut TreeState, input: &[u8]) -> i
     ensures ready { result ≡ pos 0 → IsReady state.new }
     ensures size { state.new.root.output_size ≡ state.old.root.output_size }
     ensures taken { result ≡ pos 0 → Took state.old input.now state.new }
+    ensures opened { IsAsOpened state.old → IsAsOpened state.new }
     ensures same { result ≡ negsuc 0 → state.new ≡ state.old }
 {
     if !state.is_ready() {
@@ -120,6 +134,72 @@ pub extern "C" fn blake2_c_tree_update(state: &mut TreeState, input: &[u8]) -> i
         return -1;
     }
     state.update(input);
+    0
+}
+
+/// Writes the digests of whole leaves of the state's tree, 64 bytes each, in order. The state is at
+/// a leaf boundary: what it has absorbed is whole leaves, or nothing. The first of the leaves is the
+/// one `skip` leaves behind the next one, and none is the last of the message. Answers 0, or -1
+/// where the state is not ready or not at a leaf boundary, the input is not one whole leaf or more,
+/// it reaches 2^58 bytes of the message, or `out` has not 64 bytes for each leaf; nothing is then
+/// written.
+#[unsafe(no_mangle)]
+pub extern "C" fn blake2_c_tree_next_leaves(
+    state: &TreeState,
+    out: &mut [u8],
+    skip: u64,
+    input: &[u8],
+) -> i32
+    ensures status { Answers result
+        (IsRefusedNext state.now (length out.old) skip (length input.now)) }
+    ensures digests { result ≡ pos 0 → out.new ≡ range_digests (parameters state.now)
+        (next_leaf (state_tree state.now) + skip) false input.now }
+    ensures part { result ≡ pos 0 → ArePartOfAll (parameters state.now)
+        (next_leaf (state_tree state.now) + skip) false input.now out.new }
+    ensures nothing { result ≡ negsuc 0 → out.new ≡ out.old }
+{
+    if !state.is_ready() {
+        return -1;
+    }
+    let length = input.len() as u64;
+    if !state.are_next_leaves(skip, length) {
+        return -1;
+    }
+    let leaves = leaf_count(state.leaf_length as u32, length);
+    if !is_room_for(out.len(), leaves as usize, 64) {
+        return -1;
+    }
+    state.hash_next_leaves(skip, input, out);
+    0
+}
+
+/// Absorbs whole leaves, given by their joined digests of 64 bytes each, and then the input: the
+/// state is then as after one update with the leaves' bytes and one with the input. The digests are
+/// those of the next leaves in order, as `blake2_c_tree_next_leaves` writes them. They come at a
+/// leaf boundary, and at least one byte of input comes after them, since the last leaf has no such
+/// digest. Without digests it is an update. Answers 0, or -1 where the state is not ready,
+/// `digests` has no multiple of 64 bytes, there are digests but the state is not at a leaf boundary
+/// or the input is empty, or the count would reach 2^58; the state then stays as it is.
+#[unsafe(no_mangle)]
+pub extern "C" fn blake2_c_tree_update_leaves(
+    state: &mut TreeState,
+    digests: &[u8],
+    input: &[u8],
+) -> i32
+    ensures status { Answers result
+        (IsRefusedUpdate state.old (length digests.now) (length input.now)) }
+    ensures ready { result ≡ pos 0 → IsReady state.new }
+    ensures size { state.new.root.output_size ≡ state.old.root.output_size }
+    ensures none { result ≡ pos 0 → digests.now ≡ [] → Took state.old input.now state.new }
+    ensures taken { result ≡ pos 0 → IsAsOpened state.old
+        → TookLeaves (state_tree state.old) digests.now input.now (state_tree state.new) }
+    ensures opened { IsAsOpened state.old → IsAsOpened state.new }
+    ensures same { result ≡ negsuc 0 → state.new ≡ state.old }
+{
+    if !state.is_ready() || !state.accepts_leaves(digests.len(), input.len()) {
+        return -1;
+    }
+    state.update_leaves(digests, input);
     0
 }
 
@@ -165,10 +245,122 @@ pub extern "C" fn blake2_c_tree_digest_size(state: &TreeState) -> usize
     }
 }
 
+/// The bytes of the message that the state has absorbed; 0 where it is not ready.
+#[unsafe(no_mangle)]
+pub extern "C" fn blake2_c_tree_count(state: &TreeState) -> u64
+    ensures ready { IsReady state.now → result ≡ count state.now }
+    ensures unready { (¬ IsReady state.now) → result ≡ 0 }
+{
+    if !state.is_ready() {
+        return 0;
+    }
+    state.counted()
+}
+
+/// The bytes of a leaf of the state's tree, 1 to 2^32 - 1; 0 where the state is not ready.
+#[unsafe(no_mangle)]
+pub extern "C" fn blake2_c_tree_leaf_length(state: &TreeState) -> u32
+    ensures ready { IsReady state.now → result ≡ (parameters state.now).leaf_length }
+    ensures unready { (¬ IsReady state.now) → result ≡ 0 }
+{
+    if !state.is_ready() {
+        return 0;
+    }
+    state.leaf_length as u32
+}
+
 /// The bytes of a state.
 #[unsafe(no_mangle)]
 pub extern "C" fn blake2_c_tree_state_size() -> usize
     ensures { result ≡ 912 }
 {
     size_of::<TreeState>()
+}
+
+/// How many leaves of `leaf_length` bytes a message of so many bytes has, one at least, or a range
+/// of leaves: `blake2_c_tree_leaves` writes 64 bytes for each. 0 where `leaf_length` is 0.
+#[unsafe(no_mangle)]
+pub extern "C" fn blake2_c_tree_leaf_count(message_length: u64, leaf_length: u32) -> u64
+    ensures none { leaf_length ≡ 0 → result ≡ 0 }
+    ensures count { 1 ≤ leaf_length → result ≡ leaf_count leaf_length message_length }
+{
+    if leaf_length == 0 {
+        return 0;
+    }
+    leaf_count(leaf_length, message_length)
+}
+
+/// Writes the digests of a range of a message's leaves, 64 bytes each, in order: leaf `first`, from
+/// 0, and those behind it that the input makes. Where `ends` is not 0 the range ends the message,
+/// and its last leaf may be shorter; else all are whole. Answers 0, or -1 where salt or persona
+/// have more than 16 bytes, `leaf_length` is 0, the input is no range (it has no bytes, but is not
+/// a whole message; or it is not whole leaves, and does not end the message; or it reaches 2^58
+/// bytes of the message), or `out` has not 64 bytes for each leaf; nothing is then written.
+#[unsafe(no_mangle)]
+pub extern "C" fn blake2_c_tree_leaves(
+    out: &mut [u8],
+    first: u64,
+    ends: u32,
+    input: &[u8],
+    salt: &[u8],
+    persona: &[u8],
+    leaf_length: u32,
+) -> i32
+    ensures status { Answers result (IsRefusedRange (length out.old) (length salt.now)
+        (length persona.now) leaf_length first (is_on ends) (length input.now)) }
+    ensures digests { result ≡ pos 0 → out.new ≡ range_digests
+        (tree_parameters salt.now persona.now leaf_length) first (is_on ends) input.now }
+    ensures part { result ≡ pos 0 → ArePartOfAll
+        (tree_parameters salt.now persona.now leaf_length) first (is_on ends) input.now out.new }
+    ensures nothing { result ≡ negsuc 0 → out.new ≡ out.old }
+{
+    if salt.len() > LABEL_BYTES || persona.len() > LABEL_BYTES || leaf_length == 0 {
+        return -1;
+    }
+    let ends = ends != 0;
+    let length = input.len() as u64;
+    if !is_range(leaf_length, first, ends, length) {
+        return -1;
+    }
+    if !is_room_for(out.len(), leaf_count(leaf_length, length) as usize, 64) {
+        return -1;
+    }
+    hash_leaves(salt, persona, leaf_length, first, ends, input, out);
+    0
+}
+
+/// Writes the root over the joined digests of a message's leaves in as many bytes as `out` has, 1
+/// to 64. These are 64 bytes for each leaf, in order, as `blake2_c_tree_leaves` has written them of
+/// ranges that are the whole message together. Answers 0, or -1 where `out` has another length, or
+/// `digests` has no bytes or no multiple of 64, salt or persona have more than 16, or `leaf_length`
+/// is 0; nothing is then written.
+#[unsafe(no_mangle)]
+pub extern "C" fn blake2_c_tree_root_of_leaves(
+    out: &mut [u8],
+    digests: &[u8],
+    salt: &[u8],
+    persona: &[u8],
+    leaf_length: u32,
+) -> i32
+    ensures status { Answers result (IsRefusedDigests (length out.old) (length salt.now)
+        (length persona.now) leaf_length (length digests.now)) }
+    ensures root { result ≡ pos 0 → out.new ≡ digest blake2b (length out.old)
+        (root_over (tree_parameters salt.now persona.now leaf_length) digests.now) }
+    ensures cuts { result ≡ pos 0 → IsRootOfCuts (length out.old)
+        (tree_parameters salt.now persona.now leaf_length) digests.now out.new }
+    ensures changes { result ≡ pos 0 → IsRootOfChanges (length out.old)
+        (tree_parameters salt.now persona.now leaf_length) digests.now out.new }
+    ensures nothing { result ≡ negsuc 0 → out.new ≡ out.old }
+{
+    if out.len() == 0 || out.len() > 64 || leaf_length == 0 {
+        return -1;
+    }
+    if salt.len() > LABEL_BYTES || persona.len() > LABEL_BYTES {
+        return -1;
+    }
+    if digests.len() == 0 || digests.len() % 64 != 0 {
+        return -1;
+    }
+    write_root_of_leaves(out, digests, salt, persona, leaf_length);
+    0
 }

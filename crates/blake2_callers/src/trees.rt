@@ -1,18 +1,20 @@
 //! Callers of nodes of a tree of hashes, and of a whole tree.
 
-ghost use Rattle.std.specs.Prelude.{◌≡◌, ◌+◌, ◌^◌, ◌<◌, ◌↔◌, ◌⊎◌, true, [], ◌++◌, length, None};
-ghost use Rattle.std.specs.Prelude.{OnOk, OnErr, IsErr};
+ghost use Rattle.std.specs.Prelude.{◌≡◌, ℕ, ◌+◌, ◌*◌, ◌^◌, ◌<◌, ◌≤◌, ◌↔◌, ◌⊎◌, true, List, [], ◌++◌};
+ghost use Rattle.std.specs.Prelude.{◌%◌, length, None, OnOk, OnErr, IsErr};
 ghost use Rattle.blake2_rows.specs.Family.{blake2b};
 ghost use Rattle.blake2_words.specs.Hash.{AdmitsTree};
 ghost use Rattle.blake2_words.specs.Views.{tree_of};
 ghost use Rattle.blake2.specs.States.{node_digest_of};
-ghost use Rattle.blake2_tree.specs.TreeRoot.{tree_parameters, tree_root as root_of};
+ghost use Rattle.blake2_tree.specs.TreeRoot.{tree_parameters, tree_root as root_of, leaf_count};
+ghost use Rattle.blake2_tree.specs.TreeRoot.{leaf_digests};
+ghost use Rattle.blake2_tree.specs.Ranges.{IsRange, AreWhole, TakesPlace, with_part};
 
 use blake2::digest::{Digest, LastNode};
 use blake2::{Blake2b512, Tree};
 use blake2_digest::InvalidLength;
 use blake2_plain::tree::TreeState;
-use blake2_tree::{TreeHasher, tree_root};
+use blake2_tree::{TreeHasher, hash_leaves, leaf_count, root_of_leaves, tree_root};
 
 /// The digest of a node at this place in a tree of hashes, the last of its level.
 pub fn last_node_digest(tree: &Tree, bytes: &[u8]) -> [u8; 64]
@@ -58,4 +60,64 @@ pub fn fill_root(out: &mut [u8], first: &[u8], second: &[u8]) -> Result<(), Inva
     state.update(second);
     state.write_root(out);
     Ok(())
+}
+
+/// The root of a message of which two ranges of leaves are hashed by themselves: the front of it,
+/// which is whole leaves, and the rest. Each could be hashed by another thread.
+pub fn root_of_ranges(front: &[u8], last: &[u8], digests: &mut [u8]) -> [u8; 64]
+    requires whole { AreWhole 65536 front.now }
+    requires some { 0 < length last.now }
+    requires fits { length front.now + length last.now < 2 ^ 58 }
+    requires room { length digests.old ≡ 64
+        * (leaf_count 65536 (length front.now) + leaf_count 65536 (length last.now)) }
+    ensures { result ≡ root_of 64 (tree_parameters [] [] 65536) (front.now ++ last.now) }
+{
+    let count = leaf_count(65536, front.len() as u64);
+    let at = 64 * count as usize;
+    hash_leaves(b"", b"", 65536, 0, false, front, &mut digests[..at]);
+    hash_leaves(b"", b"", 65536, count, true, last, &mut digests[at..]);
+    root_of_leaves(b"", b"", 65536, digests)
+}
+
+/// The root of a message of which a hasher absorbs whole leaves by their digests: `first` comes as
+/// bytes, `middle` is hashed by itself, which another thread could do, and `last` follows.
+pub fn root_by_digests(first: &[u8], middle: &[u8], last: &[u8], digests: &mut [u8]) -> [u8; 64]
+    requires first { length first.now % 65536 ≡ 0 }
+    requires middle { AreWhole 65536 middle.now }
+    requires last { 0 < length last.now }
+    requires fits { length first.now + length middle.now + length last.now < 2 ^ 58 }
+    requires room { length digests.old ≡ 64 * leaf_count 65536 (length middle.now) }
+    ensures { result
+        ≡ root_of 64 (tree_parameters [] [] 65536) (first.now ++ (middle.now ++ last.now)) }
+{
+    let mut hasher = TreeHasher::new(b"", b"", 65536);
+    hasher.update(first);
+    let next = hasher.counted() / 65536;
+    hash_leaves(b"", b"", 65536, next, false, middle, digests);
+    hasher.update_leaves(digests, last);
+    hasher.finalize()
+}
+
+/// The root of a message of which one leaf has changed, where `digests` are those of the leaves
+/// before: those of the leaves after, once it has returned. Only the new leaf is hashed.
+pub fn root_after_change(digests: &mut [u8], first: u64, ends: bool, leaf: &[u8]) -> [u8; 64]
+    requires range { IsRange 65536 first ends (length leaf.now) }
+    requires one { length leaf.now ≤ 65536 }
+    requires within { 64 * (first + 1) ≤ length digests.old }
+    ensures { (old : List ℕ) → digests.old ≡ leaf_digests (tree_parameters [] [] 65536) old
+        → TakesPlace 65536 (length old) first ends (length leaf.now)
+        → result
+        ≡ root_of 64 (tree_parameters [] [] 65536) (with_part (first * 65536) leaf.now old) }
+{
+    let at = 64 * first as usize;
+    hash_leaves(
+        b"",
+        b"",
+        65536,
+        first,
+        ends,
+        leaf,
+        &mut digests[at..at + 64],
+    );
+    root_of_leaves(b"", b"", 65536, digests)
 }

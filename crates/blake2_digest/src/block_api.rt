@@ -103,7 +103,8 @@ pub trait VariableOutputCoreCustomized {
     // The core is as it is made with these.
     ghost customized: { List ℕ → ℕ → Self → Type 0 };
 
-    /// A core with this customization, for outputs of `output_size` bytes.
+    /// A core with this customization, for outputs of `output_size` bytes: for BLAKE2 the persona,
+    /// at most 16 bytes in BLAKE2b and 8 in BLAKE2s.
     fn new_customized(customization: &[u8], output_size: usize) -> Self
         requires { can_customize customization.now output_size }
         ensures { customized customization.now output_size result };

@@ -16,7 +16,8 @@ pub trait CustomizedInit: Update {
     // The digest of a message under a customization and a last-node flag.
     ghost customized: { List ℕ → Bool → List ℕ → List ℕ };
 
-    /// A state that has taken nothing, with this customization.
+    /// A state that has taken nothing, with this customization: for BLAKE2 the persona, at most 16
+    /// bytes in BLAKE2b and 8 in BLAKE2s.
     fn new_customized(customization: &[u8]) -> Self
         requires { can_customize customization.now }
         ensures { Fresh Self.meaning (customized customization.now) 0 result };
@@ -35,7 +36,8 @@ pub trait Digest<const N: usize>: FixedOutputReset<N> {
         requires { is_supported }
         ensures { Fresh Self.meaning digest_of 0 result };
 
-    /// Takes the input after all that was taken before.
+    /// Takes the input after all that was taken before. Fewer than 2^64 bytes may be counted in
+    /// all: `counted` gives the count so far.
     fn update(&mut self, input: &[u8])
         requires { Self.meaning.count self.old + length input.now < 2 ^ 64 }
         ensures { Updated Self.meaning self.old input.now self.new }
@@ -74,7 +76,8 @@ pub trait Digest<const N: usize>: FixedOutputReset<N> {
         self.finalize_fixed_reset()
     }
 
-    /// Goes back to the hasher as it was made.
+    /// Starts again: the hasher has then absorbed nothing, under the parameters that it was made
+    /// with. The last-node flag stays as it is.
     fn reset(&mut self)
         ensures { Self.is_reset self.old self.new }
     {

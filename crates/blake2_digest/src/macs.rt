@@ -50,7 +50,8 @@ pub trait KeyInit<const K: usize>: Update {
         requires { is_supported }
         ensures { Fresh Self.meaning (keyed key.now) key_count result };
 
-    /// A state under this key, refused exactly for no bytes and for more than `K`.
+    /// A state under this key. `InvalidLength` exactly for a key of no bytes and for one of more
+    /// than `K`.
     fn new_from_slice(key: &[u8]) -> Result<Self, InvalidLength>
         requires { is_supported }
         ensures refused { IsErr result ↔ ((length key.now ≡ 0) ⊎ (K < length key.now)) }
@@ -83,7 +84,8 @@ impl<const N: usize> CtOutput<N> {
 
 /// Message authentication codes with an output of `N` bytes.
 pub trait Mac<const N: usize>: FixedOutput<N> {
-    /// Takes the input after all that was taken before.
+    /// Takes the input after all that was taken before. Fewer than 2^64 bytes may be counted in
+    /// all: `counted` gives the count so far.
     fn update(&mut self, input: &[u8])
         requires { Self.meaning.count self.old + length input.now < 2 ^ 64 }
         ensures { Updated Self.meaning self.old input.now self.new }

@@ -4,6 +4,8 @@
 //! nothing reads afterwards. So that memory is zero is no promise here: docs/WIPING.md of the
 //! repository says what was seen in the machine code, and how to look again.
 
+ghost use Rattle.std.specs.Prelude.{◌<◌, ◌^◌};
+
 use std::hint;
 
 // Of the stack, below the frame of the caller.
@@ -32,10 +34,13 @@ fn framed<R, F: FnOnce() -> R>(call: F) -> R
     call()
 }
 
-// Writes zeros over the stack below the caller's frame.
+/// Writes `N` bytes of zeros over the stack below the caller's frame, where calls that have returned
+/// left copies of secrets.
 #[inline(never)]
-fn scrub_stack() {
-    let zeros = [0; SCRUBBED_BYTES];
+pub fn scrub_stack<const N: usize>()
+    requires { N < 2 ^ 63 }
+{
+    let zeros = [0; N];
     settle(&zeros);
 }
 
@@ -50,6 +55,6 @@ pub fn scrubbed<R, F: FnOnce() -> R>(call: F) -> R
     ensures { F.post call result }
 {
     let result = framed(call);
-    scrub_stack();
+    scrub_stack::<SCRUBBED_BYTES>();
     result
 }

@@ -59,6 +59,11 @@ pub record IsReady (t : TreeState) : Type 0 where
 abbrev pub IsBegun : TreeState → Type 0
 IsBegun t = IsOpened Node.meaning (parameters t) t.closed t.leaf
 
+-- an open leaf that has taken nothing is as it was opened: so it is in each state that a constructor
+-- has made, and calls leave it so
+abbrev pub IsAsOpened : TreeState → Type 0
+IsAsOpened t = (Node.meaning.count t.leaf ≡ 0) → IsBegun t
+
 -- a root of so many bytes, a salt or a persona of so many, or leaves of that length are none of a
 -- tree
 abbrev pub IsRefusedTree : ℕ → ℕ → ℕ → ℕ → Type 0

@@ -18,6 +18,7 @@ use crate::StateParameters;
 use blake2::{Blake2sVarCore, Tree};
 use blake2_digest::{
     InvalidLength, LastNode, LazyBuffer, UpdateCore, VariableOutputCore, digest_into, is_same,
+    padded,
 };
 use blake2_words::params::blake2s::start_of;
 use blake2_words::words::blake2s::to_words;
@@ -148,7 +149,7 @@ impl State {
         } = *given;
         let core = Blake2sVarCore::new_with_tree(salt, persona, key.len(), output_size, tree);
         let first = core.first_words();
-        let block = LazyBuffer::<64>::new(key).padded();
+        let block = padded::<64>(key);
         State {
             chain: first,
             first,
@@ -175,8 +176,8 @@ impl State {
         Self::new_with_tree(given, &Tree::sequential())
     }
 
-    /// Whether BLAKE2s takes this place in a tree of hashes: at least one level, an inner node's
-    /// digest of at most 32 bytes (the BLAKE2 document, 2.8 and 2.10).
+    /// Whether BLAKE2s takes this place in a tree of hashes: at least one level, a node offset
+    /// below 2^48, an inner node's digest of at most 32 bytes (the BLAKE2 document, 2.8 and 2.10).
     pub fn admits_tree(tree: &Tree) -> bool
         ensures { IsTrue result ↔ AdmitsTree blake2s (tree_of tree.now) }
     {
@@ -329,7 +330,8 @@ impl State {
         }
     }
 
-    /// Takes the input after all that was taken before.
+    /// Takes the input after all that was taken before. Fewer than 2^64 bytes may be counted in
+    /// all: `counted` gives the count so far.
     pub fn update(&mut self, input: &[u8])
         requires ready { IsReady self.old }
         requires counted { meaning.count self.old + length input.now < 2 ^ 64 }
@@ -358,8 +360,9 @@ impl State {
         self.pending = self.start_block;
     }
 
-    /// Writes the digest of what was taken since the last start at the beginning of `out`. The
-    /// state stays as it is, and can take more.
+    /// Writes the digest of what was taken since the last start at the beginning of `out`, which
+    /// has at least `output_size` bytes; those behind the digest stay as they are. The state stays
+    /// as it is, and can take more.
     pub fn write_digest(&self, out: &mut [u8])
         requires ready { IsReady self.now }
         requires room { self.now.output_size ≤ length out.old }
@@ -373,7 +376,8 @@ impl State {
         out[..size].copy_from_slice(&whole[..size]);
     }
 
-    /// Whether the tag is the whole digest of what was taken since the last start.
+    /// Whether the tag is the whole digest of what was taken since the last start. All bytes of a
+    /// tag of its length are compared, wherever it differs.
     pub fn is_digest(&self, tag: &[u8]) -> bool
         requires { IsReady self.now }
         ensures { IsTrue result ↔ (tag.now ≡ digest_now meaning self.now) }

@@ -24,7 +24,8 @@ pub struct StateParameters<'a> {
 }
 
 impl<'a> StateParameters<'a> {
-    /// Those of this size and key, without salt and persona.
+    /// The parameters of a digest of `output_size` bytes under this key, or under none where it has
+    /// no bytes, without salt and persona.
     pub fn keyed(output_size: usize, key: &'a [u8]) -> Self
         ensures size { result.output_size ≡ output_size }
         ensures key { result.key.now ≡ key.now }

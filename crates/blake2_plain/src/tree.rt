@@ -3,21 +3,28 @@
 //! runs. `blake2_c` shows it to C.
 
 ghost use Rattle.std.specs.Prelude.{◌≡◌, ℕ, ◌+◌, ◌*◌, ◌^◌, ◌<◌, ◌≤◌, ◌↔◌, List, [], ◌++◌, length};
-ghost use Rattle.std.specs.Prelude.{drop, IfOk, IsErr, IsTrue};
+ghost use Rattle.std.specs.Prelude.{◌/◌, ◌%◌, drop, false, IfOk, IsErr, IsTrue};
 ghost use Rattle.blake2_digest.specs.States.{Fresh, digest_now};
+ghost use Rattle.blake2_rows.specs.Family.{blake2b};
+ghost use Rattle.blake2_words.specs.Hash.{digest};
 ghost use Rattle.blake2_plain.specs.Blake2b.{IsReady as IsNodeReady, meaning};
 ghost use Rattle.blake2_tree.specs.Nodes.{shared_parameters, node_digest};
-ghost use Rattle.blake2_tree.specs.TreeRoot.{tree_parameters, tree_root as root_of};
-ghost use Rattle.blake2_plain.specs.TreeStates.{HasLengths, HasCounts, IsReady, IsBegun};
+ghost use Rattle.blake2_tree.specs.TreeRoot.{tree_parameters, tree_root as root_of, root_over};
+ghost use Rattle.blake2_tree.specs.TreeRoot.{leaf_count};
+ghost use Rattle.blake2_tree.specs.Ranges.{AreWhole, range_digests, ArePartOfAll};
+ghost use Rattle.blake2_tree.specs.Ranges.{IsRootOfCuts, IsRootOfChanges};
+ghost use Rattle.blake2_plain.specs.TreeStates.{HasLengths, HasCounts, IsReady, IsBegun, IsAsOpened};
 ghost use Rattle.blake2_plain.specs.TreeStates.{IsRefusedTree, Took};
 ghost use Rattle.blake2_plain.specs.TreeStates.{parameters, state_tree, future, count, zeros};
 ghost use Rattle.blake2_tree.specs.OpenTrees.{room, WentOn};
+ghost use Rattle.blake2_tree.specs.LeafUpdates.{IsAtBoundary, next_leaf, AreNextLeaves};
+ghost use Rattle.blake2_tree.specs.LeafUpdates.{AcceptsLeaves, TookLeaves};
 
 use crate::StateParameters;
 use crate::blake2b::State;
 use blake2_digest::{InvalidLength, padded};
 use blake2_tree::nodes::Nodes;
-use blake2_tree::{LABEL_BYTES, MESSAGE_LIMIT};
+use blake2_tree::{LABEL_BYTES, MESSAGE_LIMIT, hash_leaves, is_range};
 
 /// A run of the tree as plain numbers. Every value of the fields is a state, and none is unsafe; it
 /// gives a root where it is ready ([`TreeState::is_ready`]), as all are that `new` has made.
@@ -61,9 +68,38 @@ fn node_state(nodes: &Nodes, output_size: usize, node_offset: u64, node_depth: u
     };
     match State::new_with_tree(&given, &place) {
         Ok(state) => state,
-        // Not reached: these lengths are all taken.
+        // Never run: `new_with_tree` refuses none of these lengths.
         Err(_) => State::zeros(),
     }
+}
+
+/// Writes the root over the joined digests of a message's leaves, as `root_of_leaves` of the crate
+/// `blake2_tree` gives it, in as many bytes as `out` has, 1 to 64. Salt and persona have at most 16
+/// bytes each, and a leaf has `leaf_length` bytes, 1 to 2^32 - 1.
+pub fn write_root_of_leaves(
+    out: &mut [u8],
+    digests: &[u8],
+    salt: &[u8],
+    persona: &[u8],
+    leaf_length: u32,
+)
+    requires least { 1 ≤ length out.old }
+    requires most { length out.old ≤ 64 }
+    requires salt { length salt.now ≤ 16 }
+    requires persona { length persona.now ≤ 16 }
+    requires leaf_length { 1 ≤ leaf_length }
+    ensures root { out.new ≡ digest blake2b (length out.old)
+        (root_over (tree_parameters salt.now persona.now leaf_length) digests.now) }
+    ensures cuts { IsRootOfCuts (length out.old)
+        (tree_parameters salt.now persona.now leaf_length) digests.now out.new }
+    ensures changes { IsRootOfChanges (length out.old)
+        (tree_parameters salt.now persona.now leaf_length) digests.now out.new }
+{
+    let nodes = Nodes::new(salt, persona, leaf_length);
+    let mut root = node_state(&nodes, out.len(), 0, 1);
+    root.set_last_node(true);
+    root.update(digests);
+    root.write_digest(out);
 }
 
 // The digest of a leaf.
@@ -161,6 +197,9 @@ impl TreeState {
         ensures root { IfOk result (λ t. (y : List ℕ) → future t y
             ≡ root_of output_size (tree_parameters salt.now persona.now leaf_length) y) }
         ensures nothing { IfOk result (λ t. count t ≡ 0) }
+        ensures shared { IfOk result (λ t.
+            parameters t ≡ tree_parameters salt.now persona.now leaf_length) }
+        ensures opened { IfOk result (λ t. IsAsOpened t) }
     {
         if output_size == 0 || output_size > 64 {
             return Err(InvalidLength);
@@ -183,6 +222,8 @@ impl TreeState {
         ensures root { (y : List ℕ) → future result y
             ≡ root_of output_size (tree_parameters salt.now persona.now leaf_length) y }
         ensures nothing { count result ≡ 0 }
+        ensures shared { parameters result ≡ tree_parameters salt.now persona.now leaf_length }
+        ensures opened { IsAsOpened result }
     {
         let nodes = Nodes::new(salt, persona, leaf_length);
         TreeState {
@@ -223,6 +264,121 @@ impl TreeState {
         self.leaf_length - self.leaf.counted()
     }
 
+    /// Whether what was absorbed is whole leaves, or nothing.
+    pub fn is_at_boundary(&self) -> bool
+        requires { IsReady self.now }
+        ensures { IsTrue result ↔ IsAtBoundary (state_tree self.now) }
+    {
+        self.counted() % self.leaf_length == 0
+    }
+
+    /// Whether so many bytes are whole leaves of this tree, the first of them `skip` leaves behind
+    /// the next one of a state at a leaf boundary.
+    pub fn are_next_leaves(&self, skip: u64, length: u64) -> bool
+        requires { IsReady self.now }
+        ensures { IsTrue result ↔ AreNextLeaves (state_tree self.now) skip length }
+    {
+        self.is_at_boundary()
+            && skip < MESSAGE_LIMIT
+            && is_range(
+                self.leaf_length as u32,
+                self.counted() / self.leaf_length + skip,
+                false,
+                length,
+            )
+    }
+
+    /// Writes the digests of whole leaves of this tree, 64 bytes each, in order: the first of them
+    /// is the one `skip` leaves behind the next one of the state, which is at a leaf boundary. None
+    /// is the last of the message. [`TreeState::are_next_leaves`] is the test.
+    pub fn hash_next_leaves(&self, skip: u64, bytes: &[u8], digests: &mut [u8])
+        requires ready { IsReady self.now }
+        requires next { AreNextLeaves (state_tree self.now) skip (length bytes.now) }
+        requires room { length digests.old ≡ 64 * leaf_count self.now.leaf_length (length bytes.now) }
+        ensures digests { digests.new ≡ range_digests (parameters self.now)
+            (next_leaf (state_tree self.now) + skip) false bytes.now }
+        ensures part { ArePartOfAll (parameters self.now)
+            (next_leaf (state_tree self.now) + skip) false bytes.now digests.new }
+    {
+        let salt = &self.salt[..self.salt_length];
+        let persona = &self.persona[..self.persona_length];
+        let first = self.counted() / self.leaf_length + skip;
+        hash_leaves(
+            salt,
+            persona,
+            self.leaf_length as u32,
+            first,
+            false,
+            bytes,
+            digests,
+        );
+    }
+
+    /// Whether [`TreeState::update_leaves`] accepts so many bytes of digests and so many bytes of
+    /// input after them.
+    pub fn accepts_leaves(&self, digests_length: usize, input_length: usize) -> bool
+        requires { IsReady self.now }
+        ensures { IsTrue result ↔ AcceptsLeaves (state_tree self.now) digests_length input_length }
+    {
+        let leaves = digests_length as u64 / 64;
+        let input = input_length as u64;
+        let is_in_place = digests_length == 0 || (input_length > 0 && self.is_at_boundary());
+        digests_length % 64 == 0
+            && is_in_place
+            && input < MESSAGE_LIMIT - self.counted()
+            && is_counted(leaves, self.leaf_length, self.counted() + input)
+    }
+
+    /// Absorbs whole leaves that others have hashed, given by their joined digests, and then the
+    /// input: the state is then as after an update with the leaves' bytes and one with the input.
+    /// The digests have 64 bytes each, and are those of the next leaves in order, as
+    /// [`TreeState::hash_next_leaves`] writes them. They come at a leaf boundary, and at least one
+    /// byte of input comes after them. Without digests it is an update.
+    /// [`TreeState::accepts_leaves`] is the test.
+    pub fn update_leaves(&mut self, digests: &[u8], input: &[u8])
+        requires ready { IsReady self.old }
+        requires accepted { AcceptsLeaves (state_tree self.old) (length digests.now)
+            (length input.now) }
+        ensures ready { IsReady self.new }
+        ensures size { self.new.root.output_size ≡ self.old.root.output_size }
+        ensures none { digests.now ≡ [] → Took self.old input.now self.new }
+        ensures taken { IsAsOpened self.old → TookLeaves (state_tree self.old) digests.now input.now
+            (state_tree self.new) }
+        ensures opened { IsAsOpened self.old → IsAsOpened self.new }
+    {
+        if digests.is_empty() {
+            return self.update(input);
+        }
+        self.begin_leaf();
+        self.close_given(digests);
+        self.update(input);
+    }
+
+    // Closes the whole leaves of which these are the digests: the open one, which is empty, and
+    // those after it. More follows. Opens the next one.
+    fn close_given(&mut self, digests: &[u8])
+        requires ready { IsReady self.old }
+        requires empty { meaning.count self.old.leaf ≡ 0 }
+        requires whole { length digests.now % 64 ≡ 0 }
+        requires fits { count self.old + length digests.now / 64 * self.old.leaf_length + 1
+            < 2 ^ 58 }
+        ensures ready { IsReady self.new }
+        ensures size { self.new.root.output_size ≡ self.old.root.output_size }
+        ensures shared { parameters self.new ≡ parameters self.old }
+        ensures begun { IsBegun self.new }
+        ensures future { IsBegun self.old
+            → (x y : List ℕ) → AreWhole self.old.leaf_length x → 0 < length y
+            → digests.now ≡ range_digests (parameters self.old) self.old.closed false x
+            → future self.new y ≡ future self.old (x ++ y) }
+        ensures count { count self.new
+            ≡ count self.old + length digests.now / 64 * self.old.leaf_length }
+    {
+        let nodes = self.nodes();
+        self.root.update(digests);
+        self.closed += digests.len() as u64 / 64;
+        self.leaf = node_state(&nodes, 64, self.closed, 0);
+    }
+
     /// Takes the input after all that was taken before; fewer than 2^58 bytes in all.
     pub fn update(&mut self, input: &[u8])
         requires ready { IsReady self.old }
@@ -230,6 +386,7 @@ impl TreeState {
         ensures ready { IsReady self.new }
         ensures size { self.new.root.output_size ≡ self.old.root.output_size }
         ensures taken { Took self.old input.now self.new }
+        ensures opened { IsAsOpened self.old → IsAsOpened self.new }
     {
         if input.len() as u64 <= self.room() {
             self.leaf.update(input);
@@ -247,6 +404,7 @@ impl TreeState {
         ensures ready { IsReady self.new }
         ensures size { self.new.root.output_size ≡ self.old.root.output_size }
         ensures taken { Took self.old input.now self.new }
+        ensures opened { IsAsOpened self.new }
     {
         let mut rest = input;
         while rest.len() as u64 > self.leaf_length {
@@ -270,14 +428,49 @@ impl TreeState {
         ensures begun { IsBegun self.new }
         ensures went_on { WentOn (state_tree self.old) input.now (state_tree self.new) result.now }
     {
-        let nodes = self.nodes();
         let (head, rest) = input.split_at(self.room() as usize);
-        self.leaf.set_last_node(false);
         self.leaf.update(head);
+        self.close_full();
+        rest
+    }
+
+    // Closes the open leaf, which is full, and opens the next one: more follows.
+    fn close_full(&mut self)
+        requires ready { IsReady self.old }
+        requires full { room (state_tree self.old) ≡ 0 }
+        requires fits { count self.old + 1 < 2 ^ 58 }
+        ensures ready { IsReady self.new }
+        ensures size { self.new.root.output_size ≡ self.old.root.output_size }
+        ensures shared { parameters self.new ≡ parameters self.old }
+        ensures future { (y : List ℕ) → 0 < length y → future self.new y ≡ future self.old y }
+        ensures count { count self.new ≡ count self.old }
+        ensures closed { self.new.closed ≡ self.old.closed + 1 }
+        ensures begun { IsBegun self.new }
+    {
+        let nodes = self.nodes();
+        self.leaf.set_last_node(false);
         self.root.update(&digest_of(&self.leaf));
         self.closed += 1;
         self.leaf = node_state(&nodes, 64, self.closed, 0);
-        rest
+    }
+
+    // Closes the open leaf where it is full, so that the open one is empty: more follows.
+    fn begin_leaf(&mut self)
+        requires ready { IsReady self.old }
+        requires boundary { IsAtBoundary (state_tree self.old) }
+        requires fits { count self.old + 1 < 2 ^ 58 }
+        ensures ready { IsReady self.new }
+        ensures size { self.new.root.output_size ≡ self.old.root.output_size }
+        ensures shared { parameters self.new ≡ parameters self.old }
+        ensures future { (y : List ℕ) → 0 < length y → future self.new y ≡ future self.old y }
+        ensures count { count self.new ≡ count self.old }
+        ensures closed { self.new.closed ≡ next_leaf (state_tree self.old) }
+        ensures empty { meaning.count self.new.leaf ≡ 0 }
+        ensures begun { IsAsOpened self.old → IsBegun self.new }
+    {
+        if self.leaf.counted() > 0 {
+            self.close_full();
+        }
     }
 
     // Closes four leaves at once that are whole and not the last: the open one, which is empty, and

@@ -33,11 +33,12 @@ abbrev pub rotations : Family → List ℕ
 rotations blake2b = 32 ∷ 24 ∷ 16 ∷ 63 ∷ []
 rotations blake2s = 16 ∷ 12 ∷ 8 ∷ 7 ∷ []
 
--- the bytes of the longest key, and of the longest output (2.1)
+-- the bytes of the longest key (2.1)
 abbrev pub key_bytes : Family → ℕ
 key_bytes blake2b = 64
 key_bytes blake2s = 32
 
+-- the bytes of the longest output (2.1)
 abbrev pub output_bytes : Family → ℕ
 output_bytes blake2b = 64
 output_bytes blake2s = 32
@@ -47,12 +48,12 @@ abbrev pub salt_bytes : Family → ℕ
 salt_bytes blake2b = 16
 salt_bytes blake2s = 8
 
--- the bytes of the parameter block's node offset, and of its reserved part (the BLAKE2 document,
--- 2.8)
+-- the bytes of the parameter block's node offset (the BLAKE2 document, 2.8)
 abbrev pub offset_bytes : Family → ℕ
 offset_bytes blake2b = 8
 offset_bytes blake2s = 6
 
+-- the bytes of the parameter block's reserved part (the BLAKE2 document, 2.8)
 abbrev pub reserved_bytes : Family → ℕ
 reserved_bytes blake2b = 14
 reserved_bytes blake2s = 0

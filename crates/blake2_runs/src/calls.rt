@@ -16,7 +16,7 @@ pub enum Call<'a> {
     Update(usize, &'a [u8]),
     /// A copy of the state becomes the next slot.
     Clone(usize),
-    /// The state goes back to what it was when it was made.
+    /// The state starts again, with what it was made from. A last-node flag stays as it is.
     Reset(usize),
     /// The state answers its digest, and the slot ends.
     Finalize(usize),
@@ -46,7 +46,7 @@ pub enum ReplayFault {
     NoSuchSlot(usize),
     /// The update at this place would bring the counted bytes of its slot to 2^64 or more.
     TooLong(usize),
-    /// Memory was wanted.
+    /// An allocation failed.
     Memory,
 }
 

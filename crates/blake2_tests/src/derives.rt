@@ -8,7 +8,7 @@ use blake2::digest::{InvalidLength, InvalidOutputSize, Lazy, MacError, TruncSide
 use blake2::engine::{DeviceError, StreamFault};
 use blake2::rows::{u32x4, u64x4};
 use blake2::steps::{Entry, Input, Reading, Step, Tree};
-use blake2_tree::{TreeWitness, tree_witness};
+use blake2_tree::TreeWitness;
 use std::alloc::AllocError;
 use std::fmt;
 use std::process::Abort;
@@ -161,26 +161,6 @@ fn print_witnesses_and_places(rt: HostRuntime) {
     check_name(&rt, &TreeWitness::Root(x, y), "Root(Step");
     check_name(&rt, &TreeWitness::Leaf(7, x, y), "Leaf(7, Step");
     check_name(&rt, &Tree::sequential(), "Tree");
-}
-
-// Of trees without salt and persona: one message has no witness, nor have two whose roots differ.
-#[test]
-fn no_witness_of_bare_trees(rt: HostRuntime) {
-    for (size, a, b) in [
-        (0, "a", "a"),
-        (0, "", ""),
-        (1, "abcdefghi", "abcdefghi"),
-        (64, "abcdefghi", "abcdefghi"),
-        (64, "abcdefghi", "abcdefghj"),
-        (64, "abcd", "abcde"),
-        (64, "", "\0"),
-        (16, "abcdefgh", "abcdEfgh"),
-    ] {
-        let (a_bytes, b_bytes) = (a.as_bytes(), b.as_bytes());
-        assert!(rt; size <= 64 && a_bytes.len() < 10 && b_bytes.len() < 10);
-        let found = tree_witness(rt.alloc(), &[], &[], 4, size, a_bytes, b_bytes);
-        assert!(rt; matches!(found, Ok(None)), "{size} {a} {b}");
-    }
 }
 
 // Places in trees, each of which differs from the first in one number at most.

@@ -1,11 +1,9 @@
-//! Inputs, blocks, entries, steps and readings that several tests share. What has several fields is
-//! made here alone.
+//! Inputs, entries, steps and readings that several tests share.
 
 ghost use Rattle.std.specs.Prelude.{◌≡◌, ◌≤◌, [], length};
 
-pub(crate) use blake2::digest::padded;
+use blake2::digest::padded;
 use blake2::steps::{Entry, Input, Reading, Step, Transcript, Tree};
-use blake2::{Blake2b256, Blake2bVarCore, Blake2sVarCore, Digest};
 use std::process::Abort;
 
 /// Fills the bytes with 0 to 250, again and again.
@@ -19,6 +17,15 @@ pub(crate) fn count_up(bytes: &mut [u8]) {
 pub(crate) fn numbered(row: &str) -> Option<(usize, &str)> {
     let (number, rest) = row.split_once('|')?;
     Some((number.parse().ok()?, rest))
+}
+
+/// Whether these digits, two for each byte, are the bytes in hexadecimal.
+pub(crate) fn reads(bytes: &[u8], digits: &str) -> bool {
+    let mut decoded = [0u8; 64];
+    match decoded.get_mut(..bytes.len()) {
+        Some(room) => hex::decode_to_slice(digits, room).is_ok() && *room == *bytes,
+        None => false,
+    }
 }
 
 /// An input of these parts, of a hash which is the whole tree, with the last-node flag off.
@@ -112,51 +119,4 @@ pub(crate) fn reading<const S: usize>(
         last_node: input.last_node,
         message: message.expect(rt, "room for a message"),
     }
-}
-
-/// The input that a reading tells.
-pub(crate) fn read_input<'a, const S: usize>(read: &'a Reading<S>) -> Input<'a> {
-    let key = match &read.key {
-        Some(key) => Some(key.as_slice()),
-        None => None,
-    };
-    Input {
-        tree: read.tree,
-        last_node: read.last_node,
-        ..input(key, &read.salt, &read.persona, read.message.as_slice())
-    }
-}
-
-/// Whether BLAKE2b reads the transcript as this input, which it accepts, at this output size.
-pub(crate) fn blake2b_reads_as(
-    rt: &(impl Abort + AllocGlobal),
-    told: &Transcript<u64, 128>,
-    input: &Input<'_>,
-    output_size: usize,
-) -> bool {
-    if !Blake2bVarCore::accepts(input) {
-        return false;
-    }
-    let wanted = reading(rt, input, output_size);
-    Blake2bVarCore::read_transcript(rt.alloc(), told) == Ok(Some(wanted))
-}
-
-/// Whether BLAKE2s reads the transcript as this input, which it accepts, at this output size.
-pub(crate) fn blake2s_reads_as(
-    rt: &(impl Abort + AllocGlobal),
-    told: &Transcript<u32, 64>,
-    input: &Input<'_>,
-    output_size: usize,
-) -> bool {
-    if !Blake2sVarCore::accepts(input) {
-        return false;
-    }
-    let wanted = reading(rt, input, output_size);
-    Blake2sVarCore::read_transcript(rt.alloc(), told) == Ok(Some(wanted))
-}
-
-/// Whether BLAKE2b-256 of the bytes is this in hexadecimal.
-pub(crate) fn digest_is(bytes: &[u8], wanted: &str) -> bool {
-    let mut digest = [0u8; 32];
-    hex::decode_to_slice(wanted, &mut digest).is_ok() && digest == Blake2b256::digest(bytes)
 }

@@ -1,15 +1,16 @@
 -- The leaves of a message, one after the other.
-use Rattle.std.proofs.Common.{◌≡◌, ℕ, suc, ◌+◌, ◌-◌, ◌*◌, ◌/◌, ◌<◌, ◌≤◌, inl, inr, true}
-use Rattle.std.proofs.Common.{false, nat_eq, List, ◌++◌, length, take, drop, refl, sym, ap, ◌∙◌}
+use Rattle.std.proofs.Common.{◌≡◌, ℕ, suc, ◌+◌, ◌-◌, ◌*◌, ◌/◌, ◌<◌, ◌≤◌, inl, inr, Bool, true}
+use Rattle.std.proofs.Common.{false, nat_eq, ◌&&◌, List, ◌++◌, length, take, drop, refl, sym, ap, ◌∙◌}
 use Rattle.std.proofs.Common.{arith, zero-add, append-nil, length-drop, drop-drop}
 use Rattle.std.proofs.lemmas.List.{take_all}
 use Rattle.std.proofs.lemmas.Bool.{cases_eq, eq-eqb, ne_eqb}
+use Rattle.std.proofs.Math.Bool.{and-true, and-false}
 use Rattle.std.proofs.Math.Nat.{div-lt_iff_lt-mul, add-div_left, le-div_iff_mul-le}
 use Rattle.std.specs.List.{flat_map, range_with_len}
 use Rattle.blake2_rows.specs.Family.{blake2b}
 use Rattle.blake2_words.specs.Hash.{Input, digest}
 use Rattle.blake2_tree.specs.TreeRoot.{TreeParameters, leaf_count, leaf, node, leaf_digests}
-use Rattle.blake2_tree.specs.OpenTrees.{later_digests}
+use Rattle.blake2_tree.specs.Ranges.{range_digests}
 use Rattle.blake2_tree.proofs.Lists.{flat_map-range_more}
 
 -- ---- how many there are
@@ -34,21 +35,21 @@ leaf_count-more size n some more =
 
 -- ---- their digests
 
--- leaf i of a message of `count` leaves, the first of them at place `first`
-abbrev nth_leaf : TreeParameters → ℕ → ℕ → List ℕ → ℕ → Input
-nth_leaf s first count message i = node s (first + i) 0 (nat_eq (i + 1) count)
-    (leaf s.leaf_length message i)
+-- leaf i of a range of `count` leaves, the first of them at place `first`
+abbrev nth_leaf : TreeParameters → ℕ → Bool → ℕ → List ℕ → ℕ → Input
+nth_leaf s first ends count bytes i =
+    node s (first + i) 0 (ends && nat_eq (i + 1) count) (leaf s.leaf_length bytes i)
 
 -- the digests of all of them
-digests_of : TreeParameters → ℕ → ℕ → List ℕ → List ℕ
-digests_of s first count message = flat_map (λ i.
-    digest blake2b 64 (nth_leaf s first count message i)) (range_with_len 0 count)
+digests_of : TreeParameters → ℕ → Bool → ℕ → List ℕ → List ℕ
+digests_of s first ends count bytes = flat_map (λ i.
+    digest blake2b 64 (nth_leaf s first ends count bytes i)) (range_with_len 0 count)
 
-later_digests-digests_of : (s : TreeParameters) (first : ℕ) (message : List ℕ)
-    → later_digests s first message ≡ digests_of s first
-    (leaf_count s.leaf_length (length message)) message
-unfolding later_digests digests_of
-later_digests-digests_of s first message = refl
+range_digests-digests_of : (s : TreeParameters) (first : ℕ) (ends : Bool) (bytes : List ℕ)
+    → range_digests s first ends bytes ≡ digests_of s first ends
+    (leaf_count s.leaf_length (length bytes)) bytes
+unfolding range_digests digests_of
+range_digests-digests_of s first ends bytes = refl
 
 nat_eq-more : (i n : ℕ) → nat_eq (i + 1 + 1) (suc n) ≡ nat_eq (i + 1) n
 nat_eq-more i n = elim (cases_eq (i + 1) n) [
@@ -57,89 +58,91 @@ nat_eq-more i n = elim (cases_eq (i + 1) n) [
 ]
 
 -- the leaf behind the next one is the next one of the rest
-nth_leaf-more : (s : TreeParameters) (first count : ℕ) (message : List ℕ) (i : ℕ)
-    → nth_leaf s first (suc count) message (i + 1)
-    ≡ nth_leaf s (first + 1) count (drop s.leaf_length message) i
-nth_leaf-more s first count message i =
+nth_leaf-more : (s : TreeParameters) (first : ℕ) (ends : Bool) (count : ℕ) (bytes : List ℕ) (i : ℕ)
+    → nth_leaf s first ends (suc count) bytes (i + 1)
+    ≡ nth_leaf s (first + 1) ends count (drop s.leaf_length bytes) i
+nth_leaf-more s first ends count bytes i =
     let place : first + (i + 1) ≡ first + 1 + i = omega arith in
     let start : (i + 1) * s.leaf_length ≡ s.leaf_length + i * s.leaf_length = omega arith in
     rw (
       place,
       start,
-      ← drop-drop (i * s.leaf_length) s.leaf_length message,
+      ← drop-drop (i * s.leaf_length) s.leaf_length bytes,
       nat_eq-more i count,
     ) refl
 
 -- the first digest, and those of the rest
-digests_of-more : (s : TreeParameters) (first count : ℕ) (message : List ℕ)
-    → digests_of s first (suc count) message ≡ digest blake2b 64
-    (nth_leaf s first (suc count) message 0) ++ digests_of s (first + 1) count
-    (drop s.leaf_length message)
+digests_of-more : (s : TreeParameters) (first : ℕ) (ends : Bool) (count : ℕ) (bytes : List ℕ)
+    → digests_of s first ends (suc count) bytes ≡ digest blake2b 64
+    (nth_leaf s first ends (suc count) bytes 0) ++ digests_of s (first + 1) ends count
+    (drop s.leaf_length bytes)
 unfolding digests_of
-digests_of-more s first count message =
-    ap (λ (rest : List ℕ). digest blake2b 64 (nth_leaf s first (suc count) message 0) ++ rest)
+digests_of-more s first ends count bytes =
+    ap (λ (rest : List ℕ). digest blake2b 64 (nth_leaf s first ends (suc count) bytes 0) ++ rest)
     (flat_map-range_more _ _ (λ i. ap (digest blake2b 64)
-    (nth_leaf-more s first count message i)) 0 count)
+    (nth_leaf-more s first ends count bytes i)) 0 count)
 
-digests_of-one : (s : TreeParameters) (first : ℕ) (message : List ℕ)
-    → length message ≤ s.leaf_length
-    → digests_of s first 1 message ≡ digest blake2b 64 (node s first 0 true message)
+digests_of-one : (s : TreeParameters) (first : ℕ) (ends : Bool) (bytes : List ℕ)
+    → length bytes ≤ s.leaf_length
+    → digests_of s first ends 1 bytes ≡ digest blake2b 64 (node s first 0 ends bytes)
 unfolding digests_of
-digests_of-one s first message short =
+digests_of-one s first ends bytes short =
     let start : 0 * s.leaf_length ≡ 0 = omega arith in
     let at : first + 0 ≡ first = omega arith in
     rw (
-      append-nil (digest blake2b 64 (nth_leaf s first 1 message 0)),
+      append-nil (digest blake2b 64 (nth_leaf s first ends 1 bytes 0)),
       at,
       start,
-      take_all s.leaf_length message short,
+      take_all s.leaf_length bytes short,
+      and-true ends,
     ) refl
 
--- of a message of at most a leaf: its digest as the last leaf
-pub later_digests-short : (s : TreeParameters) (first : ℕ) (message : List ℕ) → 0 < s.leaf_length
-    → length message ≤ s.leaf_length
-    → later_digests s first message ≡ digest blake2b 64 (node s first 0 true message)
-later_digests-short s first message some short =
-    later_digests-digests_of s first message
-    ∙ ap (λ (n : ℕ). digests_of s first n message)
-    (leaf_count-short s.leaf_length (length message) some short)
-    ∙ digests_of-one s first message short
+-- of a range of at most a leaf: its digest, the message's last leaf or not
+pub range_digests-short : (s : TreeParameters) (first : ℕ) (ends : Bool) (bytes : List ℕ)
+    → 0 < s.leaf_length → length bytes ≤ s.leaf_length
+    → range_digests s first ends bytes ≡ digest blake2b 64 (node s first 0 ends bytes)
+range_digests-short s first ends bytes some short =
+    range_digests-digests_of s first ends bytes
+    ∙ ap (λ (n : ℕ). digests_of s first ends n bytes)
+    (leaf_count-short s.leaf_length (length bytes) some short)
+    ∙ digests_of-one s first ends bytes short
 
 -- the first of several is not the last
-nth_leaf-first : (s : TreeParameters) (first count : ℕ) (message : List ℕ) → 0 < count
-    → nth_leaf s first (suc count) message 0 ≡ node s first 0 false (take s.leaf_length message)
-nth_leaf-first s first count message more =
+nth_leaf-first : (s : TreeParameters) (first : ℕ) (ends : Bool) (count : ℕ) (bytes : List ℕ)
+    → 0 < count
+    → nth_leaf s first ends (suc count) bytes 0 ≡ node s first 0 false (take s.leaf_length bytes)
+nth_leaf-first s first ends count bytes more =
     let start : 0 * s.leaf_length ≡ 0 = omega arith in
     let at : first + 0 ≡ first = omega arith in
     let flag : nat_eq 1 (suc count) ≡ false = ne_eqb 1 (suc count) (λ e. absurd (omega arith)) in
-    rw (at, start, flag) refl
+    rw (at, start, flag, and-false ends) refl
 
 -- of a longer one: the digest of its first leaf, which is not the last, and those of the rest
-pub later_digests-long : (s : TreeParameters) (first : ℕ) (message : List ℕ) → 0 < s.leaf_length
-    → s.leaf_length < length message
-    → later_digests s first message
-    ≡ digest blake2b 64 (node s first 0 false (take s.leaf_length message))
-    ++ later_digests s (first + 1) (drop s.leaf_length message)
-later_digests-long s first message some long =
-    let rest : List ℕ = drop s.leaf_length message in
-    let left : length message ≡ s.leaf_length + length rest =
-    omega (arith, length-drop s.leaf_length message) in
-    let count : leaf_count s.leaf_length (length message)
+pub range_digests-long : (s : TreeParameters) (first : ℕ) (ends : Bool) (bytes : List ℕ)
+    → 0 < s.leaf_length → s.leaf_length < length bytes
+    → range_digests s first ends bytes
+    ≡ digest blake2b 64 (node s first 0 false (take s.leaf_length bytes))
+    ++ range_digests s (first + 1) ends (drop s.leaf_length bytes)
+range_digests-long s first ends bytes some long =
+    let rest : List ℕ = drop s.leaf_length bytes in
+    let left : length bytes ≡ s.leaf_length + length rest =
+    omega (arith, length-drop s.leaf_length bytes) in
+    let count : leaf_count s.leaf_length (length bytes)
     ≡ suc (leaf_count s.leaf_length (length rest)) =
     ap (leaf_count s.leaf_length) left ∙ leaf_count-more s.leaf_length (length rest) some
     (omega arith) in
-    later_digests-digests_of s first message
-    ∙ ap (λ (n : ℕ). digests_of s first n message) count
-    ∙ digests_of-more s first (leaf_count s.leaf_length (length rest)) message
+    range_digests-digests_of s first ends bytes
+    ∙ ap (λ (n : ℕ). digests_of s first ends n bytes) count
+    ∙ digests_of-more s first ends (leaf_count s.leaf_length (length rest)) bytes
     ∙ ap (λ (leaf : Input). digest blake2b 64 leaf
-    ++ digests_of s (first + 1) (leaf_count s.leaf_length (length rest)) rest)
-    (nth_leaf-first s first (leaf_count s.leaf_length (length rest)) message (omega arith))
+    ++ digests_of s (first + 1) ends (leaf_count s.leaf_length (length rest)) rest)
+    (nth_leaf-first s first ends (leaf_count s.leaf_length (length rest)) bytes (omega arith))
     ∙ ap (λ (digests : List ℕ). digest blake2b 64
-    (node s first 0 false (take s.leaf_length message)) ++ digests)
-    (sym (later_digests-digests_of s (first + 1) rest))
+    (node s first 0 false (take s.leaf_length bytes)) ++ digests)
+    (sym (range_digests-digests_of s (first + 1) ends rest))
 
 -- the leaves of a whole message are those from place 0 on
-pub later_digests-first : (s : TreeParameters) (message : List ℕ)
-    → later_digests s 0 message ≡ leaf_digests s message
-unfolding later_digests leaf_digests
-later_digests-first s message = simp zero-add
+pub range_digests-first : (s : TreeParameters) (message : List ℕ)
+    → range_digests s 0 true message ≡ leaf_digests s message
+unfolding range_digests leaf_digests
+range_digests-first s message = simp zero-add

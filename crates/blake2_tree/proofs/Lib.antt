@@ -1,7 +1,10 @@
 mod FourLeaves
+pub mod LeafUpdateLaws
 mod Leaves
 mod Lists
 mod NodeLemmas
 mod OpenLeaves
 mod PieceLengths
+pub mod RangeLaws
+mod RangeWrites
 pub mod Roots

@@ -7,19 +7,20 @@ use Rattle.std.proofs.Math.Seq.{take-append-add, drop-append-add}
 use Rattle.blake2_rows.specs.Family.{blake2b}
 use Rattle.blake2_words.specs.Hash.{digest}
 use Rattle.blake2_tree.specs.TreeRoot.{TreeParameters, node}
-use Rattle.blake2_tree.specs.OpenTrees.{later_digests, digests_to_come}
-use Rattle.blake2_tree.proofs.Leaves.{later_digests-short, later_digests-long}
+use Rattle.blake2_tree.specs.Ranges.{range_digests}
+use Rattle.blake2_tree.specs.OpenTrees.{digests_to_come}
+use Rattle.blake2_tree.proofs.Leaves.{range_digests-short, range_digests-long}
 
 -- the digests that y adds to an open leaf that has taken nothing are those of the leaves of y
 pub digests_to_come-begun : (s : TreeParameters) (first : ℕ) (y : List ℕ) → 0 < s.leaf_length
     → digests_to_come s (λ last z. digest blake2b 64 (node s first 0 last z)) s.leaf_length
-    (first + 1) y ≡ later_digests s first y
+    (first + 1) y ≡ range_digests s first true y
 unfolding digests_to_come
 digests_to_come-begun s first y some = elim (cases_lt s.leaf_length (length y)) [
   | inr short ↦ rw (le-leb (length y) s.leaf_length short)
-      (sym (later_digests-short s first y some short))
+      (sym (range_digests-short s first true y some short))
   | inl long ↦ rw (lt-leb (length y) s.leaf_length long)
-      (sym (later_digests-long s first y some long))
+      (sym (range_digests-long s first true y some long))
 ]
 
 -- the open leaf takes the beginning x of what comes
@@ -59,6 +60,6 @@ digests_to_come-nothing s open_leaf room next = rw (le-leb 0 room (omega arith))
 -- a full leaf is not the last, where something comes
 pub digests_to_come-full : (s : TreeParameters) (open_leaf : Bool → List ℕ → List ℕ) (next : ℕ)
     (y : List ℕ) → 0 < length y
-    → digests_to_come s open_leaf 0 next y ≡ open_leaf false [] ++ later_digests s next y
+    → digests_to_come s open_leaf 0 next y ≡ open_leaf false [] ++ range_digests s next true y
 unfolding digests_to_come
 digests_to_come-full s open_leaf next y some = rw (lt-leb (length y) 0 some) refl

@@ -1,22 +1,34 @@
--- How long the best piece of a message is, where y leaves fit its usual length, and q fours of
--- them.
-use Rattle.std.proofs.Common.{ℕ, ◌+◌, ◌*◌, ◌<◌, ◌≤◌, max, inl, inr, arith}
+-- How long the best piece of a message is.
+use Rattle.std.proofs.Common.{◌≡◌, ℕ, ◌+◌, ◌*◌, ◌<◌, ◌≤◌, ◌⊎◌, max, inl, inr, ap, ◌∙◌, arith}
 use Rattle.std.proofs.lemmas.Bool.{cases_lt}
 use Rattle.std.proofs.Math.Nat.{mul-le-mul_left}
 
--- it is not short
-pub piece-least : (leaf y q : ℕ) → 65536 < leaf * (y + 1) → leaf * y ≤ 65536 → 4 * q ≤ y
-    → y < 4 * q + 4 → 16384 < leaf * (4 * max q 1 + 1)
-piece-least leaf y q above below fours rest = elim (cases_lt 0 q) [
-  | inl some ↦ omega (
-    arith,
-    mul-le-mul_left leaf (let h : y + 1 ≤ 4 * q + 4 = omega arith in h),
-    mul-le-mul_left leaf (let h : 4 ≤ y = omega arith in h),
-    mul-le-mul_left leaf (let h : q ≤ max q 1 = omega arith in h),
-  )
-  | inr none ↦ omega (
-    arith,
-    mul-le-mul_left leaf (let h : y + 1 ≤ 4 = omega arith in h),
-    mul-le-mul_left leaf (let h : 1 ≤ max q 1 = omega arith in h),
-  )
+-- where y leaves fit its usual length, and q fours of them, and it has these fours, four at least:
+-- it is neither short nor long
+pub piece-usual : (leaf y q fours : ℕ) → leaf * y ≤ 65536 → 65536 < leaf * (y + 1) → 4 * q ≤ y
+    → y < 4 * q + 4 → fours ≡ max q 4
+    → (16384 < leaf * (4 * fours + 1))
+    × ((leaf * (4 * fours + 1) ≤ 65536 + leaf) ⊎ (leaf * (4 * fours + 1) ≤ 17 * leaf))
+piece-usual leaf y q fours below above fit rest is = elim (cases_lt 3 q) [
+  | inl many ↦
+      let same : fours ≡ q = omega (arith, is, many) in
+      let more : leaf * (y + 1) ≤ leaf * (4 * fours + 4) =
+      mul-le-mul_left leaf (let h : y + 1 ≤ 4 * fours + 4 = omega (arith, same, rest) in h) in
+      let few : leaf * (4 * fours) ≤ leaf * y =
+      mul-le-mul_left leaf (let h : 4 * fours ≤ y = omega (arith, same, fit) in h) in
+      let least : leaf * 16 ≤ leaf * (4 * fours) =
+      mul-le-mul_left leaf (let h : 16 ≤ 4 * fours = omega (arith, same, many) in h) in
+      (omega (arith, more, least, above), inl (omega (arith, few, below)))
+  | inr none ↦
+      let same : fours ≡ 4 = omega (arith, is, none) in
+      let whole : leaf * (4 * fours + 1) ≡ leaf * 17 = ap (λ n. leaf * (4 * n + 1)) same in
+      let most : leaf * (y + 1) ≤ leaf * 16 =
+      mul-le-mul_left leaf (let h : y + 1 ≤ 16 = omega (arith, none, rest) in h) in
+      (omega (arith, whole, most, above), inr (omega (arith, whole)))
 ]
+
+-- where m leaves fit the longest one, and fewer than four more fit than it has
+pub piece-longest : (leaf m r : ℕ) → 16777216 < leaf * (m + 1) → m ≤ 4 * r + 4
+    → 16777216 < leaf * (4 * r + 1) + 4 * leaf
+piece-longest leaf m r above few =
+    omega (arith, above, mul-le-mul_left leaf (let h : m + 1 ≤ 4 * r + 5 = omega (arith, few) in h))

@@ -1,6 +1,6 @@
 -- The root that a tree will give, from call to call.
-use Rattle.std.proofs.Common.{◌≡◌, ℕ, ◌+◌, ◌-◌, ◌*◌, ◌<◌, ◌≤◌, Bool, true, false, List, []}
-use Rattle.std.proofs.Common.{◌++◌, length, take, drop, sym, ap, ◌∙◌, arith}
+use Rattle.std.proofs.Common.{◌≡◌, ℕ, ◌+◌, ◌-◌, ◌*◌, ◌/◌, ◌<◌, ◌≤◌, Bool, true, false, List, []}
+use Rattle.std.proofs.Common.{◌++◌, length, take, drop, refl, sym, ap, ◌∙◌, arith}
 use Rattle.std.proofs.Common.{append-nil, append_assoc, length-append, length-drop}
 use Rattle.std.proofs.lemmas.List.{take-append-drop, drop-append-le, length-take-le}
 use Rattle.std.proofs.lemmas.List.{nil_from_length}
@@ -8,10 +8,12 @@ use Rattle.std.specs.List.{concat, flat_map}
 use Rattle.blake2_digest.specs.States.{Meaning, digest_now, Updated, Fresh, NodeSet}
 use Rattle.blake2_tree.specs.Nodes.{node_digest, IsOpened, four_digests}
 use Rattle.blake2_tree.specs.TreeRoot.{TreeParameters, tree_root}
-use Rattle.blake2_tree.specs.OpenTrees.{later_digests, digests_to_come}
-use Rattle.blake2_tree.specs.OpenTrees.{open_tree, future, Took, WentOn}
-use Rattle.blake2_tree.proofs.Leaves.{later_digests-first}
-use Rattle.blake2_tree.proofs.FourLeaves.{later_digests-four, later_digests-last_four}
+use Rattle.blake2_tree.specs.Ranges.{AreWhole, range_digests}
+use Rattle.blake2_tree.specs.OpenTrees.{digests_to_come}
+use Rattle.blake2_tree.specs.OpenTrees.{OpenTree, open_tree, future, Took, WentOn}
+use Rattle.blake2_tree.proofs.Leaves.{range_digests-first}
+use Rattle.blake2_tree.proofs.RangeLaws.{length-range_digests, range_digests-cut, leaf_count-is}
+use Rattle.blake2_tree.proofs.FourLeaves.{range_digests-four, range_digests-last_four}
 use Rattle.blake2_tree.proofs.FourLeaves.{four_digests-append}
 use Rattle.blake2_tree.proofs.OpenLeaves.{digests_to_come-begun, digests_to_come-took}
 use Rattle.blake2_tree.proofs.OpenLeaves.{digests_to_come-nothing, digests_to_come-full}
@@ -26,7 +28,7 @@ IsOpened-fresh leaves s place leaf fresh =
 digests_to_come-opened : {S : Type 0} (leaves : Meaning S) (s : TreeParameters) (place : ℕ)
     (leaf : S) (y : List ℕ) → 0 < s.leaf_length → IsOpened leaves s place leaf
     → digests_to_come s (leaves.future leaf) (s.leaf_length - leaves.count leaf) (place + 1) y
-    ≡ later_digests s place y
+    ≡ range_digests s place true y
 digests_to_come-opened leaves s place leaf y some opened =
     let whole : s.leaf_length - leaves.count leaf ≡ s.leaf_length = omega (arith, opened.empty) in
     ap (λ (room : ℕ). digests_to_come s (leaves.future leaf) room (place + 1) y) whole
@@ -45,10 +47,10 @@ future-made roots leaves s n root leaf y some is_leaf is_root =
     (digests_to_come s (leaves.future leaf) (s.leaf_length - leaves.count leaf) 1 y)
     ∙ ap (node_digest n s 0 1 true)
     (digests_to_come-opened leaves s 0 leaf y some (IsOpened-fresh leaves s 0 leaf is_leaf)
-    ∙ later_digests-first s y)
+    ∙ range_digests-first s y)
 
 -- the open leaf takes the beginning of what comes, under whichever flag of its own
-future-took : {R S : Type 0} (roots : Meaning R) (leaves : Meaning S) (s : TreeParameters)
+pub future-took : {R S : Type 0} (roots : Meaning R) (leaves : Meaning S) (s : TreeParameters)
     (closed : ℕ) (root : R) (old new : S) (x y : List ℕ)
     → ((last : Bool) (z : List ℕ) → leaves.future new last z ≡ leaves.future old last (x ++ z))
     → leaves.count new ≡ leaves.count old + length x
@@ -70,61 +72,58 @@ pub Took-updated : {R S : Type 0} (roots : Meaning R) (leaves : Meaning S) (s : 
     → Updated leaves old x new → length x ≤ s.leaf_length - leaves.count old
     → Took (open_tree roots leaves s closed root old) x (open_tree roots leaves s closed root new)
 Took-updated roots leaves s closed root old new x updated fits = record {
+  shared = refl;
   future = λ y.
       future-took roots leaves s closed root old new x y updated.future updated.count fits;
   count = omega (arith, updated.count);
 }
 
 -- a full leaf is closed and the next one is opened, where something comes
-future-closed : {R S : Type 0} (roots : Meaning R) (leaves : Meaning S) (s : TreeParameters)
+pub future-closed : {R S : Type 0} (roots : Meaning R) (leaves : Meaning S) (s : TreeParameters)
     (closed : ℕ) (old new : R) (full opened : S) (y : List ℕ)
     → 0 < s.leaf_length → s.leaf_length - leaves.count full ≡ 0 → leaves.last_node full ≡ false
-    → Updated roots old (digest_now leaves full) new → IsOpened leaves s (closed + 1) opened
-    → 0 < length y
+    → Updated roots old (digest_now leaves full) new
+    → Fresh leaves (node_digest 64 s (closed + 1) 0) 0 opened → 0 < length y
     → future (open_tree roots leaves s (closed + 1) new opened) y
     ≡ future (open_tree roots leaves s closed old full) y
 unfolding future
-future-closed roots leaves s closed old new full opened y some no_room inner updated is_opened
-    more =
+future-closed roots leaves s closed old new full opened y some no_room inner updated fresh more =
     let next : ℕ = closed + 1 in
-    ap (roots.future new true) (digests_to_come-opened leaves s next opened y some is_opened)
-    ∙ updated.future true (later_digests s next y)
+    ap (roots.future new true)
+    (digests_to_come-opened leaves s next opened y some (IsOpened-fresh leaves s next opened fresh))
+    ∙ updated.future true (range_digests s next true y)
     ∙ ap (λ (last : Bool). roots.future old true
-    (leaves.future full last [] ++ later_digests s next y)) inner
+    (leaves.future full last [] ++ range_digests s next true y)) inner
     ∙ ap (roots.future old true)
     (sym (ap (λ (room : ℕ). digests_to_come s (leaves.future full) room next y) no_room
     ∙ digests_to_come-full s (leaves.future full) next y more))
 
--- the open leaf is filled up and closed, and the next one is opened
+-- the open leaf takes the front of the input, which fills it, and is closed, where more follows
 pub WentOn-closed : {R S : Type 0} (roots : Meaning R) (leaves : Meaning S) (s : TreeParameters)
-    (closed : ℕ) (old new : R) (leaf full opened : S) (room : ℕ) (x head rest : List ℕ)
+    (closed : ℕ) (old : R) (leaf full : S) (new : OpenTree) (room : ℕ) (x head rest : List ℕ)
     → 0 < s.leaf_length → leaves.count leaf ≤ s.leaf_length
     → room ≡ s.leaf_length - leaves.count leaf → room < length x
-    → head ≡ take room x → rest ≡ drop room x
-    → ((last : Bool) (z : List ℕ) → leaves.future full last z ≡ leaves.future leaf last (head ++ z))
-    → leaves.count full ≡ leaves.count leaf + length head → leaves.last_node full ≡ false
-    → Updated roots old (digest_now leaves full) new
-    → Fresh leaves (node_digest 64 s (closed + 1) 0) 0 opened
-    → WentOn (open_tree roots leaves s closed old leaf) x
-    (open_tree roots leaves s (closed + 1) new opened) rest
-WentOn-closed roots leaves s closed old new leaf full opened room x head rest some within is_room
-    long is_head is_rest took counted inner updated fresh =
+    → head ≡ take room x → rest ≡ drop room x → Updated leaves leaf head full
+    → ((y : List ℕ) → 0 < length y
+    → future new y ≡ future (open_tree roots leaves s closed old full) y)
+    → new.shared ≡ s → new.closed ≡ closed + 1 → new.taken ≡ 0
+    → WentOn (open_tree roots leaves s closed old leaf) x new rest
+WentOn-closed roots leaves s closed old leaf full new room x head rest some within is_room
+    long is_head is_rest took closes same next empty =
     let size : length head ≡ room =
     ap length is_head ∙ length-take-le room x (omega arith) in
     let left : length rest ≡ length x - room = ap length is_rest ∙ length-drop room x in
-    let no_room : s.leaf_length - leaves.count full ≡ 0 = omega (arith, counted) in
     let whole : head ++ rest ≡ x = (λ i. is_head i ++ is_rest i) ∙ take-append-drop room x in
     record {
       future = λ y.
-          future-closed roots leaves s closed old new full opened (rest ++ y) some no_room inner
-          updated (IsOpened-fresh leaves s (closed + 1) opened fresh)
-          (omega (arith, length-append rest y))
-          ∙ future-took roots leaves s closed old leaf full head (rest ++ y) took counted
+          closes (rest ++ y) (omega (arith, length-append rest y))
+          ∙ future-took roots leaves s closed old leaf full head (rest ++ y) took.future took.count
           (omega arith)
           ∙ ap (future (open_tree roots leaves s closed old leaf))
           (sym (append_assoc head rest y) ∙ ap (λ z. z ++ y) whole);
-      count = omega (arith, fresh.count);
-      fewer = omega (arith, fresh.count);
+      shared = same;
+      count = rw (ap (λ p. p.leaf_length) same, next, empty) (omega arith);
+      fewer = omega (arith, empty);
     }
 
 -- the open leaf, which is empty, and three more are closed, and the next one is opened
@@ -151,14 +150,41 @@ WentOn-four roots leaves s closed old new leaf opened x bytes rest digests some 
           joined ∙ ap concat (are ∙ sym (four_digests-append s closed x y (omega arith))) in
           ap (roots.future new true)
           (digests_to_come-opened leaves s next opened (rest ++ y) some is_opened)
-          ∙ updated.future true (later_digests s next (rest ++ y))
+          ∙ updated.future true (range_digests s next true (rest ++ y))
           ∙ ap (roots.future old true)
-          ((λ k. same k ++ later_digests s next (back k))
-          ∙ sym (later_digests-four s closed (x ++ y) some (omega (arith, length-append x y)))
+          ((λ k. same k ++ range_digests s next true (back k))
+          ∙ sym (range_digests-four s closed true (x ++ y) some (omega (arith, length-append x y)))
           ∙ sym (digests_to_come-opened leaves s closed leaf (x ++ y) some is_leaf));
+      shared = refl;
       count = omega (arith, fresh.count, is_leaf.empty);
       fewer = omega (arith, fresh.count, is_leaf.empty);
     }
+
+-- the open leaf, which is empty, and others after it are closed by their digests, and the next one
+-- is opened, where something comes
+pub future-given : {R S : Type 0} (roots : Meaning R) (leaves : Meaning S) (s : TreeParameters)
+    (closed k : ℕ) (old new : R) (leaf opened : S) (digests x y : List ℕ) → 0 < s.leaf_length
+    → IsOpened leaves s closed leaf → AreWhole s.leaf_length x
+    → digests ≡ range_digests s closed false x → k ≡ length digests / 64
+    → Updated roots old digests new → Fresh leaves (node_digest 64 s (closed + k) 0) 0 opened
+    → 0 < length y
+    → future (open_tree roots leaves s (closed + k) new opened) y
+    ≡ future (open_tree roots leaves s closed old leaf) (x ++ y)
+unfolding future
+future-given roots leaves s closed k old new leaf opened digests x y some is_leaf whole are count
+    updated fresh more =
+    let next : ℕ = closed + k in
+    let is_opened = IsOpened-fresh leaves s next opened fresh in
+    let many : length digests ≡ length x / s.leaf_length * 64 =
+    ap length are ∙ length-range_digests s closed false x
+    ∙ ap (λ n. n * 64) (leaf_count-is s.leaf_length x some whole) in
+    let leaves_of_x : k ≡ length x / s.leaf_length = omega (arith, many, count) in
+    ap (roots.future new true) (digests_to_come-opened leaves s next opened y some is_opened)
+    ∙ updated.future true (range_digests s next true y)
+    ∙ ap (roots.future old true)
+    ((λ i. are i ++ range_digests s (closed + leaves_of_x i) true y)
+    ∙ sym (range_digests-cut s closed true x y some whole more)
+    ∙ sym (digests_to_come-opened leaves s closed leaf (x ++ y) some is_leaf))
 
 -- the open leaf is the last, and the root takes its digest
 pub future-finished : {R S : Type 0} (roots : Meaning R) (leaves : Meaning S) (s : TreeParameters)
@@ -193,7 +219,7 @@ future-last_four roots leaves s closed root taken last leaf x bytes digests some
     ∙ root_set.future true [] ∙ updated.future true []
     ∙ ap (roots.future root true)
     (append-nil bytes ∙ joined ∙ ap concat are
-    ∙ sym (later_digests-last_four s closed x some whole)
+    ∙ sym (range_digests-last_four s closed true x some whole)
     ∙ sym (digests_to_come-opened leaves s closed leaf x some is_leaf))
 
 -- a leaf that was opened and took nothing is still as it was opened

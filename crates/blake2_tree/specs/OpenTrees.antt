@@ -1,24 +1,10 @@
 -- A tree that takes a message, as its nodes promise: the root that it will give, and the bytes that
 -- it has taken. Its last leaf is open.
-use Rattle.std.specs.Prelude.{◌≡◌, ℕ, ◌+◌, ◌-◌, ◌*◌, ◌<◌, nat_eq, nat_le, Bool, true, false}
+use Rattle.std.specs.Prelude.{◌≡◌, ℕ, ◌+◌, ◌-◌, ◌*◌, ◌<◌, nat_le, Bool, true, false}
 use Rattle.std.specs.Prelude.{if◌then◌else◌, List, ◌++◌, length, take, drop}
-use Rattle.std.specs.List.{flat_map, range_with_len}
 use Rattle.blake2_digest.specs.States.{Meaning}
-use Rattle.blake2_rows.specs.Family.{blake2b}
-use Rattle.blake2_words.specs.Hash.{Input, digest}
-use Rattle.blake2_tree.specs.TreeRoot.{TreeParameters, leaf_count, leaf, node}
-
--- leaf i of a message whose first leaf stands at place `first` of a longer one's leaves
-abbrev pub later_leaf : TreeParameters → ℕ → List ℕ → ℕ → Input
-later_leaf p first message i =
-    node p (first + i) 0 (nat_eq (i + 1) (leaf_count p.leaf_length (length message)))
-    (leaf p.leaf_length message i)
-
--- their digests, joined
-unfoldable pub later_digests : TreeParameters → ℕ → List ℕ → List ℕ
-later_digests p first message =
-    flat_map (λ i. digest blake2b 64 (later_leaf p first message i))
-    (range_with_len 0 (leaf_count p.leaf_length (length message)))
+use Rattle.blake2_tree.specs.TreeRoot.{TreeParameters}
+use Rattle.blake2_tree.specs.Ranges.{range_digests}
 
 -- the digests that y adds, where the open leaf takes `room` bytes more and gives the digest
 -- `open_leaf` of them, as the last leaf or not: where y fits, that leaf is the last; else it is
@@ -26,7 +12,7 @@ later_digests p first message =
 unfoldable pub digests_to_come : TreeParameters → (Bool → List ℕ → List ℕ) → ℕ → ℕ → List ℕ → List ℕ
 digests_to_come p open_leaf room next y =
     if nat_le (length y) room then open_leaf true y
-    else open_leaf false (take room y) ++ later_digests p next (drop room y)
+    else open_leaf false (take room y) ++ range_digests p next true (drop room y)
 
 -- what is said of such a tree
 pub record OpenTree : Type 0 where
@@ -65,6 +51,7 @@ count t = t.closed * t.shared.leaf_length + t.taken
 
 -- the new tree is the old one once it has taken x
 pub record Took (old : OpenTree) (x : List ℕ) (new : OpenTree) : Type 0 where
+  pub shared : new.shared ≡ old.shared
   pub future : (y : List ℕ) → future new y ≡ future old (x ++ y)
   pub count : count new ≡ count old + length x
 
@@ -72,6 +59,7 @@ pub record Took (old : OpenTree) (x : List ℕ) (new : OpenTree) : Type 0 where
 -- into the tree
 pub record WentOn (old : OpenTree) (input : List ℕ) (new : OpenTree) (rest : List ℕ)
     : Type 0 where
+  pub shared : new.shared ≡ old.shared
   pub future : (y : List ℕ) → future new (rest ++ y) ≡ future old (input ++ y)
   pub count : count new + length rest ≡ count old + length input
   -- fewer bytes are left that are not in closed leaves

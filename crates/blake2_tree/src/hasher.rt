@@ -1,10 +1,13 @@
 //! The tree over a message that comes in pieces.
 
 ghost use Rattle.std.specs.Prelude.{◌≡◌, ℕ, ◌+◌, ◌*◌, ◌^◌, ◌<◌, ◌≤◌, List, [], ◌++◌, length, false};
+ghost use Rattle.std.specs.Prelude.{◌/◌, ◌%◌, ◌↔◌, IsTrue};
 ghost use Rattle.blake2.specs.Hashers.{blake2b_meaning};
 ghost use Rattle.blake2_tree.specs.Nodes.{shared_parameters, IsOpened};
+ghost use Rattle.blake2_tree.specs.Ranges.{AreWhole, range_digests};
 ghost use Rattle.blake2_tree.specs.TreeRoot.{tree_parameters, tree_root as root_of};
 
+use crate::limits::has_room_for;
 use crate::nodes::Nodes;
 use blake2::Blake2b;
 use blake2::digest::{FixedOutput, LastNode, Update};
@@ -34,6 +37,8 @@ pub struct TreeHasher<const N: usize> {
 
 impl<const N: usize> TreeHasher<N> {
     ghost use Rattle.blake2_tree.specs.OpenTrees.{room, WentOn};
+    ghost use Rattle.blake2_tree.specs.LeafUpdates.{IsAtBoundary, next_leaf, AcceptsLeaves};
+    ghost use Rattle.blake2_tree.specs.LeafUpdates.{TookLeaves};
     ghost use Rattle.blake2_tree.specs.TreeHashers.{held_tree, future, count, Took};
 
     /// A hasher that has taken nothing. Salt and persona have at most 16 bytes each, and a leaf has
@@ -46,6 +51,8 @@ impl<const N: usize> TreeHasher<N> {
         ensures root { (y : List ℕ) → future result y
             ≡ root_of N (tree_parameters salt.now persona.now leaf_length) y }
         ensures nothing { count result ≡ 0 }
+        ensures shared { (held_tree result).shared
+            ≡ tree_parameters salt.now persona.now leaf_length }
     {
         let nodes = Nodes::new(salt, persona, leaf_length);
         TreeHasher {
@@ -70,6 +77,44 @@ impl<const N: usize> TreeHasher<N> {
             };
         }
         self.leaf.update(rest);
+    }
+
+    /// Whether what was absorbed is whole leaves, or nothing.
+    pub fn is_at_boundary(&self) -> bool
+        ensures { IsTrue result ↔ IsAtBoundary (held_tree self.now) }
+    {
+        self.counted() % u64::from(self.nodes.leaf_length) == 0
+    }
+
+    /// Whether [`TreeHasher::update_leaves`] accepts so many bytes of digests and so many bytes of
+    /// input after them.
+    pub fn accepts_leaves(&self, digests_length: usize, input_length: usize) -> bool
+        ensures { IsTrue result ↔ AcceptsLeaves (held_tree self.now) digests_length input_length }
+    {
+        let leaves = digests_length as u64 / 64;
+        let is_in_place = digests_length == 0 || (input_length > 0 && self.is_at_boundary());
+        let length = self.nodes.leaf_length;
+        digests_length % 64 == 0
+            && is_in_place
+            && has_room_for(self.counted(), leaves, length, input_length as u64)
+    }
+
+    /// Absorbs whole leaves that others have hashed, given by their joined digests, and then the
+    /// input: it is then as after an [`TreeHasher::update`] with the leaves' bytes and one with the
+    /// input. The digests have 64 bytes each, and are those of the next leaves in order, as
+    /// `hash_leaves` writes them of a range that does not end the message. They come at a leaf
+    /// boundary, and at least one byte of input comes after them. Without digests it is an `update`.
+    /// [`TreeHasher::accepts_leaves`] is the test.
+    pub fn update_leaves(&mut self, digests: &[u8], input: &[u8])
+        requires { AcceptsLeaves (held_tree self.old) (length digests.now) (length input.now) }
+        ensures { TookLeaves (held_tree self.old) digests.now input.now (held_tree self.new) }
+    {
+        if digests.is_empty() {
+            return self.update(input);
+        }
+        self.begin_leaf();
+        self.close_given(digests);
+        self.update(input);
     }
 
     /// The bytes of the message that it has taken so far.
@@ -111,11 +156,58 @@ impl<const N: usize> TreeHasher<N> {
     {
         let (head, rest) = input.split_at(self.room() as usize);
         self.leaf.update(head);
+        self.close_full();
+        rest
+    }
+
+    // Closes the open leaf, which is full, and opens the next one: more follows.
+    fn close_full(&mut self)
+        requires full { room (held_tree self.old) ≡ 0 }
+        requires fits { count self.old + 1 < 2 ^ 58 }
+        ensures future { (y : List ℕ) → 0 < length y → future self.new y ≡ future self.old y }
+        ensures count { count self.new ≡ count self.old }
+        ensures closed { self.new.closed ≡ self.old.closed + 1 }
+        ensures nodes { self.new.nodes ≡ self.old.nodes }
+        ensures empty { (blake2b_meaning 64).count self.new.leaf ≡ 0 }
+    {
         let next = self.nodes.open_node(self.closed + 1, 0);
         let full = mem::replace(&mut self.leaf, next);
         self.root.update(&full.finalize_fixed());
         self.closed += 1;
-        rest
+    }
+
+    // Closes the open leaf where it is full, so that the open one is empty: more follows.
+    fn begin_leaf(&mut self)
+        requires boundary { IsAtBoundary (held_tree self.old) }
+        requires fits { count self.old + 1 < 2 ^ 58 }
+        ensures future { (y : List ℕ) → 0 < length y → future self.new y ≡ future self.old y }
+        ensures count { count self.new ≡ count self.old }
+        ensures closed { self.new.closed ≡ next_leaf (held_tree self.old) }
+        ensures nodes { self.new.nodes ≡ self.old.nodes }
+        ensures empty { (blake2b_meaning 64).count self.new.leaf ≡ 0 }
+    {
+        if self.leaf.counted() > 0 {
+            self.close_full();
+        }
+    }
+
+    // Closes the whole leaves of which these are the digests: the open one, which is empty, and
+    // those after it. More follows. Opens the next one.
+    fn close_given(&mut self, digests: &[u8])
+        requires empty { (blake2b_meaning 64).count self.old.leaf ≡ 0 }
+        requires whole { length digests.now % 64 ≡ 0 }
+        requires fits { count self.old + length digests.now / 64 * self.old.nodes.leaf_length + 1
+            < 2 ^ 58 }
+        ensures future { (x y : List ℕ) → AreWhole self.old.nodes.leaf_length x → 0 < length y
+            → digests.now ≡ range_digests (shared_parameters self.old.nodes) self.old.closed false x
+            → future self.new y ≡ future self.old (x ++ y) }
+        ensures count { count self.new
+            ≡ count self.old + length digests.now / 64 * self.old.nodes.leaf_length }
+        ensures nodes { self.new.nodes ≡ self.old.nodes }
+    {
+        self.root.update(digests);
+        self.closed += digests.len() as u64 / 64;
+        self.leaf = self.nodes.open_node(self.closed, 0);
     }
 
     // Closes four leaves at once that are whole and not the last: the open one, which is empty, and

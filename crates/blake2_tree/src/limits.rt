@@ -1,6 +1,6 @@
 //! The tree's numbers, and the pieces in which a message is best handed over.
 
-ghost use Rattle.std.specs.Prelude.{◌≡◌, ℕ, ◌+◌, ◌*◌, ◌^◌, ◌<◌, ◌≤◌};
+ghost use Rattle.std.specs.Prelude.{◌≡◌, ℕ, ◌+◌, ◌*◌, ◌^◌, ◌<◌, ◌≤◌, ◌↔◌, ◌⊎◌, IsTrue};
 
 /// A message has fewer bytes than this: so the digests of leaves of one byte still fit the count of
 /// the root, which is below 2^64.
@@ -9,6 +9,16 @@ pub const MESSAGE_LIMIT: u64 = 1 << 58;
 /// Salt and persona have at most this many bytes each (the BLAKE2 document, 2.8).
 pub const LABEL_BYTES: usize = 16;
 
+// Whether a message of `count` bytes still has room for so many leaves and so many bytes more.
+pub(crate) fn has_room_for(count: u64, leaves: u64, leaf_length: u32, more: u64) -> bool
+    requires some { 1 ≤ leaf_length }
+    requires counted { count < 2 ^ 58 }
+    ensures { IsTrue result ↔ count + leaves * leaf_length + more < 2 ^ 58 }
+{
+    let rest = MESSAGE_LIMIT - 1 - count;
+    more <= rest && leaves <= (rest - more) / u64::from(leaf_length)
+}
+
 // The bytes of a piece, where leaves are short or very long.
 const PIECE_BYTES: usize = 1 << 16;
 
@@ -16,22 +26,28 @@ const PIECE_BYTES: usize = 1 << 16;
 const LONGEST_PIECE_BYTES: usize = 1 << 24;
 
 /// How many bytes a piece of a message best has, for a tree with leaves of this length, 1 at least:
-/// about 64 KiB, or five leaves where these are more, and at most 16 MiB. Four leaves are hashed at
+/// about 64 KiB, or 17 leaves where these are more, and at most 16 MiB. Four leaves are hashed at
 /// once that others follow. So a piece is fours of leaves and one leaf more, which stays open until
-/// the next piece shows that others follow it. Five leaves that are longer than the longest piece
-/// are no piece.
+/// the next piece shows that others follow it, and is hashed alone: one leaf in 17 at most, and one
+/// in 13 with leaves of 1 MiB, of which 17 are longer than the longest piece. Five leaves that are
+/// longer than that are no piece.
 pub fn best_piece_length(leaf_length: u32) -> usize
     requires { 1 ≤ leaf_length }
     ensures least { 2 ^ 14 < result }
     ensures most { result ≤ 2 ^ 24 }
     ensures fours { 5 * leaf_length ≤ 2 ^ 24
         → (fours : ℕ) × (1 ≤ fours) × (result ≡ leaf_length * (4 * fours + 1)) }
+    ensures long { 5 * leaf_length ≤ 2 ^ 24
+        → (17 * leaf_length ≤ result) ⊎ (2 ^ 24 < result + 4 * leaf_length) }
+    ensures short { (result ≤ 2 ^ 16 + leaf_length) ⊎ (result ≤ 17 * leaf_length) }
 {
     let leaf = leaf_length as usize;
-    let fours = (PIECE_BYTES / leaf / 4).max(1);
+    let fours = (PIECE_BYTES / leaf / 4).max(4);
     let whole = leaf * (4 * fours + 1);
     if whole <= LONGEST_PIECE_BYTES {
         whole
+    } else if 5 * leaf <= LONGEST_PIECE_BYTES {
+        leaf * (4 * ((LONGEST_PIECE_BYTES / leaf - 1) / 4) + 1)
     } else {
         PIECE_BYTES
     }

@@ -1,6 +1,6 @@
 //! The nodes of a tree: their places, hashers and inputs of them, and their digests.
 
-ghost use Rattle.std.specs.Prelude.{◌≡◌, ◌+◌, ◌*◌, ◌^◌, ◌<◌, ◌≤◌, length, IfOk};
+ghost use Rattle.std.specs.Prelude.{◌≡◌, ◌+◌, ◌*◌, ◌^◌, ◌<◌, ◌≤◌, length, IfOk, true};
 ghost use Rattle.blake2.specs.Hashers.{blake2b_meaning};
 ghost use Rattle.blake2_digest.specs.States.{Fresh};
 ghost use Rattle.blake2_rows.specs.Family.{blake2b};
@@ -8,6 +8,7 @@ ghost use Rattle.blake2_words.specs.Inputs.{Accepts};
 ghost use Rattle.blake2_words.specs.Views.{tree_of, input_of};
 ghost use Rattle.blake2_tree.specs.TreeRoot.{place, node, leaf_count, leaf_digests, leaf_input};
 ghost use Rattle.blake2_tree.specs.TreeRoot.{root_over, tree_parameters};
+ghost use Rattle.blake2_tree.specs.Ranges.{IsRange, range_digests, with_part};
 
 use crate::label::Label;
 use blake2::digest::{FixedOutput, LastNode, Update};
@@ -26,10 +27,19 @@ pub struct Nodes {
     ghost some_length: { 1 ≤ leaf_length },
 }
 
+// Writes the bytes from place `at` on.
+fn write_at(out: &mut [u8], at: usize, bytes: &[u8])
+    requires { at + length bytes.now ≤ length out.old }
+    ensures { out.new ≡ with_part at bytes.now out.old }
+{
+    out[at..at + bytes.len()].copy_from_slice(bytes);
+}
+
 impl Nodes {
     ghost use Rattle.blake2_tree.specs.Nodes.{shared_parameters, node_digest, four_digests};
 
-    /// Keeps what the nodes share.
+    /// What all nodes of a tree share: salt and persona, at most 16 bytes each, and the bytes of a
+    /// leaf, at least 1.
     pub fn new(salt: &[u8], persona: &[u8], leaf_length: u32) -> Self
         requires salt { length salt.now ≤ 16 }
         requires persona { length persona.now ≤ 16 }
@@ -147,6 +157,79 @@ impl Nodes {
             self.node(i + 3, 0, last, &text[3 * length..4 * length]),
         ];
         many::blake2b::hash_four(&leaves)
+    }
+
+    // The digest of a leaf, which is the message's last or not.
+    fn leaf_digest(&self, i: u64, last: bool, bytes: &[u8]) -> [u8; 64]
+        ensures { result ≡ node_digest 64 (shared_parameters self.now) i 0 last bytes.now }
+    {
+        let mut leaf = self.open_node::<64>(i, 0);
+        leaf.set_last_node(last);
+        leaf.update(bytes);
+        leaf.finalize_fixed()
+    }
+
+    /// The root over the joined digests of the leaves.
+    pub(crate) fn root_of<const N: usize>(&self, digests: &[u8]) -> [u8; N]
+        requires { N ≤ 64 }
+        ensures { result ≡ node_digest N (shared_parameters self.now) 0 1 true digests.now }
+    {
+        let mut root = self.open_node::<N>(0, 1);
+        root.set_last_node(true);
+        root.update(digests);
+        root.finalize_fixed()
+    }
+
+    /// Writes the digests of a range of leaves, the first of them at place `first`, and the last of
+    /// them the message's last or not.
+    pub(crate) fn write_digests(&self, first: u64, ends: bool, bytes: &[u8], out: &mut [u8])
+        requires range { IsRange self.now.leaf_length first ends (length bytes.now) }
+        requires room { length out.old ≡ 64 * leaf_count self.now.leaf_length (length bytes.now) }
+        ensures { out.new ≡ range_digests (shared_parameters self.now) first ends bytes.now }
+    {
+        let mut done = 0;
+        let mut rest = bytes;
+        while rest.len() > self.four_leaves() {
+            let digests = self.hash_four(first + done as u64, false, rest);
+            write_at(out, 64 * done, digests.as_flattened());
+            done += 4;
+            rest = &rest[self.four_leaves()..];
+        }
+        self.write_last(first + done as u64, ends, rest, &mut out[64 * done..]);
+    }
+
+    // The same of at most four leaves. Four whole ones are hashed at once.
+    fn write_last(&self, first: u64, ends: bool, bytes: &[u8], out: &mut [u8])
+        requires short { length bytes.now ≤ 4 * self.now.leaf_length }
+        requires place { first + 3 < 2 ^ 64 }
+        requires room { length out.old ≡ 64 * leaf_count self.now.leaf_length (length bytes.now) }
+        ensures { out.new ≡ range_digests (shared_parameters self.now) first ends bytes.now }
+    {
+        if bytes.len() == self.four_leaves() {
+            out.copy_from_slice(self.hash_four(first, ends, bytes).as_flattened());
+        } else {
+            self.write_each(first, ends, bytes, out);
+        }
+    }
+
+    // The same, one leaf at a time.
+    fn write_each(&self, first: u64, ends: bool, bytes: &[u8], out: &mut [u8])
+        requires short { length bytes.now ≤ 4 * self.now.leaf_length }
+        requires place { first + 3 < 2 ^ 64 }
+        requires room { length out.old ≡ 64 * leaf_count self.now.leaf_length (length bytes.now) }
+        ensures { out.new ≡ range_digests (shared_parameters self.now) first ends bytes.now }
+    {
+        let length = self.leaf_length as usize;
+        let mut done = 0;
+        let mut rest = bytes;
+        while rest.len() > length {
+            let digest = self.leaf_digest(first + done as u64, false, &rest[..length]);
+            write_at(out, 64 * done, &digest);
+            done += 1;
+            rest = &rest[length..];
+        }
+        let digest = self.leaf_digest(first + done as u64, ends, rest);
+        write_at(out, 64 * done, &digest);
     }
 
     /// The joined digests of a message's leaves. Fails only for want of memory.

@@ -1,10 +1,14 @@
-//! Worked values of the libraries' hash functions: of their public calls, from RFC 7693 and from
-//! Python's `hashlib.blake2b` and `hashlib.blake2s`, and not from this project's own code. They
-//! stand apart from the libraries, since a crate that has tests is proved twice; `blake2_tests` has
-//! the tests of what these functions are used for.
+//! Worked values of the libraries, but of trees, which have their own beside them: of hash functions,
+//! buffers, transcripts, readings, witnesses, lists of calls and streams, over devices that fail and
+//! where memory is refused. They come from RFC 7693 and from Python's `hashlib.blake2b` and
+//! `hashlib.blake2s`, and not from this project's own code. They stand apart from the libraries,
+//! since a crate that has tests is proved twice; `blake2` and `blake2_tree` have in themselves the
+//! tests of what is private there and of trees.
 
 #![tactic(auto)]
 
+#[cfg(test)]
+mod buffer;
 #[cfg(test)]
 mod calls;
 #[cfg(test)]
@@ -16,6 +20,8 @@ mod cores;
 #[cfg(test)]
 mod flags;
 #[cfg(test)]
+mod forged;
+#[cfg(test)]
 mod generic;
 #[cfg(test)]
 mod hashers;
@@ -26,15 +32,15 @@ mod lanes;
 #[cfg(test)]
 mod lengths;
 #[cfg(test)]
-mod limits;
-#[cfg(test)]
 mod macs;
+#[cfg(test)]
+mod memory;
 #[cfg(test)]
 mod node_calls;
 #[cfg(test)]
-mod parameters;
+mod nodes;
 #[cfg(test)]
-mod plain;
+mod parameters;
 #[cfg(test)]
 mod printed;
 #[cfg(test)]
@@ -42,10 +48,12 @@ mod readme;
 #[cfg(test)]
 mod rounds;
 #[cfg(test)]
-mod scalar;
-#[cfg(test)]
 mod selftest;
 #[cfg(test)]
 mod sizes;
 #[cfg(test)]
-mod trees;
+mod steps;
+#[cfg(test)]
+mod streams;
+#[cfg(test)]
+mod witness;

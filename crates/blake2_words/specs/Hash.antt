@@ -44,6 +44,7 @@ pub record Flags : Type 0 where
   pub last : Bool
   pub last_node : Bool
 
+-- the flags f and f1, in this order
 abbrev pub flags : Bool → Bool → Flags
 flags last last_node = record { last = last; last_node = last_node }
 

@@ -11,7 +11,8 @@ use Rattle.blake2_words.specs.Run.{no_entry}
 
 -- ---- the parameters
 
--- what a parameter block names, at the places of its fields (the BLAKE2 document, 2.8)
+-- the tree parameters that a parameter block names, at the places of its fields (the BLAKE2
+-- document, 2.8)
 abbrev pub tree_in : Family → List ℕ → Tree
 tree_in f block =
     let o = offset_bytes f in record {
@@ -23,6 +24,7 @@ tree_in f block =
       inner_length = slice_index block (8 + o + 1);
     }
 
+-- all parameters that a parameter block names, whatever its reserved bytes hold
 abbrev pub parameters_in : Family → List ℕ → Parameters
 parameters_in f block =
     let s = salt_bytes f in

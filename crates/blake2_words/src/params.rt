@@ -32,8 +32,8 @@ pub struct Tree {
 }
 
 impl Tree {
-    /// That of a hash which is the whole tree: fanout and depth are 1, all else is 0 (RFC 7693,
-    /// 2.5; the BLAKE2 document, 2.10).
+    /// The tree parameters of a hash that is the whole tree: fanout and depth are 1, all else is 0
+    /// (RFC 7693, 2.5; the BLAKE2 document, 2.10).
     #[inline]
     pub fn sequential() -> Self
         ensures { tree_of result ≡ Hash.sequential }

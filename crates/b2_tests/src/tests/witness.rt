@@ -1,6 +1,8 @@
 //! `b2 witness`.
 
 use super::{check_prints, check_rows};
+use blake2::{Blake2b, Blake2s, Digest};
+use std::process::Abort;
 
 // The letter and the chaining words of the only step of a message, where the digest has no bytes.
 const B0: &str =
@@ -31,26 +33,45 @@ fn prints_pairs(rt: HostRuntime) {
     );
 }
 
-// The first two messages of 0000, 0001 and so on with equal digests of one byte, which are 76 and
-// 78, as `tools/expected_values.py` finds them under `collisions`.
+// Of the messages 0000 to 0100, which are 257, two with equal digests of one byte.
+fn equal_pair<H: Digest<1> + Drop>() -> Option<(u16, u16)>
+    requires { H.is_supported }
+{
+    let mut seen = [None; 256];
+    for number in 0..257u16 {
+        let [byte] = H::digest(&number.to_be_bytes());
+        let place = byte as usize;
+        if let Some(other) = seen[place] {
+            return Some((other, number));
+        }
+        seen[place] = Some(number);
+    }
+    None
+}
+
+// Checks the steps of such a pair: their letter and chaining words, and the zeros behind a message.
+fn check_equal_pair<H: Digest<1> + Drop>(
+    rt: &(impl Abort + AllocGlobal),
+    kind: &str,
+    chain: &str,
+    zeros: &str,
+)
+    requires { H.is_supported }
+{
+    let (a, b) = equal_pair::<H>().expect(rt, "a pair");
+    let words = format!(in rt.alloc(); "witness {kind} {a:04x} {b:04X}").expect(rt, kind);
+    let first = format!(in rt.alloc(); "{chain} 2 1 {a:04x}|{zeros}*00|\n").expect(rt, kind);
+    let second = format!(in rt.alloc(); "{chain} 2 1 {b:04x}|{zeros}*00|\n").expect(rt, kind);
+    check_prints(rt, words.as_str(), b"", &[first.as_str(), second.as_str()]);
+}
+
 #[test]
 fn prints_pairs_of_equal_bytes(rt: HostRuntime) {
-    let b8 =
-        "s 6a09e667f2bdc909 bb67ae8584caa73b 3c6ef372fe94f82b a54ff53a5f1d36f1 510e527fade682d1 \
-        9b05688c2b3e6c1f 1f83d9abfb41bd6b 5be0cd19137e2179 2 1 ";
-    check_prints(
-        &rt,
-        "witness b8 000b 000d",
-        b"",
-        &[b8, "000b|126*00|\n", b8, "000d|126*00|\n"],
-    );
-    let s8 = "s 6b08e666 bb67ae85 3c6ef372 a54ff53a 510e527f 9b05688c 1f83d9ab 5be0cd19 2 1 ";
-    check_prints(
-        &rt,
-        "witness s8 0005 001D",
-        b"",
-        &[s8, "0005|62*00|\n", s8, "001d|62*00|\n"],
-    );
+    let chain = "s 6a09e667f2bdc909 bb67ae8584caa73b 3c6ef372fe94f82b a54ff53a5f1d36f1 \
+        510e527fade682d1 9b05688c2b3e6c1f 1f83d9abfb41bd6b 5be0cd19137e2179";
+    check_equal_pair::<Blake2b<1>>(&rt, "b8", chain, "126");
+    let chain = "s 6b08e666 bb67ae85 3c6ef372 a54ff53a 510e527f 9b05688c 1f83d9ab 5be0cd19";
+    check_equal_pair::<Blake2s<1>>(&rt, "s8", chain, "62");
 }
 
 // Words, no input, and the line.

@@ -149,3 +149,28 @@ impl Wipe for Blake2bContext {
         self.buffer.wipe();
     }
 }
+
+#[cfg(test)]
+impl Blake2bContext {
+    // A run for outputs of so many bytes, from the start words, that has compressed `counter` bytes
+    // and holds these back. No digests of it are promised, only its count.
+    pub(crate) fn counting_from(output_size: usize, counter: u64, pending: &[u8]) -> Self
+        requires output_size { output_size ≤ 64 }
+        requires within_a_block { length pending.now ≤ 128 }
+        requires counted { counter + length pending.now < 2 ^ 64 }
+        requires one_block_left { counter
+            ≡ 128 * (chunk_count 128 (counter + length pending.now) - 1) }
+        ensures { result.core.count + length result.buffer ≡ counter + length pending.now }
+    {
+        let start = Blake2bVarCore::new_with_params(&[], &[], 0, output_size).first_words();
+        Blake2bContext {
+            core: Blake2bVarCore::from_words(&start, &start, counter),
+            buffer: LazyBuffer::new(pending),
+        }
+    }
+
+    // The words that the run started from.
+    pub(crate) fn first_words(&self) -> [u64; 8] {
+        self.core.first_words()
+    }
+}

@@ -149,3 +149,28 @@ impl Wipe for Blake2sContext {
         self.buffer.wipe();
     }
 }
+
+#[cfg(test)]
+impl Blake2sContext {
+    // A run for outputs of so many bytes, from the start words, that has compressed `counter` bytes
+    // and holds these back. No digests of it are promised, only its count.
+    pub(crate) fn counting_from(output_size: usize, counter: u64, pending: &[u8]) -> Self
+        requires output_size { output_size ≤ 32 }
+        requires within_a_block { length pending.now ≤ 64 }
+        requires counted { counter + length pending.now < 2 ^ 64 }
+        requires one_block_left { counter
+            ≡ 64 * (chunk_count 64 (counter + length pending.now) - 1) }
+        ensures { result.core.count + length result.buffer ≡ counter + length pending.now }
+    {
+        let start = Blake2sVarCore::new_with_params(&[], &[], 0, output_size).first_words();
+        Blake2sContext {
+            core: Blake2sVarCore::from_words(&start, &start, counter),
+            buffer: LazyBuffer::new(pending),
+        }
+    }
+
+    // The words that the run started from.
+    pub(crate) fn first_words(&self) -> [u32; 8] {
+        self.core.first_words()
+    }
+}

@@ -218,10 +218,9 @@ impl VariableOutputCore<128, 64> for Blake2bVarCore {
     fn finalize_variable_core(&mut self, buffer: &mut LazyBuffer<128>, out: &mut [u8; 64]) {
         self.counter += buffer.get_pos() as u64;
         let counter = self.counter;
-        let block = buffer.padded();
+        let block = buffer.pad_with_zeros();
         let flags = Flags::last_block(self.last_node);
         words::compress(&mut self.h, &block, counter, flags);
-        buffer.reset();
         *out = words::to_bytes(&self.h);
     }
 }

@@ -186,7 +186,7 @@ impl<const N: usize> Wipe for Blake2b<N> {
 
     ghost is_wiped = { λ s. IsWiped (blake2b_state s) };
 
-    /// As many bytes are pending.
+    /// Sets the core and the pending bytes to zero. As many bytes are pending as before.
     fn wipe(&mut self)
         ensures wiped { IsWiped (blake2b_state self.new) }
         ensures pending { length (blake2b_state self.new).pending
@@ -198,3 +198,29 @@ impl<const N: usize> Wipe for Blake2b<N> {
 }
 
 impl<const N: usize> ZeroizeOnDrop for Blake2b<N> {}
+
+#[cfg(test)]
+impl<const N: usize> Blake2b<N> {
+    ghost use Rattle.blake2.specs.Hashers.{blake2b_meaning};
+    ghost use Rattle.std.specs.Prelude.{◌+◌, ◌-◌, ◌*◌, ◌^◌, ◌<◌};
+    ghost use Rattle.blake2_digest.specs.Blocks.{chunk_count};
+
+    // A hasher that has compressed `counter` bytes and holds these back.
+    pub(crate) fn counting_from(counter: u64, pending: &[u8]) -> Self
+        requires supported { N ≤ 64 }
+        requires within_a_block { length pending.now ≤ 128 }
+        requires counted { counter + length pending.now < 2 ^ 64 }
+        requires one_block_left { counter
+            ≡ 128 * (chunk_count 128 (counter + length pending.now) - 1) }
+        ensures { (blake2b_meaning N).count result ≡ counter + length pending.now }
+    {
+        Blake2b {
+            context: Blake2bContext::counting_from(N, counter, pending),
+        }
+    }
+
+    // The words that the hasher started from.
+    pub(crate) fn first_words(&self) -> [u64; 8] {
+        self.context.first_words()
+    }
+}

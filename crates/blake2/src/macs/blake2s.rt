@@ -23,9 +23,9 @@ use std::fmt::Write;
 pub struct Blake2sMac<const N: usize> {
     context: Blake2sContext,
     // What a start leaves pending: the key, padded with zeros to a block, or nothing.
-    key_block: LazyBuffer<64>,
+    start_block: LazyBuffer<64>,
     ghost supported: { N ≤ 32 },
-    ghost key_within_a_block: { length key_block ≤ 64 },
+    ghost start_within_a_block: { length start_block ≤ 64 },
     // A MAC is no node of a tree of hashes.
     ghost no_last_node: { context.core.last_node ≡ false },
 }
@@ -35,8 +35,8 @@ impl<const N: usize> Blake2sMac<N> {
     ghost use Rattle.blake2_digest.specs.States.{Fresh};
 
     /// A MAC under a key of 1 to 32 bytes or none, with a salt and a persona of up to 8 bytes
-    /// each; `None` is no key, and no block of one. Refused exactly for a given key of no bytes or
-    /// of more than 32, and for a salt or a persona of more than 8.
+    /// each; `None` is no key, and the MAC is then the unkeyed hash. `InvalidLength` exactly for a
+    /// given key of no bytes or of more than 32, and for a salt or a persona of more than 8.
     pub fn new_with_salt_and_personal(
         key: Option<&[u8]>,
         salt: &[u8],
@@ -75,7 +75,7 @@ impl<const N: usize> Blake2sMac<N> {
         let core = Blake2sVarCore::new_with_params(salt, persona, key.len(), N);
         let mac = Blake2sMac {
             context: Blake2sContext::new(core, LazyBuffer::new(&block)),
-            key_block: LazyBuffer::new(&block),
+            start_block: LazyBuffer::new(&block),
         };
         block = [0; 64];
         settle(&block);
@@ -93,7 +93,7 @@ impl<const N: usize> Blake2sMac<N> {
         let core = Blake2sVarCore::new_with_params(salt, persona, 0, N);
         Blake2sMac {
             context: Blake2sContext::new(core, LazyBuffer::default()),
-            key_block: LazyBuffer::default(),
+            start_block: LazyBuffer::default(),
         }
     }
 }
@@ -166,7 +166,7 @@ impl<const N: usize> Reset for Blake2sMac<N> {
     ghost is_reset = { IsRestarted blake2s_mac_state };
 
     fn reset(&mut self) {
-        self.context.restart(self.key_block.duplicate());
+        self.context.restart(self.start_block.duplicate());
     }
 }
 
@@ -175,7 +175,7 @@ impl<const N: usize> FixedOutputReset<N> for Blake2sMac<N> {
     ghost use Rattle.blake2.specs.Restarts.{StartedAgain_by, StartedAgain_unflagged};
 
     fn finalize_into_reset(&mut self, out: &mut [u8; N]) {
-        self.context.finish_reset(self.key_block.duplicate(), out);
+        self.context.finish_reset(self.start_block.duplicate(), out);
     }
 
     ghost reset_starts_again = { λ old new reset. StartedAgain_unflagged _ old new
@@ -188,7 +188,7 @@ impl<const N: usize> Duplicate for Blake2sMac<N> {
     fn duplicate(&self) -> Self {
         Blake2sMac {
             context: self.context.duplicate(),
-            key_block: self.key_block.duplicate(),
+            start_block: self.start_block.duplicate(),
         }
     }
 }
@@ -209,18 +209,19 @@ impl<const N: usize> Wipe for Blake2sMac<N> {
 
     ghost is_wiped = { λ s. IsWiped (blake2s_mac_state s) };
 
-    /// As many bytes are pending, and the key's block is as long.
+    /// Sets the core, the pending bytes and the block of the start to zero. As many bytes are
+    /// pending as before, and the block of the start is as long.
     fn wipe(&mut self)
         ensures wiped { IsWiped (blake2s_mac_state self.new) }
         ensures pending { length (blake2s_mac_state self.new).pending
             ≡ length (blake2s_mac_state self.old).pending }
-        ensures key_block { length (blake2s_mac_state self.new).start_block
+        ensures start_block { length (blake2s_mac_state self.new).start_block
             ≡ length (blake2s_mac_state self.old).start_block }
     {
         self.context.wipe();
-        self.key_block.wipe();
+        self.start_block.wipe();
         self.context.settle();
-        self.key_block.settle();
+        self.start_block.settle();
     }
 }
 
@@ -229,7 +230,7 @@ impl<const N: usize> Drop for Blake2sMac<N> {
         self.wipe();
         let Blake2sMac {
             context: _context,
-            key_block: _key_block,
+            start_block: _start_block,
         } = self;
     }
 }

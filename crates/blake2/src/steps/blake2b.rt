@@ -61,8 +61,11 @@ impl Blake2bVarCore {
 
     /// Of two different accepted inputs with equal digests of `output_size` bytes, at most 64, one
     /// step of each run: they stand at one distance from the ends, all nearer pairs are equal, they
-    /// differ, and their outputs agree in the digest's bytes, and wholly but at the ends. `None`
-    /// where the inputs are the same or the digests differ. Takes no memory and never fails.
+    /// differ, and their outputs agree: in the digest's bytes where they are the last steps, and
+    /// wholly where they are not. `None` where the inputs are the same or the digests differ.
+    ///
+    /// The signature is that of `transcript` and `read_transcript`, which take memory. This call
+    /// takes none and never fails: it asks nothing of `alloc`, and what it returns is always `Ok`.
     pub fn witness(
         alloc: Global,
         a: &Input<'_>,

@@ -11,11 +11,12 @@ ghost use Rattle.blake2_plain.specs.Arguments.{IsRefusedGiven};
 ghost use Rattle.blake2_c.specs.Many.{AreCounted, IsRefusedMany, digests_of};
 ghost use Rattle.blake2_c.specs.Status.{Answers, IsTooLong};
 
+use crate::Text;
 use crate::many::{are_counted, is_room_for, write_digests};
-use crate::{Text, scrub_stack};
 use blake2::Tree;
 use blake2::many::blake2b::{accepts_four, hash_four_sized};
 use blake2::steps::Input;
+use blake2_digest::scrub_stack;
 use blake2_plain::StateParameters;
 use blake2_plain::blake2b::State;
 
@@ -52,7 +53,7 @@ fn write_one(out: &mut [u8], given: &StateParameters<'_>, message: &[u8])
             run.update(message);
             run.write_digest(out);
         }
-        // Not reached: the lengths are taken.
+        // Never run: `taken` says that these lengths are not refused.
         Err(_) => {}
     }
 }

@@ -9,18 +9,11 @@ ghost use Rattle.blake2_rows.specs.Lanes.{columns_within, eight_lanes, in_lane};
 ghost use Rattle.blake2_rows.specs.Rows.{lane};
 ghost use Rattle.blake2_rows.specs.Round.{mix};
 
+use super::u32_lanes::{R1, R2, R4};
 use std::marker::Model;
 use std::ops::{Add, BitXor};
 use std::simd::Simd;
 use std::simd::prelude::*;
-
-// R1, R2 and R4: by how many bits G rotates a word to the right (RFC 7693, section 2.1). R3 is one
-// whole byte.
-const R1: u32 = 16;
-
-const R2: u32 = 12;
-
-const R4: u32 = 7;
 
 /// Eight words of 32 bits, one a lane, in a vector. A contract sees the list of the eight words,
 /// lane 0 first.

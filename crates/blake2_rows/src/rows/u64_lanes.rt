@@ -205,20 +205,14 @@ impl u64x4 {
         }
     }
 
-    // Each lane rotated to the right by R3 bits, which are two whole bytes, and the lanes then
-    // moved two places to the left: both at once, as one choice of bytes.
+    // Each lane rotated to the right by R3 bits, and the lanes moved two places to the left. The
+    // rotation comes first: LLVM then joins both in one choice of bytes if the processor has one, and
+    // makes a plain rotation if it has none. The other order is 6 percent slower with AVX2.
     #[inline(always)]
     fn rotate_and_shuffle(self) -> Self
         ensures { result ≡ shuffle_left 2 (lane_rotations blake2b self 16) }
     {
-        let bytes = self.lanes.to_le_bytes();
-        let chosen = bytes.swizzle([
-            18, 19, 20, 21, 22, 23, 16, 17, 26, 27, 28, 29, 30, 31, 24, 25, 2, 3, 4, 5, 6, 7, 0, 1,
-            10, 11, 12, 13, 14, 15, 8, 9,
-        ]);
-        Self {
-            lanes: Simd::<u64, 4>::from_le_bytes(chosen),
-        }
+        self.rotate_right_const(R3).shuffle_left_2()
     }
 
     /// Rows as columns: lane j of row k is lane k of the given row j.

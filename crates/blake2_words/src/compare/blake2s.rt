@@ -143,9 +143,12 @@ fn last_pair(
 
 /// For two inputs that are not the same and whose digests of `output_size` bytes, at most 32, are
 /// equal, a step of the first run and a step of the second that are not equal though their outputs
-/// are: in the first `output_size` bytes, and wholly where they are not the last. They stand at
-/// one distance from the ends of their runs, and all steps nearer to the ends are equal in pairs.
-/// `None` for all other inputs. Takes no memory and makes no error.
+/// are: in the first `output_size` bytes where they are the last, and wholly where they are not.
+/// They stand at one distance from the ends of their runs, and all steps nearer to the ends are
+/// equal in pairs. `None` for all other inputs.
+///
+/// The signature is that of `transcript` and `read_transcript`, which take memory. This call takes
+/// none and never fails: it does not look at `_alloc`, and what it returns is always `Ok`.
 #[tactic(auto, using(crate::proofs::Front::same_number))]
 pub fn witness(
     _alloc: Global,

@@ -17,11 +17,11 @@ pub(crate) fn same<const S: usize>(a: &Input<'_>, b: &Input<'_>) -> bool
     requires b { Accepts f (input_of b.now) }
     ensures { IsTrue result ↔ Same f (input_of a.now) (input_of b.now) }
 {
-    let salts = padded::<S>(a.salt) == padded::<S>(b.salt);
-    let personas = padded::<S>(a.persona) == padded::<S>(b.persona);
-    let keys = a.key == b.key;
-    let trees = a.tree == b.tree;
-    let last_nodes = a.last_node == b.last_node;
-    let messages = a.message == b.message;
-    salts && personas && keys && trees && last_nodes && messages
+    let same_salts = padded::<S>(a.salt) == padded::<S>(b.salt);
+    let same_personas = padded::<S>(a.persona) == padded::<S>(b.persona);
+    let same_keys = a.key == b.key;
+    let same_trees = a.tree == b.tree;
+    let same_flags = a.last_node == b.last_node;
+    let same_messages = a.message == b.message;
+    same_salts && same_personas && same_keys && same_trees && same_flags && same_messages
 }

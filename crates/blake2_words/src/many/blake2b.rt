@@ -233,9 +233,10 @@ fn start(output_size: usize, inputs: &[Input<'_>; 4]) -> [u64x4; 8]
 }
 
 // Compresses blocks of each of four messages, one after another, as many of each, all under flags
-// j: with the first of them `counter` bytes are counted, and 128 more with each that follows. The
-// loop has the only call of `compress`, so that the compiler lays it out there, and works on rows
-// of its own, so that what is the same for all blocks is computed once.
+// j: with the first of them `counter` bytes are counted, and 128 more with each that follows, with
+// the last of them less than 2^64, as `counted` says for any number of blocks. The loop has the
+// only call of `compress`, so that the compiler lays it out there, and works on rows of its own, so
+// that what is the same for all blocks is computed once.
 fn compress_blocks(h: &mut [u64x4; 8], blocks: &[&[[u8; 128]]; 4], counter: u64, flags: &[Flags; 4])
     requires same_number { (j : ℕ) → j < 4
         → length (slice_index_or (block_lists blocks.now) j [])
@@ -385,7 +386,7 @@ pub fn accepts_four(inputs: &[Input<'_>; 4]) -> bool
 }
 
 /// BLAKE2b of four inputs at once, in their order, N bytes of digest each, at most 64 (RFC 7693,
-/// 3.3). No memory is taken.
+/// 3.3). The inputs are such that `accepts_four` is true of them. No memory is taken.
 pub fn hash_four<const N: usize>(inputs: &[Input<'_>; 4]) -> [[u8; N]; 4]
     requires size { N ≤ output_bytes blake2b }
     requires accepted { AcceptsAtOnce blake2b 4 inputs.now }
@@ -395,7 +396,7 @@ pub fn hash_four<const N: usize>(inputs: &[Input<'_>; 4]) -> [[u8; N]; 4]
 }
 
 /// The same with a size that is chosen as the program runs: the first `output_size` bytes of each
-/// answer, at most 64, are the digest, and those behind it are no part of it.
+/// answer, at most 64, are the digest, and nothing is said of those behind it.
 pub fn hash_four_sized(output_size: usize, inputs: &[Input<'_>; 4]) -> [[u8; 64]; 4]
     requires size { output_size ≤ output_bytes blake2b }
     requires accepted { AcceptsAtOnce blake2b 4 inputs.now }

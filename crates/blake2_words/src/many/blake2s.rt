@@ -261,9 +261,10 @@ fn start(output_size: usize, inputs: &[Input<'_>; 8]) -> [u32x8; 8]
 }
 
 // Compresses blocks of each of eight messages, one after another, as many of each, all under flags
-// j: with the first of them `counter` bytes are counted, and 64 more with each that follows. The
-// loop has the only call of `compress`, so that the compiler lays it out there, and works on rows
-// of its own, so that what is the same for all blocks is computed once.
+// j: with the first of them `counter` bytes are counted, and 64 more with each that follows, with
+// the last of them less than 2^64, as `counted` says for any number of blocks. The loop has the
+// only call of `compress`, so that the compiler lays it out there, and works on rows of its own, so
+// that what is the same for all blocks is computed once.
 fn compress_blocks(h: &mut [u32x8; 8], blocks: &[&[[u8; 64]]; 8], counter: u64, flags: &[Flags; 8])
     requires same_number { (j : ℕ) → j < 8
         → length (slice_index_or (block_lists blocks.now) j [])
@@ -436,7 +437,7 @@ pub fn accepts_eight(inputs: &[Input<'_>; 8]) -> bool
 }
 
 /// BLAKE2s of eight inputs at once, in their order, N bytes of digest each, at most 32 (RFC 7693,
-/// 3.3). No memory is taken.
+/// 3.3). The inputs are such that `accepts_eight` is true of them. No memory is taken.
 pub fn hash_eight<const N: usize>(inputs: &[Input<'_>; 8]) -> [[u8; N]; 8]
     requires size { N ≤ output_bytes blake2s }
     requires accepted { AcceptsAtOnce blake2s 8 inputs.now }
@@ -446,7 +447,7 @@ pub fn hash_eight<const N: usize>(inputs: &[Input<'_>; 8]) -> [[u8; N]; 8]
 }
 
 /// The same with a size that is chosen as the program runs: the first `output_size` bytes of each
-/// answer, at most 32, are the digest, and those behind it are no part of it.
+/// answer, at most 32, are the digest, and nothing is said of those behind it.
 pub fn hash_eight_sized(output_size: usize, inputs: &[Input<'_>; 8]) -> [[u8; 32]; 8]
     requires size { output_size ≤ output_bytes blake2s }
     requires accepted { AcceptsAtOnce blake2s 8 inputs.now }

@@ -13,11 +13,11 @@ use crate::consts::BLAKE2B_IV;
 use crate::words::blake2b::{to_rows, to_words, xor_rows};
 use blake2_rows::rows::u64x4;
 
-// The last node offset that has room in its 8 bytes.
+// The last node offset that has room in its 8 bytes: that of the type, so none is refused for it.
 const LAST_OFFSET: u64 = u64::MAX;
 
-/// Whether BLAKE2b takes this place in a tree: at least one level, an inner node's digest of at
-/// most 64 bytes, and a node offset below 2^64 (the BLAKE2 document, 2.8 and 2.10).
+/// Whether BLAKE2b takes this place in a tree: at least one level, and an inner node's digest of at
+/// most 64 bytes (the BLAKE2 document, 2.8 and 2.10). Each `u64` is a node offset.
 pub fn admits_tree(tree: &Tree) -> bool
     ensures { IsTrue result ↔ AdmitsTree blake2b (tree_of tree.now) }
 {

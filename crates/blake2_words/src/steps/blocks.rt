@@ -32,7 +32,7 @@ pub(crate) fn counted<const B: usize>(input: &Input<'_>) -> u64
 
 // The length of the key, 0 without one.
 fn key_size(key: &Option<&[u8]>) -> usize
-    ensures { result ≡ Rattle.blake2_words.specs.Hash.key_size (key_of key.now) }
+    ensures { result ≡ Hash.key_size (key_of key.now) }
 {
     match *key {
         None => 0,

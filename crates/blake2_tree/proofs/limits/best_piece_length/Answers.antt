@@ -1,19 +1,32 @@
-use Rattle.std.proofs.Common.{◌≡◌, ℕ, ◌+◌, ◌*◌, ◌/◌, ◌%◌, ◌<◌, max, rules, arith}
-use Rattle.blake2_tree.proofs.PieceLengths.{piece-least}
+use Rattle.std.proofs.Common.{◌≡◌, ◌≤◌, ◌⊎◌, ℕ, ◌+◌, ◌-◌, ◌*◌, ◌/◌, ◌%◌, ◌<◌, max, inr, rules, arith}
+use Rattle.blake2_tree.proofs.PieceLengths.{piece-usual, piece-longest}
 use Rattle.blake2_tree.proofs.limits.best_piece_length.Goals as goal
+
+-- four fours at least, or the fours that fit
+usual : (leaf fours : ℕ) → 0 < leaf → fours ≡ max (65536 / leaf / 4) 4
+    → (16384 < leaf * (4 * fours + 1))
+    × ((leaf * (4 * fours + 1) ≤ 65536 + leaf) ⊎ (leaf * (4 * fours + 1) ≤ 17 * leaf))
+usual leaf fours some is =
+    let fit : ℕ = 65536 / leaf in
+    let rest : 65536 % leaf < leaf = omega arith in
+    let whole : leaf * fit + 65536 % leaf ≡ 65536 = omega arith in
+    piece-usual leaf fit (fit / 4) fours (omega arith) (omega arith) (omega arith) (omega arith) is
 
 pub returns-then-whole-le-LONGEST_PIECE_BYTES-clause-least :
     goal.returns-then-whole-le-LONGEST_PIECE_BYTES-clause-least
 returns-then-whole-le-LONGEST_PIECE_BYTES-clause-least c =
-    let leaf : ℕ = c.args.leaf_length in
-    let fit : ℕ = 65536 / leaf in
-    let some : 0 < leaf = omega arith in
-    let rest : 65536 % leaf < leaf = omega arith in
-    let whole : leaf * fit + 65536 % leaf ≡ 65536 = omega arith in
-    let fours : c.max-fours.result ≡ max (fit / 4) 1 = search rules in
-    rw fours (piece-least leaf fit (fit / 4) (omega arith) (omega arith) (omega arith)
-    (omega arith))
+    (usual c.args.leaf_length c.max-fours.result (omega arith) (search rules)).0
 
-pub returns-then-whole-le-LONGEST_PIECE_BYTES-clause-most :
-    goal.returns-then-whole-le-LONGEST_PIECE_BYTES-clause-most
-returns-then-whole-le-LONGEST_PIECE_BYTES-clause-most c = search rules
+pub returns-then-whole-le-LONGEST_PIECE_BYTES-clause-short :
+    goal.returns-then-whole-le-LONGEST_PIECE_BYTES-clause-short
+returns-then-whole-le-LONGEST_PIECE_BYTES-clause-short c =
+    (usual c.args.leaf_length c.max-fours.result (omega arith) (search rules)).1
+
+pub returns-then-leaf-le-LONGEST_PIECE_BYTES-clause-long :
+    goal.returns-then-leaf-le-LONGEST_PIECE_BYTES-clause-long
+returns-then-leaf-le-LONGEST_PIECE_BYTES-clause-long c = λ fits.
+    let leaf : ℕ = c.args.leaf_length in
+    let most : ℕ = 16777216 / leaf in
+    let rest : 16777216 % leaf < leaf = omega arith in
+    let whole : leaf * most + 16777216 % leaf ≡ 16777216 = omega arith in
+    inr (piece-longest leaf most ((most - 1) / 4) (omega arith) (omega arith))

@@ -16,7 +16,7 @@ returns-clause-fresh c =
     let size : length (key_block blake2b (Some key)) ≡ 128 =
     length-key_block_some blake2b key c.requires.key in
     let block : c.padded-block.result ≡ key_block blake2b (Some key) =
-    c.padded-block.ensures ∙ ap (padded 128) c.new.ensures in
+    c.padded-block.ensures in
     let whole : take 128 c.padded-block.result ≡ key_block blake2b (Some key) =
     ap (take 128) block ∙ take_all 128 (key_block blake2b (Some key)) (omega (arith, size)) in
     Fresh_sized blake2b (λ s. s.output_size) state_of c.args.given.now.output_size

@@ -16,7 +16,7 @@ returns-clause-fresh c =
     let size : length (key_block blake2s (Some key)) ≡ 64 =
     length-key_block_some blake2s key c.requires.key in
     let block : c.padded-block.result ≡ key_block blake2s (Some key) =
-    c.padded-block.ensures ∙ ap (padded 64) c.new.ensures in
+    c.padded-block.ensures in
     let whole : take 64 c.padded-block.result ≡ key_block blake2s (Some key) =
     ap (take 64) block ∙ take_all 64 (key_block blake2s (Some key)) (omega (arith, size)) in
     Fresh_sized blake2s (λ s. s.output_size) state_of c.args.given.now.output_size

@@ -29,6 +29,7 @@ returns-clause-taken c =
     Took-updated meaning meaning (parameters left) left.closed left.root left.leaf c.update.new.self
     c.loop-self.rest.now c.update.ensures.updated (omega arith) in
     record {
+      shared = took.shared ∙ c.loop-self.invariant.shared;
       future = λ y. took.future y ∙ c.loop-self.invariant.future y;
       count = took.count ∙ c.loop-self.invariant.count;
     }

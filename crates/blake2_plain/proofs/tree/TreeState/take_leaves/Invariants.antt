@@ -1,5 +1,5 @@
 use Rattle.std.proofs.Common.{◌≡◌, ◌+◌, ℕ, List, ◌++◌, length}
-use Rattle.blake2_plain.specs.TreeStates.{IsReady, IsBegun, future, count}
+use Rattle.blake2_plain.specs.TreeStates.{IsReady, IsBegun, parameters, future, count}
 use Rattle.blake2_plain.proofs.tree.TreeState.take_leaves.Given as goal
 
 -- the open leaf has taken nothing, and what is left of the input is still to come
@@ -8,6 +8,7 @@ invariant-loop-self l = record {
   ready : IsReady l.self;
   begun : IsBegun l.self;
   size : l.self.root.output_size ≡ l.fn.self.root.output_size;
+  shared : parameters l.self ≡ parameters l.fn.self;
   future : (y : List ℕ) → future l.self (l.rest ++ y) ≡ future l.fn.self (l.input ++ y);
   count : count l.self + length l.rest ≡ count l.fn.self + length l.input;
 }

@@ -6,12 +6,14 @@ use Rattle.blake2_tree.proofs.hasher.TreeHasher.update.Goals as goal
 
 pub loop-rest-preserved-then-rest-four_leaves : goal.loop-rest-preserved-then-rest-four_leaves
 loop-rest-preserved-then-rest-four_leaves g c = record {
+  shared = c.close_four-rest.ensures.went_on.shared ∙ c.loop-rest.invariant.shared;
   future = λ y. c.close_four-rest.ensures.went_on.future y ∙ c.loop-rest.invariant.future y;
   count = c.close_four-rest.ensures.went_on.count ∙ c.loop-rest.invariant.count;
 }
 
 pub loop-rest-preserved : goal.loop-rest-preserved
 loop-rest-preserved g c = record {
+  shared = c.close_leaf-rest.ensures.shared ∙ c.loop-rest.invariant.shared;
   future = λ y. c.close_leaf-rest.ensures.future y ∙ c.loop-rest.invariant.future y;
   count = c.close_leaf-rest.ensures.count ∙ c.loop-rest.invariant.count;
 }
@@ -30,6 +32,7 @@ returns g c =
     left.closed left.root left.leaf c.update.new.self c.loop-rest.rest.now c.update.ensures
     (omega arith) in
     record {
+      shared = took.shared ∙ c.loop-rest.invariant.shared;
       future = λ y. took.future y ∙ c.loop-rest.invariant.future y;
       count = took.count ∙ c.loop-rest.invariant.count;
     }

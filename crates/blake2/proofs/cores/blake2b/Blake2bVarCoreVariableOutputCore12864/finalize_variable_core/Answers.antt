@@ -14,9 +14,9 @@ returns-clause-core c =
       count = c.self.inside.counter;
       last_node = c.self.inside.last_node;
     } in
-    completed-by blake2b held c.args.buffer.now c.get_pos.result c.padded-block.result
+    completed-by blake2b held c.args.buffer.now c.get_pos.result c.pad_with_zeros-block.result
     (eight c.compress.new.h) _
-    c.get_pos.ensures.pending c.padded-block.ensures c.last_block-flags.ensures c.compress.ensures
+    c.get_pos.ensures.pending c.pad_with_zeros-block.ensures.padded c.last_block-flags.ensures c.compress.ensures
     ∙ ap (λ (core : CoreState). completed blake2b core c.args.buffer.now) c.self.view_is
 
 pub returns-clause-output : goal.returns-clause-output

@@ -5,13 +5,13 @@ pub invariant_of-self : goal.invariant_of-self
 invariant_of-self g c =
     let old = c.args.self.now in record {
       supported = old.supported;
-      key_within_a_block = old.key_within_a_block;
+      start_within_a_block = old.start_within_a_block;
       no_last_node = (c.update.ensures g.row.N []).last_node ∙ old.no_last_node;
     }
 
 pub returns : goal.returns
 returns g c =
-    let kept = c.update.ensures g.row.N c.args.self.now.key_block in record {
+    let kept = c.update.ensures g.row.N c.args.self.now.start_block in record {
       future = kept.future;
       started = kept.started;
       last_node = refl;

@@ -1,0 +1,6 @@
+//! States of plain numbers.
+
+mod blake2b;
+mod blake2s;
+mod leaves;
+mod trees;

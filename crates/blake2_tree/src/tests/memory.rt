@@ -1,0 +1,204 @@
+//! Trees where memory is refused: a witness answers want of memory, or what it answers where there
+//! is enough; a root takes none.
+
+ghost use Rattle.std.specs.Prelude.{◌≤◌};
+
+use super::witness::witness_of_a_and_b;
+use super::{node, root_step};
+use crate::{TreeWitness, tree_root, tree_witness};
+use blake2::steps::Step;
+use std::alloc::{AllocError, Global};
+use std::process::Abort;
+
+// Takes all memory of the process but 65,536 bytes that lie together, in blocks that halve, down
+// to the smallest.
+//
+// A process has 2^47 bytes of addresses, and a machine with a GiB of memory grants blocks of half
+// of that, so that 300,000 blocks are enough; there is room for them from the start. The turns are
+// more than the blocks and the sizes together, so that the smallest size ends the loop.
+fn hoard(alloc: Global) -> Result<Vec<Vec<u8>>, AllocError> {
+    let mut blocks = Vec::with_capacity(alloc, 300_000)?;
+    let spare: Vec<u8> = Vec::with_capacity(alloc, 65536)?;
+    let mut size = 1usize << 46;
+    for _ in 0..400_000 {
+        if size < 16 {
+            break;
+        }
+        match Vec::with_capacity(alloc, size) {
+            Ok(block) => blocks.push(block)?,
+            Err(_) => size /= 2,
+        }
+    }
+    drop(spare);
+    Ok(blocks)
+}
+
+// Takes what a hoard left but so many bytes.
+fn plug(alloc: Global, left: usize) -> Result<Vec<u8>, AllocError>
+    requires { left ≤ 65536 }
+{
+    Vec::with_capacity(alloc, 65536 - left)
+}
+
+// Under a hoard each try has 16 bytes more than the one before, and the first has none.
+const TRIES: usize = 512;
+
+// Two messages whose roots of no bytes are equal: `a` and `b`, of one leaf each, or 2,000 times
+// these letters, of two leaves.
+#[derive(Copy, Clone)]
+enum Messages {
+    OneLeaf,
+    TwoLeaves,
+}
+
+// What `tree_witness` answers for them.
+fn witness_of(alloc: Global, messages: Messages) -> Result<Option<TreeWitness>, AllocError> {
+    match messages {
+        Messages::OneLeaf => tree_witness(alloc, &[], &[], 4, 0, b"a", b"b"),
+        Messages::TwoLeaves => {
+            tree_witness(alloc, &[], &[], 1000, 0, &[b'a'; 2000], &[b'b'; 2000])
+        }
+    }
+}
+
+// What it answers for them with so many bytes left by a hoard, and whether as many are granted then
+// as the digests of one message's leaves have.
+fn witness_within(
+    alloc: Global,
+    messages: Messages,
+    left: usize,
+) -> Result<(Result<Option<TreeWitness>, AllocError>, bool), AllocError>
+    requires { left ≤ 65536 }
+{
+    let plug = plug(alloc, left)?;
+    let digest_bytes = match messages {
+        Messages::OneLeaf => 64,
+        Messages::TwoLeaves => 128,
+    };
+    let first: Result<Vec<u8>, AllocError> = Vec::with_capacity(alloc, digest_bytes);
+    let first_fits = first.is_ok();
+    drop(first);
+    let found = witness_of(alloc, messages);
+    drop(plug);
+    Ok((found, first_fits))
+}
+
+// Asks for the witness under a hoard, with 16 bytes more in each try. Gives the try behind the last
+// that was refused; whether one was refused where its first request would have been granted; and
+// the first that is wrong: it gave another witness, or was refused behind one that was not.
+fn tries(
+    alloc: Global,
+    messages: Messages,
+    wanted: TreeWitness,
+) -> Result<(usize, bool, Option<usize>), AllocError> {
+    let mut refused = 0;
+    let mut is_behind_the_first = false;
+    let mut wrong = None;
+    let hoard = hoard(alloc)?;
+    for tries in 0..TRIES {
+        let (found, first_fits) = witness_within(alloc, messages, 16 * tries)?;
+        let is_right = match found {
+            Ok(found) => found == Some(wanted),
+            Err(AllocError) => refused == tries,
+        };
+        if found.is_err() {
+            refused = tries + 1;
+            is_behind_the_first = is_behind_the_first || first_fits;
+        }
+        if !is_right && wrong.is_none() {
+            wrong = Some(tries);
+        }
+    }
+    drop(hoard);
+    Ok((refused, is_behind_the_first, wrong))
+}
+
+// Checks that `tree_witness` answers want of memory for the messages until no request is refused,
+// and then this. Some refusals come behind the first request, which a control makes too.
+fn check_refusals(rt: &(impl Abort + AllocGlobal), messages: Messages, wanted: TreeWitness) {
+    assert!(rt; witness_of(rt.alloc(), messages) == Ok(Some(wanted)));
+    let found = tries(rt.alloc(), messages, wanted).expect(rt, "room for the hoard");
+    let (refused, is_behind_the_first, wrong) = found;
+    assert!(rt; wrong.is_none(), "{wrong:?}");
+    assert!(rt; 0 < refused && refused < TRIES, "{refused}");
+    assert!(rt; is_behind_the_first, "{refused}");
+}
+
+#[test]
+fn refuse_memory_to_the_witness_of_a_and_b(rt: HostRuntime) {
+    check_refusals(&rt, Messages::OneLeaf, witness_of_a_and_b());
+}
+
+// The step of a root of no bytes over 2,000 times a letter, in leaves of 1,000 bytes.
+fn step_over(letter: u8) -> Step<u64, 128> {
+    let leaf = [letter; 1000];
+    let first = node(1000, 0, 0, false, &leaf);
+    let last = node(1000, 1, 0, true, &leaf);
+    root_step(0x6a09e58ff1bcc908, [first, last].as_flattened())
+}
+
+// A witness asks for the 64 bytes of a leaf's digest, and not for more the longer a leaf is: so it
+// has enough under a budget that is far below 64 bytes for each byte of the messages.
+#[test]
+fn refuse_memory_to_a_witness_of_long_leaves(rt: HostRuntime) {
+    let wanted = TreeWitness::Root(step_over(b'a'), step_over(b'b'));
+    check_refusals(&rt, Messages::TwoLeaves, wanted);
+}
+
+// The steps of the roots that a witness has.
+fn root_steps(
+    rt: &impl Abort,
+    found: Result<Option<TreeWitness>, AllocError>,
+) -> (Step<u64, 128>, Step<u64, 128>) {
+    match found {
+        Ok(Some(TreeWitness::Root(x, y))) => (x, y),
+        _ => panic!(rt; "no pair of roots"),
+    }
+}
+
+// Where there is memory, a witness of messages of more than 4,096 leaves, whose last ones differ.
+#[test]
+fn witness_of_many_leaves(rt: HostRuntime) {
+    let a = [0; 4100];
+    let mut b = a;
+    b[4099] = 1;
+    let (x, y) = root_steps(&rt, tree_witness(rt.alloc(), &[], &[], 1, 0, &a, &b));
+    assert!(rt; x.last && x.counter == 64 * 4100 && y.counter == 64 * 4100);
+    assert!(rt; x.block[..64] == y.block[..64]);
+    assert!(rt; x.block[64..] != y.block[64..]);
+}
+
+// The same messages have none at roots of 64 bytes, nor has one of them with itself.
+#[test]
+fn no_witness_of_many_leaves(rt: HostRuntime) {
+    let a = [0; 4100];
+    let mut b = a;
+    b[4099] = 1;
+    assert!(rt; tree_witness(rt.alloc(), &[], &[], 1, 64, &a, &a) == Ok(None));
+    assert!(rt; tree_witness(rt.alloc(), &[], &[], 1, 64, &a, &b) == Ok(None));
+}
+
+// The root of a message of seven leaves.
+fn root_of_letters() -> [u8; 64] {
+    tree_root::<64>(b"salt", b"persona", 4, b"abcdefghijklmnopqrstuvwxyz")
+}
+
+// That root under a hoard, and whether a byte is granted then.
+fn root_without_memory(alloc: Global) -> Result<([u8; 64], bool), AllocError> {
+    let hoard = hoard(alloc)?;
+    let plug = plug(alloc, 0)?;
+    let one_byte: Result<Vec<u8>, AllocError> = Vec::with_capacity(alloc, 1);
+    let root = root_of_letters();
+    drop(plug);
+    drop(hoard);
+    Ok((root, one_byte.is_ok()))
+}
+
+#[test]
+fn roots_without_memory(rt: HostRuntime) {
+    let wanted = root_of_letters();
+    let found = root_without_memory(rt.alloc());
+    let (root, is_granted) = found.expect(&rt, "room for the hoard");
+    assert!(rt; !is_granted);
+    assert!(rt; root == wanted);
+}

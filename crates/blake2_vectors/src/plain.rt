@@ -1,4 +1,0 @@
-//! States of plain numbers.
-
-mod blake2b;
-mod blake2s;
