@@ -1,0 +1,168 @@
+#!/usr/bin/env bash
+# Makes dist/, the code that the proved crates compile to, and compares it with the sources:
+#
+#   tools/dist.sh make                 makes dist/ anew
+#   tools/dist.sh make FOLDER FILE..   makes these of its files in another folder
+#   tools/dist.sh check                builds dist/ anew elsewhere, and compares byte for byte
+#   tools/dist.sh current              compares hashes only: the files, and the sources, with dist/MANIFEST
+#
+# `make` and `check` need the toolchain of Rattle, and prove what is not proved yet. What `rt ci` has proved they take
+# as it left it. The same toolchain makes the same bytes every time, wherever the repository is. `current` needs no
+# toolchain and takes under a second.
+#
+# `check` needs the toolchain that MANIFEST names. With another one, or none, it does what `current` does and says so.
+# Its last line is 'N passed, M failed, K skipped'. The status is 1 if something failed.
+set -euo pipefail
+top=$(dirname "$(dirname "$(readlink -f "$0")")")
+manifest=$top/dist/MANIFEST
+files=(aarch64/b2.s aarch64/blake2_c.s wasm/blake2_c.wasm
+    x86_64/b2-v2.s x86_64/b2-v3.s x86_64/blake2_c-v2.s x86_64/blake2_c-v3.s)
+source "$top/tools/kit.sh"
+
+fail() {
+    echo "dist.sh: $1" >&2
+    exit 1
+}
+
+usage() { sed -n '2,/^set /{/^set /d;s/^#\{0,1\} \{0,1\}//;p}' "$0"; }
+
+# The version, which is at the top of CHANGELOG.md, with _ for the dots.
+version() { sed -nE '/^## [0-9.]+/{s/^## ([0-9.]+).*/\1/;s/\./_/g;p;q}' "$top/CHANGELOG.md"; }
+
+# A hash of all that decides what is compiled except the toolchain. A line that is a comment decides nothing.
+sources() {
+    local folders
+    mapfile -t folders < <(crates_of blake2_c b2 | sort -u | sed 's|.*|crates/&/src|')
+    cd "$top"
+    {
+        find "${folders[@]}" -name '*.rt' | LC_ALL=C sort | while IFS= read -r file; do
+            echo "== $file"
+            sed '/^[[:space:]]*\/\//d' "$file"
+        done
+        version
+        cat tools/plain_names.py tools/aarch64_attributes.csv
+    } | sha256sum | cut -d ' ' -f 1
+}
+
+# What MANIFEST says of this word, and what follows from it.
+said() { sed -n "s/^# $1: //p" "$manifest"; }
+is_whole() {
+    printf '%s\n' "${files[@]}" | diff <(sed -n 's/^[0-9a-f]*  //p' "$manifest") - >&2 &&
+        (cd "$top/dist" && sha256sum --quiet --strict -c MANIFEST) >&2
+}
+is_current() { [ "$(said sources)" = "$(sources)" ]; }
+is_same_kit() { [ "$(said kit)" = "$(rt version)" ] && [ "$(said tools)" = "$(hash_of_tools)" ]; }
+
+# ---- building
+
+# Builds a file of dist/ in this folder, over the proved libraries.
+#
+# On aarch64 the compression of one message is compiled without vector registers, and that of several with them: a
+# NEON instruction takes two to four cycles there, and one message is a single chain of them. aarch64_attributes.csv
+# names the functions for LLVM. A name in it that is not in the code makes clang print a line, and then the build
+# fails.
+build() {
+    local to=$1/$2 file=$2 crate=$3 room=$work/$3 kind=(--crate-type staticlib) more=() target cpu end
+    case $file in
+        x86_64/*-v[23].s) target=x86_64-unknown-linux-gnu cpu=x86-64-${file: -4:2} end=${file: -4:2} ;;
+        aarch64/*.s)
+            target=aarch64-unknown-linux-gnu cpu=generic end=arm
+            more=(-mllvm "-forceattrs-csv-path=$top/tools/aarch64_attributes.csv")
+            ;;
+        wasm/*.wasm) target=wasm64-unknown-unknown cpu=lime1 more=(-msimd128) ;;
+        *) fail "there is no file $file in dist/" ;;
+    esac
+    [ "$crate" != b2 ] || kind=()
+    echo "dist.sh: building $file" >&2
+    rm -rf "$room/toolchain"
+    make_toolchain "$room/toolchain" "${more[@]}"
+    mkdir -p "$(dirname "$to")"
+    build_crate "$top/crates/$crate" "$crate" "$(libraries_of "$crate")" "$room" "${kind[@]}" --target "$target" \
+        --cpu "$cpu" --toolchain "$room/toolchain" -o "$room/built" >"$room/log" 2>&1 || {
+        cat "$room/log" >&2
+        fail "$file was not built"
+    }
+    if [ "${file##*.}" = wasm ]; then
+        link_module "$room/built" "$to" 2>>"$room/log"
+    else
+        {
+            echo "/* Made by tools/dist.sh from the proved crate $crate. dist/README.md says how. */"
+            "$top/tools/plain_names.py" "_$(version)_$end" <"$room/toolchain/module.s"
+        } >"$to"
+    fi
+}
+
+# Builds these files in a folder, those of a crate one by one and both crates' side by side.
+make() {
+    local folder=$1 crate file lane lanes=() status=0
+    shift
+    for crate in blake2_c b2; do
+        [[ " $*" == */"$crate"[-.]* ]] || continue
+        mkdir "$work/$crate"
+        prove_libraries "$crate" "$work/log" || fail "the crates below $crate are not proved"
+    done
+    for crate in blake2_c b2; do
+        for file; do
+            [[ $file != */"$crate"[-.]* ]] || build "$folder" "$file" "$crate"
+        done &
+        lanes+=($!)
+    done
+    for lane in "${lanes[@]}"; do wait "$lane" || status=1; done
+    return $status
+}
+
+# Writes MANIFEST, for sources of this hash.
+write_manifest() {
+    {
+        echo "# What the proved crates compile to, made by tools/dist.sh. For \`sha256sum -c MANIFEST\`."
+        echo "# kit: $(rt version)"
+        echo "# tools: $(hash_of_tools)"
+        echo "# sources: $1"
+        cd "$top/dist" && sha256sum "${files[@]}"
+    } >"$work/MANIFEST"
+    mv "$work/MANIFEST" "$manifest"
+}
+
+# ---- checking
+
+check() {
+    local file skipped=0 passed failed
+    source "$top/tools/checks.sh"
+    holds "the files of dist/ are those that MANIFEST names" is_whole
+    holds "dist/ was made from these sources (tools/dist.sh make)" is_current
+    if ! command -v rt >/dev/null || ! is_same_kit; then
+        echo "skipped: whether dist/ is what the proofs build: it was made with another toolchain, $(said kit)"
+        skipped=${#files[@]}
+    else
+        "$0" make "$work/dist" "${files[@]}" || fail "nothing was compared"
+        for file in "${files[@]}"; do
+            holds "$file is what the proofs build" cmp "$top/dist/$file" "$work/dist/$file"
+        done
+    fi
+    echo "$passed passed, $failed failed, $skipped skipped"
+    [ "$failed" -eq 0 ]
+}
+
+case ${1-},$# in
+    --help,1 | -h,1) usage && exit ;;
+    current,1)
+        is_whole && is_current
+        exit
+        ;;
+    check,1 | make,1 | make,[3-9]) ;;
+    *) fail "usage: tools/dist.sh make|check|current, or tools/dist.sh --help" ;;
+esac
+work=$(mktemp -d)
+trap 'rm -rf "$work"' EXIT
+if [ "$1" = check ]; then
+    check
+    exit
+fi
+command -v rt >/dev/null || fail "the toolchain's command rt is not on the PATH"
+if [ $# -gt 1 ]; then
+    make "$(realpath -m "$2")" "${@:3}"
+else
+    before=$(sources)
+    make "$top/dist" "${files[@]}"
+    write_manifest "$before"
+fi

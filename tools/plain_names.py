@@ -1,0 +1,41 @@
+#!/usr/bin/env python3
+"""Gives the symbols of an assembly text plain names that end in the version and the build:
+
+    tools/plain_names.py _0_1_0_v3 <module.s >file.s
+
+Rattle's names stand in quotes, as "blake2_words::many::blake2b::outputs::<=64>", which not every assembler takes. This one
+becomes blake2_words..many..blake2b..outputs..64_0_1_0_v3. Exported names and local labels get the end too, so that several
+such texts can stand in one program, and in one run of an assembler. Exported names are hidden: a program's objects see
+them, and a shared library that is linked from them does not export them. Nothing else changes: the instructions stay as
+they are, and so do the names of functions elsewhere, such as memcpy.
+"""
+import re
+import sys
+
+IS_DATA = re.compile(r"\t\.(?:ascii|asciz|ident|file)\t")
+EXPORT = "\t.globl\t"
+
+
+def plain(name):
+    """The name with .. for :: and a dot for each other run of what no assembler takes in a name."""
+    return re.sub(r"\W+", lambda run: ".." if run[0].startswith("::") else ".", name).rstrip(".")
+
+
+def labels(lines):
+    return [line for line in lines if re.match(r'["\w.][^\t]*:$', line)]
+
+
+def main():
+    lines, end = sys.stdin.read().split("\n"), sys.argv[1]
+    exported = "|".join(line[len(EXPORT):] for line in lines if line.startswith(EXPORT))
+    names = re.compile(rf'"([^"]*::[^"]*)"|\b(?:{exported})\b')
+    renamed = [line if IS_DATA.match(line) else
+               names.sub(lambda it: plain(it[1] or it[0]) + end, re.sub(r"(?<![\w.])\.L", f".L{end[1:]}_", line))
+               for line in lines]
+    if len(set(labels(renamed))) != len(labels(lines)):
+        sys.exit("plain_names.py: two names would be one")
+    hidden = [line.replace(EXPORT, "\t.hidden\t") if line.startswith(EXPORT) else None for line in renamed]
+    sys.stdout.write("\n".join(it for pair in zip(renamed, hidden) for it in pair if it is not None))
+
+
+main()
