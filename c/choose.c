@@ -1,21 +1,29 @@
-/* The functions blake2_c_* of the library that is installed. It holds the code of each twice, as it was
- * built for x86-64-v2 and for x86-64-v3 processors, and a call goes to the one that this processor and
- * this system run. c/join.sh compiles this file; the functions' names come from blake2_c.h alone. None
- * of this is proved: it is what a call passes on its way to the proved code.
+/* The functions blake2_c_* of the library, by their own names. The texts of dist/ have the code: on x86-64 twice, as
+ * it was built for x86-64-v2 and for x86-64-v3 processors, and on 64-bit ARM once. A call goes to the one that this
+ * processor and this system run. None of this is proved: it is what a call passes on its way to the proved code.
  *
- * The first call asks the processor, and keeps the answer in one byte, which never changes after that:
- * threads that ask at the same time write the same. It needs no constructor, so a call from another
- * constructor is answered too, and no lock, no variable of the environment and no pointer to a function
- * in memory. A later call looks at the byte and jumps: arguments, stack and return address stay as they
- * are, whatever a function takes. Both builds have the same states, so a run may go from one to the
- * other. A processor below x86-64-v2 gets a line on standard error and an end by abort, at its first
- * call and not before.
+ * On x86-64 the first call looks at the processor and keeps the answer in one byte, which never changes after that:
+ * threads that look at the same time write the same value. It needs no constructor, so calls from another constructor
+ * work too, and no lock, no environment variable and no function pointer in memory. A later call reads the byte and
+ * jumps: arguments, stack and return address stay as they are, whatever a function takes. Both builds have the same
+ * states, so a state may go from one to the other. On a processor below x86-64-v2 the first call prints a line on
+ * standard error and aborts.
  *
- * CHOOSE_ONE is defined where the library holds one build, which each function jumps to unasked.
- * CHOOSE_SHOWN is defined for the shared library: elsewhere the names are hidden, so that a shared
- * library that links the archive doesn't show them as its own.
- * CHOOSE_TEST is for tests: 2 or 3 takes that build, whatever the processor, and 0 the one or the other
- * from call to call, without a rule. So is CHOOSE_PROCESSOR, a header with a processor that is made up. */
+ * CHOOSE_ONE names a build, as v3: then the library holds that one only, and each call jumps to it.
+ * CHOOSE_SHOWN is defined for the shared library. Elsewhere the names are hidden, so that a shared library that links
+ * the archive does not export them as its own.
+ * CHOOSE_TEST is for tests: 2 or 3 takes that build, whatever the processor, and 0 the one or the other from call to
+ * call, without a rule. So are CHOOSE_PROCESSOR, a header with a processor that is made up, and CHOOSE_FUNCTIONS, a
+ * header with other functions. */
+#include "blake2_c.h"
+
+#include <stdlib.h>
+#include <unistd.h>
+
+#if defined(__aarch64__) && !defined(CHOOSE_ONE)
+#define CHOOSE_ONE arm
+#endif
+
 #ifdef CHOOSE_SHOWN
 #define VISIBILITY(name) ""
 #else
@@ -24,31 +32,40 @@
 
 /* A function of this name in a section of its own, so that a linker can leave it out. */
 #define FUNCTION(name, visibility, body)                                             \
-    __asm__(".pushsection .text." name ",\"ax\",@progbits\n"                         \
-            ".globl " name "\n" visibility ".type " name ",@function\n.p2align 4\n" \
+    __asm__(".pushsection .text." name ",\"ax\",%progbits\n"                         \
+            ".globl " name "\n" visibility ".type " name ",%function\n.p2align 4\n" \
             name ":\n.cfi_startproc\n" body ".cfi_endproc\n"                         \
             ".size " name ",.-" name "\n.popsection\n");
 
-#ifdef CHOOSE_ONE
-#define CHOOSE(name) FUNCTION(name, VISIBILITY(name), "jmp " name "_one\n")
-#else
-#include <stdlib.h>
-#include <unistd.h>
+/* The name of a function in the text of a build: the version and the build follow it. */
+#define TEXT_OF(words) #words
+#define TEXT(words) TEXT_OF(words)
+#define IN_BUILD(name, build)                                                                     \
+    name "_" TEXT(VULFSJOR_VERSION_MAJOR) "_" TEXT(VULFSJOR_VERSION_MINOR) "_" TEXT(VULFSJOR_VERSION_PATCH) "_" build
 
-/* 3 and 2 for the builds of these levels, or 0 where no call has asked yet. */
+#ifdef CHOOSE_ONE
+#ifdef __aarch64__
+#define JUMP "b "
+#else
+#define JUMP "jmp "
+#endif
+#define CALL(name) FUNCTION(name, VISIBILITY(name), JUMP IN_BUILD(name, TEXT(CHOOSE_ONE)) "\n")
+#else
+
+/* 3 and 2 for the builds of these levels, or 0 before the first call. */
 __attribute__((visibility("hidden"))) unsigned char blake2_c_level;
 
-#define CHOOSE(name)                           \
-    FUNCTION(name, VISIBILITY(name),           \
-             "cmpb $2, blake2_c_level(%rip)\n" \
-             "ja " name "_v3\n"                \
-             "je " name "_v2\n"                \
-             "call blake2_c_ask\n"             \
-             "cmpb $2, %al\n"                  \
-             "ja " name "_v3\n"                \
-             "jmp " name "_v2\n")
+#define CALL(name)                                  \
+    FUNCTION(name, VISIBILITY(name),                \
+             "cmpb $2, blake2_c_level(%rip)\n"      \
+             "ja " IN_BUILD(name, "v3") "\n"        \
+             "je " IN_BUILD(name, "v2") "\n"        \
+             "call blake2_c_ask\n"                  \
+             "cmpb $2, %al\n"                       \
+             "ja " IN_BUILD(name, "v3") "\n"        \
+             "jmp " IN_BUILD(name, "v2") "\n")
 
-/* Calls blake2_c_find and keeps the registers that hold arguments; the answer is in al. */
+/* Calls blake2_c_find and keeps the registers that hold arguments. The result is in al. */
 #define KEEP(register) "push " register "\n.cfi_adjust_cfa_offset 8\n"
 #define TAKE(register) "pop " register "\n.cfi_adjust_cfa_offset -8\n"
 FUNCTION("blake2_c_ask", ".hidden blake2_c_ask\n",
@@ -80,8 +97,8 @@ enum {
     LAHF = 1 << 0, LZCNT = 1 << 5
 };
 
-/* The levels are those of the x86-64 psABI, 3.1.1: the greatest that the processor has whole, 3, 2 or 0
- * for what is below; 3 only where the system saves the registers of SSE and AVX (XCR0, bits 1 and 2). */
+/* The levels are those of the x86-64 psABI, 3.1.1: the highest one that the processor has completely, 3 or 2, or 0 if
+ * it is below 2. Level 3 also requires that the system saves the registers of SSE and AVX (XCR0, bits 1 and 2). */
 static unsigned char level_here(void) {
     const unsigned v2 = SSE3 | SSSE3 | CMPXCHG16B | SSE4_1 | SSE4_2 | POPCNT;
     const unsigned v3 = FMA | MOVBE | OSXSAVE | AVX | F16C, v3_seventh = BMI1 | AVX2 | BMI2;
@@ -104,7 +121,7 @@ static unsigned char level_here(void) { return 2 + ((turn = turn * 1664525u + 10
 static void keep(unsigned char level) { (void)level; }
 #endif
 
-/* Asks for the level, and keeps it. */
+/* Looks for the level, keeps it and returns it. */
 __attribute__((used, visibility("hidden"))) unsigned char blake2_c_find(void) {
     static const char refusal[] = "blake2_c: this processor is below x86-64-v2, which the library needs\n";
     unsigned char level = level_here();
@@ -118,5 +135,57 @@ __attribute__((used, visibility("hidden"))) unsigned char blake2_c_find(void) {
 }
 #endif
 
-/* One line CHOOSE("name") for each function that blake2_c.h declares, written by c/join.sh. */
-#include "functions.h"
+/* The functions that blake2_c.h declares: c/join.sh holds this list to the header and to the texts. */
+#ifdef CHOOSE_FUNCTIONS
+#include CHOOSE_FUNCTIONS
+#else
+CALL("blake2_c_version")
+CALL("blake2_c_is_same")
+
+CALL("blake2_c_blake2b")
+CALL("blake2_c_blake2b_many")
+CALL("blake2_c_blake2b_init")
+CALL("blake2_c_blake2b_init_key")
+CALL("blake2_c_blake2b_init_block")
+CALL("blake2_c_blake2b_init_node")
+CALL("blake2_c_blake2b_update")
+CALL("blake2_c_blake2b_final")
+CALL("blake2_c_blake2b_verify")
+CALL("blake2_c_blake2b_set_last_node")
+CALL("blake2_c_blake2b_reset")
+CALL("blake2_c_blake2b_wipe")
+CALL("blake2_c_blake2b_count")
+CALL("blake2_c_blake2b_digest_size")
+CALL("blake2_c_blake2b_state_size")
+
+CALL("blake2_c_blake2s")
+CALL("blake2_c_blake2s_many")
+CALL("blake2_c_blake2s_init")
+CALL("blake2_c_blake2s_init_key")
+CALL("blake2_c_blake2s_init_block")
+CALL("blake2_c_blake2s_init_node")
+CALL("blake2_c_blake2s_update")
+CALL("blake2_c_blake2s_final")
+CALL("blake2_c_blake2s_verify")
+CALL("blake2_c_blake2s_set_last_node")
+CALL("blake2_c_blake2s_reset")
+CALL("blake2_c_blake2s_wipe")
+CALL("blake2_c_blake2s_count")
+CALL("blake2_c_blake2s_digest_size")
+CALL("blake2_c_blake2s_state_size")
+
+CALL("blake2_c_tree_root")
+CALL("blake2_c_tree_init")
+CALL("blake2_c_tree_update")
+CALL("blake2_c_tree_next_leaves")
+CALL("blake2_c_tree_update_leaves")
+CALL("blake2_c_tree_final")
+CALL("blake2_c_tree_wipe")
+CALL("blake2_c_tree_count")
+CALL("blake2_c_tree_leaf_length")
+CALL("blake2_c_tree_digest_size")
+CALL("blake2_c_tree_state_size")
+CALL("blake2_c_tree_leaf_count")
+CALL("blake2_c_tree_leaves")
+CALL("blake2_c_tree_root_of_leaves")
+#endif

@@ -1,16 +1,17 @@
 #!/usr/bin/env bash
-# Makes the libraries that callers link from the archives that `rt lib` has built:
+# Makes the libraries that callers link from the assembly texts of dist/:
 #
-#   c/join.sh [--test 2|3|0] FOLDER V2.a V3.a   both builds, one of which is chosen as the library runs
-#   c/join.sh FOLDER ONE.a                      one build
+#   c/join.sh [--test 2|3|0] FOLDER V2.s V3.s   both builds for x86-64, one of which is chosen at run time
+#   c/join.sh FOLDER ONE.s                      one build, for x86-64 or aarch64
 #
 #   FOLDER/libblake2_c.a
 #   FOLDER/libblake2_c.so.VERSION, with the links libblake2_c.so.0 and libblake2_c.so
 #   FOLDER/libblake2_c-libb2.a               the first, with libb2's functions by their own names
+#   FOLDER/libblake2_c-threads.a             roots of trees by several threads, over either of the first two
 #
-# The functions are those that include/blake2_c.h declares: an archive with one more or one less is
-# refused. choose.c says how a call goes, and what --test is. It needs a C compiler (CC, or else cc) and
-# binutils.
+# The functions are those that include/blake2_c.h declares: a text, or choose.c, with one more or one less is refused.
+# choose.c says how a call goes, and what --test is. It needs a C compiler (CC, or cc if that is not set), which may be
+# one for another machine, and its binutils.
 set -eu
 here=$(dirname "$(readlink -f "$0")")
 cc=${CC:-cc}
@@ -20,61 +21,54 @@ if [ $# -ge 2 ] && [ "$1" = --test ]; then
     shift 2
 fi
 if [ $# -lt 2 ] || [ $# -gt 3 ]; then
-    echo "usage: c/join.sh [--test 2|3|0] FOLDER V2.a V3.a, or c/join.sh FOLDER ONE.a" >&2
+    echo "usage: c/join.sh [--test 2|3|0] FOLDER V2.s V3.s, or c/join.sh FOLDER ONE.s" >&2
     exit 2
 fi
-[ $# -eq 3 ] || words+=(-DCHOOSE_ONE)
+folder=$1
+shift
 # The version, as the header has it.
 version=$(sed -n 's/^#define VULFSJOR_VERSION "\(.*\)"$/\1/p' "$here/include/blake2_c.h")
 work=$(mktemp -d)
 trap 'rm -rf "$work"' EXIT
 
-# The names that an object or an archive shows to a linker.
-names_of() { nm --defined-only -g "$1" | awk 'NF == 3 { print $3 }' | LC_ALL=C sort; }
+compile() { "$cc" -std=c99 -O2 -fPIC -ffunction-sections -c "$@"; }
 
-# The one object of an archive, with this behind the name of each function.
-take() {
-    local archive=$1 end=$2
-    names_of "$archive" | diff "$work/names" - >&2 || {
-        echo "join.sh: blake2_c.h and $archive have different functions, as shown above" >&2
+# An archive of these objects, by the compiler's binutils.
+archive() { "$("$cc" -print-prog-name=ar)" rcsD "$@"; }
+
+# Whether these functions, from standard input, are those of the header.
+are_functions() {
+    LC_ALL=C sort | diff "$work/names" - >&2 || {
+        echo "join.sh: blake2_c.h and $1 have different functions, as shown above" >&2
         exit 1
     }
-    mkdir "$work/part$end"
-    (cd "$work/part$end" && ar x "$archive")
-    sed "s/.*/& &$end/" "$work/names" >"$work/renames"
-    # What clang notes of addresses goes by numbers of symbols, which change here.
-    objcopy --remove-section=.llvm_addrsig --redefine-syms="$work/renames" "$work/part$end"/*.o \
-        "$work/part$end.o"
-}
-
-# Compiles choose.c with these words, and joins it with the builds to one object, in which each function
-# keeps a section of its own and no other name is seen.
-join() {
-    local out=$1
-    shift
-    "$cc" -std=c99 -O2 -fPIC -ffunction-sections -I"$work" "${words[@]}" "$@" -c "$here/choose.c" -o "$work/choose.o"
-    ld -r --unique -o "$work/joined.o" "$work/choose.o" "$work"/part_*.o
-    objcopy --keep-global-symbols="$work/names" "$work/joined.o" "$out"
 }
 
 grep -o 'blake2_c_[a-z0-9_]* *(' "$here/include/blake2_c.h" | tr -d ' (' | LC_ALL=C sort -u >"$work/names"
-sed 's/.*/CHOOSE("&")/' "$work/names" >"$work/functions.h"
-if [ $# -eq 2 ]; then
-    take "$(readlink -f "$2")" _one
-else
-    take "$(readlink -f "$2")" _v2
-    take "$(readlink -f "$3")" _v3
+sed -n 's/^CALL("\(.*\)")$/\1/p' "$here/choose.c" | are_functions choose.c
+objects=()
+for text; do
+    # After each function's name come the version and the build.
+    sed -n "s/^\t\.globl\t\(.*\)_${version//./_}_[a-z0-9]*\$/\1/p" "$text" | are_functions "$text"
+    objects+=("$work/build_${#objects[@]}.o")
+    "$cc" -c "$text" -o "${objects[-1]}"
+done
+if [ $# -eq 1 ]; then
+    one=$(sed -n 's/^\t\.globl\t.*_//p;T;q' "$1")
+    words=("-DCHOOSE_ONE=$one")
 fi
-mkdir -p "$1"
-join "$work/blake2_c.o"
-"$cc" -std=c99 -O2 -fPIC -ffunction-sections -c "$here/libb2/libb2.c" -o "$work/libb2.o"
-rm -f "$1"/libblake2_c*.a
-ar rcsD "$1/libblake2_c.a" "$work/blake2_c.o"
-ar rcsD "$1/libblake2_c-libb2.a" "$work/libb2.o" "$work/blake2_c.o"
+mkdir -p "$folder"
+compile -I"$here/include" "${words[@]}" "$here/choose.c" -o "$work/choose.o"
+compile -I"$here/include" "${words[@]}" -DCHOOSE_SHOWN "$here/choose.c" -o "$work/shown.o"
+compile "$here/libb2/libb2.c" -o "$work/libb2.o"
+compile -pthread -I"$here/include" "$here/threads.c" -o "$work/threads.o"
+rm -f "$folder"/libblake2_c*.a
+archive "$folder/libblake2_c.a" "$work/choose.o" "${objects[@]}"
+archive "$folder/libblake2_c-libb2.a" "$work/libb2.o" "$work/choose.o" "${objects[@]}"
+archive "$folder/libblake2_c-threads.a" "$work/threads.o"
 
 { echo 'BLAKE2_C_0 {' && echo 'global:' && sed 's/$/;/' "$work/names" && echo 'local: *; };'; } >"$work/versions"
-join "$work/shown.o" -DCHOOSE_SHOWN
-"$cc" -shared -o "$1/libblake2_c.so.$version" "$work/shown.o" -Wl,-soname,libblake2_c.so.0 \
+"$cc" -shared -o "$folder/libblake2_c.so.$version" "$work/shown.o" "${objects[@]}" -Wl,-soname,libblake2_c.so.0 \
     -Wl,--version-script="$work/versions" -Wl,-z,defs -Wl,-z,relro -Wl,-z,now -Wl,-z,noexecstack
-ln -sf "libblake2_c.so.$version" "$1/libblake2_c.so.0"
-ln -sf libblake2_c.so.0 "$1/libblake2_c.so"
+ln -sf "libblake2_c.so.$version" "$folder/libblake2_c.so.0"
+ln -sf libblake2_c.so.0 "$folder/libblake2_c.so"

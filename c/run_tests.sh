@@ -1,15 +1,19 @@
 #!/usr/bin/env bash
 # Tests the library as its callers in C, C++, Python and Rust meet it:
 #
-#   c/run_tests.sh [--cpu CPU] [--after-ci | --from PARTS] [--only PART]
+#   c/run_tests.sh [--cpu CPU] [--from DIST] [--only PART]
 #
-# It installs the library in a folder of its own (c/install.sh, which says what all but the last word are).
-# PART is one of the parts below, each of which is a file of tests/:
+# It installs the library in a folder of its own (c/install.sh, which says what all but the last word are), from dist/
+# where no DIST is named. PART is one of the parts below, each of which is a file of tests/:
 #
 #   languages   C, C++, the examples of c/README.md
 #   choosing    the choice between the two builds, and what the libraries show
 #   installing  what c/install.sh puts where
 #   libb2       libb2's functions by their own names, and its own tests
+#   secrets     whether a branch or an address depends on a key or a message
+#   program     the C of the program b2
+#   threads     a tree in parts and by several threads, and the programs of examples/ that hash trees
+#   aarch64     the library for aarch64, by a compiler for it and an emulated processor
 #   wrappers    Rust and Python, by rust/run_tests.sh and python/run_tests.sh
 #
 # The parts go side by side, each in a folder of its own, and are shown in this order. A test whose tool is absent is
@@ -21,24 +25,23 @@ tests=$here/tests
 work=$(mktemp -d)
 trap 'rm -rf "$work"' EXIT
 prefix=$work/prefix
-parts=$work/parts
+dist=$top/dist
 cases=$work/cases
 passed=0 failed=0 skipped=0
-cpu=() source=(--parts "$parts") chosen=(languages choosing installing libb2 wrappers)
+cpu=() chosen=(languages choosing installing libb2 threads program secrets aarch64 wrappers)
 
 refuse() {
-    echo "usage: c/run_tests.sh [--cpu CPU] [--after-ci | --from PARTS] [--only PART]" >&2
+    echo "usage: c/run_tests.sh [--cpu CPU] [--from DIST] [--only PART]" >&2
     exit 2
 }
 
 while [ $# -gt 0 ]; do
     case $1 in
         --cpu) cpu=(--cpu "${2-}"); shift $(($# > 1 ? 2 : 1)) ;;
-        --after-ci) source=(--after-ci --parts "$parts"); shift ;;
-        --from) parts=$(readlink -f "${2-}"); source=(--from "$parts"); shift $(($# > 1 ? 2 : 1)) ;;
+        --from) dist=$(readlink -f "${2-}"); shift $(($# > 1 ? 2 : 1)) ;;
         --only)
             case ${2-} in
-                languages | choosing | installing | libb2 | wrappers) chosen=("$2") ;;
+                languages | choosing | installing | libb2 | threads | program | secrets | aarch64 | wrappers) chosen=("$2") ;;
                 *) refuse ;;
             esac
             shift 2
@@ -75,18 +78,23 @@ finish() {
     exit
 }
 
-include=$prefix/include/blake2_c
+include=$prefix/include
+libb2=$include/blake2_c-libb2
 archive=$prefix/lib/libblake2_c.a
 shared=$prefix/lib/libblake2_c.so
 warnings=(-Wall -Wextra -Wpedantic -Werror)
 empty=$work/empty.c
 echo 'int main(void) { return 0; }' >"$empty"
 
-# Whether the library holds both builds, and so chooses.
-chooses() { [ ${#cpu[@]} -eq 0 ]; }
+# Whether the library here is for x86-64, and whether it holds both builds, and so chooses.
+is_x86() { [[ $(cc -dumpmachine) == x86_64-* ]]; }
+chooses() { is_x86 && [ ${#cpu[@]} -eq 0 ]; }
 
 # Whether the compiler links a program with these words.
 links() { cc -o "$work/linked" "$empty" "$@" >/dev/null 2>&1; }
+
+# The main of a text of the program b2.
+main_of() { sed -n 's/^\t\.globl\t\(main_.*\)/\1/p' "$1"; }
 
 # The words of a test program for a family.
 family_words() { [ "$1" = s ] && echo -DTEST_S; }
@@ -100,10 +108,10 @@ wanted_of_readme() {
 
 # ---- the library
 
-if [ "${source[0]}" = --from ] || has rt; then
-    check "install.sh" "$here/install.sh" "${cpu[@]}" "${source[@]}" "$prefix" || finish
+if has cc; then
+    check "install.sh" "$here/install.sh" "${cpu[@]}" --from "$dist" "$prefix" || finish
 else
-    skip "all tests" "the toolchain's command rt is not on the PATH"
+    skip "all tests" "no C compiler cc"
     finish
 fi
 mkdir "$cases"

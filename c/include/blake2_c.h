@@ -21,10 +21,9 @@
  * says, and that what a call writes (the state, the output) overlaps nothing else that it is
  * given.
  *
- * Secrets: final and verify wipe the state. A call that is given a key overwrites its part of the
- * stack before it returns: no piece of the key was then found there. Registers are not wiped, nor
- * what update, final and verify leave on the stack: copies of the key were found after the first
- * update, and after a final or verify that had taken no input. */
+ * Secrets: final and verify wipe the state. A call that is given a key, or compresses its block (the
+ * first update, or a final or verify that had taken no input), overwrites its part of the stack
+ * before it returns. Registers are not wiped. docs/WIPING.md says what was found and tested. */
 #ifndef BLAKE2_C_H
 #define BLAKE2_C_H
 
@@ -36,9 +35,13 @@
 extern "C" {
 #endif
 
-/* The version of this header, as a text and as the number that vulfsjor_version answers for the
- * library: 65,536 times the first, 256 times the second, and the third. */
+/* The version of this header: as a text, by its three numbers, and as the number that
+ * vulfsjor_version returns for the library, 65,536 times the first, 256 times the second, and the
+ * third. */
 #define VULFSJOR_VERSION "0.1.0"
+#define VULFSJOR_VERSION_MAJOR 0
+#define VULFSJOR_VERSION_MINOR 1
+#define VULFSJOR_VERSION_PATCH 0
 #define VULFSJOR_VERSION_NUMBER 0x000100
 
 /* On the calls whose answer no later call repeats, so that to ignore it is a fault. A refused init,
@@ -201,6 +204,7 @@ int32_t blake2_c_blake2b_set_last_node(vulfsjor_blake2b_state *state, uint32_t o
 int32_t blake2_c_blake2b_reset(vulfsjor_blake2b_state *state);
 void blake2_c_blake2b_wipe(vulfsjor_blake2b_state *state);
 size_t blake2_c_blake2b_digest_size(const vulfsjor_blake2b_state *state);
+uint64_t blake2_c_blake2b_count(const vulfsjor_blake2b_state *state);
 size_t blake2_c_blake2b_state_size(void);
 
 int32_t blake2_c_blake2s(uint8_t *out, size_t out_length, const uint8_t *input, size_t input_length,
@@ -231,6 +235,7 @@ int32_t blake2_c_blake2s_set_last_node(vulfsjor_blake2s_state *state, uint32_t o
 int32_t blake2_c_blake2s_reset(vulfsjor_blake2s_state *state);
 void blake2_c_blake2s_wipe(vulfsjor_blake2s_state *state);
 size_t blake2_c_blake2s_digest_size(const vulfsjor_blake2s_state *state);
+uint64_t blake2_c_blake2s_count(const vulfsjor_blake2s_state *state);
 size_t blake2_c_blake2s_state_size(void);
 
 int32_t blake2_c_tree_root(uint8_t *out, size_t out_length, const uint8_t *input,
@@ -243,7 +248,23 @@ int32_t blake2_c_tree_update(vulfsjor_tree_state *state, const uint8_t *input, s
 int32_t blake2_c_tree_final(vulfsjor_tree_state *state, uint8_t *out, size_t out_length);
 void blake2_c_tree_wipe(vulfsjor_tree_state *state);
 size_t blake2_c_tree_digest_size(const vulfsjor_tree_state *state);
+uint64_t blake2_c_tree_count(const vulfsjor_tree_state *state);
+uint32_t blake2_c_tree_leaf_length(const vulfsjor_tree_state *state);
 size_t blake2_c_tree_state_size(void);
+uint64_t blake2_c_tree_leaf_count(uint64_t message_length, uint32_t leaf_length);
+int32_t blake2_c_tree_leaves(uint8_t *out, size_t out_length, uint64_t first, uint32_t ends,
+                             const uint8_t *input, size_t input_length, const uint8_t *salt,
+                             size_t salt_length, const uint8_t *persona, size_t persona_length,
+                             uint32_t leaf_length);
+int32_t blake2_c_tree_root_of_leaves(uint8_t *out, size_t out_length, const uint8_t *digests,
+                                     size_t digests_length, const uint8_t *salt,
+                                     size_t salt_length, const uint8_t *persona,
+                                     size_t persona_length, uint32_t leaf_length);
+int32_t blake2_c_tree_next_leaves(const vulfsjor_tree_state *state, uint8_t *out, size_t out_length,
+                                  uint64_t skip, const uint8_t *input, size_t input_length);
+int32_t blake2_c_tree_update_leaves(vulfsjor_tree_state *state, const uint8_t *digests,
+                                    size_t digests_length, const uint8_t *input,
+                                    size_t input_length);
 
 /* ---- For C. */
 
@@ -379,6 +400,13 @@ static inline size_t vulfsjor_blake2b_digest_size(const vulfsjor_blake2b_state *
     return S ? blake2_c_blake2b_digest_size(S) : 0;
 }
 
+/* The number of bytes of input that the state has absorbed since its start or its last reset; the
+ * block of a key is not counted, unless it was given as input after init_param. 0 if the state is
+ * null or not ready. */
+static inline uint64_t vulfsjor_blake2b_count(const vulfsjor_blake2b_state *S) {
+    return S ? blake2_c_blake2b_count(S) : 0;
+}
+
 /* The digest of the input in outlen bytes, 1 to 64, under a key of 0 to 64 bytes (0 is no key).
  * -1 where a length is not among these, or input and key's block are 2^64 bytes or more. */
 VULFSJOR_MUST_USE static inline int vulfsjor_blake2b(void *out, size_t outlen, const void *in,
@@ -485,6 +513,10 @@ static inline size_t vulfsjor_blake2s_digest_size(const vulfsjor_blake2s_state *
     return S ? blake2_c_blake2s_digest_size(S) : 0;
 }
 
+static inline uint64_t vulfsjor_blake2s_count(const vulfsjor_blake2s_state *S) {
+    return S ? blake2_c_blake2s_count(S) : 0;
+}
+
 VULFSJOR_MUST_USE static inline int vulfsjor_blake2s(void *out, size_t outlen, const void *in,
                                                      size_t inlen, const void *key, size_t keylen) {
     if (!out || (!in && inlen) || (!key && keylen)) return -1;
@@ -556,6 +588,94 @@ static inline void vulfsjor_tree_wipe(vulfsjor_tree_state *S) {
 /* The bytes of the root that the state will give, 1 to 64; 0 where it is null or gives none. */
 static inline size_t vulfsjor_tree_digest_size(const vulfsjor_tree_state *S) {
     return S ? blake2_c_tree_digest_size(S) : 0;
+}
+
+/* The number of bytes of input that the state has absorbed; 0 if it is null or not ready. */
+static inline uint64_t vulfsjor_tree_count(const vulfsjor_tree_state *S) {
+    return S ? blake2_c_tree_count(S) : 0;
+}
+
+/* The number of bytes in a leaf of the state's tree, 1 to 2^32 - 1; 0 if the state is null or not
+ * ready. */
+static inline uint32_t vulfsjor_tree_leaf_length(const vulfsjor_tree_state *S) {
+    return S ? blake2_c_tree_leaf_length(S) : 0;
+}
+
+/* -- The same tree in parts, for threads, processes or machines. The digests of a range of leaves
+ * need the bytes of that range alone. Ranges may be hashed in any order and at the same time; their
+ * digests, put together in the order of the leaves, are those of all leaves, whatever the cut, and
+ * root_of_leaves of them is vulfsjor_tree_root of the whole message. Where leaves have changed,
+ * hash a range that holds them again, put its digests in the place of the old ones, and the root
+ * over all is that of the message as it is now. */
+
+/* How many leaves inlen bytes make: one at least. 0 where leaf_length is 0. */
+static inline uint64_t vulfsjor_tree_leaf_count(uint64_t inlen, uint32_t leaf_length) {
+    return blake2_c_tree_leaf_count(inlen, leaf_length);
+}
+
+/* Writes the digests of a range of leaves, 64 bytes for each, to out: leaf first, counted from 0,
+ * and those behind it that the input makes. ends says whether the message ends with them (0 is no):
+ * if so the last leaf may be shorter, and else all are whole. outlen is 64 times
+ * vulfsjor_tree_leaf_count of inlen. -1 where it is not, where the input is no range of leaves (it
+ * is not whole leaves, and ends is 0; it has no bytes, and is not all of a message of none, which
+ * is first 0 and an ends that is not 0; or it goes beyond byte 2^58 of the message), where
+ * leaf_length is 0, or salt or persona have more than 16 bytes. */
+VULFSJOR_MUST_USE static inline int vulfsjor_tree_leaves(void *out, size_t outlen, uint64_t first,
+                                                         int ends, const void *in, size_t inlen,
+                                                         const void *salt, size_t saltlen,
+                                                         const void *personal, size_t personallen,
+                                                         uint32_t leaf_length) {
+    if (!out || (!in && inlen) || (!salt && saltlen) || (!personal && personallen)) return -1;
+    return blake2_c_tree_leaves((uint8_t *)out, outlen, first, ends != 0, vulfsjor_text(in), inlen,
+                                vulfsjor_text(salt), saltlen, vulfsjor_text(personal), personallen,
+                                leaf_length);
+}
+
+/* The root over the digests of all leaves, 64 bytes for each, in their order, in outlen bytes, 1 to
+ * 64. -1 where outlen is another, digestslen is 0 or no multiple of 64, leaf_length is 0, or salt or
+ * persona have more than 16 bytes. */
+VULFSJOR_MUST_USE static inline int
+vulfsjor_tree_root_of_leaves(void *out, size_t outlen, const void *digests, size_t digestslen,
+                             const void *salt, size_t saltlen, const void *personal,
+                             size_t personallen, uint32_t leaf_length) {
+    if (!out || !digests || (!salt && saltlen) || (!personal && personallen)) return -1;
+    return blake2_c_tree_root_of_leaves((uint8_t *)out, outlen, (const uint8_t *)digests, digestslen,
+                                        vulfsjor_text(salt), saltlen, vulfsjor_text(personal),
+                                        personallen, leaf_length);
+}
+
+/* -- A run of that tree whose leaves are hashed apart, for a stream that threads hash. The state is
+ * at a leaf boundary when vulfsjor_tree_count is a multiple of vulfsjor_tree_leaf_length. Then
+ * threads hash the next leaves with next_leaves, which only reads the state, and one update_leaves
+ * absorbs the digests of all of them, in order, and the input that follows. */
+
+/* Writes the digests of whole leaves of the state's tree, 64 bytes for each, to out. The first of
+ * them is the one skip leaves after the next leaf of the state, which must be at a leaf boundary.
+ * None of them is the last leaf of the message. outlen is 64 times the number of leaves. -1 if the
+ * state is not at a leaf boundary, the input is empty or not whole leaves, outlen is another, or
+ * the leaves go beyond byte 2^58 of the message. */
+VULFSJOR_MUST_USE static inline int vulfsjor_tree_next_leaves(const vulfsjor_tree_state *S,
+                                                              void *out, size_t outlen,
+                                                              uint64_t skip, const void *in,
+                                                              size_t inlen) {
+    if (!S || !out || (!in && inlen)) return -1;
+    return blake2_c_tree_next_leaves(S, (uint8_t *)out, outlen, skip, vulfsjor_text(in), inlen);
+}
+
+/* Absorbs whole leaves, given by their digests as next_leaves writes them from skip 0 on, and then
+ * the input: the state is then the one that vulfsjor_tree_update makes of the leaves' bytes and the
+ * input. The state must be at a leaf boundary, and at least one byte of input follows the digests,
+ * since the last leaf of a message has another digest. Without digests (digestslen 0) this is
+ * vulfsjor_tree_update. -1 if digestslen is not a multiple of 64, if there are digests but the
+ * state is not at a leaf boundary or the input is empty, or if the bytes of all would be 2^58 or
+ * more. */
+VULFSJOR_MUST_USE static inline int vulfsjor_tree_update_leaves(vulfsjor_tree_state *S,
+                                                                const void *digests,
+                                                                size_t digestslen, const void *in,
+                                                                size_t inlen) {
+    if (!S || (!digests && digestslen) || (!in && inlen)) return -1;
+    return blake2_c_tree_update_leaves(S, vulfsjor_text(digests), digestslen, vulfsjor_text(in),
+                                       inlen);
 }
 
 #ifdef __cplusplus

@@ -1,5 +1,5 @@
 #!/usr/bin/env python3
-"""Reads the lines of edges.c and libb2_header.c from standard input and compares each digest with Python's hashlib.
+"""Reads the lines of edges.c, parts.c and libb2_header.c from standard input and compares each digest with Python's hashlib.
 
 Answers 0 where all agree, the line `end` came, and there were 20 others. A parameter block that hashlib can't say (a
 depth of 0, reserved bytes) is hashed by tools/blake2_scalar.py, which is first compared with hashlib itself.
@@ -56,6 +56,14 @@ def root_line(size, saltlen, personalen, leaf, length):
     return hashlib.blake2b(digests, digest_size=int(size), node_depth=1, last_node=True, **shared)
 
 
+def leaf_line(saltlen, personalen, leaf, offset, is_last, start, length):
+    """A leaf of a tree of two levels."""
+    start = int(start)
+    return hashlib.blake2b(BYTES[start:start + int(length)], salt=SALT[:int(saltlen)], person=PERSONA[:int(personalen)],
+                           fanout=0, depth=2, leaf_size=int(leaf), node_offset=int(offset), inner_size=64,
+                           last_node=is_last == "1")
+
+
 def zeros_line(family, length):
     """A message of zeros."""
     run, left, piece = FAMILIES[family].function(), int(length), bytes(2**24)
@@ -65,7 +73,8 @@ def zeros_line(family, length):
     return run
 
 
-KINDS = {"hash": hash_line, "last": last_line, "node": node_line, "root": root_line, "zeros": zeros_line}
+KINDS = {"hash": hash_line, "last": last_line, "node": node_line, "root": root_line, "leaf": leaf_line,
+         "zeros": zeros_line}
 
 
 def wanted(line):

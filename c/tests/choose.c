@@ -9,6 +9,7 @@
 #ifdef PROCESSOR
 #define CHOOSE_PROCESSOR "processor.h"
 #endif
+#define CHOOSE_FUNCTIONS "functions.h"
 #include "../choose.c"
 
 #include <stdint.h>
@@ -26,12 +27,16 @@ static number told(PARAMETERS) {
            37 * l + 41 * m + 43 * n + 47 * o + 53 * p;
 }
 #define GIVEN a, b, c, d, e, f, g, h, i, j, k, l, m, n, o, p
+number probe_arguments_v2(PARAMETERS) __asm__(IN_BUILD("probe_arguments", "v2"));
+number probe_arguments_v3(PARAMETERS) __asm__(IN_BUILD("probe_arguments", "v3"));
 __attribute__((noinline)) number probe_arguments_v2(PARAMETERS) { return told(GIVEN) + 2; }
 __attribute__((noinline)) number probe_arguments_v3(PARAMETERS) { return told(GIVEN) + 3; }
 number probe_arguments(PARAMETERS);
 
 /* Whether the stack is as a function may take it to be: 8 beyond a multiple of 16. */
 static int is_aligned(void *frame) { return (uintptr_t)frame % 16 == 0; }
+int probe_v2(void) __asm__(IN_BUILD("probe", "v2"));
+int probe_v3(void) __asm__(IN_BUILD("probe", "v3"));
 __attribute__((noinline)) int probe_v2(void) { return is_aligned(__builtin_frame_address(0)) ? 2 : -2; }
 __attribute__((noinline)) int probe_v3(void) { return is_aligned(__builtin_frame_address(0)) ? 3 : -3; }
 int probe(void);

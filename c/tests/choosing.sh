@@ -1,5 +1,10 @@
 # Part of c/run_tests.sh: the choice between the two builds, and what the libraries show.
 
+# The texts of both builds.
+both=("$dist/x86_64/blake2_c-v2.s" "$dist/x86_64/blake2_c-v3.s")
+here_texts=("${both[@]}")
+is_x86 || here_texts=("$dist/aarch64/blake2_c.s")
+
 # The functions that blake2_c.h declares, by the compiler's reading of it.
 names_of_header() {
     echo '#include <blake2_c.h>' | cc -E -I"$include" - | grep -o '\bblake2_c_[a-z0-9_]* *(' | tr -d ' (' |
@@ -8,22 +13,23 @@ names_of_header() {
 
 names_of_object() { nm "$@" | awk 'NF == 3 && $2 ~ /[A-Z]/ { print $3 }' | sed 's/@.*//' | LC_ALL=C sort -u; }
 
-# Header, archives and shared library have the same functions, and show nothing else.
+# Names that an archive has for itself: those of the builds, which have the version in them, and those of choose.c.
+without_own() { sed "/_$(version_with _)_[a-z0-9]*\$/d;/^blake2_c_\(ask\|find\|level\)\$/d"; }
+version_with() { sed -n 's/^#define VULFSJOR_VERSION "\(.*\)"$/\1/p' "$include/blake2_c.h" | tr . "$1"; }
+
+# Header, archive and shared library have the same functions, and show nothing else.
 names_are_one() {
     names_of_header >"$work/names" && [ "$(wc -l <"$work/names")" -ge 29 ] || return 1
-    local part
-    for part in "$archive" "$parts"/*.a; do
-        names_of_object -g --defined-only "$part" | diff "$work/names" - || return 1
-    done
+    names_of_object -g --defined-only "$archive" | without_own | diff "$work/names" - || return 1
     names_of_object -D --defined-only "$shared" | sed '/^BLAKE2_C_0$/d' | diff "$work/names" -
 }
 
-# One function more in the header, or one less in an archive, is refused before anything is made.
+# One function more in the header, or one less in a text, is refused before anything is made.
 join_refuses_a_difference() {
     local copy=$work/copy
     mkdir -p "$copy" && cp -R "$here/choose.c" "$here/join.sh" "$here/include" "$here/libb2" "$copy" &&
         echo 'void blake2_c_forgotten(void);' >>"$copy/include/blake2_c.h" || return 1
-    ! "$copy/join.sh" "$work/refused" "$parts"/*.a 2>"$work/said" && grep -q '^< blake2_c_forgotten$' "$work/said" &&
+    ! "$copy/join.sh" "$work/refused" "${both[@]}" 2>"$work/said" && grep -q '^< blake2_c_forgotten$' "$work/said" &&
         [ ! -e "$work/refused/libblake2_c.a" ]
 }
 
@@ -43,6 +49,20 @@ shared_library_is_right() {
         ! nm -D --undefined-only "$file" | grep -vE ' (w|U) (_ITM_|__cxa_finalize|__gmon|abort|write|mem(cpy|move|set))'
 }
 
+# The texts alone, by a plain `cc -c`, and those of another version, in one shared library and in one run of the
+# assembler: no name of one is that of another, and none is exported.
+texts_stand_together() {
+    local text count=0 objects=()
+    for text; do
+        sed "s/$(version_with _)/7_8_9/g" "$text" >"$work/other.s" && cc -c "$text" -o "$work/text_$count.o" &&
+            cc -c "$work/other.s" -o "$work/other_$count.o" && cat "$text" "$work/other.s" >>"$work/all.s" || return 1
+        objects+=("$work/text_$count.o" "$work/other_$count.o")
+        count=$((count + 1))
+    done
+    cc -shared "${objects[@]}" -o "$work/texts.so" && [ -z "$(nm -D --defined-only "$work/texts.so")" ] &&
+        cc -c "$work/all.s" -o "$work/all.o"
+}
+
 # Somebody else's shared library, linked with one of the archives, shows none of its functions.
 names_are_hidden() {
     local archive=$1
@@ -54,8 +74,8 @@ names_are_hidden() {
 
 # choose.c over functions of its own.
 compile_choose() {
-    printf 'CHOOSE("probe")\nCHOOSE("probe_arguments")\n' >"$work/functions.h" &&
-        cc -std=gnu99 "${warnings[@]}" -I"$work" -o "$work/$1" "$tests/choose.c" "${@:2}"
+    printf 'CALL("probe")\nCALL("probe_arguments")\n' >"$work/functions.h" &&
+        cc -std=gnu99 "${warnings[@]}" -I"$work" -I"$include" -o "$work/$1" "$tests/choose.c" "${@:2}"
 }
 
 made_up_processors() { compile_choose "made_up$1" "-O$1" -DPROCESSOR -I"$tests" && "$work/made_up$1"; }
@@ -68,8 +88,8 @@ compiler_knows() {
 
 # The library joined by another compiler, and what it makes of choose.c.
 joined_by() {
-    CC=$1 "$here/join.sh" "$work/by_$1" "$parts/x86-64-v2.a" "$parts/x86-64-v3.a" &&
-        "$1" -std=gnu99 "${warnings[@]}" -O1 -DPROCESSOR -I"$work" -I"$tests" -o "$work/made_up_by" "$tests/choose.c" &&
+    CC=$1 "$here/join.sh" "$work/by_$1" "${both[@]}" &&
+        "$1" -std=gnu99 "${warnings[@]}" -O1 -DPROCESSOR -I"$work" -I"$include" -I"$tests" -o "$work/made_up_by" "$tests/choose.c" &&
         "$work/made_up_by" && "$1" -std=c99 -I"$include" "$tests/linked.c" "$work/by_$1/libblake2_c.a" \
         -o "$work/linked_by" -pthread && "$work/linked_by"
 }
@@ -157,7 +177,7 @@ test_emulated() {
 }
 
 # A library for tests, which takes one build or goes from one to the other (c/join.sh).
-make_build() { "$here/join.sh" --test "$1" "$work/build_$1" "$parts/x86-64-v2.a" "$parts/x86-64-v3.a"; }
+make_build() { "$here/join.sh" --test "$1" "$work/build_$1" "${both[@]}"; }
 
 test_of_build() {
     cc -std=c99 -O2 -I"$include" -o "$work/test_build" "$tests/test.c" "$work/build_$1/libblake2_c.a" \
@@ -212,7 +232,8 @@ costs_little() {
     local task=$1 level chosen direct
     level=$(valgrind -q "$work/choose" | sed -n '2s/ .*//p')
     cc -O2 -I"$include" "$tests/count.c" "$archive" -o "$work/count_chosen" &&
-        cc -O2 -I"$include" "$tests/count.c" "$parts/x86-64-v$level.a" -o "$work/count_direct" &&
+        "$here/join.sh" "$work/direct" "$dist/x86_64/blake2_c-v$level.s" &&
+        cc -O2 -I"$include" "$tests/count.c" "$work/direct/libblake2_c.a" -o "$work/count_direct" &&
         chosen=$(instructions "$work/count_chosen" "$task" 1000) &&
         direct=$(instructions "$work/count_direct" "$task" 1000) || return 1
     echo "build $level: $chosen instructions chosen, $direct directly"
@@ -233,6 +254,7 @@ test_choosing() {
     if has nm && has readelf; then
         check "one list of functions" names_are_one
         check "the shared library's form" shared_library_is_right
+        check "the texts beside those of another version" texts_stand_together "${here_texts[@]}"
         check "hidden names, libblake2_c.a" names_are_hidden "$archive"
         check "hidden names, libblake2_c-libb2.a" names_are_hidden "$prefix/lib/libblake2_c-libb2.a"
     else

@@ -4,7 +4,7 @@
  * value Python's hashlib has to agree with, as check_lines.py reads them; answers 0 where all else
  * is as it should be.
  *
- *   cc -std=c99 -Wall -Wextra -Wpedantic -Werror -I FOLDER/include/blake2_c edges.c ARCHIVE -o edges
+ *   cc -std=c99 -Wall -Wextra -Wpedantic -Werror -I FOLDER/include edges.c ARCHIVE -o edges
  *   cc the same with -DTEST_S                   the same of BLAKE2s, without the tree
  *   ./edges | python3 check_lines.py            status 0 where every digest is hashlib's
  *   ./edges 4294967396                          one message of so many zeros too: 4 GiB of address space,

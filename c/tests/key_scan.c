@@ -4,7 +4,7 @@
  * byte, after final, verify and wipe, and a search that misses a copy which is put there for it to find. Answers 0
  * where none failed.
  *
- *   cc -std=gnu99 -O2 -Wl,-z,now -I FOLDER/include/blake2_c key_scan.c ARCHIVE -o key_scan
+ *   cc -std=gnu99 -O2 -Wl,-z,now -I FOLDER/include key_scan.c ARCHIVE -o key_scan
  *   cc the same with -DTEST_S       the same of BLAKE2s
  *
  * With -z now no call goes by the dynamic linker, which would save vector registers on the stack. */
@@ -30,8 +30,8 @@
 #endif
 
 /* The calls: what goes before, whether the state is zero then, and how many pieces of the key may be left on the dead
- * stack, of BLAKE2b, whose key has 8 pieces, and of BLAKE2s, whose key has 4: none, as the builds for x86-64-v2 and
- * x86-64-v3 leave none. */
+ * stack, of BLAKE2b, whose key has 8 pieces, and of BLAKE2s, whose key has 4: none, as the builds for x86-64-v2,
+ * x86-64-v3 and aarch64 leave none. */
 #define CALLS(CALL)                                                                          \
     CALL(init_key, nothing, 0, EITHER(0, 0), "init_key")                                     \
     CALL(init_salt, nothing, 0, EITHER(0, 0), "init_salt_personal with a key")               \
@@ -144,16 +144,26 @@ static __attribute__((noinline)) void fill_stack(void) {
     for (size_t i = 0; i < sizeof bytes; i++) bytes[i] = 0x55;
 }
 
-/* Makes the call, and copies the stack below this frame before anything else. */
+/* Makes the call, and copies the stack below this frame before anything else, without a call. */
 static __attribute__((noinline)) int call_and_keep(int (*call)(void)) {
     int status = call();
     const uint8_t *from;
     void *to = stack;
     size_t count = DEPTH;
 
+#if defined(__aarch64__)
+    __asm__ volatile("mov %0, sp" : "=r"(from));
+    from -= DEPTH;
+    __asm__ volatile("1: ldrb w9, [%1], #1\n"
+                     "strb w9, [%0], #1\n"
+                     "subs %2, %2, #1\n"
+                     "b.ne 1b"
+                     : "+r"(to), "+r"(from), "+r"(count) : : "x9", "cc", "memory");
+#else
     __asm__ volatile("mov %%rsp, %0" : "=r"(from));
     from -= DEPTH;
     __asm__ volatile("rep movsb" : "+D"(to), "+S"(from), "+c"(count) : : "memory");
+#endif
     return status;
 }
 

@@ -29,13 +29,13 @@ run_in_valgrind() {
 # The header alone, in each language that it is for.
 headers_compile() {
     printf '#include "%s"\nint main(void) { return 0; }\n' "$1" >"$work/header.c"
-    cc -std=c99 "${warnings[@]}" -I"$include" -I"$include/libb2" -c "$work/header.c" -o /dev/null &&
-        cc -std=gnu17 "${warnings[@]}" -I"$include" -I"$include/libb2" -c "$work/header.c" -o /dev/null
+    cc -std=c99 "${warnings[@]}" -I"$include" -I"$libb2" -c "$work/header.c" -o /dev/null &&
+        cc -std=gnu17 "${warnings[@]}" -I"$include" -I"$libb2" -c "$work/header.c" -o /dev/null
 }
 
 header_compiles_as_cpp() {
     printf '#include "%s"\nint main() { return 0; }\n' "$1" >"$work/header.cpp"
-    c++ -std=c++11 "${warnings[@]}" -I"$include" -I"$include/libb2" -c "$work/header.cpp" -o /dev/null
+    c++ -std=c++11 "${warnings[@]}" -I"$include" -I"$libb2" -c "$work/header.cpp" -o /dev/null
 }
 
 # A test program of a family, with these words, whose digests Python's hashlib has to have too; WORD is given to the
@@ -116,7 +116,7 @@ test_family() {
     check "edges.c, blake2$family" compare_lines edges "" -O2 -I"$include"
     check "a message of more than 2^32 bytes, blake2$family" compare_lines edges 4294967396 -O2 -I"$include"
     for level in 0 2; do
-        check "libb2_header.c, blake2$family, -O$level" compare_lines libb2_header "" -O$level -I"$include/libb2"
+        check "libb2_header.c, blake2$family, -O$level" compare_lines libb2_header "" -O$level -I"$libb2"
     done
     if links -fsanitize=address,undefined && "$work/linked"; then
         check "test.c, blake2$family, with sanitizers" compile_and_run "$work/test_san_$family" -O1 \
@@ -141,11 +141,7 @@ scan_for_keys() {
 
 test_keys() {
     for family in b s; do
-        if has cc; then
-            check "key_scan.c, blake2$family" scan_for_keys
-        else
-            skip "key_scan.c, blake2$family" "no cc"
-        fi
+        check "key_scan.c, blake2$family" scan_for_keys
     done
 }
 

@@ -278,7 +278,7 @@ static void last_node(void) {
 int main(int count, char **names) {
     int cases = count > 1 ? cases_of(names[1]) : 0;
 
-    CHECK(cases > 500);
+    CHECK(cases > 50);
     null_pointers();
     lengths();
     no_run();

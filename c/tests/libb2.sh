@@ -66,7 +66,7 @@ fetch_sources() {
 # libb2's own test program, which includes its known answers: over the header of libb2's name here, or over
 # libb2's own with the functions by their own names.
 libb2_test() {
-    local name=$1 source=$work/fetched/libb2/src words=(-I"$include/libb2" "$archive")
+    local name=$1 source=$work/fetched/libb2/src words=(-I"$libb2" "$archive")
     [ "$2" = header ] || words=(-I"$source" "$beside")
     mkdir -p "$work/theirs"
     cp "$source/$name-test.c" "$source/blake2-kat.h" "$work/theirs/" && cc -o "$work/$name-test" "$work/theirs/$name-test.c" "${words[@]}" && [ "$("$work/$name-test")" = ok ]
@@ -102,7 +102,7 @@ test_sources() {
     elif ! has cmake; then
         skip "librsync's own tests" "no cmake"
     else
-        check "librsync's own tests over the header" librsync_tests "$include/libb2"
+        check "librsync's own tests over the header" librsync_tests "$libb2"
         mkdir -p "$work/own" && cp "$work/fetched/libb2/src/blake2.h" "$work/own/" &&
             check "librsync's own tests over libb2's header" librsync_tests "$work/own"
     fi

@@ -2,7 +2,7 @@
  * outputs that overlap what is read, what is stricter than libb2. Prints the lines that check_lines.py
  * compares with Python's hashlib; answers 0 where all else is as it should be.
  *
- *   cc -std=c99 -Wall -Wextra -Wpedantic -Werror -I FOLDER/include/blake2_c/libb2 libb2_header.c ARCHIVE -o header
+ *   cc -std=c99 -Wall -Wextra -Wpedantic -Werror -I FOLDER/include/blake2_c-libb2 libb2_header.c ARCHIVE -o header
  *   cc the same with -DTEST_S                        the same of BLAKE2s
  *   ./header | python3 check_lines.py                status 0 where every digest is hashlib's
  */

@@ -2,8 +2,8 @@
 // where the digests of the same bytes by both headers, in one call, in pieces and among several, are those of RFC 7693,
 // appendices A and B.
 //
-//   c++ -std=c++11 -Wall -Wextra -Wpedantic -Werror -I FOLDER/include/blake2_c link.cpp ARCHIVE -o link
-#include "libb2/blake2.h"
+//   c++ -std=c++11 -Wall -Wextra -Wpedantic -Werror -I FOLDER/include link.cpp ARCHIVE -o link
+#include "blake2_c-libb2/blake2.h"
 
 #include <cstring>
 

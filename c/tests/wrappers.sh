@@ -1,10 +1,10 @@
 # Part of c/run_tests.sh: the library from Rust and Python, by the tests of the folders rust/ and python/.
 
-# Runs a script of tests over the installed library, and adds its counts: its last line is as that of
-# c/run_tests.sh, and its status 0 where none failed.
+# Runs a script of tests with these words, and adds its counts: its last line is as that of c/run_tests.sh, and its status
+# 0 where none failed.
 add_script() {
     local line status
-    "$1" "$prefix" >"$work/script" 2>"$work/log"
+    "$@" >"$work/script" 2>"$work/log"
     status=$?
     line=$(tail -n 1 "$work/script")
     sed '$d' "$work/script"
@@ -21,6 +21,6 @@ add_script() {
 }
 
 test_wrappers() {
-    add_script "$top/rust/run_tests.sh"
+    add_script "$top/rust/run_tests.sh" "$prefix"
     add_script "$top/python/run_tests.sh"
 }

@@ -1,10 +1,9 @@
 #!/usr/bin/env bash
 # Compares each build of the library with other people's, in random calls:
 #
-#   c/tests/outsiders/outsiders.sh PARTS [CASES]
+#   c/tests/outsiders/outsiders.sh [CASES]
 #
-# PARTS is a folder that `c/install.sh --parts PARTS FOLDER` has left. CASES are those of each library on each build
-# and on the installed choice (20,000). It needs these packages of Debian; a library that is absent is skipped, and a
+# CASES are those of each library on each build of dist/ and on the installed choice (20,000). It needs these packages of Debian; a library that is absent is skipped, and a
 # line says so:
 #
 #   libsodium-dev, libgcrypt20-dev, libbotan-2-dev, libssl-dev (of OpenSSL 3)
@@ -13,12 +12,11 @@
 set -u
 here=$(dirname "$(readlink -f "$0")")
 c=$(dirname "$(dirname "$here")")
-if [ $# -lt 1 ] || [ $# -gt 2 ]; then
-    echo "usage: c/tests/outsiders/outsiders.sh PARTS [CASES]" >&2
+if [ $# -gt 1 ]; then
+    echo "usage: c/tests/outsiders/outsiders.sh [CASES]" >&2
     exit 2
 fi
-parts=$(readlink -f "$1")
-cases=${2:-20000}
+cases=${1:-20000}
 work=$(mktemp -d)
 trap 'rm -rf "$work"' EXIT
 passed=0 failed=0 skipped=0
@@ -37,7 +35,7 @@ compare() {
         return
     fi
     for build in x86-64-v2 x86-64-v3 chosen; do
-        if cc -std=gnu99 -O2 -Wall -Wextra -Werror -I"$c/include" "$here/$name.c" "$work/$build.a" "$@" \
+        if cc -std=gnu99 -O2 -Wall -Wextra -Werror -I"$c/include" "$here/$name.c" "$work/$build/libblake2_c.a" "$@" \
             -o "$work/$name" >"$work/log" 2>&1 && "$work/$name" "$cases" >"$work/log"; then
             echo "passed: $name on $build, $(tail -n 1 "$work/log")"
             passed=$((passed + 1))
@@ -49,8 +47,9 @@ compare() {
     done
 }
 
-cp "$parts/x86-64-v2.a" "$parts/x86-64-v3.a" "$work/" && "$c/join.sh" "$work/joined" "$work"/x86-64-v[23].a &&
-    cp "$work/joined/libblake2_c.a" "$work/chosen.a" || exit 2
+texts=("$(dirname "$c")"/dist/x86_64/blake2_c-v[23].s)
+"$c/join.sh" "$work/x86-64-v2" "${texts[0]}" && "$c/join.sh" "$work/x86-64-v3" "${texts[1]}" &&
+    "$c/join.sh" "$work/chosen" "${texts[@]}" || exit 2
 compare libsodium sodium.h $(words_of libsodium -lsodium)
 compare libgcrypt gcrypt.h $(words_of libgcrypt -lgcrypt)
 compare botan botan/ffi.h $(words_of botan-2 "-I/usr/include/botan-2 -lbotan-2")

@@ -1,0 +1,114 @@
+/* The C of the program b2, which is linked with a text of dist/: its main, and what the standard library of Rattle takes
+ * from C beyond the C library. The toolchain says what each function must do (rattle/libc/src/heap.rt,
+ * rattle/os/src/c.rt). None of this is proved. tests/program.c tests each function.
+ *
+ * MAIN is the main of the text, as main_0_1_0_v3. */
+#include <errno.h>
+#include <stdbool.h>
+#include <stddef.h>
+#include <stdlib.h>
+#include <string.h>
+#include <sys/types.h>
+#include <unistd.h>
+
+/* ---- The start, and the arguments. */
+
+int MAIN(void);
+
+static size_t count;
+static char **arguments;
+
+int main(int argc, char **argv) {
+    count = (size_t)argc;
+    arguments = argv;
+    return MAIN();
+}
+
+/* Copies argument i to the start of these `size` bytes and returns its length. Returns -1 if there is no such
+ * argument, and -2 if it does not fit; the bytes are full then. */
+ssize_t rattle_arg(size_t i, char *bytes, size_t size) {
+    size_t length;
+
+    if (i >= count) return -1;
+    length = strlen(arguments[i]);
+    memcpy(bytes, arguments[i], length < size ? length : size);
+    return length <= size ? (ssize_t)length : -2;
+}
+
+int rattle_errno(void) { return errno; }
+
+void rattle_set_errno(int error) { errno = error; }
+
+/* ---- Memory, aligned to at most 16 bytes. A block of 0 bytes is a block too. */
+
+_Static_assert(_Alignof(max_align_t) >= 16, "malloc aligns to 16 bytes");
+
+/* Whether there is memory, and where. The place is never null. */
+struct tried {
+    bool is_there;
+    void *place;
+};
+
+static struct tried tried(void *place) {
+    static char nothing;
+    return (struct tried){place != NULL, place ? place : &nothing};
+}
+
+struct tried rattle_alloc(size_t size, size_t alignment) { return tried(malloc(size ? size : alignment)); }
+
+/* The first `kept` bytes stay as they are, as do all that fit. If there is no memory, the block stays. */
+struct tried rattle_realloc(void *place, size_t kept, size_t size, size_t alignment) {
+    (void)kept;
+    return tried(realloc(place, size ? size : alignment));
+}
+
+void rattle_dealloc(void *place) { free(place); }
+
+/* ---- What the text takes from a new glibc, for an older one (2.32 and before) and for other C libraries. HAS_LEAVES
+ * and PROCESSOR, a header with a processor that is made up, are for tests. */
+
+#ifdef __GLIBC__
+#ifndef HAS_LEAVES
+#define HAS_LEAVES __GLIBC_PREREQ(2, 33)
+#endif
+#else
+#define HAS_LEAVES 0
+ssize_t __write(int file, const void *bytes, size_t size) { return write(file, bytes, size); }
+#endif
+
+#if defined(__x86_64__) && !HAS_LEAVES
+#ifdef PROCESSOR
+#include PROCESSOR
+#else
+#include <cpuid.h>
+
+/* The low half of XCR0: the registers that the system saves. */
+static unsigned saved_registers(void) {
+    unsigned low, high;
+    __asm__ volatile("xgetbv" : "=a"(low), "=d"(high) : "c"(0));
+    return low;
+}
+#endif
+
+/* What CPUID says in the registers a to d, and what of that can be used here. */
+struct leaf {
+    unsigned told[4], active[4];
+};
+
+/* The leaves 1, 7 and 0x80000001 by the numbers 0, 1 and 2. */
+const struct leaf *__x86_get_cpuid_feature_leaf(unsigned number) {
+    enum { FMA = 1 << 12, OSXSAVE = 1 << 27, AVX = 1 << 28, F16C = 1 << 29, AVX2 = 1 << 5 };
+    static const unsigned numbers[] = {1, 7, 0x80000001u};
+    static struct leaf leaf;
+    unsigned *it = leaf.told, a, b, c, d;
+    bool saves_avx;
+
+    memset(&leaf, 0, sizeof leaf);
+    if (number > 2 || !__get_cpuid_count(numbers[number], 0, it, it + 1, it + 2, it + 3)) return &leaf;
+    memcpy(leaf.active, leaf.told, sizeof leaf.active);
+    saves_avx = __get_cpuid(1, &a, &b, &c, &d) && c & OSXSAVE && (saved_registers() & 6) == 6;
+    if (!saves_avx && number == 0) leaf.active[2] &= ~(unsigned)(FMA | AVX | F16C);
+    if (!saves_avx && number == 1) leaf.active[1] &= ~(unsigned)AVX2;
+    return &leaf;
+}
+#endif

@@ -1,0 +1,160 @@
+/* Calls each function of ../b2.c, which has the main, with malloc, realloc and free that count and can refuse:
+ *
+ *   cc -DMAIN=checks -Wl,--wrap=malloc,--wrap=realloc,--wrap=free b2.c tests/program.c -o program
+ *   program one "two words" ""
+ *
+ * It prints each check that does not hold, and its status is 7 if all hold. */
+#include <errno.h>
+#include <stdbool.h>
+#include <stdint.h>
+#include <stdio.h>
+#include <stdlib.h>
+#include <string.h>
+#include <sys/types.h>
+
+struct tried {
+    bool is_there;
+    void *place;
+};
+ssize_t rattle_arg(size_t i, char *bytes, size_t size);
+int rattle_errno(void);
+void rattle_set_errno(int error);
+struct tried rattle_alloc(size_t size, size_t alignment);
+struct tried rattle_realloc(void *place, size_t kept, size_t size, size_t alignment);
+void rattle_dealloc(void *place);
+
+static int fails;
+#define CHECK(condition)                                            \
+    do {                                                            \
+        if (!(condition)) {                                         \
+            fails++;                                                \
+            printf("program.c:%d: not %s\n", __LINE__, #condition); \
+        }                                                           \
+    } while (0)
+
+/* What the calls asked of the C library, and whether it has memory. */
+static size_t asked, freed;
+static void *last_freed;
+static bool refuses;
+void *__real_malloc(size_t size), *__real_realloc(void *place, size_t size);
+void __real_free(void *place);
+void *__wrap_malloc(size_t size) {
+    asked = size;
+    return refuses ? NULL : __real_malloc(size);
+}
+void *__wrap_realloc(void *place, size_t size) {
+    asked = size;
+    return refuses ? NULL : __real_realloc(place, size);
+}
+void __wrap_free(void *place) {
+    freed++;
+    last_freed = place;
+    __real_free(place);
+}
+
+static void check_argument(size_t i, const char *wanted) {
+    const size_t length = strlen(wanted);
+    char bytes[32];
+
+    for (size_t size = 0; size <= length + 2; size++) {
+        memset(bytes, '#', sizeof bytes);
+        CHECK(rattle_arg(i, bytes, size) == (size < length ? -2 : (ssize_t)length));
+        CHECK(!memcmp(bytes, wanted, size < length ? size : length));
+        CHECK(bytes[size < length ? size : length] == '#');
+    }
+}
+
+static void check_arguments(void) {
+    char bytes[1] = {'#'};
+
+    check_argument(1, "one");
+    check_argument(2, "two words");
+    check_argument(3, "");
+    CHECK(rattle_arg(4, bytes, 1) == -1 && rattle_arg(SIZE_MAX, bytes, 1) == -1 && bytes[0] == '#');
+}
+
+static void check_errno(void) {
+    errno = EIO;
+    CHECK(rattle_errno() == EIO);
+    rattle_set_errno(EINTR);
+    CHECK(errno == EINTR && rattle_errno() == EINTR);
+    rattle_set_errno(0);
+    CHECK(errno == 0);
+}
+
+static void check_memory(void) {
+    static const size_t sizes[] = {0, 1, 15, 16, 17, 4096, 1 << 20};
+    unsigned char *bytes;
+    struct tried block, more;
+
+    for (size_t i = 0; i < sizeof sizes / sizeof *sizes; i++) {
+        block = rattle_alloc(sizes[i], 16);
+        CHECK(block.is_there && block.place && (uintptr_t)block.place % 16 == 0);
+        CHECK(asked == (sizes[i] ? sizes[i] : 16));
+        memset(block.place, 1, asked);
+        freed = 0;
+        rattle_dealloc(block.place);
+        CHECK(freed == 1 && last_freed == block.place);
+    }
+    block = rattle_alloc(5, 1);
+    memcpy(block.place, "hello", 5);
+    more = rattle_realloc(block.place, 5, 1 << 20, 1);
+    CHECK(more.is_there && more.place && asked == 1 << 20 && !memcmp(more.place, "hello", 5));
+    bytes = more.place;
+    bytes[(1 << 20) - 1] = 1;
+    more = rattle_realloc(more.place, 3, 3, 1);
+    CHECK(more.is_there && asked == 3 && !memcmp(more.place, "hel", 3));
+    more = rattle_realloc(more.place, 0, 0, 8);
+    CHECK(more.is_there && more.place && asked == 8);
+    more = rattle_realloc(more.place, 0, 4, 8);
+    memcpy(more.place, "kept", 4);
+    refuses = true;
+    block = rattle_realloc(more.place, 4, 1 << 20, 1);
+    CHECK(!block.is_there && block.place && !memcmp(more.place, "kept", 4));
+    block = rattle_alloc(4, 1);
+    CHECK(!block.is_there && block.place);
+    refuses = false;
+    rattle_dealloc(more.place);
+    CHECK(last_freed == more.place);
+}
+
+#ifdef PROCESSOR
+/* The leaves of a processor that is made up. */
+struct leaf {
+    unsigned told[4], active[4];
+};
+const struct leaf *__x86_get_cpuid_feature_leaf(unsigned number);
+void make_up(unsigned first, unsigned seventh, unsigned extended, unsigned saved);
+
+static bool is_leaf(unsigned number, unsigned at, unsigned told, unsigned active) {
+    const struct leaf *leaf = __x86_get_cpuid_feature_leaf(number);
+    return leaf->told[at] == told && leaf->active[at] == active;
+}
+
+static void check_leaves(void) {
+    const unsigned all = ~0u, first = 1u << 12 | 1u << 28 | 1u << 29, avx2 = 1u << 5, no_xsave = ~(1u << 27);
+
+    for (unsigned saved = 0; saved < 16; saved++) {
+        const bool saves = saved == 6 || saved == 7 || saved >= 14;
+        make_up(all, all, 0x21, saved);
+        CHECK(is_leaf(0, 2, all, saves ? all : ~first));
+        CHECK(is_leaf(1, 1, all, saves ? all : ~avx2));
+        CHECK(is_leaf(2, 2, 0x21, 0x21));
+        make_up(no_xsave, all, 0x21, saved);
+        CHECK(is_leaf(0, 2, no_xsave, no_xsave & ~first));
+        CHECK(is_leaf(1, 1, all, ~avx2));
+    }
+    make_up(all, all, all, 6);
+    for (unsigned at = 0; at < 4; at++) CHECK(is_leaf(3, at, 0, 0) && is_leaf(~0u, at, 0, 0));
+}
+#else
+static void check_leaves(void) {}
+#endif
+
+int checks(void) {
+    check_arguments();
+    check_errno();
+    check_memory();
+    check_leaves();
+    return fails ? 1 : 7;
+}

@@ -1,0 +1,280 @@
+/* Whether a branch or an address depends on a secret, by memcheck of valgrind: keys and messages are marked as undefined,
+ * and memcheck reports each branch on what is computed from them, and each such address. Lengths, salts and personas are
+ * public, and so is the result of a comparison: verify and is_same may have one report a call, that of their result. A
+ * call writes what memcheck knows for a secret, which is then marked as defined and compared with the expected digest.
+ *
+ *   secrets FILE      every call that takes a key or a message, over the lines that cases.py writes
+ *   secrets branch    a branch on a byte of a key, and
+ *   secrets address   an address from a byte of a key: each has to be reported
+ *
+ * It has to run under valgrind with --error-limit=no, and returns 0 if all is as expected. TEST_S is defined for
+ * BLAKE2s. */
+#include <blake2_c.h>
+#include <stdio.h>
+#include <stdlib.h>
+#include <valgrind/memcheck.h>
+
+#ifdef TEST_S
+#define BLAKE(name) vulfsjor_blake2s_##name
+#define ONE_CALL vulfsjor_blake2s
+enum { MAX = 32, BLOCK = 64 };
+#else
+#define BLAKE(name) vulfsjor_blake2b_##name
+#define ONE_CALL vulfsjor_blake2b
+enum { MAX = 64, BLOCK = 128 };
+#endif
+
+typedef BLAKE(state) state_t;
+
+typedef struct text {
+    uint8_t bytes[4096];
+    size_t length;
+} text;
+
+/* A hash of a case, as the calls take it. */
+static text key, salt, persona, message, wanted;
+static uint8_t out[16 * 64];
+static unsigned long calls;
+
+static void require(int holds, const char *what) {
+    calls++;
+    if (holds) return;
+    printf("%s, a message of %zu bytes under a key of %zu\n", what, message.length, key.length);
+    exit(1);
+}
+
+static void read_text(text *read, const char *digits) {
+    read->length = digits[0] == '-' ? 0 : strlen(digits) / 2;
+    if (read->length > sizeof read->bytes) abort();
+    for (size_t i = 0; i < read->length; i++) {
+        unsigned byte;
+        sscanf(digits + 2 * i, "%2x", &byte);
+        read->bytes[i] = (uint8_t)byte;
+    }
+}
+
+static void hide(text *secret) { (void)VALGRIND_MAKE_MEM_UNDEFINED(secret->bytes, secret->length); }
+
+/* Whether the output is the expected digest, and memcheck knows it for a secret, as any of a key or a message is. */
+static int is_wanted(const uint8_t *given) {
+    uint8_t bits = 0;
+    if (VALGRIND_GET_VBITS(given, &bits, 1) != 1 || !bits != !(key.length + message.length)) return 0;
+    (void)VALGRIND_MAKE_MEM_DEFINED(given, wanted.length);
+    return !memcmp(given, wanted.bytes, wanted.length);
+}
+
+/* The length of the piece after `from` bytes: a few bytes, around a block, or all. */
+static size_t next_piece(size_t from, unsigned cut) {
+    static const size_t lengths[] = {1, 7, BLOCK - 1, BLOCK, BLOCK + 1, 3 * BLOCK + 5, 4096};
+    size_t left = message.length - from, piece = lengths[cut % (sizeof lengths / sizeof *lengths)];
+    return piece < left ? piece : left;
+}
+
+static void absorb(state_t *state, unsigned cut) {
+    for (size_t from = 0, piece; from < message.length; from += piece, cut += 3) {
+        piece = next_piece(from, cut);
+        require(!BLAKE(update)(state, message.bytes + from, piece), "update is refused");
+    }
+}
+
+/* Reports that are those of a comparison's result. */
+static unsigned long allowed;
+
+/* Checks the result of a comparison, before which there were so many reports. */
+static void compared(unsigned long before, int result, int is_right) {
+    unsigned long reports = VALGRIND_COUNT_ERRORS - before;
+    require(reports <= 1, "more than one report in a comparison");
+    allowed += reports;
+    (void)VALGRIND_MAKE_MEM_DEFINED(&result, sizeof result);
+    require(result == (is_right ? 0 : -1), "another result of a comparison");
+}
+
+/* Compares with the right digest, or with one that is wrong in its first or its last byte. */
+static void verify(state_t *state, int wrong) {
+    state_t copy = *state;
+    text tag = wanted;
+    unsigned long before;
+    if (wrong) tag.bytes[wrong == 1 ? 0 : tag.length - 1] ^= 1;
+    before = VALGRIND_COUNT_ERRORS;
+    compared(before, BLAKE(verify)(&copy, tag.bytes, tag.length), !wrong);
+    require(!BLAKE(final)(state, out, wanted.length), "final is refused");
+    before = VALGRIND_COUNT_ERRORS;
+    compared(before, vulfsjor_is_same(out, tag.bytes, tag.length), !wrong);
+}
+
+static void in_pieces(const state_t *made, unsigned cut) {
+    state_t state = *made, copy;
+    absorb(&state, cut);
+    copy = state;
+    require(!BLAKE(reset)(&copy), "reset is refused");
+    absorb(&copy, cut + 1);
+    require(!BLAKE(final)(&copy, out, wanted.length) && is_wanted(out), "another digest behind a reset");
+    copy = state;
+    BLAKE(wipe)(&copy);
+    require(!BLAKE(final)(&state, out, wanted.length) && is_wanted(out), "another digest in pieces");
+}
+
+/* All that is done with a state that has absorbed nothing. */
+static void of_state(const state_t *made) {
+    for (unsigned cut = 0; cut < 7; cut++) in_pieces(made, cut);
+    for (int wrong = 0; wrong < 3; wrong++) {
+        state_t state = *made;
+        absorb(&state, 6);
+        verify(&state, wrong);
+    }
+}
+
+static void one_call(void) {
+    require(!ONE_CALL(out, wanted.length, message.bytes, message.length, key.bytes, key.length) && is_wanted(out),
+            "another digest in one call");
+}
+
+/* One to nine messages: some are hashed in parallel, and some one by one. */
+static void many(void) {
+    vulfsjor_message messages[9];
+    for (size_t i = 0; i < 9; i++) {
+        messages[i].bytes = message.bytes;
+        messages[i].length = message.length;
+    }
+    for (size_t count = 1; count <= 9; count += 2) {
+        require(!BLAKE(many)(out, wanted.length, messages, count, key.bytes, key.length, salt.bytes, salt.length,
+                             persona.bytes, persona.length),
+                "many is refused");
+        for (size_t i = 0; i < count; i++) require(is_wanted(out + i * wanted.length), "another digest of many");
+    }
+}
+
+static void hash_case(void) {
+    state_t made;
+    hide(&key);
+    hide(&message);
+    require(!BLAKE(init_salt_personal)(&made, wanted.length, key.bytes, key.length, salt.bytes, salt.length,
+                                       persona.bytes, persona.length),
+            "init_salt_personal is refused");
+    of_state(&made);
+    many();
+    if (salt.length + persona.length) return;
+    one_call();
+    require(!BLAKE(init)(&made, wanted.length), "init is refused");
+    if (key.length) require(!BLAKE(init_key)(&made, wanted.length, key.bytes, key.length), "init_key is refused");
+    of_state(&made);
+}
+
+static void node_case(const char *numbers) {
+    unsigned fanout, depth, node_depth, inner_length, last_node;
+    unsigned long leaf_length;
+    unsigned long long node_offset;
+    vulfsjor_tree tree;
+    state_t made;
+    if (sscanf(numbers, "%u,%u,%lu,%llu,%u,%u,%u", &fanout, &depth, &leaf_length, &node_offset, &node_depth,
+               &inner_length, &last_node) != 7)
+        abort();
+    tree.fanout = (uint8_t)fanout;
+    tree.depth = (uint8_t)depth;
+    tree.leaf_length = (uint32_t)leaf_length;
+    tree.node_offset = node_offset;
+    tree.node_depth = (uint8_t)node_depth;
+    tree.inner_length = (uint8_t)inner_length;
+    hide(&key);
+    hide(&message);
+    require(!BLAKE(init_tree)(&made, wanted.length, key.bytes, key.length, salt.bytes, salt.length, persona.bytes,
+                              persona.length, &tree),
+            "init_tree is refused");
+    require(!BLAKE(set_last_node)(&made, (int)last_node), "set_last_node is refused");
+    of_state(&made);
+}
+
+static void block_case(const char *digits) {
+    static text block;
+    BLAKE(param) given;
+    state_t made;
+    read_text(&block, digits);
+    memcpy(&given, block.bytes, sizeof given);
+    key.length = 0;
+    hide(&message);
+    require(!BLAKE(init_param)(&made, &given), "init_param is refused");
+    of_state(&made);
+}
+
+#ifndef TEST_S
+/* A root in one call, in pieces, and in parts: the digests of leaves are secrets too. */
+static void root_case(uint32_t leaf) {
+    static uint8_t digests[4096 * 64];
+    vulfsjor_tree_state state;
+    size_t leaves = (size_t)vulfsjor_tree_leaf_count(message.length, leaf);
+    key.length = 0;
+    hide(&message);
+    require(!vulfsjor_tree_root(out, wanted.length, message.bytes, message.length, salt.bytes, salt.length, persona.bytes,
+                                persona.length, leaf) && is_wanted(out), "another root in one call");
+    for (unsigned cut = 0; cut < 7; cut++) {
+        vulfsjor_tree_init(&state, wanted.length, salt.bytes, salt.length, persona.bytes, persona.length, leaf);
+        for (size_t from = 0, piece; from < message.length; from += piece) {
+            piece = next_piece(from, cut);
+            require(!vulfsjor_tree_update(&state, message.bytes + from, piece), "tree_update is refused");
+        }
+        require(!vulfsjor_tree_final(&state, out, wanted.length) && is_wanted(out), "another root in pieces");
+    }
+    require(!vulfsjor_tree_leaves(digests, 64 * leaves, 0, 1, message.bytes, message.length, salt.bytes, salt.length,
+                                  persona.bytes, persona.length, leaf), "tree_leaves is refused");
+    require(!vulfsjor_tree_root_of_leaves(out, wanted.length, digests, 64 * leaves, salt.bytes, salt.length,
+                                          persona.bytes, persona.length, leaf) && is_wanted(out),
+            "another root of the leaves");
+}
+#endif
+
+static char field[8][9000];
+
+/* One case, of `count` fields behind its letter; one of a longer message is left out. */
+static void one_case(char kind) {
+    int first = kind == 't' ? 1 : kind == 'r' ? 4 : kind == 'n' ? 5 : 4;
+    wanted.length = 0;
+    if (strlen(field[first]) > 2 * sizeof message.bytes) return;
+    read_text(&message, field[first]);
+    read_text(&wanted, field[first + 1]);
+    if (kind == 'h' || kind == 'n') {
+        read_text(&key, field[1]);
+        read_text(&salt, field[2]);
+        read_text(&persona, field[3]);
+    }
+    if (kind == 'h') hash_case();
+    if (kind == 'n') node_case(field[4]);
+    if (kind == 't') block_case(field[0]);
+#ifndef TEST_S
+    if (kind == 'r') {
+        read_text(&salt, field[1]);
+        read_text(&persona, field[2]);
+        root_case((uint32_t)strtoul(field[3], NULL, 10));
+    }
+#endif
+}
+
+/* Returns 0 if memcheck reports the branch or the address. */
+static int planted(int is_branch) {
+    volatile unsigned found = 0;
+    static const uint8_t table[256] = {1};
+    memset(key.bytes, 3, 1);
+    key.length = 1;
+    hide(&key);
+    if (!is_branch) found += ((volatile const uint8_t *)table)[key.bytes[0]];
+    else if (((volatile uint8_t *)key.bytes)[0] > 3) found = (unsigned)puts("never");
+    return VALGRIND_COUNT_ERRORS ? 0 : 1;
+}
+
+int main(int count, char **words) {
+    char kind[3];
+    FILE *file;
+    if (count != 2 || !RUNNING_ON_VALGRIND) return 2;
+    if (!strcmp(words[1], "branch") || !strcmp(words[1], "address")) return planted(words[1][0] == 'b');
+    file = fopen(words[1], "r");
+    if (!file) return 2;
+    while (fscanf(file, "%2s", kind) == 1) {
+        int fields = kind[0] == 't' ? 3 : kind[0] == 'n' ? 7 : 6;
+        for (int i = 0; i < fields; i++)
+            if (fscanf(file, "%8999s", field[i]) != 1) return 2;
+        one_case(kind[0]);
+    }
+    fclose(file);
+    printf("%lu calls, %lu reports, %lu of them of the result of a comparison\n", calls,
+           (unsigned long)VALGRIND_COUNT_ERRORS, allowed);
+    return calls == 0 || VALGRIND_COUNT_ERRORS != allowed;
+}

@@ -1,0 +1,482 @@
+/* The functions of blake2_threads.h over a system that fails: memory that is refused, threads that
+ * do not start, reads that are short, interrupted, or fail, files that grow or shrink meanwhile, and
+ * a library that refuses. After each failure the answer, errno and the output are compared, and
+ * nothing is left: no memory, no thread, no descriptor. Returns 0 if all is as it should be.
+ *
+ *   cc -std=gnu99 -DLEAST_BYTES=1 -I FOLDER/include thread_faults.c threads.c ARCHIVE -pthread
+ *       $(sed -n 's/^WRAP([^,]*, \([a-z0-9_]*\),.*$/-Wl,--wrap=\1/p' thread_faults.c) -o thread_faults
+ *   ./thread_faults FOLDER       makes its file in this folder
+ *   cc the same without -DLEAST_BYTES=1       tests only what depends on that length */
+#define _GNU_SOURCE
+#include "blake2_threads.h"
+
+#include <dirent.h>
+#include <errno.h>
+#include <fcntl.h>
+#include <limits.h>
+#include <pthread.h>
+#include <sched.h>
+#include <stdio.h>
+#include <stdlib.h>
+#include <unistd.h>
+
+enum { BYTES = 40 << 20, FEW = 100000 };
+
+/* Whether threads.c starts a thread for each byte. */
+#ifdef LEAST_BYTES
+#define EACH_BYTE 1
+#else
+#define EACH_BYTE 0
+#endif
+
+static int fails;
+#define CHECK(condition)                                                                     \
+    do {                                                                                     \
+        if (!(condition)) {                                                                  \
+            fails++;                                                                         \
+            fprintf(stderr, "thread_faults.c:%d: not %s (%s %d)\n", __LINE__, #condition, fault.call, \
+                    fault.at);                                                               \
+        }                                                                                    \
+    } while (0)
+
+/* ---- the calls of threads.c that can fail */
+
+/* Which call fails: the one of this name that is counted `at`, once, with this errno. */
+static struct {
+    const char *call;
+    int at, error, counted;
+} fault = {"", 0, 0, 0};
+
+static int allocated, running, started; /* blocks and threads that are left; threads in all */
+
+static void add(int *counter, int n) { __atomic_fetch_add(counter, n, __ATOMIC_SEQ_CST); }
+static int value(int *counter) { return __atomic_load_n(counter, __ATOMIC_SEQ_CST); }
+
+/* Whether this call is the one that fails. */
+static int fails_now(const char *call) {
+    if (strcmp(call, fault.call) || __atomic_add_fetch(&fault.counted, 1, __ATOMIC_SEQ_CST) != fault.at)
+        return 0;
+    errno = fault.error;
+    return 1;
+}
+
+/* What a read does instead of what is asked: at most so many bytes, an interruption before each, a
+ * pause after the first, another end of the file at this call. */
+static struct {
+    size_t most;
+    int interrupted, pause, resized_at;
+    off_t size;
+    int file, calls;
+    int inherited; /* whether a program that is started meanwhile would have a file that was read */
+} reads;
+
+/* Whether this read is interrupted. */
+static int is_interrupted(int file) {
+    int call = __atomic_add_fetch(&reads.calls, 1, __ATOMIC_SEQ_CST);
+
+    if (!(fcntl(file, F_GETFD) & FD_CLOEXEC)) reads.inherited = 1;
+    if (reads.pause && call > 1) usleep(10000);
+    if (call == reads.resized_at && ftruncate(reads.file, reads.size)) abort();
+    if (!reads.interrupted || call % 2 == 0) return 0;
+    errno = EINTR;
+    return 1;
+}
+
+static size_t shortened(size_t n) { return reads.most && n > reads.most ? reads.most : n; }
+
+/* The call of this name in threads.c; it fails with this answer. */
+#define WRAP(type, name, failed, parameters, arguments)  \
+    type __real_##name parameters;                       \
+    type __wrap_##name parameters;                       \
+    type __wrap_##name parameters { return fails_now(#name) ? failed : __real_##name arguments; }
+
+WRAP(int32_t, blake2_c_tree_leaves, -1,
+     (uint8_t *o, size_t on, uint64_t f, uint32_t e, const uint8_t *i, size_t n, const uint8_t *s, size_t sn,
+      const uint8_t *p, size_t pn, uint32_t l), (o, on, f, e, i, n, s, sn, p, pn, l))
+WRAP(int32_t, blake2_c_tree_root_of_leaves, -1,
+     (uint8_t *o, size_t on, const uint8_t *d, size_t n, const uint8_t *s, size_t sn, const uint8_t *p, size_t pn,
+      uint32_t l), (o, on, d, n, s, sn, p, pn, l))
+WRAP(int32_t, blake2_c_tree_root, -1,
+     (uint8_t *o, size_t on, const uint8_t *i, size_t n, const uint8_t *s, size_t sn, const uint8_t *p, size_t pn,
+      uint32_t l), (o, on, i, n, s, sn, p, pn, l))
+WRAP(int32_t, blake2_c_tree_update, -1, (vulfsjor_tree_state *s, const uint8_t *i, size_t n), (s, i, n))
+WRAP(int32_t, blake2_c_tree_next_leaves, -1,
+     (const vulfsjor_tree_state *s, uint8_t *o, size_t on, uint64_t k, const uint8_t *i, size_t n),
+     (s, o, on, k, i, n))
+WRAP(int32_t, blake2_c_tree_update_leaves, -1,
+     (vulfsjor_tree_state *s, const uint8_t *d, size_t dn, const uint8_t *i, size_t n), (s, d, dn, i, n))
+WRAP(int32_t, blake2_c_tree_final, -1, (vulfsjor_tree_state *s, uint8_t *o, size_t n), (s, o, n))
+WRAP(int32_t, blake2_c_blake2b_init_node, -1,
+     (vulfsjor_blake2b_state *t, size_t o, const uint8_t *k, size_t kn, const uint8_t *s, size_t sn, const uint8_t *p,
+      size_t pn, uint8_t f, uint8_t d, uint32_t l, uint64_t n, uint8_t nd, uint8_t i),
+     (t, o, k, kn, s, sn, p, pn, f, d, l, n, nd, i))
+WRAP(int32_t, blake2_c_blake2b_update, -1, (vulfsjor_blake2b_state *s, const uint8_t *i, size_t n), (s, i, n))
+WRAP(int32_t, blake2_c_blake2b_final, -1, (vulfsjor_blake2b_state *s, uint8_t *o, size_t n), (s, o, n))
+
+/* Those below do more than WRAP, whose line names them for the linker. */
+#undef WRAP
+#define WRAP(type, name, parameters) \
+    type __real_##name parameters;   \
+    type __wrap_##name parameters;   \
+    type __wrap_##name parameters
+
+WRAP(void *, malloc, (size_t n)) {
+    void *block = fails_now("malloc") ? NULL : __real_malloc(n);
+
+    if (block) add(&allocated, 1);
+    return block;
+}
+
+WRAP(void, free, (void *block)) {
+    if (block) add(&allocated, -1);
+    __real_free(block);
+}
+
+WRAP(int, pthread_create, (pthread_t *t, const pthread_attr_t *a, void *(*f)(void *), void *x)) {
+    int error = fails_now("pthread_create") ? fault.error : __real_pthread_create(t, a, f, x);
+
+    if (!error) add(&running, 1), add(&started, 1);
+    return error;
+}
+
+WRAP(int, pthread_join, (pthread_t t, void **x)) {
+    add(&running, -1);
+    return __real_pthread_join(t, x);
+}
+
+/* The processors that sysconf reports where sched_getaffinity fails; INT_MIN: it does not fail. */
+static int processors = INT_MIN;
+
+WRAP(int, sched_getaffinity, (pid_t p, size_t n, cpu_set_t *set)) {
+    return processors != INT_MIN ? -1 : __real_sched_getaffinity(p, n, set);
+}
+
+WRAP(long, sysconf, (int name)) {
+    return name == _SC_NPROCESSORS_ONLN && processors != INT_MIN ? processors : __real_sysconf(name);
+}
+
+WRAP(ssize_t, pread, (int f, void *to, size_t n, off_t from)) {
+    return is_interrupted(f) || fails_now("pread") ? -1 : __real_pread(f, to, shortened(n), from);
+}
+
+WRAP(ssize_t, read, (int f, void *to, size_t n)) {
+    return is_interrupted(f) || fails_now("read") ? -1 : __real_read(f, to, shortened(n));
+}
+
+/* ---- what is called over them */
+
+static unsigned char *message, root[64], wanted[64], blank[64];
+static char path[PATH_MAX];
+static size_t length;
+static uint32_t leaf;
+static unsigned asked;
+
+static void wish(const char *call, int at, int error) {
+    fault.call = call;
+    fault.at = at;
+    fault.error = error;
+    fault.counted = 0;
+    reads.calls = 0;
+    started = 0;
+}
+
+static int is_hit(void) { return fault.counted >= fault.at; }
+
+static void write_file(size_t n) {
+    int file = open(path, O_WRONLY | O_CREAT | O_TRUNC, 0600);
+
+    if (file < 0 || write(file, message, n) != (ssize_t)n || close(file)) exit(3);
+}
+
+/* Takes the file of this length, and the root that it has. */
+static void take(size_t n, uint32_t leaf_length, unsigned threads) {
+    wish("", 0, 0);
+    length = n;
+    leaf = leaf_length;
+    asked = threads;
+    write_file(n);
+    CHECK(!vulfsjor_tree_root(wanted, 64, message, n, 0, 0, 0, 0, leaf));
+}
+
+static int root_of_file(void) { return vulfsjor_tree_root_file(root, 64, path, 0, 0, 0, 0, leaf, asked); }
+
+static int root_of_bytes(void) {
+    return vulfsjor_tree_root_threads(root, 64, message, length, 0, 0, 0, 0, leaf, asked);
+}
+
+/* Absorbs the message after its first 1,000 bytes into a state that a failure leaves as it was. */
+static int root_of_updates(void) {
+    vulfsjor_tree_state state, before;
+    int status, error;
+
+    if (vulfsjor_tree_init(&state, 64, 0, 0, 0, 0, leaf) ||
+        __real_blake2_c_tree_update(&state, message, 1000))
+        exit(3);
+    before = state;
+    status = vulfsjor_tree_update_threads(&state, message + 1000, length - 1000, asked);
+    error = errno;
+    CHECK(!status || !memcmp(&state, &before, sizeof state));
+    if (!status && __real_blake2_c_tree_final(&state, root, 64)) exit(3);
+    errno = error;
+    return status;
+}
+
+/* The file through a pipe that holds all of it. */
+static int root_of_pipe(void) {
+    int ends[2], status, error;
+
+    if (pipe(ends) || fcntl(ends[1], F_SETPIPE_SZ, 1 << 20) < 0 || write(ends[1], message, length) != (ssize_t)length)
+        exit(3);
+    close(ends[1]);
+    status = vulfsjor_tree_root_fd(root, 64, ends[0], 0, 0, 0, 0, leaf, asked);
+    error = errno;
+    close(ends[0]);
+    errno = error;
+    return status;
+}
+
+/* How many descriptors are open. */
+static int descriptors(void) {
+    DIR *all = opendir("/proc/self/fd");
+    int count = 0;
+
+    while (all && readdir(all)) count++;
+    if (all) closedir(all);
+    return count;
+}
+
+/* Makes the call, which has to answer this and leave nothing behind. */
+static void expect(int (*call)(void), int error) {
+    int open = descriptors(), status;
+
+    memcpy(root, blank, 64);
+    errno = reads.inherited = 0;
+    status = call();
+    CHECK(call != root_of_file || !reads.inherited);
+    CHECK(status == (error ? -1 : 0) && (!error || errno == error));
+    CHECK(!memcmp(root, error ? blank : wanted, 64));
+    CHECK(!value(&allocated) && !value(&running) && descriptors() == open);
+}
+
+/* Fails the first call of this name, then the second, until there is none: so many times at least. */
+static void each_fails(int (*call)(void), const char *name, int given, int error, int least) {
+    int at = 0, hit = 1;
+
+    while (hit) {
+        int open = descriptors(), status;
+        wish(name, ++at, given);
+        memcpy(root, blank, 64);
+        errno = 0;
+        status = call();
+        hit = is_hit();
+        CHECK(status == (hit && error ? -1 : 0) && (!status || errno == error));
+        CHECK(!memcmp(root, status ? blank : wanted, 64));
+        CHECK(!value(&allocated) && !value(&running) && descriptors() == open);
+    }
+    CHECK(at > least);
+    wish("", 0, 0);
+}
+
+/* ---- the tests */
+
+/* The file has another length from this read on. */
+static void resize(int at, size_t size, int error) {
+    write_file(length);
+    wish("", 0, 0);
+    reads.resized_at = at;
+    reads.size = (off_t)size;
+    reads.file = open(path, O_RDWR);
+    expect(root_of_file, error);
+    close(reads.file);
+    memset(&reads, 0, sizeof reads);
+}
+
+static void memory_is_refused(void) {
+    take(FEW, 4096, 4);
+    each_fails(root_of_bytes, "malloc", 0, ENOMEM, 1);
+    each_fails(root_of_updates, "malloc", 0, ENOMEM, 1);
+    each_fails(root_of_file, "malloc", 0, ENOMEM, 2); /* the digests, and a buffer or more */
+    each_fails(root_of_pipe, "malloc", 0, ENOMEM, 1);
+    asked = 1;
+    wish("malloc", 1, 0);
+    expect(root_of_bytes, 0); /* one thread needs none */
+    expect(root_of_updates, 0);
+    CHECK(!is_hit());
+    asked = 0;
+}
+
+/* Those that run hash everything. */
+static void threads_do_not_start(void) {
+    take(FEW, 100, 8);
+    each_fails(root_of_bytes, "pthread_create", EAGAIN, 0, 7);
+    each_fails(root_of_file, "pthread_create", EPERM, 0, 7);
+    each_fails(root_of_updates, "pthread_create", EAGAIN, 0, 7);
+    wish("pthread_create", 1, EAGAIN);
+    expect(root_of_bytes, 0);
+    CHECK(started == 0); /* after one that failed no other is tried */
+    wish("pthread_create", 4, EAGAIN);
+    expect(root_of_file, 0);
+    CHECK(started == 3);
+}
+
+static void library_refuses(void) {
+    take(FEW, 4096, 4);
+    each_fails(root_of_bytes, "blake2_c_tree_leaves", 0, EINVAL, 4);
+    each_fails(root_of_bytes, "blake2_c_tree_root_of_leaves", 0, EINVAL, 1);
+    each_fails(root_of_file, "blake2_c_tree_leaves", 0, EINVAL, 4);
+    each_fails(root_of_file, "blake2_c_tree_root_of_leaves", 0, EINVAL, 1);
+    each_fails(root_of_updates, "blake2_c_tree_next_leaves", 0, EINVAL, 4);
+    each_fails(root_of_updates, "blake2_c_tree_update_leaves", 0, EINVAL, 1);
+    each_fails(root_of_updates, "blake2_c_tree_update", 0, EINVAL, 1);
+    each_fails(root_of_pipe, "blake2_c_tree_update", 0, EFBIG, 1);
+    each_fails(root_of_pipe, "blake2_c_tree_final", 0, EINVAL, 1);
+    asked = 1;
+    each_fails(root_of_bytes, "blake2_c_tree_root", 0, EINVAL, 1);
+    each_fails(root_of_updates, "blake2_c_tree_update", 0, EINVAL, 1);
+    take(BYTES, 17 << 20, 2);
+    each_fails(root_of_file, "blake2_c_blake2b_init_node", 0, EINVAL, 2);
+    each_fails(root_of_file, "blake2_c_blake2b_final", 0, EINVAL, 2);
+    wish("blake2_c_blake2b_update", 20, 0);
+    expect(root_of_file, EINVAL);
+}
+
+static void reads_fail(void) {
+    take(FEW, 4096, 4);
+    each_fails(root_of_file, "pread", ESTALE, ESTALE, 4);
+    each_fails(root_of_pipe, "read", ECONNRESET, ECONNRESET, 2);
+    take(BYTES, 17 << 20, 2);
+    wish("pread", 1, EIO);
+    expect(root_of_file, EIO);
+    wish("pread", 30, ENXIO);
+    expect(root_of_file, ENXIO);
+    /* The first error stays, and the other threads see it and stop. */
+    take(BYTES, 65536, 4);
+    reads.pause = 1;
+    wish("pread", 1, ENXIO);
+    expect(root_of_file, ENXIO);
+    CHECK(reads.calls < 20);
+    wish("pread", 1, ENXIO);
+    reads.resized_at = 1;
+    reads.file = open(path, O_RDWR);
+    reads.size = 0;
+    expect(root_of_file, ENXIO); /* where the others have EIO */
+    close(reads.file);
+    memset(&reads, 0, sizeof reads);
+}
+
+static void reads_are_short(void) {
+    take(FEW, 777, 4);
+    for (reads.interrupted = 0; reads.interrupted < 2; reads.interrupted++)
+        for (reads.most = 1; reads.most < 1 << 17; reads.most = reads.most * 5 + 3) {
+            wish("", 0, 0);
+            expect(root_of_file, 0);
+            expect(root_of_pipe, 0);
+        }
+    take(20 << 20, 17 << 20, 2);
+    reads.interrupted = 1;
+    reads.most = 300001;
+    expect(root_of_file, 0);
+    memset(&reads, 0, sizeof reads);
+}
+
+/* What a file becomes meanwhile: with more bytes the root is that of those it had, with fewer none. */
+static void files_change(void) {
+    for (asked = 1; asked <= 4; asked += 3) {
+        take(FEW, 4096, asked);
+        resize(1, 2 * FEW, 0);
+        resize(1, FEW - 1, EIO);
+        resize(1, 0, EIO);
+        take(34 << 20, 17 << 20, asked);
+        resize(3, 70 << 20, 0);
+        resize(3, (34 << 20) - 1, EIO);
+    }
+}
+
+/* ---- how many threads hash */
+
+static void expect_threads(int others) {
+    int (*const calls[])(void) = {root_of_bytes, root_of_file, root_of_updates};
+
+    for (size_t i = 0; i < sizeof calls / sizeof *calls; i++) {
+        started = 0;
+        expect(calls[i], 0);
+        CHECK(started == others);
+    }
+}
+
+static void numbers_of_threads(void) {
+    cpu_set_t all, few;
+
+    take(FEW, 1, 300);
+    expect_threads(255);
+    take(FEW, 100, 5);
+    expect_threads(4);
+    take(FEW, FEW / 2, 5); /* two leaves */
+    expect(root_of_bytes, 0);
+    CHECK(started == 1);
+    take(FEW, 100, 1);
+    expect_threads(0);
+    take(FEW, 100, 0);
+    CHECK(!sched_getaffinity(0, sizeof all, &all));
+    expect_threads(CPU_COUNT(&all) - 1);
+    CPU_ZERO(&few);
+    CPU_SET(sched_getcpu(), &few);
+    CHECK(!sched_setaffinity(0, sizeof few, &few));
+    expect_threads(0);
+    CHECK(!sched_setaffinity(0, sizeof all, &all));
+}
+
+/* Where the set of processors has no room for all of them. */
+static void more_processors_than_the_set_has(void) {
+    static const int answers[][2] = {{3, 2}, {1, 0}, {0, 0}, {-1, 0}};
+
+    take(FEW, 100, 0);
+    for (size_t i = 0; i < sizeof answers / sizeof *answers; i++) {
+        processors = answers[i][0];
+        expect_threads(answers[i][1]);
+    }
+    processors = INT_MIN;
+}
+
+/* One thread at most for each 256 KiB, and a shorter file is read to its end, wherever that is. */
+static void least_bytes(void) {
+    static const struct {
+        size_t length;
+        int others;
+    } rows[] = {{(1 << 18) - 1, 0}, {1 << 18, 0}, {(1 << 19) - 1, 0}, {1 << 19, 1}, {(1 << 20) - 1, 2}, {1 << 20, 3}};
+
+    for (size_t i = 0; i < sizeof rows / sizeof *rows; i++) {
+        take(rows[i].length, 1000, 8);
+        expect(root_of_bytes, 0);
+        CHECK(started == rows[i].others);
+        started = 0;
+        expect(root_of_file, 0);
+        CHECK(started == rows[i].others);
+    }
+    take((1 << 18) - 1, 1000, 8);
+    each_fails(root_of_file, "read", ENXIO, ENXIO, 1);
+    CHECK(!vulfsjor_tree_root(wanted, 64, message, 1 << 17, 0, 0, 0, 0, leaf));
+    resize(1, 1 << 17, 0);
+}
+
+int main(int count, char **words) {
+    if (count < 2 || !(message = __real_malloc(BYTES))) return 2;
+    snprintf(path, sizeof path, "%s/message", words[1]);
+    memset(blank, 0xaa, sizeof blank);
+    for (size_t i = 0; i < BYTES; i++) message[i] = (unsigned char)(i * i >> 9 ^ i);
+    if (EACH_BYTE) {
+        memory_is_refused();
+        threads_do_not_start();
+        library_refuses();
+        reads_fail();
+        reads_are_short();
+        files_change();
+        numbers_of_threads();
+        more_processors_than_the_set_has();
+    } else {
+        least_bytes();
+    }
+    unlink(path);
+    __real_free(message);
+    return fails ? 1 : 0;
+}

@@ -1,0 +1,182 @@
+# Part of c/run_tests.sh: a tree in parts, by threads, and the programs of c/examples that hash trees.
+
+# The words of the linker by which the calls that thread_faults.c replaces go to it.
+replaced_calls() { sed -n 's/^WRAP([^,]*, \([a-z0-9_]*\),.*$/-Wl,--wrap=\1/p' "$tests/thread_faults.c"; }
+
+# Compiles a program from these files and words.
+compile_threads() {
+    local program=$1
+    shift
+    cc -std=gnu99 -g "${warnings[@]}" -U_FORTIFY_SOURCE -I"$include" -o "$program" "$@" "$archive" -pthread
+}
+
+# The edges of a tree in parts, whose digests hashlib has too.
+parts_with() {
+    cc -std=c99 -g "${warnings[@]}" -I"$include" "$@" -o "$work/parts" "$tests/parts.c" "$archive" &&
+        "$work/parts" >"$work/lines" && python3 "$tests/check_lines.py" <"$work/lines"
+}
+
+# threads.c with these words, over the installed archive.
+threads_installed() {
+    compile_threads "$work/threads" -O2 "$tests/threads.c" "$prefix/lib/libblake2_c-threads.a" &&
+        "$work/threads" "$work/files" 200
+}
+
+# threads.c and thread_faults.c with these words, where each few bytes have a thread of their own.
+threads_with() {
+    compile_threads "$work/threads" -DLEAST_BYTES=1 "$@" "$tests/threads.c" "$here/threads.c" &&
+        compile_threads "$work/faults" -DLEAST_BYTES=1 "$@" "$tests/thread_faults.c" "$here/threads.c" $(replaced_calls) &&
+        "$work/threads" "$work/files" 60 && "$work/faults" "$work/files" &&
+        compile_threads "$work/faults" "$@" "$tests/thread_faults.c" "$here/threads.c" $(replaced_calls) &&
+        "$work/faults" "$work/files"
+}
+
+# The same with a sanitizer, where memory that is not there is refused as without one.
+sanitized() {
+    TSAN_OPTIONS=allocator_may_return_null=1 ASAN_OPTIONS=allocator_may_return_null=1 \
+        threads_with -O1 "-fsanitize=$1" -fno-sanitize-recover=all
+}
+
+# The lines of tree_sum for these files with leaves of so many bytes, by hashlib.
+wanted_of_trees() {
+    PYTHONPATH=$top/tools python3 -c 'import sys
+from blake2_tree import tree_root
+for name in sys.argv[2:]:
+    with open("/dev/stdin" if name == "-" else name, "rb") as file:
+        print(tree_root(file.read(), int(sys.argv[1]), 64).hex(), "", name)' "$@"
+}
+
+# The words that pkg-config has for one of its names, or those that do the same.
+words_of() {
+    if has pkg-config; then
+        PKG_CONFIG_PATH=$prefix/lib/pkgconfig pkg-config --cflags --libs "$1"
+    else
+        echo "-I$include $prefix/lib/libblake2_c-threads.a $archive -pthread"
+    fi
+}
+
+# Compiles a program of c/examples with the words of this name for pkg-config.
+compile_example() {
+    cc -O2 "${warnings[@]}" "$here/examples/$1.c" $(words_of "$2") -o "$work/$1"
+}
+
+# Files of several lengths in a folder of their own.
+make_files() {
+    local length
+    mkdir -p "$work/trees" && cd "$work/trees" && mkdir -p folder || return 1
+    for length in 0 1 65536 65537 262144 3000000; do
+        [ -e file_$length ] || head -c $length /dev/urandom >file_$length || return 1
+    done
+}
+
+# A call with a status of its own, and without output.
+refuses_with() {
+    local status=$1 said
+    shift
+    said=$("$@" 2>"$work/said")
+    [ $? -eq "$status" ] && [ -z "$said" ] && [ -s "$work/said" ]
+}
+
+tree_sum_example() {
+    local sum=$work/tree_sum threads leaf
+    compile_example tree_sum blake2_c-threads && make_files || return 1
+    wanted_of_trees 65536 file_* >wanted && "$sum" file_* | diff wanted - || return 1
+    for threads in 0 1 3; do
+        "$sum" --threads $threads file_* | diff wanted - || return 1
+    done
+    for leaf in 1000 4294967295; do
+        "$sum" --leaf $leaf file_* | diff <(wanted_of_trees $leaf file_*) - || return 1
+    done
+    "$sum" <file_3000000 | diff <(wanted_of_trees 65536 - <file_3000000) - || return 1
+    "$sum" --leaf 777 - <file_65537 | diff <(wanted_of_trees 777 - <file_65537) - || return 1
+    cat file_3000000 | "$sum" --threads=2 - file_1 | diff <(wanted_of_trees 65536 - file_1 <file_3000000) - || return 1
+    # standard input from where it stands, and to its end
+    { head -c 5 >head && "$sum" && "$sum" -; } <file_262144 >said && tail -c +6 file_262144 >rest &&
+        { wanted_of_trees 65536 - <rest && wanted_of_trees 65536 - </dev/null; } | diff - said || return 1
+    ! "$sum" file_1 absent folder file_0 >said 2>errors && wanted_of_trees 65536 file_1 file_0 | diff - said &&
+        printf 'tree_sum: %s\n' 'absent: No such file or directory' 'folder: Is a directory' | diff - errors || return 1
+    ! "$sum" file_1 >/dev/full && "$sum" --help | grep -q '^usage' || return 1
+    for leaf in 0 4294967296 -1 '' 1x ' 1' 18446744073709551617; do
+        refuses_with 2 "$sum" --leaf "$leaf" file_1 || return 1
+    done
+    refuses_with 2 "$sum" --threads x file_1 && refuses_with 2 "$sum" --what file_1 && refuses_with 2 "$sum" --leaf
+}
+
+# A file in parts of so many leaves, by xargs, which keeps the order of one process.
+in_parts() {
+    local length
+    length=$(stat -c %s "$1")
+    seq 0 "$2" $(((length - 1) / 65536)) | xargs -I{} "$work/tree_parts" leaves "$1" {} "$2" |
+        "$work/tree_parts" root "$1"
+}
+
+tree_parts_example() {
+    local parts=$work/tree_parts name
+    compile_example tree_parts blake2_c-static && make_files || return 1
+    for name in file_*; do
+        for count in 1 7 16 100; do
+            in_parts "$name" $count | diff <(wanted_of_trees 65536 "$name") - || return 1
+        done
+    done
+    [ "$("$parts" leaves file_3000000 45 9223372036854775807 | wc -c)" -eq 64 ] || return 1
+    "$parts" leaves file_3000000 0 100 >all && "$parts" leaves file_3000000 40 3 | cmp - <(tail -c +2561 all | head -c 192) ||
+        return 1
+    # a part that is missing, one that came twice, and a digest in pieces
+    head -c 2880 all | refuses_with 1 "$parts" root file_3000000 && head -c 2943 all | refuses_with 1 "$parts" root file_3000000 &&
+        { cat all && head -c 64 all; } | refuses_with 1 "$parts" root file_3000000 || return 1
+    refuses_with 1 "$parts" leaves file_3000000 46 1 && refuses_with 1 "$parts" leaves absent 0 1 &&
+        refuses_with 1 "$parts" leaves /dev/null 0 1 && refuses_with 1 "$parts" root absent </dev/null &&
+        ! "$parts" leaves file_3000000 0 1 2>"$work/said" >/dev/full && ! "$parts" root file_3000000 <all >/dev/full || return 1
+    for name in -1 x '' 1x 9223372036854775808; do
+        refuses_with 2 "$parts" leaves file_1 "$name" 1 && refuses_with 2 "$parts" leaves file_1 0 "$name" || return 1
+    done
+    refuses_with 2 "$parts" leaves file_1 0 0 && refuses_with 2 "$parts" && refuses_with 2 "$parts" leaves file_1 0 &&
+        refuses_with 2 "$parts" root && refuses_with 2 "$parts" what file_1
+}
+
+# The line of tree_parts.c with GNU parallel.
+parallel_example() {
+    local line
+    line=$(sed -n '/^ \*   seq 0/,/root FILE$/s/^ \*  *//p' "$here/examples/tree_parts.c")
+    cd "$work/trees" && cp "$work/tree_parts" . && HOME=$work sh -c "${line//FILE/file_3000000}" |
+        diff <(wanted_of_trees 65536 file_3000000) -
+}
+
+# The program of docs/LARGE.md, which hashes a changed leaf again.
+change_example() {
+    sed -n '/^```c$/,/^```$/p' "$top/docs/LARGE.md" | sed '1d;$d' >"$work/change.c" &&
+        cc -O2 "${warnings[@]}" -I"$include" "$work/change.c" "$archive" -o "$work/change" &&
+        [ "$("$work/change")" = "the root of the changed message" ]
+}
+
+test_threads() {
+    local kind
+    mkdir "$work/files"
+    if ! has python3; then
+        skip "a tree in parts, and by threads" "no python3"
+        return
+    fi
+    check "parts.c" parts_with -O2
+    check "threads.c, with the installed library" threads_installed
+    check "threads.c and thread_faults.c" threads_with -O2
+    for kind in thread address,undefined; do
+        if links "-fsanitize=$kind" && "$work/linked"; then
+            check "threads.c and thread_faults.c, with the sanitizer $kind" sanitized "$kind"
+        else
+            skip "threads.c and thread_faults.c, with the sanitizer $kind" "cc has none"
+        fi
+    done
+    if links -fsanitize=address,undefined && "$work/linked"; then
+        check "parts.c, with sanitizers" parts_with -O1 -fsanitize=address,undefined -fno-sanitize-recover=all
+    else
+        skip "parts.c, with sanitizers" "cc has none"
+    fi
+    check "the program of docs/LARGE.md" change_example
+    check "the program c/examples/tree_sum.c" tree_sum_example
+    check "the program c/examples/tree_parts.c" tree_parts_example
+    if has parallel && [ -x "$work/tree_parts" ]; then
+        check "tree_parts.c with GNU parallel" parallel_example
+    else
+        skip "tree_parts.c with GNU parallel" "no parallel"
+    fi
+}
