@@ -1,23 +1,25 @@
 #!/usr/bin/env bash
-# Tests the crates for Rust, here and in ../rust-digest, over an installed library:
+# Tests the crates for Rust, here and in ../rust-digest:
 #
-#   rust/run_tests.sh FOLDER
+#   rust/run_tests.sh [FOLDER]
 #
-# FOLDER is where c/install.sh has put the library. The crates that rust-digest stands on come from Debian's packages
-# (librust-digest-dev, librust-hmac-dev, librust-hkdf-dev, librust-pbkdf2-dev), never from the network. A test whose
-# tool is absent is skipped, and a line says so. The last line counts, and the status is 0 where no test failed.
+# With FOLDER, in which c/install.sh has installed the library for C, one program links both. Nothing comes from the
+# network: rust-digest and the example for rayon use Debian's packages librust-digest-dev, librust-hmac-dev,
+# librust-hkdf-dev, librust-pbkdf2-dev and librust-rayon-dev. A test whose tool is missing is skipped, and a line says
+# so. The last line counts, and the status is 0 if no test failed.
 set -u
 here=$(dirname "$(readlink -f "$0")")
-if [ $# -ne 1 ] || ! [ -e "$1/lib/libblake2_c.a" ]; then
-    echo "usage: rust/run_tests.sh FOLDER, where c/install.sh has put the library" >&2
+if [ $# -gt 1 ] || { [ $# -eq 1 ] && ! [ -e "$1/lib/libblake2_c.a" ]; }; then
+    echo "usage: rust/run_tests.sh [FOLDER], where c/install.sh has put the library" >&2
     exit 2
 fi
+for_c=${1:+$(readlink -f "$1")/lib}
 work=$(mktemp -d)
 trap 'rm -rf "$work"' EXIT
-BLAKE2_C_LIB=$(readlink -f "$1")/lib
 CARGO_TARGET_DIR=$work/target
-export BLAKE2_C_LIB CARGO_TARGET_DIR
+export CARGO_TARGET_DIR
 debian=/usr/share/cargo/registry
+arm=aarch64-unknown-linux-gnu
 passed=0 failed=0 skipped=0
 
 has() { command -v "$1" >/dev/null 2>&1; }
@@ -44,19 +46,122 @@ check() {
 
 cargo_here() { cargo "$1" --offline --manifest-path "$here/Cargo.toml" "${@:2}"; }
 
-# The crate over Debian's crates, from a copy, since cargo writes a lock file there.
-cargo_digest() {
-    [ -e "$work/rust" ] || ln -s "$here" "$work/rust"
-    [ -e "$work/rust-digest" ] || cp -r "$here/../rust-digest" "$work/"
-    cargo "$1" --offline --manifest-path "$work/rust-digest/Cargo.toml" \
-        --config 'source.crates-io.replace-with="debian"' --config "source.debian.directory=\"$debian\"" "${@:2}"
+# A crate of this folder with Debian's crates, from a copy, since cargo writes a lock file there.
+cargo_debian() {
+    local folder=$1
+    [ -e "$work/rust" ] || { mkdir "$work/rust" && ln -s "$here"/{Cargo.toml,src,dist,README.md} "$work/rust/"; }
+    [ -e "$work/$folder" ] || { mkdir -p "$(dirname "$work/$folder")" && cp -r "$here/../$folder" "$work/$folder"; }
+    cargo "$2" --offline --manifest-path "$work/$folder/Cargo.toml" \
+        --config 'source.crates-io.replace-with="debian"' --config "source.debian.directory=\"$debian\"" "${@:3}"
 }
 
-# Where the archive is absent, the build script says what to do.
-refuse_without_library() {
-    ! BLAKE2_C_LIB=$work/absent cargo_here build >"$work/said" 2>&1 &&
-        grep -q "there is no $work/absent/libblake2_c.a" "$work/said" &&
-        grep -q "c/install.sh FOLDER" "$work/said" && grep -q "export BLAKE2_C_LIB=FOLDER/lib" "$work/said"
+# The crates among these that no package has installed, as the names of their packages.
+absent_packages() {
+    local name
+    for name; do
+        ls -d "$debian/${name%=*}-${name#*=}".* >/dev/null 2>&1 || printf ' librust-%s-dev' "${name%=*}"
+    done
+}
+
+# The same over the build for x86-64-v2, which no processor with AVX2 takes by itself.
+cargo_v2() { RUSTFLAGS='--cfg vulfsjor_build="v2"' CARGO_TARGET_DIR=$work/v2 cargo_here "$@"; }
+
+# The same for 64-bit ARM, which is emulated.
+cargo_arm() {
+    CARGO_TARGET_AARCH64_UNKNOWN_LINUX_GNU_LINKER=aarch64-linux-gnu-gcc \
+        CARGO_TARGET_AARCH64_UNKNOWN_LINUX_GNU_RUNNER="qemu-aarch64 -L /usr/aarch64-linux-gnu" \
+        cargo_here "$@" --target "$arm"
+}
+
+# A program of these lines of `main`, which depends on the crates of these folders as a, b and so on.
+write_program() {
+    local folder=$1 lines=$2 name=a
+    shift 2
+    mkdir -p "$folder/src"
+    printf '[package]\nname = "program"\nversion = "0.1.0"\nedition = "2021"\n[dependencies]\n' >"$folder/Cargo.toml"
+    for crate in "$@"; do
+        printf '%s = { package = "vulfsjor", path = "%s" }\n' "$name" "$crate" >>"$folder/Cargo.toml"
+        name=$(tr a-y b-z <<<"$name")
+    done
+    printf '[profile.thin]\ninherits = "release"\nlto = "thin"\n[profile.fat]\ninherits = "release"\nlto = "fat"\n' \
+        >>"$folder/Cargo.toml"
+    printf 'fn main() {\n%s\n}\n' "$lines" >"$folder/src/main.rs"
+}
+
+print_abc='println!("{}", a::Blake2b::digest(b"abc"));'
+
+# Builds the program of a folder in a profile, and compares its first line with the digest of `abc`.
+gives_abc() {
+    cargo build -q --offline --manifest-path "$1/Cargo.toml" --profile "$2" &&
+        cp "$CARGO_TARGET_DIR/${2/dev/debug}/program" "$work/built" && "$work/built" | head -n 1 | cmp - "$work/abc"
+}
+
+# The functions of a build in the program that was built last.
+version=$(sed -n 's/^version = "\(.*\)"/\1/p' "$here/Cargo.toml")
+held() { nm "$work/built" | sed -n "s/.* [tT] blake2_c_\(.*\)_${version//./_}_$1\$/\1/p"; }
+
+# A program takes of the assembly what it calls, in each profile.
+only_what_is_called() {
+    local profile
+    write_program "$work/one" "$print_abc" "$here"
+    for profile in dev release thin fat; do
+        gives_abc "$work/one" $profile && [ "$(held v2)" = blake2b ] && [ "$(held v3)" = blake2b ] || return 1
+    done
+}
+
+# Where the compiler may take AVX2 for granted, the other build is left out.
+one_build_for_v3() {
+    RUSTFLAGS=-Ctarget-cpu=x86-64-v3 gives_abc "$work/one" release && [ "$(held v3)" = blake2b ] && [ -z "$(held v2)" ]
+}
+
+# The processors that qemu emulates: AVX2, SSE4.2, and neither.
+other_processors() {
+    gives_abc "$work/one" release &&
+        qemu-x86_64 -cpu Haswell "$work/built" 2>/dev/null | cmp - "$work/abc" &&
+        qemu-x86_64 -cpu Nehalem "$work/built" 2>/dev/null | cmp - "$work/abc" &&
+        ! qemu-x86_64 -cpu core2duo "$work/built" >"$work/said" 2>&1 && grep -q "below x86-64-v2" "$work/said"
+}
+
+# The crate's package has all that it needs, and is built without a registry.
+build_package() {
+    CARGO_HOME=$work/home cargo_here package --allow-dirty && tar -C "$work" -xzf "$CARGO_TARGET_DIR"/package/*.crate &&
+        write_program "$work/packed" "$print_abc" "$work"/vulfsjor-*/ && gives_abc "$work/packed" release
+}
+
+# Another version of the crate in the same program, in each profile. The names in its texts carry its version, as
+# tools/dist.sh makes them.
+two_versions() {
+    local other=$work/other profile
+    mkdir "$other" && cp -rL "$here"/{src,dist,Cargo.toml,README.md} "$other/" &&
+        sed -i 's/^version = .*/version = "99.8.7"/' "$other/Cargo.toml" &&
+        sed -i "s/${version//./_}_/99_8_7_/g" "$other"/dist/*/blake2_c*.s &&
+        write_program "$work/two" "$print_abc assert!(b::Blake2b::digest(b\"abc\") == *a::Blake2b::digest(b\"abc\").as_bytes());" \
+            "$here" "$other" || return 1
+    for profile in dev release thin fat; do gives_abc "$work/two" $profile || return 1; done
+    [ "$(nm "$work/built" | grep -c ' t blake2_c_blake2b_99_8_7_')" = "$(nm "$work/built" |
+        grep -c " t blake2_c_blake2b_${version//./_}_")" ]
+}
+
+# Both builds of the library for C in the same program.
+beside_c() {
+    write_program "$work/both" "$print_abc extern \"C\" { fn blake2_c_version() -> u32; }
+        assert!(unsafe { blake2_c_version() } > 0);" "$here" &&
+        printf 'fn main() {\n    println!("cargo:rustc-link-search=native=%s");\n    %s\n}\n' "$for_c" \
+            'println!("cargo:rustc-link-lib=static=blake2_c");' >"$work/both/build.rs" &&
+        gives_abc "$work/both" dev && gives_abc "$work/both" release
+}
+
+# A shared library of Rust holds the crate, and a program calls it through that.
+through_a_dylib() {
+    mkdir -p "$work/middle/src" && echo 'pub use vulfsjor;' >"$work/middle/src/lib.rs" &&
+        printf '[package]\nname = "middle"\nversion = "0.1.0"\nedition = "2021"\n[lib]\ncrate-type = ["dylib"]\n%s\n' \
+            "[dependencies]
+vulfsjor = { path = \"$here\" }" >"$work/middle/Cargo.toml" &&
+        write_program "$work/outer" "let mut hasher = middle::vulfsjor::Blake2b::new();
+            println!(\"{}\", hasher.update(b\"abc\").finalize_reset());" &&
+        sed -i "s#^.dependencies.#&\nmiddle = { path = \"../middle\" }#" "$work/outer/Cargo.toml" &&
+        RUSTFLAGS=-Cprefer-dynamic LD_LIBRARY_PATH=$CARGO_TARGET_DIR/release:$(rustc --print target-libdir):${LD_LIBRARY_PATH-} \
+            gives_abc "$work/outer" release
 }
 
 # The instructions of a comparison do not depend on the place where the bytes differ.
@@ -78,7 +183,15 @@ for name in ("file", "empty"):
     print(hashlib.blake2b(open(name, "rb").read()).hexdigest(), "", name)' | diff said - && grep -q ^absent: said_of_faults
 }
 
-# A new program, by the words of the page alone.
+# The roots of files by rayon's threads, compared with hashlib.
+rayon_example() {
+    head -c 5000003 /dev/urandom >"$work/long" && head -c 1048576 /dev/urandom >"$work/whole" && : >"$work/none" &&
+        cargo_debian rust/examples/rayon build -q && cd "$work" &&
+        ! "$CARGO_TARGET_DIR/debug/rayon-example" long whole absent none >said 2>said_of_errors &&
+        python3 "$here/tests/roots.py" long whole none | diff said - && grep -q ^absent: said_of_errors
+}
+
+# A new program, made from the page only.
 follow_page() {
     mkdir -p "$work/program/src" && cd "$work/program" &&
         sed -n '/^```toml$/,/^```$/p' "$here/README.md" | sed '1d;$d' | sed "s#PATH/rust#$here#" >part.toml &&
@@ -95,12 +208,35 @@ elif ! has cc; then
 elif ! has python3; then
     skip "the crates for Rust" "no python3 for their known answers"
 elif check "the crate vulfsjor" cargo_here test; then
+    python3 -c 'import hashlib; print(hashlib.blake2b(b"abc").hexdigest())' >"$work/abc"
     check "the crate vulfsjor, optimised" cargo_here test --release --lib --test glue --test known_answers
     check "the crate vulfsjor without std is built" cargo_here build --no-default-features
     check "the crate vulfsjor without std" cargo_here test --no-default-features --lib
-    check "the build script says what to do without the library" refuse_without_library
+    check "the package of the crate" build_package
+    check "another version of the crate in one program" two_versions
+    check "the crate through a shared library of Rust" through_a_dylib
     check "the example of rust/README.md in a new program" follow_page
     check "the program rust/examples/sum.rs" sum_example
+    if [ "$(uname -m)" = x86_64 ]; then
+        check "the crate vulfsjor over the build for x86-64-v2" cargo_v2 test --lib --test glue --test known_answers
+        check "a program holds what it calls, in each profile" only_what_is_called
+        check "one build alone where AVX2 is taken for granted" one_build_for_v3
+        if has qemu-x86_64; then
+            check "the choice on other processors" other_processors
+        else
+            skip "the choice on other processors" "no qemu-x86_64"
+        fi
+    fi
+    if [ -n "$for_c" ]; then
+        check "the crate beside the library for C in one program" beside_c
+    fi
+    if ! ls "$(rustc --print sysroot)/lib/rustlib/$arm/lib" >/dev/null 2>&1; then
+        skip "the crate vulfsjor on 64-bit ARM" "no standard library of Rust for $arm"
+    elif ! has aarch64-linux-gnu-gcc || ! has qemu-aarch64; then
+        skip "the crate vulfsjor on 64-bit ARM" "no aarch64-linux-gnu-gcc or no qemu-aarch64"
+    else
+        check "the crate vulfsjor on 64-bit ARM" cargo_arm test --lib --test glue --test known_answers
+    fi
     if has valgrind; then
         for what in digest verify; do check "a comparison takes equal time: $what" count_comparisons $what; done
     else
@@ -113,14 +249,17 @@ elif check "the crate vulfsjor" cargo_here test; then
     fi
     check "the pages of cargo doc have no broken link" env RUSTDOCFLAGS="-D warnings" \
         cargo doc --offline --no-deps --manifest-path "$here/Cargo.toml"
-    absent=
-    for name in digest hmac hkdf pbkdf2; do
-        ls -d "$debian/$name"-0.1[012].* >/dev/null 2>&1 || absent="$absent librust-$name-dev"
-    done
+    absent=$(absent_packages digest=0.10 hmac=0.12 hkdf=0.12 pbkdf2=0.11)
     if [ -n "$absent" ]; then
-        skip "the crate vulfsjor-digest" "absent:$absent"
+        skip "the crate vulfsjor-digest" "not installed:$absent"
     else
-        check "the crate vulfsjor-digest" cargo_digest test
+        check "the crate vulfsjor-digest" cargo_debian rust-digest test
+    fi
+    absent=$(absent_packages rayon=1)
+    if [ -n "$absent" ]; then
+        skip "the program rust/examples/rayon" "not installed:$absent"
+    else
+        check "the program rust/examples/rayon" rayon_example
     fi
 fi
 echo "$passed passed, $failed failed, $skipped skipped"

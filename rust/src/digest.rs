@@ -1,13 +1,14 @@
 use core::fmt;
 use core::hash::{Hash, Hasher};
 
-use crate::library::blake2_c_is_same;
+use crate::library;
 use crate::InvalidLength;
 
 /// A digest of 1 to 64 bytes.
 ///
-/// `==` with another digest, an array or a slice looks at all bytes of two texts of one length, wherever they
-/// differ, so tags may be compared by it. [`Hash`] and the conversions below have no such care.
+/// `==` with another digest, an array or a slice looks at all bytes of two texts of one length,
+/// wherever they differ, so tags may be compared by it. [`Hash`] and the conversions below have no
+/// such care.
 ///
 /// ```
 /// use vulfsjor::Blake2s;
@@ -60,7 +61,7 @@ impl PartialEq<[u8]> for Digest {
     fn eq(&self, other: &[u8]) -> bool {
         let bytes = self.as_bytes();
         // Safety: both pointers come from slices of these lengths, and nothing is written.
-        unsafe { blake2_c_is_same(bytes.as_ptr(), bytes.len(), other.as_ptr(), other.len()) == 0 }
+        unsafe { library::is_same(bytes.as_ptr(), bytes.len(), other.as_ptr(), other.len()) == 0 }
     }
 }
 

@@ -1,39 +1,46 @@
-use core::fmt;
+use core::{fmt, mem};
 
 use crate::digest::Digest;
-use crate::library::*;
+use crate::library::{self, Blake2bState, Blake2sState, Text};
 use crate::{InvalidLength, MacError, Params, Tree};
 
-// How many messages one call of the library takes in `digest_many`: their pointers stand on the stack.
+// The number of messages that one call of the library gets in `digest_many`. Their pointers are on
+// the stack.
 const PART: usize = 16;
 
-// What both families have, over the states and the functions of `library`.
+// What both families have, on top of the states and the functions of `library`.
 macro_rules! family {
     (
         $family:literal, $at_once:literal, $hasher:ident, $mac:ident, $make:ident, $state:ident, $max:literal, $one_call:ident,
         $many:ident, $init_node:ident, $update:ident, $end:ident, $verify:ident, $set_last_node:ident, $reset:ident,
-        $wipe:ident
+        $wipe:ident, $digest_size:ident, $count:ident
     ) => {
-        #[doc = concat!("A hash function of ", $family, ", in progress. A dropped one is wiped.")]
+        #[doc = concat!("A hash by ", $family, " in progress. It is wiped when it is dropped.")]
         #[derive(Clone)]
-        pub struct $hasher(pub(crate) $state);
+        pub struct $hasher {
+            pub(crate) state: $state,
+        }
 
         impl $hasher {
-            #[doc = concat!("One with digests of ", stringify!($max), " bytes, without a key.")]
+            #[doc = concat!("Returns a hasher with digests of ", stringify!($max), " bytes and no key.")]
             pub fn new() -> Self {
                 Self::with_params(&Params::new()).expect("lengths of the family")
             }
 
-            /// One of these parameters. Refused exactly where a length, or a number of the tree, is not
-            /// the family's.
+            /// Returns a hasher with these parameters.
+            ///
+            /// # Errors
+            ///
+            /// [`InvalidLength`] exactly if a length or a tree parameter is beyond the family's.
             pub fn with_params(params: &Params<'_>) -> Result<Self, InvalidLength> {
                 let Params { output_size, key, salt, persona, tree, last_node } = *params;
-                let mut hasher = $hasher($state::ZEROS);
-                // Safety: the pointers come from slices of these lengths, and none is null; the state
-                // overlaps none of them.
+                library::need_a_build();
+                let mut hasher = $hasher { state: $state::ZEROS };
+                // Safety: the pointers come from slices of these lengths, and none is null. The
+                // state overlaps none of them.
                 let status = unsafe {
-                    $init_node(
-                        &mut hasher.0,
+                    library::$init_node(
+                        &mut hasher.state,
                         output_size.unwrap_or($max),
                         key.as_ptr(),
                         key.len(),
@@ -49,27 +56,25 @@ macro_rules! family {
                         tree.inner_length,
                     )
                 };
-                if status != 0 {
-                    return Err(InvalidLength);
-                }
+                InvalidLength::unless_zero(status)?;
                 if last_node {
                     hasher.set_last_node(true);
                 }
                 Ok(hasher)
             }
 
-            #[doc = concat!("The digest of a message in ", stringify!($max), " bytes, in one call.")]
+            #[doc = concat!("Returns the digest of a message, in ", stringify!($max), " bytes.")]
             pub fn digest(message: impl AsRef<[u8]>) -> Digest {
                 Self::one_call(message.as_ref(), b"").expect("no key, and no input of 2^64 bytes")
             }
 
-            // The digest under a key, or under none where that has no bytes.
+            // The digest under a key, or without one if that is empty.
             fn one_call(message: &[u8], key: &[u8]) -> Result<Digest, InvalidLength> {
                 let mut digest = Digest::zeros($max);
-                // Safety: the pointers come from slices of these lengths, and the output is apart from them
-                // and has 64 bytes, no fewer than the call writes.
+                // Safety: the pointers come from slices of these lengths. The output overlaps none
+                // of them and has 64 bytes, which is at least what the call writes.
                 let status = unsafe {
-                    $one_call(
+                    library::$one_call(
                         digest.bytes.as_mut_ptr(),
                         $max,
                         message.as_ptr(),
@@ -78,15 +83,13 @@ macro_rules! family {
                         key.len(),
                     )
                 };
-                if status == 0 { Ok(digest) } else { Err(InvalidLength) }
+                InvalidLength::unless_zero(status).map(|()| digest)
             }
 
-            /// The digests of several messages under these parameters. Messages in a row that have one length
-            #[doc = concat!("are hashed ", $at_once, " at once, which is faster on a processor with AVX2.")]
+            /// Writes the digests of several messages under these parameters, each of `N` bytes.
             ///
-            /// The parameters may leave out the size of the digests, which is `N`. Refused exactly where they
-            /// name another, a place in a tree or the last-node flag, where a length is not the family's, or
-            /// where the digests are not as many as the messages; no digest is then written.
+            /// Messages in a row that have the same length are hashed
+            #[doc = concat!($at_once, " at a time, which is faster on a processor with AVX2.")]
             ///
             /// ```
             #[doc = concat!("use vulfsjor::{Params, ", stringify!($hasher), "};")]
@@ -98,6 +101,12 @@ macro_rules! family {
             /// assert_eq!(hasher.finalize(), digests[2]);
             /// # Ok::<(), vulfsjor::InvalidLength>(())
             /// ```
+            ///
+            /// # Errors
+            ///
+            /// [`InvalidLength`] exactly if a length is beyond the family's, the parameters have another
+            /// size than `N` (they need not have one), tree parameters or the last-node flag, or there
+            /// are not as many digests as messages. No digest is then written.
             pub fn digest_many<const N: usize>(
                 params: &Params<'_>,
                 messages: &[impl AsRef<[u8]>],
@@ -115,7 +124,7 @@ macro_rules! family {
                 parts.try_for_each(|(messages, digests)| Self::digest_part(params, messages, digests))
             }
 
-            // The same of PART messages at most.
+            // The same for at most PART messages.
             fn digest_part<const N: usize>(
                 params: &Params<'_>,
                 messages: &[impl AsRef<[u8]>],
@@ -126,10 +135,10 @@ macro_rules! family {
                 for (text, message) in texts.iter_mut().zip(messages) {
                     *text = Text::of(message.as_ref());
                 }
-                // Safety: the pointers come from slices of these lengths, those of the messages among them,
-                // and the output is apart from all of them.
+                // Safety: the pointers come from slices of these lengths, also those of the
+                // messages. The output overlaps none of them.
                 let status = unsafe {
-                    $many(
+                    library::$many(
                         digests.as_mut_ptr().cast(),
                         digests.len() * N,
                         N,
@@ -143,57 +152,61 @@ macro_rules! family {
                         persona.len(),
                     )
                 };
-                if status == 0 { Ok(()) } else { Err(InvalidLength) }
+                InvalidLength::unless_zero(status)
             }
 
-            /// Takes the input after all that was taken before.
+            /// Absorbs the input after all earlier input.
             ///
             /// # Panics
             ///
-            /// Where 2^64 bytes would be counted since the start, those of a key's block among them.
+            /// If all input since the start, with the block of a key, has 2^64 bytes or more. The
+            /// hasher is then as before.
             pub fn update(&mut self, input: impl AsRef<[u8]>) -> &mut Self {
                 let input = input.as_ref();
-                // Safety: the pointer comes from a slice of this length, which the state can't overlap.
-                let status = unsafe { $update(&mut self.0, input.as_ptr(), input.len()) };
+                // Safety: the pointer comes from a slice of this length, which the state cannot
+                // overlap.
+                let status = unsafe { library::$update(&mut self.state, input.as_ptr(), input.len()) };
                 assert_eq!(status, 0, "an input of 2^64 bytes");
                 self
             }
 
-            /// The digest of all input.
+            /// Returns the digest of all input.
             pub fn finalize(mut self) -> Digest {
-                let mut digest = Digest::zeros(self.0.output_size);
-                // Safety: the output is of this length, and apart from the state.
-                let status = unsafe { $end(&mut self.0, digest.bytes.as_mut_ptr(), 64) };
+                // Safety: the state has initialized bytes.
+                let mut digest = Digest::zeros(unsafe { library::$digest_size(&self.state) });
+                // Safety: the output has this length, and does not overlap the state.
+                let status = unsafe { library::$end(&mut self.state, digest.bytes.as_mut_ptr(), 64) };
                 assert_eq!(status, 0, "a state that new has made");
+                mem::forget(self); // the call has wiped it
                 digest
             }
 
-            /// The digest of all input; the hasher then goes back to its start, and keeps its parameters and
-            /// the last-node flag.
+            /// Returns the digest of all input, and [resets](Self::reset) the hasher.
             pub fn finalize_reset(&mut self) -> Digest {
                 let digest = self.clone().finalize();
                 self.reset();
                 digest
             }
 
-            /// Goes back to the start: no input is taken, and the parameters and the last-node flag are kept.
+            /// Forgets all input. The parameters and the last-node flag stay.
             pub fn reset(&mut self) {
-                // Safety: the state is one.
-                let status = unsafe { $reset(&mut self.0) };
+                // Safety: the state has initialized bytes.
+                let status = unsafe { library::$reset(&mut self.state) };
                 assert_eq!(status, 0, "a state that new has made");
             }
 
-            /// Sets or clears the last-node flag (the BLAKE2 document, 2.10), at any time before the
-            /// digest. A reset keeps it.
+            /// Sets or clears the last-node flag (the BLAKE2 document, section 2.10), at any time
+            /// before the digest.
             pub fn set_last_node(&mut self, on: bool) {
-                // Safety: the state is one.
-                let status = unsafe { $set_last_node(&mut self.0, u32::from(on)) };
+                // Safety: the state has initialized bytes.
+                let status = unsafe { library::$set_last_node(&mut self.state, u32::from(on)) };
                 assert_eq!(status, 0, "a state that new has made");
             }
 
-            /// How many bytes of input were taken since the start; a key is none of it.
+            /// Returns the number of bytes of all input since the start, without the key.
             pub fn count(&self) -> u64 {
-                self.0.count()
+                // Safety: the state has initialized bytes.
+                unsafe { library::$count(&self.state) }
             }
         }
 
@@ -205,29 +218,38 @@ macro_rules! family {
 
         impl Drop for $hasher {
             fn drop(&mut self) {
-                // Safety: the state is one.
-                unsafe { $wipe(&mut self.0) };
+                // Safety: the state has initialized bytes.
+                unsafe { library::$wipe(&mut self.state) }
             }
         }
 
         of_stream!($hasher);
 
-        #[doc = concat!("A message authentication code of ", $family, ", in progress. A dropped one is wiped.")]
+        #[doc = concat!("A message authentication code by ", $family, " in progress. It is wiped when it")]
+        /// is dropped.
         ///
-        /// Its key is random, of 32 bytes, and its tags have 16 bytes at least; they are compared by `verify`,
-        /// never byte by byte. A key has one use: where there are several, each has a persona of its own. A
-        /// password is no key, and this makes none of it: that takes a slow function, such as Argon2.
+        /// Use a random key of 32 bytes and tags of at least 16 bytes, and compare them by
+        /// `verify`, never byte by byte. Give each use of a key its own persona. A password is not
+        /// a key: turn it into one by a slow function, such as Argon2.
         #[derive(Clone)]
         pub struct $mac($hasher);
 
         impl $mac {
-            #[doc = concat!("One with tags of ", stringify!($max), " bytes, under a key of 1 to ", stringify!($max), " bytes.")]
+            #[doc = concat!("Returns a MAC with tags of ", stringify!($max), " bytes.")]
+            ///
+            /// # Errors
+            ///
+            #[doc = concat!("[`InvalidLength`] exactly if the key does not have 1 to ", stringify!($max), " bytes.")]
             pub fn new(key: &[u8]) -> Result<Self, InvalidLength> {
                 Self::with_params(&Params::new().key(key))
             }
 
-            /// One of these parameters, the key among them. Refused exactly where there is no key, or a
-            /// length, or a number of the tree, is not the family's.
+            /// Returns a MAC with these parameters, which include the key.
+            ///
+            /// # Errors
+            ///
+            /// [`InvalidLength`] exactly if there is no key, or a length or a tree parameter is
+            /// beyond the family's.
             pub fn with_params(params: &Params<'_>) -> Result<Self, InvalidLength> {
                 if params.key.is_empty() {
                     return Err(InvalidLength);
@@ -235,7 +257,11 @@ macro_rules! family {
                 $hasher::with_params(params).map($mac)
             }
 
-            #[doc = concat!("The tag of a message in ", stringify!($max), " bytes, in one call, under a key of 1 to ", stringify!($max), " bytes.")]
+            #[doc = concat!("Returns the tag of a message, in ", stringify!($max), " bytes.")]
+            ///
+            /// # Errors
+            ///
+            #[doc = concat!("[`InvalidLength`] exactly if the key does not have 1 to ", stringify!($max), " bytes.")]
             pub fn tag(key: &[u8], message: impl AsRef<[u8]>) -> Result<Digest, InvalidLength> {
                 if key.is_empty() {
                     return Err(InvalidLength);
@@ -243,40 +269,46 @@ macro_rules! family {
                 $hasher::one_call(message.as_ref(), key)
             }
 
-            /// Takes the input after all that was taken before.
+            /// Absorbs the input after all earlier input.
             ///
             /// # Panics
             ///
-            /// Where 2^64 bytes would be counted since the start, those of the key's block among them.
+            /// If all input since the start, with the block of the key, has 2^64 bytes or more.
+            /// The MAC is then as before.
             pub fn update(&mut self, input: impl AsRef<[u8]>) -> &mut Self {
                 self.0.update(input);
                 self
             }
 
-            /// The tag of all input.
+            /// Returns the tag of all input.
             pub fn finalize(self) -> Digest {
                 self.0.finalize()
             }
 
-            /// The tag of all input; the code then goes back to its start, and keeps its key.
+            /// Returns the tag of all input, and [resets](Self::reset) the MAC.
             pub fn finalize_reset(&mut self) -> Digest {
                 self.0.finalize_reset()
             }
 
-            /// Ok exactly where the tag is the whole tag of all input. All bytes of a tag of that
-            /// length are looked at.
+            /// Returns `Ok` exactly if the tag is the whole tag of all input. All bytes of a tag
+            /// of the same length are compared, wherever they differ.
+            ///
+            /// # Errors
+            ///
+            /// [`MacError`] for any other tag.
             pub fn verify(mut self, tag: &[u8]) -> Result<(), MacError> {
-                // Safety: the pointer comes from a slice of this length, which the state can't overlap.
-                let status = unsafe { $verify(&mut self.0.0, tag.as_ptr(), tag.len()) };
+                // Safety: the pointer comes from a slice of this length, which the state cannot
+                // overlap.
+                let status = unsafe { library::$verify(&mut self.0.state, tag.as_ptr(), tag.len()) };
                 if status == 0 { Ok(()) } else { Err(MacError) }
             }
 
-            /// Goes back to the start: no input is taken, and the key is kept.
+            /// Forgets all input. The key and the other parameters stay.
             pub fn reset(&mut self) {
                 self.0.reset();
             }
 
-            /// How many bytes of input were taken since the start; the key is none of it.
+            /// Returns the number of bytes of all input since the start, without the key.
             pub fn count(&self) -> u64 {
                 self.0.count()
             }
@@ -294,15 +326,17 @@ family!(
     blake2b,
     Blake2bState,
     64,
-    blake2_c_blake2b,
-    blake2_c_blake2b_many,
-    blake2_c_blake2b_init_node,
-    blake2_c_blake2b_update,
-    blake2_c_blake2b_final,
-    blake2_c_blake2b_verify,
-    blake2_c_blake2b_set_last_node,
-    blake2_c_blake2b_reset,
-    blake2_c_blake2b_wipe
+    blake2b,
+    blake2b_many,
+    blake2b_init_node,
+    blake2b_update,
+    blake2b_final,
+    blake2b_verify,
+    blake2b_set_last_node,
+    blake2b_reset,
+    blake2b_wipe,
+    blake2b_digest_size,
+    blake2b_count
 );
 
 family!(
@@ -313,13 +347,15 @@ family!(
     blake2s,
     Blake2sState,
     32,
-    blake2_c_blake2s,
-    blake2_c_blake2s_many,
-    blake2_c_blake2s_init_node,
-    blake2_c_blake2s_update,
-    blake2_c_blake2s_final,
-    blake2_c_blake2s_verify,
-    blake2_c_blake2s_set_last_node,
-    blake2_c_blake2s_reset,
-    blake2_c_blake2s_wipe
+    blake2s,
+    blake2s_many,
+    blake2s_init_node,
+    blake2s_update,
+    blake2s_final,
+    blake2s_verify,
+    blake2s_set_last_node,
+    blake2s_reset,
+    blake2s_wipe,
+    blake2s_digest_size,
+    blake2s_count
 );

@@ -1,6 +1,10 @@
-//! BLAKE2b and BLAKE2s (RFC 7693) for plain Rust, by the proved functions of the static library
-//! `blake2_c`. This crate is safe from outside, takes no memory and has no dependency. Its own lines,
-//! which wrap the library, are not proved.
+//! BLAKE2b and BLAKE2s (RFC 7693) by proved functions, which the crate holds as the assembly that
+//! their proofs built. Its interface is safe, it has no dependency, and it allocates memory only
+//! in the calls by several threads. Its own lines, which call that assembly, are tested and not
+//! proved.
+//!
+//! It runs on Linux on x86-64, from x86-64-v2 on (SSE4.2 and POPCNT), with AVX2 if the processor
+//! has it, and on 64-bit ARM. On an older x86-64 processor the first call panics.
 //!
 //! A digest of a message, in pieces or in one call:
 //!
@@ -27,7 +31,8 @@
 //! # Ok::<(), vulfsjor::InvalidLength>(())
 //! ```
 //!
-//! A message authentication code, whose tag is compared over all bytes. Its key is random, of 32 bytes:
+//! A message authentication code under a random key of 32 bytes. `verify` compares all bytes of
+//! the tag:
 //!
 //! ```
 //! use vulfsjor::{Blake2bMac, Params};
@@ -42,7 +47,7 @@
 //! # Ok::<(), vulfsjor::InvalidLength>(())
 //! ```
 //!
-//! Several messages at once:
+//! Several messages in one call:
 //!
 //! ```
 //! use vulfsjor::{Blake2s, Params};
@@ -65,16 +70,21 @@
 //! # Ok::<(), vulfsjor::InvalidLength>(())
 //! ```
 //!
-//! The root of a message in a tree of two levels, in pieces, which is no BLAKE2b digest of the message:
+//! The root of a message in a tree of two levels, in pieces. It is not a BLAKE2b digest of the
+//! message:
 //!
 //! ```
 //! use vulfsjor::{tree_root, TreeHasher};
 //!
-//! let mut hasher = TreeHasher::new(b"", b"files", 1 << 20)?;
+//! let mut hasher = TreeHasher::new(b"", b"files", 1 << 16)?;
 //! hasher.update(b"hello ").update(b"world");
-//! assert_eq!(hasher.finalize(), tree_root(b"hello world", b"", b"files", 1 << 20)?);
+//! assert_eq!(hasher.finalize(), tree_root(b"hello world", b"", b"files", 1 << 16)?);
 //! # Ok::<(), vulfsjor::InvalidLength>(())
 //! ```
+//!
+//! The same root by all processors is [`tree_root_threads`], and [`TreeHasher::update_threads`] in
+//! pieces. [`tree_leaves`] and [`tree_root_of_leaves`] compute it in parts, by any threads,
+//! processes or machines.
 //!
 //! A stream, through [`std::io::Write`]:
 //!
@@ -85,42 +95,66 @@
 //! # Ok::<(), std::io::Error>(())
 //! ```
 //!
-//! # How to use it well
+//! # Safe use
 //!
-//! - **Tags**: a random key of 32 bytes, tags of 16 bytes or more, compared by `verify` or by `==` of a
-//!   [`Digest`], never byte by byte.
-//! - **A persona for each use** of a hash or a key, so that a digest of one use is none of another. Zeros at
-//!   its end change nothing: `b"a"` and `b"a\0"` are one persona, and so with salts.
-//! - **No passwords**: these functions are fast, so guessing is too. Argon2 or scrypt is for them.
-//! - **Which family**: BLAKE2b on 64-bit machines; BLAKE2s where the other side has 32 bits or less, or where
-//!   a format asks for it.
-//! - **When a tree**: for large inputs whose parts are hashed at once or checked alone. Its root depends on the
-//!   length of the leaves.
-//! - **Secrets**: a dropped hasher is wiped, and no `Debug` shows a byte of one. The library's calls that are
-//!   given a key overwrite what they leave of it on the stack; those below `update`, `finalize` and `verify` do
-//!   not. Where a value is moved, what it leaves at its old place is not wiped.
+//! - **Tags**: a random key of 32 bytes and tags of at least 16 bytes, compared by `verify` or by
+//!   `==` of a [`Digest`], never byte by byte.
+//! - **A separate persona for each use** of a hash or a key, so that the digests of one use mean
+//!   nothing in another. Zeros at its end change nothing: `b"a"` and `b"a\0"` are the same
+//!   persona. So are salts.
+//! - **No passwords**: these functions are fast, and so is guessing. Use Argon2 or scrypt.
+//! - **Which family**: BLAKE2b on 64-bit machines; BLAKE2s if the other side has 32 bits or less,
+//!   or if a format requires it.
+//! - **When a tree**: for large inputs whose parts are hashed in parallel or checked separately.
+//!   Its root depends on the length of the leaves.
+//! - **Secrets**: a hasher is wiped when it is dropped, and no `Debug` shows a byte of one. The
+//!   calls that accept a key or compress its block overwrite what they leave of it on the stack.
+//!   If a value is moved, what it leaves at its old address is not wiped.
 //!
-//! Without the feature `std`, which is on by default, the crate is `no_std`; hashers are then no
-//! `std::io::Write`.
+//! # Features
+//!
+//! `std`, which is on by default, adds `std::io::Write` for hashers, `std::error::Error` for
+//! errors, and the calls by several threads. Without it the crate is `no_std`.
 #![no_std]
 #![deny(missing_docs, unsafe_op_in_unsafe_fn)]
+
+#[cfg(not(all(
+    any(target_arch = "x86_64", target_arch = "aarch64"),
+    target_os = "linux",
+    target_pointer_width = "64",
+    target_endian = "little",
+)))]
+compile_error!(
+    "vulfsjor is assembly for Linux on x86-64 and on little-endian 64-bit ARM, and has none for this \
+     target"
+);
 
 #[cfg(any(feature = "std", test))]
 extern crate std;
 
 use core::fmt;
 
-/// A length, or a number of a tree, that a call does not take. Each call says what it refuses.
+/// The error of a length, or a tree parameter, that a call does not accept. Each call says which.
 #[derive(Clone, Copy, Debug, PartialEq, Eq)]
 pub struct InvalidLength;
 
-/// A tag is not that of the message.
+impl InvalidLength {
+    // The result of a call of the library that returned this status.
+    fn unless_zero(status: i32) -> Result<(), Self> {
+        match status {
+            0 => Ok(()),
+            _ => Err(InvalidLength),
+        }
+    }
+}
+
+/// The error of a tag that is not the message's.
 #[derive(Clone, Copy, Debug, PartialEq, Eq)]
 pub struct MacError;
 
 impl fmt::Display for InvalidLength {
     fn fmt(&self, f: &mut fmt::Formatter<'_>) -> fmt::Result {
-        f.write_str("a length that BLAKE2 does not take")
+        f.write_str("a length that BLAKE2 does not accept")
     }
 }
 
@@ -136,7 +170,8 @@ impl std::error::Error for InvalidLength {}
 #[cfg(feature = "std")]
 impl std::error::Error for MacError {}
 
-// What all that takes input in pieces has: a stream to write to, and a `Debug` that shows nothing.
+// What all types that absorb input in pieces have: `std::io::Write`, and a `Debug` that shows
+// nothing.
 macro_rules! of_stream {
     ($type:ident) => {
         /// Shows no byte of the state, since that may hold a key.
@@ -146,7 +181,7 @@ macro_rules! of_stream {
             }
         }
 
-        /// Takes all that is written.
+        /// Absorbs all that is written.
         #[cfg(feature = "std")]
         impl std::io::Write for $type {
             fn write(&mut self, bytes: &[u8]) -> std::io::Result<usize> {
@@ -163,13 +198,27 @@ macro_rules! of_stream {
 
 mod digest;
 mod family;
+mod leaves;
+#[cfg(all(
+    any(target_arch = "x86_64", target_arch = "aarch64"),
+    target_os = "linux",
+    target_pointer_width = "64",
+    target_endian = "little",
+))]
 mod library;
 mod params;
+#[cfg(target_arch = "x86_64")]
+mod processor;
 #[cfg(test)]
 mod tests;
+#[cfg(feature = "std")]
+mod threads;
 mod tree;
 
 pub use digest::Digest;
 pub use family::{Blake2b, Blake2bMac, Blake2s, Blake2sMac};
+pub use leaves::{tree_leaf_count, tree_leaves, tree_root_of_leaves};
 pub use params::{Params, Tree};
+#[cfg(feature = "std")]
+pub use threads::tree_root_threads;
 pub use tree::{tree_root, tree_root_with_output_size, TreeHasher};

@@ -1,81 +1,41 @@
-//! The states and the functions of the static library, as `c/include/blake2_c.h` declares them. Nothing here is
-//! called but by the modules beside it.
+//! The states and the functions of the proved library, as `c/include/blake2_c.h` declares them.
+//! The functions are the assembly text in `dist/`, which becomes a part of this crate. Only the
+//! other modules call what is here.
 
-// A family's state: the fields of the C struct, of which every value is valid. All the functions below take a
-// state of written bytes, whatever they are.
+use core::arch::global_asm;
+
+#[cfg(target_arch = "x86_64")]
+use crate::processor::{ask, level};
+
+// Panics if the processor can run none of the builds. A hasher is made after this call, since a
+// later panic would drop it, and the wipe of the drop would be a second panic.
+pub(crate) fn need_a_build() {
+    #[cfg(target_arch = "x86_64")]
+    if level() == 0 {
+        ask();
+    }
+}
+
+// A state of this many words, which only the library reads and writes. All functions below accept
+// a state with any content, as long as its bytes are initialized.
 macro_rules! state {
-    ($state:ident, $word:ty, $block:literal, $bytes:literal) => {
+    ($state:ident, $words:literal) => {
         #[repr(C)]
         #[derive(Clone)]
-        pub(crate) struct $state {
-            pub(crate) chain: [$word; 8],
-            pub(crate) first: [$word; 8],
-            pub(crate) counter: u64,
-            pub(crate) pending_length: usize,
-            pub(crate) start_length: usize,
-            pub(crate) output_size: usize,
-            pub(crate) last_node: usize,
-            pub(crate) pending: [u8; $block],
-            pub(crate) start_block: [u8; $block],
-        }
+        pub(crate) struct $state(pub(crate) [u64; $words]);
 
         impl $state {
-            // The state of zeros, which no call but the inits and the wipe takes.
-            pub(crate) const ZEROS: Self = Self {
-                chain: [0; 8],
-                first: [0; 8],
-                counter: 0,
-                pending_length: 0,
-                start_length: 0,
-                output_size: 0,
-                last_node: 0,
-                pending: [0; $block],
-                start_block: [0; $block],
-            };
-
-            // The bytes of input that were taken since the start, without those of a key's block.
-            pub(crate) fn count(&self) -> u64 {
-                self.counter + self.pending_length as u64 - self.start_length as u64
-            }
+            // The zeroed state, which every call refuses except the inits and the wipe.
+            pub(crate) const ZEROS: Self = Self([0; $words]);
         }
-
-        const _: () = assert!(core::mem::size_of::<$state>() == $bytes);
     };
 }
 
-state!(Blake2bState, u64, 128, 424);
-state!(Blake2sState, u32, 64, 232);
+state!(Blake2bState, 53);
+state!(Blake2sState, 29);
+state!(TreeState, 114);
 
-// The state of a tree of two levels, likewise.
-#[repr(C)]
-#[derive(Clone)]
-pub(crate) struct TreeState {
-    pub(crate) leaf: Blake2bState,
-    pub(crate) root: Blake2bState,
-    pub(crate) closed: u64,
-    pub(crate) leaf_length: u64,
-    pub(crate) salt_length: usize,
-    pub(crate) persona_length: usize,
-    pub(crate) salt: [u8; 16],
-    pub(crate) persona: [u8; 16],
-}
-
-impl TreeState {
-    pub(crate) const ZEROS: Self = Self {
-        leaf: Blake2bState::ZEROS,
-        root: Blake2bState::ZEROS,
-        closed: 0,
-        leaf_length: 0,
-        salt_length: 0,
-        persona_length: 0,
-        salt: [0; 16],
-        persona: [0; 16],
-    };
-}
-
-const _: () = assert!(core::mem::size_of::<TreeState>() == 912);
-
-// A message among several, as `vulfsjor_message` of the header.
+// One of several messages: `vulfsjor_message` of the header.
 #[repr(C)]
 #[derive(Clone, Copy)]
 pub(crate) struct Text {
@@ -92,101 +52,232 @@ impl Text {
     }
 }
 
-const _: () = assert!(core::mem::size_of::<Text>() == 16);
+// The name of a function of a build within a program. The version keeps two versions of the crate
+// apart, and the first word keeps the crate apart from the library for C.
+macro_rules! symbol {
+    ($name:ident, $build:ident) => {
+        concat!(
+            "vulfsjor_",
+            env!("CARGO_PKG_VERSION"),
+            "_",
+            stringify!($name),
+            "_",
+            stringify!($build)
+        )
+    };
+}
 
-// The functions of a family, in the order of the header.
-macro_rules! functions {
+// The name that the text in `dist/` gives to the same function. It carries the version too, as all
+// names and labels there do, since lto = "fat" makes one assembly of the texts of two versions.
+macro_rules! text_symbol {
+    ($name:ident, $build:ident) => {
+        concat!(
+            "blake2_c_",
+            stringify!($name),
+            "_",
+            env!("CARGO_PKG_VERSION_MAJOR"),
+            "_",
+            env!("CARGO_PKG_VERSION_MINOR"),
+            "_",
+            env!("CARGO_PKG_VERSION_PATCH"),
+            "_",
+            stringify!($build)
+        )
+    };
+}
+
+// A module with the functions of one build. While the assembler reads the text, `.globl` and
+// `.hidden` are macros that do nothing, so all names of the text stay local to the object file.
+// The names of `symbol!` follow the text. They are hidden: only the program, or the shared
+// library, that the crate is linked into sees them.
+macro_rules! build {
     (
-        $state:ident, $one_call:ident, $many:ident, $init_node:ident, $update:ident, $end:ident, $verify:ident,
-        $set_last_node:ident, $reset:ident, $wipe:ident, $state_size:ident
+        $build:ident, $file:literal, ($($option:ident),+),
+        $($(#[$attribute:meta])* fn $name:ident($($argument:ident: $type:ty),* $(,)?) $(-> $answer:ty)?;)+
     ) => {
-        extern "C" {
-            pub(crate) fn $one_call(
-                out: *mut u8,
-                out_length: usize,
-                input: *const u8,
-                input_length: usize,
-                key: *const u8,
-                key_length: usize,
-            ) -> i32;
-            pub(crate) fn $many(
-                out: *mut u8,
-                out_length: usize,
-                output_size: usize,
-                messages: *const Text,
-                message_count: usize,
-                key: *const u8,
-                key_length: usize,
-                salt: *const u8,
-                salt_length: usize,
-                persona: *const u8,
-                persona_length: usize,
-            ) -> i32;
-            pub(crate) fn $init_node(
-                state: &mut $state,
-                output_size: usize,
-                key: *const u8,
-                key_length: usize,
-                salt: *const u8,
-                salt_length: usize,
-                persona: *const u8,
-                persona_length: usize,
-                fanout: u8,
-                depth: u8,
-                leaf_length: u32,
-                node_offset: u64,
-                node_depth: u8,
-                inner_length: u8,
-            ) -> i32;
-            pub(crate) fn $update(state: &mut $state, input: *const u8, input_length: usize)
-                -> i32;
-            pub(crate) fn $end(state: &mut $state, out: *mut u8, out_length: usize) -> i32;
-            pub(crate) fn $verify(state: &mut $state, tag: *const u8, tag_length: usize) -> i32;
-            pub(crate) fn $set_last_node(state: &mut $state, on: u32) -> i32;
-            pub(crate) fn $reset(state: &mut $state) -> i32;
-            pub(crate) fn $wipe(state: &mut $state);
-            #[cfg(test)]
-            pub(crate) fn $state_size() -> usize;
+        pub(crate) mod $build {
+            use super::*;
+
+            global_asm!(
+                ".pushsection .text",
+                ".macro .globl name",
+                ".endm",
+                ".macro .hidden name",
+                ".endm",
+                include_str!($file),
+                ".purgem .globl",
+                ".purgem .hidden",
+                $(
+                    concat!(".globl \"", symbol!($name, $build), "\""),
+                    concat!(".hidden \"", symbol!($name, $build), "\""),
+                    concat!(".set \"", symbol!($name, $build), "\", ", text_symbol!($name, $build)),
+                )+
+                ".popsection",
+                options($($option),+)
+            );
+
+            extern "C" {
+                $(
+                    $(#[$attribute])*
+                    #[link_name = symbol!($name, $build)]
+                    pub(crate) fn $name($($argument: $type),*) $(-> $answer)?;
+                )+
+            }
         }
     };
 }
 
-functions!(
-    Blake2bState,
-    blake2_c_blake2b,
-    blake2_c_blake2b_many,
-    blake2_c_blake2b_init_node,
-    blake2_c_blake2b_update,
-    blake2_c_blake2b_final,
-    blake2_c_blake2b_verify,
-    blake2_c_blake2b_set_last_node,
-    blake2_c_blake2b_reset,
-    blake2_c_blake2b_wipe,
-    blake2_c_blake2b_state_size
-);
+// The functions by which the crate calls the build that the processor runs. All builds have the
+// same states. These functions are not `#[inline]`: a program that links a Rust `dylib` with this
+// crate would inline them into its own objects, and the hidden names are not visible there.
+macro_rules! calls {
+    ($($(#[$attribute:meta])* fn $name:ident($($argument:ident: $type:ty),* $(,)?) $(-> $answer:ty)?;)+) => {
+        $(
+            $(#[$attribute])*
+            #[allow(clippy::too_many_arguments)] // those of the header
+            pub(crate) unsafe fn $name($($argument: $type),*) $(-> $answer)? {
+                // The first call, in a separate function: later calls then need not save their
+                // arguments.
+                #[cfg(target_arch = "x86_64")]
+                #[cold]
+                #[inline(never)]
+                #[allow(clippy::too_many_arguments)]
+                unsafe fn first_call($($argument: $type),*) $(-> $answer)? {
+                    ask();
+                    // Safety: as below.
+                    unsafe { $name($($argument),*) }
+                }
 
-functions!(
-    Blake2sState,
-    blake2_c_blake2s,
-    blake2_c_blake2s_many,
-    blake2_c_blake2s_init_node,
-    blake2_c_blake2s_update,
-    blake2_c_blake2s_final,
-    blake2_c_blake2s_verify,
-    blake2_c_blake2s_set_last_node,
-    blake2_c_blake2s_reset,
-    blake2_c_blake2s_wipe,
-    blake2_c_blake2s_state_size
-);
+                // Safety: the caller guarantees what the header requires, which is the same for
+                // each build.
+                unsafe {
+                    #[cfg(target_arch = "x86_64")]
+                    match level() {
+                        3.. => v3::$name($($argument),*),
+                        2 => v2::$name($($argument),*),
+                        _ => first_call($($argument),*),
+                    }
+                    #[cfg(target_arch = "aarch64")]
+                    arm::$name($($argument),*)
+                }
+            }
+        )+
+    };
+}
 
-extern "C" {
-    pub(crate) fn blake2_c_is_same(
-        a: *const u8,
-        a_length: usize,
-        b: *const u8,
-        b_length: usize,
+macro_rules! functions {
+    ($($function:tt)+) => {
+        #[cfg(target_arch = "x86_64")]
+        build!(v2, "../dist/x86_64/blake2_c-v2.s", (att_syntax, raw), $($function)+);
+        #[cfg(target_arch = "x86_64")]
+        build!(v3, "../dist/x86_64/blake2_c-v3.s", (att_syntax, raw), $($function)+);
+        #[cfg(target_arch = "aarch64")]
+        build!(arm, "../dist/aarch64/blake2_c.s", (raw), $($function)+);
+        calls!($($function)+);
+    };
+}
+
+// The functions of the header, in its order.
+functions! {
+    fn blake2b(
+        out: *mut u8,
+        out_length: usize,
+        input: *const u8,
+        input_length: usize,
+        key: *const u8,
+        key_length: usize,
     ) -> i32;
-    pub(crate) fn blake2_c_tree_root(
+    fn blake2b_many(
+        out: *mut u8,
+        out_length: usize,
+        output_size: usize,
+        messages: *const Text,
+        message_count: usize,
+        key: *const u8,
+        key_length: usize,
+        salt: *const u8,
+        salt_length: usize,
+        persona: *const u8,
+        persona_length: usize,
+    ) -> i32;
+    fn blake2b_init_node(
+        state: &mut Blake2bState,
+        output_size: usize,
+        key: *const u8,
+        key_length: usize,
+        salt: *const u8,
+        salt_length: usize,
+        persona: *const u8,
+        persona_length: usize,
+        fanout: u8,
+        depth: u8,
+        leaf_length: u32,
+        node_offset: u64,
+        node_depth: u8,
+        inner_length: u8,
+    ) -> i32;
+    fn blake2b_update(state: &mut Blake2bState, input: *const u8, input_length: usize) -> i32;
+    fn blake2b_final(state: &mut Blake2bState, out: *mut u8, out_length: usize) -> i32;
+    fn blake2b_verify(state: &mut Blake2bState, tag: *const u8, tag_length: usize) -> i32;
+    fn blake2b_set_last_node(state: &mut Blake2bState, on: u32) -> i32;
+    fn blake2b_reset(state: &mut Blake2bState) -> i32;
+    fn blake2b_wipe(state: &mut Blake2bState);
+    fn blake2b_digest_size(state: &Blake2bState) -> usize;
+    fn blake2b_count(state: &Blake2bState) -> u64;
+    #[cfg(test)]
+    fn blake2b_state_size() -> usize;
+
+    fn blake2s(
+        out: *mut u8,
+        out_length: usize,
+        input: *const u8,
+        input_length: usize,
+        key: *const u8,
+        key_length: usize,
+    ) -> i32;
+    fn blake2s_many(
+        out: *mut u8,
+        out_length: usize,
+        output_size: usize,
+        messages: *const Text,
+        message_count: usize,
+        key: *const u8,
+        key_length: usize,
+        salt: *const u8,
+        salt_length: usize,
+        persona: *const u8,
+        persona_length: usize,
+    ) -> i32;
+    fn blake2s_init_node(
+        state: &mut Blake2sState,
+        output_size: usize,
+        key: *const u8,
+        key_length: usize,
+        salt: *const u8,
+        salt_length: usize,
+        persona: *const u8,
+        persona_length: usize,
+        fanout: u8,
+        depth: u8,
+        leaf_length: u32,
+        node_offset: u64,
+        node_depth: u8,
+        inner_length: u8,
+    ) -> i32;
+    fn blake2s_update(state: &mut Blake2sState, input: *const u8, input_length: usize) -> i32;
+    fn blake2s_final(state: &mut Blake2sState, out: *mut u8, out_length: usize) -> i32;
+    fn blake2s_verify(state: &mut Blake2sState, tag: *const u8, tag_length: usize) -> i32;
+    fn blake2s_set_last_node(state: &mut Blake2sState, on: u32) -> i32;
+    fn blake2s_reset(state: &mut Blake2sState) -> i32;
+    fn blake2s_wipe(state: &mut Blake2sState);
+    fn blake2s_digest_size(state: &Blake2sState) -> usize;
+    fn blake2s_count(state: &Blake2sState) -> u64;
+    #[cfg(test)]
+    fn blake2s_state_size() -> usize;
+
+    fn is_same(a: *const u8, a_length: usize, b: *const u8, b_length: usize) -> i32;
+
+    fn tree_root(
         out: *mut u8,
         out_length: usize,
         input: *const u8,
@@ -197,7 +288,7 @@ extern "C" {
         persona_length: usize,
         leaf_length: u32,
     ) -> i32;
-    pub(crate) fn blake2_c_tree_init(
+    fn tree_init(
         state: &mut TreeState,
         output_size: usize,
         salt: *const u8,
@@ -206,19 +297,55 @@ extern "C" {
         persona_length: usize,
         leaf_length: u32,
     ) -> i32;
-    pub(crate) fn blake2_c_tree_update(
-        state: &mut TreeState,
+    fn tree_update(state: &mut TreeState, input: *const u8, input_length: usize) -> i32;
+    fn tree_final(state: &mut TreeState, out: *mut u8, out_length: usize) -> i32;
+    fn tree_wipe(state: &mut TreeState);
+    fn tree_digest_size(state: &TreeState) -> usize;
+    fn tree_count(state: &TreeState) -> u64;
+    fn tree_leaf_length(state: &TreeState) -> u32;
+    fn tree_next_leaves(
+        state: &TreeState,
+        out: *mut u8,
+        out_length: usize,
+        skip: u64,
         input: *const u8,
         input_length: usize,
     ) -> i32;
-    pub(crate) fn blake2_c_tree_final(
+    fn tree_update_leaves(
         state: &mut TreeState,
+        digests: *const u8,
+        digests_length: usize,
+        input: *const u8,
+        input_length: usize,
+    ) -> i32;
+    #[cfg(test)]
+    fn tree_state_size() -> usize;
+    fn tree_leaf_count(message_length: u64, leaf_length: u32) -> u64;
+    fn tree_leaves(
         out: *mut u8,
         out_length: usize,
+        first: u64,
+        ends: u32,
+        input: *const u8,
+        input_length: usize,
+        salt: *const u8,
+        salt_length: usize,
+        persona: *const u8,
+        persona_length: usize,
+        leaf_length: u32,
     ) -> i32;
-    pub(crate) fn blake2_c_tree_wipe(state: &mut TreeState);
+    fn tree_root_of_leaves(
+        out: *mut u8,
+        out_length: usize,
+        digests: *const u8,
+        digests_length: usize,
+        salt: *const u8,
+        salt_length: usize,
+        persona: *const u8,
+        persona_length: usize,
+        leaf_length: u32,
+    ) -> i32;
+
     #[cfg(test)]
-    pub(crate) fn blake2_c_tree_state_size() -> usize;
-    #[cfg(test)]
-    pub(crate) fn blake2_c_version() -> u32;
+    fn version() -> u32;
 }

@@ -47,8 +47,8 @@ impl Default for Tree {
     }
 }
 
-/// What a hash is made with: by itself the longest digest, no key, no salt and no persona, and the hash is
-/// the whole tree.
+/// What a hash is made with: by itself the longest digest, no key, no salt and no persona, and the
+/// hash is the whole tree.
 ///
 /// Its `Debug` shows the length of the key, and no byte of it.
 #[derive(Clone, Copy)]
@@ -92,8 +92,8 @@ impl<'a> Params<'a> {
         Params { salt, ..self }
     }
 
-    /// A persona of up to 16 bytes for BLAKE2b, up to 8 for BLAKE2s: one for each use of a hash or a key.
-    /// Zeros behind it change nothing.
+    /// A persona of up to 16 bytes for BLAKE2b, up to 8 for BLAKE2s: one for each use of a hash or
+    /// a key. Zeros behind it change nothing.
     pub fn persona(self, persona: &'a [u8]) -> Self {
         Params { persona, ..self }
     }
@@ -103,7 +103,8 @@ impl<'a> Params<'a> {
         Params { tree, ..self }
     }
 
-    /// Whether the hash is the last node of its level in a tree of hashes (the BLAKE2 document, 2.10).
+    /// Whether the hash is the last node of its level in a tree of hashes (the BLAKE2 document,
+    /// 2.10).
     pub fn last_node(self, last_node: bool) -> Self {
         Params { last_node, ..self }
     }

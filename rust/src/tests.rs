@@ -1,10 +1,11 @@
-//! What only a state shows that no public call makes: the assertions, counts near their ends, and the layouts.
+//! What no public call shows: counts near their ends, states that no call has made, layouts, the
+//! choice of the build, and how threads share their work.
 use std::format;
 use std::mem::size_of;
 use std::panic::{catch_unwind, AssertUnwindSafe};
 use std::string::String;
 
-use crate::library::*;
+use crate::library::{self, Blake2bState, Blake2sState, TreeState};
 use crate::*;
 
 // The text of the panic that a call ends with.
@@ -20,10 +21,10 @@ fn panic_of<R>(call: impl FnOnce() -> R) -> String {
 fn layouts_and_version_are_those_of_the_library() {
     // Safety: these calls take nothing.
     unsafe {
-        assert_eq!(blake2_c_blake2b_state_size(), size_of::<Blake2b>());
-        assert_eq!(blake2_c_blake2s_state_size(), size_of::<Blake2s>());
-        assert_eq!(blake2_c_tree_state_size(), size_of::<TreeHasher>());
-        let version = blake2_c_version();
+        assert_eq!(library::blake2b_state_size(), size_of::<Blake2bState>());
+        assert_eq!(library::blake2s_state_size(), size_of::<Blake2sState>());
+        assert_eq!(library::tree_state_size(), size_of::<TreeState>());
+        let version = library::version();
         let parts = [version >> 16, version >> 8 & 255, version & 255];
         assert_eq!(
             format!("{}.{}.{}", parts[0], parts[1], parts[2]),
@@ -33,38 +34,24 @@ fn layouts_and_version_are_those_of_the_library() {
 }
 
 macro_rules! family {
-    ($test:ident, $hasher:ident, $state:ident, $block:literal) => {
+    ($test:ident, $hasher:ident, $state:ident, $block:literal, $counter:literal) => {
         mod $test {
             use super::*;
 
-            // A hasher of that many blocks short of 2^64 bytes.
+            // A hasher that has compressed this number of blocks less than 2^64 bytes.
+            // c/include/blake2_c.h names the word of the counter and the next, the number of pending
+            // bytes.
             fn near_the_end(hasher: $hasher, blocks: u64) -> $hasher {
                 let mut hasher = hasher;
-                hasher.0.counter = 0u64.wrapping_sub($block * blocks);
-                hasher.0.pending_length = 0;
+                hasher.state.0[$counter] = 0u64.wrapping_sub($block * blocks);
+                hasher.state.0[$counter + 1] = 0;
                 hasher
             }
 
             #[test]
-            fn the_fields_are_those_of_the_header() {
-                let params = Params::new().key(b"key").output_size(17);
-                let mut hasher = $hasher::with_params(&params).unwrap();
-                let state = hasher.0.clone();
-                assert!(state.chain == state.first && state.first != $state::ZEROS.first);
-                assert_eq!((state.counter, state.output_size, state.last_node), (0, 17, 0));
-                assert_eq!((state.pending_length, state.start_length), ($block, $block));
-                assert!(state.start_block.starts_with(b"key") && state.start_block == state.pending);
-                assert!(state.start_block[3..].iter().all(|byte| *byte == 0));
-                hasher.update(b"abc").set_last_node(true);
-                assert!(hasher.0.pending.starts_with(b"abc") && hasher.0.chain != state.chain);
-                assert_eq!((hasher.0.counter, hasher.0.pending_length), ($block, 3));
-                assert_eq!((hasher.0.output_size, hasher.0.last_node), (17, 1));
-                assert!(hasher.0.first == state.first && hasher.0.start_block == state.start_block);
-            }
-
-            #[test]
             fn a_state_that_no_init_has_made_is_refused() {
-                let none = || $hasher($state::ZEROS);
+                let none = || $hasher { state: $state::ZEROS };
+                assert_eq!(none().count(), 0);
                 assert!(panic_of(|| none().update(b"").count()).contains("an input of 2^64 bytes"));
                 assert!(panic_of(|| none().finalize()).contains("a state that new has made"));
                 assert!(panic_of(|| none().finalize_reset()).contains("a state that new has made"));
@@ -86,65 +73,217 @@ macro_rules! family {
 
             #[test]
             fn a_key_counts_to_the_end_and_not_to_the_input() {
-                let keyed = || Params::new().key(b"key").output_size(1);
-                let hasher = $hasher::with_params(&keyed()).unwrap();
-                assert_eq!((hasher.0.start_length, hasher.count()), ($block, 0));
+                let hasher = $hasher::with_params(&Params::new().key(b"key").output_size(1)).unwrap();
+                assert_eq!(hasher.count(), 0);
                 let mut hasher = near_the_end(hasher, 1);
                 hasher.update([7; $block - 1]);
                 assert_eq!(hasher.count(), u64::MAX - $block);
                 assert!(panic_of(|| hasher.update(b"x").count()).contains("an input of 2^64 bytes"));
             }
-
-            #[test]
-            fn the_flag_is_that_of_the_state() {
-                let mut hasher = $hasher::new();
-                for on in [false, true, true, false] {
-                    hasher.set_last_node(on);
-                    assert_eq!(hasher.0.last_node != 0, on);
-                    hasher.update(b"x").reset();
-                    assert_eq!(hasher.0.last_node != 0, on);
-                    hasher.finalize_reset();
-                    assert_eq!(hasher.0.last_node != 0, on);
-                }
-            }
         }
     };
 }
 
-family!(blake2b, Blake2b, Blake2bState, 128);
-family!(blake2s, Blake2s, Blake2sState, 64);
-
-#[test]
-fn the_fields_of_a_tree_are_those_of_the_header() {
-    let mut hasher = TreeHasher::with_output_size(9, b"some salt", b"persona", 1000).unwrap();
-    hasher.update([7; 2500]);
-    let state = &hasher.0;
-    assert_eq!((state.closed, state.leaf_length), (2, 1000));
-    assert_eq!((state.salt_length, state.persona_length), (9, 7));
-    assert_eq!(state.salt, *b"some salt\0\0\0\0\0\0\0");
-    assert_eq!(state.persona, *b"persona\0\0\0\0\0\0\0\0\0");
-    assert_eq!((state.leaf.output_size, state.root.output_size), (64, 9));
-    assert_eq!((state.leaf.count(), state.root.count()), (500, 128));
-}
+family!(blake2b, Blake2b, Blake2bState, 128, 16);
+family!(blake2s, Blake2s, Blake2sState, 64, 8);
 
 #[test]
 fn a_tree_that_no_init_has_made_is_refused() {
-    let none = || TreeHasher(TreeState::ZEROS);
+    let none = || TreeHasher {
+        state: TreeState::ZEROS,
+    };
     assert!(panic_of(|| none().update(b"").count()).contains("an input of 2^58 bytes"));
     assert!(panic_of(|| none().finalize()).contains("a state that new has made"));
+    assert_eq!((none().count(), none().leaf_length()), (0, 0));
+    let mut digests = [0; 64];
+    assert_eq!(
+        none().next_leaves(0, b"x", &mut digests),
+        Err(InvalidLength)
+    );
+    assert_eq!(
+        none().update_leaves(&digests, b"x").err(),
+        Some(InvalidLength)
+    );
+}
+
+// A hasher of a tree with leaves of 1 KiB that has absorbed 2^58 - 1,023 bytes, one of which is in the
+// open leaf. The words are those of `closed` and of the root's counter in c/include/blake2_c.h.
+fn tree_near_the_end() -> TreeHasher {
+    const CLOSED: usize = 2 * 53;
+    const ROOT_COUNTER: usize = 53 + 16;
+    let mut hasher = TreeHasher::new(b"", b"", 1 << 10).unwrap();
+    hasher.update([7; 1 << 10]).update([7; 1]);
+    assert_eq!((hasher.state.0[CLOSED], hasher.count()), (1, 1025));
+    hasher.state.0[CLOSED] = (1 << 48) - 1;
+    hasher.state.0[ROOT_COUNTER] = ((1 << 48) - 1) * 64;
+    hasher.state.0[ROOT_COUNTER + 1] = 0;
+    assert_eq!(hasher.count(), (1 << 58) - 1023);
+    hasher
 }
 
 #[test]
 fn inputs_of_a_tree_end_before_2_to_the_58() {
-    let mut hasher = TreeHasher::new(b"", b"", 1 << 10).unwrap();
-    hasher.update([7; 1 << 10]).update([7; 1]);
-    assert_eq!((hasher.0.closed, hasher.count()), (1, 1025));
-    hasher.0.closed = (1 << 48) - 1;
-    hasher.0.root.counter = ((1 << 48) - 1) * 64;
-    hasher.0.root.pending_length = 0;
+    let mut hasher = tree_near_the_end();
     hasher.update([7; 1022]);
     assert_eq!(hasher.count(), (1 << 58) - 1);
     hasher.update(b"");
     assert!(panic_of(|| hasher.update(b"x").count()).contains("an input of 2^58 bytes"));
     assert_eq!(hasher.count(), (1 << 58) - 1);
+}
+
+#[cfg(feature = "std")]
+mod threads {
+    use super::*;
+    use crate::threads::{hash_parts, thread_count, LEAST_BYTES, PART_BYTES};
+    use std::collections::HashSet;
+    use std::sync::Mutex;
+    use std::time::{Duration, Instant};
+    use std::vec::Vec;
+    use std::{thread, vec};
+
+    #[test]
+    fn updates_by_threads_end_before_2_to_the_58() {
+        let mut hasher = tree_near_the_end();
+        for too_long in [1023, 1024, 5000] {
+            let message = vec![7; too_long];
+            let update = || hasher.update_threads(&message, 3).count();
+            assert!(panic_of(update).contains("an input of 2^58 bytes"));
+            assert_eq!(hasher.count(), (1 << 58) - 1023);
+        }
+        hasher.update_threads([7; 1022], 3);
+        assert_eq!(hasher.count(), (1 << 58) - 1);
+    }
+
+    #[test]
+    fn a_thread_has_256_kib_and_a_leaf() {
+        let least = LEAST_BYTES;
+        assert_eq!(least, 256 << 10);
+        assert_eq!(thread_count(3, 10 * least, 100), 3);
+        assert_eq!(thread_count(3, 2 * least, 100), 2);
+        assert_eq!(thread_count(3, 2 * least - 1, 100), 1);
+        assert_eq!(thread_count(3, 10 * least, 2), 2);
+        assert_eq!(thread_count(1, 10 * least, 100), 1);
+        assert_eq!(thread_count(usize::MAX, 1 << 40, 1 << 20), 1 << 20);
+        assert_eq!(thread_count(5, 0, 0), 1);
+        let all = thread::available_parallelism().unwrap().get();
+        assert_eq!(thread_count(0, 1 << 40, 1 << 20), all);
+    }
+
+    // The parts in order: the first leaf, the bytes and the digests of each.
+    fn parts_of(length: usize, leaf_length: usize, threads: usize) -> Vec<(usize, usize, usize)> {
+        let bytes = vec![0; length];
+        let count = tree_leaf_count(length as u64, leaf_length as u32) as usize;
+        let mut digests = vec![0; 64 * count];
+        let parts = Mutex::new(Vec::new());
+        hash_parts(
+            &bytes,
+            leaf_length,
+            &mut digests,
+            threads,
+            |first, part, out| {
+                let start = part.as_ptr() as usize - bytes.as_ptr() as usize;
+                assert_eq!(start, first * leaf_length);
+                out.fill(1);
+                parts.lock().unwrap().push((first, part.len(), out.len()));
+            },
+        );
+        assert!(digests.iter().all(|byte| *byte == 1));
+        let mut parts = parts.into_inner().unwrap();
+        parts.sort_unstable();
+        parts
+    }
+
+    #[test]
+    fn parts_are_fours_of_leaves_or_a_share() {
+        assert_eq!(parts_of(0, 64, 4), [(0, 0, 64)]);
+        assert_eq!(parts_of(1, 64, 4), [(0, 1, 64)]);
+        let leaf = 1 << 16;
+        let all = |counts: &[usize]| -> Vec<(usize, usize, usize)> {
+            let firsts = counts.iter().scan(0, |sum, n| {
+                *sum += n;
+                Some(*sum - n)
+            });
+            let parts = firsts.zip(counts);
+            parts.map(|(first, n)| (first, n * leaf, 64 * n)).collect()
+        };
+        assert_eq!(parts_of(6 * leaf, leaf, 3), all(&[6]));
+        assert_eq!(parts_of(40 * leaf, leaf, 2), all(&[16, 16, 8]));
+        assert_eq!(parts_of(20 * leaf, leaf, 4), all(&[5, 5, 5, 5]));
+        assert_eq!(PART_BYTES, 16 * leaf);
+        let long = 12 * leaf;
+        let parts = parts_of(9 * long - 5, long, 2);
+        let wanted = [(0, 4 * long, 256), (4, 4 * long, 256), (8, long - 5, 64)];
+        assert_eq!(parts, wanted);
+    }
+
+    // Whether this number of threads hash at the same time: each part waits for the others.
+    fn meet(threads: usize) -> bool {
+        let bytes = vec![0; threads * LEAST_BYTES];
+        let mut digests = vec![0; 64 * threads];
+        let seen = Mutex::new(HashSet::new());
+        let start = Instant::now();
+        hash_parts(&bytes, LEAST_BYTES, &mut digests, threads, |_, _, _| {
+            seen.lock().unwrap().insert(thread::current().id());
+            while seen.lock().unwrap().len() < threads && start.elapsed() < Duration::from_secs(20)
+            {
+                thread::yield_now();
+            }
+        });
+        let seen = seen.into_inner().unwrap();
+        assert!(seen.contains(&thread::current().id()));
+        seen.len() == threads
+    }
+
+    #[test]
+    fn as_many_threads_hash_as_are_asked_for() {
+        assert!(meet(1) && meet(2) && meet(5));
+    }
+}
+
+#[cfg(all(target_arch = "x86_64", not(vulfsjor_build = "v2")))]
+mod choice {
+    use super::*;
+    use crate::processor::{level, level_here};
+    use std::is_x86_feature_detected as has;
+
+    #[test]
+    fn the_level_is_that_of_the_standard_library() {
+        let v2 =
+            has!("sse3") && has!("ssse3") && has!("sse4.2") && has!("popcnt") && has!("cmpxchg16b");
+        let bits = has!("bmi1") && has!("bmi2") && has!("lzcnt");
+        let v3 = v2 && bits && has!("avx2") && has!("f16c") && has!("fma");
+        assert_eq!(level_here(), if v3 { 3 } else { 2 });
+        library::need_a_build();
+        assert_eq!(level(), level_here());
+    }
+
+    #[test]
+    fn a_run_may_go_from_one_build_to_the_other() {
+        if level_here() < 3 {
+            return;
+        }
+        let message = [7; 1000];
+        let wanted = Blake2b::digest(message);
+        for first in 0..=128 {
+            let mut hasher = Blake2b::new();
+            let mut digest = [0; 64];
+            // Safety: the lengths are those of the arrays, and the processor runs both builds.
+            unsafe {
+                let (state, rest) = (&mut hasher.state, &message[first..]);
+                assert_eq!(
+                    library::v2::blake2b_update(state, message.as_ptr(), first),
+                    0
+                );
+                assert_eq!(
+                    library::v3::blake2b_update(state, rest.as_ptr(), rest.len()),
+                    0
+                );
+                assert_eq!(
+                    library::v2::blake2b_final(state, digest.as_mut_ptr(), 64),
+                    0
+                );
+            }
+            assert_eq!(wanted, digest);
+        }
+    }
 }

@@ -2,8 +2,10 @@
 """Writes cases that c/tests/cases.py leaves out, with the digests that Python's hashlib gives: cases.py b|s
 
 Lines `h SIZE KEY SALT PERSONA MESSAGE DIGEST` as that script writes them: every size with a key and without, and
-every length of a key. A line `m SIZE KEY SALT PERSONA MESSAGES DIGESTS` is of several messages, with commas
-between them, and their digests, one behind the other.
+every length of a key. A line `m SIZE KEY SALT PERSONA MESSAGES DIGESTS` has several messages, separated by
+commas, and their joined digests. A line `l LEAF FIRST ENDS SALT PERSONA BYTES DIGESTS SIZE ROOT` has a range of
+the leaves of a tree, their joined digests, and the root over those. A line `y LEAF LENGTH SALT PERSONA SIZE ROOT`
+has the root of the message whose bytes are their places modulo 251.
 """
 import hashlib
 import random
@@ -33,6 +35,69 @@ def many_case(size, key, salt, person, lengths):
     print("m", size, *map(hexadecimal, (key, salt, person)), texts, hexadecimal(digests))
 
 
+def nodes(leaf, salt, person):
+    """The parameters of all nodes of a tree."""
+    return dict(salt=salt, person=person, fanout=0, depth=2, leaf_size=leaf, inner_size=64)
+
+
+def leaves_of(leaf, data):
+    """The leaves of these bytes, one at least."""
+    return [data[start:start + leaf] for start in range(0, len(data), leaf)] or [b""]
+
+
+def digests_of(leaves, first, ends, words):
+    """The joined digests of leaves, from this one on."""
+    digests = (hashlib.blake2b(leaf, node_offset=first + i, last_node=ends and i + 1 == len(leaves), **words).digest()
+               for i, leaf in enumerate(leaves))
+    return b"".join(digests)
+
+
+def root_of(digests, size, words):
+    """The root over joined digests."""
+    return hashlib.blake2b(digests, digest_size=size, node_depth=1, last_node=True, **words).digest()
+
+
+def texts():
+    """A salt and a persona."""
+    return RANDOM.randbytes(RANDOM.randint(0, 16)), RANDOM.randbytes(RANDOM.randint(0, 16))
+
+
+def range_case(leaf, first, ends, length):
+    """A line of a range of leaves."""
+    salt, person = texts()
+    data, size, words = RANDOM.randbytes(length), RANDOM.randint(1, 64), nodes(leaf, salt, person)
+    digests = digests_of(leaves_of(leaf, data), first, ends, words)
+    root = root_of(digests, size, words)
+    print("l", leaf, first, int(ends), *map(hexadecimal, (salt, person, data, digests)), size, root.hex())
+
+
+def long_case(leaf, length):
+    """A line of a long message."""
+    salt, person = texts()
+    data = (bytes(range(251)) * (length // 251 + 1))[:length]
+    size, words = RANDOM.randint(1, 64), nodes(leaf, salt, person)
+    root = root_of(digests_of(leaves_of(leaf, data), 0, True, words), size, words)
+    print("y", leaf, length, *map(hexadecimal, (salt, person)), size, root.hex())
+
+
+def tree_cases():
+    """All lines of trees."""
+    for leaf in (1, 2, 64, 127, 128, 129, 1000):
+        for count in range(1, 11):
+            for first in (0, 1, 3, 2**31, 2**32 + 5, (2**58 - 1) // leaf - count):
+                range_case(leaf, first, False, count * leaf)
+                range_case(leaf, first, True, count * leaf - RANDOM.randrange(leaf))
+                range_case(leaf, first, True, count * leaf)
+        range_case(leaf, 0, True, 0)
+    range_case(2**32 - 1, 7, True, 300)
+    for leaf, length in ((1 << 10, 3 << 20), (1 << 12, (5 << 20) + 1), (1 << 14, (2 << 20) - 1), (1 << 16, 9 << 18),
+                         (1 << 18, 9 << 18), (1 << 20, (6 << 20) + 7), (3 << 20, 4 << 20), (1000, 1 << 20),
+                         (1 << 16, 1 << 18), (1 << 16, 5), (1 << 16, 0), (2**32 - 1, 1 << 20)):
+        long_case(leaf, length)
+
+
+if sys.argv[1] == "b":
+    tree_cases()
 for size in range(1, MAX + 1):
     hash_case(size, b"", RANDOM.randbytes(size))
     hash_case(size, RANDOM.randbytes(MAX), RANDOM.randbytes(3 * size))

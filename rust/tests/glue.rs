@@ -1,4 +1,5 @@
-//! Refusals, traits and what is left of a key: the lines of the crate around the calls of the library.
+//! Refusals, traits and what is left of a key: the lines of the crate around the calls of the
+//! library.
 #![cfg(feature = "std")]
 use std::collections::hash_map::DefaultHasher;
 use std::error::Error;
@@ -291,7 +292,10 @@ fn trees_are_written_wiped_and_shown() {
 #[test]
 fn errors_and_defaults() {
     let shown = |error: &dyn Error| error.to_string();
-    assert_eq!(shown(&InvalidLength), "a length that BLAKE2 does not take");
+    assert_eq!(
+        shown(&InvalidLength),
+        "a length that BLAKE2 does not accept"
+    );
     assert_eq!(shown(&MacError), "a wrong tag");
     assert_eq!(Tree::default(), Tree::SEQUENTIAL);
     let sequential = Tree {

@@ -52,7 +52,8 @@ macro_rules! family {
         mod $test {
             use super::*;
 
-            // A hasher of the case in pieces, in one write, and after a reset, and under the other flag.
+            // A hasher of the case in pieces, in one write, and after a reset, and under the other
+            // flag.
             fn digests(case: &Case, piece: usize) {
                 let Case {
                     message,
@@ -163,7 +164,8 @@ macro_rules! family {
                 }
             }
 
-            // The digests of the line's messages at once, if they have this size. Whether they have.
+            // The digests of the line's messages at once, if they have this size. Whether they
+            // have.
             fn at_once<const N: usize>(line: &str) -> bool {
                 let fields: Vec<&str> = line.split(' ').collect();
                 let [key, salt, persona, wanted] = [2, 3, 4, 6].map(|field| bytes(fields[field]));

@@ -1,0 +1,97 @@
+//! Which of the two builds this processor runs.
+use core::arch::x86_64::{__cpuid, __cpuid_count, _xgetbv};
+use core::sync::atomic::{AtomicU8, Ordering::Relaxed};
+
+// The level of the processor, 2 or 3, or 0 where no call has asked yet. It never changes after
+// that, and threads that ask at the same time write the same.
+static LEVEL: AtomicU8 = AtomicU8::new(0);
+
+/// 3 or 2 for the builds for x86-64-v3 and x86-64-v2, or 0 where [`ask`] has to be called first.
+/// Where the compiler may assume the instructions of x86-64-v3 anyway, the answer is a constant.
+#[inline]
+pub(crate) fn level() -> u8 {
+    let is_v3 = cfg!(all(
+        target_feature = "avx2",
+        target_feature = "bmi1",
+        target_feature = "bmi2",
+        target_feature = "f16c",
+        target_feature = "fma",
+        target_feature = "lzcnt",
+        target_feature = "movbe",
+    ));
+    if cfg!(vulfsjor_build = "v2") {
+        2
+    } else if is_v3 {
+        3
+    } else {
+        LEVEL.load(Relaxed)
+    }
+}
+
+/// Asks the processor, and panics where it is below x86-64-v2.
+#[cold]
+pub(crate) fn ask() {
+    let level = level_here();
+    assert!(
+        level >= 2,
+        "this processor is below x86-64-v2, which vulfsjor needs"
+    );
+    LEVEL.store(level, Relaxed);
+}
+
+// What the levels ask of CPUID (the x86-64 psABI, 3.1.1): of leaf 1 in ecx, of leaf 7 in ebx, and
+// of leaf 0x80000001 in ecx.
+const SSE3: u32 = 1 << 0;
+const SSSE3: u32 = 1 << 9;
+const FMA: u32 = 1 << 12;
+const CMPXCHG16B: u32 = 1 << 13;
+const SSE4_1: u32 = 1 << 19;
+const SSE4_2: u32 = 1 << 20;
+const MOVBE: u32 = 1 << 22;
+const POPCNT: u32 = 1 << 23;
+const OSXSAVE: u32 = 1 << 27;
+const AVX: u32 = 1 << 28;
+const F16C: u32 = 1 << 29;
+const BMI1: u32 = 1 << 3;
+const AVX2: u32 = 1 << 5;
+const BMI2: u32 = 1 << 8;
+const LAHF: u32 = 1 << 0;
+const LZCNT: u32 = 1 << 5;
+
+// 3, 2, or 1 for what is below. It is 3 only where the system saves the registers of SSE and AVX
+// (XCR0, bits 1 and 2).
+#[allow(unused_unsafe)] // later versions of Rust know that CPUID is safe
+pub(crate) fn level_here() -> u8 {
+    // Safety: every x86-64 processor has CPUID.
+    let (first, seventh, extended) = unsafe {
+        let last = __cpuid(0).eax;
+        (
+            __cpuid(1).ecx,
+            if last >= 7 {
+                __cpuid_count(7, 0).ebx
+            } else {
+                0
+            },
+            __cpuid(0x8000_0001).ecx,
+        )
+    };
+    let has = |word: u32, bits: u32| word & bits == bits;
+    let is_v2 =
+        has(first, SSE3 | SSSE3 | CMPXCHG16B | SSE4_1 | SSE4_2 | POPCNT) && has(extended, LAHF);
+    let has_v3 = has(first, FMA | MOVBE | OSXSAVE | AVX | F16C)
+        && has(seventh, BMI1 | AVX2 | BMI2)
+        && has(extended, LZCNT);
+    match (is_v2, has_v3) {
+        (false, _) => 1,
+        (true, false) => 2,
+        // Safety: the processor has OSXSAVE.
+        (true, true) => 2 + u8::from(has(unsafe { saved_registers() }, 6)),
+    }
+}
+
+// The low half of XCR0: the registers that the system saves. The processor has OSXSAVE.
+#[target_feature(enable = "xsave")]
+unsafe fn saved_registers() -> u32 {
+    // Safety: as the caller says.
+    unsafe { _xgetbv(0) as u32 }
+}
