@@ -1,20 +1,18 @@
 #!/usr/bin/env bash
-# Tests the package for Python over an installed library:
+# Tests the package for Python:
 #
-#   python/run_tests.sh FOLDER
+#   python/run_tests.sh
 #
-# FOLDER is where c/install.sh has put the library. The package is built twice: by setup.py alone, which needs
-# setuptools, and as a wheel, which needs the package wheel too. PYTHONS names the interpreters to test with (python3
-# and /usr/bin/python3). A test whose tool is absent is skipped, and a line says so. The last line counts, and the
-# status is 0 where no test failed.
+# It is built twice: by setup.py alone, which needs setuptools, and as a wheel from a source distribution, which needs
+# the packages wheel and pip too. PYTHONS names the interpreters to test with (python3 and /usr/bin/python3). A test whose
+# tool is absent is skipped, and a line says so. The last line counts, and the status is 0 where no test failed.
 set -u
 here=$(dirname "$(readlink -f "$0")")
-if [ $# -ne 1 ] || ! [ -e "$1/lib/libblake2_c.a" ]; then
-    echo "usage: python/run_tests.sh FOLDER, where c/install.sh has put the library" >&2
+if [ $# -ne 0 ]; then
+    echo "usage: python/run_tests.sh" >&2
     exit 2
 fi
-BLAKE2_C=$(readlink -f "$1")
-export BLAKE2_C PYTHONDONTWRITEBYTECODE=1
+export PYTHONDONTWRITEBYTECODE=1
 work=$(mktemp -d)
 trap 'rm -rf "$work"' EXIT
 passed=0 failed=0 skipped=0
@@ -41,16 +39,18 @@ check() {
 
 # Builds from a copy of the sources, so that nothing is left beside them, and without a warning of the compiler.
 build() {
-    cp -r "$here" "$work/source" && cd "$work/source" && CFLAGS=-Werror "$1" setup.py build --build-lib "$work/built"
+    cp -rL "$here" "$work/source" && cd "$work/source" && CFLAGS=-Werror "$1" setup.py build --build-lib "$work/built"
 }
 
-# A wheel of this name, which is installed in a folder; nothing in it asks for a glibc after 2.17.
+# A source distribution, and from it alone a wheel, which is installed in a folder.
 build_wheel() {
-    cp -r "$here" "$work/wheel" && cd "$work/wheel" &&
-        "$1" -m pip --disable-pip-version-check wheel --no-deps --no-build-isolation --wheel-dir "$work" . &&
-        cd "$work" && [ "$(echo vulfsjor-*.whl)" = vulfsjor-0.1.0-cp311-abi3-linux_x86_64.whl ] &&
-        "$1" -m zipfile -e vulfsjor-*.whl "$work/installed" &&
-        for file in __init__.py _library.pyi _library.abi3.so py.typed; do
+    cp -r "$here" "$work/tree" && ln -s "$here/../c" "$here/../dist" "$work/" && cd "$work/tree" &&
+        "$1" setup.py sdist --dist-dir "$work/sources" && cd "$work" &&
+        "$1" -m pip --disable-pip-version-check wheel --no-index --no-deps --no-build-isolation --wheel-dir "$work" \
+            "$work"/sources/vulfsjor-0.1.0.tar.gz &&
+        [ "$(echo vulfsjor-*.whl)" = "vulfsjor-0.1.0-cp311-abi3-linux_$(uname -m).whl" ] &&
+        "$1" -m pip --disable-pip-version-check install --no-index --no-deps --target "$work/installed" vulfsjor-*.whl &&
+        for file in __init__.py _library.pyi _library.abi3.so _threads.py py.typed; do
             [ -e "$work/installed/vulfsjor/$file" ] || return 1
         done
 }
@@ -61,10 +61,17 @@ look_at_names() {
         [ -z "$(objdump -T "$1" | sed -n 's/.*(GLIBC_2\.\([0-9]*\).*/\1/p' | awk '$1 > 17')" ]
 }
 
-# Without the library, the script says what to do.
-refuse_without_library() {
-    cd "$work/source" && ! BLAKE2_C=$work/absent "$1" setup.py build >"$work/said" 2>&1 &&
-        grep -q "Run c/install.sh FOLDER, and set BLAKE2_C=FOLDER" "$work/said"
+# For another platform the script says what it has.
+refuse_other_platform() {
+    cd "$work/source" && ! _PYTHON_HOST_PLATFORM=linux-s390x "$1" setup.py build >"$work/said" 2>&1 &&
+        grep -q "assembly for linux-x86_64 and linux-aarch64, and has none for linux-s390x" "$work/said"
+}
+
+# The processors that qemu emulates: SSE4.2, which takes the other build, and none.
+other_processors() {
+    qemu-x86_64 -cpu Nehalem "$1" "$here/tests/compare.py" "$work/built" 200 &&
+        ! qemu-x86_64 -cpu core2duo "$1" "$here/tests/compare.py" "$work/built" 1 >"$work/said" 2>&1 &&
+        grep -q "^ImportError: vulfsjor needs a processor of x86-64-v2" "$work/said"
 }
 
 # The instructions of a comparison do not depend on the place where a tag differs.
@@ -90,7 +97,7 @@ elif ! command -v cc >/dev/null; then
     skip "the package for Python" "no C compiler cc"
 elif check "the package for Python is built by $python" build "$python"; then
     check "no name of the library is seen outside the module" look_at_names "$work/built/vulfsjor/_library.abi3.so"
-    check "setup.py says what to do without the library" refuse_without_library "$python"
+    check "setup.py says what it has for another platform" refuse_other_platform "$python"
     tested=
     for each in ${PYTHONS:-python3 /usr/bin/python3}; do
         full=$("$each" -c 'import sys; print(sys.version_info >= (3, 11) and sys.executable)' 2>/dev/null)
@@ -98,12 +105,24 @@ elif check "the package for Python is built by $python" build "$python"; then
         tested="$tested $full"
         check "the package beside hashlib, in $each" "$full" "$here/tests/compare.py" "$work/built" 20000
         check "tests of the package alone, in $each" "$full" "$here/tests/package.py" "$work/built"
+        check "trees in parts, by threads and of files, in $each" "$full" "$here/tests/trees.py" "$work/built"
         if "$full" -c 'import test.test_hashlib' 2>/dev/null; then
             check "CPython's test_hashlib over the package, in $each" "$full" "$here/tests/cpython.py" "$work/built"
         else
             skip "CPython's test_hashlib over the package, in $each" "it has none"
         fi
+        if "$full" -c 'import distributed' 2>/dev/null; then
+            check "the Dask example, in $each" timeout 300 "$full" "$here/examples/test_dask.py" "$work/built"
+        else
+            skip "the Dask example, in $each" "it has no distributed"
+        fi
     done
+    first=$("$python" -c 'import sys; print(sys.executable)')
+    if [ "$(uname -m)" = x86_64 ] && command -v qemu-x86_64 >/dev/null; then
+        check "the package on other processors" other_processors "$first"
+    else
+        skip "the package on other processors" "no qemu-x86_64, or no x86-64"
+    fi
     if command -v valgrind >/dev/null; then
         check "verify takes equal time" count_verify "$(set -- $tested; echo "$1")"
     else

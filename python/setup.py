@@ -1,26 +1,42 @@
-"""Builds the package over libblake2_c.a and its header, which c/install.sh has put in the folder that BLAKE2_C
-names. README.md says how."""
-import os
+"""Builds the package: a module in C over the proved library, whose assembly is in ../dist/ and, by links, in src/. It
+needs a C compiler."""
 import sys
+import sysconfig
 
 from setuptools import Extension, setup
+from setuptools.command.build_ext import build_ext
 
-folder = os.environ.get("BLAKE2_C", "/usr/local")
-archive = os.path.join(folder, "lib", "libblake2_c.a")
-header = os.path.join(folder, "include", "blake2_c", "blake2_c.h")
-for path in (archive, header):
-    if not os.path.exists(path):
-        sys.exit(f"setup.py: there is no {path}. Run c/install.sh FOLDER, and set BLAKE2_C=FOLDER.")
+# The texts of the library by platform. choose.c has its functions by their own names; on x86-64 a call goes to the build
+# that the processor runs.
+TEXTS = {
+    "linux-x86_64": ["src/x86_64/blake2_c-v2.s", "src/x86_64/blake2_c-v3.s"],
+    "linux-aarch64": ["src/aarch64/blake2_c.s"],
+}
+
+platform = sysconfig.get_platform()
+if platform not in TEXTS or sys.maxsize < 2**32:
+    sys.exit(f"setup.py: vulfsjor is assembly for {' and '.join(TEXTS)}, and has none for {platform}")
+
+
+class BuildWithAssembly(build_ext):
+    """Accepts sources in assembly too."""
+
+    def build_extension(self, extension):
+        self.compiler.src_extensions = [*self.compiler.src_extensions, ".s"]
+        super().build_extension(extension)
+
 
 setup(
+    cmdclass={"build_ext": BuildWithAssembly},
     ext_modules=[Extension(
         "vulfsjor._library",
-        ["src/library.c"],
-        include_dirs=[os.path.dirname(header)],
-        extra_objects=[archive],
-        depends=[archive, header],
-        extra_compile_args=["-std=c99", "-Wall", "-Wextra", "-fvisibility=hidden"],
-        extra_link_args=["-Wl,--exclude-libs,ALL", "-Wl,-z,relro,-z,now"],
+        ["src/library.c", "src/trees.c", "src/choose.c", *TEXTS[platform]],
+        include_dirs=["src"],
+        depends=["src/library.h", "src/blake2_c.h"],
+        # Clang warns of each option that means nothing for assembly. LTO loses the assembly of choose.c.
+        extra_compile_args=["-std=c99", "-Wall", "-Wextra", "-fvisibility=hidden", "-fno-lto",
+                            "-Wno-unused-command-line-argument"],
+        extra_link_args=["-Wl,--gc-sections", "-Wl,-z,relro,-z,now"],
         py_limited_api=True,
     )],
     options={"bdist_wheel": {"py_limited_api": "cp311"}},

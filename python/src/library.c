@@ -1,11 +1,6 @@
-/* BLAKE2b and BLAKE2s for Python, with the interface of hashlib's, by the proved functions of the static
- * library blake2_c. This file is C, which no proof covers. It keeps to the limited API of Python 3.11, so that
- * one compiled file serves every later version of CPython. */
-#define PY_SSIZE_T_CLEAN
-#define Py_LIMITED_API 0x030b0000
-#include <Python.h>
-
-#include "blake2_c.h"
+/* BLAKE2b and BLAKE2s for Python, with the interface of hashlib's, by the proved functions of the library
+ * blake2_c, whose assembly is linked with this file. */
+#include "library.h"
 
 /* ---- The families */
 
@@ -20,6 +15,7 @@ typedef struct messages {
 typedef struct family {
     const char *name, *arguments;
     int block, out, key, salt, person;
+    size_t state;
     uint64_t last_offset;
     int (*init)(void *run, size_t out, const Py_buffer *key, const Py_buffer *salt, const Py_buffer *person,
                 const vulfsjor_tree *tree);
@@ -33,7 +29,6 @@ typedef struct family {
                 const Py_buffer *person);
 } family;
 
-#define TEXT(buffer) (buffer)->buf, (size_t)(buffer)->len
 #define FAMILY(f, NAME, offset)                                                                              \
     static int f##_init(void *S, size_t o, const Py_buffer *k, const Py_buffer *s, const Py_buffer *p,       \
                         const vulfsjor_tree *t) {                                                            \
@@ -51,16 +46,16 @@ typedef struct family {
     }                                                                                                        \
     static const family f = {                                                                                \
         #f,           "|O$iy*y*y*iiOOiipp:" #f,      VULFSJOR_##NAME##_BLOCKBYTES,    VULFSJOR_##NAME##_OUTBYTES, \
-        VULFSJOR_##NAME##_KEYBYTES, VULFSJOR_##NAME##_SALTBYTES, VULFSJOR_##NAME##_PERSONALBYTES, offset,    \
+        VULFSJOR_##NAME##_KEYBYTES, VULFSJOR_##NAME##_SALTBYTES, VULFSJOR_##NAME##_PERSONALBYTES,            \
+        sizeof(vulfsjor_##f##_state), offset,                                                                \
         f##_init,     f##_last,     f##_update,      f##_end,                                                \
         f##_verify,   f##_wipe,     f##_size,        f##_many};
 FAMILY(blake2b, BLAKE2B, UINT64_MAX)
 FAMILY(blake2s, BLAKE2S, ((uint64_t)1 << 48) - 1)
 
-/* ---- Arguments. Each of these answers 0, or -1 with an exception; the exceptions are those of hashlib's. */
+/* ---- Arguments: see library.h */
 
-/* A view of the bytes of a message. */
-static int view_of(PyObject *data, Py_buffer *view) {
+int view_of(PyObject *data, Py_buffer *view) {
     if (PyUnicode_Check(data)) {
         PyErr_SetString(PyExc_TypeError, "Strings must be encoded before hashing");
         return -1;
@@ -76,8 +71,7 @@ static int view_of(PyObject *data, Py_buffer *view) {
     return -1;
 }
 
-/* A number from 0 to 2^64 - 1, or 0 where none is given: ValueError below, OverflowError above. */
-static int number_of(PyObject *given, uint64_t *number) {
+int number_of(PyObject *given, uint64_t *number) {
     int beyond;
     long long small;
     *number = 0;
@@ -95,29 +89,29 @@ static int number_of(PyObject *given, uint64_t *number) {
     return PyErr_Occurred() ? -1 : 0;
 }
 
-static int check(int number, int least, int most, const char *name, const char *unit) {
+int check(int number, int least, int most, const char *name, const char *unit) {
     if (least <= number && number <= most) return 0;
     PyErr_Format(PyExc_ValueError, "%s must be between %d and %d%s", name, least, most, unit);
     return -1;
 }
 
-static int check_most(uint64_t number, uint64_t most, const char *name) {
+int check_most(uint64_t number, uint64_t most, const char *name) {
     if (number <= most) return 0;
     PyErr_Format(PyExc_OverflowError, "%s is too large", name);
     return -1;
 }
 
-static int check_text(const Py_buffer *text, int most, const char *name) {
+int check_text(const Py_buffer *text, int most, const char *name) {
     if (text->len <= most) return 0;
     PyErr_Format(PyExc_ValueError, "maximum %s length is %d bytes", name, most);
     return -1;
 }
 
-static void release(Py_buffer *text) {
+void release(Py_buffer *text) {
     if (text->obj) PyBuffer_Release(text);
 }
 
-static PyObject *refused(PyObject *exception, const char *why) {
+PyObject *refused(PyObject *exception, const char *why) {
     PyErr_SetString(exception, why);
     return NULL;
 }
@@ -129,8 +123,7 @@ typedef union state {
     vulfsjor_blake2s_state s;
 } state;
 
-/* An update of many bytes lets other threads run, and a lock, made at the first such, keeps them from this
- * state. */
+/* The lock is made at the first update of many bytes. */
 typedef struct hash {
     PyObject_HEAD
     const family *f;
@@ -138,21 +131,19 @@ typedef struct hash {
     state run;
 } hash;
 
-enum { LET_OTHERS_RUN_AT = 2048 };
-
-static void take_lock(hash *self) {
-    if (self->lock && !PyThread_acquire_lock(self->lock, 0)) {
+void take_lock(PyThread_type_lock lock) {
+    if (lock && !PyThread_acquire_lock(lock, 0)) {
         Py_BEGIN_ALLOW_THREADS
-        PyThread_acquire_lock(self->lock, 1);
+        PyThread_acquire_lock(lock, 1);
         Py_END_ALLOW_THREADS
     }
 }
 
-static void leave_lock(hash *self) {
-    if (self->lock) PyThread_release_lock(self->lock);
+void leave_lock(PyThread_type_lock lock) {
+    if (lock) PyThread_release_lock(lock);
 }
 
-/* Takes the bytes. 0, or -1 with an exception. */
+/* Absorbs the bytes. 0, or -1 with an exception. */
 static int take(hash *self, PyObject *data) {
     Py_buffer view;
     int status, is_long;
@@ -166,19 +157,19 @@ static int take(hash *self, PyObject *data) {
         PyThread_release_lock(self->lock);
         Py_END_ALLOW_THREADS
     } else {
-        take_lock(self);
+        take_lock(self->lock);
         status = self->f->update(&self->run, view.buf, (size_t)view.len);
-        leave_lock(self);
+        leave_lock(self->lock);
     }
     PyBuffer_Release(&view);
     if (status) PyErr_SetString(PyExc_OverflowError, "2^64 bytes or more");
     return status;
 }
 
-/* An object of zeros; the allocator of types clears what it hands out. */
+/* A zeroed object. The types have no subclasses, so this and PyObject_Free are their allocator, called without
+ * a search for the slot. */
 static hash *empty(PyTypeObject *type, const family *f) {
-    allocfunc allocate = (allocfunc)PyType_GetSlot(type, Py_tp_alloc);
-    hash *self = (hash *)allocate(type, 0);
+    hash *self = (hash *)PyType_GenericAlloc(type, 0);
     if (self) self->f = f;
     return self;
 }
@@ -225,10 +216,13 @@ static PyObject *make(PyTypeObject *type, PyObject *args, PyObject *words, const
                             "inner_size", "last_node",  "usedforsecurity", NULL};
     given g = {.size = f->out, .fanout = 1, .depth = 1, .secure = 1};
     hash *self = NULL;
-    if (!PyArg_ParseTupleAndKeywords(args, words, f->arguments, names, &g.data, &g.size, &g.key, &g.salt,
-                                     &g.person, &g.fanout, &g.depth, &g.leaf, &g.offset, &g.node_depth, &g.inner,
-                                     &g.last, &g.secure))
+    if (!words && PyTuple_Size(args) <= 1) { /* nothing but data, which needs no search for words */
+        g.data = PyTuple_Size(args) ? PyTuple_GetItem(args, 0) : NULL;
+    } else if (!PyArg_ParseTupleAndKeywords(args, words, f->arguments, names, &g.data, &g.size, &g.key, &g.salt,
+                                            &g.person, &g.fanout, &g.depth, &g.leaf, &g.offset, &g.node_depth,
+                                            &g.inner, &g.last, &g.secure)) {
         return NULL;
+    }
     if (!check_given(&g, f)) self = empty(type, f);
     if (self && begin(self, &g)) Py_CLEAR(self);
     release(&g.key);
@@ -248,10 +242,9 @@ static PyObject *make_s(PyTypeObject *type, PyObject *args, PyObject *words) {
 static void end_of_life(PyObject *object) {
     hash *self = (hash *)object;
     PyTypeObject *type = Py_TYPE(object);
-    freefunc give_back = (freefunc)PyType_GetSlot(type, Py_tp_free);
     self->f->wipe(&self->run);
     if (self->lock) PyThread_free_lock(self->lock);
-    give_back(object);
+    PyObject_Free(object);
     Py_DECREF(type);
 }
 
@@ -262,9 +255,9 @@ static PyObject *update(PyObject *self, PyObject *data) {
 
 /* Writes the state as it is now. Who asks for it ends it, which wipes it. */
 static void copy_state(hash *self, state *copied) {
-    take_lock(self);
-    *copied = self->run;
-    leave_lock(self);
+    take_lock(self->lock);
+    memcpy(copied, &self->run, self->f->state);
+    leave_lock(self->lock);
 }
 
 static PyObject *copy(PyObject *object, PyObject *none) {
@@ -291,16 +284,20 @@ static PyObject *digest(PyObject *self, PyObject *none) {
     return PyBytes_FromStringAndSize((const char *)out, (Py_ssize_t)size);
 }
 
+PyObject *digits_of(const uint8_t *bytes, size_t length) {
+    char digits[128];
+    for (size_t i = 0; i < length; i++) {
+        digits[2 * i] = "0123456789abcdef"[bytes[i] >> 4];
+        digits[2 * i + 1] = "0123456789abcdef"[bytes[i] & 15];
+    }
+    return PyUnicode_FromStringAndSize(digits, (Py_ssize_t)(2 * length));
+}
+
 static PyObject *hexdigest(PyObject *self, PyObject *none) {
     uint8_t out[64];
-    char digits[128];
     size_t size = digest_of((hash *)self, out);
     (void)none;
-    for (size_t i = 0; i < size; i++) {
-        digits[2 * i] = "0123456789abcdef"[out[i] >> 4];
-        digits[2 * i + 1] = "0123456789abcdef"[out[i] & 15];
-    }
-    return PyUnicode_FromStringAndSize(digits, (Py_ssize_t)(2 * size));
+    return digits_of(out, size);
 }
 
 static PyObject *verify(PyObject *object, PyObject *tag) {
@@ -435,41 +432,6 @@ static PyObject *many_s(PyObject *module, PyObject *args, PyObject *words) {
     return many(args, words, &blake2s, "O|$iy*y*y*:blake2s_many");
 }
 
-/* ---- The tree of two levels */
-
-static PyObject *root_of(const given *g, uint32_t leaf_length) {
-    uint8_t out[64];
-    Py_buffer view;
-    int status;
-    if (view_of(g->data, &view)) return NULL;
-    Py_BEGIN_ALLOW_THREADS
-    status = vulfsjor_tree_root(out, (size_t)g->size, view.buf, (size_t)view.len, TEXT(&g->salt), TEXT(&g->person),
-                                leaf_length);
-    Py_END_ALLOW_THREADS
-    PyBuffer_Release(&view);
-    if (status) return refused(PyExc_OverflowError, "2^58 bytes or more");
-    return PyBytes_FromStringAndSize((const char *)out, g->size);
-}
-
-static PyObject *tree_root(PyObject *module, PyObject *args, PyObject *words) {
-    static char *names[] = {"", "leaf_size", "digest_size", "salt", "person", NULL};
-    given g = {.size = blake2b.out};
-    PyObject *root = NULL;
-    uint64_t leaf_size;
-    (void)module;
-    if (!PyArg_ParseTupleAndKeywords(args, words, "OO|$iy*y*:tree_root", names, &g.data, &g.leaf, &g.size, &g.salt,
-                                     &g.person))
-        return NULL;
-    if (!number_of(g.leaf, &leaf_size) && !check(g.size, 1, blake2b.out, "digest_size", " bytes") &&
-        !check_text(&g.salt, blake2b.salt, "salt") && !check_text(&g.person, blake2b.person, "person") &&
-        !check_most(leaf_size, UINT32_MAX, "leaf_size"))
-        root = leaf_size ? root_of(&g, (uint32_t)leaf_size)
-                         : refused(PyExc_ValueError, "leaf_size must be between 1 and 4294967295");
-    release(&g.salt);
-    release(&g.person);
-    return root;
-}
-
 /* ---- The module */
 
 #define MANY(f, size, lanes)                                                                                   \
@@ -478,14 +440,8 @@ static PyObject *tree_root(PyObject *module, PyObject *args, PyObject *words) {
        "Messages in a row that have one length are hashed " lanes " at once, which is faster\n"                \
        "on a processor with AVX2."
 static PyMethodDef functions[] = {
-    {"blake2b_many", (PyCFunction)(void (*)(void))many_b, METH_VARARGS | METH_KEYWORDS, MANY(blake2b, 64, "four")},
-    {"blake2s_many", (PyCFunction)(void (*)(void))many_s, METH_VARARGS | METH_KEYWORDS, MANY(blake2s, 32, "eight")},
-    {"tree_root", (PyCFunction)(void (*)(void))tree_root, METH_VARARGS | METH_KEYWORDS,
-     "tree_root(data, /, leaf_size, *, digest_size=64, salt=b'', person=b'')\n--\n\n"
-     "Return the root of the data in a tree of two levels over BLAKE2b, as bytes.\n\n"
-     "The data is cut into leaves of leaf_size bytes, and the root hashes their digests of 64\n"
-     "bytes (the BLAKE2 document, 2.10: fanout 0, depth 2, inner size 64, and the last-node flag\n"
-     "on the last leaf and the root). It is no BLAKE2b digest of the data."},
+    {"blake2b_many", WITH_WORDS(many_b), MANY(blake2b, 64, "four")},
+    {"blake2s_many", WITH_WORDS(many_s), MANY(blake2s, 32, "eight")},
     {NULL, NULL, 0, NULL}};
 
 #define DOC(f, size, longest)                                                                                 \
@@ -497,8 +453,10 @@ static PyType_Slot slots_b[] = {{Py_tp_new, make_b},        {Py_tp_dealloc, end_
                                 {Py_tp_getset, fields},     {Py_tp_doc, DOC(blake2b, 64, 16)}, {0, NULL}};
 static PyType_Slot slots_s[] = {{Py_tp_new, make_s},        {Py_tp_dealloc, end_of_life},      {Py_tp_methods, methods},
                                 {Py_tp_getset, fields},     {Py_tp_doc, DOC(blake2s, 32, 8)}, {0, NULL}};
-static PyType_Spec spec_b = {"vulfsjor.blake2b", sizeof(hash), 0, Py_TPFLAGS_DEFAULT, slots_b};
-static PyType_Spec spec_s = {"vulfsjor.blake2s", sizeof(hash), 0, Py_TPFLAGS_DEFAULT, slots_s};
+/* An object has room for the state of its family only. */
+#define SIZE(f) (int)(offsetof(hash, run) + sizeof(vulfsjor_##f##_state))
+static PyType_Spec spec_b = {"vulfsjor.blake2b", SIZE(blake2b), 0, Py_TPFLAGS_DEFAULT, slots_b};
+static PyType_Spec spec_s = {"vulfsjor.blake2s", SIZE(blake2s), 0, Py_TPFLAGS_DEFAULT, slots_s};
 
 /* The class of both classes, so that no program changes them. (The limited API can't set the flag of immutable
  * types on one that has constants.) */
@@ -554,19 +512,32 @@ static int add_version(PyObject *module) {
     return status;
 }
 
+/* A processor that the library does not run on is refused here, where its first call would end the program. */
+static int ask_processor(PyObject *module) {
+    (void)module;
+#ifdef __x86_64__
+    if (!__builtin_cpu_supports("sse4.2") || !__builtin_cpu_supports("popcnt")) {
+        PyErr_SetString(PyExc_ImportError, "vulfsjor needs a processor of x86-64-v2, with SSE4.2 and POPCNT");
+        return -1;
+    }
+#endif
+    return 0;
+}
+
 static int fill(PyObject *module) {
     PyObject *types = PyType_FromSpecWithBases(&spec_of_types, (PyObject *)&PyType_Type);
     int status;
     if (!types) return -1;
     status = add_family(module, types, &spec_b, &blake2b, "BLAKE2B_") ||
-                     add_family(module, types, &spec_s, &blake2s, "BLAKE2S_") || add_version(module)
+                     add_family(module, types, &spec_s, &blake2s, "BLAKE2S_") || add_version(module) ||
+                     PyModule_AddFunctions(module, tree_functions) || add_tree_types(module)
                  ? -1
                  : 0;
     Py_DECREF(types);
     return status;
 }
 
-static PyModuleDef_Slot module_slots[] = {{Py_mod_exec, fill}, {0, NULL}};
+static PyModuleDef_Slot module_slots[] = {{Py_mod_exec, ask_processor}, {Py_mod_exec, fill}, {0, NULL}};
 static PyModuleDef module = {PyModuleDef_HEAD_INIT, "vulfsjor._library", "The functions of the package vulfsjor, in C.",
                              0, functions, module_slots, NULL, NULL, NULL};
 

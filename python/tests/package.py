@@ -14,6 +14,7 @@ import os
 import random
 import re
 import sys
+import tempfile
 import threading
 import time
 import tracemalloc
@@ -177,7 +178,7 @@ class Secrets(unittest.TestCase):
             key = bytes(range(1, longest + 1))
             mac = make(b"message", key=key)
             address, size, head = id(mac), mac.__sizeof__(), object.__basicsize__ + 16
-            self.assertGreater(size, 424)
+            self.assertEqual(size, head + (424 if longest == 64 else 232))
             alive, dead = (ctypes.create_string_buffer(size) for _ in range(2))
             ctypes.memmove(alive, address, size)
             del mac
@@ -371,18 +372,18 @@ class Words(unittest.TestCase):
                 declared.add(node.name)
                 members = {part.target.id if isinstance(part, ast.AnnAssign) else part.name for part in node.body}
                 there = {name for name in dir(getattr(vulfsjor, node.name)) if not name.startswith("_")}
-                self.assertEqual(members, there | {"__new__"})
+                self.assertEqual(members - {"_replace"}, there | {"__new__"})
                 for part in node.body:
                     if isinstance(part, ast.FunctionDef) and not part.decorator_list:
-                        self.same_signature(part, getattr(vulfsjor, node.name), part.name)
+                        self.same_signature(part, getattr(vulfsjor._library, node.name), part.name)
             elif isinstance(node, ast.FunctionDef):
                 declared.add(node.name)
-                self.same_signature(node, vulfsjor, node.name)
+                self.same_signature(node, vulfsjor._library, node.name)
             elif isinstance(node, ast.AnnAssign):
                 declared.add(node.target.id)
-        there = {name for name in dir(vulfsjor._library) if not name.startswith("__") or name == "__version__"}
+        there = {name for name in dir(vulfsjor._library) if not name.startswith("_") or name == "__version__"}
         self.assertEqual(declared, there)
-        self.assertTrue(set(vulfsjor.__all__) <= declared)
+        self.assertEqual(set(vulfsjor.__all__) - declared, {"tree_root_file"})
 
     def same_signature(self, node, owner, name):
         """Compares the names, kinds and defaults of a function's arguments with those of the stub."""
@@ -404,8 +405,12 @@ class Words(unittest.TestCase):
     def test_examples(self):
         failed, tried = doctest.testmod(vulfsjor)
         self.assertEqual((failed, tried > 4), (0, True))
-        failed, tried = doctest.testfile(os.path.join(HERE, "..", "README.md"), module_relative=False)
-        self.assertEqual((failed, tried > 4), (0, True))
+        here = os.getcwd()
+        with tempfile.TemporaryDirectory() as folder:
+            os.chdir(folder)
+            failed, tried = doctest.testfile(os.path.join(HERE, "..", "README.md"), module_relative=False)
+            os.chdir(here)
+        self.assertEqual((failed, tried > 20), (0, True))
 
 
 if __name__ == "__main__":

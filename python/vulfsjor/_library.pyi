@@ -1,8 +1,8 @@
 from collections.abc import Iterable
 from typing import ClassVar, SupportsIndex, final
 
-# What has bytes to hash: bytes, bytearray, memoryview and the like. Type checkers know this module in stubs; no
-# program imports it.
+# An object with bytes: bytes, bytearray, memoryview and others. Type checkers know this module in stubs; no program
+# imports it.
 from typing_extensions import Buffer as _Bytes
 
 __version__: str
@@ -88,6 +88,29 @@ class blake2s:
     def update(self, data: _Bytes, /) -> None: ...
     def verify(self, tag: _Bytes, /) -> bool: ...
 
+class TreeHasher:
+    def __new__(
+        cls,
+        leaf_size: int,
+        *,
+        digest_size: SupportsIndex = 64,
+        salt: _Bytes = b"",
+        person: _Bytes = b"",
+    ) -> TreeHasher: ...
+    @property
+    def count(self) -> int: ...
+    @property
+    def digest_size(self) -> int: ...
+    @property
+    def leaf_size(self) -> int: ...
+    def _replace(self, other: TreeHasher, count: int, /) -> None: ...
+    def copy(self) -> TreeHasher: ...
+    def digest(self) -> bytes: ...
+    def hexdigest(self) -> str: ...
+    def next_leaves(self, data: _Bytes, /, skip: int = 0) -> bytes: ...
+    def update(self, data: _Bytes, /) -> None: ...
+    def update_leaves(self, digests: _Bytes, data: _Bytes, /) -> None: ...
+
 def blake2b_many(
     messages: Iterable[_Bytes],
     /,
@@ -106,6 +129,17 @@ def blake2s_many(
     salt: _Bytes = b"",
     person: _Bytes = b"",
 ) -> list[bytes]: ...
+def tree_leaf_count(length: int, leaf_size: int) -> int: ...
+def tree_leaves(
+    data: _Bytes,
+    /,
+    leaf_size: int,
+    *,
+    first: int,
+    ends: bool,
+    salt: _Bytes = b"",
+    person: _Bytes = b"",
+) -> bytes: ...
 def tree_root(
     data: _Bytes,
     /,
@@ -115,3 +149,13 @@ def tree_root(
     salt: _Bytes = b"",
     person: _Bytes = b"",
 ) -> bytes: ...
+def tree_root_of_leaves(
+    digests: _Bytes,
+    /,
+    leaf_size: int,
+    *,
+    digest_size: SupportsIndex = 64,
+    salt: _Bytes = b"",
+    person: _Bytes = b"",
+) -> bytes: ...
+def plain_bytes(data: _Bytes, /) -> _Bytes: ...

@@ -1,0 +1,193 @@
+#!/usr/bin/env python3
+"""Tests dask_root.py over a cluster of worker processes on this machine, with the package in a folder.
+
+usage: test_dask.py FOLDER
+
+The roots are those that tools/blake2_tree.py makes with Python's hashlib. One worker is killed while it
+hashes a range, after it has hashed others. The status is 0 if all is as it should be. It needs Dask
+(Debian's python3-distributed).
+"""
+import os
+import signal
+import subprocess
+import sys
+import tempfile
+import unittest
+from unittest import mock
+
+HERE = os.path.dirname(os.path.abspath(__file__))
+TOP = os.path.dirname(os.path.dirname(HERE))
+if __name__ == "__main__":  # a worker imports this file too, and has the path from the environment
+    if len(sys.argv) != 2:
+        sys.exit(__doc__)
+    FOLDERS = [os.path.abspath(sys.argv.pop()), HERE, os.path.join(TOP, "tools")]
+    sys.path[:0] = FOLDERS
+    os.environ["PYTHONPATH"] = os.pathsep.join([*FOLDERS, os.environ.get("PYTHONPATH", "")])
+
+import dask_root  # noqa: E402
+from blake2_tree import tree_root  # noqa: E402
+from distributed import Client, LocalCluster  # noqa: E402
+
+hash_range = dask_root.hash_range
+SCRIPT = os.path.join(HERE, "dask_root.py")
+LEAF = 1000
+RANGE = 8 * LEAF
+
+
+def noted(folder, path, length, leaf_size, first, leaves):
+    """hash_range, which notes in the folder the worker that runs it and the first leaf."""
+    with open(os.path.join(folder, "calls"), "a", encoding="ascii") as calls:
+        calls.write(f"{os.getpid()} {first}\n")
+    return hash_range(path, length, leaf_size, first, leaves)
+
+
+def killed_once(folder, path, length, leaf_size, first, leaves):
+    """The same, but the first worker that hashes its fourth range is killed."""
+    with open(os.path.join(folder, "calls"), encoding="ascii") as calls:
+        own = sum(line.split()[0] == str(os.getpid()) for line in calls)
+    if own == 3:
+        try:
+            os.close(os.open(os.path.join(folder, "killed"), os.O_CREAT | os.O_EXCL))
+            os.kill(os.getpid(), signal.SIGKILL)
+        except FileExistsError:
+            pass
+    return noted(folder, path, length, leaf_size, first, leaves)
+
+
+class DaskTest(unittest.TestCase):
+    """dask_root.tree_root and the program, over one cluster of three workers."""
+
+    @classmethod
+    def setUpClass(cls):
+        cls.cluster = LocalCluster(n_workers=3, threads_per_worker=1, processes=True, dashboard_address=None,
+                                   silence_logs=50)
+        cls.client = Client(cls.cluster)
+
+    @classmethod
+    def tearDownClass(cls):
+        cls.client.close()
+        cls.cluster.close()
+
+    def setUp(self):
+        held = tempfile.TemporaryDirectory()
+        self.addCleanup(held.cleanup)
+        self.folder = held.name
+        self.path = os.path.join(self.folder, "message")
+        open(os.path.join(self.folder, "calls"), "w", encoding="ascii").close()
+        self.addCleanup(setattr, dask_root, "hash_range", hash_range)
+
+    def write(self, length):
+        """Makes the file hold this many bytes, and returns them."""
+        message = os.urandom(length)
+        with open(self.path, "wb") as file:
+            file.write(message)
+        return message
+
+    def use(self, function):
+        """Puts a function of (folder, *arguments) in the place of hash_range."""
+        folder = self.folder
+        dask_root.hash_range = lambda *given: function(folder, *given)
+
+    def calls(self):
+        """The pairs of worker and first leaf that were noted."""
+        with open(os.path.join(self.folder, "calls"), encoding="ascii") as calls:
+            return [tuple(map(int, line.split())) for line in calls]
+
+    def test_lengths(self):
+        for length in (0, 1, LEAF, LEAF + 1, RANGE - 1, RANGE, RANGE + 1, 3 * RANGE, 5 * RANGE + 4321):
+            message = self.write(length)
+            root = dask_root.tree_root(self.client, self.path, LEAF, RANGE)
+            self.assertEqual(root, tree_root(message, LEAF, 64), length)
+
+    def test_sizes_of_ranges(self):
+        message = self.write(30 * LEAF + 1)
+        for size in (1, LEAF, 5 * LEAF, 13 * LEAF, 1 << 40):
+            root = dask_root.tree_root(self.client, self.path, LEAF, size)
+            self.assertEqual(root, tree_root(message, LEAF, 64), size)
+        self.assertEqual(dask_root.tree_root(self.client, self.path, 65536), tree_root(message, 65536, 64))
+
+    def test_worker_processes_hash_each_range_once(self):
+        message = self.write(60 * RANGE)
+        self.use(noted)
+        self.assertEqual(dask_root.tree_root(self.client, self.path, LEAF, RANGE), tree_root(message, LEAF, 64))
+        workers, firsts = zip(*self.calls())
+        self.assertEqual(sorted(firsts), list(range(0, 480, 8)))
+        self.assertLessEqual(set(workers), set(self.client.run(os.getpid).values()))
+        self.assertNotIn(os.getpid(), workers)
+        self.assertGreater(len(set(workers)), 1)
+
+    def test_same_path_again_is_hashed_again(self):
+        for _ in range(2):
+            message = self.write(3 * RANGE)
+            self.assertEqual(dask_root.tree_root(self.client, self.path, LEAF, RANGE), tree_root(message, LEAF, 64))
+
+    def test_lost_worker(self):
+        before = set(self.client.run(os.getpid).values())
+        message = self.write(60 * RANGE)
+        self.use(killed_once)
+        self.assertEqual(dask_root.tree_root(self.client, self.path, LEAF, RANGE), tree_root(message, LEAF, 64))
+        self.assertTrue(os.path.exists(os.path.join(self.folder, "killed")))
+        lost = before - set(self.client.run(os.getpid).values())
+        self.assertEqual(len(lost), 1)
+        # What the lost worker had hashed went with it, and others have hashed it again.
+        calls = self.calls()
+        held = [first for worker, first in calls if worker in lost]
+        again = [first for worker, first in calls if worker not in lost]
+        self.assertEqual(len(held), 3)
+        self.assertEqual(sorted(again), list(range(0, 480, 8)))
+
+    def test_wrong_answers_are_refused(self):
+        self.write(3 * RANGE)
+        for cut in (-64, -1, 0):
+            dask_root.hash_range = lambda *given: (hash_range(*given) + bytes(64))[:cut or None]
+            if cut == -64:
+                dask_root.tree_root(self.client, self.path, LEAF, RANGE)
+                continue
+            with self.assertRaisesRegex(ValueError, "bytes came for 8 leaves from 0 on"):
+                dask_root.tree_root(self.client, self.path, LEAF, RANGE)
+
+    def test_files_that_change(self):
+        self.write(RANGE)
+        with self.assertRaisesRegex(ValueError, "has 8000 bytes on this worker, and not 9000"):
+            hash_range(self.path, 9000, LEAF, 0, 9)
+        with self.assertRaisesRegex(ValueError, "has 8000 bytes on this worker, and not 7000"):
+            hash_range(self.path, 7000, LEAF, 0, 7)
+        with open(self.path, "rb", buffering=0) as file:
+            self.assertEqual(len(dask_root.read_at(file, 10, 7990)), 10)
+            with self.assertRaisesRegex(EOFError, "ended before byte 8001"):
+                dask_root.read_at(file, 11, 7990)
+        with self.assertRaises(FileNotFoundError):
+            dask_root.tree_root(self.client, self.path + ".absent", LEAF)
+
+    def test_short_reads(self):
+        message = self.write(1000)
+        whole = os.preadv
+        with mock.patch("os.preadv", lambda file, views, start: whole(file, [views[0][:7]], start)):
+            with open(self.path, "rb", buffering=0) as file:
+                self.assertEqual(dask_root.read_at(file, 900, 50), message[50:950])
+
+    def run_program(self, *words):
+        """Runs the program, and returns its status, output and errors."""
+        done = subprocess.run([sys.executable, SCRIPT, *words], stdin=subprocess.DEVNULL, capture_output=True,
+                              text=True, cwd=self.folder, timeout=120)
+        return done.returncode, done.stdout, done.stderr
+
+    def test_program(self):
+        message = self.write(200000)
+        line = "{}  message\n"
+        # Dask and its web server may have words for developers on standard error.
+        self.assertEqual(self.run_program("message")[:2], (0, line.format(tree_root(message, 65536, 64).hex())))
+        address = self.cluster.scheduler_address
+        self.assertEqual(self.run_program("--leaf", "777", "--scheduler", address, "message")[:2],
+                         (0, line.format(tree_root(message, 777, 64).hex())))
+        status, out, errors = self.run_program("--scheduler", address, "absent")
+        self.assertEqual((status, out), (1, ""))
+        self.assertRegex(errors, "(?m)^dask_root.py: .*No such file or directory: '.*/absent'$")
+        for words in ((), ("--leaf", "0", "message"), ("--leaf", "4294967296", "message"), ("a", "b")):
+            status, out, errors = self.run_program(*words)
+            self.assertEqual((status, out), (2, ""), words)
+            self.assertIn("usage: ", errors)
+
+
+if __name__ == "__main__":
+    unittest.main()

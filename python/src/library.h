@@ -1,0 +1,55 @@
+/* What library.c and trees.c share. Both are C, which no proof covers. They keep to the limited API of
+ * Python 3.11, so that one compiled module serves every later version of CPython. */
+#ifndef VULFSJOR_LIBRARY_H
+#define VULFSJOR_LIBRARY_H
+
+#define PY_SSIZE_T_CLEAN
+#define Py_LIMITED_API 0x030b0000
+#include <Python.h>
+
+#include "blake2_c.h"
+
+/* The pointer and the length of a buffer, as arguments of a call. */
+#define TEXT(buffer) (buffer)->buf, (size_t)(buffer)->len
+
+/* A function for PyMethodDef that accepts keywords. */
+#define WITH_WORDS(function) (PyCFunction)(void (*)(void))(function), METH_VARARGS | METH_KEYWORDS
+
+/* An input of this many bytes is hashed without the GIL. */
+enum { LET_OTHERS_RUN_AT = 2048 };
+
+/* ---- Arguments. Each of these returns 0, or -1 with an exception, which is hashlib's. */
+
+/* A view of the bytes of an object. */
+int view_of(PyObject *data, Py_buffer *view);
+
+/* A number from 0 to 2^64 - 1, or 0 if there is none: ValueError below, OverflowError above. */
+int number_of(PyObject *given, uint64_t *number);
+
+/* The number is from least to most. */
+int check(int number, int least, int most, const char *name, const char *unit);
+int check_most(uint64_t number, uint64_t most, const char *name);
+
+/* The text is not longer than this. */
+int check_text(const Py_buffer *text, int most, const char *name);
+
+/* Releases a view, if there is one. */
+void release(Py_buffer *text);
+
+/* Sets the exception and returns NULL. */
+PyObject *refused(PyObject *exception, const char *why);
+
+/* ---- Locks, made when they are first needed. A lock is held while a call works on a state, since an
+ * update of many bytes lets other threads run. */
+
+void take_lock(PyThread_type_lock lock);
+void leave_lock(PyThread_type_lock lock);
+
+/* The digits of at most 64 bytes, as a string. */
+PyObject *digits_of(const uint8_t *bytes, size_t length);
+
+/* ---- trees.c: the functions of the tree of two levels, for the module, and its classes. */
+extern PyMethodDef tree_functions[];
+int add_tree_types(PyObject *module);
+
+#endif
