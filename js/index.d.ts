@@ -1,0 +1,202 @@
+/**
+ * BLAKE2b and BLAKE2s (RFC 7693) by proved functions, in WebAssembly.
+ *
+ * Input is a `Uint8Array`, any other view or an `ArrayBuffer`; digests are new `Uint8Array`s. A
+ * string is refused: `utf8(text)` encodes it. Values of another type, unknown options and further
+ * arguments throw a `TypeError`; lengths and numbers out of bounds throw a `RangeError`. A call
+ * that is refused changes nothing.
+ */
+
+declare global {
+  // for compilers before 5.2; the same as in their own libraries from then on
+  interface SymbolConstructor {
+    readonly dispose: unique symbol;
+  }
+}
+
+/** Bytes. Of a view, only the part that it covers. */
+export type Bytes = ArrayBufferView | ArrayBuffer | SharedArrayBuffer;
+
+/** The options of a hash or a message authentication code. */
+export interface Options {
+  /** The length of the digest in bytes: 1 to 64, BLAKE2s 1 to 32. The default is the maximum. */
+  digestLength?: number | undefined;
+  /** A key of 1 to 64 bytes, BLAKE2s 1 to 32. The digest is then a MAC. */
+  key?: Bytes | undefined;
+  /** Up to 16 bytes, BLAKE2s up to 8. Trailing zeros change nothing. */
+  salt?: Bytes | undefined;
+  /** The same lengths. A separate one for each use keeps digests of different uses apart. */
+  personalization?: Bytes | undefined;
+}
+
+/** The position of a node in a tree of hashes (the BLAKE2 document, section 2.10). */
+export interface NodePosition {
+  /** The maximum number of children of a node, 0 to 255; 0 is unlimited. The default is 1. */
+  fanout?: number | undefined;
+  /** The number of levels of the tree, 1 to 255. The default is 1. */
+  depth?: number | undefined;
+  /** The maximum length of a leaf in bytes, below 2^32; 0, the default, is unlimited. */
+  leafLength?: number | undefined;
+  /** The index of this node in its level, below 2^64, BLAKE2s 2^48. The default is 0. */
+  nodeOffset?: number | bigint | undefined;
+  /** The level of this node, 0 (the leaves) to 255. The default is 0. */
+  nodeDepth?: number | undefined;
+  /** The length of inner nodes' digests in bytes, up to 64, BLAKE2s 32. The default is 0. */
+  innerLength?: number | undefined;
+  /** Whether this is the last node of its level. The default is false. */
+  lastNode?: boolean | undefined;
+}
+
+export interface NodeOptions extends Options {
+  tree?: NodePosition | undefined;
+}
+
+export interface TreeOptions {
+  /** The length of a leaf in bytes, 1 to 2^32 - 1. */
+  leafLength: number;
+  /** The length of the root in bytes, 1 to 64. The default is 64. */
+  digestLength?: number | undefined;
+  /** Up to 16 bytes. */
+  salt?: Bytes | undefined;
+  /** Up to 16 bytes. */
+  personalization?: Bytes | undefined;
+}
+
+export interface LeavesOptions {
+  /** The length of a leaf in bytes, 1 to 2^32 - 1. */
+  leafLength: number;
+  /** The number of the first leaf of this range in the whole message, counted from 0. */
+  first: number | bigint;
+  /** Whether the message ends with this range. */
+  ends: boolean;
+  /** Those of the root. */
+  salt?: Bytes | undefined;
+  personalization?: Bytes | undefined;
+}
+
+export interface ThreadsOptions {
+  /**
+   * The maximum number of workers, 1 to 256. The default 1 hashes on the calling thread, as do
+   * leaves longer than 64 MiB.
+   */
+  threads?: number | undefined;
+}
+
+export interface StreamOptions {
+  /**
+   * Called while the source is hashed with the number of bytes so far and the total, if known. What
+   * it throws rejects the promise.
+   */
+  onProgress?: ((bytes: number, total: number | undefined) => void) | undefined;
+  /** Stops the call: the promise rejects with the signal's reason. */
+  signal?: AbortSignal | undefined;
+}
+
+/** A file, the body of a response, a stream of node. */
+export type Source = Blob | ReadableStream<Bytes> | AsyncIterable<Bytes>;
+
+/** The digest of a message. */
+export function blake2b(message: Bytes, options?: NodeOptions): Uint8Array;
+export function blake2s(message: Bytes, options?: NodeOptions): Uint8Array;
+
+/** The digests of several messages with the same options. Equal lengths hash in parallel. */
+export function blake2bMany(messages: Iterable<Bytes>, options?: Options): Uint8Array[];
+export function blake2sMany(messages: Iterable<Bytes>, options?: Options): Uint8Array[];
+
+/**
+ * The root of a tree of two levels over BLAKE2b: the message is cut into leaves of `leafLength`
+ * bytes, and the root hashes their digests. It is not a BLAKE2b digest of the message.
+ */
+export function treeRoot(message: Bytes, options: TreeOptions): Uint8Array;
+
+/**
+ * The digests of a range of leaves in the tree of `treeRoot`, 64 bytes each. Ranges can be hashed
+ * in any order and in parallel. The bytes are whole leaves unless the message ends with them; they
+ * are empty only if they are all of an empty message. Ranges end below byte 2^58 of the message.
+ */
+export function treeLeaves(message: Bytes, options: LeavesOptions): Uint8Array;
+
+/**
+ * The root over the digests of all leaves of a message, joined in order: the `treeRoot` of the
+ * message. If a leaf changes, hash that leaf again, replace its digest, and compute the root.
+ */
+export function treeRootOfLeaves(digests: Bytes, options: TreeOptions): Uint8Array;
+
+/**
+ * The digest of everything that a source contains. A stream is read to its end or canceled. If a
+ * file changes while it is read, the promise rejects. With `threads` the leaves of a tree are
+ * hashed by workers, and the promise rejects if one of them fails; the digests of all leaves are held in
+ * memory until the end, 64 bytes each.
+ */
+export function blake2bStream(
+  source: Source,
+  options?: NodeOptions & StreamOptions,
+): Promise<Uint8Array>;
+export function blake2sStream(
+  source: Source,
+  options?: NodeOptions & StreamOptions,
+): Promise<Uint8Array>;
+export function treeRootStream(
+  source: Source,
+  options: TreeOptions & StreamOptions & ThreadsOptions,
+): Promise<Uint8Array>;
+
+/**
+ * An incremental hash. `digest`, `hex`, `verify` and `wipe` end it and set its state to zero; other
+ * calls then throw.
+ */
+declare class Hasher {
+  /** The length of the digest in bytes. */
+  readonly digestLength: number;
+  /** The length of a block in bytes: 128, BLAKE2s 64. */
+  readonly blockLength: number;
+  /** Absorbs more of the message. */
+  update(message: Bytes): this;
+  /** The digest of everything absorbed. Ends the hash. */
+  digest(): Uint8Array;
+  /** The same in hexadecimal digits. Ends the hash. */
+  hex(): string;
+  /**
+   * Whether the tag is the whole digest. Ends the hash. The comparison reads all bytes of a tag of
+   * the right length, wherever they differ.
+   */
+  verify(tag: Bytes): boolean;
+  /** A separate hash that has absorbed the same. */
+  copy(): this;
+  /** Returns to the start, with the same options. */
+  reset(): this;
+  /** Ends the hash, and sets its state to zero. May be called again. */
+  wipe(): void;
+  [Symbol.dispose](): void;
+}
+
+export class Blake2b extends Hasher {
+  constructor(options?: NodeOptions);
+}
+
+export class Blake2s extends Hasher {
+  constructor(options?: NodeOptions);
+}
+
+/** The root of `treeRoot`, incrementally. */
+export class TreeHash extends Hasher {
+  constructor(options: TreeOptions);
+}
+
+/** Whether two byte arrays are equal. Reads all bytes of equal lengths, wherever they differ. */
+export function equal(a: Bytes, b: Bytes): boolean;
+
+/** Lowercase hexadecimal digits, and the bytes of hexadecimal digits of either case. */
+export function hex(bytes: Bytes): string;
+export function fromHex(text: string): Uint8Array;
+
+/** A string in UTF-8. Throws a `RangeError` if it has a lone surrogate. */
+export function utf8(text: string): Uint8Array;
+
+/**
+ * Compiles the library in advance, off the calling thread. Otherwise the first call compiles it,
+ * which takes 10 to 30 ms.
+ */
+export function load(): Promise<void>;
+
+export {};

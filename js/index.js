@@ -1,0 +1,135 @@
+// BLAKE2b and BLAKE2s (RFC 7693) by proved functions. index.d.ts documents the interface.
+
+import {
+  OPTIONS, bytesOf, flagOf, kindOf, lengthOf, offsetOf, refuseMore, settingsOf,
+} from "./src/arguments.js";
+import {
+  BLAKE2B, BLAKE2S, LEAF_DIGEST, TREE, hash, hashLeaves, hashMany, isSame, load, rootOfLeaves,
+} from "./src/engine.js";
+import { Blake2b, Blake2s, TreeHash, hex } from "./src/hashers.js";
+import { hashStream } from "./src/streams.js";
+
+export { Blake2b, Blake2s, TreeHash, hex, load };
+
+function one(kind, caller, message, options, rest) {
+  refuseMore(rest, caller, 2);
+  const bytes = bytesOf(message, caller, "message");
+  const [settings] = settingsOf(kind, options, caller);
+  return hash(kind, bytes, settings);
+}
+
+function several(kind, caller, messages, options, rest) {
+  refuseMore(rest, caller, 2);
+  if (typeof messages?.[Symbol.iterator] !== "function" || typeof messages === "string") {
+    throw new TypeError(
+      `${caller}: messages must be an iterable of bytes, not ${kindOf(messages)}`,
+    );
+  }
+  const [settings] = settingsOf(kind, options, caller, OPTIONS.several);
+  const given = Array.from(messages);
+  const bytes = given.map((message, i) => bytesOf(message, caller, `message ${i}`));
+  return hashMany(kind, bytes, settings);
+}
+
+export function blake2b(message, options, ...rest) {
+  return one(BLAKE2B, "blake2b", message, options, rest);
+}
+
+export function blake2s(message, options, ...rest) {
+  return one(BLAKE2S, "blake2s", message, options, rest);
+}
+
+export function treeRoot(message, options, ...rest) {
+  return one(TREE, "treeRoot", message, options, rest);
+}
+
+// Where messages of a tree have to end (the library's limit).
+const LIMIT = 2n ** 58n;
+
+export function treeLeaves(message, options, ...rest) {
+  refuseMore(rest, "treeLeaves", 2);
+  const bytes = bytesOf(message, "treeLeaves", "message");
+  const [settings, { first, ends }] = settingsOf(TREE, options, "treeLeaves", OPTIONS.leaves);
+  for (const [name, value] of [["first", first], ["ends", ends]]) {
+    if (value === undefined) throw new TypeError(`treeLeaves: ${name} must be given`);
+  }
+  const range = {
+    first: offsetOf(first, "treeLeaves", "first", LIMIT - 1n),
+    ends: flagOf(ends, "treeLeaves", "ends"),
+  };
+  const length = lengthOf(bytes);
+  if (!range.ends && length % settings.leafLength !== 0) {
+    throw new RangeError(
+      `treeLeaves: message must be whole leaves of ${settings.leafLength} bytes, not ${length} ` +
+        "bytes, unless it ends",
+    );
+  }
+  if (length === 0 && !(range.ends && range.first === 0n)) {
+    throw new RangeError("treeLeaves: message must have at least one leaf");
+  }
+  if (range.first * BigInt(settings.leafLength) + BigInt(length) >= LIMIT) {
+    throw new RangeError("treeLeaves: the leaves must end below byte 2^58 of the message");
+  }
+  return hashLeaves(settings, range, bytes);
+}
+
+export function treeRootOfLeaves(digests, options, ...rest) {
+  refuseMore(rest, "treeRootOfLeaves", 2);
+  const bytes = bytesOf(digests, "treeRootOfLeaves", "digests");
+  const [settings] = settingsOf(TREE, options, "treeRootOfLeaves");
+  const length = lengthOf(bytes);
+  if (length === 0 || length % LEAF_DIGEST !== 0) {
+    throw new RangeError(
+      `treeRootOfLeaves: digests must have ${LEAF_DIGEST} bytes for each leaf, not ${length} bytes`,
+    );
+  }
+  return rootOfLeaves(settings, bytes);
+}
+
+export function blake2bMany(messages, options, ...rest) {
+  return several(BLAKE2B, "blake2bMany", messages, options, rest);
+}
+
+export function blake2sMany(messages, options, ...rest) {
+  return several(BLAKE2S, "blake2sMany", messages, options, rest);
+}
+
+export function blake2bStream(source, options, ...rest) {
+  return hashStream(BLAKE2B, Blake2b, "blake2bStream", source, options, rest);
+}
+
+export function blake2sStream(source, options, ...rest) {
+  return hashStream(BLAKE2S, Blake2s, "blake2sStream", source, options, rest);
+}
+
+export function treeRootStream(source, options, ...rest) {
+  return hashStream(TREE, TreeHash, "treeRootStream", source, options, rest);
+}
+
+export function equal(a, b, ...rest) {
+  refuseMore(rest, "equal", 2);
+  return isSame(bytesOf(a, "equal", "a"), bytesOf(b, "equal", "b"));
+}
+
+// hex, utf8 and fromHex ignore further arguments, so that map() can call them.
+export function utf8(text) {
+  if (typeof text !== "string") {
+    throw new TypeError(`utf8: text must be a string, not ${kindOf(text)}`);
+  }
+  // the encoder would replace each by U+FFFD, so that different strings had equal bytes
+  if (/\p{Surrogate}/u.test(text)) {
+    throw new RangeError("utf8: text has a lone surrogate");
+  }
+  return new TextEncoder().encode(text);
+}
+
+export function fromHex(text) {
+  if (typeof text !== "string") {
+    throw new TypeError(`fromHex: text must be a string, not ${kindOf(text)}`);
+  }
+  if (text.length % 2 !== 0 || /[^0-9a-fA-F]/.test(text)) {
+    throw new RangeError("fromHex: text must be an even number of hexadecimal digits");
+  }
+  const byteAt = (_, i) => parseInt(text.slice(2 * i, 2 * i + 2), 16);
+  return Uint8Array.from({ length: text.length / 2 }, byteAt);
+}

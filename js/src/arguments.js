@@ -1,0 +1,239 @@
+// Checks arguments. Everything that a caller passes is read and checked here, once and before the
+// library's memory is touched. So no code of the caller runs in between, and a refused call changes
+// nothing.
+
+const TypedArray = Object.getPrototypeOf(Uint8Array);
+
+// The getter of a built-in property. It reads the object itself, whatever a subclass or another
+// realm defines under that name.
+function getterOf(prototype, name) {
+  const { get } = Object.getOwnPropertyDescriptor(prototype, name);
+  return (value) => Reflect.apply(get, value, []);
+}
+
+const ofTyped = {
+  buffer: getterOf(TypedArray.prototype, "buffer"),
+  byteOffset: getterOf(TypedArray.prototype, "byteOffset"),
+  byteLength: getterOf(TypedArray.prototype, "byteLength"),
+};
+const ofDataView = {
+  buffer: getterOf(DataView.prototype, "buffer"),
+  byteOffset: getterOf(DataView.prototype, "byteOffset"),
+  byteLength: getterOf(DataView.prototype, "byteLength"),
+};
+const nameOfTyped = getterOf(TypedArray.prototype, Symbol.toStringTag);
+const keysOfTyped = TypedArray.prototype.keys;
+const lengthsOfBuffers = [getterOf(ArrayBuffer.prototype, "byteLength")];
+if (typeof SharedArrayBuffer !== "undefined") {
+  lengthsOfBuffers.push(getterOf(SharedArrayBuffer.prototype, "byteLength"));
+}
+
+function isBuffer(value) {
+  if (typeof value !== "object" || value === null) return false;
+  return lengthsOfBuffers.some((lengthOf) => {
+    try {
+      lengthOf(value);
+      return true;
+    } catch {
+      return false;
+    }
+  });
+}
+
+// The same memory as a Uint8Array. Throws if the memory is gone (detached, or a view past the end
+// of a buffer that has shrunk). A Uint8Array is returned as it is: V8 keeps up to 64 bytes inside
+// the object, and reading its buffer moves them elsewhere and leaves a copy.
+function viewOf(value) {
+  if (!ArrayBuffer.isView(value)) return new Uint8Array(value);
+  const name = nameOfTyped(value);
+  const of = name === undefined ? ofDataView : ofTyped;
+  const length = of.byteLength(value);
+  if (length === 0 && name !== undefined) Reflect.apply(keysOfTyped, value, []);
+  if (name === "Uint8Array") return value;
+  return new Uint8Array(of.buffer(value), of.byteOffset(value), length);
+}
+
+/** The length of what bytesOf returns, whatever a subclass says. */
+export const lengthOf = ofTyped.byteLength;
+
+/** A copy of what bytesOf returns. */
+export function copyOf(bytes) {
+  const copy = new Uint8Array(lengthOf(bytes));
+  copy.set(bytes);
+  return copy;
+}
+
+/** A part of what bytesOf returns, as a view. */
+export function partOf(bytes, begin, length) {
+  return new Uint8Array(ofTyped.buffer(bytes), ofTyped.byteOffset(bytes) + begin, length);
+}
+
+/** What a value is, for an error message. */
+export function kindOf(value) {
+  if (value === null || value === undefined) return String(value);
+  if (Array.isArray(value)) return "an array";
+  return typeof value === "object" ? "an object" : `a ${typeof value}`;
+}
+
+/**
+ * The bytes of a message, key, salt or tag: a Uint8Array over the caller's own memory. It may be an
+ * instance of a subclass, so only lengthOf, partOf, copyOf and set() of another array read it.
+ */
+export function bytesOf(value, caller, what) {
+  if (!ArrayBuffer.isView(value) && !isBuffer(value)) {
+    const hint = typeof value === "string" ? " (utf8() encodes a string)" : "";
+    throw new TypeError(
+      `${caller}: ${what} must be a Uint8Array, another view or an ArrayBuffer, ` +
+        `not ${kindOf(value)}${hint}`,
+    );
+  }
+  try {
+    return viewOf(value);
+  } catch {
+    throw new TypeError(`${caller}: the memory of ${what} is detached or has shrunk`);
+  }
+}
+
+/** The same with a length between the bounds; empty if the value is undefined. */
+function shortBytesOf(value, caller, what, least, most) {
+  if (value === undefined) return EMPTY;
+  const bytes = bytesOf(value, caller, what);
+  const length = lengthOf(bytes);
+  if (length < least || length > most) {
+    throw new RangeError(`${caller}: ${what} must have ${least} to ${most} bytes, not ${length}`);
+  }
+  return bytes;
+}
+
+const EMPTY = new Uint8Array(0);
+
+/** An integer between the bounds, or the default if the value is undefined. */
+export function integerOf(value, caller, what, least, most, otherwise) {
+  if (value === undefined) return otherwise;
+  if (typeof value !== "number") {
+    throw new TypeError(`${caller}: ${what} must be a number, not ${kindOf(value)}`);
+  }
+  if (!Number.isInteger(value) || value < least || value > most) {
+    throw new RangeError(
+      `${caller}: ${what} must be an integer from ${least} to ${most}, not ${value}`,
+    );
+  }
+  return value;
+}
+
+/** An integer from 0 to a bound that may have more than 53 bits, as a BigInt; 0 if undefined. */
+export function offsetOf(value, caller, what, most) {
+  if (value === undefined) return 0n;
+  if (typeof value !== "number" && typeof value !== "bigint") {
+    throw new TypeError(`${caller}: ${what} must be a number or a bigint, not ${kindOf(value)}`);
+  }
+  const isWhole = typeof value === "bigint" || Number.isSafeInteger(value);
+  if (!isWhole || value < 0 || value > most) {
+    throw new RangeError(
+      `${caller}: ${what} must be an integer from 0 to ${most}, not ${value}` +
+        (Number.isInteger(value) && !isWhole ? " (pass a bigint)" : ""),
+    );
+  }
+  return BigInt(value);
+}
+
+/** A boolean; false if the value is undefined. */
+export function flagOf(value, caller, what) {
+  if (value !== undefined && typeof value !== "boolean") {
+    throw new TypeError(`${caller}: ${what} must be a boolean, not ${kindOf(value)}`);
+  }
+  return value === true;
+}
+
+// Whether this is an object such as {}, of any realm. A promise, a map or bytes have no property of
+// an option, and would pass for options that name nothing.
+function isPlain(value) {
+  if (typeof value !== "object" || value === null) return false;
+  const prototype = Object.getPrototypeOf(value);
+  return prototype === null || (Object.getPrototypeOf(prototype) === null && !Array.isArray(value));
+}
+
+/**
+ * The known options, each read once and from the object itself. An unknown name is refused, since a
+ * misspelled key or digestLength would silently return another digest.
+ */
+function optionsOf(options, caller, what, known) {
+  const read = Object.create(null);
+  if (options === undefined) return read;
+  if (!isPlain(options)) {
+    const given = typeof options === "object" && options !== null
+      ? `an instance of ${options.constructor?.name}` : kindOf(options);
+    throw new TypeError(`${caller}: ${what} must be a plain object, not ${given}`);
+  }
+  for (const name of Object.keys(options)) {
+    if (!known.includes(name)) {
+      throw new TypeError(
+        `${caller}: unknown property ${JSON.stringify(name)} of ${what}; ` +
+          `known are ${known.join(", ")}`,
+      );
+    }
+    read[name] = options[name];
+  }
+  return read;
+}
+
+const POSITION = [
+  "fanout", "depth", "leafLength", "nodeOffset", "nodeDepth", "innerLength", "lastNode",
+];
+
+function positionOf(tree, kind, caller) {
+  if (tree === undefined) return undefined;
+  const given = optionsOf(tree, caller, "tree", POSITION);
+  return {
+    fanout: integerOf(given.fanout, caller, "tree.fanout", 0, 255, 1),
+    depth: integerOf(given.depth, caller, "tree.depth", 1, 255, 1),
+    leafLength: integerOf(given.leafLength, caller, "tree.leafLength", 0, 2 ** 32 - 1, 0),
+    nodeOffset: offsetOf(given.nodeOffset, caller, "tree.nodeOffset", kind.maxNodeOffset),
+    nodeDepth: integerOf(given.nodeDepth, caller, "tree.nodeDepth", 0, 255, 0),
+    innerLength: integerOf(given.innerLength, caller, "tree.innerLength", 0, kind.digestLength, 0),
+    lastNode: flagOf(given.lastNode, caller, "tree.lastNode"),
+  };
+}
+
+/** The names of the options of the calls, by what they hash. */
+export const OPTIONS = Object.freeze({
+  several: ["digestLength", "key", "salt", "personalization"],
+  hash: ["digestLength", "key", "salt", "personalization", "tree"],
+  tree: ["leafLength", "digestLength", "salt", "personalization"],
+  leaves: ["leafLength", "first", "ends", "salt", "personalization"],
+});
+
+/**
+ * The checked settings of a hash, and the options as they were read. Settings are digestLength,
+ * key, salt and personalization (empty if not given), tree (the position of a node), and leafLength
+ * if the hash is a tree's. known has the names of the call's options.
+ */
+export function settingsOf(kind, options, caller, known = OPTIONS[kind.isTree ? "tree" : "hash"]) {
+  const read = optionsOf(options, caller, "options", known);
+  const most = kind.digestLength;
+  const bytes = (what, least, length) => shortBytesOf(read[what], caller, what, least, length);
+  const settings = {
+    digestLength: integerOf(read.digestLength, caller, "digestLength", 1, most, most),
+    key: bytes("key", 1, kind.keyLength),
+    salt: bytes("salt", 0, kind.saltLength),
+    personalization: bytes("personalization", 0, kind.saltLength),
+    tree: positionOf(read.tree, kind, caller),
+  };
+  if (kind.isTree) {
+    if (read.leafLength === undefined) {
+      throw new TypeError(`${caller}: leafLength must be given`);
+    }
+    settings.leafLength = integerOf(read.leafLength, caller, "leafLength", 1, 2 ** 32 - 1);
+  }
+  return [settings, read];
+}
+
+/** Refuses further arguments: other libraries accept a key or a length there. */
+export function refuseMore(rest, caller, count) {
+  if (rest.length > 0) {
+    throw new TypeError(
+      `${caller}: too many arguments, ${count + rest.length} instead of at most ${count}; ` +
+        "key, length and so on are options",
+    );
+  }
+}

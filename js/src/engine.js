@@ -1,0 +1,449 @@
+// The library in WebAssembly, and the only code that touches its memory.
+//
+// The memory is the library's stack and, above it, a slot for one state, places for the short
+// arguments, and a window through which messages are copied. It never grows, and it keeps nothing
+// between calls: states are in JavaScript. Each call copies a state in, works on it, copies it out,
+// and sets to zero everything that was written, including the library's stack.
+
+import { lengthOf, partOf } from "./arguments.js";
+import { decode } from "./wasm.js";
+
+/** The properties of each hash. Lengths are in bytes; those of digest, key and salt are maxima. */
+export const BLAKE2B = Object.freeze({
+  name: "blake2b",
+  digestLength: 64,
+  keyLength: 64,
+  saltLength: 16,
+  blockLength: 128,
+  stateLength: 424,
+  maxNodeOffset: 2n ** 64n - 1n,
+  atOnce: 4,
+  isTree: false,
+});
+export const BLAKE2S = Object.freeze({
+  name: "blake2s",
+  digestLength: 32,
+  keyLength: 32,
+  saltLength: 8,
+  blockLength: 64,
+  stateLength: 232,
+  maxNodeOffset: 2n ** 48n - 1n,
+  atOnce: 8,
+  isTree: false,
+});
+export const TREE = Object.freeze({
+  name: "tree",
+  digestLength: 64,
+  keyLength: 0,
+  saltLength: 16,
+  blockLength: 128,
+  stateLength: 912,
+  isTree: true,
+});
+
+/** The bytes of a leaf's digest in the tree. */
+export const LEAF_DIGEST = 64;
+
+const PAGE = 65536;
+const GROWN = 8 * PAGE;
+const BATCH = 64; // messages per call of the library, at most
+// Places, counted from the end of the stack.
+const STATE = 0;
+const OUT = 1024;
+const TAG = 1088;
+const KEY = 1152;
+const SALT = 1216;
+const PERSONALIZATION = 1232;
+const RECORDS = 2048;
+const OUTS = RECORDS + 16 * BATCH;
+const WINDOW = 8192;
+const WINDOW_LENGTH = GROWN - WINDOW;
+// How many bytes of a message are copied at a time. A hash's fit into the processor's cache; a
+// tree's are the whole window, so that it holds several leaves, which are hashed in parallel.
+const PIECE = 65536;
+// How many bytes of the stack a call may write: of a hash, and of a tree or of several messages.
+const SHALLOW = 3072;
+const DEEP = 8192;
+
+class Engine {
+  constructor(module) {
+    const { exports } = new WebAssembly.Instance(module, {});
+    this.base = Number(exports.__heap_base.value);
+    exports.memory.grow(GROWN / PAGE);
+    this.bytes = new Uint8Array(exports.memory.buffer);
+    this.view = new DataView(exports.memory.buffer);
+    this.isBusy = false;
+    this.isSame = exports.blake2_c_is_same;
+    const functionsOf = (name, calls) =>
+      Object.fromEntries(calls.map((call) => [call, exports[`blake2_c_${name}_${call}`]]));
+    const calls = [
+      "init", "init_node", "update", "final", "verify", "set_last_node", "reset", "many",
+    ];
+    this.calls = {
+      blake2b: { ...functionsOf("blake2b", calls), one: exports.blake2_c_blake2b },
+      blake2s: { ...functionsOf("blake2s", calls), one: exports.blake2_c_blake2s },
+      tree: functionsOf("tree", ["init", "update", "final", "leaves", "root_of_leaves"]),
+    };
+    this.slots = {};
+    for (const kind of [BLAKE2B, BLAKE2S, TREE]) {
+      this.slots[kind.name] = this.bytes.subarray(this.base, this.base + kind.stateLength);
+    }
+    this.at = {}; // the places as the library's pointers
+    for (const [name, place] of Object.entries({
+      state: STATE, out: OUT, tag: TAG, key: KEY, salt: SALT, personalization: PERSONALIZATION,
+      records: RECORDS, outs: OUTS, window: WINDOW,
+    })) {
+      this.at[name] = BigInt(this.base + place);
+    }
+  }
+
+  put(bytes, place) {
+    this.bytes.set(bytes, this.base + place);
+    return BigInt(lengthOf(bytes));
+  }
+
+  read(place, length) {
+    return this.bytes.slice(this.base + place, this.base + place + length);
+  }
+
+  /** Copies salt and personalization, and returns them as the library's arguments. */
+  putLabels({ salt, personalization }) {
+    return [
+      this.at.salt, this.put(salt, SALT),
+      this.at.personalization, this.put(personalization, PERSONALIZATION),
+    ];
+  }
+
+  /** Initializes a state in the slot. */
+  begin(kind, settings) {
+    const { digestLength, tree } = settings;
+    const labels = this.putLabels(settings);
+    const calls = this.calls[kind.name];
+    const size = BigInt(digestLength);
+    if (kind.isTree) {
+      return granted(calls.init(this.at.state, size, ...labels, settings.leafLength));
+    }
+    const key = this.put(settings.key, KEY);
+    if (tree === undefined) {
+      return granted(calls.init(this.at.state, size, this.at.key, key, ...labels));
+    }
+    granted(calls.init_node(
+      this.at.state, size, this.at.key, key, ...labels, tree.fanout, tree.depth, tree.leafLength,
+      tree.nodeOffset, tree.nodeDepth, tree.innerLength));
+    if (tree.lastNode) granted(calls.set_last_node(this.at.state, 1));
+  }
+
+  /** Absorbs a message into the state in the slot. Returns false if it is too long. */
+  absorb(kind, message) {
+    const { update } = this.calls[kind.name];
+    const piece = kind.isTree ? WINDOW_LENGTH : PIECE;
+    const length = lengthOf(message);
+    if (length <= piece) {
+      return update(this.at.state, this.at.window, this.put(message, WINDOW)) === 0;
+    }
+    for (let at = 0; at < length; at += piece) {
+      const part = partOf(message, at, Math.min(piece, length - at));
+      if (update(this.at.state, this.at.window, this.put(part, WINDOW)) !== 0) return false;
+    }
+    return true;
+  }
+
+  /** Finalizes the state in the slot, and leaves the digest at OUT. */
+  end(kind, digestLength) {
+    granted(this.calls[kind.name].final(this.at.state, this.at.out, BigInt(digestLength)));
+  }
+
+  /**
+   * Sets to zero what a call has written: the slot and the short arguments, the used bytes of the
+   * window, and the bytes of the stack that it may have used.
+   */
+  clean(kind, used, depth = kind.isTree ? DEEP : SHALLOW) {
+    const most = kind.isTree ? WINDOW_LENGTH : PIECE;
+    this.bytes.fill(0, this.base - depth, this.base + PERSONALIZATION + 16);
+    if (used > 0) {
+      this.bytes.fill(0, this.base + WINDOW, this.base + WINDOW + Math.min(used, most));
+    }
+  }
+}
+
+// A refusal here is a bug of this package: the caller's arguments have been checked.
+function granted(status) {
+  if (status !== 0) throw new Error("vulfsjor: the library refused a call");
+}
+
+let compiled;
+let current;
+
+/** Compiles the module off the calling thread. */
+export async function load() {
+  compiled ??= await WebAssembly.compile(decode());
+}
+
+/**
+ * Runs the work with the engine. A call that throws inside the library, such as on a full
+ * JavaScript stack, leaves the instance unusable and its memory half written. So the memory is
+ * wiped and the instance dropped: here or, if even that throws, before the next call.
+ */
+function withEngine(work) {
+  if (current === undefined || current.isBusy) {
+    drop();
+    compiled ??= new WebAssembly.Module(decode());
+    current = new Engine(compiled);
+  }
+  const engine = current;
+  engine.isBusy = true;
+  try {
+    const result = work(engine);
+    engine.isBusy = false;
+    return result;
+  } finally {
+    if (engine.isBusy) drop();
+  }
+}
+
+function drop() {
+  if (current === undefined) return;
+  current.bytes.fill(0);
+  current = undefined;
+}
+
+/** For tests: the bytes of the memory, or undefined if there is none now. */
+export function memory() {
+  return current?.bytes;
+}
+
+/** A new state, initialized. */
+export function begin(kind, settings) {
+  return withEngine((engine) => {
+    engine.begin(kind, settings);
+    const state = engine.slots[kind.name].slice();
+    engine.clean(kind, 0);
+    return state;
+  });
+}
+
+/** Absorbs a message into a state. Returns false, and changes nothing, if it is too long. */
+export function update(kind, state, message) {
+  return withEngine((engine) => {
+    const slot = engine.slots[kind.name];
+    slot.set(state);
+    const isAbsorbed = engine.absorb(kind, message);
+    if (isAbsorbed) state.set(slot);
+    engine.clean(kind, lengthOf(message));
+    return isAbsorbed;
+  });
+}
+
+/** The digest of a state, which is then set to zero. */
+export function final(kind, state, digestLength) {
+  return withEngine((engine) => {
+    engine.slots[kind.name].set(state);
+    engine.end(kind, digestLength);
+    const digest = engine.read(OUT, digestLength);
+    state.fill(0);
+    engine.clean(kind, 0);
+    return digest;
+  });
+}
+
+/** Whether the tag is the digest of a state, which is then set to zero. */
+export function verify(kind, state, digestLength, tag) {
+  return withEngine((engine) => {
+    engine.slots[kind.name].set(state);
+    // a tag of another length is wrong, and the state is finalized all the same
+    const length = lengthOf(tag) === digestLength ? engine.put(tag, TAG) : 0n;
+    let status;
+    if (kind.isTree) {
+      engine.end(kind, digestLength);
+      status = engine.isSame(engine.at.out, BigInt(digestLength), engine.at.tag, length);
+    } else {
+      status = engine.calls[kind.name].verify(engine.at.state, engine.at.tag, length);
+    }
+    state.fill(0);
+    engine.clean(kind, 0);
+    return status === 0;
+  });
+}
+
+/** Resets a state to its start. */
+export function reset(kind, state) {
+  withEngine((engine) => {
+    const slot = engine.slots[kind.name];
+    slot.set(state);
+    granted(engine.calls[kind.name].reset(engine.at.state));
+    state.set(slot);
+    engine.clean(kind, 0);
+  });
+}
+
+/** The digest of one message. */
+export function hash(kind, message, settings) {
+  return withEngine((engine) => {
+    const { digestLength, salt, personalization, tree } = settings;
+    const isSalted = lengthOf(salt) + lengthOf(personalization) > 0;
+    if (!isSalted && tree === undefined && lengthOf(message) <= PIECE && !kind.isTree) {
+      granted(engine.calls[kind.name].one(
+        engine.at.out, BigInt(digestLength), engine.at.window, engine.put(message, WINDOW),
+        engine.at.key, engine.put(settings.key, KEY)));
+    } else {
+      engine.begin(kind, settings);
+      if (!engine.absorb(kind, message)) throw new Error("vulfsjor: the message is too long");
+      engine.end(kind, digestLength);
+    }
+    const digest = engine.read(OUT, digestLength);
+    engine.clean(kind, lengthOf(message));
+    return digest;
+  });
+}
+
+// The end of the batch that begins with this message: as many messages as the window and the
+// records have room for, in whole groups of those that are hashed in parallel. It is begin if not
+// even one fits.
+function endOfBatch(kind, messages, begin) {
+  let end = begin;
+  for (let length = 0; end < messages.length && end - begin < BATCH; end++) {
+    length += lengthOf(messages[end]);
+    if (length > WINDOW_LENGTH) break;
+  }
+  const isLast = end === messages.length;
+  const groups = Math.floor((end - begin) / kind.atOnce) * kind.atOnce;
+  return isLast || groups === 0 ? end : begin + groups;
+}
+
+/** The digests of several messages. */
+export function hashMany(kind, messages, settings) {
+  const digests = [];
+  for (let begin = 0; begin < messages.length; ) {
+    const end = endOfBatch(kind, messages, begin);
+    if (end === begin) {
+      digests.push(hash(kind, messages[begin++], settings));
+    } else {
+      for (const digest of hashBatch(kind, messages.slice(begin, end), settings)) {
+        digests.push(digest);
+      }
+      begin = end;
+    }
+  }
+  return digests;
+}
+
+function hashBatch(kind, messages, settings) {
+  return withEngine((engine) => {
+    let at = WINDOW;
+    messages.forEach((message, i) => {
+      const record = engine.base + RECORDS + 16 * i;
+      engine.view.setBigUint64(record, BigInt(engine.base + at), true);
+      engine.view.setBigUint64(record + 8, engine.put(message, at), true);
+      at += lengthOf(message);
+    });
+    const { digestLength } = settings;
+    granted(engine.calls[kind.name].many(
+      engine.at.outs, BigInt(digestLength * messages.length), BigInt(digestLength),
+      engine.at.records, BigInt(messages.length), engine.at.key, engine.put(settings.key, KEY),
+      engine.at.salt, engine.put(settings.salt, SALT),
+      engine.at.personalization, engine.put(settings.personalization, PERSONALIZATION)));
+    const digests = messages.map((_, i) => engine.read(OUTS + digestLength * i, digestLength));
+    engine.clean(kind, 0, DEEP);
+    engine.bytes.fill(0, engine.base + RECORDS, engine.base + at);
+    return digests;
+  });
+}
+
+// The settings of a node in the tree of treeRoot (the BLAKE2 document, 2.10).
+function nodeOf({ leafLength, salt, personalization }, digestLength, position) {
+  const tree = { fanout: 0, depth: 2, leafLength, innerLength: LEAF_DIGEST, ...position };
+  return { digestLength, key: new Uint8Array(0), salt, personalization, tree };
+}
+
+// Leaves that are too long for the window, each through a state of its node.
+function hashLongLeaves(settings, { first, ends }, message, digests) {
+  const { leafLength } = settings;
+  const count = lengthOf(digests) / LEAF_DIGEST;
+  for (let i = 0; i < count; i++) {
+    const at = i * leafLength;
+    const leaf = partOf(message, at, Math.min(leafLength, lengthOf(message) - at));
+    const lastNode = ends && i === count - 1;
+    const position = { nodeDepth: 0, nodeOffset: first + BigInt(i), lastNode };
+    digests.set(hash(BLAKE2B, leaf, nodeOf(settings, LEAF_DIGEST, position)), LEAF_DIGEST * i);
+  }
+}
+
+// Leaves that fit into the window together with their digests, which come first in it.
+function hashShortLeaves(settings, { first, ends }, message) {
+  return withEngine((engine) => {
+    const length = lengthOf(message);
+    const room = LEAF_DIGEST * leafCount(length, settings.leafLength);
+    const source = engine.at.window + BigInt(room);
+    granted(engine.calls.tree.leaves(
+      engine.at.window, BigInt(room), first, ends ? 1 : 0, source,
+      engine.put(message, WINDOW + room), ...engine.putLabels(settings), settings.leafLength));
+    const digests = engine.read(WINDOW, room);
+    engine.clean(TREE, room + length);
+    return digests;
+  });
+}
+
+/** How many leaves a message or a range of this length has, at least one. */
+export function leafCount(length, leafLength) {
+  return Math.max(1, Math.ceil(length / leafLength));
+}
+
+/**
+ * The digests of a range of leaves, LEAF_DIGEST bytes each. The range is the number of its first
+ * leaf, a BigInt, and whether it ends the message. The message is whole leaves unless it ends, and
+ * has at least one byte unless it is all of an empty message.
+ */
+export function hashLeaves(settings, { first, ends }, message) {
+  const { leafLength } = settings;
+  const length = lengthOf(message);
+  const digests = new Uint8Array(LEAF_DIGEST * leafCount(length, leafLength));
+  const atOnce = Math.floor(WINDOW_LENGTH / (leafLength + LEAF_DIGEST));
+  if (atOnce === 0) {
+    hashLongLeaves(settings, { first, ends }, message, digests);
+    return digests;
+  }
+  for (let leaf = 0; LEAF_DIGEST * leaf < lengthOf(digests); leaf += atOnce) {
+    const at = leaf * leafLength;
+    const size = Math.min(atOnce * leafLength, length - at);
+    const range = { first: first + BigInt(leaf), ends: ends && at + size === length };
+    digests.set(hashShortLeaves(settings, range, partOf(message, at, size)), LEAF_DIGEST * leaf);
+  }
+  return digests;
+}
+
+/** The root over the joined digests of all leaves of a message. */
+export function rootOfLeaves(settings, digests) {
+  const { digestLength, leafLength } = settings;
+  if (lengthOf(digests) > WINDOW_LENGTH) {
+    const position = { nodeDepth: 1, nodeOffset: 0n, lastNode: true };
+    return hash(BLAKE2B, digests, nodeOf(settings, digestLength, position));
+  }
+  return withEngine((engine) => {
+    granted(engine.calls.tree.root_of_leaves(
+      engine.at.out, BigInt(digestLength), engine.at.window, engine.put(digests, WINDOW),
+      ...engine.putLabels(settings), leafLength));
+    const root = engine.read(OUT, digestLength);
+    engine.clean(TREE, lengthOf(digests));
+    return root;
+  });
+}
+
+/** Whether two arrays are equal, by a comparison that reads all bytes of equal lengths. */
+export function isSame(a, b) {
+  const length = lengthOf(a);
+  if (length !== lengthOf(b)) return false;
+  return withEngine((engine) => {
+    const most = Math.min(length, WINDOW_LENGTH / 2);
+    const second = engine.at.window + BigInt(most);
+    let difference = 0;
+    for (let at = 0; at < length; at += most) {
+      const isWhole = most === length;
+      const size = Math.min(most, length - at);
+      const count = engine.put(isWhole ? a : partOf(a, at, size), WINDOW);
+      engine.put(isWhole ? b : partOf(b, at, size), WINDOW + most);
+      difference |= engine.isSame(engine.at.window, count, second, count);
+    }
+    engine.clean(TREE, 2 * most);
+    return difference === 0;
+  });
+}

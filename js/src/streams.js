@@ -1,0 +1,117 @@
+// Hashes of what arrives piece by piece: files, blobs, responses, node's streams.
+
+import {
+  OPTIONS, bytesOf, integerOf, kindOf, lengthOf, refuseMore, settingsOf,
+} from "./arguments.js";
+import { LONGEST_LEAF, TreeThreads } from "./threads.js";
+
+// How much of a blob is read at a time.
+const SLICE = 4 * 1024 * 1024;
+const MOST_THREADS = 256;
+
+// The slices of a blob. The next is read while one is hashed.
+async function* slicesOf(blob) {
+  const read = (at) => {
+    const slice = at < blob.size ? blob.slice(at, at + SLICE).arrayBuffer() : undefined;
+    slice?.catch(() => {}); // reported when it is awaited, if it is
+    return slice;
+  };
+  let next = read(0);
+  for (let at = SLICE; next !== undefined; at += SLICE) {
+    const slice = await next;
+    next = read(at);
+    yield slice;
+  }
+}
+
+// A reader of a source: next returns its chunks as an iterator does, total is its length if that is
+// known, and close releases it, before its end if it is not done.
+function open(source, caller) {
+  if (typeof source?.getReader === "function") {
+    const reader = source.getReader();
+    return {
+      next: () => reader.read(),
+      close(isDone, reason) {
+        if (!isDone) reader.cancel(reason).catch(() => {});
+        reader.releaseLock();
+      },
+    };
+  }
+  const isBlob = typeof Blob !== "undefined" && source instanceof Blob;
+  if (!isBlob && typeof source?.[Symbol.asyncIterator] !== "function") {
+    throw new TypeError(
+      `${caller}: source must be a Blob, a ReadableStream or an async iterable of bytes, ` +
+        `not ${kindOf(source)}`,
+    );
+  }
+  const iterator = (isBlob ? slicesOf(source) : source)[Symbol.asyncIterator]();
+  return {
+    total: isBlob ? source.size : undefined,
+    next: () => iterator.next(),
+    close(isDone) {
+      if (!isDone) (async () => iterator.return?.())().catch(() => {});
+    },
+  };
+}
+
+// The result, or what it resolves to, unless the signal aborts first.
+function unlessAborted(result, signal) {
+  return new Promise((resolve, reject) => {
+    const abort = () => reject(signal.reason);
+    signal.addEventListener("abort", abort);
+    Promise.resolve(result).then(resolve, reject)
+      .then(() => signal.removeEventListener("abort", abort));
+  });
+}
+
+function callbackOf(value, caller) {
+  if (value !== undefined && typeof value !== "function") {
+    throw new TypeError(`${caller}: onProgress must be a function, not ${kindOf(value)}`);
+  }
+  return value;
+}
+
+function signalOf(value, caller) {
+  if (value !== undefined && typeof value?.throwIfAborted !== "function") {
+    throw new TypeError(`${caller}: signal must be an AbortSignal, not ${kindOf(value)}`);
+  }
+  return value;
+}
+
+/** The digest of all chunks of a source: a hash by Hasher or, with threads, a tree by workers. */
+export async function hashStream(kind, Hasher, caller, source, options, rest) {
+  refuseMore(rest, caller, 2);
+  const known = [...OPTIONS[kind.isTree ? "tree" : "hash"], "onProgress", "signal"];
+  if (kind.isTree) known.push("threads");
+  const [settings, read] = settingsOf(kind, options, caller, known);
+  const { onProgress, signal, threads, ...own } = read;
+  callbackOf(onProgress, caller);
+  signalOf(signal, caller);
+  const count = integerOf(threads, caller, "threads", 1, MOST_THREADS, 1);
+  const reader = open(source, caller);
+  const control = new AbortController(); // aborts with the signal, or if a worker fails
+  const follow = () => control.abort(signal.reason);
+  signal?.addEventListener("abort", follow);
+  if (signal?.aborted) follow();
+  let taken = 0;
+  const report = (length) => onProgress?.((taken += length), reader.total);
+  let run;
+  let isDone = false;
+  try {
+    const isShared = count > 1 && settings.leafLength <= LONGEST_LEAF;
+    run = isShared ? new TreeThreads(settings, count, caller, report, control) : new Hasher(own);
+    for (;;) {
+      control.signal.throwIfAborted();
+      const { done, value } = await unlessAborted(reader.next(), control.signal);
+      isDone = done;
+      if (done) return await run.digest();
+      const bytes = bytesOf(value, caller, "chunk");
+      await run.update(bytes);
+      if (!isShared) report(lengthOf(bytes));
+    }
+  } finally {
+    signal?.removeEventListener("abort", follow);
+    run?.wipe();
+    reader.close(isDone, control.signal.reason);
+  }
+}

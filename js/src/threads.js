@@ -1,0 +1,138 @@
+// The root of a tree by several workers, each of which hashes ranges of leaves.
+
+import { copyOf, lengthOf, partOf } from "./arguments.js";
+import { rootOfLeaves } from "./engine.js";
+
+// The bytes of a range, unless one leaf is longer.
+const RANGE = 4 * 1024 * 1024;
+/** Leaves longer than this are hashed on the calling thread, since a range is held in memory. */
+export const LONGEST_LEAF = 64 * 1024 * 1024;
+
+// Starts a worker of node or of the browser. It calls onDigests with each result, and onFault with
+// the error if the worker fails.
+function startWorker(onDigests, onFault) {
+  const node = globalThis.process?.getBuiltinModule?.("node:worker_threads");
+  if (node === undefined) {
+    const worker = new Worker(new URL("./worker.js", import.meta.url), { type: "module" });
+    worker.onmessage = ({ data }) => onDigests(data);
+    worker.onmessageerror = () => onFault(new Error("its result could not be read"));
+    worker.onerror = ({ message }) => onFault(new Error(message ?? "it could not be started"));
+    return worker;
+  }
+  // without the flags of the process, some of which are refused for a file
+  const worker = new node.Worker(new URL("./worker.js", import.meta.url), { execArgv: [] });
+  worker.on("message", onDigests).on("messageerror", onFault).on("error", onFault);
+  return worker.on("exit", (code) => onFault(new Error(`it exited with code ${code}`)));
+}
+
+/**
+ * The root of a message that comes in pieces. report is called with the number of bytes of each
+ * range that was hashed. A failure of a worker or of report aborts control.
+ */
+export class TreeThreads {
+  #settings;
+  #digestLength;
+  #count;
+  #caller;
+  #report;
+  #control;
+  #workers = [];
+  #idle = [];
+  #digests = []; // by range
+  #range; // the bytes of the range that is being filled
+  #filled = 0;
+  #leaf = 0n; // its first leaf
+  #wake = () => {};
+
+  constructor(settings, count, caller, report, control) {
+    const { leafLength, digestLength, salt, personalization } = settings;
+    // copies, since a view would take its whole buffer along to the workers
+    this.#settings = { leafLength, salt: copyOf(salt), personalization: copyOf(personalization) };
+    this.#digestLength = digestLength;
+    this.#count = count;
+    this.#caller = caller;
+    this.#report = report;
+    this.#control = control;
+    this.#range = this.#newRange();
+    control.signal.addEventListener("abort", () => this.#wake());
+  }
+
+  #newRange() {
+    const { leafLength } = this.#settings;
+    return new Uint8Array(leafLength * Math.max(1, Math.floor(RANGE / leafLength)));
+  }
+
+  // Waits for a worker's next result. Throws if the call was aborted.
+  async #result() {
+    this.#control.signal.throwIfAborted();
+    await new Promise((resolve) => (this.#wake = resolve));
+    this.#control.signal.throwIfAborted();
+  }
+
+  #start() {
+    const fail = (cause) => {
+      const message = `${this.#caller}: a worker failed: ${cause?.message ?? cause}`;
+      this.#control.abort(new Error(message, { cause }));
+    };
+    const entry = {};
+    const onDigests = (digests) => {
+      this.#digests[entry.range] = digests;
+      this.#idle.push(entry);
+      try {
+        this.#report(entry.length);
+      } catch (fault) {
+        this.#control.abort(fault);
+      }
+      this.#wake();
+    };
+    entry.worker = startWorker(onDigests, fail);
+    this.#workers.push(entry.worker);
+    return entry;
+  }
+
+  // Passes the range that is filled to a worker.
+  async #send(ends) {
+    while (this.#idle.length === 0 && this.#workers.length === this.#count) await this.#result();
+    this.#control.signal.throwIfAborted();
+    const entry = this.#idle.pop() ?? this.#start();
+    entry.range = this.#digests.push(undefined) - 1;
+    entry.length = this.#filled;
+    const message = this.#range.subarray(0, this.#filled);
+    const range = { first: this.#leaf, ends };
+    entry.worker.postMessage({ settings: this.#settings, range, message }, [message.buffer]);
+  }
+
+  /** Absorbs bytes. A full range stays here until more comes, since it may end the message. */
+  async update(bytes) {
+    for (let at = 0; at < lengthOf(bytes); ) {
+      if (this.#filled === this.#range.length) {
+        await this.#send(false);
+        this.#leaf += BigInt(this.#filled / this.#settings.leafLength);
+        this.#range = this.#newRange();
+        this.#filled = 0;
+      }
+      const size = Math.min(lengthOf(bytes) - at, this.#range.length - this.#filled);
+      this.#range.set(partOf(bytes, at, size), this.#filled);
+      this.#filled += size;
+      at += size;
+    }
+  }
+
+  /** The root of all that was absorbed. */
+  async digest() {
+    await this.#send(true);
+    while (this.#idle.length < this.#workers.length) await this.#result();
+    const joined = new Uint8Array(this.#digests.reduce((sum, { length }) => sum + length, 0));
+    let at = 0;
+    for (const digests of this.#digests) {
+      joined.set(digests, at);
+      at += digests.length;
+    }
+    return rootOfLeaves({ ...this.#settings, digestLength: this.#digestLength }, joined);
+  }
+
+  /** Stops the workers. */
+  wipe() {
+    for (const worker of this.#workers) worker.terminate();
+  }
+}

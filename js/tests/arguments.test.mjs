@@ -1,0 +1,325 @@
+// Each argument at its edges and beyond, and the exact texts of the errors.
+import assert from "node:assert/strict";
+import { createHash } from "node:crypto";
+import test from "node:test";
+import vm from "node:vm";
+import {
+  Blake2b, Blake2s, TreeHash, blake2b, blake2bMany, blake2bStream, blake2s, blake2sMany,
+  blake2sStream, equal, fromHex, hex, treeRoot, treeRootStream, utf8,
+} from "../index.js";
+import { memory } from "../src/engine.js";
+import { assertClean, hexOf } from "./common.mjs";
+
+const M = utf8("abc");
+const bytes = (length) => new Uint8Array(length).fill(7);
+
+// Asserts the error of a call, of this class itself and with this text, and that the library's
+// memory was not touched.
+function refuses(call, Class, message) {
+  blake2b(M);
+  const before = memory();
+  assert.throws(call, (fault) => {
+    assert.equal(fault.message, message);
+    assert.equal(fault.constructor, Class);
+    return true;
+  });
+  assert.equal(memory(), before);
+  assertClean();
+}
+
+const NO_BYTES = [
+  ["abc", "a string (utf8() encodes a string)"],
+  [undefined, "undefined"],
+  [null, "null"],
+  [5, "a number"],
+  [5n, "a bigint"],
+  [true, "a boolean"],
+  [[1, 2], "an array"],
+  [{ length: 3 }, "an object"],
+  [{ length: 3, [Symbol.toStringTag]: "ArrayBuffer" }, "an object"],
+  [{ byteLength: 3, __proto__: ArrayBuffer.prototype }, "an object"],
+  [Object.create(Uint8Array.prototype), "an object"],
+  [Symbol("x"), "a symbol"],
+  [() => {}, "a function"],
+];
+
+test("what is no bytes is refused, wherever bytes are asked for", () => {
+  const wants = (value, caller, what, said) =>
+    [TypeError, `${caller}: ${what} must be a Uint8Array, another view or an ArrayBuffer, not ${said}`];
+  for (const [value, said] of NO_BYTES) {
+    refuses(() => blake2b(value), ...wants(value, "blake2b", "message", said));
+    refuses(() => blake2s(value), ...wants(value, "blake2s", "message", said));
+    refuses(() => treeRoot(value, { leafLength: 1 }), ...wants(value, "treeRoot", "message", said));
+    refuses(() => new Blake2b().update(value), ...wants(value, "Blake2b.update", "message", said));
+    refuses(() => new Blake2s().verify(value), ...wants(value, "Blake2s.verify", "tag", said));
+    refuses(() => blake2bMany([M, value]), ...wants(value, "blake2bMany", "message 1", said));
+    refuses(() => equal(value, M), ...wants(value, "equal", "a", said));
+    refuses(() => equal(M, value), ...wants(value, "equal", "b", said));
+    refuses(() => hex(value), ...wants(value, "hex", "bytes", said));
+    if (value === undefined) continue; // an option that is not given
+    for (const what of ["key", "salt", "personalization"]) {
+      refuses(() => blake2b(M, { [what]: value }), ...wants(value, "blake2b", what, said));
+      refuses(() => new Blake2s({ [what]: value }), ...wants(value, "new Blake2s", what, said));
+      refuses(() => blake2sMany([], { [what]: value }), ...wants(value, "blake2sMany", what, said));
+    }
+  }
+});
+
+test("an option that is undefined is one that is not given", () => {
+  const nothing = {
+    digestLength: undefined, key: undefined, salt: undefined, personalization: undefined, tree: undefined,
+  };
+  assert.deepEqual(blake2b(M, nothing), blake2b(M));
+  assert.deepEqual(new Blake2s(nothing).update(M).digest(), blake2s(M));
+  assert.deepEqual(blake2b(M, undefined), blake2b(M, {}));
+  assert.deepEqual(blake2b(M, Object.create(null)), blake2b(M));
+});
+
+test("memory that was taken away is refused", () => {
+  const taken = (what) => {
+    const view = what(new ArrayBuffer(9));
+    structuredClone(0, { transfer: [view.buffer ?? view] });
+    return view;
+  };
+  for (const what of [(b) => b, (b) => new Uint8Array(b), (b) => new DataView(b, 1), (b) => new Uint16Array(b, 2, 2)]) {
+    const text = (caller, name) => `${caller}: the memory of ${name} is detached or has shrunk`;
+    refuses(() => blake2b(taken(what)), TypeError, text("blake2b", "message"));
+    refuses(() => blake2b(M, { key: taken(what) }), TypeError, text("blake2b", "key"));
+  }
+  if (ArrayBuffer.prototype.resize === undefined) return;
+  const buffer = new ArrayBuffer(20, { maxByteLength: 20 });
+  const views = [new Uint8Array(buffer, 4, 12), new Uint8Array(buffer, 12), new DataView(buffer, 4, 12)];
+  const follows = new Uint8Array(buffer, 2);
+  buffer.resize(8);
+  for (const view of views) {
+    refuses(() => blake2b(view), TypeError, "blake2b: the memory of message is detached or has shrunk");
+  }
+  assert.deepEqual(blake2b(follows), blake2b(new Uint8Array(6)));
+});
+
+test("bytes of other realms, of subclasses, and of objects that lie about themselves", () => {
+  const wanted = createHash("blake2b512").update("abc").digest("hex");
+  const foreign = vm.runInNewContext("({ u: Uint8Array.of(97, 98, 99), b: Uint8Array.of(97, 98, 99).buffer, o: {} })");
+  assert.equal(hexOf(blake2b(foreign.u)), wanted);
+  assert.equal(hexOf(blake2b(foreign.b, foreign.o)), wanted);
+  class Liar extends Uint8Array {
+    get length() { return 1; }
+    get byteLength() { return 2; }
+    get buffer() { return new ArrayBuffer(3); }
+    get byteOffset() { return 1; }
+    subarray() { return M; }
+    static get [Symbol.species]() { return Array; }
+  }
+  assert.equal(hexOf(blake2b(Liar.of(97, 98, 99))), wanted);
+  assert.equal(hexOf(new Blake2b().update(Liar.of(97, 98)).update(Liar.of(99)).digest()), wanted);
+  assert.equal(hexOf(blake2b(new Uint16Array([0x6261]))), hexOf(blake2b(utf8("ab"))));
+  assert.equal(hexOf(blake2b(new Float64Array(2))), hexOf(blake2b(new Uint8Array(16))));
+});
+
+const NO_NUMBERS = [["32", "a string"], [null, "null"], [32n, "a bigint"], [true, "a boolean"], [[32], "an array"], [{}, "an object"]];
+const FAMILIES = [
+  ["blake2b", blake2b, Blake2b, 64, 16, 2n ** 64n - 1n],
+  ["blake2s", blake2s, Blake2s, 32, 8, 2n ** 48n - 1n],
+];
+
+for (const [name, hash, Hasher, most, short, offset] of FAMILIES) {
+  test(`${name}: digestLength`, () => {
+    for (const digestLength of [1, 2, most - 1, most]) {
+      assert.equal(hash(M, { digestLength }).length, digestLength);
+      assert.equal(new Hasher({ digestLength }).digestLength, digestLength);
+    }
+    for (const value of [0, -1, most + 1, 1.5, NaN, Infinity, -Infinity, 2 ** 32 + 1, 2 ** 64]) {
+      const text = `digestLength must be an integer from 1 to ${most}, not ${value}`;
+      refuses(() => hash(M, { digestLength: value }), RangeError, `${name}: ${text}`);
+      refuses(() => new Hasher({ digestLength: value }), RangeError, `new ${Hasher.name}: ${text}`);
+    }
+    for (const [value, said] of NO_NUMBERS) {
+      refuses(() => hash(M, { digestLength: value }), TypeError, `${name}: digestLength must be a number, not ${said}`);
+    }
+  });
+
+  test(`${name}: key, salt and personalization`, () => {
+    const plain = hexOf(hash(M));
+    for (const length of [1, most - 1, most]) assert.notEqual(hexOf(hash(M, { key: bytes(length) })), plain);
+    for (const length of [0, most + 1, 1000]) {
+      const text = `key must have 1 to ${most} bytes, not ${length}`;
+      refuses(() => hash(M, { key: bytes(length) }), RangeError, `${name}: ${text}`);
+      refuses(() => new Hasher({ key: bytes(length) }), RangeError, `new ${Hasher.name}: ${text}`);
+    }
+    for (const what of ["salt", "personalization"]) {
+      assert.equal(hexOf(hash(M, { [what]: bytes(0) })), plain);
+      assert.equal(hexOf(hash(M, { [what]: new Uint8Array(short) })), plain);
+      assert.notEqual(hexOf(hash(M, { [what]: bytes(short) })), plain);
+      refuses(() => hash(M, { [what]: bytes(short + 1) }), RangeError,
+        `${name}: ${what} must have 0 to ${short} bytes, not ${short + 1}`);
+    }
+    assert.notEqual(hexOf(hash(M, { salt: bytes(3) })), hexOf(hash(M, { personalization: bytes(3) })));
+  });
+
+  test(`${name}: tree`, () => {
+    const bounds = {
+      fanout: [0, 255], depth: [1, 255], leafLength: [0, 2 ** 32 - 1], nodeDepth: [0, 255], innerLength: [0, most],
+    };
+    for (const [what, [least, greatest]] of Object.entries(bounds)) {
+      for (const value of [least, greatest]) hash(M, { tree: { [what]: value } });
+      for (const value of [least - 1, greatest + 1, least + 0.5, NaN]) {
+        refuses(() => hash(M, { tree: { [what]: value } }), RangeError,
+          `${name}: tree.${what} must be an integer from ${least} to ${greatest}, not ${value}`);
+      }
+      for (const [value, said] of NO_NUMBERS) {
+        refuses(() => hash(M, { tree: { [what]: value } }), TypeError, `${name}: tree.${what} must be a number, not ${said}`);
+      }
+    }
+    const at = (nodeOffset) => hexOf(hash(M, { tree: { nodeOffset } }));
+    assert.equal(at(5), at(5n));
+    assert.equal(at(2 ** 48 - 1), at(2n ** 48n - 1n));
+    assert.notEqual(at(offset), at(offset - 1n));
+    const text = `${name}: tree.nodeOffset must be an integer from 0 to ${offset}, not `;
+    for (const value of [-1, -1n, offset + 1n, 0.5, NaN]) {
+      refuses(() => at(value), RangeError, text + value);
+    }
+    refuses(() => at(2 ** 53), RangeError, `${text}9007199254740992 (pass a bigint)`);
+    refuses(() => at("5"), TypeError, `${name}: tree.nodeOffset must be a number or a bigint, not a string`);
+    refuses(() => hash(M, { tree: { lastNode: 1 } }), TypeError, `${name}: tree.lastNode must be a boolean, not a number`);
+    assert.equal(hexOf(hash(M, { tree: {} })), hexOf(hash(M)));
+    refuses(() => hash(M, { tree: { leaf: 1 } }), TypeError,
+      `${name}: unknown property "leaf" of tree; known are fanout, depth, leafLength, nodeOffset, nodeDepth, innerLength, lastNode`);
+    refuses(() => hash(M, { tree: 5 }), TypeError, `${name}: tree must be a plain object, not a number`);
+  });
+
+  test(`${name}: options that are none, and more arguments`, () => {
+    const known = "known are digestLength, key, salt, personalization, tree";
+    for (const wrong of ["dkLen", "outlen", "person", "personal", "Key", "digest_size", "length"]) {
+      refuses(() => hash(M, { [wrong]: undefined }), TypeError, `${name}: unknown property "${wrong}" of options; ${known}`);
+    }
+    const others = [
+      [null, "null"], [32, "a number"], ["key", "a string"], [() => {}, "a function"], [bytes(3), "an instance of Uint8Array"],
+      [new ArrayBuffer(3), "an instance of ArrayBuffer"], [[], "an instance of Array"], [new Map(), "an instance of Map"],
+      [Promise.resolve({}), "an instance of Promise"], [Object.create({ digestLength: 3 }), "an instance of Object"],
+    ];
+    for (const [value, said] of others) {
+      refuses(() => hash(M, value), TypeError, `${name}: options must be a plain object, not ${said}`);
+      refuses(() => new Hasher(value), TypeError, `new ${Hasher.name}: options must be a plain object, not ${said}`);
+    }
+    refuses(() => hash(M, undefined, 32), TypeError,
+      `${name}: too many arguments, 3 instead of at most 2; key, length and so on are options`);
+    refuses(() => new Hasher({}, 1), TypeError,
+      `new ${Hasher.name}: too many arguments, 2 instead of at most 1; key, length and so on are options`);
+    refuses(() => new Hasher().digest("hex"), TypeError,
+      `${Hasher.name}.digest: too many arguments, 1 instead of at most 0; key, length and so on are options`);
+    refuses(() => new Hasher().update(M, "utf8"), TypeError,
+      `${Hasher.name}.update: too many arguments, 2 instead of at most 1; key, length and so on are options`);
+    assert.throws(() => Hasher({}), TypeError);
+  });
+}
+
+test("what stands on the prototype of all objects is no option", async () => {
+  const salt = bytes(3);
+  const calls = [
+    () => blake2b(M), () => blake2b(M, {}), () => blake2s(M, { salt }), () => new Blake2b({ salt }).update(M).digest(),
+    () => blake2b(M, { tree: {} }), () => treeRoot(M, { leafLength: 2 }), () => blake2bMany([M])[0],
+    () => blake2bStream(new Blob([M])),
+  ];
+  const digests = async () => (await Promise.all(calls.map((call) => call()))).map(hexOf);
+  const wanted = await digests();
+  const names = ["key", "digestLength", "personalization", "fanout", "lastNode", "tree", "signal", "onProgress", "x"];
+  for (const name of names) Object.prototype[name] = 5;
+  const got = await digests().finally(() => names.forEach((name) => delete Object.prototype[name]));
+  assert.deepEqual(got, wanted);
+  assert.equal(wanted[0], createHash("blake2b512").update("abc").digest("hex"));
+});
+
+test("options are read once, and code of theirs may hash", () => {
+  let count = 0;
+  const options = {
+    get key() {
+      count++;
+      blake2s(bytes(1000), { key: bytes(9) });
+      return bytes(3);
+    },
+  };
+  assert.deepEqual(blake2b(M, options), blake2b(M, { key: bytes(3) }));
+  assert.equal(count, 1);
+});
+
+test("the tree: leafLength and digestLength", () => {
+  for (const leafLength of [1, 2, 3, 4, 2 ** 32 - 1]) treeRoot(M, { leafLength });
+  for (const call of [(o) => treeRoot(M, o), (o) => new TreeHash(o)]) {
+    const caller = call({ leafLength: 1 }) instanceof TreeHash ? "new TreeHash" : "treeRoot";
+    refuses(() => call(undefined), TypeError, `${caller}: leafLength must be given`);
+    refuses(() => call({}), TypeError, `${caller}: leafLength must be given`);
+    for (const value of [0, -1, 2 ** 32, 1.5]) {
+      refuses(() => call({ leafLength: value }), RangeError,
+        `${caller}: leafLength must be an integer from 1 to 4294967295, not ${value}`);
+    }
+    refuses(() => call({ leafLength: 1, digestLength: 65 }), RangeError,
+      `${caller}: digestLength must be an integer from 1 to 64, not 65`);
+    refuses(() => call({ leafLength: 1, salt: bytes(17) }), RangeError, `${caller}: salt must have 0 to 16 bytes, not 17`);
+    refuses(() => call({ leafLength: 1, key: bytes(3) }), TypeError,
+      `${caller}: unknown property "key" of options; known are leafLength, digestLength, salt, personalization`);
+  }
+});
+
+test("several messages", () => {
+  for (const many of [blake2bMany, blake2sMany]) {
+    assert.deepEqual(many([]), []);
+    assert.deepEqual(many(new Set([M])), [many === blake2bMany ? blake2b(M) : blake2s(M)]);
+    for (const [value, said] of [[undefined, "undefined"], [5, "a number"], ["abc", "a string"], [{}, "an object"]]) {
+      refuses(() => many(value), TypeError, `${many.name}: messages must be an iterable of bytes, not ${said}`);
+    }
+    refuses(() => many(M), TypeError,
+      `${many.name}: message 0 must be a Uint8Array, another view or an ArrayBuffer, not a number`);
+    refuses(() => many([M], { tree: {} }), TypeError,
+      `${many.name}: unknown property "tree" of options; known are digestLength, key, salt, personalization`);
+    refuses(() => many([M], {}, 1), TypeError, `${many.name}: too many arguments, 3 instead of at most 2; key, length and so on are options`);
+  }
+});
+
+test("streams reject what calls refuse", async () => {
+  const rejects = (promise, Class, message) => assert.rejects(promise, { name: Class.name, message });
+  await rejects(blake2bStream(M), TypeError,
+    "blake2bStream: source must be a Blob, a ReadableStream or an async iterable of bytes, not an object");
+  await rejects(blake2sStream("abc"), TypeError,
+    "blake2sStream: source must be a Blob, a ReadableStream or an async iterable of bytes, not a string");
+  await rejects(blake2bStream(undefined), TypeError,
+    "blake2bStream: source must be a Blob, a ReadableStream or an async iterable of bytes, not undefined");
+  await rejects(blake2bStream(new Blob(), { dkLen: 3 }), TypeError,
+    'blake2bStream: unknown property "dkLen" of options; known are digestLength, key, salt, personalization, tree, onProgress, signal');
+  await rejects(treeRootStream(new Blob()), TypeError, "treeRootStream: leafLength must be given");
+  await rejects(blake2bStream(new Blob(), { onProgress: 5 }), TypeError,
+    "blake2bStream: onProgress must be a function, not a number");
+  await rejects(blake2bStream(new Blob(), { signal: {} }), TypeError,
+    "blake2bStream: signal must be an AbortSignal, not an object");
+  await rejects(blake2bStream(new Blob(), {}, 1), TypeError,
+    "blake2bStream: too many arguments, 3 instead of at most 2; key, length and so on are options");
+});
+
+test("utf8, fromHex, hex, equal", () => {
+  assert.deepEqual(utf8("aß€😀"), Uint8Array.from(Buffer.from("aß€😀")));
+  for (const text of ["\ud800", "a\udc00", "\udc00\ud800", "\ud83d"]) {
+    refuses(() => utf8(text), RangeError, "utf8: text has a lone surrogate");
+  }
+  refuses(() => utf8(5), TypeError, "utf8: text must be a string, not a number");
+  assert.deepEqual(fromHex("00fFaB"), Uint8Array.of(0, 255, 171));
+  assert.deepEqual(fromHex(""), new Uint8Array(0));
+  for (const text of ["0", "0g", "0x12", " 12", "12 ", "１２"]) {
+    refuses(() => fromHex(text), RangeError, "fromHex: text must be an even number of hexadecimal digits");
+  }
+  refuses(() => fromHex(12), TypeError, "fromHex: text must be a string, not a number");
+  assert.equal(hex(Uint8Array.of(0, 15, 255)), "000fff");
+  assert.equal(hex(new ArrayBuffer(2)), "0000");
+  assert.deepEqual(["00", "01"].map(fromHex).map(hex), ["00", "01"]);
+  assert.deepEqual(["a", "b"].map(utf8), [Uint8Array.of(97), Uint8Array.of(98)]);
+  for (const length of [0, 1, 3, 64, 65, 100_000, 258_048, 258_049, 600_000]) {
+    const a = bytes(length);
+    assert.equal(equal(a, a.slice()), true);
+    assertClean();
+    for (const place of [0, length >> 1, length - 1]) {
+      if (length === 0) continue;
+      const b = a.slice();
+      b[place] ^= 0x80;
+      assert.equal(equal(a, b), false, `${length} ${place}`);
+    }
+    assert.equal(equal(a, bytes(length + 1)), false);
+  }
+});

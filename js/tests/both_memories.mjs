@@ -1,0 +1,102 @@
+// Makes the same random calls of the module that the proved source compiles to, whose memory has
+// 64-bit addresses, and of the lowered one, and compares answers and whole memories after each:
+//
+//   node --experimental-wasm-memory64 tests/both_memories.mjs MODULE COUNT
+import assert from "node:assert/strict";
+import { randomBytes, randomInt } from "node:crypto";
+import { readFileSync } from "node:fs";
+import { lower } from "../tools/lower.mjs";
+
+const module = readFileSync(process.argv[2]);
+const count = Number(process.argv[3]);
+const wide = new WebAssembly.Instance(new WebAssembly.Module(module)).exports;
+const narrow = new WebAssembly.Instance(new WebAssembly.Module(lower(module))).exports;
+const base = Number(wide.__heap_base.value);
+assert.equal(wide.__heap_base.value, narrow.__heap_base.value);
+assert.deepEqual(Object.keys(wide), Object.keys(narrow));
+const PAGES = 8;
+try {
+  wide.memory.grow(BigInt(PAGES));
+} catch {
+  wide.memory.grow(PAGES); // as the engines did at first
+}
+narrow.memory.grow(PAGES);
+assert.throws(() => new WebAssembly.Instance(new WebAssembly.Module(lower(lower(module)))), /not 64 bits wide/);
+
+const top = base + PAGES * 65536;
+const [STATE, OUT, KEY, SALT, RECORDS, MESSAGES] = [0, 1024, 6144, 6272, 7168, 8192].map((place) => base + place);
+const both = [wide, narrow].map(({ memory }) => new Uint8Array(memory.buffer));
+const put = (bytes, at) => both.forEach((memory) => memory.set(bytes, at));
+const text = (at, most) => [BigInt(at), BigInt(randomInt(most + 1))];
+
+// A random call: its name and its arguments, most of which are granted.
+function someCall() {
+  const isB = randomInt(2) === 0;
+  const family = isB ? "blake2b" : "blake2s";
+  const most = isB ? 64 : 32;
+  const size = BigInt(randomInt(8) === 0 ? randomInt(2) * (most + 1) : 1 + randomInt(most));
+  const key = text(KEY, most);
+  const salts = [...text(SALT, most / 4), ...text(SALT + 16, most / 4)];
+  const state = BigInt(STATE);
+  const out = [BigInt(OUT), BigInt(most)];
+  const message = text(MESSAGES, randomInt(10) === 0 ? 400000 : 1000);
+  const call = (name, ...words) => [`blake2_c_${family}${name}`, words];
+  const messages = randomInt(20);
+  const tree = (name, ...words) => [`blake2_c_tree${name}`, words];
+  return [
+    () => call("", BigInt(OUT), size, ...message, ...key),
+    () => call("_init", state, size, ...key, ...salts),
+    () => call("_init_key", state, size, ...key),
+    () => call("_init_node", state, size, ...key, ...salts, randomInt(256), randomInt(256), randomInt(2 ** 32),
+      BigInt(randomInt(2 ** 47)), randomInt(256), randomInt(most + 1)),
+    () => call("_init_block", state, BigInt(MESSAGES), BigInt(most)),
+    () => call("_update", state, ...message),
+    () => call("_update", state, ...message),
+    () => call("_final", state, ...out),
+    () => call("_verify", state, BigInt(MESSAGES), size),
+    () => call("_set_last_node", state, randomInt(2)),
+    () => call("_reset", state),
+    () => call("_digest_size", state),
+    () => call("_wipe", state),
+    () => call("_many", BigInt(OUT), size * BigInt(messages), size, BigInt(RECORDS), BigInt(messages), ...key, ...salts),
+    () => tree("_root", BigInt(OUT), size, ...message, ...salts, randomInt(1, 100000)),
+    () => tree("_init", state, size, ...salts, randomInt(100000)),
+    () => tree("_update", state, ...message),
+    () => tree("_update", state, ...message),
+    () => tree("_final", state, BigInt(OUT), 64n),
+    () => tree("_digest_size", state),
+    () => call("_count", state),
+    () => tree("_count", state),
+    () => tree("_leaf_length", state),
+    () => tree("_next_leaves", state, BigInt(OUT), 64n * BigInt(randomInt(1, 4)), BigInt(randomInt(3)), ...message),
+    () => tree("_update_leaves", state, BigInt(MESSAGES), 64n * BigInt(randomInt(3)), ...message),
+    () => tree("_leaf_count", BigInt(randomInt(2 ** 47)), randomInt(3)),
+    () => {
+      const [leafLength, count] = [randomInt(20), randomInt(9)];
+      const length = leafLength * count + (randomInt(5) === 0 ? 1 : 0);
+      return tree("_leaves", BigInt(OUT), 64n * BigInt(Math.max(1, count)), BigInt(randomInt(3)), randomInt(2),
+        BigInt(MESSAGES), BigInt(length), ...salts, leafLength);
+    },
+    () => tree("_root_of_leaves", BigInt(OUT), size, BigInt(MESSAGES), BigInt(64 * randomInt(8) + (randomInt(5) === 0 ? 1 : 0)),
+      ...salts, randomInt(9)),
+    () => ["blake2_c_is_same", [...message, BigInt(MESSAGES + randomInt(2)), message[1]]],
+    () => ["blake2_c_version", []],
+  ][randomInt(30)]();
+}
+
+put(randomBytes(top - base), base);
+const answers = {};
+for (let i = 0; i < count; i++) {
+  put(randomBytes(300), randomInt(KEY, SALT + 32));
+  const length = randomInt(300);
+  for (let each = 0; each < 20; each++) {
+    const record = new BigUint64Array([BigInt(MESSAGES + randomInt(1000)), BigInt(randomInt(3) ? length : randomInt(700))]);
+    put(new Uint8Array(record.buffer), RECORDS + 16 * each);
+  }
+  const [name, words] = someCall();
+  const [first, second] = [wide, narrow].map((exports) => exports[name](...words));
+  assert.equal(first, second, `${name} ${words}`);
+  assert.ok(Buffer.from(both[0].buffer).equals(both[1]), `the memories after ${name} ${words}`);
+  answers[`${name} ${first}`] = (answers[`${name} ${first}`] ?? 0) + 1;
+}
+console.log(JSON.stringify(answers));

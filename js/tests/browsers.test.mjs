@@ -1,0 +1,146 @@
+// The package in Chromium and Firefox, on the page's thread and in a worker, and in JavaScriptCore,
+// the engine of Safari; each where it is installed.
+import assert from "node:assert/strict";
+import { execFileSync, spawn, spawnSync } from "node:child_process";
+import { mkdtempSync, readFileSync, rmSync, writeFileSync } from "node:fs";
+import { createServer } from "node:http";
+import { tmpdir } from "node:os";
+import { extname, join } from "node:path";
+import test from "node:test";
+import { fileURLToPath } from "node:url";
+import { messageOf } from "./common.mjs";
+
+const top = fileURLToPath(new URL("..", import.meta.url));
+const TYPES = { ".js": "text/javascript", ".mjs": "text/javascript", ".json": "application/json", "": "text/html" };
+const CHECK = `const [vulfsjor, { checkCases }, cases] = await Promise.all([import("/index.js"),
+  import("/tests/check_cases.mjs"), fetch("/cases.json").then((answer) => answer.json())]);
+  const answer = await checkCases(vulfsjor, cases);`;
+// Hashes a tree by workers of the browser, whole ones and then some that do not exist or throw.
+const THREADS = `const message = Uint8Array.from({ length: 9_000_001 }, (_, i) => i ^ (i >> 8));
+  const byThreads = () => vulfsjor.treeRootStream(new Blob([message]), { leafLength: 65536, threads: 3 })
+    .then((root) => vulfsjor.hex(root), String);
+  const threads = [vulfsjor.hex(vulfsjor.treeRoot(message, { leafLength: 65536 })), await byThreads()];
+  const { Worker: Whole } = globalThis;
+  for (const script of ["/none.js", "/throws.js"]) {
+    globalThis.Worker = class extends Whole { constructor() { super(script, { type: "module" }); } };
+    threads.push(await byThreads());
+  }
+  globalThis.Worker = Whole;`;
+const PAGE = `<!DOCTYPE html><title>tests</title><script type="module">
+const send = (answer) => fetch("/done", { method: "POST", body: JSON.stringify(answer) });
+try {
+  ${CHECK}
+  ${THREADS}
+  const worker = new Worker("/worker.js", { type: "module" });
+  worker.onmessage = ({ data }) => send({ page: answer, worker: data, threads });
+  worker.onerror = (event) => send({ fault: "worker: " + event.message });
+} catch (fault) {
+  send({ fault: String(fault) });
+}
+</script>`;
+
+function casesOf(count) {
+  const lines = execFileSync("python3", [join(top, "tests/cases.py"), "2", count], { maxBuffer: 2 ** 28, encoding: "utf8" });
+  return lines.trim().split("\n").map((line) => JSON.parse(line))
+    .filter(({ lengths }) => lengths.every((length) => length <= 6000))
+    .map((line) => ({ ...line, messages: line.lengths.map((length, i) =>
+      Buffer.from(messageOf(line.kind === "many" ? `${line.number}.${i}` : line.number, length)).toString("hex")) }));
+}
+
+// Serves the package, opens the page in a browser, and answers what the page sends back.
+async function answerOf(command, wordsOf, cases) {
+  const folder = mkdtempSync(join(tmpdir(), "vulfsjor-browser-"));
+  let answered;
+  const answer = new Promise((resolve) => (answered = resolve));
+  const server = createServer((request, response) => {
+    const { pathname } = new URL(request.url, "http://localhost");
+    if (pathname === "/done") {
+      let text = "";
+      request.on("data", (chunk) => (text += chunk)).on("end", () => answered(JSON.parse(text)));
+      return response.end();
+    }
+    const files = { "/": PAGE, "/cases.json": JSON.stringify(cases), "/worker.js": `${CHECK}\npostMessage(answer);`,
+      "/throws.js": "onmessage = () => { throw new Error('no reason'); };" };
+    try {
+      const body = files[pathname] ?? readFileSync(join(top, pathname));
+      response.setHeader("content-type", TYPES[pathname === "/" ? "" : extname(pathname)] ?? "application/octet-stream");
+      response.end(body);
+    } catch {
+      response.statusCode = 404;
+      response.end();
+    }
+  });
+  await new Promise((resolve) => server.listen(0, "127.0.0.1", resolve));
+  const child = spawn(command, wordsOf(folder, `http://127.0.0.1:${server.address().port}/`), { stdio: "ignore" });
+  const timer = setTimeout(() => answered({ fault: "no answer within 180 seconds" }), 180_000);
+  try {
+    return await answer;
+  } finally {
+    clearTimeout(timer);
+    const exited = new Promise((resolve) => child.on("exit", resolve));
+    child.kill();
+    await exited;
+    server.closeAllConnections();
+    server.close();
+    rmSync(folder, { recursive: true, force: true, maxRetries: 10, retryDelay: 200 });
+  }
+}
+
+const BROWSERS = {
+  chromium: (folder, url) => ["--headless=new", "--no-sandbox", "--disable-gpu", `--user-data-dir=${folder}`,
+    "--remote-debugging-port=0", url],
+  "firefox-esr": (folder, url) => ["--headless", "--no-remote", "--profile", folder, url],
+};
+const has = (command) => spawnSync(command, ["--version"]).error === undefined;
+
+for (const [command, wordsOf] of Object.entries(BROWSERS)) {
+  test(`800 cases of hashlib and a tree by workers in ${command}, on a page and in a worker`, async (t) => {
+    if (!has(command) || !has("python3")) return t.skip(`no ${has("python3") ? command : "python3"}`);
+    const cases = casesOf("800");
+    const { fault, page, worker, threads } = await answerOf(command, wordsOf, cases);
+    assert.equal(fault, undefined);
+    const [root, byThreads, ...failed] = threads;
+    assert.equal(byThreads, root);
+    assert.equal(failed[0], "Error: treeRootStream: a worker failed: it could not be started");
+    assert.match(failed[1], /^Error: treeRootStream: a worker failed: .*no reason$/);
+    for (const { right, wrong } of [page, worker]) {
+      assert.deepEqual(wrong, []);
+      assert.equal(right, cases.length);
+    }
+  });
+}
+
+test("800 cases of hashlib in jsc, the engine of Safari", (t) => {
+  // its --version is no word of jsc's, which ends with another status then
+  if (!has("jsc") || !has("python3")) return t.skip(`no ${has("python3") ? "jsc" : "python3"}`);
+  const folder = mkdtempSync(join(tmpdir(), "vulfsjor-jsc-"));
+  try {
+    const cases = casesOf("800");
+    // the shell has no atob, and no encoder of texts
+    writeFileSync(join(folder, "main.mjs"), `
+      const digits = "ABCDEFGHIJKLMNOPQRSTUVWXYZabcdefghijklmnopqrstuvwxyz0123456789+/";
+      globalThis.atob = (text) => {
+        const out = [];
+        let bits = 0;
+        let count = 0;
+        for (const digit of text.replace(/=/g, "")) {
+          bits = ((bits << 6) | digits.indexOf(digit)) & 0xffff;
+          if ((count += 6) >= 8) out.push(String.fromCharCode((bits >> (count -= 8)) & 255));
+        }
+        return out.join("");
+      };
+      const cases = JSON.parse(readFile(${JSON.stringify(join(folder, "cases.json"))}));
+      const vulfsjor = await import(${JSON.stringify(join(top, "index.js"))});
+      const { checkCases } = await import(${JSON.stringify(join(top, "tests/check_cases.mjs"))});
+      print(JSON.stringify(await checkCases(vulfsjor, cases)));
+    `);
+    writeFileSync(join(folder, "cases.json"), JSON.stringify(cases));
+    const { stdout, stderr } = spawnSync("jsc", ["-m", join(folder, "main.mjs")], { encoding: "utf8", maxBuffer: 2 ** 28 });
+    assert.match(stdout, /^\{/, stderr);
+    const { right, wrong } = JSON.parse(stdout);
+    assert.deepEqual(wrong, []);
+    assert.equal(right, cases.length);
+  } finally {
+    rmSync(folder, { recursive: true });
+  }
+});

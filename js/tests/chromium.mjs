@@ -1,0 +1,86 @@
+// A small client of Chromium's debugging protocol, over two pipes; each message ends with a zero
+// byte.
+import { spawn } from "node:child_process";
+import { mkdtempSync, rmSync } from "node:fs";
+import { tmpdir } from "node:os";
+import { join } from "node:path";
+
+const WORDS = ["--headless=new", "--no-sandbox", "--disable-gpu", "--remote-debugging-pipe", "--no-first-run",
+  "--disable-dev-shm-usage", "--disable-background-networking"];
+
+/** Starts Chromium. Rejects where there is none. */
+export async function startChromium(command = process.env.CHROMIUM ?? "chromium", more = []) {
+  const profile = mkdtempSync(join(tmpdir(), "vulfsjor-chromium-"));
+  const child = spawn(command, [...WORDS, ...more, `--user-data-dir=${profile}`],
+    { stdio: ["ignore", "ignore", "ignore", "pipe", "pipe"] });
+  const [, , , input, output] = child.stdio;
+  const exited = new Promise((resolve) => child.on("exit", resolve));
+  await new Promise((resolve, reject) => child.on("spawn", resolve).on("error", reject));
+  const answers = new Map();
+  const listeners = new Set();
+  let text = "";
+  let count = 0;
+  output.setEncoding("utf8").on("data", (chunk) => {
+    const messages = (text + chunk).split("\0");
+    text = messages.pop();
+    for (const message of messages.map((each) => JSON.parse(each))) {
+      if (message.id === undefined) listeners.forEach((listener) => listener(message));
+      else if (message.error) answers.get(message.id).reject(new Error(message.error.message));
+      else answers.get(message.id).resolve(message.result);
+    }
+  });
+  const send = (method, params = {}, sessionId = undefined) =>
+    new Promise((resolve, reject) => {
+      answers.set(++count, { resolve, reject });
+      input.write(JSON.stringify({ id: count, method, params, sessionId }) + "\0");
+    });
+
+  /** Opens a page. Its faults are what it and the browser complained of. */
+  async function open(url, { width = 1000, height = 900, scheme = "light" } = {}) {
+    const { targetId } = await send("Target.createTarget", { url: "about:blank" });
+    const { sessionId } = await send("Target.attachToTarget", { targetId, flatten: true });
+    const faults = [];
+    const requests = [];
+    listeners.add(({ method, params, sessionId: from }) => {
+      if (from !== sessionId) return;
+      if (method === "Runtime.exceptionThrown") faults.push(params.exceptionDetails.exception?.description ?? params.exceptionDetails.text);
+      if (method === "Log.entryAdded" && params.entry.level !== "verbose") faults.push(params.entry.text);
+      if (method === "Runtime.consoleAPICalled" && params.type === "error") faults.push(params.args.map((a) => a.value).join(" "));
+      if (method === "Network.requestWillBeSent") requests.push(params.request.url);
+    });
+    const call = (method, params) => send(method, params, sessionId);
+    for (const domain of ["Page", "Runtime", "Log", "Network", "DOM"]) await call(`${domain}.enable`);
+    await call("Emulation.setDeviceMetricsOverride", { width, height, deviceScaleFactor: 1, mobile: false });
+    await call("Emulation.setEmulatedMedia", { features: [{ name: "prefers-color-scheme", value: scheme }] });
+    await call("Page.navigate", { url });
+    const evaluate = async (expression) => {
+      const { result, exceptionDetails } = await call("Runtime.evaluate", { expression, awaitPromise: true, returnByValue: true });
+      if (exceptionDetails) throw new Error(exceptionDetails.exception?.description ?? exceptionDetails.text);
+      return result.value;
+    };
+    const until = async (expression, seconds = 120) => {
+      for (const end = Date.now() + 1000 * seconds; Date.now() < end; ) {
+        const value = await evaluate(expression).catch(() => undefined);
+        if (value) return value;
+        await new Promise((resolve) => setTimeout(resolve, 50));
+      }
+      throw new Error(`the page never had ${expression}; it complained of ${faults}`);
+    };
+    const setFiles = async (selector, files) => {
+      const { result } = await call("Runtime.evaluate", { expression: `document.querySelector(${JSON.stringify(selector)})` });
+      await call("DOM.setFileInputFiles", { files, objectId: result.objectId });
+    };
+    const screenshot = async (whole = true) => {
+      const { data } = await call("Page.captureScreenshot", { format: "png", captureBeyondViewport: whole });
+      return Buffer.from(data, "base64");
+    };
+    return { call, evaluate, until, setFiles, screenshot, faults, requests };
+  }
+
+  async function close() {
+    await send("Browser.close").catch(() => {});
+    await exited;
+    rmSync(profile, { recursive: true, force: true, maxRetries: 5 });
+  }
+  return { open, close, version: (await send("Browser.getVersion")).product };
+}

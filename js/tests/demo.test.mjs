@@ -1,0 +1,294 @@
+// The page in Chromium, opened as a file, as a user has it.
+import assert from "node:assert/strict";
+import { createHash } from "node:crypto";
+import { createReadStream, mkdtempSync, readFileSync, rmSync, truncateSync, writeFileSync } from "node:fs";
+import { createServer } from "node:http";
+import { tmpdir } from "node:os";
+import { join } from "node:path";
+import test, { after, before } from "node:test";
+import { fileURLToPath, pathToFileURL } from "node:url";
+import { hex, treeRootStream } from "../index.js";
+import { startChromium } from "./chromium.mjs";
+
+const PAGE = pathToFileURL(fileURLToPath(new URL("../demo/index.html", import.meta.url))).href;
+const FILES = { "empty.txt": 0, "one byte": 1, "käse & <b>.bin": 70_001, "video.mp4": 60_000_000 };
+const KINDS = ["BLAKE2b-512", "BLAKE2b-256", "BLAKE2s-256", "tree root"];
+
+let folder;
+let chromium;
+let missing;
+
+before(async () => {
+  folder = mkdtempSync(join(tmpdir(), "vulfsjor-demo-"));
+  for (const [name, size] of Object.entries(FILES)) writeFileSync(join(folder, name), Buffer.alloc(size, name));
+  try {
+    chromium = await startChromium();
+  } catch (fault) {
+    missing = fault.code === "ENOENT" ? "no chromium" : undefined;
+    if (missing === undefined) throw fault;
+  }
+});
+
+after(async () => {
+  await chromium?.close();
+  rmSync(folder, { recursive: true, force: true });
+});
+
+async function opened(options) {
+  const page = await chromium.open(PAGE, options);
+  await page.until("document.getElementById('self').textContent === 'passed.'");
+  return page;
+}
+
+// What a card shows: digests by their kind, and the state.
+const CARDS = `[...document.querySelectorAll("article")].map((card) => ({
+  name: card.querySelector("h2").textContent,
+  state: card.dataset.state,
+  digests: Object.fromEntries([...card.querySelectorAll(".digest")].map((row) =>
+    [row.querySelector("dt").firstChild.textContent, row.querySelector("dd").textContent])),
+}))`;
+
+// The digests as Node and Python's way of BLAKE2 have them; the root by the package, which is tested beside hashlib.
+async function wantedOf(name, leafLength) {
+  const path = join(folder, name);
+  const hashes = [createHash("blake2b512"), createHash("blake2s256")];
+  for await (const chunk of createReadStream(path)) hashes.forEach((hash) => hash.update(chunk));
+  return {
+    "BLAKE2b-512": hashes[0].digest("hex"),
+    "BLAKE2s-256": hashes[1].digest("hex"),
+    "tree root": hex(await treeRootStream(createReadStream(path), { leafLength })),
+  };
+}
+
+test("files are hashed, shown and compared", async (t) => {
+  if (missing) return t.skip(missing);
+  const page = await opened();
+  await page.setFiles("#files", Object.keys(FILES).map((name) => join(folder, name)));
+  await page.until("document.querySelectorAll('[data-state=done]').length === 4");
+  const cards = await page.evaluate(CARDS);
+  assert.deepEqual(cards.map(({ name }) => name), Object.keys(FILES).reverse());
+  for (const { name, digests } of cards) {
+    assert.deepEqual(Object.keys(digests), KINDS);
+    const { "BLAKE2b-256": short, ...others } = digests;
+    assert.deepEqual(others, await wantedOf(name, 65536), name);
+    assert.match(short, /^[0-9a-f]{64}$/);
+  }
+  // hashlib.blake2b(digest_size=32) of nothing
+  assert.equal(cards.at(-1).digests["BLAKE2b-256"], "0e5751c026e543b2e8ab2eb06099daa1d1e5df47778f7787faab45cdf12fe3a8");
+  assert.equal(await page.evaluate("document.querySelectorAll('progress').length"), 0);
+
+  const compare = (text) => page.evaluate(`{ const field = document.getElementById("wanted");
+    field.value = ${JSON.stringify(text)}; field.dispatchEvent(new Event("input"));
+    document.getElementById("verdict").textContent + " " + document.querySelectorAll(".equal").length; }`);
+  const digest = cards[0].digests["BLAKE2s-256"];
+  assert.equal(await compare(` ${digest.toUpperCase().slice(0, 32)}\n${digest.slice(32)} `), "Equal to the BLAKE2s-256 of video.mp4. 1");
+  assert.equal(await compare(digest.replace(/^./, (c) => (c === "0" ? "1" : "0"))), "Not equal to any of the 16 digests below. 0");
+  assert.equal(await compare(digest.replace(/.$/, (c) => (c === "0" ? "1" : "0"))), "Not equal to any of the 16 digests below. 0");
+  assert.equal(await compare(`${cards[0].digests["BLAKE2b-512"]} *video.mp4`), "Equal to the BLAKE2b-512 of video.mp4. 1");
+  assert.equal(await compare(`BLAKE2s-256 (video.mp4) = ${digest}`), "Equal to the BLAKE2s-256 of video.mp4. 1");
+  assert.equal(await compare(`${digest}0  video.mp4`), `Not a digest: 64 or 128 hexadecimal digits, not these 76 characters. 0`);
+  assert.equal(await compare(digest.slice(2)), "Not a digest: 64 or 128 hexadecimal digits, not these 62 characters. 0");
+  assert.equal(await compare("g".repeat(64)), "Not a digest: 64 or 128 hexadecimal digits, not these 64 characters. 0");
+  assert.equal(await compare(""), "Paste a digest, or a line of b2sum, to compare. 0");
+
+  await page.call("Browser.grantPermissions", { permissions: ["clipboardReadWrite", "clipboardSanitizedWrite"] }).catch(() => {});
+  await page.evaluate(`{ window.copied = []; navigator.clipboard.writeText = async (text) => copied.push(text);
+    document.querySelectorAll("article")[0].querySelectorAll(".digest button")[2].click(); }`);
+  assert.deepEqual(await page.evaluate("copied"), [digest]);
+  assert.deepEqual(page.faults, []);
+  assert.deepEqual(page.requests.filter((url) => !url.startsWith("blob:") && url !== PAGE), []);
+});
+
+test("all of it works by keyboard alone", async (t) => {
+  if (missing) return t.skip(missing);
+  const page = await opened();
+  const press = async (key, code = key, text = undefined) => {
+    await page.call("Input.dispatchKeyEvent", { type: "keyDown", key, code, text, windowsVirtualKeyCode: { Tab: 9, Enter: 13, " ": 32 }[key] });
+    await page.call("Input.dispatchKeyEvent", { type: "keyUp", key, code });
+  };
+  const focused = () => page.evaluate(`{ const e = document.activeElement;
+    e.id || e.value || e.ariaLabel || e.textContent.trim(); }`);
+  const isSeen = () => page.evaluate(`{ const e = document.activeElement.id === "files" ? document.getElementById("drop") : document.activeElement;
+    getComputedStyle(e).outlineStyle; }`);
+  await page.setFiles("#files", [join(folder, "one byte")]);
+  await page.until("document.querySelectorAll('[data-state=done]').length === 1");
+  const seen = [];
+  for (let i = 0; i < 13; i++) {
+    await press("Tab");
+    seen.push(await focused());
+    assert.equal(await isSeen(), "solid", seen.at(-1));
+    if (seen.at(-1) === "BLAKE2s-256") await press(" ", "Space", " ");
+    if (seen.at(-1) === "wanted") await page.call("Input.insertText", { text: "00" });
+    if (seen.at(-1) === "What is proved, and what is not") await press("Enter", "Enter", "\r");
+  }
+  assert.deepEqual(seen.slice(1), [
+    "files", ...KINDS, "leaf", "wanted", ...KINDS.map((kind) => `Copy the ${kind} of one byte`), "What is proved, and what is not",
+  ]);
+  assert.equal(await page.evaluate("document.querySelector('[value=\"BLAKE2s-256\"]').checked"), false);
+  assert.equal(await page.evaluate("document.getElementById('proved').open"), true);
+  assert.match(await page.evaluate("document.getElementById('verdict').textContent"), /not these 2 characters/);
+  // Stop by Enter leaves the focus at the file
+  writeFileSync(join(folder, "stopped.img"), "");
+  truncateSync(join(folder, "stopped.img"), 3_000_000_000);
+  await page.setFiles("#files", [join(folder, "stopped.img")]);
+  await page.until("document.querySelector('progress')?.value > 1e6");
+  await page.evaluate("{ const field = document.getElementById('wanted'); field.value = '0'.repeat(64); field.dispatchEvent(new Event('input')); }");
+  assert.equal(await page.evaluate("document.getElementById('verdict').textContent"),
+    "Not equal to any digest so far; some are still being computed.");
+  await page.evaluate("document.querySelector('article .top button').focus()");
+  await press("Enter", "Enter", "\r");
+  await page.until("document.querySelector('article').dataset.state === 'failed'");
+  assert.equal(await page.evaluate("document.activeElement === document.querySelector('article')"), true);
+  assert.equal(await page.evaluate("document.getElementById('verdict').textContent"), "Not equal to any of the 4 digests below.");
+  assert.deepEqual(page.faults, []);
+});
+
+test("it fits narrow and wide windows, light and dark, and its text has contrast", async (t) => {
+  if (missing) return t.skip(missing);
+  for (const width of [320, 1400]) {
+    for (const scheme of ["light", "dark"]) {
+      const page = await opened({ width, scheme });
+      await page.setFiles("#files", [join(folder, "one byte")]);
+      await page.until("document.querySelectorAll('[data-state=done]').length === 1");
+      assert.equal(await page.evaluate("document.documentElement.scrollWidth <= innerWidth"), true, `${width}`);
+      // the ratio of luminance of WCAG 2, of body text and of the quiet text on a card
+      const ratio = await page.evaluate(`{ const light = (color) => { const [r, g, b] = color.match(/\\d+/g).map((c) => c / 255)
+          .map((c) => (c <= 0.03928 ? c / 12.92 : ((c + 0.055) / 1.055) ** 2.4)); return 0.2126 * r + 0.7152 * g + 0.0722 * b; };
+        const of = (a, b) => { const [x, y] = [light(a), light(b)]; return (Math.max(x, y) + 0.05) / (Math.min(x, y) + 0.05); };
+        const style = (selector) => getComputedStyle(document.querySelector(selector));
+        Math.min(of(style("body").color, style("body").backgroundColor), of(style("article .quiet").color, style("article").backgroundColor),
+          of(style(".badge").color, style(".badge").backgroundColor)); }`);
+      assert.ok(ratio >= 4.5, `${scheme}: ${ratio}`);
+      if (process.env.VULFSJOR_SHOTS) writeFileSync(join(process.env.VULFSJOR_SHOTS, `${width}-${scheme}.png`), await page.screenshot());
+      assert.deepEqual(page.faults, []);
+    }
+  }
+});
+
+test("what is chosen is computed, and nothing else", async (t) => {
+  if (missing) return t.skip(missing);
+  const page = await opened();
+  await page.evaluate(`{ for (const box of document.querySelectorAll("[name=kind]")) box.checked = box.value === "tree root";
+    document.getElementById("leaf").value = "4096"; }`);
+  await page.setFiles("#files", [join(folder, "käse & <b>.bin")]);
+  await page.until("document.querySelectorAll('[data-state=done]').length === 1");
+  const [{ digests }] = await page.evaluate(CARDS);
+  assert.deepEqual(digests, { "tree root": (await wantedOf("käse & <b>.bin", 4096))["tree root"] });
+  await page.evaluate("document.querySelector('[value=\"tree root\"]').checked = false");
+  await page.setFiles("#files", [join(folder, "one byte")]);
+  assert.equal(await page.evaluate("document.querySelectorAll('article').length"), 1);
+  assert.equal(await page.evaluate("document.getElementById('choose').hidden + ' ' + document.activeElement.name"), "false kind");
+  assert.deepEqual(page.faults, []);
+});
+
+test("a large file can be stopped, and the page answers meanwhile", async (t) => {
+  if (missing) return t.skip(missing);
+  const large = join(folder, "large.img");
+  writeFileSync(large, "");
+  truncateSync(large, 3_000_000_000);
+  const page = await opened();
+  await page.evaluate(`{ window.longest = 0; let last = performance.now();
+    setInterval(() => { const now = performance.now(); longest = Math.max(longest, now - last); last = now; }, 10); }`);
+  await page.setFiles("#files", [large]);
+  await page.until("document.querySelector('progress')?.value > 200e6");
+  const longest = await page.evaluate("longest");
+  t.diagnostic(`the page's thread paused for ${longest.toFixed(0)} ms at most`);
+  assert.ok(longest < 1000, `${longest} ms`);
+  await page.evaluate("document.querySelector('article .top button').click()");
+  await page.until("document.querySelector('article').dataset.state === 'failed'");
+  assert.deepEqual((await page.evaluate(CARDS))[0].digests, Object.fromEntries(KINDS.map((kind) => [kind, "stopped"])));
+  // the workers are free again
+  await page.setFiles("#files", [join(folder, "one byte")]);
+  await page.until("document.querySelectorAll('[data-state=done]').length === 1");
+  assert.deepEqual(page.faults, []);
+});
+
+test("a file that changes while it waits is told of", async (t) => {
+  if (missing) return t.skip(missing);
+  const page = await opened();
+  const gone = join(folder, "gone.bin");
+  writeFileSync(gone, Buffer.alloc(5_000_000));
+  await page.evaluate("workers.forEach((worker) => (worker.isFree = false))");
+  await page.setFiles("#files", [gone]);
+  writeFileSync(gone, Buffer.alloc(5_000_001, 1));
+  await page.evaluate("workers.forEach((worker) => (worker.isFree = true)); start()");
+  await page.until("document.querySelector('article').dataset.state === 'failed'");
+  const [{ digests }] = await page.evaluate(CARDS);
+  assert.match(digests["BLAKE2b-512"], /^cannot be read \(is it a folder, or has it changed\?\): /);
+  assert.deepEqual(page.faults, []);
+});
+
+test("a page whose own test fails says so, and hashes nothing", async (t) => {
+  if (missing) return t.skip(missing);
+  const text = readFileSync(fileURLToPath(PAGE), "utf8");
+  for (const digits of ["ba80a53f", "bddd813c", "508c5e8c", "19fc31bb"]) {
+    assert.equal(text.split(digits).length, 2);
+    const wrong = join(folder, "wrong.html");
+    writeFileSync(wrong, text.replace(digits, digits.replace(/^./, "0")));
+    const page = await chromium.open(pathToFileURL(wrong).href);
+    await page.until("document.getElementById('self').textContent === 'failed.'", 60);
+    assert.equal(await page.evaluate("document.getElementById('broken').textContent"), "The page cannot hash here: its own test failed.");
+    await page.setFiles("#files", [join(folder, "one byte")]);
+    await page.evaluate("new Promise((resolve) => setTimeout(resolve, 200))");
+    assert.equal(await page.evaluate("document.querySelectorAll('[data-state=done]').length"), 0);
+  }
+});
+
+test("files are dropped on the page", async (t) => {
+  if (missing) return t.skip(missing);
+  const page = await opened();
+  const data = { items: [], files: [join(folder, "one byte"), join(folder, "empty.txt")], dragOperationsMask: 1 };
+  for (const type of ["dragEnter", "dragOver", "drop"]) {
+    await page.call("Input.dispatchDragEvent", { type, x: 300, y: 300, data });
+  }
+  await page.until("document.querySelectorAll('[data-state=done]').length === 2");
+  const cards = await page.evaluate(CARDS);
+  assert.deepEqual(cards.map(({ name }) => name).sort(), ["empty.txt", "one byte"]);
+  assert.deepEqual(page.faults, []);
+});
+
+test("the page's policy forbids connections and other scripts", async (t) => {
+  if (missing) return t.skip(missing);
+  const page = await opened();
+  const asked = [];
+  const server = createServer((request, response) => {
+    asked.push(request.url);
+    response.end();
+  });
+  await new Promise((resolve) => server.listen(0, "127.0.0.1", resolve));
+  const url = `http://127.0.0.1:${server.address().port}`;
+  try {
+    assert.match(await page.evaluate(`fetch("${url}/fetch", { mode: "no-cors" }).then(() => "sent", String)`), /^TypeError/);
+    assert.equal(await page.evaluate(`new Promise((resolve) => { const image = new Image();
+      image.onload = () => resolve("sent"); image.onerror = () => resolve("refused"); image.src = "${url}/image"; })`), "refused");
+    await page.evaluate(`navigator.sendBeacon("${url}/beacon", "text")`);
+    await page.evaluate(`{ const script = document.createElement("script"); script.src = "${url}/script"; document.body.append(script); }`);
+    await page.evaluate(`{ const socket = new WebSocket("${url.replace("http", "ws")}/socket"); }`).catch(() => {});
+    await page.evaluate(`{ const form = document.createElement("form"); form.action = "${url}/form"; document.body.append(form); form.submit(); }`);
+    await page.evaluate("new Promise((resolve) => setTimeout(resolve, 300))");
+    assert.deepEqual(asked, []);
+  } finally {
+    server.close();
+  }
+  assert.equal(await page.evaluate(`{ const script = document.createElement("script");
+    script.textContent = "window.ran = true"; document.body.append(script); String(window.ran); }`), "undefined");
+  const { result } = await page.call("Runtime.evaluate",
+    { expression: "try { eval('1') } catch (fault) { String(fault) }", allowUnsafeEvalBlockedByCSP: false });
+  assert.match(String(result.value), /^EvalError/);
+});
+
+test("names, labels and roles are there for all that one can act on", async (t) => {
+  if (missing) return t.skip(missing);
+  const page = await opened();
+  await page.setFiles("#files", [join(folder, "one byte")]);
+  await page.until("document.querySelectorAll('[data-state=done]').length === 1");
+  await page.call("Accessibility.enable");
+  const { nodes } = await page.call("Accessibility.getFullAXTree");
+  const acting = nodes.filter(({ ignored, role }) =>
+    !ignored && ["button", "checkbox", "textbox", "combobox", "link"].includes(role?.value));
+  assert.ok(acting.length >= 11, String(acting.length));
+  for (const { role, name } of acting) assert.ok(name?.value, role.value);
+  const names = acting.map(({ name }) => name.value);
+  assert.ok(names.includes("Copy the BLAKE2b-512 of one byte"), String(names));
+  assert.ok(names.includes("Compare with an expected digest"), String(names));
+});

@@ -1,0 +1,76 @@
+// Looks for pieces of a key in the whole memory of a process, after calls under the key.
+import assert from "node:assert/strict";
+import { spawn } from "node:child_process";
+import { closeSync, openSync, readFileSync, readSync } from "node:fs";
+import test from "node:test";
+import { fileURLToPath } from "node:url";
+
+const program = fileURLToPath(new URL("keep_key.mjs", import.meta.url));
+
+// How often any 8 bytes of the key, at a multiple of 8 of it, stand in what the process may write.
+function countPieces(pid, key) {
+  const pieces = [];
+  for (let at = 0; at < key.length; at += 8) pieces.push(key.subarray(at, at + 8));
+  const file = openSync(`/proc/${pid}/mem`);
+  const buffer = Buffer.alloc(2 ** 22);
+  let count = 0;
+  for (const line of readFileSync(`/proc/${pid}/maps`, "latin1").split("\n")) {
+    const [, from, to, name] = /^(\w+)-(\w+) rw.. \S+ \S+ \S+\s*(.*)$/.exec(line) ?? [];
+    if (from === undefined || name === "[vvar]") continue;
+    for (let at = BigInt(`0x${from}`), end = BigInt(`0x${to}`); at < end; ) {
+      let length;
+      try {
+        length = readSync(file, buffer, 0, Number(end - at < 2n ** 22n ? end - at : 2n ** 22n), at);
+      } catch {
+        break; // no memory behind it
+      }
+      if (length === 0) break;
+      const seen = buffer.subarray(0, length);
+      for (const piece of pieces) {
+        for (let place = seen.indexOf(piece); place >= 0; place = seen.indexOf(piece, place + 1)) count++;
+      }
+      at += BigInt(length);
+    }
+  }
+  closeSync(file);
+  return count;
+}
+
+async function piecesAfter(form) {
+  const child = spawn(process.execPath, [program, form], { stdio: ["pipe", "pipe", "inherit"] });
+  let text = "";
+  for await (const chunk of child.stdout) {
+    text += chunk;
+    if (text.endsWith("ready\n")) break;
+  }
+  const key = Buffer.from(text.split("\n")[0], "hex").map((byte) => byte ^ 0x5a);
+  try {
+    return countPieces(child.pid, key);
+  } finally {
+    child.stdin.write("x");
+  }
+}
+
+const FORMS = [
+  "blake2b in one call", "blake2s in one call", "blake2bMany", "Blake2b, digest", "Blake2s, digest",
+  "blake2b of a key in the heap", "Blake2b of a key in the heap", "Blake2b, digest of nothing", "Blake2b, verify", "Blake2b, copy and reset", "Blake2b, wipe", "Blake2b, dropped",
+];
+
+test("pieces of a key in the memory of the process", async (t) => {
+  if (process.platform !== "linux") return t.skip("no /proc");
+  let found;
+  try {
+    found = await piecesAfter("a key that is not forgotten");
+  } catch (fault) {
+    if (fault.code === "EACCES" || fault.code === "EPERM") return t.skip("the memory of a child cannot be read");
+    throw fault;
+  }
+  assert.ok(found >= 8, `${found} pieces of a key that is there`);
+  for (const form of FORMS) {
+    await t.test(form, async () => {
+      const count = await piecesAfter(form);
+      t.diagnostic(`${form}: ${count}`);
+      assert.equal(count, 0);
+    });
+  }
+});

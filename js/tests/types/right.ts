@@ -1,0 +1,46 @@
+// Compiles, and each line marked as an error is one.
+import {
+  Blake2b, Blake2s, TreeHash, blake2b, blake2bMany, blake2bStream, blake2s, equal, fromHex, hex, load,
+  treeLeaves, treeRoot, treeRootOfLeaves, treeRootStream, utf8, type Bytes, type NodeOptions,
+} from "vulfsjor";
+
+const digest: Uint8Array = blake2b(new Uint8Array(3), { digestLength: 32, key: new ArrayBuffer(3) });
+const options: NodeOptions = { salt: new DataView(new ArrayBuffer(3)), tree: { nodeOffset: 5n, lastNode: true } };
+const text: string = new Blake2b(options).update(digest).copy().reset().hex();
+const copy: Blake2s = new Blake2s().copy();
+const isSame: boolean = equal(digest, fromHex(hex(digest))) && copy.verify(utf8(text));
+const roots: Uint8Array[] = [treeRoot(digest, { leafLength: 5 }), new TreeHash({ leafLength: 5 }).digest()];
+const many: Uint8Array[] = blake2bMany(new Set<Bytes>([digest]));
+async function all(file: Blob, signal: AbortSignal): Promise<Uint8Array[]> {
+  await load();
+  return [
+    await blake2bStream(file, { key: digest, signal, onProgress: (bytes, total) => console.log(bytes, total ?? 0) }),
+    await blake2bStream(file.stream()),
+    await treeRootStream(file, { leafLength: 65536, threads: 4 }),
+    treeRootOfLeaves(treeLeaves(digest, { leafLength: 5, first: 0n, ends: true }), { leafLength: 5 }),
+  ];
+}
+console.log(isSame, roots, many, all, new Blake2b()[Symbol.dispose]);
+
+// @ts-expect-error a text is no bytes
+blake2b("abc");
+// @ts-expect-error an unknown option
+blake2b(digest, { dkLen: 32 });
+// @ts-expect-error a length is an option
+blake2b(digest, 32);
+// @ts-expect-error more arguments
+blake2s(digest, {}, 32);
+// @ts-expect-error a tree needs the length of its leaves
+treeRoot(digest);
+// @ts-expect-error a range says whether it ends
+treeLeaves(digest, { leafLength: 5, first: 0 });
+// @ts-expect-error threads are of trees alone
+blake2bStream(new Blob([]), { threads: 2 });
+// @ts-expect-error a tree has no key
+new TreeHash({ leafLength: 5, key: digest });
+// @ts-expect-error digest takes no encoding
+new Blake2b().digest("hex");
+// @ts-expect-error a tag is bytes
+new Blake2b().verify("00");
+// @ts-expect-error several messages have no place in a tree
+blake2bMany([digest], { tree: {} });

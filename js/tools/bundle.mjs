@@ -1,0 +1,47 @@
+// Bundles a module and those that it imports into one classic script, for a worker from a blob:
+// URL. It knows only the forms of imports and exports that this package uses, and refuses others.
+import { readFileSync } from "node:fs";
+import { dirname, resolve } from "node:path";
+
+const IMPORT = /^import (?:\{([^}]*)\}|\* as (\w+)) from "([^"]+)";$/gm;
+const EXPORT = /^export (?=(?:async )?(?:function\*?|class|const) (\w+))/gm;
+const LIST = /^export \{([^}]*)\};$/gm;
+
+const namesIn = (list) => list.split(",").map((name) => name.trim()).filter((name) => name !== "");
+
+/**
+ * The script of the module in this file. The workers of treeRootStream are not in it, and cannot be
+ * started from it.
+ */
+export function bundle(file) {
+  const numbers = new Map();
+  const parts = [];
+  const add = (path) => {
+    if (numbers.has(path)) return numbers.get(path);
+    const exported = [];
+    const text = readFileSync(path, "utf8")
+      .replace(IMPORT, (_, list, whole, from) => {
+        const number = add(resolve(dirname(path), from));
+        return `const ${whole ?? `{ ${namesIn(list).join(", ")} }`} = module${number};`;
+      })
+      .replace(EXPORT, (_, name) => {
+        exported.push(name);
+        return "";
+      })
+      .replace(LIST, (_, list) => {
+        exported.push(...namesIn(list));
+        return "";
+      })
+      .replaceAll("import.meta.url", "location.href");
+    if (/^\s*(import|export)\b(?!\()|\bimport\.meta/m.test(text)) {
+      throw new Error(`bundle: an unknown form in ${path}`);
+    }
+    const number = numbers.size;
+    numbers.set(path, number);
+    const names = exported.join(", ");
+    parts.push(`const module${number} = (() => {\n${text}\nreturn { ${names} };\n})();\n`);
+    return number;
+  };
+  add(resolve(file));
+  return `"use strict";\n${parts.join("")}`;
+}
