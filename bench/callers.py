@@ -45,24 +45,18 @@ PLOT_PIECES = tuple(1 << power for power in range(17))
 IN_PIECES = "_in_pieces"
 
 
-def installed():
-    """The folder where the library is installed, and that with the archive of each processor."""
-    folder, parts = os.path.join(OUT, "installed"), os.path.join(OUT, "parts")
-    say("proving and building blake2_c for both processors (minutes, where nothing is kept of its proof)")
-    good, output = speed.outcome([os.path.join(TOP, "c", "install.sh"), "--parts", parts, folder])
+def installed(name, *words):
+    """The folder of this name where c/install.sh has put the library with these words."""
+    folder = os.path.join(OUT, name)
+    good, output = speed.outcome([os.path.join(TOP, "c", "install.sh"), *words, folder])
     if not good:
-        sys.exit("callers: the library was not built: " + output)
-    return folder, parts
+        sys.exit("callers: the library was not installed: " + output)
+    return folder
 
 
 def words_for(folder):
-    """The words of the C compiler for a program over the installed library."""
-    return words_over(folder, os.path.join(folder, "lib", "libblake2_c.a"))
-
-
-def words_over(folder, archive):
-    """The same over another archive with the installed header."""
-    return ["-I" + os.path.join(folder, "include", "blake2_c"), archive]
+    """The words of the C compiler for a program over the library that is installed there."""
+    return ["-I" + os.path.join(folder, "include"), os.path.join(folder, "lib", "libblake2_c.a")]
 
 
 def crate_in_rust(folder):
@@ -76,21 +70,21 @@ def crate_in_rust(folder):
     return os.path.join(OUT, "callers", "release", "libcallers.so")
 
 
-def calls_in_c(folder, parts):
+def calls_in_c(folder):
     """The shared libraries over the calls in C by their names: over the chosen build, and over each alone."""
     source = os.path.join(HERE, "callers.c")
     found = {CHOSEN: speed.shared("callers.so", [source, *words_for(folder)])}
     for cpu in speed.CPUS:
-        words = words_over(folder, os.path.join(parts, cpu + ".a"))
-        found[f"{CHOSEN}, {cpu} alone"] = speed.shared(f"callers-{cpu}.so", [source, *words])
+        words = words_for(installed("installed-" + cpu, "--cpu", cpu))
+        found[f"{CHOSEN}, {cpu} only"] = speed.shared(f"callers-{cpu}.so", [source, *words])
     if None in found.values():
         sys.exit("callers: a C compiler (cc) is needed")
     return found
 
 
-def libraries(folder, parts):
+def libraries(folder):
     """The shared libraries to time, by their names."""
-    found = {**calls_in_c(folder, parts), "ours from Rust": crate_in_rust(folder), "libb2": speed.libb2()[1],
+    found = {**calls_in_c(folder), "ours from Rust": crate_in_rust(folder), "libb2": speed.libb2()[1],
              "blake2_simd": speed.blake2_simd()[1], "OpenSSL's EVP": speed.openssl()}
     return {name: ctypes.CDLL(path) for name, path in found.items() if path}
 
@@ -114,8 +108,8 @@ def python_in_pieces(kind, message, piece):
 class Calls:
     """What is timed in memory: digests in one call, and in pieces."""
 
-    def __init__(self, turns, folder, parts):
-        self.libraries = libraries(folder, parts)
+    def __init__(self, turns, folder):
+        self.libraries = libraries(folder)
         self.piece = 0
         self.once = speed.Memory(turns, self.functions(""), speed.through_python)
         self.pieces = speed.Memory(turns, self.functions(IN_PIECES), self.through_python)
@@ -161,7 +155,7 @@ def once_table(kind, calls):
 def programs(folder):
     """The commands to time by their names; each reads standard input."""
     example = speed.compiled("sum", [os.path.join(TOP, "c", "examples", "sum.c"), *words_for(folder)])
-    b2 = speed.built("b2", "run", ["--", "sum", "b512"], "b2", CPU)
+    b2 = speed.program_of(CPU)
     found = {"ours: `c/examples/sum.c`": [example], "ours: `b2 sum`": [b2, "sum", "b512"]}
     if shutil.which("b2sum"):
         found["`b2sum`"] = ["b2sum"]
@@ -224,14 +218,14 @@ def options_given():
 
 def parts_of(options):
     """The heading and the tables, each once it is measured; with --write the plot is drawn last."""
-    folder, parts = installed()
+    folder = installed("installed")
     yield (f"{speed.machine()}; {speed.versions()}; `b2` built for {CPU}; best of {options.turns * speed.PLOT_TURNS} "
            f"or more in memory, medians of {options.turns} over the file.\n")
     if options.only in (None, "file"):
         yield speed.with_load(file_table(options, folder))
     if options.only == "file":
         return
-    calls = Calls(options.turns, folder, parts)
+    calls = Calls(options.turns, folder)
     for name, table in (("pieces", pieces_table), ("once", once_table)):
         if options.only in (None, name):
             yield from (speed.with_load(table(kind, calls)) for kind in TIMED)

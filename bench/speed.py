@@ -9,7 +9,7 @@ Tables, as Markdown on standard output, and a plot:
 - kernel: one message of 1 MiB in memory, digested again and again.
 - short: messages of 0, 64 and 1,024 bytes in memory, digested again and again.
 - several: four messages of BLAKE2b-512 and eight of BLAKE2s-256, each of 64, 1,024 and 4,096 bytes, digested
-  one after another and at once, by this project and by blake2_simd (hash_many).
+  one after another and at once, by this project (blake2_c_.._many) and by blake2_simd (hash_many).
 - tree: the roots of trees with leaves of 4 KiB, 64 KiB and 1 MiB over one message of 16 MiB in memory, beside
   one stream over it; blake2_simd's root hashes its leaves by `hash_many`.
 - plot: messages of 64 bytes to 1 MiB in memory, at each power of two.
@@ -17,8 +17,8 @@ Tables, as Markdown on standard output, and a plot:
 With --write all of them go into the documents: the tables to docs/SPEED.md, between its two marks, and the
 plot to docs/speed.svg.
 
-This project is built for x86-64-v2 and for x86-64-v3: the program b2, and the static library blake2_c, whose
-functions C calls. In memory one loop in C (peers/clock.c) calls each library's function through a pointer,
+This project's code is that of dist/ for x86-64-v2 and for x86-64-v3: the program b2, and the static library blake2_c,
+whose functions C calls. In memory one loop in C (peers/clock.c) calls each library's function through a pointer,
 a digest a call, so each pays for one such call, and nothing is subtracted from any. "hashlib's C functions"
 are those that hashlib.blake2b and hashlib.blake2s of this Python run, called at their addresses in its
 module _blake2, so nothing of Python is counted; "hashlib through Python" is the same digest as a Python
@@ -32,7 +32,7 @@ best time of each counts. A ratio is the candidate's speed over that of the colu
 A peer that is absent is named on standard error and left out. Debian's packages have them: libb2-dev,
 libssl-dev, and librust-blake2b-simd-dev with librust-blake2s-simd-dev.
 
-It needs Python 3.11 or later, whose hashlib has file_digest.
+It needs a C compiler, and Python 3.11 or later, whose hashlib has file_digest.
 
 usage: bench/speed.py [--mebibytes N] [--turns N] [--only long|kernel|short|several|tree | --write]
 """
@@ -68,7 +68,6 @@ SEVERAL_BYTES = (64, 1024, 4096)
 SEVERAL = {"b512": 4, "s256": 8}  # how many messages at once
 TREE_MEBIBYTES = 16  # of the message
 TREE_LEAVES = (1 << 12, 1 << 16, 1 << 20)
-SEVERAL_CRATES = ("blake2_digest", "blake2_rows", "blake2_words", "blake2_runs", "blake2")
 PLOT_BYTES = tuple(1 << power for power in range(6, 21))
 TURN_NANOSECONDS = 2e6  # of one timing in memory, at least
 MEMORY_TURNS = 50  # timings in memory for each turn over the file, at the lengths of the tables
@@ -136,41 +135,30 @@ def outcome(command, folder=TOP):
 
 # What is built.
 
-def built(crate, verb, words, made, cpu):
-    """Builds a crate of this project for the processor, and answers the path of a copy of what was made."""
-    say(f"proving and building {crate} for {cpu} (minutes, where nothing is kept of its proof)")
-    folder = os.path.join(TOP, "crates", crate)
-    good, output = outcome(["rt", verb, "--cpu", cpu] + words, folder)
-    if not good:
-        sys.exit(f"speed: {crate} was not built: " + (output.splitlines() or [""])[-1])
-    return shutil.copy(os.path.join(folder, "out", made), os.path.join(OUT, f"{cpu}-{made}"))
+def text_of(name, cpu):
+    """The path of the assembly text of dist/ with this name for the processor."""
+    return os.path.join(TOP, "dist", "x86_64", f"{name}-{cpu.removeprefix('x86-64-')}.s")
 
 
-def several_built(cpu):
-    """Builds the library of several messages (peers/several.rt.in) for the processor, over a copy of the
-    crates in bench/out, and answers the path of a shared library."""
-    say(f"proving and building several messages at once for {cpu} (minutes, where nothing is kept of the proof)")
-    root = os.path.join(OUT, "several")
-    for crate in SEVERAL_CRATES:
-        kept, copy = os.path.join(TOP, "crates", crate), os.path.join(root, "crates", crate)
-        for part in ("src", "specs", "proofs"):
-            shutil.rmtree(os.path.join(copy, part), ignore_errors=True)
-            shutil.copytree(os.path.join(kept, part), os.path.join(copy, part))
-        if os.path.isdir(os.path.join(kept, "out")) and not os.path.isdir(os.path.join(copy, "out")):
-            shutil.copytree(os.path.join(kept, "out"), os.path.join(copy, "out"))
-    folder = os.path.join(root, "crates", "several")
-    for part in ("src", "specs", "proofs"):
-        os.makedirs(os.path.join(folder, part), exist_ok=True)
-    shutil.copy(os.path.join(PEERS, "several.rt.in"), os.path.join(folder, "src", "lib.rt"))
-    with open(os.path.join(TOP, "crates.txt")) as file:
-        lines = [line for line in file if line.split(":")[0] in SEVERAL_CRATES]
-    with open(os.path.join(root, "crates.txt"), "w") as file:
-        file.writelines(lines + ["several staticlib: blake2 blake2_digest blake2_rows blake2_words\n"])
-    good, output = outcome(["rt", "lib", "--cpu", cpu], folder)
+def program_of(cpu):
+    """The program b2 for the processor, linked from dist/."""
+    with open(text_of("b2", cpu)) as text:
+        main = re.search(r"^\t\.globl\t(main\w*)$", text.read(), re.MULTILINE)[1]
+    path = compiled(cpu + "-b2", ["-DMAIN=" + main, os.path.join(TOP, "c", "b2.c"), text_of("b2", cpu)])
+    if path is None:
+        sys.exit("speed: the program needs a C compiler (cc)")
+    return path
+
+
+@functools.cache
+def library_of(cpu):
+    """The shared library over blake2_c for the processor, linked from dist/."""
+    folder = os.path.join(OUT, cpu)
+    good, output = outcome([os.path.join(TOP, "c", "join.sh"), folder, text_of("blake2_c", cpu)])
     if not good:
-        sys.exit("speed: several messages were not built: " + (output.splitlines() or [""])[-1])
-    archive = os.path.join(folder, "out", "libseveral.a")
-    return shared(cpu + "-several.so", ["-Wl,--whole-archive", archive, "-Wl,--no-whole-archive"])
+        sys.exit("speed: blake2_c was not linked: " + output)
+    sources = [os.path.join(PEERS, name) for name in ("ours.c", "several.c", "tree.c")]
+    return shared(cpu + "-blake2_c.so", [*sources, os.path.join(folder, "libblake2_c.a")])
 
 
 def compiled(name, words):
@@ -249,7 +237,7 @@ def programs():
     """The programs to time by their names: functions from a kind to the command, or None."""
     found = {}
     for cpu in CPUS:
-        b2 = built("b2", "run", ["--", "sum", "b512"], "b2", cpu)
+        b2 = program_of(cpu)
         found[f"ours: `b2 sum`, {cpu}"] = lambda kind, b2=b2: [b2, "sum", kind.word]
     if shutil.which("b2sum"):
         found["`b2sum`"] = lambda kind: ["b2sum"] if kind.word == "b512" else None
@@ -331,10 +319,7 @@ def libraries():
     """The functions to time in memory, by the names of their libraries and their kinds' words."""
     found = {}
     for cpu in CPUS:
-        archive = built("blake2_c", "lib", [], "libblake2_c.a", cpu)
-        path = shared(cpu + "-blake2_c.so", [os.path.join(PEERS, "ours.c"), "-Wl,--whole-archive", archive,
-                                             "-Wl,--no-whole-archive"])
-        found[f"ours: `blake2`, {cpu}"] = functions_of(path, "ours_")
+        found[f"ours: `blake2_c`, {cpu}"] = functions_of(library_of(cpu), "ours_")
     for name, path in (("libb2", libb2()[1]), ("blake2_simd", blake2_simd()[1]), ("OpenSSL's EVP", openssl())):
         if path:
             found[name] = functions_of(path)
@@ -503,9 +488,9 @@ def several_functions():
     """The functions that write the digests of several messages, by their names and their kinds' words."""
     found = {}
     for cpu in CPUS:
-        path = several_built(cpu)
+        path = library_of(cpu)
         found[f"ours: one after another, {cpu}"] = functions_of(path, "each_")
-        found[f"ours: at once, {cpu}"] = functions_of(path, "several_")
+        found[f"ours: in parallel, {cpu}"] = functions_of(path, "several_")
     path = blake2_simd()[1]
     if path:
         found["blake2_simd: one after another"] = functions_of(path, "each_")
@@ -546,11 +531,9 @@ def tree_functions():
     """The functions that write a digest of a message, by their names: roots of trees and single digests."""
     roots, single = {}, {}
     for cpu in CPUS:
-        archive = built("blake2_c", "lib", [], "libblake2_c.a", cpu)
-        path = shared(cpu + "-tree.so", [os.path.join(PEERS, "tree.c"), os.path.join(PEERS, "ours.c"),
-                                         "-Wl,--whole-archive", archive, "-Wl,--no-whole-archive"])
-        roots[f"ours: root, {cpu}"] = ctypes.CDLL(path)
-        single[f"ours: one stream, {cpu}"] = ctypes.CDLL(path).ours_blake2b512
+        found = ctypes.CDLL(library_of(cpu))
+        roots[f"ours: root, {cpu}"] = found
+        single[f"ours: one stream, {cpu}"] = found.ours_blake2b512
     path = blake2_simd()[1]
     if path:
         roots["blake2_simd: root by `hash_many`"] = ctypes.CDLL(path)
@@ -663,8 +646,8 @@ def parts_of(options):
 
 def run(options, parts_of, marks):
     """Measures the parts, prints each, and with --write puts them into the page."""
-    if not shutil.which("rt"):
-        sys.exit("speed: the toolchain's command rt is not on the PATH")
+    if not outcome([os.path.join(TOP, "tools", "dist.sh"), "current"])[0]:
+        sys.exit("speed: dist/ was not made from these sources (tools/dist.sh make)")
     if sys.version_info < (3, 11):
         sys.exit("speed: Python 3.11 or later is needed, whose hashlib has file_digest")
     os.makedirs(OUT, exist_ok=True)

@@ -1,0 +1,187 @@
+#!/usr/bin/env python3
+"""Times roots of trees by several threads, in memory and over a file in the page cache, in one run.
+
+Two tables, as Markdown on standard output, in 10^9 bytes a second by the clock, by 1, 2 and 4 threads:
+
+- memory: vulfsjor_tree_root_threads, and its ratio to vulfsjor_tree_root, which is one call in one thread.
+- file: vulfsjor_tree_root_file beside `b3sum`, and, with one thread, `b2 tree` and `b2sum`. A program is timed with
+  its start.
+
+With --write both go into docs/SPEED.md, between the two marks for threads.
+
+The library is the one that c/install.sh installs from dist/, and `b2` the one that ./b2 builds from it, so nothing is
+proved here. Each root is first compared with the one that tools/blake2_tree.py makes with hashlib. Then the candidates
+of a table are timed in turns, and the best time of each counts. Leaves have 64 KiB. A peer that is absent is named on
+standard error and left out: Debian's package b3sum has it.
+
+usage: bench/threads.py [--mebibytes N] [--turns N] [--write]
+"""
+import ctypes
+import os
+import re
+import shutil
+import subprocess
+import sys
+import time
+
+import speed
+from callers import installed
+from speed import OUT, TOP, Parser, at_least, say
+
+sys.path.insert(0, os.path.join(TOP, "tools"))
+from blake2_tree import tree_root  # noqa: E402
+
+MARKS = ("<!-- measured by bench/threads.py -->\n", "<!-- end of what bench/threads.py measured -->\n")
+THREADS = (1, 2, 4)
+LEAF = 65536
+SIZE = 64  # bytes of a root
+
+
+def function_of(library, name, *types):
+    """The function of this name: from its arguments between the output and the leaf length to the root."""
+    function = getattr(library, name)
+    function.argtypes = [ctypes.c_char_p, ctypes.c_size_t, *types, *[ctypes.c_char_p, ctypes.c_size_t] * 2,
+                         ctypes.c_uint32, ctypes.c_uint]
+    out = ctypes.create_string_buffer(SIZE)
+
+    def root(*given, threads=0):
+        if function(out, SIZE, *given, None, 0, None, 0, LEAF, threads):
+            sys.exit(f"threads: {name} failed")
+        return out.raw
+    return root
+
+
+def functions(folder):
+    """The functions over the library that is installed in this folder, by their names in C."""
+    words = ["-I" + os.path.join(folder, "include"), os.path.join(TOP, "c", "threads.c"),
+             os.path.join(folder, "lib", "libblake2_c.a"), "-pthread"]
+    path = speed.shared("threads.so", words)
+    if path is None:
+        sys.exit("threads: a C compiler (cc) is needed")
+    one = ctypes.CDLL(os.path.join(folder, "lib", "libblake2_c.so"))
+    several = ctypes.CDLL(path)
+    memory = [ctypes.c_void_p, ctypes.c_size_t]
+    plain = one.blake2_c_tree_root
+    plain.argtypes = [ctypes.c_char_p, ctypes.c_size_t, *memory, *[ctypes.c_char_p, ctypes.c_size_t] * 2, ctypes.c_uint32]
+    out = ctypes.create_string_buffer(SIZE)
+
+    def root(*given):
+        if plain(out, SIZE, *given, b"", 0, b"", 0, LEAF):
+            sys.exit("threads: blake2_c_tree_root failed")
+        return out.raw
+    return {"vulfsjor_tree_root": root,
+            "vulfsjor_tree_root_threads": function_of(several, "vulfsjor_tree_root_threads", *memory),
+            "vulfsjor_tree_root_file": function_of(several, "vulfsjor_tree_root_file", ctypes.c_char_p)}
+
+
+def clocked(call, wanted=None):
+    """A function that answers the nanoseconds of one call by the clock. Its result is compared first."""
+    if wanted is not None and call() != wanted:
+        sys.exit("threads: a root is not the one of hashlib")
+
+    def timer():
+        start = time.perf_counter_ns()
+        call()
+        return time.perf_counter_ns() - start
+    return timer
+
+
+def printed(command, path=None):
+    """The first word that a program prints, with the file as its standard input if there is a path."""
+    with open(path or os.devnull, "rb") as file:
+        return subprocess.run(command, stdin=file, stdout=subprocess.PIPE, check=True, text=True).stdout.split()[0]
+
+
+def table(corner, length, best, base):
+    """The best times of the pairs of name and number of threads as a Markdown table, with ratios to one of them."""
+    titles = [corner]
+    for threads in THREADS:
+        titles += [f"{threads} thread{'s' * (threads > 1)}, GB/s", f"ratio to {base}"]
+    text = speed.row_text(titles) + speed.row_text(["---"] * len(titles))
+    for name in dict.fromkeys(name for name, _ in best):
+        row = [name]
+        for threads in THREADS:
+            taken = best.get((name, threads))
+            row += [speed.rate(length)(taken), f"{best[base, 1] / taken:.2f}"] if taken else ["", ""]
+        text += speed.row_text(row)
+    return text
+
+
+def memory_table(found, message, wanted, turns):
+    """The table of roots in memory."""
+    place = (ctypes.addressof(ctypes.c_char.from_buffer(message)), len(message))
+    one, several = found["vulfsjor_tree_root"], found["vulfsjor_tree_root_threads"]
+    timers = {("`vulfsjor_tree_root`", 1): clocked(lambda: one(*place), wanted)}
+    for threads in THREADS:
+        call = lambda threads=threads: several(*place, threads=threads)  # noqa: E731
+        timers["`vulfsjor_tree_root_threads`", threads] = clocked(call, wanted)
+    return table(f"{len(message) >> 20} MiB in memory", len(message), speed.best_of(turns, timers), "`vulfsjor_tree_root`")
+
+
+def file_table(found, path, length, wanted, turns):
+    """The table of roots and digests of a file."""
+    program = os.path.join(OUT, "b2")
+    if not speed.outcome([os.path.join(TOP, "b2"), "--build"])[0]:
+        sys.exit("threads: ./b2 --build failed")
+    shutil.copy(os.path.join(TOP, "out", "b2-" + printed([os.path.join(TOP, "tools", "processor.sh")])), program)
+    command = [program, "tree", "b512", str(LEAF)]
+    timers = {("`b2 tree`", 1): clocked(lambda: printed(command, path), wanted.hex())}
+    for threads in THREADS:
+        call = lambda threads=threads: found["vulfsjor_tree_root_file"](os.fsencode(path), threads=threads)  # noqa: E731
+        timers["`vulfsjor_tree_root_file`", threads] = clocked(call, wanted)
+        if shutil.which("b3sum"):
+            words = ["b3sum", "--num-threads", str(threads), path]
+            timers["`b3sum`", threads] = clocked(lambda words=words: printed(words))
+    if not shutil.which("b3sum"):
+        say("b3sum is absent")
+    if shutil.which("b2sum"):
+        timers["`b2sum`", 1] = clocked(lambda: printed(["b2sum", path]))
+    return table(f"a file of {length >> 20} MiB", length, speed.best_of(turns, timers), "`b2 tree`")
+
+
+def heading(options):
+    """The machine, the versions of the peers, and how often each candidate is timed."""
+    found = re.search(r"b3sum (\S+)", speed.outcome(["b3sum", "--version"])[1])
+    peers = f"b3sum {found[1]}; " if found else ""
+    return f"{speed.machine()}; {peers}leaves of 64 KiB; best of {options.turns}, by the clock.\n"
+
+
+def options_given():
+    """The options of the command line."""
+    parser = Parser(description=__doc__.split("\n\n")[0])
+    parser.add_argument("--mebibytes", type=at_least(1), default=1024, help="the size of the message (1024)")
+    parser.add_argument("--turns", type=at_least(1), default=10, help="how often each candidate is timed (10)")
+    parser.add_argument("--write", action="store_true", help="put the tables into docs/SPEED.md")
+    return parser.parse_args()
+
+
+def parts_of(options):
+    """The heading and the tables, each once it is measured."""
+    found = functions(installed("installed"))
+    with speed.random_file(options.mebibytes) as file:
+        length = options.mebibytes << 20
+        message = bytearray(length)
+        file.seek(0)
+        file.readinto(message)
+        say("comparing with hashlib")
+        wanted = tree_root(message, LEAF, SIZE)
+        yield heading(options)
+        yield speed.with_load(memory_table(found, message, wanted, options.turns))
+        path = f"/proc/{os.getpid()}/fd/{file.fileno()}"
+        yield speed.with_load(file_table(found, path, length, wanted, options.turns))
+
+
+def main():
+    """Measures, prints, and with --write puts the tables into the page."""
+    options = options_given()
+    os.makedirs(OUT, exist_ok=True)
+    parts = []
+    for part in parts_of(options):
+        print(part, flush=True)
+        parts.append(part)
+    if options.write:
+        speed.write_page(parts, MARKS)
+
+
+if __name__ == "__main__":
+    main()
