@@ -1,7 +1,7 @@
 """BLAKE2 on plain words, written from RFC 7693 and the BLAKE2 document alone. No program of its own.
 
-The comparisons compute their expected lines by it. `check` holds it to Python's hashlib. Section numbers
-are those of RFC 7693.
+tools/expected_values.py and tests compute expected values by it. `check` holds it to Python's hashlib. Section
+numbers are those of RFC 7693.
 """
 import struct
 import sys

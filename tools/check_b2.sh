@@ -1,6 +1,7 @@
 #!/usr/bin/env bash
 # Checks the script `b2` and tools/processor.sh, without proving anything: in a small repository of its
-# own, whose command `rt` is a stand-in that prints what the real one prints and leaves what it leaves.
+# own, whose command `rt` is a stand-in that prints what the real one prints and leaves what it leaves, and
+# whose tools/dist.sh and C compiler are stand-ins too.
 # The last line is 'N passed, M failed', and the status is 1 where one failed.
 set -u
 top=$(dirname "$(dirname "$(readlink -f "$0")")")
@@ -15,7 +16,8 @@ show() {
 
 # A repository of two crates below b2, and one beside them that b2 does not need.
 repository=$room/a\ repository
-mkdir -p "$repository/tools"
+mkdir -p "$repository/tools" "$repository/dist/x86_64" "$repository/dist/aarch64" "$repository/c"
+touch "$repository/dist/MANIFEST" "$repository/c/b2.c"
 cp "$top/b2" "$repository/"
 cp "$top/tools/processor.sh" "$repository/tools/"
 for crate in low middle b2 beside; do
@@ -26,11 +28,40 @@ printf 'low:\nmiddle: low hex\nb2: middle low\nbeside staticlib: low\n' >"$repos
 cpu=$("$top/tools/processor.sh")
 program=$repository/out/b2-$cpu
 
-# The stand-in, which notes each call, and does what the file `turn` says.
+# The text for this processor, and whether dist/ was made from the sources: not where there is a file `stale`.
+case $cpu in
+    aarch64) text=$repository/dist/aarch64/b2.s main=main_0_1_0_arm ;;
+    *) text=$repository/dist/x86_64/b2-${cpu#x86-64-}.s main=main_0_1_0_${cpu#x86-64-} ;;
+esac
+printf '\t.globl\t%s\n' "$main" >"$text"
+printf '#!/bin/sh\n[ "$*" = current ] && [ ! -e "%s/stale" ]\n' "$room" >"$repository/tools/dist.sh"
+chmod +x "$repository/tools/dist.sh"
+
+# The program that each way leaves shows its words, its input and the way.
+make_program() {
+    printf '#!/usr/bin/env bash\nprintf "<%%s>" "$@"\ncat\necho %s\nexit 7\n' "$1" >"$2"
+    chmod +x "$2"
+}
+
+# The C compiler, which notes its words.
 mkdir "$room/bin"
+make_program compiled "$room/compiled"
+cat >"$room/bin/compiler" <<'END'
+#!/usr/bin/env bash
+room=$(dirname "$(dirname "$0")")
+echo "$*" >>"$room/compiles"
+[ ! -e "$room/refuse" ] || { echo "compiler: refused"; exit 1; } >&2
+while [ "$1" != -o ]; do shift; done
+cp "$room/compiled" "$2"
+END
+chmod +x "$room/bin/compiler"
+
+# The stand-in for rt, which notes each call, and does what the file `turn` says.
+make_program proved "$room/proved"
 cat >"$room/bin/rt" <<'END'
 #!/usr/bin/env bash
 room=$(dirname "$(dirname "$0")")
+[ "$1" != doc ] || { echo "$room/kit/page"; exit; }
 echo "$PWD: $*" >>"$room/calls"
 work() { (cd .. && echo */out/incremental); }
 # Notes whose work the script has left by now. Where `slow` tells what is to be left, it has a second
@@ -64,13 +95,7 @@ case $(cat "$room/turn" 2>/dev/null) in
         ;;
     edit) touch ../low/src/lib.rt ;;
 esac
-cat >out/b2 <<'PROGRAM'
-#!/usr/bin/env bash
-printf '<%s>' "$@"
-cat
-exit 7
-PROGRAM
-chmod +x out/b2
+cp "$room/proved" out/b2
 echo "what the program prints while it is built"
 cat
 END
@@ -78,12 +103,14 @@ chmod +x "$room/bin/rt"
 
 # Runs the script over the input `in`, with the stand-in on the PATH.
 b2() {
-    printf in | PATH=$room/bin:$PATH "$repository/b2" "$@" >"$room/output" 2>"$room/errors"
+    printf in | PATH=$room/bin:$PATH CC=$compiler "$repository/b2" "$@" >"$room/output" 2>"$room/errors"
     status=$?
 }
+compiler=compiler
 calls() { [ "$(cat "$room/calls" 2>/dev/null | wc -l)" -eq "$1" ]; }
 ends() { [ "$status" -eq "$1" ]; }
 prints() { [ "$(cat "$room/output")" = "$1" ]; }
+compiles() { [ "$(cat "$room/compiles" 2>/dev/null | wc -l)" -eq "$1" ]; }
 tells() { grep -qF -- "$1" "$room/errors"; }
 tells_once() { [ "$(grep -cF -- "$1" "$room/errors")" -eq 1 ]; }
 tells_not() { ! tells "$1"; }
@@ -98,24 +125,103 @@ settle() { touch -d '+4 seconds' "$program"; }
 b2 --help
 holds "help ends with 0" ends 0
 holds "help builds nothing" calls 0
-holds "help prints nothing" prints ""
-holds "help tells the usage" tells "usage: b2 sum KIND"
+holds "help is printed" grep -q "^usage: b2 sum KIND" "$room/output"
+holds "on standard output alone" tells_nothing
 b2 -h
-holds "-h is help" tells "usage: b2 sum KIND"
+holds "-h is help" grep -q "^usage: b2 sum KIND" "$room/output"
 
-echo "*/out/incremental" >"$room/slow"
+# From dist/.
 b2 sum "two words"
+holds "a first run ends as the program does" ends 7
+holds "a first run prints what the program prints" prints "<sum><two words>incompiled"
+holds "a first run says what it assembles" tells "b2: assembling ${text#"$repository"/}"
+holds "a first run says that it has built" tells "b2: built $program"
+holds "a first run needs no rt" calls 0
+holds "the compiler is given the text for this processor, and its main" \
+    grep -qE -- "^-O2 -DMAIN=$main -o .* $repository/c/b2.c $text " "$room/compiles"
+holds "nothing is left of it" stands_not "$repository/out/begun".*
+settle
+b2 steps
+holds "the next run builds nothing" compiles 1
+holds "the next run tells nothing" tells_nothing
+b2 --build
+holds "nor does --build" compiles 1
+holds "and that runs nothing" prints ""
+for file in dist/MANIFEST c/b2.c crates/low/src/lib.rt crates.txt; do
+    rm -f "$room/compiles"
+    settle
+    touch -d '+9 seconds' "$repository/$file"
+    b2 --build
+    holds "after a change of $file it is built again" compiles 1
+    touch -d '-9 seconds' "$repository/$file"
+done
+: >"$room/refuse"
+rm -f "$program"
+b2 sum b512
+holds "a refused compilation ends with 1" ends 1
+holds "it tells why" tells "compiler: refused"
+holds "it leaves nothing" stands_not "$repository/out"/*
+rm "$room/refuse"
+
+# Without a C compiler there is no program.
+rm -f "$program"
+printf in | PATH=/usr/bin:/bin CC=none "$repository/b2" sum b512 >"$room/output" 2>"$room/errors"
+status=$?
+holds "without a compiler it ends with 1" ends 1
+holds "and says so" tells "b2: a C compiler is needed: cc, or the one that CC names"
+holds "and leaves nothing" stands_not "$repository/out"/*
+
+# From proofs, though dist/ would do.
+b2 --build
+settle
+rm -f "$room/calls" "$room/compiles"
+b2 --prove
+holds "--prove proves" calls 1
+holds "--prove runs nothing" prints ""
+holds "--prove ends with 0" ends 0
+settle
+b2 --prove
+holds "it does so once" calls 1
+b2 sum
+holds "that program is taken from then on" prints "<sum>inproved"
+holds "nothing was compiled" compiles 0
+for file in dist/MANIFEST c/b2.c; do
+    touch -d '+9 seconds' "$repository/$file"
+    b2 sum
+    holds "whatever becomes of $file" prints "<sum>inproved"
+    touch -d '-9 seconds' "$repository/$file"
+done
+for file in crates/low/src/lib.rt crates.txt; do
+    rm -f "$room/calls"
+    touch -d '+9 seconds' "$repository/$file"
+    b2 sum
+    holds "until $file is another" prints "<sum>incompiled"
+    touch -d '-9 seconds' "$repository/$file"
+    settle
+    b2 --prove
+    holds "then --prove proves again" calls 1
+    settle
+done
+rm -rf "$repository/out" "$repository"/crates/*/out "$room/calls"
+
+# Where dist/ was made from other sources.
+: >"$room/stale"
+b2 sum b512
+holds "a stale dist/ is refused" ends 1
+holds "with what to do" tells "b2: dist/ was not made from these sources: tools/dist.sh make, or b2 --prove"
+holds "without a word on standard output" prints ""
+holds "and no proof" calls 0
+holds "and no program" stands_not "$program"
+echo "*/out/incremental" >"$room/slow"
+b2 --prove
 rm "$room/slow"
-holds "the first run ends as the program does" ends 7
-holds "the first run prints what the program prints" prints "<sum><two words>in"
-holds "the first run calls rt once" calls 1
+holds "--prove does not need it" ends 0
+holds "it calls rt once" calls 1
 holds "rt is called in crates/b2, for this processor" \
     grep -qxF "$repository/crates/b2: run --cpu $cpu -- sum b512" "$room/calls"
 holds "the first line says for which processor" tells "b2: proving and building for $cpu"
-holds "progress begins at nothing" tells "b2: low: 0 of 4 functions proved; 0 percent of all sources"
-holds "progress counts crates below" tells "b2: middle: 2 of 4 functions proved; 50 percent of all sources, about 0:0"
-holds "the rest is taken to last as the first half" grep -qE '50 percent.* about 0:0[2-9] minutes left' "$room/errors"
-holds "the last crate is the last part" tells "b2: b2: 0 of 4 functions proved; 66 percent"
+holds "progress names the crate" tells "b2: middle: 2 of 4 functions proved"
+holds "and the last one" tells "b2: b2: 0 of 4 functions proved"
 holds "the program is kept" stands "$program"
 holds "the checker's work is removed as the next crate begins" finds_work "*/out/incremental"
 holds "the checker's work is removed" stands_not "$repository/crates/low/out/incremental"
@@ -128,12 +234,12 @@ settle
 b2 steps
 holds "the second run ends as the program does" ends 7
 holds "the second run builds nothing" calls 1
-holds "the second run prints what the program prints" prints "<steps>in"
+holds "the second run prints what the program prints" prints "<steps>inproved"
 holds "the second run tells nothing" tells_nothing
-b2 --build
+b2 --prove
 holds "nothing is built where nothing changed" calls 1
-holds "a build prints nothing" prints ""
-holds "a build ends with 0" ends 0
+holds "that prints nothing" prints ""
+holds "that ends with 0" ends 0
 
 for file in crates/low/src/lib.rt crates.txt crates/beside/src/new.rt crates/low/proofs/F/Answers.antt; do
     rm -f "$room/calls"
@@ -141,7 +247,7 @@ for file in crates/low/src/lib.rt crates.txt crates/beside/src/new.rt crates/low
     mkdir -p "$(dirname "$repository/$file")"
     touch "$repository/$file"
     touch -d '+9 seconds' "$repository/$file"
-    b2 --build
+    b2 --prove
     holds "a change of $file is built" calls 1
     touch -d '-9 seconds' "$repository/$file"
 done
@@ -151,25 +257,25 @@ for file in crates/low/out/lib.rt README.md crates/low/notes; do
     mkdir -p "$(dirname "$repository/$file")"
     touch -d '+9 seconds' "$repository/$file"
 done
-b2 --build
+b2 --prove
 holds "a change of no source builds nothing" calls 0
 
 echo low/out/incremental >"$room/slow"
 rm -f "$program"
 mkdir -p "$repository/crates/low/out/incremental"
-b2 --build
+b2 --prove
 holds "work that stood before is kept" stands "$repository/crates/low/out/incremental"
 holds "and while the next crates are built" finds_work low/out/incremental
 holds "work of this build is removed" stands_not "$repository/crates/middle/out/incremental"
 rm -rf "$program" "$repository"/crates/*/out/incremental
 touch "$room/no library"
 echo low/out/incremental middle/out/incremental >"$room/slow"
-b2 --build
+b2 --prove
 rm "$room/no library"
 holds "work stays while its library is not made" finds_work "low/out/incremental middle/out/incremental"
 holds "and goes with the last" stands_not "$repository/crates/middle/out/incremental"
 rm -f "$program"
-b2 --build --keep
+b2 --prove --keep
 rm "$room/slow"
 holds "work is kept where asked" stands "$repository/crates/middle/out/incremental"
 holds "and while the next crates are built, where asked" \
@@ -178,20 +284,20 @@ holds "no removal is told where work is kept" tells_not "removed the checker's w
 holds "a build with --keep runs nothing" prints ""
 holds "a build with --keep ends with 0" ends 0
 rm -f "$program"
-b2 --build
+b2 --prove
 holds "no removal is told where all work stood before" tells_not "removed the checker's work"
 rm -rf "$repository"/crates/*/out/incremental
 
 echo edit >"$room/turn"
 rm -f "$program" "$room/calls"
-b2 --build
+b2 --prove
 rm -f "$room/turn"
-b2 --build
+b2 --prove
 holds "an edit during the build is built again" calls 2
 
 echo fail >"$room/turn"
 rm -f "$program"
-b2 sum b512
+b2 --prove
 holds "a failed build ends with 1" ends 1
 holds "a failed build prints nothing" prints ""
 holds "a failed build tells the cause" tells "error: no proof of the goal"
@@ -200,7 +306,7 @@ holds "a failed build leaves no program" stands_not "$program"
 holds "a failed build leaves no file" stands_not "$repository/out/begun".*
 holds "a failed build keeps the work of the crate that failed" stands "$repository/crates/b2/out/incremental"
 rm -f "$room/turn" "$room/bin/rt"
-printf in | PATH=/usr/bin:/bin "$repository/b2" sum b512 >"$room/output" 2>"$room/errors"
+printf in | PATH=/usr/bin:/bin "$repository/b2" --prove >"$room/output" 2>"$room/errors"
 status=$?
 holds "without rt it ends with 1" ends 1
 holds "without rt it says so" tells "b2: the toolchain's command rt is not on the PATH"

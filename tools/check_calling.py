@@ -1,9 +1,9 @@
 #!/usr/bin/env python3
-"""Compares the pages CALLING.md and the README with the sources that they quote.
+"""Compares the pages CALLING.md and the README of the crate blake2 with the sources that they quote.
 
 Each function that a block of Rust shows has to stand in crates/blake2_callers/src, and each contract that a
 block of text shows in the file of the page's crate that the line before the block names, but for spaces. The
-README's functions and `use` lines have to stand in crates/blake2_vectors/src/readme.rt, whose tests run them.
+README's functions and `use` lines have to be in crates/blake2_vectors/src/readme.rt, whose tests run them.
 
 usage: tools/check_calling.py
 """
@@ -49,8 +49,8 @@ def faults(page):
 
 
 def readme_faults():
-    """What the README's blocks of Rust show and its tests lack, and how many quotes it has."""
-    with open(os.path.join(TOP, "README.md"), encoding="utf-8") as file:
+    """What the blocks of Rust in README.md of the crate blake2 show and its tests lack, and how many quotes it has."""
+    with open(os.path.join(TOP, "crates", "blake2", "README.md"), encoding="utf-8") as file:
         blocks = re.findall(r"^```rust\n(.*?)^```$", file.read(), re.M | re.S)
     source = read("crates", "blake2_vectors", "src", "readme.rt")
     quotes = [quote for block in blocks for quote in re.findall(r"^use .*?;$|^///.*?^}$", block, re.M | re.S)]
@@ -63,9 +63,9 @@ def main():
     found, total = readme_faults()
     differs = len(found)
     for quote in found:
-        print(f"README.md: not in the source: {quote}")
+        print(f"crates/blake2/README.md: not in the source: {quote}")
     if not total:
-        print("README.md: no quote")
+        print("crates/blake2/README.md: no quote")
         differs += 1
     for page in pages:
         found, quotes = faults(page)

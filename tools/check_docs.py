@@ -9,7 +9,7 @@
 - docs/MAP.md and docs/REVIEW.md: the sizes of crates and definitions are about those, and with CONTRIBUTING.md
   each file that they name is there.
 - CHANGELOG.md: its newest version is that of the headers and packages.
-- The README and all pages: each link to a file leads to one.
+- The README and all pages: each link leads to a file, and to a heading of it if it names one.
 
 Prints what is wrong, a line each, and ends with status 1 where anything is.
 
@@ -19,6 +19,8 @@ import fnmatch
 import glob
 import os
 import re
+import shutil
+import subprocess
 import sys
 
 from blake2_kinds import TOP, Parser
@@ -190,7 +192,7 @@ def node_words():
     root = re.search(r"root_over p digests = node p ([0-9]+) ([0-9]+) true", tree)
     yield f"| root | N | {root[1]} | {root[2]} | on |"
     size, depth = re.search(r"digest blake2b ([0-9]+) \(leaf_input", tree), re.search(r"node p i ([0-9]+) ", tree)
-    yield f"| leaf i | {size[1]} | i | {depth[1]} | on at the last leaf alone |"
+    yield f"| leaf i | {size[1]} | i | {depth[1]} | on only at the last leaf |"
     limit = re.search(r"IsTooLongFor \(to_tree [^)]*\) input = 2 \^ ([0-9]+) ≤", read(TASKS))
     yield f"a message of fewer than 2^{limit[1]} bytes"
     yield f"`tree` 2^{limit[1]} bytes or more"
@@ -213,8 +215,8 @@ def check_specification():
 
 # Where the version stands, by what stands before it.
 VERSIONS = (("CHANGELOG.md", r"^## "), ("c/include/blake2_c.h", r"VULFSJOR_VERSION \""),
-            ("c/install.sh", r"^Version: "), ("rust/Cargo.toml", r"^version = \""), ("rust-digest/Cargo.toml", r"^version = \""),
-            ("python/pyproject.toml", r"^version = \""))
+            ("rust/Cargo.toml", r"^version = \""), ("rust-digest/Cargo.toml", r"^version = \""),
+            ("python/pyproject.toml", r"^version = \""), ("js/package.json", r"^ *\"version\": \""))
 
 
 def check_version():
@@ -227,6 +229,26 @@ def check_version():
         wanted = wanted or found[1]
         if found and found[1] != wanted:
             yield f"{path}: version {found[1]}, and CHANGELOG.md has {wanted}"
+
+
+KIT = re.compile(r"`rt version`: (\S+ logic [0-9a-f]+)")
+
+
+def check_kit():
+    """Whether README.md names no kit."""
+    if not KIT.search(read("README.md")):
+        yield "README.md: no `rt version`"
+
+
+def kit(named):
+    """A line on the kit that README.md names and the one that is here. Another one is no fault."""
+    if not named:
+        return "README.md names no kit"
+    if not shutil.which("rt"):
+        return f"README.md names {named[1]}, and no rt is here"
+    found = subprocess.run(["rt", "version"], stdout=subprocess.PIPE, text=True).stdout.strip()
+    return f"README.md names {named[1]}, and that is the kit here" if found == named[1] else (
+        f"README.md names {named[1]}, and the kit here is another: {found or 'one without a version'}")
 
 
 def lines_of(pattern):
@@ -244,7 +266,7 @@ def check_sizes():
         for size, number in zip(told, found):
             if abs(int(size) - number) > max(100, number // 10):
                 yield f"MAP: `{name}` has {number} lines where it says {size}"
-    for path, size in re.findall(r"^\| `(\w+/specs/\w+\.antt)` \| (\d+) \|", read("docs/REVIEW.md"), re.MULTILINE):
+    for path, size in re.findall(r"^\| \[`(\w+/specs/\w+\.antt)`\]\S* \| (\d+) \|", read("docs/REVIEW.md"), re.MULTILINE):
         number = lines_of("crates/" + path)
         if abs(int(size) - number) > max(5, number // 10):
             yield f"REVIEW: {path} has {number} lines where it says {size}"
@@ -260,19 +282,30 @@ def check_files():
                 yield f"{page}: there is no {word}"
 
 
+def anchors(path):
+    """The anchors of a page's headings, as a browser of the repository makes them."""
+    titles = re.findall(r"^#+ (.+)$", re.sub(r"^```.*?^```$", "", read(path), flags=re.M | re.S), re.MULTILINE)
+    return {re.sub(r"[^\w -]", "", title.lower()).replace(" ", "-") for title in titles}
+
+
 def check_links():
     """Which links of the documents lead nowhere."""
-    for page in paths("*.md") + paths("docs/*.md") + paths("crates/*/*.md") + paths("*/README.md"):
-        for target in re.findall(r"\]\(([^)#]+)(?:#[^)]*)?\)", read(page)):
-            path = os.path.join(TOP, os.path.dirname(page), target)
-            if "://" not in target and not os.path.exists(path):
+    for page in paths("*.md") + paths("*/*.md") + paths("crates/*/*.md"):
+        for target, anchor in re.findall(r"\]\(([^)#]*)(?:#([^)]*))?\)", read(page)):
+            path = os.path.normpath(os.path.join(os.path.dirname(page), target)) if target else page
+            if "://" in target:
+                continue
+            if not os.path.exists(os.path.join(TOP, path)):
                 yield f"{page}: there is no {target}"
+            elif anchor and anchor not in anchors(path):
+                yield f"{page}: {path} has no heading for #{anchor}"
 
 
 def main():
     Parser(description=__doc__.split("\n\n")[0]).parse_args()
     wrong = [*check_definitions(), *check_contracts(), *check_specification(), *check_version(), *check_sizes(),
-             *check_files(), *check_links()]
+             *check_files(), *check_links(), *check_kit()]
+    print(kit(KIT.search(read("README.md"))))
     print("\n".join(wrong) if wrong else "the names and numbers of the documents stand in the sources")
     return 1 if wrong else 0
 

@@ -1,7 +1,8 @@
 #!/usr/bin/env bash
 # Compares the pages with the sources: tools/check_calling.py those that quote callers and contracts,
-# tools/check_docs.py the names and numbers that the documents give, and tools/check_specification.py the program
-# with one that was written from docs/SPECIFICATION.md alone.
+# tools/check_docs.py the names and numbers in the pages, and tools/check_specification.py the program with one
+# that was written from docs/SPECIFICATION.md only. tools/check_style.py looks for phrases that the pages avoid, and
+# tools/manual.py compares the man page with docs/PROGRAM.md. tools/pictures.py compares the pictures of docs/.
 #
 # usage: tools/check_pages.sh [PROGRAM]
 #
@@ -12,10 +13,11 @@ set -u
 tools=$(dirname "$(readlink -f "$0")")
 program=${1:-$(dirname "$tools")/crates/b2/out/b2}
 passed=0 failed=0 skipped=0
-for script in check_calling.py check_docs.py check_specification.py; do
+for script in check_calling.py check_docs.py check_style.py manual.py pictures.py check_specification.py; do
     given=()
+    [[ $script != @(manual|pictures).py ]] || given=(--check)
     [ "$script" != check_specification.py ] || given=(--program "$program")
-    if [ ${#given[@]} -gt 0 ] && [ ! -x "$program" ]; then
+    if [ "$script" = check_specification.py ] && [ ! -x "$program" ]; then
         echo "skipped: tools/$script (no program at $program)"
         skipped=$((skipped + 1))
     elif ! command -v python3 >/dev/null; then

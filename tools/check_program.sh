@@ -256,8 +256,8 @@ take_zeros() {
     truncate -s "$1" "$room/input"
 }
 
-# A fixed amount for `sum`. For `tree` a piece of about 64 KiB, or of five leaves where these are more, or of 64 KiB
-# again where five leaves are more than 16 MiB.
+# A fixed amount for `sum`. For `tree` a piece of about 64 KiB, or of 17 leaves where these are more, or of 13, 9 or 5
+# where those are more than 16 MiB, or of 64 KiB again where five leaves are.
 check_memory_of_streams() {
     take_zeros $((64 << 20))
     has_room 64 "$zeros_64m" sum b512
@@ -265,7 +265,8 @@ check_memory_of_streams() {
     take_zeros $((40 << 20))
     has_room 128 "$root_of_longest" tree b512 4294967295
     has_room 128 "$root_4m" tree b512 4194304
-    has_room 384 "$root_64k" tree b512 65536
+    has_room $((17 * 64 + 64)) "$root_64k" tree b512 65536
+    has_room $((13312 + 64)) "$root_1m" tree b512 1048576
     has_room $((16384 + 64)) "$root_five" tree b512 3355443
     lacks_room 8192 tree b512 3355443
 }
@@ -333,6 +334,8 @@ root_4m=22f600948597a0a384a21df2487f973859cfebfdf914f9e16d2c1471f6d833a2
 root_4m=${root_4m}e1d57dd49a438c5bb0ce187dd9035578dee4e3f1d1d7eda3b34f58ce5a2fae61
 root_64k=30a4ea8885d81b896308f9077d26f2b16fd8ff3eb662e52d5ae8b260690c0b48
 root_64k=${root_64k}a65c70bcce1a5fa1fa3ad54c9517b13995048eb9a6302875eb4507aef96dbd2e
+root_1m=8a4058f575b1546c50913341e819716bd8326330810417d38b5de24fe4709ff9
+root_1m=${root_1m}ce5d83474ff70923cd008d70cfaff8ee956dc9e92d4a9ad38c3d82b0ae43a20a
 root_five=adc2421b484c3134c45a7044a369965a64754f0bcf4ffcf3caf9cd74b00972e0
 root_five=${root_five}c250a693d180d9e5f0ff9e735737f39211276f134cab719bd04fb59601e915d2
 take_zeros 0
@@ -349,7 +352,7 @@ check_memory_of_witness
 
 # How many of 100 instructions of the run that was counted are those of functions that hash several messages at once.
 share_at_once() {
-    awk '/^fn=/ { is_one = index($0, "fn=blake2_words::many::") == 1 }
+    awk '/^fn=/ { is_one = /^fn=blake2_words(::|[.][.])many/ }
         /^calls=/ { getline; next }
         /^[0-9]/ { all += $2; if (is_one) at_once += $2 }
         END { print all ? int(100 * at_once / all) : 0 }' "$room/instructions"
@@ -381,11 +384,14 @@ hashes_at_once() {
 
 root_4k=688d8b10b8a9ea6806c037946b17b37e4b899862b02c00621b29c19c63c42e9d
 root_4k=${root_4k}b51f87dc042d0a84b7f00c481cdc5b4f2ed5deebad397e31a9a867cb78745152
-root_21=4fc8f357a4abb704ae8a666a865eea6211fb320885e40038df06aa75a0e78925
-root_21=${root_21}55687dbddb1f43db3188c250fca056b07870d3e78e50ea5998b45485d6d47d40
-# Pieces of 17 leaves, and of five, of which the fifth is closed alone.
+root_64k_35=a4393e72e252b5cc20412fe4d9967129c957a3a962336a44c2a5813f8abbcd68
+root_64k_35=${root_64k_35}4114b5277d358da0cddef3d983f0d03b8fd9aa23c38e6a3f5dcc47dddc59649f
+root_1m_27=60292fe897e87b11ee029319fc7dc8e063c0e9daccdf4ba3bd6a584221943039
+root_1m_27=${root_1m_27}47f2c5d8ce2c1f6ffec38890f4d03df27110ba0dac4df87afb5404f5d42d4b60
+# Pieces of 17 leaves, and with leaves of 1 MiB of 13, of which the last is closed alone.
 hashes_at_once 75 $((320 * 4096 + 1)) "$root_4k" 4096
-hashes_at_once 60 $((20 * 65536 + 1)) "$root_21" 65536
+hashes_at_once 75 $((34 * 65536 + 1)) "$root_64k_35" 65536
+hashes_at_once 75 $(((26 << 20) + 1)) "$root_1m_27" 1048576
 
 echo "$passed passed, $failed failed, $skipped skipped"
 [ "$failed" -eq 0 ]

@@ -5,7 +5,7 @@ that run `./b2` are cases too.
 
 Of each command it runs random cases, of one seed: words in random order and case, words that are wrong, missing or too
 many, arguments that are no UTF-8, inputs around every boundary, scripts with wrong lines and bad calls, and an input
-that can't be read. Status and output have to be the same.
+that can't be read. Status and output have to be the same; what `sum` and `tree` print is compared with hashlib too.
 
 usage: tools/check_specification.py [--cases N] [--seed N] [--program PATH]
 
@@ -19,7 +19,7 @@ import shlex
 import subprocess
 import sys
 
-from blake2_kinds import TOP, Parser, at_least, program
+from blake2_kinds import KINDS, TOP, Parser, at_least, program
 from from_specification import B, S, Input, Place, entries, parameter_words, read, run
 
 PAGE = os.path.join(TOP, "docs", "SPECIFICATION.md")
@@ -154,6 +154,16 @@ def outcome(path, words, message):
     return done.returncode, done.stdout
 
 
+def of_hashlib(words, message):
+    """The line that `sum` or `tree` prints with these words, which are right, by hashlib."""
+    words = [word.decode() for word in words]
+    given = {name: bytes.fromhex(digits) for name, digits in (word.split("=") for word in words if "=" in word)}
+    named = {"salt": given.get("salt", b""), "person": given.get("persona", b""), "digest_size": KINDS[words[1]][1]}
+    if words[0] == "tree":
+        return tree_of_hashlib(message, int(words[2]), **named)
+    return FUNCTIONS[words[1][0]](message, key=given.get("key", b""), **named).hexdigest()
+
+
 def worked():
     """What the page works out: where it stands, and whether program, hashlib and page agree."""
     with open(PAGE, encoding="utf-8") as file:
@@ -175,7 +185,7 @@ def worked():
     listed = [entry[1] for entry in entries(B, Input(b"*" * 200, key=b"\1"))]
     yield "counters", listed == [128, 256, 328] and "the counters 128, 256, 328" in page
     first = int.from_bytes(hashlib.blake2b(b"abc").digest()[:8], "little")
-    yield "compression", f"the first word of the answer is {first:016x}" in page
+    yield "compression", f"the first word of the result is {first:016x}" in page
     for words, fault in (("sum b512 key= foo", "wrong words"), ("sum b512 salt=1 foo", "wrong hex"),
                          ("sum b512 key=", "wrong length")):
         answer = run(words.encode().split(), lambda: b"")
@@ -197,21 +207,21 @@ def worked():
         yield "the reader refuses " + name, read(B, words, other) is None
 
 
-def tree_of_hashlib(message, leaf):
-    """The root of 64 bytes, node by node of hashlib."""
+def tree_of_hashlib(message, leaf, digest_size=64, **named):
+    """The root, node by node of hashlib."""
     cuts = [message[i:i + leaf] for i in range(0, max(1, len(message)), leaf)]
-    shared = {"fanout": 0, "depth": 2, "leaf_size": leaf, "inner_size": 64}
+    shared = {"fanout": 0, "depth": 2, "leaf_size": leaf, "inner_size": 64, **named}
     leaves = [hashlib.blake2b(cut, node_offset=i, node_depth=0, last_node=i == len(cuts) - 1, **shared)
               for i, cut in enumerate(cuts)]
     digests = b"".join(node.digest() for node in leaves)
-    return hashlib.blake2b(digests, node_depth=1, last_node=True, **shared).hexdigest()
+    return hashlib.blake2b(digests, digest_size=digest_size, node_depth=1, last_node=True, **shared).hexdigest()
 
 
 def examples():
     """The words and the input of each example of README.md and docs/PROGRAM.md that runs `./b2`, and its line."""
     for page in ("README.md", os.path.join("docs", "PROGRAM.md")):
         with open(os.path.join(TOP, page), encoding="utf-8") as file:
-            found = re.findall(r"^    ((?:printf (\S+|'[^']*') \| )?\./b2 ([^#\n]*[a-z0-9]))  +#", file.read(), re.M)
+            found = re.findall(r"^    ((?:printf (\S+|'[^']*') \| )?\./b2 (?!--)([^#\n]*[a-z0-9]))  +#", file.read(), re.M)
         if not found:
             yield f"{page}: no example", [], b""
         for line, given, words in found:
@@ -244,6 +254,8 @@ def main():
             message = None if source.random() < 0.02 else message
             wanted = run(words, unreadable if message is None else lambda: message)
             found = outcome(given.program, words, message)
+            if command in ("sum", "tree") and wanted[0] == 0:
+                wanted = 0, of_hashlib(words, message).encode() + b"\n"
             if found == wanted:
                 passed += 1
             else:

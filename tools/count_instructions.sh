@@ -93,14 +93,14 @@ check_share() {
     fi
 }
 
-# The build that runs here, by the name of its function in a count: c/join.sh gives it. Where the library holds one
-# build alone, its line for pkg-config says which.
+# The build that runs here, by the name of its function in a count. Where the library holds one build alone, its line
+# for pkg-config says which.
 build_here() {
     counts hash_many_blake2b 1 >"$room/counts" || return 1
-    case $(find "$room" -name 'count.*' -exec grep -ho 'blake2_c_blake2b_many_[a-z0-9]*' {} + | sort -u) in
+    case $(find "$room" -name 'count.*' -exec grep -ho 'blake2_c_blake2b_many_[0-9_]*_v[23]' {} + | sort -u) in
         *_v2) echo x86-64-v2 ;;
         *_v3) echo x86-64-v3 ;;
-        *_one) sed -n 's/^Description: .* for \(x86-64-v[23]\)$/\1/p' "$folder/lib/pkgconfig/blake2_c.pc" ;;
+        *) sed -n 's/^Description: .* for \(x86-64-v[23]\)$/\1/p' "$folder/lib/pkgconfig/blake2_c.pc" ;;
     esac
 }
 
@@ -127,7 +127,7 @@ for tool in cc valgrind; do
         finish
     fi
 done
-if ! cc -O0 -I"$folder/include/blake2_c" -o "$room/calls" "$here/count_instructions.c" \
+if ! cc -O0 -I"$folder/include" -o "$room/calls" "$here/count_instructions.c" \
     "$folder/lib/libblake2_c.a" -Wl,-z,now >"$room/log" 2>&1; then
     fail "the build of tools/count_instructions.c" log
     finish

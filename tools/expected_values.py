@@ -2,19 +2,19 @@
 """Prints the expected values that stand in tables of the tests, under the name that stands beside each.
 
 Digests come from Python's hashlib; words and entries of transcripts from the scalar BLAKE2 beside this
-file; and what a transcript is read as from the reader below, which knows nothing of this repository's.
+file, which is compared with hashlib first; and what a transcript is read as from the reader below, which knows nothing of this repository's.
 "The digest of X" is BLAKE2b-256 of X.
 
 usage: tools/expected_values.py [NAME..]
 """
 import hashlib
 import itertools
+import random
 import struct
 
 from blake2_kinds import FAMILIES, KINDS, Parser
-from blake2_scalar import WORDS, Tree, blocks, hashlib_tree, parameter_words
-from blake2_tree import tree_root
-from compare_steps import lines
+from blake2_scalar import WORDS, Tree, blocks, check, hashlib_tree, parameter_words
+from blake2_tree import range_digests, tree_root
 
 ALPHABET = bytes(i % 251 for i in range(6000))
 LENGTHS = [0, 1, 63, 64, 65, 127, 128, 129, 255, 256, 257]
@@ -30,6 +30,15 @@ def blake2(family, size, message=b"", key=b"", salt=b"", persona=b""):
     if size == 0:
         return b""
     return FAMILIES[family].function(message, digest_size=size, key=key, salt=salt, person=persona).digest()
+
+
+def lines(family, size, message, key, salt, persona):
+    """The lines of a transcript: the parameter words, and each block with its counter and flag."""
+    digits = WORDS[family].bits // 4
+    words = parameter_words(family, size, key, salt, persona)
+    yield " ".join(["w", *(f"{word:0{digits}x}" for word in words)])
+    for counter, last, block in blocks(family, key, message):
+        yield f"e {counter} {int(last)} {block.hex()}"
 
 
 def transcript_text(family, size, message, key=b"", salt=b"", persona=b""):
@@ -152,18 +161,6 @@ def longest():
         print(f"{kind}|{digest(sums)}|{digest(steps)}")
 
 
-def collisions():
-    """collisions: of the messages 0000 to 0100 of two bytes the first two with equal digests of 1 byte."""
-    for family in FAMILIES:
-        seen = {}
-        for number in range(257):
-            message = number.to_bytes(2, "big")
-            first = seen.setdefault(blake2(family, 1, message), message)
-            if first != message:
-                print(f"  {family}8: {first.hex()} {message.hex()}")
-                break
-
-
 def reading(family, words, entries):
     """What a transcript is read as (size, key, salt, persona, message, last node), where it is of a hash which
     is the whole tree; None where it is of no such input."""
@@ -271,9 +268,19 @@ def trees():
         print(f"  {leaf}: {digest(roots)}")
 
 
+def ranges():
+    """ranges: the digest of the joined digests of ranges of leaves under a salt and a persona, for each length of a
+    leaf: from places 0, 7 and 2^40 on, of whole leaves in the midst of a message, and of its end."""
+    for leaf in (1, 2, 3, 64, 127, 128, 129, 200):
+        digests = b"".join(range_digests(ALPHABET[:leaf * leaves - less], leaf, first, ends, b"salt", b"persona")
+                           for first in (0, 7, 2**40) for leaves in (1, 3, 4, 5, 8, 9)
+                           for ends, less in ((False, 0), (True, 0), (True, leaf // 2)))
+        print(f"  {leaf}: {digest(digests)}")
+
+
 TABLES = {table.__name__: table for table in (
-    copies, resets, keys, cores, lengths, replays, transcripts, options, large, texts, longest, collisions,
-    forged, nodes, trees)}
+    copies, resets, keys, cores, lengths, replays, transcripts, options, large, texts, longest,
+    forged, nodes, trees, ranges)}
 
 
 def main():
@@ -284,6 +291,7 @@ def main():
     for name in names:
         if name not in TABLES:
             parser.error(f"no table has the name {name!r}")
+    check(random.Random(7693))
     for name, table in TABLES.items():
         if not names or name in names:
             print(table.__doc__)

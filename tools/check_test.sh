@@ -1,0 +1,121 @@
+#!/usr/bin/env bash
+# Checks the script `test`, without testing anything else: in a small repository of its own, whose parts are stand-ins
+# that note their call and print what the file `prints` says. The last line is 'N passed, M failed', and the status is
+# 1 if one failed.
+set -u
+top=$(dirname "$(dirname "$(readlink -f "$0")")")
+room=$(mktemp -d)
+trap 'rm -rf "$room"' EXIT
+source "$top/tools/checks.sh"
+
+show() { sed 's/^/  output: /' "$room/output" && sed 's/^/  errors: /' "$room/errors"; }
+
+# The repository, and the commands that are on the PATH.
+repository=$room/a\ repository
+mkdir -p "$repository"/{tools/key_scan,c,js,dist/x86_64,dist/aarch64,crates/b2/out} "$room/bin"
+cp "$top/test" "$repository/"
+for text in x86_64/b2-v2.s x86_64/b2-v3.s aarch64/b2.s; do printf '\t.globl\tmain_%s\n' "${text##*[-/]}" >"$repository/dist/$text"; done
+cat >"$room/part" <<END
+#!/usr/bin/env bash
+name=\$(basename "\$(dirname "\$(readlink -f "\$0")")")/\$(basename "\$0")
+echo "\$name \$(printf '<%s>' "\$@")" | sed "s|</.*/\\(b2[^>]*\\)>|<\\1>|" >>"$room/calls"
+[ "\$*" != current ] || { [ ! -e "$room/stale" ]; exit; }
+while read -r part line; do
+    [ "\$part" != "\$name" ] || { [ "\$line" != dies ] || kill -9 \$\$; echo "\${line//;/\$'\n'}"; said=yes; }
+done <"$room/prints"
+[ "\${said-}" = yes ] || echo "2 passed, 0 failed"
+! grep -q "^\$name status" "$room/statuses"
+END
+chmod +x "$room/part"
+for part in tools/{dist.sh,check_dist.sh,check_b2.sh,check_test.sh,check_program.sh,check_pages.sh,check_texts.py,run_examples.py,try_tests.sh} \
+    tools/key_scan/run.sh c/run_tests.sh js/run_tests.sh; do
+    ln "$room/part" "$repository/$part"
+done
+printf '#!/bin/sh\necho x86-64-v3\n' >"$repository/tools/processor.sh"
+printf '#!/bin/sh\necho "cc $*" | sed "s|-o [^ ]*/|-o |" >>"%s/calls"\nwhile [ "$1" != -o ]; do shift; done\ncp /bin/true "$2"\n' \
+    "$room" >"$room/bin/compiler"
+chmod +x "$repository/tools/processor.sh" "$room/bin/compiler"
+
+run() {
+    rm -f "$room/calls"
+    PATH=$room/bin:/usr/bin:/bin CC=$room/bin/compiler "$repository/test" "$@" >"$room/output" 2>"$room/errors"
+    status=$?
+}
+ends() { [ "$status" -eq "$1" ] && [ "$(tail -n 1 "$room/output")" = "$2" ]; }
+calls() { [ "$(grep -c -- "$1" "$room/calls")" -eq "$2" ]; }
+says() { grep -q -- "$1" "$room/errors"; }
+: >"$room/prints"
+: >"$room/statuses"
+
+run
+holds "all parts are counted" ends 0 "24 passed, 0 failed"
+holds "it says what it does and how long it takes" says "^test: testing the code in dist/, without a proof .* minutes"
+holds "each part's time is told" says "^== c/run_tests.sh took "
+for part in tools/check_dist.sh tools/check_b2.sh tools/check_test.sh tools/check_texts.py tools/try_tests.sh c/run_tests.sh \
+    js/run_tests.sh; do
+    holds "it runs $part" calls "^$part <>" 1
+done
+holds "dist/ is looked at" calls "^tools/dist.sh <current>" 1
+holds "the programs of dist/ are run" calls "^tools/check_program.sh <b2\(-v2\)\?>" 2
+holds "which the compiler makes" calls "^cc -O2 -DMAIN=main_v[23].s -o b2\(-v2\)\? c/b2.c dist/x86_64/b2-v[23].s$" 2
+holds "the examples are run" calls "^tools/run_examples.py <README.md><docs/TUTORIAL.md>" 1
+holds "the pages are given the program" calls "^tools/check_pages.sh <b2>" 1
+holds "nothing is proved" calls "^bin/rt" 0
+holds "nothing else is called" [ "$(wc -l <"$room/calls")" -eq 14 ]
+holds "no test was skipped, and no line says so" [ "$(grep -c skipped "$room/output")" -eq 0 ]
+
+echo "c/run_tests.sh skipped: Rust (no cargo);skipped: ARM (no qemu);7 passed, 1 failed, 2 skipped" >"$room/prints"
+run
+holds "a failure is counted" ends 1 "29 passed, 1 failed"
+holds "what was skipped is listed last" diff - <(tail -n 4 "$room/output") <<'END'
+== 2 tests were skipped:
+skipped: Rust (no cargo)
+skipped: ARM (no qemu)
+29 passed, 1 failed
+END
+echo "tools/check_pages.sh no counts" >"$room/prints"
+run
+holds "a part without counts fails" ends 1 "22 passed, 1 failed"
+echo "tools/check_pages.sh dies" >"$room/prints"
+run
+holds "so does one that is killed" ends 1 "22 passed, 1 failed"
+: >"$room/prints"
+echo "js/run_tests.sh status" >"$room/statuses"
+run
+holds "and one whose status is 1" ends 1 "24 passed, 1 failed"
+: >"$room/statuses"
+: >"$room/stale"
+run
+holds "and a dist/ of other sources" ends 1 "23 passed, 1 failed"
+rm "$room/stale"
+
+run --prove
+holds "--prove needs rt" ends 1 "0 passed, 1 failed"
+holds "and says so" says "test: the toolchain's command rt is not on the PATH"
+ln "$room/part" "$room/bin/rt"
+run --prove
+holds "--prove counts all" ends 0 "30 passed, 0 failed"
+holds "it says what it does and how long it takes" says "^test: proving every crate, comparing dist/ .* hour"
+holds "it proves first, then compares" diff - <(head -n 4 "$room/calls") <<'END'
+bin/rt <ci>
+tools/check_program.sh <crates/b2/out/b2>
+tools/dist.sh <check>
+key_scan/run.sh <>
+END
+holds "then it does what ./test does" [ "$(wc -l <"$room/calls")" -eq 17 ]
+holds "but for unproved tests" calls "^tools/try_tests.sh" 0
+echo "tools/dist.sh 5 passed, 4 failed" >"$room/prints"
+run --prove
+holds "a difference fails it" ends 1 "33 passed, 4 failed"
+for words in "--quick" "--prove --help" "x"; do
+    # shellcheck disable=SC2086
+    run $words
+    holds "the words '$words' are refused" ends 2 "0 passed, 1 failed"
+    holds "and nothing is run" [ ! -e "$room/calls" ]
+done
+run --help
+holds "help ends with 0" [ "$status" -eq 0 ]
+holds "it is printed" grep -q "^  ./test --prove " "$room/output"
+holds "and runs nothing" [ ! -e "$room/calls" ]
+
+counts
