@@ -3,11 +3,13 @@
 #
 #   python/run_tests.sh
 #
-# It is built twice: by setup.py alone, which needs setuptools, and as a wheel from a source distribution, which needs
-# the packages wheel and pip too. PYTHONS names the interpreters to test with (python3 and /usr/bin/python3). A test whose
-# tool is absent is skipped, and a line says so. The last line counts, and the status is 0 where no test failed.
+# It is built three times: by setup.py alone, which needs setuptools; as a wheel from a source distribution, which needs
+# the packages wheel and pip too; and by `pip install ./python`. PYTHONS names the interpreters to test with (python3 and
+# /usr/bin/python3). A test whose tool is absent is skipped, and a line says so. The last line counts, and the status is
+# 0 where no test failed.
 set -u
 here=$(dirname "$(readlink -f "$0")")
+top=$(dirname "$here")
 if [ $# -ne 0 ]; then
     echo "usage: python/run_tests.sh" >&2
     exit 2
@@ -39,20 +41,63 @@ check() {
 
 # Builds from a copy of the sources, so that nothing is left beside them, and without a warning of the compiler.
 build() {
-    cp -rL "$here" "$work/source" && cd "$work/source" && CFLAGS=-Werror "$1" setup.py build --build-lib "$work/built"
+    copy_repository source && cd "$work/source/python" && CFLAGS=-Werror "$1" setup.py build --build-lib "$work/built"
 }
 
-# A source distribution, and from it alone a wheel, which is installed in a folder.
+# The part of the repository that the package is built from, as a clone has it.
+copy_repository() {
+    mkdir "$work/$1" && cp -r "$top"/{c,dist,python} "$work/$1/" && cd "$work/$1/python" &&
+        rm -rf build ./*.egg-info "${copies[@]}"
+}
+copies=(src/{blake2_c.h,choose.c,aarch64/blake2_c.s,x86_64/blake2_c-v2.s,x86_64/blake2_c-v3.s})
+
+# Old copies of the files of c/ and dist/ are never used, and those that are right are not written again.
+refresh_copies() {
+    copy_repository fresh && "$1" setup.py --version && is_refreshed && touch -d 2001-01-01 "${copies[@]}" &&
+        "$1" setup.py --version && [ -z "$(find "${copies[@]}" -newermt 2001-01-02)" ] &&
+        for file in "${copies[@]}"; do echo "old" >>"$file"; done && "$1" setup.py --version && is_refreshed
+}
+is_refreshed() {
+    cmp src/blake2_c.h ../c/include/blake2_c.h && cmp src/choose.c ../c/choose.c &&
+        for file in "${copies[@]:2}"; do cmp "$file" "../dist/${file#src/}" || return 1; done
+}
+
+# Without the repository, or where no file may be written, the script says so.
+refuse_to_copy() {
+    local error="^setup.py: copying what the package shares with c/ and dist/ to python/src failed: "
+    copy_repository alone && rm -r ../c && ! "$1" setup.py build 2>../said &&
+        grep -q "$error.*No such file or directory: '../c/include/blake2_c.h'$" ../said &&
+        cp -r "$top/c" .. && mkdir src/choose.c && ! "$1" setup.py build 2>../said && grep -q "$error.*src/choose.c" ../said
+}
+
+# A source distribution has what it needs and nothing else. It takes its own copies, whatever is beside it.
+build_sources() {
+    copy_repository tree && "$1" setup.py sdist --dist-dir "$work/sources" && cd .. &&
+        tar -xzf "$work"/sources/vulfsjor-0.1.0.tar.gz && cd vulfsjor-0.1.0 &&
+        diff <(find . -type f ! -path './*.egg-info/*' | LC_ALL=C sort) <(cd "$here" && printf './%s\n' PKG-INFO setup.cfg \
+            MANIFEST.in README.md pyproject.toml setup.py src/{library.c,library.h,trees.c} "${copies[@]}" tests/*.py \
+            vulfsjor/{*.py,*.pyi,py.typed} | LC_ALL=C sort) &&
+        echo "/* its own */" >>src/choose.c && "$1" setup.py --version && grep -q "its own" src/choose.c
+}
+
+pip_offline() { "$1" -m pip --disable-pip-version-check "$2" --no-index --no-deps --no-build-isolation "${@:3}"; }
+
+# A wheel from the source distribution alone, installed in a folder.
 build_wheel() {
-    cp -r "$here" "$work/tree" && ln -s "$here/../c" "$here/../dist" "$work/" && cd "$work/tree" &&
-        "$1" setup.py sdist --dist-dir "$work/sources" && cd "$work" &&
-        "$1" -m pip --disable-pip-version-check wheel --no-index --no-deps --no-build-isolation --wheel-dir "$work" \
-            "$work"/sources/vulfsjor-0.1.0.tar.gz &&
+    cd "$work" && pip_offline "$1" wheel --wheel-dir "$work" sources/vulfsjor-0.1.0.tar.gz &&
         [ "$(echo vulfsjor-*.whl)" = "vulfsjor-0.1.0-cp311-abi3-linux_$(uname -m).whl" ] &&
-        "$1" -m pip --disable-pip-version-check install --no-index --no-deps --target "$work/installed" vulfsjor-*.whl &&
-        for file in __init__.py _library.pyi _library.abi3.so _threads.py py.typed; do
-            [ -e "$work/installed/vulfsjor/$file" ] || return 1
-        done
+        pip_offline "$1" install --target "$work/installed" vulfsjor-*.whl && is_installed installed
+}
+is_installed() {
+    local file
+    for file in __init__.py _library.pyi _library.abi3.so _threads.py py.typed; do
+        [ -e "$work/$1/vulfsjor/$file" ] || return 1
+    done
+}
+
+# As the page prints it, in a new clone.
+install_folder() {
+    copy_repository clone && cd .. && pip_offline "$1" install --target "$work/by_pip" ./python && is_installed by_pip
 }
 
 # Of the library that the module holds, no name is seen outside, and glibc need not be newer than 2.17.
@@ -63,7 +108,7 @@ look_at_names() {
 
 # For another platform the script says what it has.
 refuse_other_platform() {
-    cd "$work/source" && ! _PYTHON_HOST_PLATFORM=linux-s390x "$1" setup.py build >"$work/said" 2>&1 &&
+    cd "$work/source/python" && ! _PYTHON_HOST_PLATFORM=linux-s390x "$1" setup.py build >"$work/said" 2>&1 &&
         grep -q "assembly for linux-x86_64 and linux-aarch64, and has none for linux-s390x" "$work/said"
 }
 
@@ -98,6 +143,9 @@ elif ! command -v cc >/dev/null; then
 elif check "the package for Python is built by $python" build "$python"; then
     check "no name of the library is seen outside the module" look_at_names "$work/built/vulfsjor/_library.abi3.so"
     check "setup.py says what it has for another platform" refuse_other_platform "$python"
+    check "setup.py copies the files of c/ and dist/ anew" refresh_copies "$python"
+    check "setup.py says what it can't copy" refuse_to_copy "$python"
+    check "a source distribution has its own copies" build_sources "$python"
     tested=
     for each in ${PYTHONS:-python3 /usr/bin/python3}; do
         full=$("$each" -c 'import sys; print(sys.version_info >= (3, 11) and sys.executable)' 2>/dev/null)
@@ -136,6 +184,8 @@ elif check "the package for Python is built by $python" build "$python"; then
         skip "the wheel" "no python3 with pip and wheel"
     elif check "the wheel is built by $wheel" build_wheel "$wheel"; then
         check "the wheel beside hashlib" "$wheel" "$here/tests/compare.py" "$work/installed" 1000
+        check "pip installs the folder" install_folder "$wheel" &&
+            check "the package by pip beside hashlib" "$wheel" "$here/tests/compare.py" "$work/by_pip" 1000
     fi
 fi
 echo "$passed passed, $failed failed, $skipped skipped"

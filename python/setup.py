@@ -1,10 +1,22 @@
-"""Builds the package: a module in C over the proved library, whose assembly is in ../dist/ and, by links, in src/. It
-needs a C compiler."""
+"""Builds the package: a module in C over the proved library. It needs a C compiler.
+
+In the repository the files that c/ and dist/ share with this package are first copied to src/, as far as they differ.
+A source distribution, which has a file PKG-INFO, holds them.
+"""
+import pathlib
 import sys
 import sysconfig
 
 from setuptools import Extension, setup
 from setuptools.command.build_ext import build_ext
+
+COPIES = {
+    "src/blake2_c.h": "../c/include/blake2_c.h",
+    "src/choose.c": "../c/choose.c",
+    "src/aarch64/blake2_c.s": "../dist/aarch64/blake2_c.s",
+    "src/x86_64/blake2_c-v2.s": "../dist/x86_64/blake2_c-v2.s",
+    "src/x86_64/blake2_c-v3.s": "../dist/x86_64/blake2_c-v3.s",
+}
 
 # The texts of the library by platform. choose.c has its functions by their own names; on x86-64 a call goes to the build
 # that the processor runs.
@@ -13,9 +25,24 @@ TEXTS = {
     "linux-aarch64": ["src/aarch64/blake2_c.s"],
 }
 
+
+def refresh_copies():
+    """Makes the copies what the repository has. One that is the same already keeps its time, and is not built again."""
+    for copy, source in COPIES.items():
+        copy, wanted = pathlib.Path(copy), pathlib.Path(source).read_bytes()
+        if not copy.is_file() or copy.read_bytes() != wanted:
+            copy.parent.mkdir(exist_ok=True)
+            copy.write_bytes(wanted)
+
+
 platform = sysconfig.get_platform()
 if platform not in TEXTS or sys.maxsize < 2**32:
     sys.exit(f"setup.py: vulfsjor is assembly for {' and '.join(TEXTS)}, and has none for {platform}")
+if not pathlib.Path("PKG-INFO").exists():
+    try:
+        refresh_copies()
+    except OSError as error:
+        sys.exit(f"setup.py: copying what the package shares with c/ and dist/ to python/src failed: {error}")
 
 
 class BuildWithAssembly(build_ext):
