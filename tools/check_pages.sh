@@ -3,12 +3,13 @@
 # tools/check_docs.py the names and numbers in the pages, and tools/check_specification.py the program with one
 # that was written from docs/SPECIFICATION.md only. tools/check_style.py looks for phrases that the pages avoid, and
 # tools/manual.py compares the man page with docs/PROGRAM.md. tools/pictures.py compares the pictures of docs/.
+# At the end it looks for symbolic links in the repository, which the toolchain refuses.
 #
 # usage: tools/check_pages.sh [PROGRAM]
 #
-# PROGRAM is crates/b2/out/b2 where it is left out, which `rt ci` builds. All are skipped where there is no
-# python3, and the last where there is no such program; a line says so. The last line counts, and the status is 1
-# where one failed.
+# PROGRAM is crates/b2/out/b2 where it is left out, which `rt ci` builds. The scripts are skipped where there is no
+# python3, the last of them where there is no such program, and the links where there is no git repository; a line says
+# so. The last line counts, and the status is 1 where one failed.
 set -u
 tools=$(dirname "$(readlink -f "$0")")
 program=${1:-$(dirname "$tools")/crates/b2/out/b2}
@@ -31,5 +32,15 @@ for script in check_calling.py check_docs.py check_style.py manual.py pictures.p
         failed=$((failed + 1))
     fi
 done
+if ! files=$(git -C "$tools/.." ls-files --stage 2>&1); then
+    echo "skipped: no symbolic link is in the repository (no git repository)"
+    skipped=$((skipped + 1))
+elif grep '^120000 ' <<<"$files" >&2; then
+    echo "FAILED: no symbolic link is in the repository (the toolchain refuses those above)"
+    failed=$((failed + 1))
+else
+    echo "passed: no symbolic link is in the repository"
+    passed=$((passed + 1))
+fi
 echo "$passed passed, $failed failed, $skipped skipped"
 [ "$failed" -eq 0 ]
