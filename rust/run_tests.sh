@@ -1,5 +1,5 @@
 #!/usr/bin/env bash
-# Tests the crates for Rust, here and in ../rust-digest:
+# Tests the crates for Rust, at the top of the repository and in rust-digest/:
 #
 #   rust/run_tests.sh [FOLDER]
 #
@@ -8,7 +8,7 @@
 # librust-hkdf-dev, librust-pbkdf2-dev and librust-rayon-dev. A test whose tool is missing is skipped, and a line says
 # so. The last line counts, and the status is 0 if no test failed.
 set -u
-here=$(dirname "$(readlink -f "$0")")
+top=$(dirname "$(dirname "$(readlink -f "$0")")")
 if [ $# -gt 1 ] || { [ $# -eq 1 ] && ! [ -e "$1/lib/libblake2_c.a" ]; }; then
     echo "usage: rust/run_tests.sh [FOLDER], where c/install.sh has put the library" >&2
     exit 2
@@ -44,14 +44,12 @@ check() {
     fi
 }
 
-cargo_here() { cargo "$1" --offline --manifest-path "$here/Cargo.toml" "${@:2}"; }
+cargo_here() { cargo "$1" --offline --manifest-path "$top/Cargo.toml" "${@:2}"; }
 
-# A crate of this folder with Debian's crates, from a copy, since cargo writes a lock file there.
+# A crate of another folder with Debian's crates, from a copy, since cargo writes a lock file there.
 cargo_debian() {
-    local folder=$1
-    [ -e "$work/rust" ] || { mkdir "$work/rust" && ln -s "$here"/{Cargo.toml,src,dist,README.md} "$work/rust/"; }
-    [ -e "$work/$folder" ] || { mkdir -p "$(dirname "$work/$folder")" && cp -r "$here/../$folder" "$work/$folder"; }
-    cargo "$2" --offline --manifest-path "$work/$folder/Cargo.toml" \
+    [ -e "$work/copy" ] || { mkdir "$work/copy" && cp -r "$top"/{Cargo.toml,rust,rust-digest,dist} "$work/copy/"; }
+    cargo "$2" --offline --manifest-path "$work/copy/$1/Cargo.toml" \
         --config 'source.crates-io.replace-with="debian"' --config "source.debian.directory=\"$debian\"" "${@:3}"
 }
 
@@ -97,13 +95,13 @@ gives_abc() {
 }
 
 # The functions of a build in the program that was built last.
-version=$(sed -n 's/^version = "\(.*\)"/\1/p' "$here/Cargo.toml")
+version=$(sed -n 's/^version = "\(.*\)"/\1/p' "$top/Cargo.toml")
 held() { nm "$work/built" | sed -n "s/.* [tT] blake2_c_\(.*\)_${version//./_}_$1\$/\1/p"; }
 
 # A program takes of the assembly what it calls, in each profile.
 only_what_is_called() {
     local profile
-    write_program "$work/one" "$print_abc" "$here"
+    write_program "$work/one" "$print_abc" "$top"
     for profile in dev release thin fat; do
         gives_abc "$work/one" $profile && [ "$(held v2)" = blake2b ] && [ "$(held v3)" = blake2b ] || return 1
     done
@@ -122,21 +120,28 @@ other_processors() {
         ! qemu-x86_64 -cpu core2duo "$work/built" >"$work/said" 2>&1 && grep -q "below x86-64-v2" "$work/said"
 }
 
-# The crate's package has all that it needs, and is built without a registry.
+# The crate's package has what it needs and nothing else, and is built without a registry.
 build_package() {
     CARGO_HOME=$work/home cargo_here package --allow-dirty && tar -C "$work" -xzf "$CARGO_TARGET_DIR"/package/*.crate &&
+        diff <(packaged_files) <(cd "$work"/vulfsjor-*/ && find rust dist -type f | LC_ALL=C sort) &&
         write_program "$work/packed" "$print_abc" "$work"/vulfsjor-*/ && gives_abc "$work/packed" release
+}
+packaged_files() {
+    cd "$top" && {
+        find rust/src -type f
+        printf '%s\n' rust/{README.md,examples/sum.rs} dist/{MANIFEST,aarch64/blake2_c.s,x86_64/blake2_c-v{2,3}.s}
+    } | LC_ALL=C sort
 }
 
 # Another version of the crate in the same program, in each profile. The names in its texts carry its version, as
 # tools/dist.sh makes them.
 two_versions() {
     local other=$work/other profile
-    mkdir "$other" && cp -rL "$here"/{src,dist,Cargo.toml,README.md} "$other/" &&
+    mkdir "$other" && cp -r "$top"/{Cargo.toml,rust,dist} "$other/" &&
         sed -i 's/^version = .*/version = "99.8.7"/' "$other/Cargo.toml" &&
         sed -i "s/${version//./_}_/99_8_7_/g" "$other"/dist/*/blake2_c*.s &&
         write_program "$work/two" "$print_abc assert!(b::Blake2b::digest(b\"abc\") == *a::Blake2b::digest(b\"abc\").as_bytes());" \
-            "$here" "$other" || return 1
+            "$top" "$other" || return 1
     for profile in dev release thin fat; do gives_abc "$work/two" $profile || return 1; done
     [ "$(nm "$work/built" | grep -c ' t blake2_c_blake2b_99_8_7_')" = "$(nm "$work/built" |
         grep -c " t blake2_c_blake2b_${version//./_}_")" ]
@@ -145,7 +150,7 @@ two_versions() {
 # Both builds of the library for C in the same program.
 beside_c() {
     write_program "$work/both" "$print_abc extern \"C\" { fn blake2_c_version() -> u32; }
-        assert!(unsafe { blake2_c_version() } > 0);" "$here" &&
+        assert!(unsafe { blake2_c_version() } > 0);" "$top" &&
         printf 'fn main() {\n    println!("cargo:rustc-link-search=native=%s");\n    %s\n}\n' "$for_c" \
             'println!("cargo:rustc-link-lib=static=blake2_c");' >"$work/both/build.rs" &&
         gives_abc "$work/both" dev && gives_abc "$work/both" release
@@ -156,7 +161,7 @@ through_a_dylib() {
     mkdir -p "$work/middle/src" && echo 'pub use vulfsjor;' >"$work/middle/src/lib.rs" &&
         printf '[package]\nname = "middle"\nversion = "0.1.0"\nedition = "2021"\n[lib]\ncrate-type = ["dylib"]\n%s\n' \
             "[dependencies]
-vulfsjor = { path = \"$here\" }" >"$work/middle/Cargo.toml" &&
+vulfsjor = { path = \"$top\" }" >"$work/middle/Cargo.toml" &&
         write_program "$work/outer" "let mut hasher = middle::vulfsjor::Blake2b::new();
             println!(\"{}\", hasher.update(b\"abc\").finalize_reset());" &&
         sed -i "s#^.dependencies.#&\nmiddle = { path = \"../middle\" }#" "$work/outer/Cargo.toml" &&
@@ -188,15 +193,15 @@ rayon_example() {
     head -c 5000003 /dev/urandom >"$work/long" && head -c 1048576 /dev/urandom >"$work/whole" && : >"$work/none" &&
         cargo_debian rust/examples/rayon build -q && cd "$work" &&
         ! "$CARGO_TARGET_DIR/debug/rayon-example" long whole absent none >said 2>said_of_errors &&
-        python3 "$here/tests/roots.py" long whole none | diff said - && grep -q ^absent: said_of_errors
+        python3 "$top/rust/tests/roots.py" long whole none | diff said - && grep -q ^absent: said_of_errors
 }
 
 # A new program, made from the page only.
 follow_page() {
     mkdir -p "$work/program/src" && cd "$work/program" &&
-        sed -n '/^```toml$/,/^```$/p' "$here/README.md" | sed '1d;$d' | sed "s#PATH/rust#$here#" >part.toml &&
+        sed -n '/^```toml$/,/^```$/p' "$top/rust/README.md" | sed '1d;$d' | sed "s#PATH#$top#" >part.toml &&
         { printf '[package]\nname = "program"\nversion = "0.1.0"\nedition = "2021"\n'; cat part.toml; } >Cargo.toml &&
-        sed -n '/^```rust$/,/^```$/p' "$here/README.md" | sed '1d;$d' >src/main.rs &&
+        sed -n '/^```rust$/,/^```$/p' "$top/rust/README.md" | sed '1d;$d' >src/main.rs &&
         [ -s part.toml ] && cargo run -q --offline | diff - <(python3 -c 'import hashlib
 print(hashlib.blake2b(b"hello world", digest_size=32, person=b"my program").hexdigest())')
 }
@@ -248,7 +253,7 @@ elif check "the crate vulfsjor" cargo_here test; then
         check "clippy has nothing to say" cargo_here clippy --all-targets -- -D warnings
     fi
     check "the pages of cargo doc have no broken link" env RUSTDOCFLAGS="-D warnings" \
-        cargo doc --offline --no-deps --manifest-path "$here/Cargo.toml"
+        cargo doc --offline --no-deps --manifest-path "$top/Cargo.toml"
     absent=$(absent_packages digest=0.10 hmac=0.12 hkdf=0.12 pbkdf2=0.11)
     if [ -n "$absent" ]; then
         skip "the crate vulfsjor-digest" "not installed:$absent"

@@ -215,7 +215,7 @@ def check_specification():
 
 # Where the version stands, by what stands before it.
 VERSIONS = (("CHANGELOG.md", r"^## "), ("c/include/blake2_c.h", r"VULFSJOR_VERSION \""),
-            ("rust/Cargo.toml", r"^version = \""), ("rust-digest/Cargo.toml", r"^version = \""),
+            ("Cargo.toml", r"^version = \""), ("rust-digest/Cargo.toml", r"^version = \""),
             ("python/pyproject.toml", r"^version = \""), ("js/package.json", r"^ *\"version\": \""))
 
 

@@ -76,7 +76,7 @@ class Runner:
         (crate / "src").mkdir(parents=True, exist_ok=True)
         (crate / "src/main.rs").write_text(text)
         (crate / "Cargo.toml").write_text('[package]\nname = "example"\nversion = "0.0.0"\nedition = "2021"\n'
-                                          f'[dependencies]\nvulfsjor = {{ path = "{TOP / "rust"}" }}\n[workspace]\n')
+                                          f'[dependencies]\nvulfsjor = {{ path = "{TOP}" }}\n[workspace]\n')
         self.call("cargo", "build", "--quiet", at=crate)
         return self.call(str(crate / "target/debug/example"))
 
@@ -115,7 +115,8 @@ def has_tool(runner, language):
 
 def build_module(work):
     """Builds the module for Python in a folder below this one, from a copy of its sources, and returns the folder."""
-    shutil.copytree(TOP / "python", work / "python")
+    for name in ("c", "dist", "python"):
+        shutil.copytree(TOP / name, work / name)
     subprocess.run(["python3", "setup.py", "-q", "build", "--build-lib", str(work / "module")], cwd=work / "python",
                    capture_output=True, check=False)
     return work / "module"

@@ -168,11 +168,11 @@ macro_rules! calls {
 macro_rules! functions {
     ($($function:tt)+) => {
         #[cfg(target_arch = "x86_64")]
-        build!(v2, "../dist/x86_64/blake2_c-v2.s", (att_syntax, raw), $($function)+);
+        build!(v2, "../../dist/x86_64/blake2_c-v2.s", (att_syntax, raw), $($function)+);
         #[cfg(target_arch = "x86_64")]
-        build!(v3, "../dist/x86_64/blake2_c-v3.s", (att_syntax, raw), $($function)+);
+        build!(v3, "../../dist/x86_64/blake2_c-v3.s", (att_syntax, raw), $($function)+);
         #[cfg(target_arch = "aarch64")]
-        build!(arm, "../dist/aarch64/blake2_c.s", (raw), $($function)+);
+        build!(arm, "../../dist/aarch64/blake2_c.s", (raw), $($function)+);
         calls!($($function)+);
     };
 }

@@ -81,7 +81,7 @@ fn case(line: &str) -> Option<Case> {
 /// The lines of a family that begin with this letter.
 pub fn lines(family: &str, kind: char) -> Vec<String> {
     let mut all = Vec::new();
-    for script in ["/../c/tests/cases.py", "/tests/cases.py"] {
+    for script in ["/c/tests/cases.py", "/rust/tests/cases.py"] {
         let script = format!("{}{script}", env!("CARGO_MANIFEST_DIR"));
         let output = Command::new("python3")
             .args([&script, family])
