@@ -19,6 +19,7 @@ cat >"$room/part" <<END
 #!/usr/bin/env bash
 name=\$(basename "\$(dirname "\$(readlink -f "\$0")")")/\$(basename "\$0")
 echo "\$name \$(printf '<%s>' "\$@")" | sed "s|</.*/\\(b2[^>]*\\)>|<\\1>|" >>"$room/calls"
+grep -q "^== .*\${name#bin/}\( \|\$\)" "$room/errors" || echo "\$name" >>"$room/unnamed"
 [ "\$*" != current ] || { [ ! -e "$room/stale" ]; exit; }
 while read -r part line; do
     [ "\$part" != "\$name" ] || { [ "\$line" != dies ] || kill -9 \$\$; echo "\${line//;/\$'\n'}"; said=yes; }
@@ -50,6 +51,9 @@ says() { grep -q -- "$1" "$room/errors"; }
 run
 holds "all parts are counted" ends 0 "24 passed, 0 failed"
 holds "it says what it does and how long it takes" says "^test: testing the code in dist/, without a proof .* minutes"
+holds "it names each part before it begins" [ ! -e "$room/unnamed" ]
+holds "and how long that takes" says "^== c/run_tests.sh (about [0-9]* minutes)$"
+holds "if it is long" says "^== tools/check_b2.sh$"
 holds "each part's time is told" says "^== c/run_tests.sh took "
 for part in tools/check_dist.sh tools/check_b2.sh tools/check_test.sh tools/check_texts.py tools/try_tests.sh c/run_tests.sh \
     js/run_tests.sh; do
@@ -96,6 +100,9 @@ ln "$room/part" "$room/bin/rt"
 run --prove
 holds "--prove counts all" ends 0 "30 passed, 0 failed"
 holds "it says what it does and how long it takes" says "^test: proving every crate, comparing dist/ .* hour"
+holds "it names each part before it begins, too" [ ! -e "$room/unnamed" ]
+holds "and how long proofs take" says "^== rt ci (about [0-9]* minutes)$"
+holds "and to compare dist/" says "^== tools/dist.sh check (about [0-9]* minutes)$"
 holds "it proves first, then compares" diff - <(head -n 4 "$room/calls") <<'END'
 bin/rt <ci>
 tools/check_program.sh <crates/b2/out/b2>
