@@ -18,6 +18,8 @@ show() {
 repository=$room/a\ repository
 mkdir -p "$repository/tools" "$repository/dist/x86_64" "$repository/dist/aarch64" "$repository/c"
 touch "$repository/dist/MANIFEST" "$repository/c/b2.c"
+mkdir "$repository/docs"
+echo ".TH B2 1" >"$repository/docs/b2.1"
 cp "$top/b2" "$repository/"
 cp "$top/tools/processor.sh" "$repository/tools/"
 for crate in low middle b2 beside; do
@@ -155,7 +157,49 @@ for file in dist/MANIFEST c/b2.c crates/low/src/lib.rt crates.txt; do
     holds "after a change of $file it is built again" compiles 1
     touch -d '-9 seconds' "$repository/$file"
 done
+
+# Installed in a folder with a space, and for each user.
+folder=$room/a\ folder
+installed() { (cd "$folder" && find . -type f -printf '%P %m\n' | LC_ALL=C sort); }
+rm -f "$program" "$room/compiles"
+mkdir -p "$folder/bin"
+echo other >"$folder/bin/other"
+chmod 600 "$folder/bin/other" "$repository/docs/b2.1"
+b2 --install "$folder"
+holds "--install builds the program" compiles 1
+holds "and ends with 0" ends 0
+holds "and prints nothing" prints ""
+holds "and says what it installs" tells "b2: installed $folder/bin/b2 and $folder/share/man/man1/b2.1"
+holds "which is the program and its page" \
+    diff <(printf '%s\n' 'bin/b2 755' 'bin/other 600' 'share/man/man1/b2.1 644') <(installed)
+holds "as they are" cmp "$program" "$folder/bin/b2"
+holds "both" cmp "$repository/docs/b2.1" "$folder/share/man/man1/b2.1"
+settle
+echo old >"$folder/bin/b2"
+b2 --install "$folder"
+holds "a second time it builds nothing" compiles 1
+holds "and takes the place of the first" cmp "$program" "$folder/bin/b2"
+b2 --uninstall "$folder"
+holds "--uninstall removes both, and nothing else" diff <(echo 'bin/other 600') <(installed)
+holds "and ends with 0" ends 0
+b2 --uninstall "$folder"
+holds "a second time too" ends 0
+holds "without building" compiles 1
+for words in "--install a b" "--uninstall a b"; do
+    # shellcheck disable=SC2086
+    (cd "$room" && b2 $words && exit "$status")
+    holds "the words '$words' are refused" [ $? -eq 1 ]
+    holds "with what is needed" tells "b2: ${words%% *} needs the name of one folder"
+    holds "and nothing is installed" stands_not "$room/a"
+done
+b2 --install ""
+holds "without a folder the words are the program's" prints "<--install><>incompiled"
+(cd "$room" && b2 --install -folder)
+holds "a folder's name may begin with -" stands "$room/-folder/bin/b2"
 : >"$room/refuse"
+rm -f "$program"
+b2 --install "$folder"
+holds "where it is not built nothing is installed" diff <(echo 'bin/other 600') <(installed)
 rm -f "$program"
 b2 sum b512
 holds "a refused compilation ends with 1" ends 1
