@@ -1,5 +1,7 @@
-# Part of c/run_tests.sh: the library and the program for aarch64, by a compiler for it and on an emulated processor.
+# Part of c/run_tests.sh: the library and the program for aarch64, by a compiler for it and on an
+# emulated processor.
 . "$tests/languages.sh"
+. "$tests/threads.sh"
 arm=aarch64-linux-gnu-gcc
 
 # That compiler in the place of cc. What it links is run by a script of its name.
@@ -10,12 +12,14 @@ cc() {
     program=$2
     libraries=$(dirname "$(dirname "$("$arm" -print-file-name=ld-linux-aarch64.so.1)")")
     mv "$program" "$program.aarch64" &&
-        printf '#!/bin/sh\nexec qemu-aarch64 -L "%s" "%s" "$@"\n' "$libraries" "$program.aarch64" >"$program" &&
+        printf '#!/bin/sh\nexec qemu-aarch64 -L "%s" "%s" "$@"\n' "$libraries" "$program.aarch64" \
+            >"$program" &&
         chmod +x "$program"
 }
 
 linked_for_arm() {
-    cc -std=c99 -O2 "${warnings[@]}" -I"$include" "$tests/linked.c" "$1" -o "$work/linked" -pthread &&
+    cc -std=c99 -O2 "${warnings[@]}" -I"$include" "$tests/linked.c" "$1" -o "$work/linked" \
+        -pthread &&
         LD_LIBRARY_PATH=$prefix/lib "$work/linked"
 }
 
@@ -26,7 +30,8 @@ libb2_for_arm() {
 
 # The program of dist/ for aarch64, by so many cases of each command.
 program_for_arm() {
-    cc -O2 "${warnings[@]}" -DMAIN="$(main_of "$dist/aarch64/b2.s")" -o "$work/b2" "$here/b2.c" "$dist/aarch64/b2.s" &&
+    cc -O2 "${warnings[@]}" -DMAIN="$(main_of "$dist/aarch64/b2.s")" -o "$work/b2" "$here/b2.c" \
+        "$dist/aarch64/b2.s" &&
         python3 "$top/tools/check_specification.py" --program "$work/b2" --cases "$1"
 }
 
@@ -36,23 +41,30 @@ test_aarch64() {
         skip "the library for aarch64" "no $arm, no qemu-aarch64 or no python3"
         return
     fi
-    # test.c takes every tenth case, since the emulated processor is slow. edges.c and key_scan.c run whole.
+    # test.c takes every tenth case, since the emulated processor is slow. edges.c and key_scan.c
+    # run whole.
     all=$cases cases=$work/cases
     mkdir "$cases"
     for family in b s; do awk 'NR % 10 == 1' "$all/$family" >"$cases/$family"; done
     prefix=$work/prefix include=$work/prefix/include libb2=$work/prefix/include/blake2_c-libb2
     archive=$prefix/lib/libblake2_c.a shared=$prefix/lib/libblake2_c.so
-    check "install.sh with CC=$arm" env "CC=$arm" "$here/install.sh" --from "$dist" "$prefix" || return
+    check "install.sh with CC=$arm" env "CC=$arm" "$here/install.sh" --from "$dist" "$prefix" ||
+        return
     for family in b s; do
-        check "test.c, blake2$family, for aarch64" compile_and_run "$work/test" -O2 $(family_words $family) "$archive"
+        check "test.c, blake2$family, for aarch64" compile_and_run "$work/test" -O2 \
+            $(family_words $family) "$archive"
         check "test.c, blake2$family, for aarch64, with the shared library" with_shared_library
         check "edges.c, blake2$family, for aarch64" compare_lines edges "" -O2 -I"$include"
         check "key_scan.c, blake2$family, for aarch64" scan_for_keys
-        check "libb2_header.c, blake2$family, for aarch64" compare_lines libb2_header "" -O2 -I"$libb2"
+        check "libb2_header.c, blake2$family, for aarch64" compare_lines libb2_header "" -O2 \
+            -I"$libb2"
         check "libb2's names, blake2$family, for aarch64" libb2_for_arm
     done
     for library in "$archive" "$shared"; do
-        check "calls of a constructor and of threads, for aarch64, ${library##*.}" linked_for_arm "$library"
+        check "calls of a constructor and of threads, for aarch64, ${library##*.}" linked_for_arm \
+            "$library"
     done
+    check "parts.c, for aarch64" parts_with 500 -O2
+    check "the program c/examples/tree_sum.c, for aarch64" tree_sum_example
     check "b2 for aarch64" program_for_arm 40
 }

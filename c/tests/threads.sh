@@ -1,19 +1,26 @@
-# Part of c/run_tests.sh: a tree in parts, by threads, and the programs of c/examples that hash trees.
+# Part of c/run_tests.sh: a tree in parts, by threads, and the programs of c/examples that hash
+# trees.
 
 # The words of the linker by which the calls that thread_faults.c replaces go to it.
-replaced_calls() { sed -n 's/^WRAP([^,]*, \([a-z0-9_]*\),.*$/-Wl,--wrap=\1/p' "$tests/thread_faults.c"; }
+replaced_calls() {
+    sed -n 's/^WRAP([^,]*, \([a-z0-9_]*\),.*$/-Wl,--wrap=\1/p' "$tests/thread_faults.c"
+}
 
 # Compiles a program from these files and words.
 compile_threads() {
     local program=$1
     shift
-    cc -std=gnu99 -g "${warnings[@]}" -U_FORTIFY_SOURCE -I"$include" -o "$program" "$@" "$archive" -pthread
+    cc -std=gnu99 -g "${warnings[@]}" -U_FORTIFY_SOURCE -I"$include" -o "$program" "$@" "$archive" \
+        -pthread
 }
 
-# The edges of a tree in parts, whose digests hashlib has too.
+# The edges of a tree in parts, whose digests hashlib has too, and so many random messages.
 parts_with() {
-    cc -std=c99 -g "${warnings[@]}" -I"$include" "$@" -o "$work/parts" "$tests/parts.c" "$archive" &&
-        "$work/parts" >"$work/lines" && python3 "$tests/check_lines.py" <"$work/lines"
+    local turns=$1
+    shift
+    cc -std=c99 -g "${warnings[@]}" -I"$include" "$@" -o "$work/parts" "$tests/parts.c" \
+        "$archive" &&
+        "$work/parts" "$turns" >"$work/lines" && python3 "$tests/check_lines.py" <"$work/lines"
 }
 
 # threads.c with these words, over the installed archive.
@@ -25,9 +32,11 @@ threads_installed() {
 # threads.c and thread_faults.c with these words, where each few bytes have a thread of their own.
 threads_with() {
     compile_threads "$work/threads" -DLEAST_BYTES=1 "$@" "$tests/threads.c" "$here/threads.c" &&
-        compile_threads "$work/faults" -DLEAST_BYTES=1 "$@" "$tests/thread_faults.c" "$here/threads.c" $(replaced_calls) &&
+        compile_threads "$work/faults" -DLEAST_BYTES=1 "$@" "$tests/thread_faults.c" \
+            "$here/threads.c" $(replaced_calls) &&
         "$work/threads" "$work/files" 60 && "$work/faults" "$work/files" &&
-        compile_threads "$work/faults" "$@" "$tests/thread_faults.c" "$here/threads.c" $(replaced_calls) &&
+        compile_threads "$work/faults" "$@" "$tests/thread_faults.c" "$here/threads.c" \
+            $(replaced_calls) &&
         "$work/faults" "$work/files"
 }
 
@@ -89,17 +98,22 @@ tree_sum_example() {
     done
     "$sum" <file_3000000 | diff <(wanted_of_trees 65536 - <file_3000000) - || return 1
     "$sum" --leaf 777 - <file_65537 | diff <(wanted_of_trees 777 - <file_65537) - || return 1
-    cat file_3000000 | "$sum" --threads=2 - file_1 | diff <(wanted_of_trees 65536 - file_1 <file_3000000) - || return 1
+    cat file_3000000 | "$sum" --threads=2 - file_1 |
+        diff <(wanted_of_trees 65536 - file_1 <file_3000000) - || return 1
     # standard input from where it stands, and to its end
     { head -c 5 >head && "$sum" && "$sum" -; } <file_262144 >said && tail -c +6 file_262144 >rest &&
-        { wanted_of_trees 65536 - <rest && wanted_of_trees 65536 - </dev/null; } | diff - said || return 1
-    ! "$sum" file_1 absent folder file_0 >said 2>errors && wanted_of_trees 65536 file_1 file_0 | diff - said &&
-        printf 'tree_sum: %s\n' 'absent: No such file or directory' 'folder: Is a directory' | diff - errors || return 1
+        { wanted_of_trees 65536 - <rest && wanted_of_trees 65536 - </dev/null; } | diff - said ||
+        return 1
+    ! "$sum" file_1 absent folder file_0 >said 2>errors &&
+        wanted_of_trees 65536 file_1 file_0 | diff - said &&
+        printf 'tree_sum: %s\n' 'absent: No such file or directory' 'folder: Is a directory' |
+        diff - errors || return 1
     ! "$sum" file_1 >/dev/full && "$sum" --help | grep -q '^usage' || return 1
     for leaf in 0 4294967296 -1 '' 1x ' 1' 18446744073709551617; do
         refuses_with 2 "$sum" --leaf "$leaf" file_1 || return 1
     done
-    refuses_with 2 "$sum" --threads x file_1 && refuses_with 2 "$sum" --what file_1 && refuses_with 2 "$sum" --leaf
+    refuses_with 2 "$sum" --threads x file_1 && refuses_with 2 "$sum" --what file_1 &&
+        refuses_with 2 "$sum" --leaf
 }
 
 # A file in parts of so many leaves, by xargs, which keeps the order of one process.
@@ -119,18 +133,24 @@ tree_parts_example() {
         done
     done
     [ "$("$parts" leaves file_3000000 45 9223372036854775807 | wc -c)" -eq 64 ] || return 1
-    "$parts" leaves file_3000000 0 100 >all && "$parts" leaves file_3000000 40 3 | cmp - <(tail -c +2561 all | head -c 192) ||
+    "$parts" leaves file_3000000 0 100 >all &&
+        "$parts" leaves file_3000000 40 3 | cmp - <(tail -c +2561 all | head -c 192) ||
         return 1
     # a part that is missing, one that came twice, and a digest in pieces
-    head -c 2880 all | refuses_with 1 "$parts" root file_3000000 && head -c 2943 all | refuses_with 1 "$parts" root file_3000000 &&
+    head -c 2880 all | refuses_with 1 "$parts" root file_3000000 &&
+        head -c 2943 all | refuses_with 1 "$parts" root file_3000000 &&
         { cat all && head -c 64 all; } | refuses_with 1 "$parts" root file_3000000 || return 1
     refuses_with 1 "$parts" leaves file_3000000 46 1 && refuses_with 1 "$parts" leaves absent 0 1 &&
-        refuses_with 1 "$parts" leaves /dev/null 0 1 && refuses_with 1 "$parts" root absent </dev/null &&
-        ! "$parts" leaves file_3000000 0 1 2>"$work/said" >/dev/full && ! "$parts" root file_3000000 <all >/dev/full || return 1
+        refuses_with 1 "$parts" leaves /dev/null 0 1 &&
+        refuses_with 1 "$parts" root absent </dev/null &&
+        ! "$parts" leaves file_3000000 0 1 2>"$work/said" >/dev/full &&
+        ! "$parts" root file_3000000 <all >/dev/full || return 1
     for name in -1 x '' 1x 9223372036854775808; do
-        refuses_with 2 "$parts" leaves file_1 "$name" 1 && refuses_with 2 "$parts" leaves file_1 0 "$name" || return 1
+        refuses_with 2 "$parts" leaves file_1 "$name" 1 &&
+            refuses_with 2 "$parts" leaves file_1 0 "$name" || return 1
     done
-    refuses_with 2 "$parts" leaves file_1 0 0 && refuses_with 2 "$parts" && refuses_with 2 "$parts" leaves file_1 0 &&
+    refuses_with 2 "$parts" leaves file_1 0 0 && refuses_with 2 "$parts" &&
+        refuses_with 2 "$parts" leaves file_1 0 &&
         refuses_with 2 "$parts" root && refuses_with 2 "$parts" what file_1
 }
 
@@ -156,7 +176,7 @@ test_threads() {
         skip "a tree in parts, and by threads" "no python3"
         return
     fi
-    check "parts.c" parts_with -O2
+    check "parts.c" parts_with 20000 -O2
     check "threads.c, with the installed library" threads_installed
     check "threads.c and thread_faults.c" threads_with -O2
     for kind in thread address,undefined; do
@@ -167,7 +187,8 @@ test_threads() {
         fi
     done
     if links -fsanitize=address,undefined && "$work/linked"; then
-        check "parts.c, with sanitizers" parts_with -O1 -fsanitize=address,undefined -fno-sanitize-recover=all
+        check "parts.c, with sanitizers" parts_with 20000 -O1 -fsanitize=address,undefined \
+            -fno-sanitize-recover=all
     else
         skip "parts.c, with sanitizers" "cc has none"
     fi
