@@ -1,6 +1,7 @@
-/* The C of the program b2, which is linked with a text of dist/: its main, and what the standard library of Rattle takes
- * from C beyond the C library. The toolchain says what each function must do (rattle/libc/src/heap.rt,
- * rattle/os/src/c.rt). None of this is proved. tests/program.c tests each function.
+/* The C of the program b2, which is linked with a text of dist/: its main, and what the standard
+ * library of Rattle takes from C beyond the C library. The toolchain says what each function must
+ * do (rattle/libc/src/heap.rt, rattle/os/src/c.rt). None of this is proved. tests/program.c tests
+ * each function.
  *
  * MAIN is the main of the text, as main_0_1_0_v3. */
 #include <errno.h>
@@ -24,8 +25,8 @@ int main(int argc, char **argv) {
     return MAIN();
 }
 
-/* Copies argument i to the start of these `size` bytes and returns its length. Returns -1 if there is no such
- * argument, and -2 if it does not fit; the bytes are full then. */
+/* Copies argument i to the start of these `size` bytes and returns its length. Returns -1 if there
+ * is no such argument, and -2 if it does not fit; the bytes are full then. */
 ssize_t rattle_arg(size_t i, char *bytes, size_t size) {
     size_t length;
 
@@ -54,9 +55,12 @@ static struct tried tried(void *place) {
     return (struct tried){place != NULL, place ? place : &nothing};
 }
 
-struct tried rattle_alloc(size_t size, size_t alignment) { return tried(malloc(size ? size : alignment)); }
+struct tried rattle_alloc(size_t size, size_t alignment) {
+    return tried(malloc(size ? size : alignment));
+}
 
-/* The first `kept` bytes stay as they are, as do all that fit. If there is no memory, the block stays. */
+/* The first `kept` bytes stay as they are, as do all that fit. If there is no memory, the block
+ * stays. */
 struct tried rattle_realloc(void *place, size_t kept, size_t size, size_t alignment) {
     (void)kept;
     return tried(realloc(place, size ? size : alignment));
@@ -64,8 +68,8 @@ struct tried rattle_realloc(void *place, size_t kept, size_t size, size_t alignm
 
 void rattle_dealloc(void *place) { free(place); }
 
-/* ---- What the text takes from a new glibc, for an older one (2.32 and before) and for other C libraries. HAS_LEAVES
- * and PROCESSOR, a header with a processor that is made up, are for tests. */
+/* ---- What the text takes from a new glibc, for an older one (2.32 and before) and for other C
+ * libraries. HAS_LEAVES and PROCESSOR, a header with a processor that is made up, are for tests. */
 
 #ifdef __GLIBC__
 #ifndef HAS_LEAVES
@@ -104,7 +108,8 @@ const struct leaf *__x86_get_cpuid_feature_leaf(unsigned number) {
     bool saves_avx;
 
     memset(&leaf, 0, sizeof leaf);
-    if (number > 2 || !__get_cpuid_count(numbers[number], 0, it, it + 1, it + 2, it + 3)) return &leaf;
+    if (number > 2 || !__get_cpuid_count(numbers[number], 0, it, it + 1, it + 2, it + 3))
+        return &leaf;
     memcpy(leaf.active, leaf.told, sizeof leaf.active);
     saves_avx = __get_cpuid(1, &a, &b, &c, &d) && c & OSXSAVE && (saved_registers() & 6) == 6;
     if (!saves_avx && number == 0) leaf.active[2] &= ~(unsigned)(FMA | AVX | F16C);

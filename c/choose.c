@@ -1,19 +1,21 @@
-/* The functions blake2_c_* of the library, by their own names. The texts of dist/ have the code: on x86-64 twice, as
- * it was built for x86-64-v2 and for x86-64-v3 processors, and on 64-bit ARM once. A call goes to the one that this
- * processor and this system run. None of this is proved: it is what a call passes on its way to the proved code.
+/* The functions blake2_c_* of the library, by their own names. The texts of dist/ have the code: on
+ * x86-64 twice, as it was built for x86-64-v2 and for x86-64-v3 processors, and on 64-bit ARM once.
+ * A call goes to the one that this processor and this system run. None of this is proved: it is
+ * what a call passes on its way to the proved code.
  *
- * On x86-64 the first call looks at the processor and keeps the answer in one byte, which never changes after that:
- * threads that look at the same time write the same value. It needs no constructor, so calls from another constructor
- * work too, and no lock, no environment variable and no function pointer in memory. A later call reads the byte and
- * jumps: arguments, stack and return address stay as they are, whatever a function takes. Both builds have the same
- * states, so a state may go from one to the other. On a processor below x86-64-v2 the first call prints a line on
+ * On x86-64 the first call looks at the processor and keeps the answer in one byte, which never
+ * changes after that: threads that look at the same time write the same value. It needs no
+ * constructor, so calls from another constructor work too, and no lock, no environment variable and
+ * no function pointer in memory. A later call reads the byte and jumps: arguments, stack and return
+ * address stay as they are, whatever a function takes. Both builds have the same states, so a state
+ * may go from one to the other. On a processor below x86-64-v2 the first call prints a line on
  * standard error and aborts.
  *
  * CHOOSE_ONE names a build, as v3: then the library holds that one only, and each call jumps to it.
- * CHOOSE_SHOWN is defined for the shared library. Elsewhere the names are hidden, so that a shared library that links
- * the archive does not export them as its own.
- * CHOOSE_TEST is for tests: 2 or 3 takes that build, whatever the processor, and 0 the one or the other from call to
- * call, without a rule. So are CHOOSE_PROCESSOR, a header with a processor that is made up, and CHOOSE_FUNCTIONS, a
+ * CHOOSE_SHOWN is defined for the shared library. Elsewhere the names are hidden, so that a shared
+ * library that links the archive does not export them as its own. CHOOSE_TEST is for tests: 2 or 3
+ * takes that build, whatever the processor, and 0 the one or the other from call to call, without a
+ * rule. So are CHOOSE_PROCESSOR, a header with a processor that is made up, and CHOOSE_FUNCTIONS, a
  * header with other functions. */
 #include "blake2_c.h"
 
@@ -40,8 +42,10 @@
 /* The name of a function in the text of a build: the version and the build follow it. */
 #define TEXT_OF(words) #words
 #define TEXT(words) TEXT_OF(words)
-#define IN_BUILD(name, build)                                                                     \
-    name "_" TEXT(VULFSJOR_VERSION_MAJOR) "_" TEXT(VULFSJOR_VERSION_MINOR) "_" TEXT(VULFSJOR_VERSION_PATCH) "_" build
+#define VERSION_IN_NAMES                                          \
+    TEXT(VULFSJOR_VERSION_MAJOR) "_" TEXT(VULFSJOR_VERSION_MINOR) \
+    "_" TEXT(VULFSJOR_VERSION_PATCH)
+#define IN_BUILD(name, build) name "_" VERSION_IN_NAMES "_" build
 
 #ifdef CHOOSE_ONE
 #ifdef __aarch64__
@@ -91,14 +95,16 @@ static unsigned saved_registers(void) {
 
 /* What CPUID says: leaf 1 in ecx, leaf 7 in ebx, leaf 0x80000001 in ecx. */
 enum {
-    SSE3 = 1 << 0, SSSE3 = 1 << 9, FMA = 1 << 12, CMPXCHG16B = 1 << 13, SSE4_1 = 1 << 19, SSE4_2 = 1 << 20,
-    MOVBE = 1 << 22, POPCNT = 1 << 23, OSXSAVE = 1 << 27, AVX = 1 << 28, F16C = 1 << 29,
+    SSE3 = 1 << 0, SSSE3 = 1 << 9, FMA = 1 << 12, CMPXCHG16B = 1 << 13, SSE4_1 = 1 << 19,
+    SSE4_2 = 1 << 20, MOVBE = 1 << 22, POPCNT = 1 << 23, OSXSAVE = 1 << 27, AVX = 1 << 28,
+    F16C = 1 << 29,
     BMI1 = 1 << 3, AVX2 = 1 << 5, BMI2 = 1 << 8,
     LAHF = 1 << 0, LZCNT = 1 << 5
 };
 
-/* The levels are those of the x86-64 psABI, 3.1.1: the highest one that the processor has completely, 3 or 2, or 0 if
- * it is below 2. Level 3 also requires that the system saves the registers of SSE and AVX (XCR0, bits 1 and 2). */
+/* The levels are those of the x86-64 psABI, 3.1.1: the highest one that the processor has
+ * completely, 3 or 2, or 0 if it is below 2. Level 3 also requires that the system saves the
+ * registers of SSE and AVX (XCR0, bits 1 and 2). */
 static unsigned char level_here(void) {
     const unsigned v2 = SSE3 | SSSE3 | CMPXCHG16B | SSE4_1 | SSE4_2 | POPCNT;
     const unsigned v3 = FMA | MOVBE | OSXSAVE | AVX | F16C, v3_seventh = BMI1 | AVX2 | BMI2;
@@ -107,11 +113,14 @@ static unsigned char level_here(void) {
     if (!__get_cpuid(1, &a, &b, &first, &d) || (first & v2) != v2) return 0;
     if (!__get_cpuid(0x80000001u, &a, &b, &extended, &d) || !(extended & LAHF)) return 0;
     if ((first & v3) != v3 || !(extended & LZCNT)) return 2;
-    if (!__get_cpuid_count(7, 0, &a, &seventh, &b, &d) || (seventh & v3_seventh) != v3_seventh) return 2;
+    if (!__get_cpuid_count(7, 0, &a, &seventh, &b, &d) || (seventh & v3_seventh) != v3_seventh)
+        return 2;
     return (saved_registers() & 6) == 6 ? 3 : 2;
 }
 
-static void keep(unsigned char level) { __atomic_store_n(&blake2_c_level, level, __ATOMIC_RELAXED); }
+static void keep(unsigned char level) {
+    __atomic_store_n(&blake2_c_level, level, __ATOMIC_RELAXED);
+}
 #elif CHOOSE_TEST
 static unsigned char level_here(void) { return CHOOSE_TEST; }
 static void keep(unsigned char level) { blake2_c_level = level; }
@@ -123,7 +132,8 @@ static void keep(unsigned char level) { (void)level; }
 
 /* Looks for the level, keeps it and returns it. */
 __attribute__((used, visibility("hidden"))) unsigned char blake2_c_find(void) {
-    static const char refusal[] = "blake2_c: this processor is below x86-64-v2, which the library needs\n";
+    static const char refusal[] =
+        "blake2_c: this processor is below x86-64-v2, which the library needs\n";
     unsigned char level = level_here();
 
     if (!level) {
@@ -135,7 +145,8 @@ __attribute__((used, visibility("hidden"))) unsigned char blake2_c_find(void) {
 }
 #endif
 
-/* The functions that blake2_c.h declares: c/join.sh holds this list to the header and to the texts. */
+/* The functions that blake2_c.h declares: c/join.sh holds this list to the header and to the
+ * texts. */
 #ifdef CHOOSE_FUNCTIONS
 #include CHOOSE_FUNCTIONS
 #else

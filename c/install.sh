@@ -6,25 +6,30 @@
 #
 #   FOLDER/lib/libblake2_c.a                  the static library
 #   FOLDER/lib/libblake2_c.so.VERSION         the shared one, with the links .so.0 and .so
-#   FOLDER/lib/libblake2_c-libb2.a            the static one, with libb2's functions by their own names
-#   FOLDER/lib/libblake2_c-threads.a          roots of trees by several threads, which needs one of the first two
-#   FOLDER/lib/pkgconfig/                     blake2_c.pc, blake2_c-static.pc and blake2_c-threads.pc
-#   FOLDER/lib/blake2_c-libb2/                libb2.a and pkgconfig/libb2.pc, for what looks for libb2
+#   FOLDER/lib/libblake2_c-libb2.a            the static one, with libb2's functions by their own
+#                                             names
+#   FOLDER/lib/libblake2_c-threads.a          roots of trees by several threads, which needs one of
+#                                             the first two
+#   FOLDER/lib/pkgconfig/                     blake2_c.pc, blake2_c-static.pc, blake2_c-threads.pc
+#   FOLDER/lib/blake2_c-libb2/                libb2.a and pkgconfig/libb2.pc, for what looks for
+#                                             libb2
 #   FOLDER/include/blake2_c.h                 the functions
 #   FOLDER/include/blake2_threads.h           those of libblake2_c-threads.a
 #   FOLDER/include/blake2_c-libb2/blake2.h    the same by the names of libb2
 #
-# It assembles what dist/ has for the machine that the C compiler (CC, or else cc) compiles for, Linux on x86-64 or
-# aarch64, in a second or two. Beside the compiler it needs its binutils. With --prove it proves the crates and takes
-# what they compile to, and not dist/: that needs the toolchain's command rt too, and the first time some minutes. With
-# --from it takes what `tools/dist.sh make` has left in the folder DIST.
+# It assembles what dist/ has for the machine that the C compiler (CC, or else cc) compiles for,
+# Linux on x86-64 or aarch64, in a second or two. Beside the compiler it needs its binutils. With
+# --prove it proves the crates and takes what they compile to, and not dist/: that needs the
+# toolchain's command rt too, and the first time some minutes. With --from it takes what
+# `tools/dist.sh make` has left in the folder DIST.
 #
-# On x86-64 the library holds the code for x86-64-v2 and for x86-64-v3 processors, and chooses as it runs. With --cpu it
-# holds the code for CPU alone, x86-64-v2 or x86-64-v3, and runs on no lesser one.
+# On x86-64 the library holds the code for x86-64-v2 and for x86-64-v3 processors, and chooses as it
+# runs. With --cpu it holds the code for CPU alone, x86-64-v2 or x86-64-v3, and runs on no lesser
+# one.
 #
-# LIBDIR takes the place of FOLDER/lib; a path without a slash before it is below FOLDER. Where DESTDIR is
-# set, all files go below it. --uninstall removes the files that are named above, with the same LIBDIR and
-# DESTDIR.
+# LIBDIR takes the place of FOLDER/lib; a path without a slash before it is below FOLDER. Where
+# DESTDIR is set, all files go below it. --uninstall removes the files that are named above, with
+# the same LIBDIR and DESTDIR.
 set -eu
 here=$(dirname "$(readlink -f "$0")")
 top=$(dirname "$here")
@@ -61,7 +66,8 @@ version=$(sed -n 's/^#define VULFSJOR_VERSION "\(.*\)"$/\1/p' "$here/include/bla
 files=("$libdir/libblake2_c.a" "$libdir/libblake2_c.so.$version" "$libdir/libblake2_c.so.0"
     "$libdir/libblake2_c.so" "$libdir/libblake2_c-libb2.a" "$libdir/pkgconfig/blake2_c.pc"
     "$libdir/pkgconfig/blake2_c-static.pc" "$beside/libb2.a" "$beside/pkgconfig/libb2.pc"
-    "$libdir/libblake2_c-threads.a" "$libdir/pkgconfig/blake2_c-threads.pc" "$include/blake2_threads.h"
+    "$libdir/libblake2_c-threads.a" "$libdir/pkgconfig/blake2_c-threads.pc" \
+        "$include/blake2_threads.h"
     "$include/blake2_c.h" "$include/blake2_c-libb2/blake2.h")
 folders=("$beside/pkgconfig" "$beside" "$include/blake2_c-libb2")
 if [ "$uninstall" = yes ]; then
@@ -78,7 +84,8 @@ fail() {
     exit 1
 }
 
-command -v "$cc" >/dev/null || fail "$cc is not on the PATH: a C compiler is needed, and its binutils"
+command -v "$cc" >/dev/null ||
+    fail "$cc is not on the PATH: a C compiler is needed, and its binutils"
 # The texts for the machine that it compiles for.
 machine=$("$cc" -dumpmachine) texts=()
 case $machine in
@@ -96,7 +103,8 @@ if [ "$prove" = yes ]; then
     dist=$work/dist
     "$top/tools/dist.sh" make "$dist" "${texts[@]}"
 elif [ "$dist" = "$top/dist" ]; then
-    "$top/tools/dist.sh" current || fail "dist/ was not made from these sources: install with --prove"
+    "$top/tools/dist.sh" current ||
+        fail "dist/ was not made from these sources: install with --prove"
 fi
 "$here/join.sh" "$work/lib" "${texts[@]/#/$dist/}"
 
@@ -108,8 +116,8 @@ ln -sf ../libblake2_c-libb2.a "$root$beside/libb2.a"
 install -m 644 "$here/include/blake2_c.h" "$here/include/blake2_threads.h" "$root$include/"
 install -m 644 "$here/include/libb2/blake2.h" "$root$include/blake2_c-libb2/"
 
-# Writes a file for pkg-config: FILE NAME VERSION WHAT HEADERS WORDS. It finds the folders from where it stands, so
-# that all may be moved together.
+# Writes a file for pkg-config: FILE NAME VERSION WHAT HEADERS WORDS. It finds the folders from
+# where it stands, so that all may be moved together.
 write_words() {
     local from
     from=$(dirname "$1")
@@ -126,11 +134,13 @@ Cflags: -I$5
 Libs: $6
 END
 }
-write_words "$libdir/pkgconfig/blake2_c.pc" blake2_c "$version" "" '${includedir}' '-L${libdir} -lblake2_c'
-write_words "$libdir/pkgconfig/blake2_c-static.pc" blake2_c-static "$version" ", linked statically" '${includedir}' \
-    '${libdir}/libblake2_c.a'
-write_words "$libdir/pkgconfig/blake2_c-threads.pc" blake2_c-threads "$version" ", with trees by several threads" \
-    '${includedir}' '-L${libdir} -l:libblake2_c-threads.a -l:libblake2_c.a -pthread'
+write_words "$libdir/pkgconfig/blake2_c.pc" blake2_c "$version" "" '${includedir}' \
+    '-L${libdir} -lblake2_c'
+write_words "$libdir/pkgconfig/blake2_c-static.pc" blake2_c-static "$version" \
+    ", linked statically" '${includedir}' '${libdir}/libblake2_c.a'
+write_words "$libdir/pkgconfig/blake2_c-threads.pc" blake2_c-threads "$version" \
+    ", with trees by several threads" '${includedir}' \
+    '-L${libdir} -l:libblake2_c-threads.a -l:libblake2_c.a -pthread'
 write_words "$beside/pkgconfig/libb2.pc" libb2 0.98.1 ", in the place of libb2" '${libb2dir}' \
     '-L${libdir}/blake2_c-libb2 -lb2'
 echo "install.sh: installed under $root$folder" >&2

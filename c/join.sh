@@ -1,17 +1,19 @@
 #!/usr/bin/env bash
 # Makes the libraries that callers link from the assembly texts of dist/:
 #
-#   c/join.sh [--test 2|3|0] FOLDER V2.s V3.s   both builds for x86-64, one of which is chosen at run time
+#   c/join.sh [--test 2|3|0] FOLDER V2.s V3.s   both builds for x86-64, one of which is chosen at
+#                                               run time
 #   c/join.sh FOLDER ONE.s                      one build, for x86-64 or aarch64
 #
 #   FOLDER/libblake2_c.a
 #   FOLDER/libblake2_c.so.VERSION, with the links libblake2_c.so.0 and libblake2_c.so
 #   FOLDER/libblake2_c-libb2.a               the first, with libb2's functions by their own names
-#   FOLDER/libblake2_c-threads.a             roots of trees by several threads, over either of the first two
+#   FOLDER/libblake2_c-threads.a             roots of trees by several threads, over either of the
+#                                            first two
 #
-# The functions are those that include/blake2_c.h declares: a text, or choose.c, with one more or one less is refused.
-# choose.c says how a call goes, and what --test is. It needs a C compiler (CC, or cc if that is not set), which may be
-# one for another machine, and its binutils.
+# The functions are those that include/blake2_c.h declares: a text, or choose.c, with one more or
+# one less is refused. choose.c says how a call goes, and what --test is. It needs a C compiler (CC,
+# or cc if that is not set), which may be one for another machine, and its binutils.
 set -eu
 here=$(dirname "$(readlink -f "$0")")
 cc=${CC:-cc}
@@ -44,7 +46,8 @@ are_functions() {
     }
 }
 
-grep -o 'blake2_c_[a-z0-9_]* *(' "$here/include/blake2_c.h" | tr -d ' (' | LC_ALL=C sort -u >"$work/names"
+grep -o 'blake2_c_[a-z0-9_]* *(' "$here/include/blake2_c.h" | tr -d ' (' |
+    LC_ALL=C sort -u >"$work/names"
 sed -n 's/^CALL("\(.*\)")$/\1/p' "$here/choose.c" | are_functions choose.c
 objects=()
 for text; do
@@ -67,8 +70,10 @@ archive "$folder/libblake2_c.a" "$work/choose.o" "${objects[@]}"
 archive "$folder/libblake2_c-libb2.a" "$work/libb2.o" "$work/choose.o" "${objects[@]}"
 archive "$folder/libblake2_c-threads.a" "$work/threads.o"
 
-{ echo 'BLAKE2_C_0 {' && echo 'global:' && sed 's/$/;/' "$work/names" && echo 'local: *; };'; } >"$work/versions"
-"$cc" -shared -o "$folder/libblake2_c.so.$version" "$work/shown.o" "${objects[@]}" -Wl,-soname,libblake2_c.so.0 \
-    -Wl,--version-script="$work/versions" -Wl,-z,defs -Wl,-z,relro -Wl,-z,now -Wl,-z,noexecstack
+{ echo 'BLAKE2_C_0 {' && echo 'global:' && sed 's/$/;/' "$work/names" &&
+    echo 'local: *; };'; } >"$work/versions"
+"$cc" -shared -o "$folder/libblake2_c.so.$version" "$work/shown.o" "${objects[@]}" \
+    -Wl,-soname,libblake2_c.so.0 -Wl,--version-script="$work/versions" -Wl,-z,defs -Wl,-z,relro \
+    -Wl,-z,now -Wl,-z,noexecstack
 ln -sf "libblake2_c.so.$version" "$folder/libblake2_c.so.0"
 ln -sf libblake2_c.so.0 "$folder/libblake2_c.so"

@@ -3,8 +3,9 @@
 #
 #   c/run_tests.sh [--cpu CPU] [--from DIST] [--only PART]
 #
-# It installs the library in a folder of its own (c/install.sh, which says what all but the last word are), from dist/
-# where no DIST is named. PART is one of the parts below, each of which is a file of tests/:
+# It installs the library in a folder of its own (c/install.sh, which says what all but the last
+# word are), from dist/ where no DIST is named. PART is one of the parts below, each of which is a
+# file of tests/:
 #
 #   languages   C, C++, the examples of c/README.md
 #   choosing    the choice between the two builds, and what the libraries show
@@ -12,12 +13,13 @@
 #   libb2       libb2's functions by their own names, and its own tests
 #   secrets     whether a branch or an address depends on a key or a message
 #   program     the C of the program b2
-#   threads     a tree in parts and by several threads, and the programs of examples/ that hash trees
+#   threads     a tree in parts and by threads, and the programs of examples/ that hash trees
 #   aarch64     the library for aarch64, by a compiler for it and an emulated processor
 #   wrappers    Rust and Python, by rust/run_tests.sh and python/run_tests.sh
 #
-# The parts go side by side, each in a folder of its own, and are shown in this order. A test whose tool is absent is
-# skipped, and a line says so. The last line counts, and the status is 0 where no test failed.
+# The parts go side by side, each in a folder of its own, and are shown in this order. A test whose
+# tool is absent is skipped, and a line says so. The last line counts, and the status is 0 where no
+# test failed.
 set -u
 here=$(dirname "$(readlink -f "$0")")
 top=$(dirname "$here")
@@ -41,7 +43,8 @@ while [ $# -gt 0 ]; do
         --from) dist=$(readlink -f "${2-}"); shift $(($# > 1 ? 2 : 1)) ;;
         --only)
             case ${2-} in
-                languages | choosing | installing | libb2 | threads | program | secrets | aarch64 | wrappers) chosen=("$2") ;;
+                languages | choosing | installing | libb2 | threads) chosen=("$2") ;;
+                program | secrets | aarch64 | wrappers) chosen=("$2") ;;
                 *) refuse ;;
             esac
             shift 2
@@ -103,7 +106,8 @@ family_words() { [ "$1" = s ] && echo -DTEST_S; }
 block_of_readme() { sed -n "/^\`\`\`$1\$/,/^\`\`\`\$/p" "$here/README.md" | sed '1d;$d'; }
 
 wanted_of_readme() {
-    python3 -c 'import hashlib; print(hashlib.blake2b(b"hello world", digest_size=32, key=b"key").hexdigest())'
+    python3 -c 'import hashlib
+print(hashlib.blake2b(b"hello world", digest_size=32, key=b"key").hexdigest())'
 }
 
 # ---- the library

@@ -1,8 +1,8 @@
 #!/usr/bin/env bash
-# Checks the script `b2` and tools/processor.sh, without proving anything: in a small repository of its
-# own, whose command `rt` is a stand-in that prints what the real one prints and leaves what it leaves, and
-# whose tools/dist.sh and C compiler are stand-ins too.
-# The last line is 'N passed, M failed', and the status is 1 where one failed.
+# Checks the script `b2` and tools/processor.sh, without proving anything: in a small repository of
+# its own, whose command `rt` is a stand-in that prints what the real one prints and leaves what it
+# leaves, and whose tools/dist.sh and C compiler are stand-ins too. The last line is 'N passed, M
+# failed', and the status is 1 where one failed.
 set -u
 top=$(dirname "$(dirname "$(readlink -f "$0")")")
 room=$(mktemp -d)
@@ -30,7 +30,8 @@ printf 'low:\nmiddle: low hex\nb2: middle low\nbeside staticlib: low\n' >"$repos
 cpu=$("$top/tools/processor.sh")
 program=$repository/out/b2-$cpu
 
-# The text for this processor, and whether dist/ was made from the sources: not where there is a file `stale`.
+# The text for this processor, and whether dist/ was made from the sources: not where there is a
+# file `stale`.
 case $cpu in
     aarch64) text=$repository/dist/aarch64/b2.s main=main_0_1_0_arm ;;
     *) text=$repository/dist/x86_64/b2-${cpu#x86-64-}.s main=main_0_1_0_${cpu#x86-64-} ;;
@@ -66,8 +67,8 @@ room=$(dirname "$(dirname "$0")")
 [ "$1" != doc ] || { echo "$room/kit/page"; exit; }
 echo "$PWD: $*" >>"$room/calls"
 work() { (cd .. && echo */out/incremental); }
-# Notes whose work the script has left by now. Where `slow` tells what is to be left, it has a second
-# to remove more, and up to a minute to remove the rest.
+# Notes whose work the script has left by now. Where `slow` tells what is to be left, it has a
+# second to remove more, and up to a minute to remove the rest.
 note_work() {
     if [ -e "$room/slow" ]; then
         sleep 1
@@ -82,7 +83,10 @@ for crate in low middle b2; do
     rm -rf "../$crate/out/rlib"
     echo "rt: chose --jobs 4 for $crate"
     echo "so far: 0 of 4 functions checked; the verdict comes last"
-    [ "$crate" != middle ] || { [ ! -e "$room/slow" ] || sleep 2; echo "so far: 2 of 4 functions checked"; }
+    if [ "$crate" = middle ]; then
+        [ ! -e "$room/slow" ] || sleep 2
+        echo "so far: 2 of 4 functions checked"
+    fi
     [ "$crate" != b2 ] || note_work
     mkdir -p "../$crate/out/incremental"
     [ "$crate" != b2 ] || break
@@ -105,7 +109,8 @@ chmod +x "$room/bin/rt"
 
 # Runs the script over the input `in`, with the stand-in on the PATH.
 b2() {
-    printf in | PATH=$room/bin:$PATH CC=$compiler "$repository/b2" "$@" >"$room/output" 2>"$room/errors"
+    printf in | PATH=$room/bin:$PATH CC=$compiler "$repository/b2" "$@" >"$room/output" \
+        2>"$room/errors"
     status=$?
 }
 compiler=compiler
@@ -169,7 +174,8 @@ b2 --install "$folder"
 holds "--install builds the program" compiles 1
 holds "and ends with 0" ends 0
 holds "and prints nothing" prints ""
-holds "and says what it installs" tells "b2: installed $folder/bin/b2 and $folder/share/man/man1/b2.1"
+holds "and says what it installs" tells \
+    "b2: installed $folder/bin/b2 and $folder/share/man/man1/b2.1"
 holds "which is the program and its page" \
     diff <(printf '%s\n' 'bin/b2 755' 'bin/other 600' 'share/man/man1/b2.1 644') <(installed)
 holds "as they are" cmp "$program" "$folder/bin/b2"
@@ -252,7 +258,8 @@ rm -rf "$repository/out" "$repository"/crates/*/out "$room/calls"
 : >"$room/stale"
 b2 sum b512
 holds "a stale dist/ is refused" ends 1
-holds "with what to do" tells "b2: dist/ was not made from these sources: tools/dist.sh make, or b2 --prove"
+holds "with what to do" tells \
+    "b2: dist/ was not made from these sources: tools/dist.sh make, or b2 --prove"
 holds "without a word on standard output" prints ""
 holds "and no proof" calls 0
 holds "and no program" stands_not "$program"
@@ -285,7 +292,8 @@ holds "nothing is built where nothing changed" calls 1
 holds "that prints nothing" prints ""
 holds "that ends with 0" ends 0
 
-for file in crates/low/src/lib.rt crates.txt crates/beside/src/new.rt crates/low/proofs/F/Answers.antt; do
+for file in crates/low/src/lib.rt crates.txt crates/beside/src/new.rt \
+    crates/low/proofs/F/Answers.antt; do
     rm -f "$room/calls"
     settle
     mkdir -p "$(dirname "$repository/$file")"
@@ -316,7 +324,8 @@ touch "$room/no library"
 echo low/out/incremental middle/out/incremental >"$room/slow"
 b2 --prove
 rm "$room/no library"
-holds "work stays while its library is not made" finds_work "low/out/incremental middle/out/incremental"
+holds "work stays while its library is not made" finds_work \
+    "low/out/incremental middle/out/incremental"
 holds "and goes with the last" stands_not "$repository/crates/middle/out/incremental"
 rm -f "$program"
 b2 --prove --keep
@@ -348,7 +357,8 @@ holds "a failed build tells the cause" tells "error: no proof of the goal"
 holds "a failed build names its log" tells "the whole log is $program.log"
 holds "a failed build leaves no program" stands_not "$program"
 holds "a failed build leaves no file" stands_not "$repository/out/begun".*
-holds "a failed build keeps the work of the crate that failed" stands "$repository/crates/b2/out/incremental"
+holds "a failed build keeps the work of the crate that failed" stands \
+    "$repository/crates/b2/out/incremental"
 rm -f "$room/turn" "$room/bin/rt"
 printf in | PATH=/usr/bin:/bin "$repository/b2" --prove >"$room/output" 2>"$room/errors"
 status=$?

@@ -1,6 +1,7 @@
 #!/usr/bin/env bash
-# Checks tools/dist.sh, without proving anything: in a small repository of its own, over a kit whose command rt, prover
-# and clang are stand-ins. The last line is 'N passed, M failed', and the status is 1 where one failed.
+# Checks tools/dist.sh, without proving anything: in a small repository of its own, over a kit whose
+# command rt, prover and clang are stand-ins. The last line is 'N passed, M failed', and the status
+# is 1 where one failed.
 set -u
 top=$(dirname "$(dirname "$(readlink -f "$0")")")
 room=$(mktemp -d)
@@ -9,7 +10,8 @@ source "$top/tools/checks.sh"
 
 show() { sed 's/^/  shown: /' "$room/shown"; }
 
-# The kit. Its prover notes its words, and runs clang as the real one does, which writes code that holds its words.
+# The kit. Its prover notes its words, and runs clang as the real one does, which writes code that
+# holds its words.
 kit=$room/kit
 mkdir -p "$kit"/{bin,rlibs} "$kit"/toolchain/{bin,lib} "$room/bin"
 echo "kit 1" >"$kit/version"
@@ -63,7 +65,8 @@ esac
 while [ "$1" != -o ]; do shift; done
 read -r line <module.bc
 [ "$end" = -fno-verbose-asm ] || exit 1
-printf '%s\n' "	.globl	f" '	.section	".text.c::g::<=64>","ax"' '"c::g::<=64>":' '	jmp	.LBB0_1' '.LBB0_1:' \
+printf '%s\n' "	.globl	f" '	.section	".text.c::g::<=64>","ax"' \
+    '"c::g::<=64>":' '	jmp	.LBB0_1' '.LBB0_1:' \
     '	callq	memcpy@PLT' '	.section	.text.f,"ax"' 'f:' '	callq	"c::g::<=64>"' '	.size	f, .-f' \
     "	.ascii	\"$line .L::f\"" >"$2"
 END
@@ -76,8 +79,8 @@ make_repository() {
     mkdir -p "$1/tools" "$1/dist"
     cp "$top"/tools/{dist.sh,kit.sh,plain_names.py,aarch64_attributes.csv,checks.sh} "$1/tools/"
     printf '# Changes\n\n## 1.2.3\n\n## 0.9.0\n' >"$1/CHANGELOG.md"
-    printf '%s\n' blake2_plain: b2_commands: "blake2_c staticlib: blake2_plain" "b2: b2_commands hex" \
-        "beside: blake2_plain" >"$1/crates.txt"
+    printf '%s\n' blake2_plain: b2_commands: "blake2_c staticlib: blake2_plain" \
+        "b2: b2_commands hex" "beside: blake2_plain" >"$1/crates.txt"
     for crate in blake2_plain b2_commands blake2_c b2 beside; do
         mkdir -p "$1/crates/$crate/src"
         echo "fn $crate() {}" >"$1/crates/$crate/src/lib.rt"
@@ -103,15 +106,17 @@ holds "make proves both" diff <(printf 'check %s\n' blake2_c b2) "$room/calls"
 holds "each file is made" [ "$(made | wc -l)" -eq 8 ]
 holds "a text is that of its crate and processor" \
     grep -qF '"blake2_c for x86_64-unknown-linux-gnu, x86-64-v3, .L::f"' "$text"
-holds "aarch64 is for each" grep -qF 'b2 for aarch64-unknown-linux-gnu, generic,' "$repository/dist/aarch64/b2.s"
+holds "aarch64 is for each" grep -qF 'b2 for aarch64-unknown-linux-gnu, generic,' \
+    "$repository/dist/aarch64/b2.s"
 holds "the module is linked" \
     grep -qx 'blake2_c for wasm64-unknown-unknown, lime1, ' "$repository/dist/wasm/blake2_c.wasm"
 wants() { [ "$(grep -c -- "$1" "$room/clang")" -eq "$2" ]; }
 holds "on aarch64 clang is told of the attributes, as it prints and as it compiles" \
-    wants "--target=aarch64.* -mllvm -forceattrs-csv-path=$repository/tools/aarch64_attributes.csv" 4
+    wants "--target=aarch64.* -mllvm -forceattrs-csv-path=$repository/tools/aarch64_attr.*\.csv" 4
 holds "the module has SIMD" wants "--target=wasm64.* -c .*-msimd128$" 1
 holds "nothing else has" wants "-msimd128" 2
-holds "names are plain, have the version and the build, and are hidden" diff - <(sed '1d;$d' "$text") <<'END'
+holds "names are plain, have the version and the build, and are hidden" diff - \
+    <(sed '1d;$d' "$text") <<'END'
 	.globl	f_1_2_3_v3
 	.hidden	f_1_2_3_v3
 	.section	.text.c..g..64_1_2_3_v3,"ax"
@@ -147,9 +152,11 @@ touch "$repository/crates/b2_commands/out/rlib/stamp"
 dist check
 holds "and where rt check has left a stamp" diff <(echo check b2) "$room/calls"
 dist make "$room/some" x86_64/b2-v2.s
-holds "one file in another folder" diff <(cd "$room/some" && find . -type f) <(echo ./x86_64/b2-v2.s)
+holds "one file in another folder" diff <(cd "$room/some" && find . -type f) \
+    <(echo ./x86_64/b2-v2.s)
 holds "it is the same" cmp "$room/some/x86_64/b2-v2.s" "$repository/dist/x86_64/b2-v2.s"
-(repository=$room/elsewhere && make_repository "$repository" && dist make && made >"$room/made elsewhere")
+(repository=$room/elsewhere && make_repository "$repository" && dist make &&
+    made >"$room/made elsewhere")
 holds "another place makes the same" diff "$room/made" "$room/made elsewhere"
 
 : >"$room/loud"
@@ -204,7 +211,8 @@ sed -i '$d' "$repository/crates/blake2_plain/src/lib.rt"
 echo "kit 2" >"$kit/version"
 dist check
 holds "another kit compares hashes" last "2 passed, 0 failed, 7 skipped"
-holds "and says so" says "skipped: whether dist/ is what the proofs build: it was made with another toolchain, kit 1"
+holds "and says so" says \
+    "skipped: whether dist/ is what the proofs build: it was made with another toolchain, kit 1"
 mv "$room/bin/rt" "$room/rt"
 PATH=/usr/bin:/bin dist check
 holds "no kit does so too" last "2 passed, 0 failed, 7 skipped"

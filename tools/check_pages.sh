@@ -1,20 +1,23 @@
 #!/usr/bin/env bash
-# Compares the pages with the sources: tools/check_calling.py those that quote callers and contracts,
-# tools/check_docs.py the names and numbers in the pages, and tools/check_specification.py the program with one
-# that was written from docs/SPECIFICATION.md only. tools/check_style.py looks for phrases that the pages avoid, and
-# tools/manual.py compares the man page with docs/PROGRAM.md. tools/pictures.py compares the pictures of docs/.
-# At the end it looks for symbolic links in the repository, which the toolchain refuses.
+# Compares the pages with the sources: tools/check_calling.py those that quote callers and
+# contracts, tools/check_docs.py the names and numbers in the pages, and
+# tools/check_specification.py the program with one that was written from docs/SPECIFICATION.md
+# only. tools/check_style.py looks for phrases that the pages avoid, and tools/manual.py compares
+# the man page with docs/PROGRAM.md. tools/pictures.py compares the pictures of docs/. At the end it
+# looks for symbolic links in the repository, which the toolchain refuses.
 #
 # usage: tools/check_pages.sh [PROGRAM]
 #
-# PROGRAM is crates/b2/out/b2 where it is left out, which `rt ci` builds. The scripts are skipped where there is no
-# python3, the last of them where there is no such program, and the links where there is no git repository; a line says
-# so. The last line counts, and the status is 1 where one failed.
+# PROGRAM is crates/b2/out/b2 where it is left out, which `rt ci` builds. The scripts are skipped
+# where there is no python3, the last of them where there is no such program, and the links where
+# there is no git repository; a line says so. The last line counts, and the status is 1 where one
+# failed.
 set -u
 tools=$(dirname "$(readlink -f "$0")")
 program=${1:-$(dirname "$tools")/crates/b2/out/b2}
 passed=0 failed=0 skipped=0
-for script in check_calling.py check_docs.py check_style.py manual.py pictures.py check_specification.py; do
+for script in check_calling.py check_docs.py check_style.py manual.py pictures.py \
+    check_specification.py; do
     given=()
     [[ $script != @(manual|pictures).py ]] || given=(--check)
     [ "$script" != check_specification.py ] || given=(--program "$program")

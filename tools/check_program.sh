@@ -1,14 +1,15 @@
 #!/usr/bin/env bash
-# Runs the program b2 as a shell does, and checks what no proof sees of `main`: that it hands on every
-# argument and the three streams, and ends with the status that the run answers. Then it holds each command
-# to the memory that docs/PROGRAM.md gives it, and sees by a count of instructions that `tree` hashes four leaves at
-# once.
+# Runs the program b2 as a shell does, and checks what no proof sees of `main`: that it hands on
+# every argument and the three streams, and ends with the status that the run answers. Then it holds
+# each command to the memory that docs/PROGRAM.md gives it, and sees by a count of instructions that
+# `tree` hashes four leaves at once.
 #
 # usage: tools/check_program.sh [PROGRAM]
 #
-# PROGRAM is crates/b2/out/b2 where it is left out, which `rt ci` builds. Each check that fails is told
-# on standard error. valgrind counts the instructions: where it is absent these checks are skipped, each with a line.
-# The last line is 'N passed, M failed, K skipped', and the status is 1 where one failed.
+# PROGRAM is crates/b2/out/b2 where it is left out, which `rt ci` builds. Each check that fails is
+# told on standard error. valgrind counts the instructions: where it is absent these checks are
+# skipped, each with a line. The last line is 'N passed, M failed, K skipped', and the status is 1
+# where one failed.
 set -u
 top=$(dirname "$(dirname "$(readlink -f "$0")")")
 program=$(readlink -f "${1:-$top/crates/b2/out/b2}")
@@ -23,11 +24,12 @@ passed=0
 failed=0
 skipped=0
 
-# Counts a check of this name: the status, the output and the errors that the run left, against those
-# that are wanted. Standard error stays empty in every run.
+# Counts a check of this name: the status, the output and the errors that the run left, against
+# those that are wanted. Standard error stays empty in every run.
 count() {
     local name=$1 status=$2 wanted_status=$3
-    if [ "$status" = "$wanted_status" ] && cmp -s "$room/output" "$room/wanted" && [ ! -s "$room/errors" ]; then
+    if [ "$status" = "$wanted_status" ] && cmp -s "$room/output" "$room/wanted" &&
+        [ ! -s "$room/errors" ]; then
         passed=$((passed + 1))
         return
     fi
@@ -65,9 +67,8 @@ says() {
     over "" "$@"
 }
 
-# Checks that a run, whose status and output are told, ended with this status and printed this line, or
-# nothing where LINE is empty.
-# usage: ended NAME STATUS WANTED LINE
+# Checks that a run, whose status and output are told, ended with this status and printed this line,
+# or nothing where LINE is empty. usage: ended NAME STATUS WANTED LINE
 ended() {
     printf '%b' "${4:+$4\n}" >"$room/wanted"
     count "$1" "$2" "$3"
@@ -177,7 +178,8 @@ ended "b2 sum b512 foo, its input closed" "$?" 2 "b2: wrong words"
 
 # An output that takes nothing: a full one, and a closed one. Nothing more is printed.
 : >"$room/output"
-for given in "sum b512" "script b512" "steps s256" "tree b512 4" "witness b512 61 62" "sum" "add"; do
+for given in "sum b512" "script b512" "steps s256" "tree b512 4" "witness b512 61 62" "sum" "add"; \
+    do
     # shellcheck disable=SC2086
     printf 'f 0\n' | "$program" $given >/dev/full 2>"$room/errors"
     ended "b2 $given, its output full" "$?" 1 ""
@@ -197,11 +199,13 @@ ended "b2 of no text, its output full" "$status" 1 ""
 
 # ---- Memory, by limits of address space.
 
-# Runs the program in so many KiB, over the file `input`. The shell sets the limit in a process of its own.
+# Runs the program in so many KiB, over the file `input`. The shell sets the limit in a process of
+# its own.
 run_in() {
     local kib=$1
     shift
-    sh -c 'ulimit -v "$0" && exec "$@"' "$kib" "$program" "$@" <"$room/input" >"$room/output" 2>"$room/errors"
+    sh -c 'ulimit -v "$0" && exec "$@"' "$kib" "$program" "$@" <"$room/input" >"$room/output" \
+        2>"$room/errors"
 }
 
 # Whether these words, which are wrong ones, are told in so many KiB.
@@ -210,8 +214,8 @@ is_told_in() {
     [ $? -eq 2 ] && [ "$(cat "$room/output")" = "b2: wrong words" ]
 }
 
-# The fewest KiB in which the program tells that these words are wrong, for which it keeps its arguments alone: fewer
-# than 16 too many, and no more than 64 MiB.
+# The fewest KiB in which the program tells that these words are wrong, for which it keeps its
+# arguments alone: fewer than 16 too many, and no more than 64 MiB.
 least_for() {
     local low=0 high=65536 middle
     is_told_in "$high" "$@" || return 1
@@ -222,14 +226,15 @@ least_for() {
     echo "$high"
 }
 
-# Checks a run in so many KiB beyond `least`, over the file `input`: wants STATUS, and what the file `wanted` has.
-# usage: ends_in KIB STATUS WORDS..
+# Checks a run in so many KiB beyond `least`, over the file `input`: wants STATUS, and what the file
+# `wanted` has. usage: ends_in KIB STATUS WORDS..
 ends_in() {
     local kib=$1 wanted_status=$2 status
     shift 2
     run_in $((least + kib)) "$@"
     status=$?
-    count "b2 $1 $2${3:+ ${3:0:20}} (in $kib KiB, over $(stat -c %s "$room/input") bytes)" "$status" "$wanted_status"
+    count "b2 $1 $2${3:+ ${3:0:20}} (in $kib KiB, over $(stat -c %s "$room/input") bytes)" \
+        "$status" "$wanted_status"
 }
 
 # Checks that a run has room, and prints this line, or what the file `wanted` has where LINE is -.
@@ -256,8 +261,8 @@ take_zeros() {
     truncate -s "$1" "$room/input"
 }
 
-# A fixed amount for `sum`. For `tree` a piece of about 64 KiB, or of 17 leaves where these are more, or of 13, 9 or 5
-# where those are more than 16 MiB, or of 64 KiB again where five leaves are.
+# A fixed amount for `sum`. For `tree` a piece of about 64 KiB, or of 17 leaves where these are
+# more, or of 13, 9 or 5 where those are more than 16 MiB, or of 64 KiB again where five leaves are.
 check_memory_of_streams() {
     take_zeros $((64 << 20))
     has_room 64 "$zeros_64m" sum b512
@@ -278,8 +283,8 @@ transcript_of_zeros() {
     echo "e $1 1 00$zeros"
 }
 
-# The input, and the transcript, which has about as many bytes. The input is read into a list, which doubles as it
-# grows: so one byte more than a power of two may take twice as much.
+# The input, and the transcript, which has about as many bytes. The input is read into a list, which
+# doubles as it grows: so one byte more than a power of two may take twice as much.
 check_memory_of_steps() {
     take_zeros $((4 << 20))
     transcript_of_zeros $((4 << 20)) >"$room/wanted"
@@ -290,8 +295,8 @@ check_memory_of_steps() {
     has_room $((14 << 10)) - steps b512
 }
 
-# The input, its calls, the state of each slot and all digests: half of an update's text for its bytes, 96 bytes for
-# each call, 64 more for a digest, and 352 for a state, with a key 480.
+# The input, its calls, the state of each slot and all digests: half of an update's text for its
+# bytes, 96 bytes for each call, 64 more for a digest, and 352 for a state, with a key 480.
 check_memory_of_scripts() {
     local calls=65535
     yes "u 0 $(printf '%04090d' 0)" | head -n 1024 | sed '$s/.*/f 0/' >"$room/input"
@@ -350,7 +355,8 @@ check_memory_of_witness
 
 # ---- Four leaves at once, by a count of instructions.
 
-# How many of 100 instructions of the run that was counted are those of functions that hash several messages at once.
+# How many of 100 instructions of the run that was counted are those of functions that hash several
+# messages at once.
 share_at_once() {
     awk '/^fn=/ { is_one = /^fn=blake2_words(::|[.][.])many/ }
         /^calls=/ { getline; next }
@@ -358,11 +364,11 @@ share_at_once() {
         END { print all ? int(100 * at_once / all) : 0 }' "$room/instructions"
 }
 
-# Checks a run of `tree` over so many zeros, of whose instructions LEAST in 100 are to be those that hash leaves at
-# once: no root tells whether they were.
-# usage: hashes_at_once LEAST BYTES ROOT LEAF
+# Checks a run of `tree` over so many zeros, of whose instructions LEAST in 100 are to be those that
+# hash leaves at once: no root tells whether they were. usage: hashes_at_once LEAST BYTES ROOT LEAF
 hashes_at_once() {
-    local least=$1 leaf=$4 name="b2 tree b512 $4, of whose instructions $1 in 100 hash leaves at once" share status
+    local least=$1 leaf=$4 \
+        name="b2 tree b512 $4, of whose instructions $1 in 100 hash leaves at once" share status
     if ! command -v valgrind >/dev/null; then
         echo "skipped: $name (no valgrind)"
         skipped=$((skipped + 1))
@@ -370,8 +376,9 @@ hashes_at_once() {
     fi
     take_zeros "$2"
     rm -f "$room/instructions"
-    valgrind --tool=callgrind --compress-strings=no --compress-pos=no --callgrind-out-file="$room/instructions" \
-        --log-file="$room/log" "$program" tree b512 "$leaf" <"$room/input" >"$room/output" 2>"$room/errors"
+    valgrind --tool=callgrind --compress-strings=no --compress-pos=no \
+        --callgrind-out-file="$room/instructions" --log-file="$room/log" "$program" tree b512 \
+        "$leaf" <"$room/input" >"$room/output" 2>"$room/errors"
     status=$?
     share=0
     [ ! -s "$room/instructions" ] || share=$(share_at_once)

@@ -1,7 +1,7 @@
 #!/usr/bin/env bash
-# Checks the script `test`, without testing anything else: in a small repository of its own, whose parts are stand-ins
-# that note their call and print what the file `prints` says. The last line is 'N passed, M failed', and the status is
-# 1 if one failed.
+# Checks the script `test`, without testing anything else: in a small repository of its own, whose
+# parts are stand-ins that note their call and print what the file `prints` says. The last line is
+# 'N passed, M failed', and the status is 1 if one failed.
 set -u
 top=$(dirname "$(dirname "$(readlink -f "$0")")")
 room=$(mktemp -d)
@@ -14,7 +14,9 @@ show() { sed 's/^/  output: /' "$room/output" && sed 's/^/  errors: /' "$room/er
 repository=$room/a\ repository
 mkdir -p "$repository"/{tools/key_scan,c,js,dist/x86_64,dist/aarch64,crates/b2/out} "$room/bin"
 cp "$top/test" "$repository/"
-for text in x86_64/b2-v2.s x86_64/b2-v3.s aarch64/b2.s; do printf '\t.globl\tmain_%s\n' "${text##*[-/]}" >"$repository/dist/$text"; done
+for text in x86_64/b2-v2.s x86_64/b2-v3.s aarch64/b2.s; do
+    printf '\t.globl\tmain_%s\n' "${text##*[-/]}" >"$repository/dist/$text"
+done
 cat >"$room/part" <<END
 #!/usr/bin/env bash
 name=\$(basename "\$(dirname "\$(readlink -f "\$0")")")/\$(basename "\$0")
@@ -22,24 +24,32 @@ echo "\$name \$(printf '<%s>' "\$@")" | sed "s|</.*/\\(b2[^>]*\\)>|<\\1>|" >>"$r
 grep -q "^== .*\${name#bin/}\( \|\$\)" "$room/errors" || echo "\$name" >>"$room/unnamed"
 [ "\$*" != current ] || { [ ! -e "$room/stale" ]; exit; }
 while read -r part line; do
-    [ "\$part" != "\$name" ] || { [ "\$line" != dies ] || kill -9 \$\$; echo "\${line//;/\$'\n'}"; said=yes; }
+    [ "\$part" = "\$name" ] || continue
+    [ "\$line" != dies ] || kill -9 \$\$
+    echo "\${line//;/\$'\n'}"
+    said=yes
 done <"$room/prints"
 [ "\${said-}" = yes ] || echo "2 passed, 0 failed"
 ! grep -q "^\$name status" "$room/statuses"
 END
 chmod +x "$room/part"
-for part in tools/{dist.sh,check_dist.sh,check_b2.sh,check_test.sh,check_program.sh,check_pages.sh,check_texts.py,run_examples.py,try_tests.sh} \
-    tools/key_scan/run.sh c/run_tests.sh js/run_tests.sh; do
+for part in tools/{dist,check_{dist,b2,test,program,pages},try_tests}.sh \
+    tools/{check_texts,run_examples}.py tools/key_scan/run.sh c/run_tests.sh js/run_tests.sh; do
     ln "$room/part" "$repository/$part"
 done
 printf '#!/bin/sh\necho x86-64-v3\n' >"$repository/tools/processor.sh"
-printf '#!/bin/sh\necho "cc $*" | sed "s|-o [^ ]*/|-o |" >>"%s/calls"\nwhile [ "$1" != -o ]; do shift; done\ncp /bin/true "$2"\n' \
-    "$room" >"$room/bin/compiler"
+cat >"$room/bin/compiler" <<END
+#!/bin/sh
+echo "cc \$*" | sed "s|-o [^ ]*/|-o |" >>"$room/calls"
+while [ "\$1" != -o ]; do shift; done
+cp /bin/true "\$2"
+END
 chmod +x "$repository/tools/processor.sh" "$room/bin/compiler"
 
 run() {
     rm -f "$room/calls"
-    PATH=$room/bin:/usr/bin:/bin CC=$room/bin/compiler "$repository/test" "$@" >"$room/output" 2>"$room/errors"
+    PATH=$room/bin:/usr/bin:/bin CC=$room/bin/compiler "$repository/test" "$@" >"$room/output" \
+        2>"$room/errors"
     status=$?
 }
 ends() { [ "$status" -eq "$1" ] && [ "$(tail -n 1 "$room/output")" = "$2" ]; }
@@ -50,25 +60,28 @@ says() { grep -q -- "$1" "$room/errors"; }
 
 run
 holds "all parts are counted" ends 0 "24 passed, 0 failed"
-holds "it says what it does and how long it takes" says "^test: testing the code in dist/, without a proof .* minutes"
+holds "it says what it does and how long it takes" says \
+    "^test: testing the code in dist/, without a proof .* minutes"
 holds "it names each part before it begins" [ ! -e "$room/unnamed" ]
 holds "and how long that takes" says "^== c/run_tests.sh (about [0-9]* minutes)$"
 holds "if it is long" says "^== tools/check_b2.sh$"
 holds "each part's time is told" says "^== c/run_tests.sh took "
-for part in tools/check_dist.sh tools/check_b2.sh tools/check_test.sh tools/check_texts.py tools/try_tests.sh c/run_tests.sh \
-    js/run_tests.sh; do
+for part in tools/check_dist.sh tools/check_b2.sh tools/check_test.sh tools/check_texts.py \
+    tools/try_tests.sh c/run_tests.sh js/run_tests.sh; do
     holds "it runs $part" calls "^$part <>" 1
 done
 holds "dist/ is looked at" calls "^tools/dist.sh <current>" 1
 holds "the programs of dist/ are run" calls "^tools/check_program.sh <b2\(-v2\)\?>" 2
-holds "which the compiler makes" calls "^cc -O2 -DMAIN=main_v[23].s -o b2\(-v2\)\? c/b2.c dist/x86_64/b2-v[23].s$" 2
+holds "which the compiler makes" calls \
+    "^cc -O2 -DMAIN=main_v[23].s -o b2\(-v2\)\? c/b2.c dist/x86_64/b2-v[23].s$" 2
 holds "the examples are run" calls "^tools/run_examples.py <README.md><docs/TUTORIAL.md>" 1
 holds "the pages are given the program" calls "^tools/check_pages.sh <b2>" 1
 holds "nothing is proved" calls "^bin/rt" 0
 holds "nothing else is called" [ "$(wc -l <"$room/calls")" -eq 14 ]
 holds "no test was skipped, and no line says so" [ "$(grep -c skipped "$room/output")" -eq 0 ]
 
-echo "c/run_tests.sh skipped: Rust (no cargo);skipped: ARM (no qemu);7 passed, 1 failed, 2 skipped" >"$room/prints"
+line="skipped: Rust (no cargo);skipped: ARM (no qemu);7 passed, 1 failed, 2 skipped"
+echo "c/run_tests.sh $line" >"$room/prints"
 run
 holds "a failure is counted" ends 1 "29 passed, 1 failed"
 holds "what was skipped is listed last" diff - <(tail -n 4 "$room/output") <<'END'
@@ -99,7 +112,8 @@ holds "and says so" says "test: the toolchain's command rt is not on the PATH"
 ln "$room/part" "$room/bin/rt"
 run --prove
 holds "--prove counts all" ends 0 "30 passed, 0 failed"
-holds "it says what it does and how long it takes" says "^test: proving every crate, comparing dist/ .* hour"
+holds "it says what it does and how long it takes" says \
+    "^test: proving every crate, comparing dist/ .* hour"
 holds "it names each part before it begins, too" [ ! -e "$room/unnamed" ]
 holds "and how long proofs take" says "^== rt ci (about [0-9]* minutes)$"
 holds "and to compare dist/" says "^== tools/dist.sh check (about [0-9]* minutes)$"

@@ -1,5 +1,5 @@
-# What scripts of checks share; a script reads it by `source`. A script that shows what failed defines
-# `show`, which prints to standard error what the command left.
+# What scripts of checks share; a script reads it by `source`. A script that shows what failed
+# defines `show`, which prints to standard error what the command left.
 passed=0
 failed=0
 

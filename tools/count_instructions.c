@@ -1,7 +1,7 @@
-/* Calls functions of the C library, for tools/count_instructions.sh, which runs this under valgrind and counts in the
- * function of its own that the first word names:
+/* Calls functions of the C library, for tools/count_instructions.sh, which runs this under valgrind
+ * and counts in the function of its own that the first word names:
  *
- *   compare_is_same LENGTH      two texts of so many bytes that differ at one place, and then at the next
+ *   compare_is_same LENGTH      two texts of this length that differ at one place, then at the next
  *   compare_blake2b LENGTH      the digest of a keyed run, in so many bytes, and such a tag
  *   compare_blake2s LENGTH      the same of BLAKE2s
  *   hash_root LENGTH            the root of a tree with leaves of 64 KiB over so many bytes
@@ -12,9 +12,9 @@
  *   hash_many_blake2s COUNT     the same of BLAKE2s
  *   hash_each_blake2s COUNT
  *
- * The functions compare_* are called twice for each place: for a difference of one bit, another from place to place,
- * and for one of all bits. The functions hash_* are called once. The status is 1 where a call found no difference, and
- * 2 where the words are wrong or a call was refused. */
+ * The functions compare_* are called twice for each place: for a difference of one bit, another
+ * from place to place, and for one of all bits. The functions hash_* are called once. The status is
+ * 1 where a call found no difference, and 2 where the words are wrong or a call was refused. */
 #include <blake2_c.h>
 #include <stdlib.h>
 
@@ -78,7 +78,8 @@ COUNTED static int hash_leaves_at_once(size_t count) {
     return vulfsjor_tree_update(&tree, input, count * LEAF + 1);
 }
 
-/* A piece that ends with its leaf leaves nothing behind it, without which four leaves are not taken at once. */
+/* A piece that ends with its leaf leaves nothing behind it, without which four leaves are not taken
+ * at once. */
 COUNTED static int hash_leaves_in_turn(size_t count) {
     size_t i;
     int status = 0;
@@ -95,7 +96,8 @@ COUNTED static int hash_each_blake2b(size_t count) {
     size_t i;
     int status = 0;
 
-    for (i = 0; i < count; i++) status |= vulfsjor_blake2b(out + i * 64, 64, messages[i].bytes, MESSAGE, 0, 0);
+    for (i = 0; i < count; i++)
+        status |= vulfsjor_blake2b(out + i * 64, 64, messages[i].bytes, MESSAGE, 0, 0);
     return status;
 }
 
@@ -107,7 +109,8 @@ COUNTED static int hash_each_blake2s(size_t count) {
     size_t i;
     int status = 0;
 
-    for (i = 0; i < count; i++) status |= vulfsjor_blake2s(out + i * 32, 32, messages[i].bytes, MESSAGE, 0, 0);
+    for (i = 0; i < count; i++)
+        status |= vulfsjor_blake2s(out + i * 32, 32, messages[i].bytes, MESSAGE, 0, 0);
     return status;
 }
 
@@ -140,7 +143,8 @@ int main(int argc, char **argv) {
     if (vulfsjor_is_same(text, other, sizeof other)) return 2;
     if (strncmp(argv[1], "compare_", 8)) return hash(argv[1], size);
     if (size > sizeof other) return 2;
-    if (!strcmp(argv[1], "compare_is_same")) return compare_each(begin_is_same, compare_is_same, size);
+    if (!strcmp(argv[1], "compare_is_same"))
+        return compare_each(begin_is_same, compare_is_same, size);
     if (!strcmp(argv[1], "compare_blake2b")) {
         if (begin_blake2b(size) || vulfsjor_blake2b_final(&blake2b, other, size)) return 2;
         return compare_each(begin_blake2b, compare_blake2b, size);

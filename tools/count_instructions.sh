@@ -1,20 +1,22 @@
 #!/usr/bin/env bash
 # Counts the instructions that calls of the C library take:
 #
-#   - comparisons of texts that differ at one place after the other: as many for each place, so that their time tells
-#     nothing of where a tag is wrong;
-#   - four leaves of a tree, four messages of BLAKE2b and eight of BLAKE2s, which the build for x86-64-v3 hashes at
-#     once: fewer than one by one, as no digest tells whether they were. The build for x86-64-v2 gains about 1 in
-#     100 by that, which is no bound, so there these are skipped.
+#   - comparisons of texts that differ at one place after the other: as many for each place, so that
+#     their time tells nothing of where a tag is wrong;
+#   - four leaves of a tree, four messages of BLAKE2b and eight of BLAKE2s, which the build for
+#     x86-64-v3 hashes at once: fewer than one by one, as no digest tells whether they were. The
+#     build for x86-64-v2 gains about 1 in 100 by that, which is no bound, so there these are
+#     skipped.
 #
 # usage: tools/count_instructions.sh FOLDER
 #
-# FOLDER has an installed library (c/install.sh). A check of a comparison is of texts of one length: it passes where
-# all its counts are the same. valgrind counts them: where it or cc is absent all is skipped, and a line says so. The
-# last line is 'N passed, M failed, K skipped', and the status is 1 where one failed.
+# FOLDER has an installed library (c/install.sh). A check of a comparison is of texts of one length:
+# it passes where all its counts are the same. valgrind counts them: where it or cc is absent all is
+# skipped, and a line says so. The last line is 'N passed, M failed, K skipped', and the status is 1
+# where one failed.
 set -u
 if [ $# -ne 1 ] || [ ! -f "$1/lib/libblake2_c.a" ]; then
-    echo "usage: tools/count_instructions.sh FOLDER, with an installed library in it (c/install.sh)" >&2
+    echo "usage: tools/count_instructions.sh FOLDER, with an installed library (c/install.sh)" >&2
     exit 2
 fi
 folder=$(readlink -f "$1")
@@ -46,7 +48,8 @@ counts() {
     local function=$1 size=$2
     rm -f "$room"/count "$room"/count.*
     valgrind --tool=callgrind --toggle-collect="$function" --dump-after="$function" \
-        --callgrind-out-file="$room/count" "$room/calls" "$function" "$size" >"$room/log" 2>&1 || return 1
+        --callgrind-out-file="$room/count" "$room/calls" "$function" "$size" >"$room/log" 2>&1 ||
+        return 1
     find "$room" -name 'count.*' -exec sed -n 's/^totals: //p' {} +
 }
 
@@ -55,9 +58,10 @@ check_same() {
     local function=$1 length=$2 name=$3
     if ! counts "$function" "$length" >"$room/counts"; then
         fail "$name" log
-    elif [ "$(wc -l <"$room/counts")" -ne $((2 * length)) ] || [ "$(sort -u "$room/counts" | wc -l)" -ne 1 ]; then
-        fail "$name: $(wc -l <"$room/counts") calls, of $(sort -n "$room/counts" | head -n 1) to $(sort -n \
-            "$room/counts" | tail -n 1) instructions"
+    elif [ "$(wc -l <"$room/counts")" -ne $((2 * length)) ] ||
+        [ "$(sort -u "$room/counts" | wc -l)" -ne 1 ]; then
+        sort -n "$room/counts" | sed -n '1p;$p' | tr '\n' ' ' >"$room/log"
+        fail "$name: $(wc -l <"$room/counts") calls, of this and this many instructions" log
     else
         pass "$name: $(head -n 1 "$room/counts") instructions with the call, wherever they differ"
     fi
@@ -93,30 +97,38 @@ check_share() {
     fi
 }
 
-# The build that runs here, by the name of its function in a count. Where the library holds one build alone, its line
-# for pkg-config says which.
+# The build that runs here, by the name of its function in a count. Where the library holds one
+# build alone, its line for pkg-config says which.
 build_here() {
     counts hash_many_blake2b 1 >"$room/counts" || return 1
-    case $(find "$room" -name 'count.*' -exec grep -ho 'blake2_c_blake2b_many_[0-9_]*_v[23]' {} + | sort -u) in
+    case $(find "$room" -name 'count.*' -exec grep -ho 'blake2_c_blake2b_many_[0-9_]*_v[23]' {} + |
+        sort -u) in
         *_v2) echo x86-64-v2 ;;
         *_v3) echo x86-64-v3 ;;
-        *) sed -n 's/^Description: .* for \(x86-64-v[23]\)$/\1/p' "$folder/lib/pkgconfig/blake2_c.pc" ;;
+        *) sed -n 's/^Description: .* for \(x86-64-v[23]\)$/\1/p' \
+            "$folder/lib/pkgconfig/blake2_c.pc" ;;
     esac
 }
 
 check_at_once() {
     local name="four leaves at once" count
-    # Five and nine leaves: a state closes its first leaf alone, and takes four only where a byte follows them.
-    check_share hash_leaves_at_once hash_leaves_in_turn 5 85 "$name: an update of five leaves and a byte"
-    check_share hash_leaves_at_once hash_leaves_in_turn 9 80 "$name: an update of nine leaves and a byte"
+    # Five and nine leaves: a state closes its first leaf alone, and takes four only where a byte
+    # follows them.
+    check_share hash_leaves_at_once hash_leaves_in_turn 5 85 \
+        "$name: an update of five leaves and a byte"
+    check_share hash_leaves_at_once hash_leaves_in_turn 9 80 \
+        "$name: an update of nine leaves and a byte"
     # One call for the whole input has its first four leaves at once too, with nothing behind them.
     check_bytes hash_root $((4 * 65536)) 450 "$name: blake2_c_tree_root of four leaves"
-    check_bytes hash_root $((5 * 65536 + 1)) 450 "$name: blake2_c_tree_root of five leaves and a byte"
+    check_bytes hash_root $((5 * 65536 + 1)) 450 \
+        "$name: blake2_c_tree_root of five leaves and a byte"
     for count in 4 8; do
-        check_share hash_many_blake2b hash_each_blake2b $count 80 "blake2_c_blake2b_many of $count messages"
+        check_share hash_many_blake2b hash_each_blake2b $count 80 \
+            "blake2_c_blake2b_many of $count messages"
     done
     for count in 8 16; do
-        check_share hash_many_blake2s hash_each_blake2s $count 60 "blake2_c_blake2s_many of $count messages"
+        check_share hash_many_blake2s hash_each_blake2s $count 60 \
+            "blake2_c_blake2s_many of $count messages"
     done
 }
 
@@ -144,7 +156,7 @@ done
 case $(build_here) in
     x86-64-v3) check_at_once ;;
     x86-64-v2)
-        echo "skipped: leaves and messages at once (the build for x86-64-v2 runs here, which gains little)"
+        echo "skipped: leaves and messages at once (the build for x86-64-v2 gains little)"
         skipped=$((skipped + 1))
         ;;
     *) fail "the name of the build that runs here" log ;;

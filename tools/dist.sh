@@ -4,14 +4,16 @@
 #   tools/dist.sh make                 makes dist/ anew
 #   tools/dist.sh make FOLDER FILE..   makes these of its files in another folder
 #   tools/dist.sh check                builds dist/ anew elsewhere, and compares byte for byte
-#   tools/dist.sh current              compares hashes only: the files, and the sources, with dist/MANIFEST
+#   tools/dist.sh current              compares hashes only, of the files and the sources, with
+#                                      those in dist/MANIFEST
 #
-# `make` and `check` need the toolchain of Rattle, and prove what is not proved yet. What `rt ci` has proved they take
-# as it left it. The same toolchain makes the same bytes every time, wherever the repository is. `current` needs no
-# toolchain and takes under a second.
+# `make` and `check` need the toolchain of Rattle, and prove what is not proved yet. What `rt ci`
+# has proved they take as it left it. The same toolchain makes the same bytes every time, wherever
+# the repository is. `current` needs no toolchain and takes under a second.
 #
-# `check` needs the toolchain that MANIFEST names. With another one, or none, it does what `current` does and says so.
-# Its last line is 'N passed, M failed, K skipped'. The status is 1 if something failed.
+# `check` needs the toolchain that MANIFEST names. With another one, or none, it does what `current`
+# does and says so. Its last line is 'N passed, M failed, K skipped'. The status is 1 if something
+# failed.
 set -euo pipefail
 top=$(dirname "$(dirname "$(readlink -f "$0")")")
 manifest=$top/dist/MANIFEST
@@ -29,7 +31,8 @@ usage() { sed -n '2,/^set /{/^set /d;s/^#\{0,1\} \{0,1\}//;p}' "$0"; }
 # The version, which is at the top of CHANGELOG.md, with _ for the dots.
 version() { sed -nE '/^## [0-9.]+/{s/^## ([0-9.]+).*/\1/;s/\./_/g;p;q}' "$top/CHANGELOG.md"; }
 
-# A hash of all that decides what is compiled except the toolchain. A line that is a comment decides nothing.
+# A hash of all that decides what is compiled except the toolchain. A line that is a comment decides
+# nothing.
 sources() {
     local folders
     mapfile -t folders < <(crates_of blake2_c b2 | sort -u | sed 's|.*|crates/&/src|')
@@ -57,14 +60,16 @@ is_same_kit() { [ "$(said kit)" = "$(rt version)" ] && [ "$(said tools)" = "$(ha
 
 # Builds a file of dist/ in this folder, over the proved libraries.
 #
-# On aarch64 the compression of one message is compiled without vector registers, and that of several with them: a
-# NEON instruction takes two to four cycles there, and one message is a single chain of them. aarch64_attributes.csv
-# names the functions for LLVM. A name in it that is not in the code makes clang print a line, and then the build
-# fails.
+# On aarch64 the compression of one message is compiled without vector registers, and that of
+# several with them: a NEON instruction takes two to four cycles there, and one message is a single
+# chain of them. aarch64_attributes.csv names the functions for LLVM. A name in it that is not in
+# the code makes clang print a line, and then the build fails.
 build() {
-    local to=$1/$2 file=$2 crate=$3 room=$work/$3 kind=(--crate-type staticlib) more=() target cpu end
+    local to=$1/$2 file=$2 crate=$3 room=$work/$3 kind=(--crate-type staticlib) more=() target cpu \
+        end
     case $file in
-        x86_64/*-v[23].s) target=x86_64-unknown-linux-gnu cpu=x86-64-${file: -4:2} end=${file: -4:2} ;;
+        x86_64/*-v[23].s) target=x86_64-unknown-linux-gnu cpu=x86-64-${file: -4:2} \
+            end=${file: -4:2} ;;
         aarch64/*.s)
             target=aarch64-unknown-linux-gnu cpu=generic end=arm
             more=(-mllvm "-forceattrs-csv-path=$top/tools/aarch64_attributes.csv")
@@ -77,8 +82,9 @@ build() {
     rm -rf "$room/toolchain"
     make_toolchain "$room/toolchain" "${more[@]}"
     mkdir -p "$(dirname "$to")"
-    build_crate "$top/crates/$crate" "$crate" "$(libraries_of "$crate")" "$room" "${kind[@]}" --target "$target" \
-        --cpu "$cpu" --toolchain "$room/toolchain" -o "$room/built" >"$room/log" 2>&1 || {
+    build_crate "$top/crates/$crate" "$crate" "$(libraries_of "$crate")" "$room" "${kind[@]}" \
+        --target "$target" --cpu "$cpu" --toolchain "$room/toolchain" -o "$room/built" \
+        >"$room/log" 2>&1 || {
         cat "$room/log" >&2
         fail "$file was not built"
     }
@@ -86,7 +92,8 @@ build() {
         link_module "$room/built" "$to" 2>>"$room/log"
     else
         {
-            echo "/* Made by tools/dist.sh from the proved crate $crate. dist/README.md says how. */"
+            echo "/* Made by tools/dist.sh from the proved crate $crate." \
+                "dist/README.md says how. */"
             "$top/tools/plain_names.py" "_$(version)_$end" <"$room/toolchain/module.s"
         } >"$to"
     fi
@@ -114,7 +121,8 @@ make() {
 # Writes MANIFEST, for sources of this hash.
 write_manifest() {
     {
-        echo "# What the proved crates compile to, made by tools/dist.sh. For \`sha256sum -c MANIFEST\`."
+        echo "# What the proved crates compile to, made by tools/dist.sh." \
+            "For \`sha256sum -c MANIFEST\`."
         echo "# kit: $(rt version)"
         echo "# tools: $(hash_of_tools)"
         echo "# sources: $1"
@@ -131,7 +139,8 @@ check() {
     holds "the files of dist/ are those that MANIFEST names" is_whole
     holds "dist/ was made from these sources (tools/dist.sh make)" is_current
     if ! command -v rt >/dev/null || ! is_same_kit; then
-        echo "skipped: whether dist/ is what the proofs build: it was made with another toolchain, $(said kit)"
+        echo "skipped: whether dist/ is what the proofs build:" \
+            "it was made with another toolchain, $(said kit)"
         skipped=${#files[@]}
     else
         "$0" make "$work/dist" "${files[@]}" || fail "nothing was compared"

@@ -1,5 +1,5 @@
-# What the scripts know of the inside of Rattle's toolchain, and of what it leaves in crates/*/out. A script reads
-# this file by `source`, with `top` set to the folder of the repository.
+# What the scripts know of the inside of Rattle's toolchain, and of what it leaves in crates/*/out.
+# A script reads this file by `source`, with `top` set to the folder of the repository.
 kit_folder() { dirname "$(rt doc)"; }
 
 # The libraries that a crate names.
@@ -15,37 +15,44 @@ crates_of() {
 
 # A hash of the toolchain's programs that decide what is built.
 hash_of_tools() {
-    (cd "$(kit_folder)" && sha256sum bin/rattle bin/rattle-link toolchain/bin/clang toolchain/bin/ld.lld) |
+    (cd "$(kit_folder)" && sha256sum bin/rattle bin/rattle-link toolchain/bin/clang \
+        toolchain/bin/ld.lld) |
         sha256sum | cut -d ' ' -f 1
 }
 
-# Whether the libraries of these crates are there as `rt ci` leaves them: without the stamp that `rt check` writes,
-# and newer than their sources. (After a second run `rt ci` puts the libraries of the first back.)
+# Whether the libraries of these crates are there as `rt ci` leaves them: without the stamp that `rt
+# check` writes, and newer than their sources. (After a second run `rt ci` puts the libraries of the
+# first back.)
 are_left_by_ci() {
     local crate out
     for crate in $(crates_of "$@" | sort -u); do
         out=$top/crates/$crate/out/rlib
         [ -d "$out" ] && [ ! -e "$out/stamp" ] || return 1
         [ -z "$(find "$top/crates.txt" "$top/crates/$crate"/* -name out -prune -o \
-            \( -type d -o -name '*.rt' -o -name '*.antt' -o -name crates.txt \) -newer "$out" -print -quit)" ] || return 1
+            \( -type d -o -name '*.rt' -o -name '*.antt' -o -name crates.txt \) \
+            -newer "$out" -print -quit)" ] || return 1
     done
 }
 
-# Proves the libraries that a crate depends on, unless `rt ci` has just done so. Standard error shows the progress.
+# Proves the libraries that a crate depends on, unless `rt ci` has just done so. Standard error
+# shows the progress.
 prove_libraries() {
     local crate=$1 log=$2
     ! are_left_by_ci $(libraries_of "$crate") || return 0
-    (cd "$top/crates/$crate" && rt check 2>&1) | tee "$log" | sed -nu "s/^so far: .*checked/$crate: &/p" >&2
+    (cd "$top/crates/$crate" && rt check 2>&1) | tee "$log" |
+        sed -nu "s/^so far: .*checked/$crate: &/p" >&2
     [ "${PIPESTATUS[0]}" -eq 0 ] || { cat "$log" >&2 && return 1; }
 }
 
-# Proves the crate in a folder over its proved libraries and compiles it, by the command that `rt` itself calls:
+# Proves the crate in a folder over its proved libraries and compiles it, by the command that `rt`
+# itself calls:
 #
 #   build_crate FOLDER NAME "LIBRARIES" ROOM RATTLE'S ARGUMENTS..
 #
 # What the checker keeps is in FOLDER/out/incremental if that exists, and in ROOM otherwise.
 build_crate() {
-    local folder=$1 name=$2 libraries=$3 kept=$1/out/incremental root=src/lib.rt kit words=() library
+    local folder=$1 name=$2 libraries=$3 kept=$1/out/incremental root=src/lib.rt kit words=() \
+        library
     [ -d "$kept" ] || kept=$4/incremental
     shift 4
     kit=$(kit_folder)
@@ -60,8 +67,8 @@ build_crate() {
     done
     for library in "$kit/rlibs" "$top"/crates/*/out/rlib; do words+=(-L "dependency=$library"); done
     (cd "$folder" && "$kit/bin/rattle" build --crate-name "$name" "$root" "${words[@]}" \
-        --antt-project "$kit/rattle/logic/antt-project.json" --logic-built "$kit/logic_built" --incremental "$kept" \
-        --jobs "${RT_JOBS:-2}" --backend llvm "$@")
+        --antt-project "$kit/rattle/logic/antt-project.json" --logic-built "$kit/logic_built" \
+        --incremental "$kept" --jobs "${RT_JOBS:-2}" --backend llvm "$@")
 }
 
 # Links what build_crate has left to a WebAssembly module.
@@ -71,9 +78,9 @@ link_module() {
     "$kit/bin/rattle-link" --target wasm64-unknown-unknown --toolchain "$kit/toolchain" -o "$2" "$1"
 }
 
-# Makes a folder to use instead of the kit's toolchain. Its clang gets these arguments too, and fails if it prints
-# anything. It leaves the text of what it compiles in FOLDER/module.s, and assembles that. Rattle runs it without an
-# environment, in a temporary folder.
+# Makes a folder to use instead of the kit's toolchain. Its clang gets these arguments too, and
+# fails if it prints anything. It leaves the text of what it compiles in FOLDER/module.s, and
+# assembles that. Rattle runs it without an environment, in a temporary folder.
 make_toolchain() {
     local folder=$1 kit more
     shift

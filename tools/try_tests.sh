@@ -3,10 +3,10 @@
 #
 #   tools/try_tests.sh [CRATE..]
 #
-# Without a CRATE it takes each crate that is there for its tests. The tests in modules named `memory` fill the
-# memory, which works only in what `rt ci` builds: they are skipped, each with a line. It needs the toolchain of
-# Rattle; without its command rt all is skipped. The last line is 'N passed, M failed, K skipped', and the status is 1
-# if something failed.
+# Without a CRATE it takes each crate that is there for its tests. The tests in modules named
+# `memory` fill the memory, which works only in what `rt ci` builds: they are skipped, each with a
+# line. It needs the toolchain of Rattle; without its command rt all is skipped. The last line is 'N
+# passed, M failed, K skipped', and the status is 1 if something failed.
 set -u
 top=$(dirname "$(dirname "$(readlink -f "$0")")")
 passed=0 failed=0 skipped=0

@@ -1,5 +1,5 @@
-/* Prints the BLAKE2b-512 digest of each file that is named, or else of standard input, as b2sum does. It
- * reads a file in pieces, and takes the same memory for each length of it.
+/* Prints the BLAKE2b-512 digest of each file that is named, or else of standard input, as b2sum
+ * does. It reads a file in pieces, and takes the same memory for each length of it.
  *
  *   cc -O2 sum.c $(pkg-config --cflags --libs blake2_c-static) -o sum
  *   ./sum FILE..

@@ -1,12 +1,12 @@
-/* The root of a file as a tree of hashes, in parts, for whatever runs programs: GNU parallel, make, a
- * queue of jobs, or several machines with one file system.
+/* The root of a file as a tree of hashes, in parts, for whatever runs programs: GNU parallel, make,
+ * a queue of jobs, or several machines with one file system.
  *
  *   cc -O2 tree_parts.c $(pkg-config --cflags --libs blake2_c-static) -o tree_parts
  *   ./tree_parts leaves FILE FIRST COUNT     writes the digests of COUNT leaves, from leaf FIRST on
- *   ./tree_parts root FILE                   reads those of all leaves, in order, and prints the root
+ *   ./tree_parts root FILE                   reads those of all leaves, in order; prints the root
  *
- * Leaves have 65,536 bytes. COUNT may go beyond the last leaf. With GNU parallel, whose -k keeps the
- * order, in parts of 1,024 leaves, which are 64 MiB:
+ * Leaves have 65,536 bytes. COUNT may go beyond the last leaf. With GNU parallel, whose -k keeps
+ * the order, in parts of 1,024 leaves, which are 64 MiB:
  *
  *   seq 0 1024 $((($(stat -c %s FILE) - 1) / 65536)) |
  *       parallel -k ./tree_parts leaves FILE {} 1024 | ./tree_parts root FILE
@@ -81,7 +81,8 @@ static int write_leaves(const char *path, uint64_t first, uint64_t count) {
 /* The root is a node over the digests, which need not be in memory at the same time. */
 static int print_root(const char *path) {
     static unsigned char piece[1 << 16];
-    const vulfsjor_tree place = {.leaf_length = LEAF, .depth = 2, .node_depth = 1, .inner_length = 64};
+    const vulfsjor_tree place = {
+        .leaf_length = LEAF, .depth = 2, .node_depth = 1, .inner_length = 64};
     vulfsjor_blake2b_state root;
     unsigned char out[VULFSJOR_BLAKE2B_OUTBYTES];
     uint64_t length, all = 0;

@@ -4,11 +4,12 @@
  *   cc -O2 tree_sum.c $(pkg-config --cflags --libs blake2_c-threads) -o tree_sum
  *   ./tree_sum [--threads N] [--leaf BYTES] [FILE..]
  *
- * FILE - is standard input. N is the number of threads, 0 for all processors, as without the option.
- * BYTES is the leaf length, without the option 65,536. The root depends on it, and not on N; it is
- * that of `b2 tree b512 BYTES`.
+ * FILE - is standard input. N is the number of threads, 0 for all processors, as without the
+ * option. BYTES is the leaf length, without the option 65,536. The root depends on it, and not on
+ * N; it is that of `b2 tree b512 BYTES`.
  *
- * The status is 1 if a file can't be read or the output not be written, and 2 for other arguments. */
+ * The status is 1 if a file can't be read or the output not be written, and 2 for other
+ * arguments. */
 #include <blake2_threads.h>
 #include <errno.h>
 #include <getopt.h>
@@ -29,7 +30,8 @@ static int read_number(const char *text, unsigned long least, unsigned *number) 
 
     errno = 0;
     value = strtoul(text, &end, 10);
-    if (*text < '0' || *text > '9' || *end || errno || value < least || value > UINT32_MAX) return -1;
+    if (*text < '0' || *text > '9' || *end || errno || value < least || value > UINT32_MAX)
+        return -1;
     *number = (unsigned)value;
     return 0;
 }
@@ -42,7 +44,8 @@ static int print_root(const char *name, unsigned leaf, unsigned threads) {
     if (strcmp(name, "-"))
         failed = vulfsjor_tree_root_file(root, sizeof root, name, NULL, 0, NULL, 0, leaf, threads);
     else
-        failed = vulfsjor_tree_root_fd(root, sizeof root, STDIN_FILENO, NULL, 0, NULL, 0, leaf, threads);
+        failed =
+            vulfsjor_tree_root_fd(root, sizeof root, STDIN_FILENO, NULL, 0, NULL, 0, leaf, threads);
     if (failed) {
         fprintf(stderr, "tree_sum: %s: %s\n", name, strerror(errno));
         return 1;

@@ -21,9 +21,10 @@
  * says, and that what a call writes (the state, the output) overlaps nothing else that it is
  * given.
  *
- * Secrets: final and verify wipe the state. A call that is given a key, or compresses its block (the
- * first update, or a final or verify that had taken no input), overwrites its part of the stack
- * before it returns. Registers are not wiped. docs/WIPING.md says what was found and tested. */
+ * Secrets: final and verify wipe the state. A call that is given a key, or compresses its block
+ * (the first update, or a final or verify that had taken no input), overwrites its part of the
+ * stack before it returns. Registers are not wiped. docs/WIPING.md says what was found and
+ * tested. */
 #ifndef BLAKE2_C_H
 #define BLAKE2_C_H
 
@@ -632,16 +633,16 @@ VULFSJOR_MUST_USE static inline int vulfsjor_tree_leaves(void *out, size_t outle
 }
 
 /* The root over the digests of all leaves, 64 bytes for each, in their order, in outlen bytes, 1 to
- * 64. -1 where outlen is another, digestslen is 0 or no multiple of 64, leaf_length is 0, or salt or
- * persona have more than 16 bytes. */
+ * 64. -1 where outlen is another, digestslen is 0 or no multiple of 64, leaf_length is 0, or salt
+ * or persona have more than 16 bytes. */
 VULFSJOR_MUST_USE static inline int
 vulfsjor_tree_root_of_leaves(void *out, size_t outlen, const void *digests, size_t digestslen,
                              const void *salt, size_t saltlen, const void *personal,
                              size_t personallen, uint32_t leaf_length) {
     if (!out || !digests || (!salt && saltlen) || (!personal && personallen)) return -1;
-    return blake2_c_tree_root_of_leaves((uint8_t *)out, outlen, (const uint8_t *)digests, digestslen,
-                                        vulfsjor_text(salt), saltlen, vulfsjor_text(personal),
-                                        personallen, leaf_length);
+    return blake2_c_tree_root_of_leaves((uint8_t *)out, outlen, (const uint8_t *)digests,
+                                        digestslen, vulfsjor_text(salt), saltlen,
+                                        vulfsjor_text(personal), personallen, leaf_length);
 }
 
 /* -- A run of that tree whose leaves are hashed apart, for a stream that threads hash. The state is

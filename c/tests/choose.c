@@ -1,11 +1,13 @@
-/* ../choose.c with functions of its own in the place of the two builds, so that what it decides and what it
- * hands on can be seen. c/run_tests.sh compiles it, as it stands and with PROCESSOR.
+/* ../choose.c with functions of its own in the place of the two builds, so that what it decides and
+ * what it hands on can be seen. c/run_tests.sh compiles it, as it stands and with PROCESSOR.
  *
- *   choose           prints the level that a call takes here, 2 or 3, by its first call and by a later one;
- *                    before that it prints "begun", so that an end by the first call can be told apart
+ *   choose           prints the level that a call takes here, 2 or 3, by its first call and by a
+ *                    later one; before that it prints "begun", so that an end by the first call can
+ *                    be told apart
  *   choose compiler  the same, and what the compiler's own test of the processor says
  *
- * With PROCESSOR the processor is made up (processor.h): each bit that a level needs is taken away alone. */
+ * With PROCESSOR the processor is made up (processor.h): each bit that a level needs is taken away
+ * alone. */
 #ifdef PROCESSOR
 #define CHOOSE_PROCESSOR "processor.h"
 #endif
@@ -16,15 +18,17 @@
 #include <stdio.h>
 #include <string.h>
 
-/* What a build was given: each argument times a prime of its own, and its level in front. The most that a
- * function of the library takes are fifteen arguments; here are sixteen, six of which go in registers. */
+/* What a build was given: each argument times a prime of its own, and its level in front. The most
+ * that a function of the library takes are fifteen arguments; here are sixteen, six of which go in
+ * registers. */
 typedef unsigned long long number;
 typedef uint32_t half;
-#define PARAMETERS number a, number b, number c, number d, number e, number f, uint8_t g, uint8_t h, half i, \
-                   number j, uint8_t k, uint8_t l, number m, number n, number o, number p
+#define PARAMETERS                                                                            \
+    number a, number b, number c, number d, number e, number f, uint8_t g, uint8_t h, half i, \
+        number j, uint8_t k, uint8_t l, number m, number n, number o, number p
 static number told(PARAMETERS) {
-    return 2 * a + 3 * b + 5 * c + 7 * d + 11 * e + 13 * f + 17 * g + 19 * h + 23 * i + 29 * j + 31 * k +
-           37 * l + 41 * m + 43 * n + 47 * o + 53 * p;
+    return 2 * a + 3 * b + 5 * c + 7 * d + 11 * e + 13 * f + 17 * g + 19 * h + 23 * i + 29 * j +
+           31 * k + 37 * l + 41 * m + 43 * n + 47 * o + 53 * p;
 }
 #define GIVEN a, b, c, d, e, f, g, h, i, j, k, l, m, n, o, p
 number probe_arguments_v2(PARAMETERS) __asm__(IN_BUILD("probe_arguments", "v2"));
@@ -37,8 +41,12 @@ number probe_arguments(PARAMETERS);
 static int is_aligned(void *frame) { return (uintptr_t)frame % 16 == 0; }
 int probe_v2(void) __asm__(IN_BUILD("probe", "v2"));
 int probe_v3(void) __asm__(IN_BUILD("probe", "v3"));
-__attribute__((noinline)) int probe_v2(void) { return is_aligned(__builtin_frame_address(0)) ? 2 : -2; }
-__attribute__((noinline)) int probe_v3(void) { return is_aligned(__builtin_frame_address(0)) ? 3 : -3; }
+__attribute__((noinline)) int probe_v2(void) {
+    return is_aligned(__builtin_frame_address(0)) ? 2 : -2;
+}
+__attribute__((noinline)) int probe_v3(void) {
+    return is_aligned(__builtin_frame_address(0)) ? 3 : -3;
+}
 int probe(void);
 
 static int fails;
@@ -52,11 +60,13 @@ static int fails;
 
 /* The arguments arrive, by a call that asks and by one that does not. */
 static void check_arguments(int level) {
-    const number big = ~0ull - 6, wanted = told(big, 2, 3, 4, 5, big, 7, 8, 9, 10, 11, 12, big, 14, 15, 16) + level;
+    const number big = ~0ull - 6,
+                 wanted = told(big, 2, 3, 4, 5, big, 7, 8, 9, 10, 11, 12, big, 14, 15, 16) + level;
 
     for (int asked = 0; asked < 2; asked++) {
         if (!asked) blake2_c_level = 0;
-        CHECK(probe_arguments(big, 2, 3, 4, 5, big, 7, 8, 9, 10, 11, 12, big, 14, 15, 16) == wanted);
+        CHECK(probe_arguments(big, 2, 3, 4, 5, big, 7, 8, 9, 10, 11, 12, big, 14, 15, 16) ==
+              wanted);
         CHECK(blake2_c_level == level);
     }
 }
@@ -71,7 +81,8 @@ static int chosen(void) {
 }
 
 int main(void) {
-    static const unsigned v2_first[] = {0, 9, 13, 19, 20, 23}, v3_first[] = {12, 22, 27, 28, 29}, v3_seventh[] = {3, 5, 8};
+    static const unsigned v2_first[] = {0, 9, 13, 19, 20, 23}, v3_first[] = {12, 22, 27, 28, 29},
+                          v3_seventh[] = {3, 5, 8};
     const struct made_up all = {0xd, 0x80000008u, 0x38d83201u | 1 << 20, 0x128, 0x21, 7};
     size_t i;
 
@@ -136,7 +147,9 @@ int main(int count, char **words) {
 #ifdef COMPILER_KNOWS
     if (count > 1 && !strcmp(words[1], "compiler")) {
         __builtin_cpu_init();
-        printf("%d\n", __builtin_cpu_supports("x86-64-v3") ? 3 : __builtin_cpu_supports("x86-64-v2") ? 2 : 0);
+        printf("%d\n", __builtin_cpu_supports("x86-64-v3")   ? 3
+                       : __builtin_cpu_supports("x86-64-v2") ? 2
+                                                             : 0);
     }
 #else
     (void)count, (void)words;

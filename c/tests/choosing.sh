@@ -7,15 +7,21 @@ is_x86 || here_texts=("$dist/aarch64/blake2_c.s")
 
 # The functions that blake2_c.h declares, by the compiler's reading of it.
 names_of_header() {
-    echo '#include <blake2_c.h>' | cc -E -I"$include" - | grep -o '\bblake2_c_[a-z0-9_]* *(' | tr -d ' (' |
+    echo '#include <blake2_c.h>' | cc -E -I"$include" - | grep -o '\bblake2_c_[a-z0-9_]* *(' |
+        tr -d ' (' |
         LC_ALL=C sort -u
 }
 
-names_of_object() { nm "$@" | awk 'NF == 3 && $2 ~ /[A-Z]/ { print $3 }' | sed 's/@.*//' | LC_ALL=C sort -u; }
+names_of_object() {
+    nm "$@" | awk 'NF == 3 && $2 ~ /[A-Z]/ { print $3 }' | sed 's/@.*//' | LC_ALL=C sort -u
+}
 
-# Names that an archive has for itself: those of the builds, which have the version in them, and those of choose.c.
+# Names that an archive has for itself: those of the builds, which have the version in them, and
+# those of choose.c.
 without_own() { sed "/_$(version_with _)_[a-z0-9]*\$/d;/^blake2_c_\(ask\|find\|level\)\$/d"; }
-version_with() { sed -n 's/^#define VULFSJOR_VERSION "\(.*\)"$/\1/p' "$include/blake2_c.h" | tr . "$1"; }
+version_with() {
+    sed -n 's/^#define VULFSJOR_VERSION "\(.*\)"$/\1/p' "$include/blake2_c.h" | tr . "$1"
+}
 
 # Header, archive and shared library have the same functions, and show nothing else.
 names_are_one() {
@@ -27,14 +33,16 @@ names_are_one() {
 # One function more in the header, or one less in a text, is refused before anything is made.
 join_refuses_a_difference() {
     local copy=$work/copy
-    mkdir -p "$copy" && cp -R "$here/choose.c" "$here/join.sh" "$here/include" "$here/libb2" "$copy" &&
+    mkdir -p "$copy" && cp -R "$here/choose.c" "$here/join.sh" "$here/include" "$here/libb2" \
+        "$copy" &&
         echo 'void blake2_c_forgotten(void);' >>"$copy/include/blake2_c.h" || return 1
-    ! "$copy/join.sh" "$work/refused" "${both[@]}" 2>"$work/said" && grep -q '^< blake2_c_forgotten$' "$work/said" &&
+    ! "$copy/join.sh" "$work/refused" "${both[@]}" 2>"$work/said" &&
+        grep -q '^< blake2_c_forgotten$' "$work/said" &&
         [ ! -e "$work/refused/libblake2_c.a" ]
 }
 
-# The shared library: its name, the version of its functions, what it needs, and that no page of it is
-# written and run.
+# The shared library: its name, the version of its functions, what it needs, and that no page of it
+# is written and run.
 shared_library_is_right() {
     local file=$prefix/lib/libblake2_c.so.0.1.0
     readelf -dW "$file" >"$work/dynamic" && readelf -lW "$file" >"$work/segments" || return 1
@@ -43,59 +51,71 @@ shared_library_is_right() {
         grep -q BIND_NOW "$work/dynamic" && ! grep NEEDED "$work/dynamic" | grep -v 'libc\.' &&
         grep -q GNU_RELRO "$work/segments" && grep -q 'GNU_STACK .* RW ' "$work/segments" &&
         ! grep -q 'LOAD.*RWE' "$work/segments" || return 1
-    [ "$(nm -D --defined-only "$file" | grep -c '@@BLAKE2_C_0$')" -eq "$(names_of_header | wc -l)" ] &&
+    [ "$(nm -D --defined-only "$file" | grep -c '@@BLAKE2_C_0$')" -eq \
+        "$(names_of_header | wc -l)" ] &&
         [ "$(readlink "$shared")" = libblake2_c.so.0 ] &&
         [ "$(readlink "$prefix/lib/libblake2_c.so.0")" = libblake2_c.so.0.1.0 ] &&
-        ! nm -D --undefined-only "$file" | grep -vE ' (w|U) (_ITM_|__cxa_finalize|__gmon|abort|write|mem(cpy|move|set))'
+        ! nm -D --undefined-only "$file" |
+        grep -vE ' (w|U) (_ITM_|__cxa_finalize|__gmon|abort|write|mem(cpy|move|set))'
 }
 
-# The texts alone, by a plain `cc -c`, and those of another version, in one shared library and in one run of the
-# assembler: no name of one is that of another, and none is exported.
+# The texts alone, by a plain `cc -c`, and those of another version, in one shared library and in
+# one run of the assembler: no name of one is that of another, and none is exported.
 texts_stand_together() {
     local text count=0 objects=()
     for text; do
-        sed "s/$(version_with _)/7_8_9/g" "$text" >"$work/other.s" && cc -c "$text" -o "$work/text_$count.o" &&
-            cc -c "$work/other.s" -o "$work/other_$count.o" && cat "$text" "$work/other.s" >>"$work/all.s" || return 1
+        sed "s/$(version_with _)/7_8_9/g" "$text" >"$work/other.s" &&
+            cc -c "$text" -o "$work/text_$count.o" &&
+            cc -c "$work/other.s" -o "$work/other_$count.o" &&
+            cat "$text" "$work/other.s" >>"$work/all.s" || return 1
         objects+=("$work/text_$count.o" "$work/other_$count.o")
         count=$((count + 1))
     done
-    cc -shared "${objects[@]}" -o "$work/texts.so" && [ -z "$(nm -D --defined-only "$work/texts.so")" ] &&
+    cc -shared "${objects[@]}" -o "$work/texts.so" &&
+        [ -z "$(nm -D --defined-only "$work/texts.so")" ] &&
         cc -c "$work/all.s" -o "$work/all.o"
 }
 
 # Somebody else's shared library, linked with one of the archives, shows none of its functions.
 names_are_hidden() {
     local archive=$1
-    printf '#include <blake2_c.h>\nint theirs(void *out) { return vulfsjor_blake2b(out, 64, 0, 0, 0, 0); }\n' \
+    printf '%s\n' '#include <blake2_c.h>' \
+        'int theirs(void *out) { return vulfsjor_blake2b(out, 64, 0, 0, 0, 0); }' \
         >"$work/theirs.c"
-    cc -fPIC -shared -I"$include" "$work/theirs.c" -Wl,--whole-archive "$archive" -Wl,--no-whole-archive \
-        -o "$work/libtheirs.so" && [ "$(names_of_object -D --defined-only "$work/libtheirs.so")" = theirs ]
+    cc -fPIC -shared -I"$include" "$work/theirs.c" -Wl,--whole-archive "$archive" \
+        -Wl,--no-whole-archive -o "$work/libtheirs.so" &&
+        [ "$(names_of_object -D --defined-only "$work/libtheirs.so")" = theirs ]
 }
 
 # choose.c over functions of its own.
 compile_choose() {
     printf 'CALL("probe")\nCALL("probe_arguments")\n' >"$work/functions.h" &&
-        cc -std=gnu99 "${warnings[@]}" -I"$work" -I"$include" -o "$work/$1" "$tests/choose.c" "${@:2}"
+        cc -std=gnu99 "${warnings[@]}" -I"$work" -I"$include" -o "$work/$1" "$tests/choose.c" \
+            "${@:2}"
 }
 
-made_up_processors() { compile_choose "made_up$1" "-O$1" -DPROCESSOR -I"$tests" && "$work/made_up$1"; }
+made_up_processors() {
+    compile_choose "made_up$1" "-O$1" -DPROCESSOR -I"$tests" && "$work/made_up$1"
+}
 
 # The compiler's own test of a processor, where it has one.
 compiler_knows() {
-    echo 'int main(void) { return __builtin_cpu_supports("x86-64-v3") && __builtin_cpu_supports("x86-64-v2"); }' |
+    echo 'int main(void) {
+        return __builtin_cpu_supports("x86-64-v3") && __builtin_cpu_supports("x86-64-v2"); }' |
         cc -x c -o /dev/null - 2>/dev/null && echo -DCOMPILER_KNOWS
 }
 
 # The library joined by another compiler, and what it makes of choose.c.
 joined_by() {
     CC=$1 "$here/join.sh" "$work/by_$1" "${both[@]}" &&
-        "$1" -std=gnu99 "${warnings[@]}" -O1 -DPROCESSOR -I"$work" -I"$include" -I"$tests" -o "$work/made_up_by" "$tests/choose.c" &&
-        "$work/made_up_by" && "$1" -std=c99 -I"$include" "$tests/linked.c" "$work/by_$1/libblake2_c.a" \
-        -o "$work/linked_by" -pthread && "$work/linked_by"
+        "$1" -std=gnu99 "${warnings[@]}" -O1 -DPROCESSOR -I"$work" -I"$include" -I"$tests" \
+            -o "$work/made_up_by" "$tests/choose.c" &&
+        "$work/made_up_by" && "$1" -std=c99 -I"$include" "$tests/linked.c" \
+            "$work/by_$1/libblake2_c.a" -o "$work/linked_by" -pthread && "$work/linked_by"
 }
 
-# What the choice says on this processor or an emulated one: the level, 3 or 2, or 0 for an end with a line.
-# Where the compiler knows the levels, it has to say the same.
+# What the choice says on this processor or an emulated one: the level, 3 or 2, or 0 for an end with
+# a line. Where the compiler knows the levels, it has to say the same.
 chooses_level() {
     local wanted=$1 lines
     shift
@@ -105,7 +125,8 @@ chooses_level() {
     grep -qx begun "$work/said" || return 1
     if [ "$wanted" = 0 ]; then
         [ $status -eq 134 ] && [ "$(wc -l <"$work/said")" -eq 1 ] &&
-            [ "$(grep -c '^blake2_c: this processor is below x86-64-v2, which the library needs$' "$work/error")" -eq 1 ]
+            [ "$(grep -cxF 'blake2_c: this processor is below x86-64-v2, which the library needs' \
+                "$work/error")" -eq 1 ]
     else
         [ $status -eq 0 ] && [ "$(sed -n 2p "$work/said")" = "$wanted $wanted" ] || return 1
         lines=$(sed -n '3,$p' "$work/said")
@@ -122,27 +143,34 @@ level_of_system() {
     echo $level
 }
 
-# The example of the README, linked statically, on an emulated processor: its digest, or an end with a line.
+# The example of the README, linked statically, on an emulated processor: its digest, or an end with
+# a line.
 example_runs_on() {
     local wanted=$1
     qemu-x86_64 -cpu "$2" "$work/hello_static" >"$work/said" 2>"$work/error"
     local status=$?
     cat "$work/error"
     if [ "$wanted" = 0 ]; then
-        [ $status -eq 134 ] && [ ! -s "$work/said" ] && grep -q '^blake2_c: this processor is below' "$work/error"
+        [ $status -eq 134 ] && [ ! -s "$work/said" ] &&
+            grep -q '^blake2_c: this processor is below' "$work/error"
     else
         [ $status -eq 0 ] && diff "$work/said" <(wanted_of_readme)
     fi
 }
 
-# Emulated processors: what is sold, and one with each of the features that a level asks for taken away.
+# Emulated processors: what is sold, and one with each of the features that a level asks for taken
+# away.
 emulated() {
     local names level=$1
     case $level in
         0) names="qemu64 core2duo Penryn Opteron_G3"
-           for feature in pni ssse3 cx16 sse4.1 sse4.2 popcnt lahf-lm; do names+=" Haswell,-$feature"; done ;;
+           for feature in pni ssse3 cx16 sse4.1 sse4.2 popcnt lahf-lm; do
+               names+=" Haswell,-$feature"
+           done ;;
         2) names="Nehalem SandyBridge IvyBridge Denverton Opteron_G5"
-           for feature in fma movbe xsave avx f16c bmi1 avx2 bmi2 abm; do names+=" Haswell,-$feature"; done ;;
+           for feature in fma movbe xsave avx f16c bmi1 avx2 bmi2 abm; do
+               names+=" Haswell,-$feature"
+           done ;;
         3) names="Haswell Broadwell Skylake-Server EPYC max" ;;
     esac
     echo "$names"
@@ -180,21 +208,22 @@ test_emulated() {
 make_build() { "$here/join.sh" --test "$1" "$work/build_$1" "${both[@]}"; }
 
 test_of_build() {
-    cc -std=c99 -O2 -I"$include" -o "$work/test_build" "$tests/test.c" "$work/build_$1/libblake2_c.a" \
-        $(family_words "$2") && "$work/test_build" "$cases/$2"
+    cc -std=c99 -O2 -I"$include" -o "$work/test_build" "$tests/test.c" \
+        "$work/build_$1/libblake2_c.a" $(family_words "$2") && "$work/test_build" "$cases/$2"
 }
 
 keys_of_build() {
-    cc -std=gnu99 -O2 -Wl,-z,now -I"$include" -o "$work/keys_build" "$tests/key_scan.c" "$work/build_$1/libblake2_c.a" \
-        $(family_words "$2") && "$work/keys_build"
+    cc -std=gnu99 -O2 -Wl,-z,now -I"$include" -o "$work/keys_build" "$tests/key_scan.c" \
+        "$work/build_$1/libblake2_c.a" $(family_words "$2") && "$work/keys_build"
 }
 
 # Two modules, each with one build, and a program whose runs cross between them.
 runs_cross() {
     local build
     for build in 2 3; do
-        cc -std=c99 -O2 "${warnings[@]}" -fPIC -shared -fvisibility=hidden -DMODULE -I"$include" "$tests/cross.c" \
-            "$work/build_$build/libblake2_c.a" -o "$work/cross_$build.so" || return 1
+        cc -std=c99 -O2 "${warnings[@]}" -fPIC -shared -fvisibility=hidden -DMODULE -I"$include" \
+            "$tests/cross.c" "$work/build_$build/libblake2_c.a" -o "$work/cross_$build.so" ||
+            return 1
     done
     cc -std=c99 -O2 "${warnings[@]}" -I"$include" "$tests/cross.c" -o "$work/cross" -ldl &&
         "$work/cross" "$work/cross_2.so" "$work/cross_3.so"
@@ -202,11 +231,17 @@ runs_cross() {
 
 test_builds() {
     local build family builds=2
-    if [ "$(level_of_system)" = 3 ]; then builds="2 3 0"; else skip "the build for x86-64-v3" "the processor is no such"; fi
+    if [ "$(level_of_system)" = 3 ]; then
+        builds="2 3 0"
+    else
+        skip "the build for x86-64-v3" "the processor is no such"
+    fi
     for build in $builds; do
         check "a library with build $build alone (0: either)" make_build $build || return
         for family in b s; do
-            if has python3; then check "test.c, blake2$family, by build $build" test_of_build $build $family; fi
+            if has python3; then
+                check "test.c, blake2$family, by build $build" test_of_build $build $family
+            fi
             check "key_scan.c, blake2$family, by build $build" keys_of_build $build $family
         done
     done
@@ -217,17 +252,19 @@ test_builds() {
 linked_program() {
     local library
     for library in "$archive" "$shared"; do
-        cc -std=c99 -O2 "${warnings[@]}" -I"$include" "${@}" "$tests/linked.c" "$library" -o "$work/linked_one" -pthread &&
+        cc -std=c99 -O2 "${warnings[@]}" -I"$include" "${@}" "$tests/linked.c" "$library" \
+            -o "$work/linked_one" -pthread &&
             LD_LIBRARY_PATH=$prefix/lib "$work/linked_one" || return 1
     done
 }
 
 instructions() {
-    valgrind --tool=callgrind --callgrind-out-file=/dev/null "$@" 2>&1 | sed -n 's/.*Collected : \([0-9]*\)$/\1/p'
+    valgrind --tool=callgrind --callgrind-out-file=/dev/null "$@" 2>&1 |
+        sed -n 's/.*Collected : \([0-9]*\)$/\1/p'
 }
 
-# A task of count.c takes at most 15 instructions a call more than the build for this processor alone, and no
-# fewer: the other build has other counts.
+# A task of count.c takes at most 15 instructions a call more than the build for this processor
+# alone, and no fewer: the other build has other counts.
 costs_little() {
     local task=$1 level chosen direct
     level=$(valgrind -q "$work/choose" | sed -n '2s/ .*//p')
@@ -247,7 +284,9 @@ test_cost() {
         return
     fi
     check "choose.c for valgrind" compile_choose choose -O2 $(compiler_knows) || return
-    for task in 0 1 4 7 10 11; do check "at most 15 instructions a call more, task $task" costs_little $task; done
+    for task in 0 1 4 7 10 11; do
+        check "at most 15 instructions a call more, task $task" costs_little $task
+    done
 }
 
 test_choosing() {
@@ -269,7 +308,11 @@ test_choosing() {
     check "join.sh refuses another list of functions" join_refuses_a_difference
     check "processors that are made up" made_up_processors 0
     check "processors that are made up, optimised" made_up_processors 2
-    if has clang; then check "the library joined by clang" joined_by clang; else skip "the library joined by clang" "no clang"; fi
+    if has clang; then
+        check "the library joined by clang" joined_by clang
+    else
+        skip "the library joined by clang" "no clang"
+    fi
     check "choose.c" compile_choose choose -O2 $(compiler_knows) &&
         check "the choice on this processor" chooses_level "$(level_of_system)" env
     test_builds

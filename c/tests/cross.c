@@ -1,39 +1,57 @@
-/* A run that goes from one build to the other between its calls has the states and digests of a run in one
- * build. It loads two modules, each of which is this file compiled with MODULE and linked with the library
- * that takes one build: cross V2.so V3.so. */
+/* A run that goes from one build to the other between its calls has the states and digests of a run
+ * in one build. It loads two modules, each of which is this file compiled with MODULE and linked
+ * with the library that takes one build: cross V2.so V3.so. */
 #define _GNU_SOURCE /* for RTLD_LOCAL in C99 */
 #include "blake2_c.h"
 
 enum { BLAKE2B, BLAKE2S, TREE, KINDS };
 enum { INIT, INIT_NODE, UPDATE, SET_LAST_NODE, RESET, FINAL, VERIFY, OPERATIONS };
 
-/* One call of this kind: a text of bytes that the operation takes, and the digest's or the tag's place. */
-typedef int call_function(int kind, int operation, void *state, size_t size, uint8_t *out, const uint8_t *in,
-                          size_t length);
+/* One call of this kind: a text of bytes that the operation takes, and the digest's or the tag's
+ * place. */
+typedef int call_function(int kind, int operation, void *state, size_t size, uint8_t *out,
+                          const uint8_t *in, size_t length);
 
 #ifdef MODULE
-#define OF_FAMILY(x)                                                                                       \
-    switch (operation) {                                                                                   \
-        case INIT: return x##_init_salt_personal(state, size, in, length, in + 1, length % 9, in + 2, size % 9); \
-        case INIT_NODE: return x##_init_tree(state, size, in, length, in + 3, size % 9, in, length % 9, &node); \
-        case UPDATE: return x##_update(state, in, length);                                                 \
-        case SET_LAST_NODE: return x##_set_last_node(state, length % 2);                                   \
-        case RESET: return x##_reset(state);                                                               \
-        case FINAL: return x##_final(state, out, size);                                                    \
-        default: return x##_verify(state, out, size);                                                      \
+#define OF_FAMILY(x)                                                                           \
+    switch (operation) {                                                                       \
+        case INIT:                                                                             \
+            return x##_init_salt_personal(state, size, in, length, in + 1, length % 9, in + 2, \
+                                          size % 9);                                           \
+        case INIT_NODE:                                                                        \
+            return x##_init_tree(state, size, in, length, in + 3, size % 9, in, length % 9,    \
+                                 &node);                                                       \
+        case UPDATE:                                                                           \
+            return x##_update(state, in, length);                                              \
+        case SET_LAST_NODE:                                                                    \
+            return x##_set_last_node(state, length % 2);                                       \
+        case RESET:                                                                            \
+            return x##_reset(state);                                                           \
+        case FINAL:                                                                            \
+            return x##_final(state, out, size);                                                \
+        default:                                                                               \
+            return x##_verify(state, out, size);                                               \
     }
 
-static int of_tree(int operation, void *state, size_t size, uint8_t *out, const uint8_t *in, size_t length) {
+static int of_tree(int operation, void *state, size_t size, uint8_t *out, const uint8_t *in,
+                   size_t length) {
     switch (operation) {
         case UPDATE: return vulfsjor_tree_update(state, in, length);
         case FINAL: return vulfsjor_tree_final(state, out, size);
-        default: return vulfsjor_tree_init(state, size, in, length % 17, in + 5, size % 17, 1 + (uint32_t)length * 9);
+        default:
+            return vulfsjor_tree_init(state, size, in, length % 17, in + 5, size % 17,
+                                      1 + (uint32_t)length * 9);
     }
 }
 
 __attribute__((visibility("default"))) call_function call;
-int call(int kind, int operation, void *state, size_t size, uint8_t *out, const uint8_t *in, size_t length) {
-    vulfsjor_tree node = {.node_offset = length, .leaf_length = 4096, .fanout = 2, .depth = 3, .node_depth = 1,
+int call(int kind, int operation, void *state, size_t size, uint8_t *out, const uint8_t *in,
+         size_t length) {
+    vulfsjor_tree node = {.node_offset = length,
+                          .leaf_length = 4096,
+                          .fanout = 2,
+                          .depth = 3,
+                          .node_depth = 1,
                           .inner_length = 32};
     if (kind == TREE) return of_tree(operation, state, size, out, in, length);
     if (kind == BLAKE2B) OF_FAMILY(vulfsjor_blake2b)
@@ -62,7 +80,8 @@ static uint32_t random_below(uint32_t most) {
 
 /* The same calls on a state that stays in one build, each in turn, and on one that crosses. */
 static void run(int kind) {
-    static const size_t sizes[KINDS] = {sizeof(vulfsjor_blake2b_state), sizeof(vulfsjor_blake2s_state),
+    static const size_t sizes[KINDS] = {sizeof(vulfsjor_blake2b_state),
+                                        sizeof(vulfsjor_blake2s_state),
                                         sizeof(vulfsjor_tree_state)};
     static vulfsjor_tree_state kept, crossing;
     uint8_t digest[64] = {0}, other[64] = {0};
@@ -70,8 +89,11 @@ static void run(int kind) {
     int home = (int)random_below(2), calls = 2 + (int)random_below(9);
 
     for (int i = 0; i < calls; i++) {
-        int operation = i == 0 ? (int)random_below(2) : i + 1 < calls ? UPDATE + (int)random_below(3) : FINAL;
-        size_t length = i == 0 ? random_below(33) : random_below(random_below(2) ? 300 : sizeof data - 8);
+        int operation = i == 0          ? (int)random_below(2)
+                        : i + 1 < calls ? UPDATE + (int)random_below(3)
+                                        : FINAL;
+        size_t length =
+            i == 0 ? random_below(33) : random_below(random_below(2) ? 300 : sizeof data - 8);
         const uint8_t *in = data + random_below(8);
         if (kind == TREE && i > 0 && i + 1 < calls) operation = UPDATE;
         if (operation == FINAL && kind != TREE && random_below(2)) {

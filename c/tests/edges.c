@@ -1,14 +1,15 @@
-/* The edges of each function of blake2_c.h: each pointer null with length 0 and 1, every size from 0
- * to 65, counts near 2^64 and 2^58, flags, parameter blocks, states that are not ready, what stays of
- * a key, several messages, constants, the state's fields. Prints a line for each digest whose
- * value Python's hashlib has to agree with, as check_lines.py reads them; answers 0 where all else
- * is as it should be.
+/* The edges of each function of blake2_c.h: each pointer null with length 0 and 1, every size from
+ * 0 to 65, counts near 2^64 and 2^58, flags, parameter blocks, states that are not ready, what
+ * stays of a key, several messages, constants, the state's fields. Prints a line for each digest
+ * whose value Python's hashlib has to agree with, as check_lines.py reads them; answers 0 where all
+ * else is as it should be.
  *
  *   cc -std=c99 -Wall -Wextra -Wpedantic -Werror -I FOLDER/include edges.c ARCHIVE -o edges
  *   cc the same with -DTEST_S                   the same of BLAKE2s, without the tree
  *   ./edges | python3 check_lines.py            status 0 where every digest is hashlib's
- *   ./edges 4294967396                          one message of so many zeros too: 4 GiB of address space,
- *                                               without which it is skipped, and 11 s for BLAKE2b */
+ *   ./edges 4294967396                          one message of so many zeros too: 4 GiB of address
+ *                                               space, without which it is skipped, and 11 s for
+ *                                               BLAKE2b */
 #include "blake2_c.h"
 
 #include <stdio.h>
@@ -68,11 +69,12 @@ static void print_hex(const uint8_t *data, size_t length) {
     for (size_t i = 0; i < length; i++) printf("%02x", data[i]);
 }
 
-/* A line for hashlib: KIND FAMILY SIZE KEYLEN SALTLEN PERSONALEN START LENGTH DIGEST. The message is
- * LENGTH of the bytes from START on. */
-static void tell(size_t size, size_t keylen, size_t saltlen, size_t personalen, size_t start, size_t length,
-                 const uint8_t *digest) {
-    printf("hash %s %zu %zu %zu %zu %zu %zu ", FAMILY, size, keylen, saltlen, personalen, start, length);
+/* A line for hashlib: KIND FAMILY SIZE KEYLEN SALTLEN PERSONALEN START LENGTH DIGEST. The message
+ * is LENGTH of the bytes from START on. */
+static void tell(size_t size, size_t keylen, size_t saltlen, size_t personalen, size_t start,
+                 size_t length, const uint8_t *digest) {
+    printf("hash %s %zu %zu %zu %zu %zu %zu ", FAMILY, size, keylen, saltlen, personalen, start,
+           length);
     print_hex(digest, size);
     putchar('\n');
 }
@@ -106,9 +108,11 @@ static void every_size(void) {
         state_t state;
         int taken = size >= 1 && size <= MAX, wanted = taken ? 0 : -1;
         size_t written = taken ? size : 0;
-        CHECK(ONE_CALL(fresh(out, 80), size, bytes, 200, 0, 0) == wanted && is_untouched(out, written, 80));
+        CHECK(ONE_CALL(fresh(out, 80), size, bytes, 200, 0, 0) == wanted &&
+              is_untouched(out, written, 80));
         if (taken) tell(size, 0, 0, 0, 0, 200, out);
-        CHECK(ONE_CALL(fresh(out, 80), size, bytes, 200, key, 5) == wanted && is_untouched(out, written, 80));
+        CHECK(ONE_CALL(fresh(out, 80), size, bytes, 200, key, 5) == wanted &&
+              is_untouched(out, written, 80));
         if (taken) tell(size, 5, 0, 0, 0, 200, out);
         memset(&state, 0x5a, sizeof state);
         CHECK(BLAKE(init)(&state, size) == wanted && BLAKE(digest_size)(&state) == written);
@@ -116,22 +120,27 @@ static void every_size(void) {
         CHECK(BLAKE(update)(&state, bytes, 7) == wanted);
         /* One byte less than the digest is refused, and all sizes above are taken. */
         state_t before = state;
-        if (taken) CHECK(BLAKE(final)(&state, fresh(out, 80), size - 1) == -1 && is_untouched(out, 0, 80));
+        if (taken)
+            CHECK(BLAKE(final)(&state, fresh(out, 80), size - 1) == -1 && is_untouched(out, 0, 80));
         CHECK(SAME(state, before));
         for (size_t room = size; room <= size + 2; room++) {
             state = before;
-            CHECK(BLAKE(final)(&state, fresh(out, 80), room) == wanted && is_untouched(out, written, 80));
+            CHECK(BLAKE(final)(&state, fresh(out, 80), room) == wanted &&
+                  is_untouched(out, written, 80));
             CHECK(is_zero(&state, sizeof state));
         }
         if (taken) tell(size, 0, 0, 0, 0, 7, out);
         memset(&state, 0x5a, sizeof state);
-        CHECK(BLAKE(init_key)(&state, size, key, 3) == wanted && BLAKE(digest_size)(&state) == written);
+        CHECK(BLAKE(init_key)(&state, size, key, 3) == wanted &&
+              BLAKE(digest_size)(&state) == written);
         CHECK(taken || is_zero(&state, sizeof state));
-        if (taken) CHECK(BLAKE(final)(&state, fresh(again, 80), 80) == 0 && is_untouched(again, size, 80));
+        if (taken)
+            CHECK(BLAKE(final)(&state, fresh(again, 80), 80) == 0 && is_untouched(again, size, 80));
         if (taken) tell(size, 3, 0, 0, 0, 0, again);
         CHECK(BLAKE(init_salt_personal)(&state, size, key, 2, salt, 3, persona, 4) == wanted);
         CHECK(BLAKE(digest_size)(&state) == written);
-        if (taken) CHECK(BLAKE(final)(&state, fresh(again, 80), 80) == 0 && is_untouched(again, size, 80));
+        if (taken)
+            CHECK(BLAKE(final)(&state, fresh(again, 80), 80) == 0 && is_untouched(again, size, 80));
         if (taken) tell(size, 2, 3, 4, 0, 0, again);
     }
 }
@@ -168,8 +177,8 @@ static void every_length(void) {
 
 /* Lengths that 32 bits would take for others. */
 static void huge_lengths(void) {
-    static const size_t lengths[] = {(size_t)1 << 32, ((size_t)1 << 32) + 1, ((size_t)1 << 32) + MAX, ~(size_t)0,
-                                     (size_t)1 << 63};
+    static const size_t lengths[] = {(size_t)1 << 32, ((size_t)1 << 32) + 1,
+                                     ((size_t)1 << 32) + MAX, ~(size_t)0, (size_t)1 << 63};
     uint8_t out[MAX];
     state_t state;
     for (size_t i = 0; i < sizeof lengths / sizeof *lengths; i++) {
@@ -181,9 +190,11 @@ static void huge_lengths(void) {
         memset(&state, 0x5a, sizeof state);
         CHECK(BLAKE(init_key)(&state, MAX, key, length) == -1 && is_zero(&state, sizeof state));
         memset(&state, 0x5a, sizeof state);
-        CHECK(BLAKE(init_salt_personal)(&state, MAX, 0, 0, salt, length, 0, 0) == -1 && is_zero(&state, sizeof state));
+        CHECK(BLAKE(init_salt_personal)(&state, MAX, 0, 0, salt, length, 0, 0) == -1 &&
+              is_zero(&state, sizeof state));
         memset(&state, 0x5a, sizeof state);
-        CHECK(BLAKE(init_salt_personal)(&state, MAX, 0, 0, 0, 0, persona, length) == -1 && is_zero(&state, sizeof state));
+        CHECK(BLAKE(init_salt_personal)(&state, MAX, 0, 0, 0, 0, persona, length) == -1 &&
+              is_zero(&state, sizeof state));
     }
 }
 
@@ -242,7 +253,8 @@ static void null_calls(void) {
     CHECK(BLAKE(update)(&state, bytes, 0) == 0 && SAME(state, before));
     CHECK(BLAKE(final)(NULL, fresh(out, MAX), MAX) == -1 && BLAKE(final)(NULL, NULL, 0) == -1);
     CHECK(BLAKE(final)(NULL, out, 0) == -1 && is_untouched(out, 0, MAX));
-    CHECK(BLAKE(final)(&state, NULL, MAX) == -1 && BLAKE(final)(&state, NULL, 0) == -1 && SAME(state, before));
+    CHECK(BLAKE(final)(&state, NULL, MAX) == -1 && BLAKE(final)(&state, NULL, 0) == -1 &&
+          SAME(state, before));
     CHECK(BLAKE(final)(&state, out, 0) == -1 && SAME(state, before) && is_untouched(out, 0, MAX));
     CHECK(BLAKE(verify)(NULL, out, 1) == -1 && BLAKE(verify)(NULL, out, 0) == -1);
     CHECK(BLAKE(verify)(&state, NULL, 1) == -1 && SAME(state, before));
@@ -251,7 +263,8 @@ static void null_calls(void) {
     CHECK(BLAKE(reset)(NULL) == -1 && BLAKE(digest_size)(NULL) == 0);
     BLAKE(wipe)(NULL);
     CHECK(ONE_CALL(NULL, MAX, bytes, 1, key, 1) == -1 && ONE_CALL(NULL, 0, bytes, 1, key, 1) == -1);
-    CHECK(ONE_CALL(fresh(out, MAX), MAX, NULL, 1, key, 1) == -1 && ONE_CALL(out, MAX, bytes, 1, NULL, 1) == -1);
+    CHECK(ONE_CALL(fresh(out, MAX), MAX, NULL, 1, key, 1) == -1 &&
+          ONE_CALL(out, MAX, bytes, 1, NULL, 1) == -1);
     CHECK(is_untouched(out, 0, MAX));
     CHECK(ONE_CALL(out, MAX, NULL, 0, key, 1) == 0);
     tell(MAX, 1, 0, 0, 0, 0, out);
@@ -288,7 +301,8 @@ static void stays(state_t state) {
     CHECK(BLAKE(digest_size)(&state) == 0);
     CHECK(BLAKE(update)(&state, bytes, 5) == -1 && SAME(state, before));
     CHECK(BLAKE(update)(&state, bytes, 0) == -1 && SAME(state, before));
-    CHECK(BLAKE(final)(&state, out, sizeof out) == -1 && SAME(state, before) && is_untouched(out, 0, sizeof out));
+    CHECK(BLAKE(final)(&state, out, sizeof out) == -1 && SAME(state, before) &&
+          is_untouched(out, 0, sizeof out));
     CHECK(BLAKE(verify)(&state, bytes, MAX) == -1 && SAME(state, before));
     CHECK(BLAKE(verify)(&state, bytes, 0) == -1 && SAME(state, before));
     CHECK(BLAKE(set_last_node)(&state, 1) == -1 && SAME(state, before));
@@ -300,7 +314,8 @@ static void stays(state_t state) {
 
 static void unready_states(void) {
     state_t made, state;
-    CHECK(BLAKE(init_key)(&made, MAX, key, MAX) == 0 && BLAKE(update)(&made, bytes, BLOCK + 3) == 0);
+    CHECK(BLAKE(init_key)(&made, MAX, key, MAX) == 0 &&
+          BLAKE(update)(&made, bytes, BLOCK + 3) == 0);
     memset(&state, 0, sizeof state);
     stays(state);
     memset(&state, 0xff, sizeof state);
@@ -349,7 +364,8 @@ static void long_counts(void) {
     CHECK(BLAKE(update)(&state, bytes, BLOCK) == 0 && state.counter == (uint64_t)1 << 32);
     CHECK(state.pending_length == 3);
     state.counter = ((uint64_t)1 << 40) + 7 * BLOCK;
-    CHECK(BLAKE(update)(&state, bytes, 3 * BLOCK) == 0 && state.counter == ((uint64_t)1 << 40) + 10 * BLOCK);
+    CHECK(BLAKE(update)(&state, bytes, 3 * BLOCK) == 0 &&
+          state.counter == ((uint64_t)1 << 40) + 10 * BLOCK);
 }
 
 /* ---- flags */
@@ -358,7 +374,8 @@ static void flags(void) {
     static const int on[] = {1, 2, 255, 256, 65536, -1, 1 << 30, (int)(1u << 31), 0x7fffffff};
     uint8_t off_digest[MAX], on_digest[MAX], out[MAX];
     state_t made, state;
-    CHECK(BLAKE(init)(&made, MAX) == 0 && made.last_node == 0 && BLAKE(update)(&made, bytes, 10) == 0);
+    CHECK(BLAKE(init)(&made, MAX) == 0 && made.last_node == 0 &&
+          BLAKE(update)(&made, bytes, 10) == 0);
     state = made;
     CHECK(BLAKE(final)(&state, off_digest, MAX) == 0);
     tell(MAX, 0, 0, 0, 0, 10, off_digest);
@@ -391,8 +408,9 @@ static void flags(void) {
 
 /* A line for hashlib: a node without key, salt and persona, over the first 20 bytes. */
 static void tell_node(const vulfsjor_tree *tree, const uint8_t *digest) {
-    printf("node %s %u %u %lu %llu %u %u ", FAMILY, tree->fanout, tree->depth, (unsigned long)tree->leaf_length,
-           (unsigned long long)tree->node_offset, tree->node_depth, tree->inner_length);
+    printf("node %s %u %u %lu %llu %u %u ", FAMILY, tree->fanout, tree->depth,
+           (unsigned long)tree->leaf_length, (unsigned long long)tree->node_offset,
+           tree->node_depth, tree->inner_length);
     print_hex(digest, MAX);
     putchar('\n');
 }
@@ -401,20 +419,33 @@ static void places(void) {
     uint8_t out[MAX];
     state_t state;
     uint64_t most = sizeof(word) == 8 ? ~(uint64_t)0 : ((uint64_t)1 << 48) - 1;
-    const vulfsjor_tree trees[] = {
-        {.fanout = 1, .depth = 1}, {.fanout = 0, .depth = 1}, {.fanout = 255, .depth = 255},
-        {.depth = 1, .leaf_length = 0xffffffff}, {.depth = 1, .leaf_length = 0x01020304},
-        {.depth = 1, .node_offset = most}, {.depth = 1, .node_offset = 0x010203040506},
-        {.depth = 1, .node_offset = (uint64_t)1 << 32}, {.depth = 1, .node_depth = 255},
-        {.depth = 1, .inner_length = MAX}, {.fanout = 9, .depth = 8, .leaf_length = 7, .node_offset = 6, .node_depth = 5,
-        .inner_length = 4}};
+    const vulfsjor_tree trees[] = {{.fanout = 1, .depth = 1},
+                                   {.fanout = 0, .depth = 1},
+                                   {.fanout = 255, .depth = 255},
+                                   {.depth = 1, .leaf_length = 0xffffffff},
+                                   {.depth = 1, .leaf_length = 0x01020304},
+                                   {.depth = 1, .node_offset = most},
+                                   {.depth = 1, .node_offset = 0x010203040506},
+                                   {.depth = 1, .node_offset = (uint64_t)1 << 32},
+                                   {.depth = 1, .node_depth = 255},
+                                   {.depth = 1, .inner_length = MAX},
+                                   {.fanout = 9,
+                                    .depth = 8,
+                                    .leaf_length = 7,
+                                    .node_offset = 6,
+                                    .node_depth = 5,
+                                    .inner_length = 4}};
     for (size_t i = 0; i < sizeof trees / sizeof *trees; i++) {
-        CHECK(BLAKE(init_tree)(&state, MAX, 0, 0, 0, 0, 0, 0, &trees[i]) == 0 && state.last_node == 0);
+        CHECK(BLAKE(init_tree)(&state, MAX, 0, 0, 0, 0, 0, 0, &trees[i]) == 0 &&
+              state.last_node == 0);
         CHECK(BLAKE(update)(&state, bytes, 20) == 0 && BLAKE(final)(&state, out, MAX) == 0);
         tell_node(&trees[i], out);
     }
-    const vulfsjor_tree refused[] = {{.fanout = 1, .depth = 0}, {.depth = 1, .inner_length = MAX + 1},
-        {.depth = 1, .inner_length = 255}, {.depth = sizeof(word) == 8 ? 0 : 1, .node_offset = most + 1},
+    const vulfsjor_tree refused[] = {
+        {.fanout = 1, .depth = 0},
+        {.depth = 1, .inner_length = MAX + 1},
+        {.depth = 1, .inner_length = 255},
+        {.depth = sizeof(word) == 8 ? 0 : 1, .node_offset = most + 1},
         {.depth = sizeof(word) == 8 ? 0 : 1, .node_offset = ~(uint64_t)0}};
     for (size_t i = 0; i < sizeof refused / sizeof *refused; i++)
         REFUSED(BLAKE(init_tree)(&state, MAX, 0, 0, 0, 0, 0, 0, &refused[i]));
@@ -454,7 +485,8 @@ static void blocks(void) {
         if (size > MAX) {
             REFUSED(BLAKE(init_param)(&state, &param));
         } else {
-            CHECK(BLAKE(init_param)(&state, &param) == 0 && state.start_length == 0 && state.pending_length == 0);
+            CHECK(BLAKE(init_param)(&state, &param) == 0 && state.start_length == 0 &&
+                  state.pending_length == 0);
         }
     }
     for (size_t length = 0; length <= sizeof param + 1; length++) {
@@ -475,14 +507,17 @@ static void keyed_states(void) {
     CHECK(BLAKE(init_key)(&made, MAX, key, MAX) == 0);
     CHECK(made.pending_length == BLOCK && made.start_length == BLOCK && made.counter == 0);
     CHECK(!memcmp(made.pending, block, BLOCK) && !memcmp(made.start_block, block, BLOCK));
-    CHECK(!memcmp(made.chain, made.first, sizeof made.chain) && made.output_size == MAX && made.last_node == 0);
+    CHECK(!memcmp(made.chain, made.first, sizeof made.chain) && made.output_size == MAX &&
+          made.last_node == 0);
     state = made;
     BLAKE(wipe)(&state);
     CHECK(is_zero(&state, sizeof state));
     state = made;
     CHECK(BLAKE(update)(&state, bytes, 3 * BLOCK + 5) == 0);
-    CHECK(state.counter == 4 * BLOCK && state.pending_length == 5 && !memcmp(state.pending, bytes + 3 * BLOCK, 5));
-    CHECK(!memcmp(state.start_block, block, BLOCK) && memcmp(state.chain, made.chain, sizeof made.chain));
+    CHECK(state.counter == 4 * BLOCK && state.pending_length == 5 &&
+          !memcmp(state.pending, bytes + 3 * BLOCK, 5));
+    CHECK(!memcmp(state.start_block, block, BLOCK) &&
+          memcmp(state.chain, made.chain, sizeof made.chain));
     CHECK(!memcmp(state.first, made.first, sizeof made.first));
     state_t later = state;
     CHECK(BLAKE(reset)(&state) == 0 && SAME(state, made));
@@ -498,16 +533,19 @@ static void keyed_states(void) {
     state = later;
     CHECK(BLAKE(verify)(&state, out, 0) == -1 && is_zero(&state, sizeof state));
     state = later;
-    CHECK(BLAKE(init)(&state, MAX) == 0 && is_zero(state.pending, BLOCK) && is_zero(state.start_block, BLOCK));
+    CHECK(BLAKE(init)(&state, MAX) == 0 && is_zero(state.pending, BLOCK) &&
+          is_zero(state.start_block, BLOCK));
     state = later;
     CHECK(BLAKE(init)(&state, 0) == -1 && is_zero(&state, sizeof state));
     state = later;
-    CHECK(BLAKE(init_salt_personal)(&state, MAX, 0, 0, salt, SALT + 1, 0, 0) == -1 && is_zero(&state, sizeof state));
+    CHECK(BLAKE(init_salt_personal)(&state, MAX, 0, 0, salt, SALT + 1, 0, 0) == -1 &&
+          is_zero(&state, sizeof state));
 }
 
 /* ---- several messages */
 
-static void several(size_t count, size_t length, size_t size, size_t keylen, size_t saltlen, size_t personalen) {
+static void several(size_t count, size_t length, size_t size, size_t keylen, size_t saltlen,
+                    size_t personalen) {
     static uint8_t out[24 * MAX + 16];
     vulfsjor_message messages[24];
     /* Message i has length bytes, but of message 6 one more, and starts at its own place. */
@@ -515,16 +553,21 @@ static void several(size_t count, size_t length, size_t size, size_t keylen, siz
         messages[i].bytes = bytes + i;
         messages[i].length = length + (i == 6);
     }
-    CHECK(BLAKE(many)(fresh(out, sizeof out), size, messages, count, key, keylen, salt, saltlen, persona, personalen) == 0);
+    CHECK(BLAKE(many)(fresh(out, sizeof out), size, messages, count, key, keylen, salt, saltlen,
+                      persona, personalen) == 0);
     CHECK(is_untouched(out, count * size, sizeof out));
-    for (size_t i = 0; i < count; i++) tell(size, keylen, saltlen, personalen, i, messages[i].length, out + i * size);
+    for (size_t i = 0; i < count; i++)
+        tell(size, keylen, saltlen, personalen, i, messages[i].length, out + i * size);
 }
 
 static void many_messages(void) {
     for (size_t count = 0; count <= 21; count++) several(count, 2 * BLOCK, MAX, 0, 0, 0);
-    for (size_t size = 1; size <= MAX; size++) several(LANES + 1, BLOCK + 1, size, size % 3, size % (SALT + 1), size % 5);
-    for (size_t length = 0; length <= 3 * BLOCK; length += 13) several(2 * LANES, length, MAX, MAX, SALT, SALT);
-    for (size_t length = BLOCK - 1; length <= BLOCK + 1; length++) several(17, length, MAX / 2, 0, SALT, 0);
+    for (size_t size = 1; size <= MAX; size++)
+        several(LANES + 1, BLOCK + 1, size, size % 3, size % (SALT + 1), size % 5);
+    for (size_t length = 0; length <= 3 * BLOCK; length += 13)
+        several(2 * LANES, length, MAX, MAX, SALT, SALT);
+    for (size_t length = BLOCK - 1; length <= BLOCK + 1; length++)
+        several(17, length, MAX / 2, 0, SALT, 0);
 }
 
 static void refused_messages(void) {
@@ -560,7 +603,8 @@ static void refused_messages(void) {
     CHECK(LIBRARY(many)(out, 8 * MAX + 1, MAX, messages, 8, key, 0, salt, 0, persona, 0) == -1);
     CHECK(LIBRARY(many)(out, MAX, MAX, messages, 0, key, 0, salt, 0, persona, 0) == -1);
     CHECK(is_untouched(out, 0, sizeof out));
-    CHECK(LIBRARY(many)(out, 0, MAX, messages, 0, key, 0, salt, 0, persona, 0) == 0 && is_untouched(out, 0, sizeof out));
+    CHECK(LIBRARY(many)(out, 0, MAX, messages, 0, key, 0, salt, 0, persona, 0) == 0 &&
+          is_untouched(out, 0, sizeof out));
 }
 
 /* ---- constants, fields and sizes */
@@ -572,18 +616,24 @@ static void constants(void) {
     CHECK(CONSTANT(SALTBYTES) == SALT && CONSTANT(PERSONALBYTES) == SALT);
     CHECK(vulfsjor_version() == VULFSJOR_VERSION_NUMBER);
     char version[32];
-    snprintf(version, sizeof version, "%u.%u.%u", vulfsjor_version() >> 16, vulfsjor_version() >> 8 & 255,
-             vulfsjor_version() & 255);
+    snprintf(version, sizeof version, "%u.%u.%u", vulfsjor_version() >> 16,
+             vulfsjor_version() >> 8 & 255, vulfsjor_version() & 255);
     CHECK(!strcmp(version, VULFSJOR_VERSION));
-    CHECK(LIBRARY(state_size)() == sizeof(state_t) && sizeof(state_t) == 8 * 2 * sizeof(word) + 5 * 8 + 2 * BLOCK);
+    CHECK(LIBRARY(state_size)() == sizeof(state_t) &&
+          sizeof(state_t) == 8 * 2 * sizeof(word) + 5 * 8 + 2 * BLOCK);
     CHECK(sizeof state.chain == 8 * sizeof(word) && sizeof state.first == 8 * sizeof(word));
     CHECK(sizeof state.pending == BLOCK && sizeof state.start_block == BLOCK);
-    CHECK(sizeof(param_t) == (size_t)MAX && sizeof param.salt == SALT && sizeof param.personal == SALT);
-    /* The chain's first word without key, salt and persona: IV ^ 0x01010000 ^ size (RFC 7693, 2.5). */
-    CHECK(BLAKE(init)(&state, 5) == 0 && state.output_size == 5 && state.counter == 0 && state.pending_length == 0);
-    CHECK(state.chain[0] == ((word)(sizeof(word) == 8 ? 0x6a09e667f3bcc908u : 0x6a09e667u) ^ 0x01010005u));
+    CHECK(sizeof(param_t) == (size_t)MAX && sizeof param.salt == SALT &&
+          sizeof param.personal == SALT);
+    /* The chain's first word without key, salt and persona: IV ^ 0x01010000 ^ size (RFC 7693,
+     * 2.5). */
+    CHECK(BLAKE(init)(&state, 5) == 0 && state.output_size == 5 && state.counter == 0 &&
+          state.pending_length == 0);
+    CHECK(state.chain[0] ==
+          ((word)(sizeof(word) == 8 ? 0x6a09e667f3bcc908u : 0x6a09e667u) ^ 0x01010005u));
     CHECK(state.first[0] == state.chain[0] && state.start_length == 0 && state.last_node == 0);
-    CHECK(BLAKE(update)(&state, bytes, 9) == 0 && state.pending_length == 9 && !memcmp(state.pending, bytes, 9));
+    CHECK(BLAKE(update)(&state, bytes, 9) == 0 && state.pending_length == 9 &&
+          !memcmp(state.pending, bytes, 9));
 }
 
 /* ---- a message of more than 2^32 bytes, in one call and in one update */
@@ -610,7 +660,8 @@ static void long_message(size_t length) {
 /* ---- the tree */
 
 /* A line for hashlib: the root, in so many bytes, of the first `length` bytes. */
-static void tell_root(size_t size, size_t saltlen, size_t personalen, uint32_t leaf, size_t length, const uint8_t *root) {
+static void tell_root(size_t size, size_t saltlen, size_t personalen, uint32_t leaf, size_t length,
+                      const uint8_t *root) {
     printf("root %zu %zu %zu %lu %zu ", size, saltlen, personalen, (unsigned long)leaf, length);
     print_hex(root, size);
     putchar('\n');
@@ -622,19 +673,24 @@ static void every_root(void) {
         vulfsjor_tree_state state;
         int taken = size >= 1 && size <= MAX, wanted = taken ? 0 : -1;
         size_t written = taken ? size : 0;
-        CHECK(vulfsjor_tree_root(fresh(out, 80), size, bytes, 900, salt, 3, persona, 2, 300) == wanted);
+        CHECK(vulfsjor_tree_root(fresh(out, 80), size, bytes, 900, salt, 3, persona, 2, 300) ==
+              wanted);
         CHECK(is_untouched(out, written, 80));
         if (taken) tell_root(size, 3, 2, 300, 900, out);
         memset(&state, 0x5a, sizeof state);
         CHECK(vulfsjor_tree_init(&state, size, 0, 0, 0, 0, 50) == wanted);
-        CHECK(vulfsjor_tree_digest_size(&state) == written && (taken || is_zero(&state, sizeof state)));
+        CHECK(vulfsjor_tree_digest_size(&state) == written &&
+              (taken || is_zero(&state, sizeof state)));
         CHECK(vulfsjor_tree_update(&state, bytes, 333) == wanted);
         vulfsjor_tree_state before = state;
-        if (taken) CHECK(vulfsjor_tree_final(&state, fresh(out, 80), size - 1) == -1 && is_untouched(out, 0, 80));
+        if (taken)
+            CHECK(vulfsjor_tree_final(&state, fresh(out, 80), size - 1) == -1 &&
+                  is_untouched(out, 0, 80));
         CHECK(SAME(state, before));
         for (size_t room = size; room <= size + 2; room++) {
             state = before;
-            CHECK(vulfsjor_tree_final(&state, fresh(out, 80), room) == wanted && is_untouched(out, written, 80));
+            CHECK(vulfsjor_tree_final(&state, fresh(out, 80), room) == wanted &&
+                  is_untouched(out, written, 80));
             CHECK(is_zero(&state, sizeof state));
         }
         if (taken) tell_root(size, 0, 0, 50, 333, out);
@@ -655,7 +711,8 @@ static void every_root(void) {
 static void null_trees(void) {
     uint8_t out[MAX];
     vulfsjor_tree_state state;
-    CHECK(vulfsjor_tree_init(NULL, MAX, salt, 1, persona, 1, 1) == -1 && vulfsjor_tree_init(NULL, MAX, 0, 0, 0, 0, 1) == -1);
+    CHECK(vulfsjor_tree_init(NULL, MAX, salt, 1, persona, 1, 1) == -1 &&
+          vulfsjor_tree_init(NULL, MAX, 0, 0, 0, 0, 1) == -1);
     TAKEN_TREE(vulfsjor_tree_init(&state, MAX, NULL, 0, persona, 1, 1));
     TAKEN_TREE(vulfsjor_tree_init(&state, MAX, salt, 1, NULL, 0, 1));
     REFUSED_TREE(vulfsjor_tree_init(&state, MAX, NULL, 1, persona, 1, 1));
@@ -670,9 +727,12 @@ static void null_trees(void) {
     CHECK(vulfsjor_tree_update(NULL, bytes, 1) == -1 && vulfsjor_tree_update(NULL, NULL, 0) == -1);
     CHECK(vulfsjor_tree_update(&state, NULL, 1) == -1 && SAME(state, before));
     CHECK(vulfsjor_tree_update(&state, NULL, 0) == 0 && SAME(state, before));
-    CHECK(vulfsjor_tree_final(NULL, fresh(out, MAX), MAX) == -1 && vulfsjor_tree_final(NULL, NULL, 0) == -1);
-    CHECK(vulfsjor_tree_final(&state, NULL, MAX) == -1 && vulfsjor_tree_final(&state, NULL, 0) == -1);
-    CHECK(vulfsjor_tree_final(&state, out, 0) == -1 && SAME(state, before) && is_untouched(out, 0, MAX));
+    CHECK(vulfsjor_tree_final(NULL, fresh(out, MAX), MAX) == -1 &&
+          vulfsjor_tree_final(NULL, NULL, 0) == -1);
+    CHECK(vulfsjor_tree_final(&state, NULL, MAX) == -1 &&
+          vulfsjor_tree_final(&state, NULL, 0) == -1);
+    CHECK(vulfsjor_tree_final(&state, out, 0) == -1 && SAME(state, before) &&
+          is_untouched(out, 0, MAX));
     CHECK(vulfsjor_tree_digest_size(NULL) == 0);
     vulfsjor_tree_wipe(NULL);
     vulfsjor_tree_wipe(&state);
@@ -703,13 +763,16 @@ static void tree_stays(vulfsjor_tree_state state) {
     vulfsjor_tree_state before = state;
     fresh(out, MAX);
     CHECK(vulfsjor_tree_digest_size(&state) == 0);
-    CHECK(vulfsjor_tree_update(&state, bytes, 5) == -1 && vulfsjor_tree_update(&state, bytes, 0) == -1);
-    CHECK(vulfsjor_tree_final(&state, out, MAX) == -1 && SAME(state, before) && is_untouched(out, 0, MAX));
+    CHECK(vulfsjor_tree_update(&state, bytes, 5) == -1 &&
+          vulfsjor_tree_update(&state, bytes, 0) == -1);
+    CHECK(vulfsjor_tree_final(&state, out, MAX) == -1 && SAME(state, before) &&
+          is_untouched(out, 0, MAX));
 }
 
 static void unready_trees(void) {
     vulfsjor_tree_state made, state;
-    CHECK(vulfsjor_tree_init(&made, MAX, salt, 3, persona, 4, 7) == 0 && vulfsjor_tree_update(&made, bytes, 20) == 0);
+    CHECK(vulfsjor_tree_init(&made, MAX, salt, 3, persona, 4, 7) == 0 &&
+          vulfsjor_tree_update(&made, bytes, 20) == 0);
     memset(&state, 0, sizeof state);
     tree_stays(state);
     memset(&state, 0xff, sizeof state);
@@ -734,10 +797,14 @@ static void unready_trees(void) {
 static void long_trees(void) {
     vulfsjor_tree_state made, state;
     CHECK(vulfsjor_tree_init(&made, MAX, salt, 3, persona, 4, 1000) == 0);
-    CHECK(made.leaf_length == 1000 && made.salt_length == 3 && made.persona_length == 4 && made.closed == 0);
-    CHECK(!memcmp(made.salt, salt, 3) && is_zero(made.salt + 3, 13) && !memcmp(made.persona, persona, 4));
-    CHECK(is_zero(made.persona + 4, 12) && made.leaf.output_size == 64 && made.root.output_size == MAX);
-    CHECK(sizeof made.salt == 16 && sizeof made.persona == 16 && blake2_c_tree_state_size() == sizeof made);
+    CHECK(made.leaf_length == 1000 && made.salt_length == 3 && made.persona_length == 4 &&
+          made.closed == 0);
+    CHECK(!memcmp(made.salt, salt, 3) && is_zero(made.salt + 3, 13) &&
+          !memcmp(made.persona, persona, 4));
+    CHECK(is_zero(made.persona + 4, 12) && made.leaf.output_size == 64 &&
+          made.root.output_size == MAX);
+    CHECK(sizeof made.salt == 16 && sizeof made.persona == 16 &&
+          blake2_c_tree_state_size() == sizeof made);
     CHECK(sizeof made == 2 * sizeof(state_t) + 4 * 8 + 32);
     uint64_t most = (((uint64_t)1 << 58) - 1) / 1000;
     for (size_t left = 0; left < 5; left++) {

@@ -7,20 +7,26 @@ files_below() { (cd "$1" && find . -type f -o -type l | sed 's/^\.\///' | LC_ALL
 
 # The files of an installation, with this in the place of lib/.
 wanted_files() {
-    printf '%s\n' include/blake2_c-libb2/blake2.h include/blake2_c.h "$1libblake2_c.a" "$1libblake2_c.so" \
-        "$1libblake2_c.so.0" "$1libblake2_c.so.0.1.0" "$1libblake2_c-libb2.a" "$1pkgconfig/blake2_c.pc" \
-        "$1pkgconfig/blake2_c-static.pc" "$1blake2_c-libb2/libb2.a" "$1blake2_c-libb2/pkgconfig/libb2.pc" \
-        "$1libblake2_c-threads.a" "$1pkgconfig/blake2_c-threads.pc" include/blake2_threads.h |
+    printf '%s\n' include/blake2_c-libb2/blake2.h include/blake2_c.h "$1libblake2_c.a" \
+        "$1libblake2_c.so" "$1libblake2_c.so.0" "$1libblake2_c.so.0.1.0" "$1libblake2_c-libb2.a" \
+        "$1pkgconfig/blake2_c.pc" "$1pkgconfig/blake2_c-static.pc" "$1blake2_c-libb2/libb2.a" \
+        "$1blake2_c-libb2/pkgconfig/libb2.pc" "$1libblake2_c-threads.a" \
+        "$1pkgconfig/blake2_c-threads.pc" include/blake2_threads.h |
         LC_ALL=C sort
 }
 
-# A program by the words of one file for pkg-config in this folder, run where the shared library is found.
+# A program by the words of one file for pkg-config in this folder, run where the shared library is
+# found.
 program_by_words() {
-    local folder=$1 name=$2 libraries=$3
-    printf '%s\n' '#ifdef LIBB2' '#include <blake2.h>' '#define vulfsjor_blake2b(o, n, i, m, k, l) blake2b(o, i, k, n, m, l)' \
-        '#else' '#include <blake2_c.h>' '#endif' 'int main(void) { unsigned char out[64];' \
-        'return vulfsjor_blake2b(out, 64, 0, 0, 0, 0) || out[0] != 0x78 || out[63] != 0xce; }' >"$work/program.c"
-    eval "cc -O2 \$([ $name = libb2 ] && echo -DLIBB2) '$work/program.c' $(PKG_CONFIG_PATH=$folder pkg-config --cflags --libs "$name") -o '$work/program'" &&
+    local folder=$1 name=$2 libraries=$3 words
+    printf '%s\n' '#ifdef LIBB2' '#include <blake2.h>' \
+        '#define vulfsjor_blake2b(o, n, i, m, k, l) blake2b(o, i, k, n, m, l)' '#else' \
+        '#include <blake2_c.h>' '#endif' 'int main(void) { unsigned char out[64];' \
+        'return vulfsjor_blake2b(out, 64, 0, 0, 0, 0) || out[0] != 0x78 || out[63] != 0xce; }' \
+        >"$work/program.c"
+    words=$(PKG_CONFIG_PATH=$folder pkg-config --cflags --libs "$name")
+    [ "$name" != libb2 ] || words+=" -DLIBB2"
+    eval "cc -O2 '$work/program.c' $words -o '$work/program'" &&
         LD_LIBRARY_PATH=$libraries "$work/program"
 }
 
@@ -32,7 +38,8 @@ program_with_threads() {
     one=$(PKG_CONFIG_PATH=$1 pkg-config --cflags --libs blake2_c-threads)
     two=$(PKG_CONFIG_PATH=$1 pkg-config --cflags --libs blake2_c)
     eval "cc '$work/program.c' $one -o '$work/program'" && "$work/program" &&
-        eval "cc '$work/program.c' '$libraries/libblake2_c-threads.a' $two -pthread -o '$work/program'" &&
+        two="'$libraries/libblake2_c-threads.a' $two -pthread" &&
+        eval "cc '$work/program.c' $two -o '$work/program'" &&
         LD_LIBRARY_PATH=$libraries "$work/program"
 }
 
@@ -40,10 +47,12 @@ program_with_threads() {
 words_work() {
     local lib=$1
     has pkg-config || return 0
-    program_by_words "$lib/pkgconfig" blake2_c "$lib" && program_by_words "$lib/pkgconfig" blake2_c-static /nowhere &&
+    program_by_words "$lib/pkgconfig" blake2_c "$lib" &&
+        program_by_words "$lib/pkgconfig" blake2_c-static /nowhere &&
         program_by_words "$lib/blake2_c-libb2/pkgconfig" libb2 /nowhere &&
         program_with_threads "$lib/pkgconfig" "$lib" &&
-        [ "$(PKG_CONFIG_PATH=$lib/pkgconfig pkg-config --modversion blake2_c)" = "$(version_of_header)" ]
+        [ "$(PKG_CONFIG_PATH=$lib/pkgconfig pkg-config --modversion blake2_c)" = \
+            "$(version_of_header)" ]
 }
 
 version_of_header() { sed -n 's/^#define VULFSJOR_VERSION "\(.*\)"$/\1/p' "$include/blake2_c.h"; }
@@ -51,10 +60,12 @@ version_of_header() { sed -n 's/^#define VULFSJOR_VERSION "\(.*\)"$/\1/p' "$incl
 # A folder with a space; then moved as a whole; then uninstalled, where other files stay.
 folder_with_a_space() {
     local folder="$work/a folder"
-    install_into "$folder" && files_below "$folder" | diff <(wanted_files lib/) - && words_work "$folder/lib" &&
+    install_into "$folder" && files_below "$folder" | diff <(wanted_files lib/) - &&
+        words_work "$folder/lib" &&
         mv "$folder" "$work/another folder" && words_work "$work/another folder/lib" || return 1
     folder="$work/another folder"
-    touch "$folder/lib/theirs" "$folder/include/theirs.h" && "$here/install.sh" --uninstall "$folder" &&
+    touch "$folder/lib/theirs" "$folder/include/theirs.h" &&
+        "$here/install.sh" --uninstall "$folder" &&
         files_below "$folder" | diff <(printf '%s\n' include/theirs.h lib/theirs) - &&
         [ ! -e "$folder/lib/blake2_c-libb2" ] && [ ! -e "$folder/include/blake2_c-libb2" ] &&
         "$here/install.sh" --uninstall "$folder"
@@ -77,21 +88,25 @@ package() {
 # One build alone, without the choice, and with the same functions.
 one_build() {
     local folder=$work/one
-    "$here/install.sh" --cpu x86-64-v2 --from "$dist" "$folder" && files_below "$folder" | diff <(wanted_files lib/) - &&
+    "$here/install.sh" --cpu x86-64-v2 --from "$dist" "$folder" &&
+        files_below "$folder" | diff <(wanted_files lib/) - &&
         words_work "$folder/lib" && ! nm "$folder/lib/libblake2_c.a" | grep -q blake2_c_level &&
-        [ "$(nm -g --defined-only "$folder/lib/libblake2_c.a" | grep -c ' T blake2_c_[a-z0-9_]*[a-z]$')" -eq \
-            "$(grep -c '^CALL(' "$here/choose.c")" ]
+        nm -g --defined-only "$folder/lib/libblake2_c.a" |
+        sed -n 's/.* T \(blake2_c_[a-z0-9_]*[a-z]\)$/\1/p' | LC_ALL=C sort |
+            diff - <(sed -n 's/^CALL("\(.*\)")$/\1/p' "$here/choose.c" | LC_ALL=C sort)
 }
 
 # A second installation takes the place of the first, and of what another left there.
 installs_again() {
     local folder=$work/again
-    install_into "$folder" && echo old >"$folder/lib/libblake2_c.a" && ln -sf nowhere "$folder/lib/libblake2_c.so" &&
-        install_into "$folder" && words_work "$folder/lib" && files_below "$folder" | diff <(wanted_files lib/) -
+    install_into "$folder" && echo old >"$folder/lib/libblake2_c.a" &&
+        ln -sf nowhere "$folder/lib/libblake2_c.so" &&
+        install_into "$folder" && words_work "$folder/lib" &&
+        files_below "$folder" | diff <(wanted_files lib/) -
 }
 
-# A project of its own that has the library's files as a part, by hand: the header, choose.c and the texts in one
-# folder, compiled together with its program, also with link-time optimization.
+# A project of its own that has the library's files as a part, by hand: the header, choose.c and the
+# texts in one folder, compiled together with its program, also with link-time optimization.
 vendored_by_hand() {
     local folder=$work/by_hand words texts=("$dist"/x86_64/blake2_c-v[23].s)
     is_x86 || texts=("$dist/aarch64/blake2_c.s")
@@ -108,7 +123,8 @@ vendored_by_hand() {
 # The same by CMake, from the repository.
 vendored_by_cmake() {
     local folder=$work/by_cmake
-    mkdir -p "$folder" && write_program "$folder/program.c" && cat >"$folder/CMakeLists.txt" <<END || return 1
+    mkdir -p "$folder" && write_program "$folder/program.c" &&
+        cat >"$folder/CMakeLists.txt" <<END || return 1
 cmake_minimum_required(VERSION 3.13)
 project(program LANGUAGES C)
 set(CMAKE_INTERPROCEDURAL_OPTIMIZATION ON)
@@ -116,7 +132,8 @@ add_subdirectory("$here" blake2_c)
 add_executable(program program.c)
 target_link_libraries(program PRIVATE vulfsjor::blake2_c)
 END
-    cmake -S "$folder" -B "$folder/build" -DCMAKE_BUILD_TYPE=Release && cmake --build "$folder/build" &&
+    cmake -S "$folder" -B "$folder/build" -DCMAKE_BUILD_TYPE=Release &&
+        cmake --build "$folder/build" &&
         "$folder/build/program"
 }
 write_program() {
@@ -125,18 +142,22 @@ write_program() {
     sed -i "s/<blake2_c.h>/\"blake2_c.h\"/" "$1"
 }
 
-# A folder that is named from the current one, with the words of c/README.md, from elsewhere afterwards.
+# A folder that is named from the current one, with the words of c/README.md, from elsewhere
+# afterwards.
 relative_folder() {
-    mkdir -p "$work/here" && cd "$work/here" && install_into ./some/folder && files_below some/folder |
+    mkdir -p "$work/here" && cd "$work/here" && install_into ./some/folder &&
+        files_below some/folder |
         diff <(wanted_files lib/) - && write_program program.c &&
         cc -O2 program.c -Isome/folder/include some/folder/lib/libblake2_c.a -o program && cd / &&
         "$work/here/program" && words_work "$work/here/some/folder/lib" && cd "$work/here" &&
         "$here/install.sh" --uninstall some/folder && [ -z "$(files_below some/folder)" ]
 }
 
-# A repository of its own whose tools/dist.sh is a stand-in: it notes its words, and leaves what dist/ has.
+# A repository of its own whose tools/dist.sh is a stand-in: it notes its words, and leaves what
+# dist/ has.
 make_stand_in() {
-    mkdir -p "$1/tools" && cp -R "$here" "$1/c" && cp -R "$dist" "$1/dist" && cat >"$1/tools/dist.sh" <<END || return 1
+    mkdir -p "$1/tools" && cp -R "$here" "$1/c" && cp -R "$dist" "$1/dist" &&
+        cat >"$1/tools/dist.sh" <<END || return 1
 #!/bin/sh
 echo "\$@" >>"$1/calls"
 [ ! -e "$1/refuse" ] || exit 1
@@ -145,13 +166,15 @@ END
     chmod +x "$1/tools/dist.sh"
 }
 
-# Without a word the library comes from dist/, where that was made from these sources, and with --prove from what
-# tools/dist.sh makes. Where either fails nothing is installed.
+# Without a word the library comes from dist/, where that was made from these sources, and with
+# --prove from what tools/dist.sh makes. Where either fails nothing is installed.
 comes_from() {
     local tree=$work/tree
     make_stand_in "$tree" && "$tree/c/install.sh" "$tree/made" && words_work "$tree/made/lib" &&
-        "$tree/c/install.sh" --cpu x86-64-v3 --prove "$tree/proved" && words_work "$tree/proved/lib" &&
-        sed 's| /.*/dist | DIST |' "$tree/calls" | diff - <(printf '%s\n' current 'make DIST x86_64/blake2_c-v3.s') &&
+        "$tree/c/install.sh" --cpu x86-64-v3 --prove "$tree/proved" &&
+        words_work "$tree/proved/lib" &&
+        sed 's| /.*/dist | DIST |' "$tree/calls" |
+        diff - <(printf '%s\n' current 'make DIST x86_64/blake2_c-v3.s') &&
         touch "$tree/refuse" || return 1
     refuses 1 'dist/ was not made from these sources' "$tree/c/install.sh" "$tree/not_made" &&
         ! "$tree/c/install.sh" --prove "$tree/not_made" && [ ! -e "$tree/not_made" ]
@@ -162,17 +185,22 @@ refuses() {
     local wanted=$1 word=$2
     shift 2
     "$@" >"$work/said" 2>&1
-    [ $? -eq "$wanted" ] && grep -qe "$word" "$work/said" || { echo "status or words of: $*"; cat "$work/said"; return 1; }
+    [ $? -eq "$wanted" ] && grep -qe "$word" "$work/said" ||
+        { echo "status or words of: $*"; cat "$work/said"; return 1; }
 }
 
 refusals() {
     local call=("$here/install.sh")
-    refuses 2 usage "${call[@]}" && refuses 2 usage "${call[@]}" "" && refuses 2 usage "${call[@]}" a b &&
-        refuses 2 usage "${call[@]}" --cpu && refuses 2 usage "${call[@]}" --cpu x86-64-v4 "$work/no" &&
+    refuses 2 usage "${call[@]}" && refuses 2 usage "${call[@]}" "" &&
+        refuses 2 usage "${call[@]}" a b &&
+        refuses 2 usage "${call[@]}" --cpu &&
+        refuses 2 usage "${call[@]}" --cpu x86-64-v4 "$work/no" &&
         refuses 2 usage "${call[@]}" --from && refuses 2 usage "${call[@]}" --what "$work/no" &&
         refuses 2 usage "${call[@]}" --uninstall && refuses 0 'DESTDIR' "${call[@]}" --help &&
-        refuses 1 'no-compiler is not on the PATH' env CC=no-compiler "${call[@]}" --from "$dist" "$work/no" &&
-        refuses 1 'No such file' "${call[@]}" --from "$work/nowhere" "$work/no" && [ ! -e "$work/no" ] || return 1
+        refuses 1 'no-compiler is not on the PATH' env CC=no-compiler "${call[@]}" --from "$dist" \
+            "$work/no" &&
+        refuses 1 'No such file' "${call[@]}" --from "$work/nowhere" "$work/no" &&
+        [ ! -e "$work/no" ] || return 1
     "$here/install.sh" --help | head -n 1 | grep -q '^Installs the library'
 }
 

@@ -1,13 +1,14 @@
-/* Looks for copies of a key once a keyed call of blake2_c.h has returned: for each piece of 8 bytes of it, in 64 KiB of
- * the dead stack below the caller. Prints for each call how many were found, the greatest number over messages of
- * several lengths. A call that leaves more than the table below allows fails. So does a state that is not zero, byte by
- * byte, after final, verify and wipe, and a search that misses a copy which is put there for it to find. Answers 0
- * where none failed.
+/* Looks for copies of a key once a keyed call of blake2_c.h has returned: for each piece of 8 bytes
+ * of it, in 64 KiB of the dead stack below the caller. Prints for each call how many were found,
+ * the greatest number over messages of several lengths. A call that leaves more than the table
+ * below allows fails. So does a state that is not zero, byte by byte, after final, verify and wipe,
+ * and a search that misses a copy which is put there for it to find. Answers 0 where none failed.
  *
  *   cc -std=gnu99 -O2 -Wl,-z,now -I FOLDER/include key_scan.c ARCHIVE -o key_scan
  *   cc the same with -DTEST_S       the same of BLAKE2s
  *
- * With -z now no call goes by the dynamic linker, which would save vector registers on the stack. */
+ * With -z now no call goes by the dynamic linker, which would save vector registers on the
+ * stack. */
 #include <blake2_c.h>
 
 #include <stdio.h>
@@ -29,9 +30,9 @@
 #define EITHER(b, s) b
 #endif
 
-/* The calls: what goes before, whether the state is zero then, and how many pieces of the key may be left on the dead
- * stack, of BLAKE2b, whose key has 8 pieces, and of BLAKE2s, whose key has 4: none, as the builds for x86-64-v2,
- * x86-64-v3 and aarch64 leave none. */
+/* The calls: what goes before, whether the state is zero then, and how many pieces of the key may
+ * be left on the dead stack, of BLAKE2b, whose key has 8 pieces, and of BLAKE2s, whose key has 4:
+ * none, as the builds for x86-64-v2, x86-64-v3 and aarch64 leave none. */
 #define CALLS(CALL)                                                                          \
     CALL(init_key, nothing, 0, EITHER(0, 0), "init_key")                                     \
     CALL(init_salt, nothing, 0, EITHER(0, 0), "init_salt_personal with a key")               \
@@ -58,7 +59,8 @@ enum { DEPTH = 64 * 1024, PIECE = 8, LONGEST = 1000 };
 typedef BLAKE(state) state_t;
 
 /* What the calls are given, none of it on the stack. */
-static uint8_t key[MAX], message[LONGEST], salt[2 * MAX], tag[MAX], wrong[MAX], out[(LANES + 1) * MAX];
+static uint8_t key[MAX], message[LONGEST], salt[2 * MAX], tag[MAX], wrong[MAX],
+    out[(LANES + 1) * MAX];
 static state_t state;
 static vulfsjor_message messages[LANES + 1];
 static vulfsjor_tree tree = {3, 4096, 2, 2, 0, MAX}, no_tree = {3, 4096, 2, 0, 0, MAX};
@@ -112,9 +114,13 @@ static int call_one_call(void) { return ONE_CALL(out, MAX, message, length, key,
 
 static int call_many_one(void) { return BLAKE(many)(out, MAX, messages, 1, key, MAX, 0, 0, 0, 0); }
 
-static int call_many_lanes(void) { return BLAKE(many)(out, MAX, messages, LANES, key, MAX, 0, 0, 0, 0); }
+static int call_many_lanes(void) {
+    return BLAKE(many)(out, MAX, messages, LANES, key, MAX, 0, 0, 0, 0);
+}
 
-static int call_many_more(void) { return BLAKE(many)(out, MAX, messages, LANES + 1, key, MAX, 0, 0, 0, 0); }
+static int call_many_more(void) {
+    return BLAKE(many)(out, MAX, messages, LANES + 1, key, MAX, 0, 0, 0, 0);
+}
 
 static int call_update(void) { return BLAKE(update)(&state, message, length); }
 
@@ -172,7 +178,8 @@ static int pieces_on_stack(void) {
     int found = 0;
 
     for (size_t piece = 0; piece < MAX; piece += PIECE)
-        for (size_t at = 0; at + PIECE <= DEPTH; at++) found += !memcmp(stack + at, key + piece, PIECE);
+        for (size_t at = 0; at + PIECE <= DEPTH; at++)
+            found += !memcmp(stack + at, key + piece, PIECE);
     return found;
 }
 
@@ -193,7 +200,8 @@ static int is_zero(const void *memory, size_t size) {
 
 /* ---- Copies to be found. */
 
-/* Copies so many bytes of the key to its frame, as far below the caller's frame as the place says. */
+/* Copies so many bytes of the key to its frame, as far below the caller's frame as the place
+ * says. */
 static size_t place, copied;
 static __attribute__((noinline)) int leave_a_copy(void) {
     uint8_t frame[DEPTH - 256];
@@ -213,7 +221,8 @@ static void finds_copies(void) {
             place = places[i];
             found = pieces_after(nothing, leave_a_copy, "a copy");
             if (found != (int)(copied / PIECE)) {
-                printf("FAILED: a copy of %zu bytes, %zu below the frame: %d pieces found\n", copied, place, found);
+                printf("FAILED: a copy of %zu bytes, %zu below the frame: %d pieces found\n",
+                       copied, place, found);
                 fails++;
             }
         }
@@ -272,7 +281,8 @@ static void try_call(size_t index) {
             fails++;
         }
     }
-    printf("%s: %s: %d pieces, at most %d\n", greatest > most ? "FAILED" : "passed", name, greatest, most);
+    printf("%s: %s: %d pieces, at most %d\n", greatest > most ? "FAILED" : "passed", name, greatest,
+           most);
     fails += greatest > most;
 }
 

@@ -38,18 +38,20 @@ header_compiles_as_cpp() {
     c++ -std=c++11 "${warnings[@]}" -I"$include" -I"$libb2" -c "$work/header.cpp" -o /dev/null
 }
 
-# A test program of a family, with these words, whose digests Python's hashlib has to have too; WORD is given to the
-# program.
+# A test program of a family, with these words, whose digests Python's hashlib has to have too; WORD
+# is given to the program.
 compare_lines() {
     local source=$1 word=$2
     shift 2
-    cc -std=c99 -g "${warnings[@]}" $(family_words "$family") -o "$work/$source" "$tests/$source.c" "$@" "$archive" &&
+    cc -std=c99 -g "${warnings[@]}" $(family_words "$family") -o "$work/$source" \
+        "$tests/$source.c" "$@" "$archive" &&
         "$work/$source" $word >"$work/lines" && python3 "$tests/check_lines.py" <"$work/lines"
 }
 
 # A program in C++ over both headers.
 cpp_links() {
-    c++ -std=c++11 "${warnings[@]}" -I"$include" -o "$work/link" "$tests/link.cpp" "$archive" && "$work/link"
+    c++ -std=c++11 "${warnings[@]}" -I"$include" -o "$work/link" "$tests/link.cpp" "$archive" &&
+        "$work/link"
 }
 
 # The words that pkg-config has for one of its names, or those that say the same.
@@ -67,8 +69,10 @@ words_for() {
 c_example() {
     local compiler=$1 name=$2 language=$3
     block_of_readme c >"$work/hello.c"
-    "$compiler" -O2 "${warnings[@]}" -x "$language" "$work/hello.c" -x none $(words_for "$name") -o "$work/hello" &&
-        LD_LIBRARY_PATH=$prefix/lib "$work/hello" >"$work/said" && diff "$work/said" <(wanted_of_readme)
+    "$compiler" -O2 "${warnings[@]}" -x "$language" "$work/hello.c" -x none $(words_for "$name") \
+        -o "$work/hello" &&
+        LD_LIBRARY_PATH=$prefix/lib "$work/hello" >"$work/said" &&
+        diff "$work/said" <(wanted_of_readme)
 }
 
 # The lines of b2sum for these files.
@@ -78,10 +82,12 @@ for name in sys.argv[1:]:
     print(hashlib.blake2b(open(name, "rb").read()).hexdigest(), "", name)' "$@"
 }
 
-# The program of c/examples over files of several lengths, over standard input, and over what can't be read.
+# The program of c/examples over files of several lengths, over standard input, and over what can't
+# be read.
 sum_example() {
     local length sum=$work/sum
-    cc -O2 "${warnings[@]}" "$here/examples/sum.c" $(words_for blake2_c-static) -o "$sum" && mkdir -p "$work/sums" &&
+    cc -O2 "${warnings[@]}" "$here/examples/sum.c" $(words_for blake2_c-static) -o "$sum" &&
+        mkdir -p "$work/sums" &&
         cd "$work/sums" || return 1
     for length in 0 1 128 129 65536 65537 200000; do
         head -c $length /dev/urandom >file_$length || return 1
@@ -95,8 +101,10 @@ sum_example() {
 bench_runs() {
     local words=() theirs=()
     links -lb2 && [ -e /usr/include/blake2.h ] && words+=(-DWITH_LIBB2) && theirs+=(-lb2)
-    links -lcrypto && [ -e /usr/include/openssl/evp.h ] && words+=(-DWITH_OPENSSL) && theirs+=(-lcrypto)
-    cc -O2 "${warnings[@]}" "${words[@]}" "$here/bench.c" $(words_for blake2_c-static) "${theirs[@]}" -o "$work/bench" &&
+    links -lcrypto && [ -e /usr/include/openssl/evp.h ] && words+=(-DWITH_OPENSSL) &&
+        theirs+=(-lcrypto)
+    cc -O2 "${warnings[@]}" "${words[@]}" "$here/bench.c" $(words_for blake2_c-static) \
+        "${theirs[@]}" -o "$work/bench" &&
         "$work/bench" 1 >"$work/said" && [ "$(grep -c '^| [a-z].* | [0-9]' "$work/said")" -eq 14 ]
 }
 
@@ -111,16 +119,20 @@ python_example() {
 test_family() {
     local level
     family=$1
-    check "test.c, blake2$family" compile_and_run "$work/test_$family" -O2 $(family_words $family) "$archive"
+    check "test.c, blake2$family" compile_and_run "$work/test_$family" -O2 $(family_words $family) \
+        "$archive"
     check "test.c, blake2$family, with the shared library" with_shared_library
     check "edges.c, blake2$family" compare_lines edges "" -O2 -I"$include"
-    check "a message of more than 2^32 bytes, blake2$family" compare_lines edges 4294967396 -O2 -I"$include"
+    check "a message of more than 2^32 bytes, blake2$family" compare_lines edges 4294967396 -O2 \
+        -I"$include"
     for level in 0 2; do
-        check "libb2_header.c, blake2$family, -O$level" compare_lines libb2_header "" -O$level -I"$libb2"
+        check "libb2_header.c, blake2$family, -O$level" compare_lines libb2_header "" -O$level \
+            -I"$libb2"
     done
     if links -fsanitize=address,undefined && "$work/linked"; then
-        check "test.c, blake2$family, with sanitizers" compile_and_run "$work/test_san_$family" -O1 \
-            -fsanitize=address,undefined -fno-sanitize-recover=all $(family_words $family) "$archive"
+        check "test.c, blake2$family, with sanitizers" compile_and_run "$work/test_san_$family" \
+            -O1 -fsanitize=address,undefined -fno-sanitize-recover=all $(family_words $family) \
+            "$archive"
         check "edges.c, blake2$family, with sanitizers" compare_lines edges "" -O1 -I"$include" \
             -fsanitize=address,undefined -fno-sanitize-recover=all
     else
@@ -135,8 +147,8 @@ test_family() {
 
 # What calls leave of a key on the dead stack, and in a state.
 scan_for_keys() {
-    cc -std=gnu99 -O2 "${warnings[@]}" -Wl,-z,now -I"$include" $(family_words "$family") -o "$work/key_scan" \
-        "$tests/key_scan.c" "$archive" && "$work/key_scan"
+    cc -std=gnu99 -O2 "${warnings[@]}" -Wl,-z,now -I"$include" $(family_words "$family") \
+        -o "$work/key_scan" "$tests/key_scan.c" "$archive" && "$work/key_scan"
 }
 
 test_keys() {
@@ -145,7 +157,8 @@ test_keys() {
     done
 }
 
-# A wrong tag takes as many instructions wherever it differs; leaves and messages are hashed at once.
+# A wrong tag takes as many instructions wherever it differs; leaves and messages are hashed at
+# once.
 test_counts() {
     local line
     if ! has valgrind; then
@@ -176,7 +189,9 @@ test_languages() {
     local header
     for header in blake2_c.h blake2.h; do check "$header in C" headers_compile $header; done
     if has c++; then
-        for header in blake2_c.h blake2.h; do check "$header in C++" header_compiles_as_cpp $header; done
+        for header in blake2_c.h blake2.h; do
+            check "$header in C++" header_compiles_as_cpp $header
+        done
         check "link.cpp" cpp_links
     else
         skip "the headers in C++" "no C++ compiler c++"

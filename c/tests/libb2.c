@@ -1,10 +1,11 @@
-/* libb2's functions by their own names, linked: what c/README.md says of them and of libb2, row by row, and
- * the known answers of cases.py. c/run_tests.sh links it with libblake2_c-libb2.a, and where libb2 is there,
- * with libb2 itself under LIBB2, so that what is said of libb2 is seen too.
+/* libb2's functions by their own names, linked: what c/README.md says of them and of libb2, row by
+ * row, and the known answers of cases.py. c/run_tests.sh links it with libblake2_c-libb2.a, and
+ * where libb2 is there, with libb2 itself under LIBB2, so that what is said of libb2 is seen too.
  *
  *   libb2 CASES
  *
- * TEST_S is for BLAKE2s. OWN_HEADER takes libb2's own <blake2.h>; without it the functions are declared here. */
+ * TEST_S is for BLAKE2s. OWN_HEADER takes libb2's own <blake2.h>; without it the functions are
+ * declared here. */
 #define _POSIX_C_SOURCE 200112L
 #include <signal.h>
 #include <stddef.h>
@@ -45,7 +46,8 @@ int X(_init_key)(X(_state) *S, size_t outlen, const void *key, size_t keylen);
 int X(_init_param)(X(_state) *S, const X(_param) *P);
 int X(_update)(X(_state) *S, const uint8_t *in, size_t inlen);
 int X(_final)(X(_state) *S, uint8_t *out, size_t outlen);
-int BLAKE2(uint8_t *out, const void *in, const void *key, size_t outlen, size_t inlen, size_t keylen);
+int BLAKE2(uint8_t *out, const void *in, const void *key, size_t outlen, size_t inlen,
+           size_t keylen);
 #endif
 
 #ifdef LIBB2
@@ -53,7 +55,8 @@ int BLAKE2(uint8_t *out, const void *in, const void *key, size_t outlen, size_t 
 #else
 #define IS_LIBB2 0
 #endif
-/* What a row says: of libb2 the first, of the functions here the second. DIES is an end by a signal. */
+/* What a row says: of libb2 the first, of the functions here the second. DIES is an end by a
+ * signal. */
 enum { DIES = 1000 };
 #define ROW(libb2, here) (IS_LIBB2 ? (libb2) : (here))
 
@@ -127,12 +130,14 @@ static void take(X(_state) *S, size_t length, size_t digest) {
         *S = copy;
     }
     memset(out, 0xaa, sizeof out);
-    CHECK(X(_final)(S, out, digest - 1) == -1 && X(_final)(S, out, digest + 1) == -1 && out[0] == 0xaa);
+    CHECK(X(_final)(S, out, digest - 1) == -1 && X(_final)(S, out, digest + 1) == -1 &&
+          out[0] == 0xaa);
     CHECK(X(_final)(S, out, digest) == 0 && !memcmp(out, wanted, digest) && out[digest] == 0xaa);
     CHECK(IS_LIBB2 || is_zero(S, sizeof *S));
 }
 
-/* A case of a hash: by a parameter block, and by key alone or in one call where there is no more. */
+/* A case of a hash: by a parameter block, and by key alone or in one call where there is no
+ * more. */
 static void hash_case(size_t digest, size_t keys, size_t salted, size_t named, size_t length) {
     X(_state) *S = malloc(sizeof *S);
     X(_param) P;
@@ -164,8 +169,8 @@ static int cases_of(const char *name) {
         if (sscanf(line, "h %zu %262143s %262143s %262143s %262143s %262143s", &digest, digits[0],
                    digits[1], digits[2], digits[3], digits[4]) != 6) continue;
         from_hex(digits[4], wanted);
-        hash_case(digest, from_hex(digits[0], key), from_hex(digits[1], salt), from_hex(digits[2], persona),
-                  from_hex(digits[3], message));
+        hash_case(digest, from_hex(digits[0], key), from_hex(digits[1], salt),
+                  from_hex(digits[2], persona), from_hex(digits[3], message));
         cases++;
     }
     if (file) fclose(file);
@@ -191,23 +196,29 @@ static void null_pointers(void) {
     CHECK(X(_init)(&S, LONGEST) == 0);
     CHECK(STATUS(X(_update)(&S, null_bytes(), 300)) == ROW(DIES, -1));
     CHECK(STATUS(X(_final)(&S, null_bytes(), LONGEST)) == ROW(DIES, -1));
-    CHECK(BLAKE2(null_bytes(), "a", NULL, LONGEST, 1, 0) == -1 && BLAKE2(out, NULL, NULL, LONGEST, 1, 0) == -1);
-    CHECK(BLAKE2(out, "a", NULL, LONGEST, 1, 1) == -1 && BLAKE2(out, NULL, NULL, LONGEST, 0, 0) == 0);
+    CHECK(BLAKE2(null_bytes(), "a", NULL, LONGEST, 1, 0) == -1 &&
+          BLAKE2(out, NULL, NULL, LONGEST, 1, 0) == -1);
+    CHECK(BLAKE2(out, "a", NULL, LONGEST, 1, 1) == -1 &&
+          BLAKE2(out, NULL, NULL, LONGEST, 0, 0) == 0);
 }
 
 static void lengths(void) {
     X(_state) S;
-    CHECK(sizeof S == SIZE && __alignof__(X(_state)) == 1 && offsetof(X(_state), last_node) == SIZE - 1);
+    CHECK(sizeof S == SIZE && __alignof__(X(_state)) == 1 &&
+          offsetof(X(_state), last_node) == SIZE - 1);
     memset(&S, 0x5a, sizeof S);
-    CHECK(X(_init)(&S, 0) == -1 && X(_init)(&S, LONGEST + 1) == -1 && X(_init)(&S, 256 + LONGEST) == -1);
+    CHECK(X(_init)(&S, 0) == -1 && X(_init)(&S, LONGEST + 1) == -1 &&
+          X(_init)(&S, 256 + LONGEST) == -1);
     CHECK(ROW(!is_zero(&S, sizeof S), is_zero(&S, sizeof S)));
-    CHECK(X(_init_key)(&S, LONGEST, "k", 0) == -1 && X(_init_key)(&S, LONGEST, message, LONGEST + 1) == -1);
+    CHECK(X(_init_key)(&S, LONGEST, "k", 0) == -1 &&
+          X(_init_key)(&S, LONGEST, message, LONGEST + 1) == -1);
     CHECK(X(_init_key)(&S, 0, "k", 1) == -1);
     int null_key = STATUS(X(_init_key)(&S, LONGEST, null_bytes(), 1));
     CHECK(IS_LIBB2 ? null_key == -1 || null_key == DIES : null_key == -1);
     memset(out, 0xaa, sizeof out);
     CHECK(BLAKE2(out, "a", NULL, 0, 1, 0) == -1 && BLAKE2(out, "a", NULL, LONGEST + 1, 1, 0) == -1);
-    CHECK(BLAKE2(out, "a", message, LONGEST, 1, LONGEST + 1) == -1 && out[0] == 0xaa && out[LONGEST] == 0xaa);
+    CHECK(BLAKE2(out, "a", message, LONGEST, 1, LONGEST + 1) == -1 && out[0] == 0xaa &&
+          out[LONGEST] == 0xaa);
     CHECK(status_of(&S, 0, 0) == ROW(0, -1) && status_of(&S, LONGEST + 1, 0) == ROW(0, -1));
     CHECK(status_of(&S, LONGEST, LONGEST + 1) == ROW(0, -1));
     CHECK(status_of(&S, LONGEST, LONGEST) == 0 && status_of(&S, 1, 0) == 0);
@@ -245,7 +256,8 @@ static void long_message(void) {
     CHECK(X(_init)(&S, LONGEST) == 0);
     memset(S.t, 0xff, 8);
     before = S;
-    CHECK(X(_update)(&S, message, 3 * BLOCK) == ROW(0, -1) && (IS_LIBB2 || !memcmp(&S, &before, sizeof S)));
+    CHECK(X(_update)(&S, message, 3 * BLOCK) == ROW(0, -1) &&
+          (IS_LIBB2 || !memcmp(&S, &before, sizeof S)));
 }
 
 /* The fields that libb2's header names, and the digest over its own input or key. */
@@ -267,7 +279,8 @@ static void last_node(void) {
     for (int value = 1; value < 256; value = value * 2 + 1) {
         CHECK(X(_init)(&S, LONGEST) == 0);
         S.last_node = (uint8_t)value;
-        CHECK(X(_update)(&S, NULL, 0) == 0 && S.last_node == value && X(_final)(&S, out, LONGEST) == 0);
+        CHECK(X(_update)(&S, NULL, 0) == 0 && S.last_node == value &&
+              X(_final)(&S, out, LONGEST) == 0);
         CHECK(memcmp(out, wanted, LONGEST));
         if (value > 1) CHECK(!memcmp(out, message, LONGEST));
         memcpy(message, out, LONGEST);

@@ -1,4 +1,5 @@
-# Part of c/run_tests.sh: libb2's functions by their own names, its own tests, and a program of others.
+# Part of c/run_tests.sh: libb2's functions by their own names, its own tests, and a program of
+# others.
 
 beside=$prefix/lib/libblake2_c-libb2.a
 
@@ -6,20 +7,24 @@ beside=$prefix/lib/libblake2_c-libb2.a
 names_of_libb2() {
     local family=$1
     shift
-    cc -std=c99 -g -O1 "${warnings[@]}" $(family_words "$family") -o "$work/libb2_names" "$tests/libb2.c" "$@" &&
+    cc -std=c99 -g -O1 "${warnings[@]}" $(family_words "$family") -o "$work/libb2_names" \
+        "$tests/libb2.c" "$@" &&
         "$work/libb2_names" "$cases/$family"
 }
 
-# What a configure script does to find libb2: a program that names one function and has no header of it.
+# What a configure script does to find libb2: a program that names one function and has no header of
+# it.
 configure_finds() {
     local name
-    for name in blake2b blake2b_init blake2b_init_key blake2b_init_param blake2b_update blake2b_final \
-        blake2s blake2s_init blake2s_init_key blake2s_init_param blake2s_update blake2s_final; do
+    for name in blake2b blake2b_init blake2b_init_key blake2b_init_param blake2b_update \
+        blake2b_final blake2s blake2s_init blake2s_init_key blake2s_init_param blake2s_update \
+        blake2s_final; do
         echo "char $name(void); int main(void) { return $name(); }" >"$work/conftest.c"
-        cc -w -fno-builtin -o "$work/conftest" "$work/conftest.c" -L"$prefix/lib/blake2_c-libb2" -Wl,-Bstatic -lb2 \
-            -Wl,-Bdynamic || return 1
+        cc -w -fno-builtin -o "$work/conftest" "$work/conftest.c" -L"$prefix/lib/blake2_c-libb2" \
+            -Wl,-Bstatic -lb2 -Wl,-Bdynamic || return 1
     done
-    ! has pkg-config || PKG_CONFIG_PATH=$prefix/lib/blake2_c-libb2/pkgconfig pkg-config --exists 'libb2 >= 0.98'
+    ! has pkg-config || PKG_CONFIG_PATH=$prefix/lib/blake2_c-libb2/pkgconfig pkg-config \
+        --exists 'libb2 >= 0.98'
 }
 
 # This library and libb2 in one program, by both headers, linked in both orders.
@@ -38,7 +43,8 @@ source_lists() {
     local list lists=$1
     mkdir -p "$lists"
     for list in /etc/apt/sources.list /etc/apt/sources.list.d/*.list; do
-        [ -r "$list" ] && sed -n 's/^deb\([[:space:]]\)/deb-src\1/p' "$list" >"$lists/$(basename "$list" .list).list"
+        [ -r "$list" ] && sed -n 's/^deb\([[:space:]]\)/deb-src\1/p' "$list" \
+            >"$lists/$(basename "$list" .list).list"
     done
     for list in /etc/apt/sources.list.d/*.sources; do
         [ -r "$list" ] && sed 's/^Types:.*/Types: deb-src/' "$list" >"$lists/$(basename "$list")"
@@ -46,8 +52,8 @@ source_lists() {
     return 0
 }
 
-# The sources of these packages, which no file of this repository keeps, each in a folder of its name. A list
-# that knows no sources fails alone; what counts is that one of them had these.
+# The sources of these packages, which no file of this repository keeps, each in a folder of its
+# name. A list that knows no sources fails alone; what counts is that one of them had these.
 fetch_sources() {
     local package folder=$work/fetched
     mkdir -p "$folder/lists/partial" "$folder/cache/archives/partial"
@@ -58,28 +64,34 @@ fetch_sources() {
         -o Acquire::http::Timeout=20 -o Acquire::https::Timeout=20)
     timeout 120 apt-get "${words[@]}" update
     for package in "$@"; do
-        timeout 120 apt-get "${words[@]}" --download-only --tar-only source "$package" && mkdir -p "$package" &&
+        timeout 120 apt-get "${words[@]}" --download-only --tar-only source "$package" &&
+            mkdir -p "$package" &&
             tar xf "$package"_*.orig.tar.* -C "$package" --strip-components=1
     done
 }
 
-# libb2's own test program, which includes its known answers: over the header of libb2's name here, or over
-# libb2's own with the functions by their own names.
+# libb2's own test program, which includes its known answers: over the header of libb2's name here,
+# or over libb2's own with the functions by their own names.
 libb2_test() {
     local name=$1 source=$work/fetched/libb2/src words=(-I"$libb2" "$archive")
     [ "$2" = header ] || words=(-I"$source" "$beside")
     mkdir -p "$work/theirs"
-    cp "$source/$name-test.c" "$source/blake2-kat.h" "$work/theirs/" && cc -o "$work/$name-test" "$work/theirs/$name-test.c" "${words[@]}" && [ "$("$work/$name-test")" = ok ]
+    cp "$source/$name-test.c" "$source/blake2-kat.h" "$work/theirs/" &&
+        cc -o "$work/$name-test" "$work/theirs/$name-test.c" "${words[@]}" &&
+        [ "$("$work/$name-test")" = ok ]
 }
 
-# librsync, whose search for libb2 finds what is installed here, with this folder of headers; and its own tests.
+# librsync, whose search for libb2 finds what is installed here, with this folder of headers; and
+# its own tests.
 librsync_tests() {
     local headers=$1 build=$work/librsync
     rm -rf "$build"
     cmake -S "$work/fetched/librsync" -B "$build" -DUSE_LIBB2=ON -DCMAKE_BUILD_TYPE=Debug \
         -DCMAKE_LIBRARY_PATH="$prefix/lib/blake2_c-libb2" -DCMAKE_INCLUDE_PATH="$headers" &&
-        cmake --build "$build" --parallel 2 && nm "$build/librsync.so" | grep -q ' t blake2_c_blake2b_update$' &&
-        ! readelf -d "$build/librsync.so" | grep -q 'libb2\.so' && cd "$build" && ctest --output-on-failure
+        cmake --build "$build" --parallel 2 &&
+        nm "$build/librsync.so" | grep -q ' t blake2_c_blake2b_update$' &&
+        ! readelf -d "$build/librsync.so" | grep -q 'libb2\.so' && cd "$build" &&
+        ctest --output-on-failure
 }
 
 test_sources() {
@@ -110,17 +122,22 @@ test_sources() {
 
 test_libb2() {
     local family
-    check "libb2.c without a warning" cc -std=c99 -O2 "${warnings[@]}" -c "$here/libb2/libb2.c" -o "$work/libb2.o"
+    check "libb2.c without a warning" cc -std=c99 -O2 "${warnings[@]}" -c "$here/libb2/libb2.c" \
+        -o "$work/libb2.o"
     check "a configure script finds libb2" configure_finds
     if has python3; then
-        for family in b s; do check "libb2's names, blake2$family" names_of_libb2 $family "$beside"; done
+        for family in b s; do
+            check "libb2's names, blake2$family" names_of_libb2 $family "$beside"
+        done
     else
         skip "libb2's names" "no python3 for the known answers"
     fi
     if has python3 && has_libb2; then
         for family in b s; do
-            check "libb2's names with its own header, blake2$family" names_of_libb2 $family -DOWN_HEADER "$beside"
-            check "what is said of libb2 itself, blake2$family" names_of_libb2 $family -DOWN_HEADER -DLIBB2 -w -lb2
+            check "libb2's names with its own header, blake2$family" names_of_libb2 $family \
+                -DOWN_HEADER "$beside"
+            check "what is said of libb2 itself, blake2$family" names_of_libb2 $family \
+                -DOWN_HEADER -DLIBB2 -w -lb2
         done
         check "this library and libb2 in one program" beside_libb2
     else

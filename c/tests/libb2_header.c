@@ -1,11 +1,11 @@
-/* Each function and constant of libb2/blake2.h, at its edges: null pointers, every size from 0 to 65,
- * outputs that overlap what is read, what is stricter than libb2. Prints the lines that check_lines.py
- * compares with Python's hashlib; answers 0 where all else is as it should be.
+/* Each function and constant of libb2/blake2.h, at its edges: null pointers, every size from 0 to
+ * 65, outputs that overlap what is read, what is stricter than libb2. Prints the lines that
+ * check_lines.py compares with Python's hashlib; answers 0 where all else is as it should be.
  *
- *   cc -std=c99 -Wall -Wextra -Wpedantic -Werror -I FOLDER/include/blake2_c-libb2 libb2_header.c ARCHIVE -o header
+ *   cc -std=c99 -Wall -Wextra -Wpedantic -Werror -I FOLDER/include/blake2_c-libb2 libb2_header.c
+ *       ARCHIVE -o header
  *   cc the same with -DTEST_S                        the same of BLAKE2s
- *   ./header | python3 check_lines.py                status 0 where every digest is hashlib's
- */
+ *   ./header | python3 check_lines.py                status 0 where every digest is hashlib's */
 #include <blake2.h>
 
 #include <stdio.h>
@@ -77,9 +77,11 @@ static void every_size(void) {
         state_t state, before;
         int taken = size >= 1 && size <= MAX, wanted = taken ? 0 : -1;
         size_t written = taken ? size : 0;
-        CHECK(HASH(fresh(out, 80), bytes, NULL, size, 200, 0) == wanted && is_untouched(out, written, 80));
+        CHECK(HASH(fresh(out, 80), bytes, NULL, size, 200, 0) == wanted &&
+              is_untouched(out, written, 80));
         if (taken) tell(size, 0, 200, out);
-        CHECK(HASH(fresh(out, 80), bytes, key, size, 201, 5) == wanted && is_untouched(out, written, 80));
+        CHECK(HASH(fresh(out, 80), bytes, key, size, 201, 5) == wanted &&
+              is_untouched(out, written, 80));
         if (taken) tell(size, 5, 201, out);
         CHECK(blake2(fresh(out, 80), bytes, key, size, 9, 3) == (size >= 1 && size <= 64 ? 0 : -1));
         CHECK(is_untouched(out, size <= 64 ? size : 0, 80));
@@ -88,9 +90,11 @@ static void every_size(void) {
         CHECK(B(update)(&state, bytes, 7) == wanted);
         before = state;
         for (size_t room = 0; room <= 66; room++)
-            if (room != size) CHECK(B(final)(&state, fresh(out, 80), room) == -1 && is_untouched(out, 0, 80));
+            if (room != size)
+                CHECK(B(final)(&state, fresh(out, 80), room) == -1 && is_untouched(out, 0, 80));
         CHECK(SAME(state, before));
-        CHECK(B(final)(&state, fresh(out, 80), size) == wanted && is_untouched(out, written, 80) && is_zero(&state));
+        CHECK(B(final)(&state, fresh(out, 80), size) == wanted && is_untouched(out, written, 80) &&
+              is_zero(&state));
         if (taken) tell(size, 0, 7, out);
         memset(&state, 0x5a, sizeof state);
         CHECK(B(init_key)(&state, size, key, 3) == wanted && (taken || is_zero(&state)));
@@ -116,9 +120,11 @@ static void null_pointers(void) {
     param_t param = {.digest_length = MAX, .fanout = 1, .depth = 1};
     fresh(out, MAX);
     CHECK(B(init)(NULL, MAX) == -1 && B(init)(NULL, 0) == -1);
-    CHECK(B(init_key)(NULL, MAX, key, 1) == -1 && B(init_key)(&state, MAX, NULL, 1) == -1 && is_zero(&state));
+    CHECK(B(init_key)(NULL, MAX, key, 1) == -1 && B(init_key)(&state, MAX, NULL, 1) == -1 &&
+          is_zero(&state));
     CHECK(B(init_key)(&state, MAX, NULL, 0) == -1 && is_zero(&state));
-    CHECK(B(init_param)(NULL, &param) == -1 && B(init_param)(&state, NULL) == -1 && is_zero(&state));
+    CHECK(B(init_param)(NULL, &param) == -1 && B(init_param)(&state, NULL) == -1 &&
+          is_zero(&state));
     CHECK(B(init_param)(&state, &param) == 0);
     before = state;
     CHECK(B(update)(NULL, bytes, 0) == -1 && B(update)(NULL, bytes, 1) == -1);
@@ -127,8 +133,10 @@ static void null_pointers(void) {
     state.counter = (uint64_t)1 << 63; /* so that this length is refused, and no byte is read */
     before = state;
     CHECK(B(update)(&state, bytes, (size_t)1 << 63) == -1 && SAME(state, before));
-    CHECK(B(final)(NULL, out, MAX) == -1 && B(final)(NULL, out, 0) == -1 && B(final)(NULL, NULL, 0) == -1);
-    CHECK(B(final)(&state, NULL, MAX) == -1 && B(final)(&state, NULL, 0) == -1 && SAME(state, before));
+    CHECK(B(final)(NULL, out, MAX) == -1 && B(final)(NULL, out, 0) == -1 &&
+          B(final)(NULL, NULL, 0) == -1);
+    CHECK(B(final)(&state, NULL, MAX) == -1 && B(final)(&state, NULL, 0) == -1 &&
+          SAME(state, before));
     CHECK(HASH(NULL, bytes, key, MAX, 1, 1) == -1 && HASH(NULL, bytes, key, 0, 1, 1) == -1);
     CHECK(HASH(out, NULL, key, MAX, 1, 1) == -1 && HASH(out, bytes, NULL, MAX, 1, 1) == -1);
     CHECK(blake2(NULL, bytes, key, MAX, 1, 1) == -1 && blake2(out, NULL, key, MAX, 1, 1) == -1);
@@ -139,15 +147,18 @@ static void null_pointers(void) {
     tell(MAX, 0, 0, out);
     fresh(out, MAX);
     CHECK(HASH(out, bytes, key, (size_t)1 << 32 | MAX, 1, 1) == -1);
-    CHECK(HASH(out, bytes, key, MAX, 1, (size_t)1 << 32 | 1) == -1 && HASH(out, bytes, key, ~(size_t)0, 1, 1) == -1);
+    CHECK(HASH(out, bytes, key, MAX, 1, (size_t)1 << 32 | 1) == -1 &&
+          HASH(out, bytes, key, ~(size_t)0, 1, 1) == -1);
     CHECK(is_untouched(out, 0, MAX));
 }
 
 /* blake2 is blake2b. */
 static void blake2_is_blake2b(void) {
     uint8_t a[64], b[64];
-    CHECK(blake2(a, bytes, key, 64, 150, 9) == 0 && blake2b(b, bytes, key, 64, 150, 9) == 0 && SAME(a, b));
-    CHECK(blake2(a, bytes, key, 20, 15, 2) == 0 && blake2b(b, bytes, key, 20, 15, 2) == 0 && !memcmp(a, b, 20));
+    CHECK(blake2(a, bytes, key, 64, 150, 9) == 0 && blake2b(b, bytes, key, 64, 150, 9) == 0 &&
+          SAME(a, b));
+    CHECK(blake2(a, bytes, key, 20, 15, 2) == 0 && blake2b(b, bytes, key, 20, 15, 2) == 0 &&
+          !memcmp(a, b, 20));
 }
 
 /* The digest may stand where the input or the key does, wherever in it. */
@@ -157,7 +168,8 @@ static void overlaps(void) {
         memcpy(text, bytes, sizeof text);
         CHECK(HASH(text + at, text, key, MAX, sizeof text, 7) == 0);
         tell(MAX, 7, sizeof text, text + at);
-        CHECK(!memcmp(text, bytes, at) && !memcmp(text + at + MAX, bytes + at + MAX, sizeof text - at - MAX));
+        CHECK(!memcmp(text, bytes, at) &&
+              !memcmp(text + at + MAX, bytes + at + MAX, sizeof text - at - MAX));
         memcpy(other, key, MAX);
         if (at > MAX) continue;
         CHECK(HASH(other + at % MAX, bytes, other, MAX, 5, MAX) == 0);
@@ -169,10 +181,13 @@ static void overlaps(void) {
 static void stricter(void) {
     uint8_t out[MAX], again[MAX];
     state_t state;
-    CHECK(B(init)(&state, MAX) == 0 && B(update)(&state, bytes, 20) == 0 && B(final)(&state, out, MAX) == 0);
+    CHECK(B(init)(&state, MAX) == 0 && B(update)(&state, bytes, 20) == 0 &&
+          B(final)(&state, out, MAX) == 0);
     tell(MAX, 0, 20, out);
-    CHECK(is_zero(&state) && B(final)(&state, fresh(again, MAX), MAX) == -1 && is_untouched(again, 0, MAX));
-    CHECK(B(update)(&state, bytes, 1) == -1 && B(update)(&state, bytes, 0) == -1 && is_zero(&state));
+    CHECK(is_zero(&state) && B(final)(&state, fresh(again, MAX), MAX) == -1 &&
+          is_untouched(again, 0, MAX));
+    CHECK(B(update)(&state, bytes, 1) == -1 && B(update)(&state, bytes, 0) == -1 &&
+          is_zero(&state));
     CHECK(B(final)(&state, again, 0) == -1);
     for (unsigned length = 0; length <= 255; length++) {
         param_t param = {.digest_length = (uint8_t)length, .fanout = 1, .depth = 1};
@@ -200,11 +215,13 @@ static void stricter(void) {
 static void params(void) {
     uint8_t out[MAX];
     state_t state;
-    param_t param = {.digest_length = MAX - 1, .fanout = 3, .depth = 2, .node_depth = 1, .inner_length = MAX};
+    param_t param = {
+        .digest_length = MAX - 1, .fanout = 3, .depth = 2, .node_depth = 1, .inner_length = MAX};
     param.leaf_length = 0x01020304;
     memset(param.salt, 7, sizeof param.salt);
     memset(param.personal, 9, sizeof param.personal);
-    CHECK(B(init_param)(&state, &param) == 0 && B(update)(&state, bytes, 20) == 0 && B(final)(&state, out, MAX - 1) == 0);
+    CHECK(B(init_param)(&state, &param) == 0 && B(update)(&state, bytes, 20) == 0 &&
+          B(final)(&state, out, MAX - 1) == 0);
     printf("block %s ", FAMILY);
     for (size_t i = 0; i < sizeof param; i++) printf("%02x", ((uint8_t *)&param)[i]);
     putchar(' ');
@@ -213,7 +230,8 @@ static void params(void) {
 }
 
 static void constants(void) {
-    constant_t block = CONSTANT(BLOCKBYTES), longest = CONSTANT(OUTBYTES), keys = CONSTANT(KEYBYTES);
+    constant_t block = CONSTANT(BLOCKBYTES), longest = CONSTANT(OUTBYTES),
+               keys = CONSTANT(KEYBYTES);
     CHECK(block == BLOCK && longest == MAX && keys == MAX);
     CHECK(CONSTANT(SALTBYTES) == SALT && CONSTANT(PERSONALBYTES) == SALT);
     CHECK(sizeof(param_t) == (size_t)MAX && sizeof(state_t) == (MAX == 64 ? 424 : 232));

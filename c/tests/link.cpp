@@ -1,6 +1,6 @@
-// A program in C++ that calls a function of each kind in blake2_c.h and in libb2/blake2.h, and is linked. It answers 0
-// where the digests of the same bytes by both headers, in one call, in pieces and among several, are those of RFC 7693,
-// appendices A and B.
+// A program in C++ that calls a function of each kind in blake2_c.h and in libb2/blake2.h, and is
+// linked. It answers 0 where the digests of the same bytes by both headers, in one call, in pieces
+// and among several, are those of RFC 7693, appendices A and B.
 //
 //   c++ -std=c++11 -Wall -Wextra -Wpedantic -Werror -I FOLDER/include link.cpp ARCHIVE -o link
 #include "blake2_c-libb2/blake2.h"
@@ -34,18 +34,24 @@ int main() {
     good = good && !vulfsjor_blake2s(s, 32, "abc", 3, nullptr, 0) && is(s, wanted_s);
     good = good && !vulfsjor_blake2b_init(&run_b, 64) && !vulfsjor_blake2b_update(&run_b, "a", 1);
     vulfsjor_blake2b_state copy = run_b;
-    good = good && !vulfsjor_blake2b_update(&copy, "bc", 2) && !vulfsjor_blake2b_final(&copy, b, 64) && is(b, wanted_b);
-    good = good && !vulfsjor_blake2b_update(&run_b, "bc", 2) && !vulfsjor_blake2b_verify(&run_b, wanted_b, 64);
+    good = good && !vulfsjor_blake2b_update(&copy, "bc", 2) &&
+           !vulfsjor_blake2b_final(&copy, b, 64) && is(b, wanted_b);
+    good = good && !vulfsjor_blake2b_update(&run_b, "bc", 2) &&
+           !vulfsjor_blake2b_verify(&run_b, wanted_b, 64);
     good = good && !vulfsjor_blake2s_init(&run_s, 32) && !vulfsjor_blake2s_update(&run_s, "abc", 3);
-    good = good && vulfsjor_blake2s_digest_size(&run_s) == 32 && !vulfsjor_blake2s_final(&run_s, s, 32) && is(s, wanted_s);
+    good = good && vulfsjor_blake2s_digest_size(&run_s) == 32 &&
+           !vulfsjor_blake2s_final(&run_s, s, 32) && is(s, wanted_s);
     const vulfsjor_message messages[2] = {{"abc", 3}, {"abcd", 3}};
     good = good && !vulfsjor_blake2b_many(all, 64, messages, 2, nullptr, 0, nullptr, 0, nullptr, 0);
     good = good && !std::memcmp(all, wanted_b, 64) && !std::memcmp(all + 64, wanted_b, 64);
-    good = good && !vulfsjor_tree_init(&tree, 64, nullptr, 0, nullptr, 0, 2) && !vulfsjor_tree_update(&tree, "abc", 3);
-    good = good && !vulfsjor_tree_final(&tree, all, 64) && !vulfsjor_tree_root(b, 64, "abc", 3, nullptr, 0, nullptr, 0, 2);
+    good = good && !vulfsjor_tree_init(&tree, 64, nullptr, 0, nullptr, 0, 2) &&
+           !vulfsjor_tree_update(&tree, "abc", 3);
+    good = good && !vulfsjor_tree_final(&tree, all, 64) &&
+           !vulfsjor_tree_root(b, 64, "abc", 3, nullptr, 0, nullptr, 0, 2);
     good = good && is(b, all);
     blake2b_state libb2_run;
-    good = good && !blake2b_init(&libb2_run, BLAKE2B_OUTBYTES) && !blake2b_update(&libb2_run, (const uint8_t *)"abc", 3);
+    good = good && !blake2b_init(&libb2_run, BLAKE2B_OUTBYTES) &&
+           !blake2b_update(&libb2_run, (const uint8_t *)"abc", 3);
     good = good && !blake2b_final(&libb2_run, b, 64) && is(b, wanted_b);
     good = good && !blake2(b, "abc", nullptr, 64, 3, 0) && is(b, wanted_b);
     good = good && !blake2s(s, "abc", nullptr, 32, 3, 0) && is(s, wanted_s);

@@ -1,5 +1,6 @@
-/* The library in a program: called by a constructor before main, and by many threads whose first calls come
- * at the same time. FIRST_BY_THREADS leaves the constructor out. Answers 0 where all digests are right. */
+/* The library in a program: called by a constructor before main, and by many threads whose first
+ * calls come at the same time. FIRST_BY_THREADS leaves the constructor out. Answers 0 where all
+ * digests are right. */
 #define _POSIX_C_SOURCE 200112L
 #include "blake2_c.h"
 
@@ -13,7 +14,8 @@ static const uint8_t wanted[32] = {0x50, 0x8c, 0x5e, 0x8c, 0x32, 0x7c, 0x14, 0xe
 
 static int is_right(void) {
     uint8_t out[32];
-    return vulfsjor_blake2s(out, sizeof out, "abc", 3, 0, 0) == 0 && !memcmp(out, wanted, sizeof out);
+    return vulfsjor_blake2s(out, sizeof out, "abc", 3, 0, 0) == 0 &&
+           !memcmp(out, wanted, sizeof out);
 }
 
 static int before_main = 1;

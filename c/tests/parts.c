@@ -1,7 +1,8 @@
-/* The edges of the functions of blake2_c.h that hash a tree in parts, and of counts: each pointer null with length
- * 0 and 1, wrong lengths, leaves of no bytes, every kind of flag, places at the limits, what stays
- * unchanged, and random cuts, orders and changes. Prints a line for digests that Python's hashlib
- * has to have, as check_lines.py reads them; returns 0 if all else is as it should be.
+/* The edges of the functions of blake2_c.h that hash a tree in parts, and of counts: each pointer
+ * null with length 0 and 1, wrong lengths, leaves of no bytes, every kind of flag, places at the
+ * limits, what stays unchanged, and random cuts, orders and changes. Prints a line for digests that
+ * Python's hashlib has to have, as check_lines.py reads them; returns 0 if all else is as it should
+ * be.
  *
  *   cc -std=c99 -Wall -Wextra -Wpedantic -Werror -I FOLDER/include parts.c ARCHIVE -o parts
  *   ./parts [TURNS] | python3 check_lines.py    status 0 if every digest is hashlib's; TURNS is how
@@ -62,7 +63,8 @@ static void leaf_counts(void) {
             CHECK(vulfsjor_tree_leaf_count(counts[k] * size + 1, size) == counts[k] + 1);
             CHECK(size == 1 || vulfsjor_tree_leaf_count(counts[k] * size - 1, size) == counts[k]);
         }
-        CHECK(vulfsjor_tree_leaf_count(UINT64_MAX, size) == UINT64_MAX / size + (UINT64_MAX % size > 0));
+        CHECK(vulfsjor_tree_leaf_count(UINT64_MAX, size) ==
+              UINT64_MAX / size + (UINT64_MAX % size > 0));
     }
     CHECK(vulfsjor_tree_leaf_count(0, 0) == 0 && vulfsjor_tree_leaf_count(5, 0) == 0);
     CHECK(vulfsjor_tree_leaf_count(UINT64_MAX, 0) == 0);
@@ -91,11 +93,13 @@ static void single_ranges(void) {
 
     for (size_t length = 0; length <= 13; length++) tell_leaves(0, 1, length, 0, 0, 3);
     for (size_t length = 1; length <= 13; length++) tell_leaves(7, 1, length, 2, 3, 4);
-    for (size_t leaves = 1; leaves <= 9; leaves++) tell_leaves(leaves, 0, 5 * leaves, SALT, SALT, 5);
+    for (size_t leaves = 1; leaves <= 9; leaves++)
+        tell_leaves(leaves, 0, 5 * leaves, SALT, SALT, 5);
     tell_leaves(0, 1, sizeof bytes, 1, 0, UINT32_MAX);
     tell_leaves(0, 1, 900, 0, 1, 128);
     /* Any flag but 0 says that the message ends. */
-    for (size_t i = 0; i < sizeof flags / sizeof *flags; i++) tell_leaves(2, flags[i], 40, 0, 0, 20);
+    for (size_t i = 0; i < sizeof flags / sizeof *flags; i++)
+        tell_leaves(2, flags[i], 40, 0, 0, 20);
 }
 
 /* A range ends before byte 2^58 of the message, whatever the product of place and leaf length is in
@@ -123,9 +127,11 @@ static void places_at_the_limits(void) {
 
 /* What is no range, and lengths of the output. */
 static void refused_ranges(void) {
-    static const size_t huge[] = {(size_t)1 << 32, ((size_t)1 << 32) + 192, SIZE_MAX, SIZE_MAX - 63};
+    static const size_t huge[] = {(size_t)1 << 32, ((size_t)1 << 32) + 192, SIZE_MAX,
+                                  SIZE_MAX - 63};
 
-    CHECK(vulfsjor_tree_leaves(out, 64, 0, 0, bytes, 0, 0, 0, 0, 0, 4) == -1); /* no bytes, not all */
+    CHECK(vulfsjor_tree_leaves(out, 64, 0, 0, bytes, 0, 0, 0, 0, 0, 4) ==
+          -1); /* no bytes, not all */
     CHECK(vulfsjor_tree_leaves(out, 64, 1, 1, bytes, 0, 0, 0, 0, 0, 4) == -1);
     CHECK(vulfsjor_tree_leaves(out, 0, 0, 1, bytes, 0, 0, 0, 0, 0, 4) == -1);
     CHECK(vulfsjor_tree_leaves(out, 0, 0, 0, bytes, 0, 0, 0, 0, 0, 4) == -1);
@@ -145,7 +151,8 @@ static void refused_ranges(void) {
     }
     CHECK(vulfsjor_tree_leaves(out, 64, 0, 1, bytes, 4, salt, SALT + 1, 0, 0, 4) == -1);
     CHECK(vulfsjor_tree_leaves(out, 64, 0, 1, bytes, 4, 0, 0, persona, SALT + 1, 4) == -1);
-    CHECK(vulfsjor_tree_leaves(out, 64, 0, 1, bytes, 4, 0, 0, 0, 0, 0) == -1); /* leaves of no bytes */
+    CHECK(vulfsjor_tree_leaves(out, 64, 0, 1, bytes, 4, 0, 0, 0, 0, 0) ==
+          -1); /* leaves of no bytes */
     CHECK(vulfsjor_tree_leaves(out, 0, 0, 1, bytes, 0, 0, 0, 0, 0, 0) == -1);
     CHECK(ends_at(0));
 }
@@ -182,7 +189,8 @@ static void roots_of_leaves(void) {
         int wanted = outlen >= 1 && outlen <= MAX ? 0 : -1;
         uint8_t digests[192];
         CHECK(vulfsjor_tree_leaves(digests, 192, 0, 1, bytes, 900, salt, 3, persona, 2, 300) == 0);
-        CHECK(vulfsjor_tree_root_of_leaves(out, outlen, digests, 192, salt, 3, persona, 2, 300) == wanted);
+        CHECK(vulfsjor_tree_root_of_leaves(out, outlen, digests, 192, salt, 3, persona, 2, 300) ==
+              wanted);
         if (!wanted) printf("root %zu 3 2 300 900 ", outlen);
         if (!wanted) print_hex(out, outlen);
         CHECK(ends_at(wanted ? 0 : outlen));
@@ -201,7 +209,8 @@ static void roots_of_leaves(void) {
     CHECK(vulfsjor_tree_root_of_leaves(out, MAX, bytes, 64, 0, 0, persona, SALT + 1, 4) == -1);
     CHECK(vulfsjor_tree_root_of_leaves(out, MAX, bytes, 64, 0, 0, 0, 0, 0) == -1);
     CHECK(ends_at(0));
-    CHECK(vulfsjor_tree_root_of_leaves(out, MAX, bytes, 64, salt, SALT, persona, SALT, UINT32_MAX) == 0);
+    CHECK(vulfsjor_tree_root_of_leaves(out, MAX, bytes, 64, salt, SALT, persona, SALT,
+                                       UINT32_MAX) == 0);
     CHECK(ends_at(MAX));
 }
 
@@ -222,8 +231,9 @@ static vulfsjor_tree_state tree_with(uint32_t size, size_t length) {
 static int are_alike(vulfsjor_tree_state a, vulfsjor_tree_state b) {
     uint8_t one[MAX] = {0}, two[MAX] = {1};
 
-    return vulfsjor_tree_count(&a) == vulfsjor_tree_count(&b) && !vulfsjor_tree_final(&a, one, MAX) &&
-           !vulfsjor_tree_final(&b, two, MAX) && !memcmp(one, two, MAX);
+    return vulfsjor_tree_count(&a) == vulfsjor_tree_count(&b) &&
+           !vulfsjor_tree_final(&a, one, MAX) && !vulfsjor_tree_final(&b, two, MAX) &&
+           !memcmp(one, two, MAX);
 }
 
 static void counts_of_states(void) {
@@ -237,7 +247,8 @@ static void counts_of_states(void) {
     CHECK(!vulfsjor_blake2s_count(NULL) && !vulfsjor_blake2s_count(&s));
     CHECK(!vulfsjor_tree_count(NULL) && !vulfsjor_tree_count(&tree));
     CHECK(!vulfsjor_tree_leaf_length(NULL) && !vulfsjor_tree_leaf_length(&tree));
-    CHECK(!vulfsjor_blake2b_init_key(&b, MAX, "key", 3) && !vulfsjor_blake2s_init_key(&s, 32, "key", 3));
+    CHECK(!vulfsjor_blake2b_init_key(&b, MAX, "key", 3) &&
+          !vulfsjor_blake2s_init_key(&s, 32, "key", 3));
     for (size_t n = 0; n <= 300; n += 37) { /* a key is not counted */
         count += n;
         CHECK(!vulfsjor_blake2b_update(&b, bytes, n) && !vulfsjor_blake2s_update(&s, bytes, n));
@@ -263,7 +274,8 @@ static void next_leaves(void) {
             CHECK(!vulfsjor_tree_next_leaves(&state, out, 64 * leaves, skip, bytes, 20 * leaves));
             CHECK(SAME(state, before));
             for (size_t i = 0; i < leaves; i++) {
-                printf("leaf 3 2 20 %llu 0 %zu 20 ", (unsigned long long)(closed + skip + i), 20 * i);
+                printf("leaf 3 2 20 %llu 0 %zu 20 ", (unsigned long long)(closed + skip + i),
+                       20 * i);
                 print_hex(out + 64 * i, 64);
             }
             CHECK(ends_at(64 * leaves));
@@ -271,8 +283,10 @@ static void next_leaves(void) {
 }
 
 static void refused_next_leaves(void) {
-    static const uint64_t skips[] = {1ull << 58, 1ull << 62, 1ull << 63, UINT64_MAX, UINT64_MAX - 1};
-    vulfsjor_tree_state state = tree_with(1, 2), before = state, zeros = {0}, open = tree_with(4, 5);
+    static const uint64_t skips[] = {1ull << 58, 1ull << 62, 1ull << 63, UINT64_MAX,
+                                     UINT64_MAX - 1};
+    vulfsjor_tree_state state = tree_with(1, 2), before = state, zeros = {0},
+                        open = tree_with(4, 5);
 
     CHECK(vulfsjor_tree_next_leaves(NULL, out, 64, 0, bytes, 1) == -1);
     CHECK(vulfsjor_tree_next_leaves(&state, NULL, 64, 0, bytes, 1) == -1);
@@ -283,7 +297,8 @@ static void refused_next_leaves(void) {
     CHECK(vulfsjor_tree_next_leaves(&open, out, 64, 0, bytes, 4) == -1); /* no leaf boundary */
     open = tree_with(4, 4);
     for (size_t n = 1; n <= 9; n++) /* not whole leaves */
-        CHECK(n % 4 == 0 || vulfsjor_tree_next_leaves(&open, out, 64 * (n / 4 + 1), 0, bytes, n) == -1);
+        CHECK(n % 4 == 0 ||
+              vulfsjor_tree_next_leaves(&open, out, 64 * (n / 4 + 1), 0, bytes, n) == -1);
     for (size_t outlen = 0; outlen < 200; outlen++)
         CHECK(outlen == 128 || vulfsjor_tree_next_leaves(&open, out, outlen, 0, bytes, 8) == -1);
     CHECK(vulfsjor_tree_next_leaves(&open, out, 128 + (1ull << 32), 0, bytes, 8) == -1);
@@ -294,7 +309,8 @@ static void refused_next_leaves(void) {
     CHECK(vulfsjor_tree_next_leaves(&state, out, 64, (1ull << 58) - 3, bytes, 1) == -1);
     CHECK(vulfsjor_tree_next_leaves(&open, out, 64, (1ull << 56) - 2, bytes, 4) == -1);
     CHECK(SAME(state, before) && ends_at(0));
-    CHECK(vulfsjor_tree_next_leaves(&state, out, 64, (1ull << 58) - 4, bytes, 1) == 0 && ends_at(64));
+    CHECK(vulfsjor_tree_next_leaves(&state, out, 64, (1ull << 58) - 4, bytes, 1) == 0 &&
+          ends_at(64));
 }
 
 /* Leaves that are absorbed by their digests leave the state that their bytes leave. */
@@ -336,7 +352,8 @@ static void refused_updates_by_leaves(void) {
     before = state = tree_with(4, 5); /* no leaf boundary */
     KEPT(vulfsjor_tree_update_leaves(&state, bytes, 64, bytes, 1));
     CHECK(!vulfsjor_tree_update_leaves(&state, NULL, 0, NULL, 0) && SAME(state, before));
-    CHECK(!vulfsjor_tree_update_leaves(&state, NULL, 0, bytes, 1) && vulfsjor_tree_count(&state) == 6);
+    CHECK(!vulfsjor_tree_update_leaves(&state, NULL, 0, bytes, 1) &&
+          vulfsjor_tree_count(&state) == 6);
     memset(&state, 0, sizeof state); /* not ready */
     before = state;
     KEPT(vulfsjor_tree_update_leaves(&state, bytes, 64, bytes, 1));
@@ -378,7 +395,8 @@ static void hash_range(uint64_t first, uint64_t end) {
     size_t from = first * size, to = ends ? length : end * size;
 
     CHECK(!vulfsjor_tree_leaves(out + 64 * first, 64 * (end - first), first, ends,
-                                length ? message + from : NULL, to - from, "na", 2, "pers", 4, size));
+                                length ? message + from : NULL, to - from, "na", 2, "pers", 4,
+                                size));
 }
 
 /* Hashes all leaves in ranges at random places: those at odd places of the cut first. */
@@ -405,7 +423,8 @@ static void change_and_hash(void) {
         length = from + (first ? 1 : 0) + random_below(2 * MOST_BYTES - from - 1) % 500;
         end = vulfsjor_tree_leaf_count(length, size);
     }
-    for (size_t i = from; i < length && i < end * size; i++) message[i] = (uint8_t)random_below(256);
+    for (size_t i = from; i < length && i < end * size; i++)
+        message[i] = (uint8_t)random_below(256);
     hash_range(first, end);
 }
 

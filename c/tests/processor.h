@@ -1,5 +1,5 @@
-/* A processor that is made up, in the place of <cpuid.h>, for choose.c of this folder. It answers as the
- * compiler's functions do: 0 for a leaf that the processor doesn't have. */
+/* A processor that is made up, in the place of <cpuid.h>, for choose.c of this folder. It answers
+ * as the compiler's functions do: 0 for a leaf that the processor doesn't have. */
 #include <stdint.h>
 
 static struct made_up {
@@ -13,7 +13,8 @@ __attribute__((noinline)) static void need_aligned_stack(void) {
     if ((uintptr_t)__builtin_frame_address(0) % 16) abort();
 }
 
-static int __get_cpuid_count(unsigned leaf, unsigned part, unsigned *a, unsigned *b, unsigned *c, unsigned *d) {
+static int __get_cpuid_count(unsigned leaf, unsigned part, unsigned *a, unsigned *b, unsigned *c,
+                             unsigned *d) {
     need_aligned_stack();
     if (leaf > (leaf & 0x80000000u ? made_up.last_extended : made_up.last)) return 0;
     *a = *b = *c = *d = 0xdeadbeef; /* of no use to anyone */

@@ -1,4 +1,5 @@
-/* Calls each function of ../b2.c, which has the main, with malloc, realloc and free that count and can refuse:
+/* Calls each function of ../b2.c, which has the main, with malloc, realloc and free that count and
+ * can refuse:
  *
  *   cc -DMAIN=checks -Wl,--wrap=malloc,--wrap=realloc,--wrap=free b2.c tests/program.c -o program
  *   program one "two words" ""
@@ -132,7 +133,8 @@ static bool is_leaf(unsigned number, unsigned at, unsigned told, unsigned active
 }
 
 static void check_leaves(void) {
-    const unsigned all = ~0u, first = 1u << 12 | 1u << 28 | 1u << 29, avx2 = 1u << 5, no_xsave = ~(1u << 27);
+    const unsigned all = ~0u, first = 1u << 12 | 1u << 28 | 1u << 29, avx2 = 1u << 5,
+                   no_xsave = ~(1u << 27);
 
     for (unsigned saved = 0; saved < 16; saved++) {
         const bool saves = saved == 6 || saved == 7 || saved >= 14;

@@ -3,8 +3,8 @@
 
 # ../b2.c over tests in the place of a text of dist/, with these arguments for the compiler.
 functions_of_program() {
-    cc -O2 -g "${warnings[@]}" -DMAIN=checks -Wl,--wrap=malloc,--wrap=realloc,--wrap=free "$here/b2.c" \
-        "$tests/program.c" -o "$work/program" "$@" || return
+    cc -O2 -g "${warnings[@]}" -DMAIN=checks -Wl,--wrap=malloc,--wrap=realloc,--wrap=free \
+        "$here/b2.c" "$tests/program.c" -o "$work/program" "$@" || return
     timeout 60 "$work/program" one "two words" "" || [ $? -eq 7 ]
 }
 
@@ -12,7 +12,8 @@ functions_of_program() {
 leaves_of_program() {
     printf '%s\n' '#include <stdlib.h>' '#include <processor.h>' \
         'void make_up(unsigned first, unsigned seventh, unsigned extended, unsigned saved) {' \
-        '    made_up = (struct made_up){7, 0x80000008u, first, seventh, extended, saved};' '}' >"$work/made_up.h"
+        '    made_up = (struct made_up){7, 0x80000008u, first, seventh, extended, saved};' '}' \
+        >"$work/made_up.h"
     functions_of_program -DHAS_LEAVES=0 -DPROCESSOR='"made_up.h"' -I"$work" -I"$tests"
 }
 
@@ -20,9 +21,10 @@ leaves_of_program() {
 program_reads() {
     local text=$dist/x86_64/b2-v2.s
     is_x86 || text=$dist/aarch64/b2.s
-    printf '%s\n' '#define _GNU_SOURCE' '#include <dlfcn.h>' '#include <errno.h>' '#include <stdlib.h>' '#include <unistd.h>' \
-        'ssize_t read(int file, void *bytes, size_t size) {' \
-        '    static int calls;' '    ssize_t (*next)(int, void *, size_t) = dlsym(RTLD_NEXT, "read");' \
+    printf '%s\n' '#define _GNU_SOURCE' '#include <dlfcn.h>' '#include <errno.h>' \
+        '#include <stdlib.h>' '#include <unistd.h>' \
+        'ssize_t read(int file, void *bytes, size_t size) {' '    static int calls;' \
+        '    ssize_t (*next)(int, void *, size_t) = dlsym(RTLD_NEXT, "read");' \
         '    if (file == 0 && calls++ == 0) { errno = atoi(getenv("FIRST_READ")); return -1; }' \
         '    return next(file, bytes, size);' '}' >"$work/read.c" &&
         cc -shared -fPIC -O1 "$work/read.c" -o "$work/read.so" -ldl &&
@@ -35,7 +37,8 @@ program_reads() {
 test_program() {
     check "the C of the program" functions_of_program
     if links -fsanitize=address,undefined && "$work/linked"; then
-        check "the C of the program, with sanitizers" functions_of_program -fsanitize=undefined -fno-sanitize-recover=all
+        check "the C of the program, with sanitizers" functions_of_program -fsanitize=undefined \
+            -fno-sanitize-recover=all
     else
         skip "the C of the program, with sanitizers" "cc has none"
     fi

@@ -1,14 +1,15 @@
-/* Whether a branch or an address depends on a secret, by memcheck of valgrind: keys and messages are marked as undefined,
- * and memcheck reports each branch on what is computed from them, and each such address. Lengths, salts and personas are
- * public, and so is the result of a comparison: verify and is_same may have one report a call, that of their result. A
- * call writes what memcheck knows for a secret, which is then marked as defined and compared with the expected digest.
+/* Whether a branch or an address depends on a secret, by memcheck of valgrind: keys and messages
+ * are marked as undefined, and memcheck reports each branch on what is computed from them, and each
+ * such address. Lengths, salts and personas are public, and so is the result of a comparison:
+ * verify and is_same may have one report a call, that of their result. A call writes what memcheck
+ * knows for a secret, which is then marked as defined and compared with the expected digest.
  *
  *   secrets FILE      every call that takes a key or a message, over the lines that cases.py writes
  *   secrets branch    a branch on a byte of a key, and
  *   secrets address   an address from a byte of a key: each has to be reported
  *
- * It has to run under valgrind with --error-limit=no, and returns 0 if all is as expected. TEST_S is defined for
- * BLAKE2s. */
+ * It has to run under valgrind with --error-limit=no, and returns 0 if all is as expected. TEST_S
+ * is defined for BLAKE2s. */
 #include <blake2_c.h>
 #include <stdio.h>
 #include <stdlib.h>
@@ -55,10 +56,12 @@ static void read_text(text *read, const char *digits) {
 
 static void hide(text *secret) { (void)VALGRIND_MAKE_MEM_UNDEFINED(secret->bytes, secret->length); }
 
-/* Whether the output is the expected digest, and memcheck knows it for a secret, as any of a key or a message is. */
+/* Whether the output is the expected digest, and memcheck knows it for a secret, as any of a key or
+ * a message is. */
 static int is_wanted(const uint8_t *given) {
     uint8_t bits = 0;
-    if (VALGRIND_GET_VBITS(given, &bits, 1) != 1 || !bits != !(key.length + message.length)) return 0;
+    if (VALGRIND_GET_VBITS(given, &bits, 1) != 1 || !bits != !(key.length + message.length))
+        return 0;
     (void)VALGRIND_MAKE_MEM_DEFINED(given, wanted.length);
     return !memcmp(given, wanted.bytes, wanted.length);
 }
@@ -108,10 +111,12 @@ static void in_pieces(const state_t *made, unsigned cut) {
     copy = state;
     require(!BLAKE(reset)(&copy), "reset is refused");
     absorb(&copy, cut + 1);
-    require(!BLAKE(final)(&copy, out, wanted.length) && is_wanted(out), "another digest behind a reset");
+    require(!BLAKE(final)(&copy, out, wanted.length) && is_wanted(out),
+            "another digest behind a reset");
     copy = state;
     BLAKE(wipe)(&copy);
-    require(!BLAKE(final)(&state, out, wanted.length) && is_wanted(out), "another digest in pieces");
+    require(!BLAKE(final)(&state, out, wanted.length) && is_wanted(out),
+            "another digest in pieces");
 }
 
 /* All that is done with a state that has absorbed nothing. */
@@ -125,7 +130,8 @@ static void of_state(const state_t *made) {
 }
 
 static void one_call(void) {
-    require(!ONE_CALL(out, wanted.length, message.bytes, message.length, key.bytes, key.length) && is_wanted(out),
+    require(!ONE_CALL(out, wanted.length, message.bytes, message.length, key.bytes, key.length) &&
+                is_wanted(out),
             "another digest in one call");
 }
 
@@ -137,10 +143,11 @@ static void many(void) {
         messages[i].length = message.length;
     }
     for (size_t count = 1; count <= 9; count += 2) {
-        require(!BLAKE(many)(out, wanted.length, messages, count, key.bytes, key.length, salt.bytes, salt.length,
-                             persona.bytes, persona.length),
+        require(!BLAKE(many)(out, wanted.length, messages, count, key.bytes, key.length, salt.bytes,
+                             salt.length, persona.bytes, persona.length),
                 "many is refused");
-        for (size_t i = 0; i < count; i++) require(is_wanted(out + i * wanted.length), "another digest of many");
+        for (size_t i = 0; i < count; i++)
+            require(is_wanted(out + i * wanted.length), "another digest of many");
     }
 }
 
@@ -148,15 +155,17 @@ static void hash_case(void) {
     state_t made;
     hide(&key);
     hide(&message);
-    require(!BLAKE(init_salt_personal)(&made, wanted.length, key.bytes, key.length, salt.bytes, salt.length,
-                                       persona.bytes, persona.length),
+    require(!BLAKE(init_salt_personal)(&made, wanted.length, key.bytes, key.length, salt.bytes,
+                                       salt.length, persona.bytes, persona.length),
             "init_salt_personal is refused");
     of_state(&made);
     many();
     if (salt.length + persona.length) return;
     one_call();
     require(!BLAKE(init)(&made, wanted.length), "init is refused");
-    if (key.length) require(!BLAKE(init_key)(&made, wanted.length, key.bytes, key.length), "init_key is refused");
+    if (key.length)
+        require(!BLAKE(init_key)(&made, wanted.length, key.bytes, key.length),
+                "init_key is refused");
     of_state(&made);
 }
 
@@ -166,8 +175,8 @@ static void node_case(const char *numbers) {
     unsigned long long node_offset;
     vulfsjor_tree tree;
     state_t made;
-    if (sscanf(numbers, "%u,%u,%lu,%llu,%u,%u,%u", &fanout, &depth, &leaf_length, &node_offset, &node_depth,
-               &inner_length, &last_node) != 7)
+    if (sscanf(numbers, "%u,%u,%lu,%llu,%u,%u,%u", &fanout, &depth, &leaf_length, &node_offset,
+               &node_depth, &inner_length, &last_node) != 7)
         abort();
     tree.fanout = (uint8_t)fanout;
     tree.depth = (uint8_t)depth;
@@ -177,8 +186,8 @@ static void node_case(const char *numbers) {
     tree.inner_length = (uint8_t)inner_length;
     hide(&key);
     hide(&message);
-    require(!BLAKE(init_tree)(&made, wanted.length, key.bytes, key.length, salt.bytes, salt.length, persona.bytes,
-                              persona.length, &tree),
+    require(!BLAKE(init_tree)(&made, wanted.length, key.bytes, key.length, salt.bytes, salt.length,
+                              persona.bytes, persona.length, &tree),
             "init_tree is refused");
     require(!BLAKE(set_last_node)(&made, (int)last_node), "set_last_node is refused");
     of_state(&made);
@@ -204,20 +213,27 @@ static void root_case(uint32_t leaf) {
     size_t leaves = (size_t)vulfsjor_tree_leaf_count(message.length, leaf);
     key.length = 0;
     hide(&message);
-    require(!vulfsjor_tree_root(out, wanted.length, message.bytes, message.length, salt.bytes, salt.length, persona.bytes,
-                                persona.length, leaf) && is_wanted(out), "another root in one call");
+    require(!vulfsjor_tree_root(out, wanted.length, message.bytes, message.length, salt.bytes,
+                                salt.length, persona.bytes, persona.length, leaf) &&
+                is_wanted(out),
+            "another root in one call");
     for (unsigned cut = 0; cut < 7; cut++) {
-        vulfsjor_tree_init(&state, wanted.length, salt.bytes, salt.length, persona.bytes, persona.length, leaf);
+        vulfsjor_tree_init(&state, wanted.length, salt.bytes, salt.length, persona.bytes,
+                           persona.length, leaf);
         for (size_t from = 0, piece; from < message.length; from += piece) {
             piece = next_piece(from, cut);
-            require(!vulfsjor_tree_update(&state, message.bytes + from, piece), "tree_update is refused");
+            require(!vulfsjor_tree_update(&state, message.bytes + from, piece),
+                    "tree_update is refused");
         }
-        require(!vulfsjor_tree_final(&state, out, wanted.length) && is_wanted(out), "another root in pieces");
+        require(!vulfsjor_tree_final(&state, out, wanted.length) && is_wanted(out),
+                "another root in pieces");
     }
-    require(!vulfsjor_tree_leaves(digests, 64 * leaves, 0, 1, message.bytes, message.length, salt.bytes, salt.length,
-                                  persona.bytes, persona.length, leaf), "tree_leaves is refused");
-    require(!vulfsjor_tree_root_of_leaves(out, wanted.length, digests, 64 * leaves, salt.bytes, salt.length,
-                                          persona.bytes, persona.length, leaf) && is_wanted(out),
+    require(!vulfsjor_tree_leaves(digests, 64 * leaves, 0, 1, message.bytes, message.length,
+                                  salt.bytes, salt.length, persona.bytes, persona.length, leaf),
+            "tree_leaves is refused");
+    require(!vulfsjor_tree_root_of_leaves(out, wanted.length, digests, 64 * leaves, salt.bytes,
+                                          salt.length, persona.bytes, persona.length, leaf) &&
+                is_wanted(out),
             "another root of the leaves");
 }
 #endif
@@ -264,7 +280,8 @@ int main(int count, char **words) {
     char kind[3];
     FILE *file;
     if (count != 2 || !RUNNING_ON_VALGRIND) return 2;
-    if (!strcmp(words[1], "branch") || !strcmp(words[1], "address")) return planted(words[1][0] == 'b');
+    if (!strcmp(words[1], "branch") || !strcmp(words[1], "address"))
+        return planted(words[1][0] == 'b');
     file = fopen(words[1], "r");
     if (!file) return 2;
     while (fscanf(file, "%2s", kind) == 1) {

@@ -1,8 +1,10 @@
-# Part of c/run_tests.sh: whether a branch or an address depends on a key or a message, by valgrind's memcheck.
+# Part of c/run_tests.sh: whether a branch or an address depends on a key or a message, by
+# valgrind's memcheck.
 
 # Compiles secrets.c over a library, and runs it with these words.
 secrets_run() {
-    cc -std=c99 -O2 "${warnings[@]}" -I"$include" $(family_words "$2") -o "$work/secrets" "$tests/secrets.c" "$1" &&
+    cc -std=c99 -O2 "${warnings[@]}" -I"$include" $(family_words "$2") -o "$work/secrets" \
+        "$tests/secrets.c" "$1" &&
         valgrind -q --error-limit=no "$work/secrets" "${@:3}"
 }
 
@@ -12,7 +14,8 @@ secrets_reports() { secrets_run "$1" b "$2"; }
 # Over each build that this processor runs, or over the library where it is for one processor.
 test_secrets() {
     local family build builds=none library=$archive
-    if ! has valgrind || ! has python3 || ! echo '#include <valgrind/memcheck.h>' | cc -E - >/dev/null 2>&1; then
+    if ! has valgrind || ! has python3 ||
+        ! echo '#include <valgrind/memcheck.h>' | cc -E - >/dev/null 2>&1; then
         skip "branches and addresses by secrets" "no valgrind with its headers, or no python3"
         return
     fi
@@ -20,12 +23,15 @@ test_secrets() {
     ! chooses || grep -qw avx2 /proc/cpuinfo || builds=2
     # Of the cases each seventeenth: memcheck is slow.
     mkdir "$work/cases"
-    for family in b s; do awk 'NR % 17 == 1 && length($0) < 8900' "$cases/$family" >"$work/cases/$family"; done
+    for family in b s; do
+        awk 'NR % 17 == 1 && length($0) < 8900' "$cases/$family" >"$work/cases/$family"
+    done
     for build in $builds; do
         if [ "$build" != none ]; then
             library=$work/build_$build/libblake2_c.a
-            check "a library with build $build alone, for secrets" "$here/join.sh" --test "$build" "$work/build_$build" \
-                "$dist/x86_64/blake2_c-v2.s" "$dist/x86_64/blake2_c-v3.s" || return
+            check "a library with build $build alone, for secrets" "$here/join.sh" --test "$build" \
+                "$work/build_$build" "$dist/x86_64/blake2_c-v2.s" "$dist/x86_64/blake2_c-v3.s" ||
+                return
         fi
         for family in b s; do
             check "no branch or address by a key or a message, blake2$family, build $build" \

@@ -1,6 +1,6 @@
-/* Known answers in one call, at every cut and in random pieces; tags, copies, resets, wiping; what is
- * refused; states of random bytes. Reads the lines of cases.py from the file that is named, and answers
- * 0 where all is as it should be. TEST_S is defined for BLAKE2s. */
+/* Known answers in one call, at every cut and in random pieces; tags, copies, resets, wiping; what
+ * is refused; states of random bytes. Reads the lines of cases.py from the file that is named, and
+ * answers 0 where all is as it should be. TEST_S is defined for BLAKE2s. */
 #include "blake2_c.h"
 
 #include <stdio.h>
@@ -146,8 +146,8 @@ static void runs(state_t *state, text message, text wanted) {
 
 static void hash_case(size_t size, text key, text salt, text persona, text message, text wanted) {
     state_t *state = malloc(sizeof *state); /* holds nothing yet */
-    CHECK(BLAKE(init_salt_personal)(state, size, or_null(key), key.length, or_null(salt), salt.length,
-                                    or_null(persona), persona.length) == 0);
+    CHECK(BLAKE(init_salt_personal)(state, size, or_null(key), key.length, or_null(salt),
+                                    salt.length, or_null(persona), persona.length) == 0);
     runs(state, message, wanted);
     uint8_t out[MAX];
     if (!salt.length && !persona.length) {
@@ -159,7 +159,9 @@ static void hash_case(size_t size, text key, text salt, text persona, text messa
         gives(state, wanted);
     }
     /* The same by a parameter block, where the key's block is an input. */
-    BLAKE(param) param = {.digest_length = (uint8_t)size, .key_length = (uint8_t)key.length, .fanout = 1, .depth = 1};
+    BLAKE(param)
+    param = {
+        .digest_length = (uint8_t)size, .key_length = (uint8_t)key.length, .fanout = 1, .depth = 1};
     memcpy(param.salt, salt.bytes, salt.length);
     memcpy(param.personal, persona.bytes, persona.length);
     CHECK(BLAKE(init_param)(state, &param) == 0);
@@ -186,8 +188,8 @@ static vulfsjor_tree read_numbers(const char *field, int *last_node) {
 }
 
 /* A node of a tree: its numbers with key, salt and persona, and its flag, whenever it is set. */
-static void node_case(size_t size, text key, text salt, text persona, const char *numbers, text message,
-                      text wanted) {
+static void node_case(size_t size, text key, text salt, text persona, const char *numbers,
+                      text message, text wanted) {
     state_t *state = malloc(sizeof *state);
     int last_node;
     vulfsjor_tree tree = read_numbers(numbers, &last_node);
@@ -196,7 +198,8 @@ static void node_case(size_t size, text key, text salt, text persona, const char
     CHECK(state->last_node == 0);
     if (last_node) CHECK(BLAKE(set_last_node)(state, 1) == 0);
     take(state, message, 0, message.length / 2);
-    CHECK(BLAKE(set_last_node)(state, !last_node) == 0 && BLAKE(set_last_node)(state, last_node * 7) == 0);
+    CHECK(BLAKE(set_last_node)(state, !last_node) == 0 &&
+          BLAKE(set_last_node)(state, last_node * 7) == 0);
     take(state, message, message.length / 2, message.length);
     gives(state, wanted);
     CHECK(BLAKE(reset)(state) == 0);
@@ -206,10 +209,11 @@ static void node_case(size_t size, text key, text salt, text persona, const char
 
 #ifndef TEST_S
 /* The digest of a node of the tree below in the bytes of its own. */
-static void node_of_root(uint8_t *out, size_t size, text salt, text persona, vulfsjor_tree tree, int last,
-                         const uint8_t *bytes, size_t length) {
+static void node_of_root(uint8_t *out, size_t size, text salt, text persona, vulfsjor_tree tree,
+                         int last, const uint8_t *bytes, size_t length) {
     state_t state;
-    CHECK(BLAKE(init_tree)(&state, size, 0, 0, salt.bytes, salt.length, persona.bytes, persona.length, &tree) == 0);
+    CHECK(BLAKE(init_tree)(&state, size, 0, 0, salt.bytes, salt.length, persona.bytes,
+                           persona.length, &tree) == 0);
     CHECK(BLAKE(set_last_node)(&state, last) == 0);
     CHECK(BLAKE(update)(&state, bytes, length) == 0 && BLAKE(final)(&state, out, size) == 0);
 }
@@ -239,18 +243,21 @@ static void gives_root(const vulfsjor_tree_state *state, size_t size, text wante
     CHECK(vulfsjor_tree_final(&copy, out, sizeof out) == -1 && is_zero_tree(&copy));
 }
 
-/* The root of a message in pieces: at every cut of a short one, at some of a long one, and at random. */
-static void root_of_pieces(size_t size, text salt, text persona, uint32_t leaf, text message, text wanted) {
+/* The root of a message in pieces: at every cut of a short one, at some of a long one, and at
+ * random. */
+static void root_of_pieces(size_t size, text salt, text persona, uint32_t leaf, text message,
+                           text wanted) {
     vulfsjor_tree_state *state = malloc(sizeof *state); /* holds nothing yet */
     size_t step = message.length <= 700 ? 1 : message.length / 50;
     for (size_t cut = 0; cut <= message.length; cut += step) {
-        CHECK(vulfsjor_tree_init(state, size, or_null(salt), salt.length, or_null(persona), persona.length,
-                                 leaf) == 0);
+        CHECK(vulfsjor_tree_init(state, size, or_null(salt), salt.length, or_null(persona),
+                                 persona.length, leaf) == 0);
         take_in_tree(state, message, 0, cut);
         take_in_tree(state, message, cut, message.length);
         gives_root(state, size, wanted);
     }
-    CHECK(vulfsjor_tree_init(state, size, or_null(salt), salt.length, or_null(persona), persona.length, leaf) == 0);
+    CHECK(vulfsjor_tree_init(state, size, or_null(salt), salt.length, or_null(persona),
+                             persona.length, leaf) == 0);
     for (size_t at = 0; at < message.length;) {
         size_t n = random_number() % 3 ? random_number() % 20 : random_number() % 3000;
         if (n > message.length - at) n = message.length - at;
@@ -270,18 +277,21 @@ static void roots_of_pieces(void) {
     for (size_t i = 0; i < sizeof bytes; i++) bytes[i] = (uint8_t)(i % 251);
     for (size_t i = 0; i < sizeof leaves / sizeof *leaves; i++) {
         uint8_t out[MAX];
-        text message = {bytes, 5 * leaves[i] + 3}, wanted = {out, MAX}, none = {NULL, 0}, salt = {bytes, SALT};
-        CHECK(vulfsjor_tree_root(out, MAX, bytes, message.length, bytes, SALT, 0, 0, leaves[i]) == 0);
+        text message = {bytes, 5 * leaves[i] + 3}, wanted = {out, MAX}, none = {NULL, 0},
+             salt = {bytes, SALT};
+        CHECK(vulfsjor_tree_root(out, MAX, bytes, message.length, bytes, SALT, 0, 0, leaves[i]) ==
+              0);
         root_of_pieces(MAX, salt, none, leaves[i], message, wanted);
     }
 }
 
 /* The root of a message in pieces, in one call, and node by node. */
-static void root_case(size_t size, text salt, text persona, uint32_t leaf, text message, text wanted) {
+static void root_case(size_t size, text salt, text persona, uint32_t leaf, text message,
+                      text wanted) {
     uint8_t out[MAX + 1];
     memset(out, 0xaa, sizeof out);
-    CHECK(vulfsjor_tree_root(out, size, or_null(message), message.length, or_null(salt), salt.length,
-                             or_null(persona), persona.length, leaf) == 0);
+    CHECK(vulfsjor_tree_root(out, size, or_null(message), message.length, or_null(salt),
+                             salt.length, or_null(persona), persona.length, leaf) == 0);
     CHECK(!memcmp(out, wanted.bytes, size) && out[size] == 0xaa);
     root_of_pieces(size, salt, persona, leaf, message, wanted);
     vulfsjor_tree tree = {.fanout = 0, .depth = 2, .leaf_length = leaf, .inner_length = MAX};
@@ -290,8 +300,8 @@ static void root_case(size_t size, text salt, text persona, uint32_t leaf, text 
     for (size_t i = 0; i < leaves; i++) {
         size_t from = i * leaf, left = message.length - from;
         tree.node_offset = i;
-        node_of_root(digests + i * MAX, MAX, salt, persona, tree, i + 1 == leaves, message.bytes + from,
-                     left < leaf ? left : leaf);
+        node_of_root(digests + i * MAX, MAX, salt, persona, tree, i + 1 == leaves,
+                     message.bytes + from, left < leaf ? left : leaf);
     }
     tree.node_offset = 0;
     tree.node_depth = 1;
@@ -336,7 +346,8 @@ static void tree_refusals(void) {
     vulfsjor_tree_wipe(NULL);
     CHECK(vulfsjor_tree_init(&state, 1, bytes, SALT, bytes, SALT, ~(uint32_t)0) == 0);
     vulfsjor_tree_state before = state;
-    CHECK(vulfsjor_tree_update(&state, NULL, 3) == -1 && vulfsjor_tree_final(&state, NULL, MAX) == -1);
+    CHECK(vulfsjor_tree_update(&state, NULL, 3) == -1 &&
+          vulfsjor_tree_final(&state, NULL, MAX) == -1);
     CHECK(vulfsjor_tree_final(&state, out, 0) == -1 && !memcmp(&state, &before, sizeof state));
     CHECK(vulfsjor_tree_update(&state, NULL, 0) == 0 && !memcmp(&state, &before, sizeof state));
 }
@@ -350,8 +361,10 @@ static void long_trees(void) {
     state.root.counter = 64 * state.closed;
     vulfsjor_tree_state before = state;
     CHECK(vulfsjor_tree_update(&state, bytes, 3) == -1 && !memcmp(&state, &before, sizeof state));
-    CHECK(vulfsjor_tree_update(&state, bytes, 2) == 0 && vulfsjor_tree_update(&state, bytes, 0) == 0);
-    CHECK(vulfsjor_tree_update(&state, bytes, 1) == -1 && vulfsjor_tree_final(&state, out, MAX) == 0);
+    CHECK(vulfsjor_tree_update(&state, bytes, 2) == 0 &&
+          vulfsjor_tree_update(&state, bytes, 0) == 0);
+    CHECK(vulfsjor_tree_update(&state, bytes, 1) == -1 &&
+          vulfsjor_tree_final(&state, out, MAX) == 0);
 }
 
 /* Each number that a run of the tree can't have is refused. */
@@ -368,7 +381,8 @@ static void long_trees(void) {
 static void untaken_trees(void) {
     vulfsjor_tree_state made;
     uint8_t bytes[MAX] = {0};
-    CHECK(vulfsjor_tree_init(&made, MAX, 0, 0, 0, 0, 7) == 0 && vulfsjor_tree_update(&made, bytes, 20) == 0);
+    CHECK(vulfsjor_tree_init(&made, MAX, 0, 0, 0, 0, 7) == 0 &&
+          vulfsjor_tree_update(&made, bytes, 20) == 0);
     UNTAKEN(state.leaf.output_size = MAX - 1);
     UNTAKEN(state.leaf.pending_length = BLOCK + 1);
     UNTAKEN(state.leaf.pending_length = 8);
@@ -377,7 +391,8 @@ static void untaken_trees(void) {
     UNTAKEN(state.root.output_size = MAX + 1);
     UNTAKEN(state.root.counter += 1);
     UNTAKEN(state.closed = 1);
-    UNTAKEN(state.closed = (uint64_t)1 << 58; state.root.counter = 0; state.root.pending_length = 0);
+    UNTAKEN(state.closed = (uint64_t)1 << 58; state.root.counter = 0;
+            state.root.pending_length = 0);
     UNTAKEN(state.leaf_length = 0);
     UNTAKEN(state.leaf_length = 5);
     UNTAKEN(state.leaf_length = (uint64_t)1 << 32);
@@ -435,14 +450,17 @@ static int read_cases(const char *name) {
         text t[7];
         for (int i = 0; i < fields; i++) {
             if (fscanf(file, "%199999s", field[i]) != 1) return 0;
-            int is_number = (kind[0] != 't' && i == 0) || (kind[0] == 'n' && i == 4) || (kind[0] == 'r' && i == 3);
+            int is_number = (kind[0] != 't' && i == 0) || (kind[0] == 'n' && i == 4) ||
+                            (kind[0] == 'r' && i == 3);
             t[i] = from_hex(is_number ? "-" : field[i]);
         }
         if (kind[0] == 'h') hash_case((size_t)atoi(field[0]), t[1], t[2], t[3], t[4], t[5]);
-        else if (kind[0] == 'n') node_case((size_t)atoi(field[0]), t[1], t[2], t[3], field[4], t[5], t[6]);
+        else if (kind[0] == 'n')
+            node_case((size_t)atoi(field[0]), t[1], t[2], t[3], field[4], t[5], t[6]);
 #ifndef TEST_S
         else if (kind[0] == 'r')
-            root_case((size_t)atoi(field[0]), t[1], t[2], (uint32_t)strtoul(field[3], NULL, 10), t[4], t[5]);
+            root_case((size_t)atoi(field[0]), t[1], t[2], (uint32_t)strtoul(field[3], NULL, 10),
+                      t[4], t[5]);
 #endif
         else tree_case(t[0], t[1], t[2]);
         for (int i = 0; i < fields; i++) free(t[i].bytes);
@@ -510,7 +528,8 @@ static void refusals(void) {
     BLAKE(wipe)(NULL);
     CHECK(ONE_CALL(out, 0, bytes, 1, 0, 0) == -1 && ONE_CALL(out, MAX + 1, bytes, 1, 0, 0) == -1);
     CHECK(ONE_CALL(out, MAX, NULL, 1, 0, 0) == -1 && ONE_CALL(out, MAX, bytes, 1, NULL, 1) == -1);
-    CHECK(ONE_CALL(out, MAX, bytes, 1, bytes, MAX + 1) == -1 && ONE_CALL(NULL, MAX, 0, 0, 0, 0) == -1);
+    CHECK(ONE_CALL(out, MAX, bytes, 1, bytes, MAX + 1) == -1 &&
+          ONE_CALL(NULL, MAX, 0, 0, 0, 0) == -1);
     CHECK(vulfsjor_is_same(NULL, NULL, 0) == 0 && vulfsjor_is_same(NULL, bytes, 1) == -1);
     /* A null text with a length changes nothing. */
     CHECK(BLAKE(init)(&state, MAX) == 0);
@@ -550,7 +569,8 @@ static void random_states(void) {
         CHECK(set == 0 || set == -1);
         int reset = i % 3 ? 0 : BLAKE(reset)(&state);
         int ended = i % 5 ? BLAKE(final)(&state, out, MAX) : BLAKE(verify)(&state, out, MAX);
-        CHECK((updated == 0 || updated == -1) && (reset == 0 || reset == -1) && (ended == 0 || ended == -1));
+        CHECK((updated == 0 || updated == -1) && (reset == 0 || reset == -1) &&
+              (ended == 0 || ended == -1));
     }
 }
 

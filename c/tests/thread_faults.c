@@ -1,10 +1,11 @@
 /* The functions of blake2_threads.h over a system that fails: memory that is refused, threads that
- * do not start, reads that are short, interrupted, or fail, files that grow or shrink meanwhile, and
- * a library that refuses. After each failure the answer, errno and the output are compared, and
+ * do not start, reads that are short, interrupted, or fail, files that grow or shrink meanwhile,
+ * and a library that refuses. After each failure the answer, errno and the output are compared, and
  * nothing is left: no memory, no thread, no descriptor. Returns 0 if all is as it should be.
  *
  *   cc -std=gnu99 -DLEAST_BYTES=1 -I FOLDER/include thread_faults.c threads.c ARCHIVE -pthread
- *       $(sed -n 's/^WRAP([^,]*, \([a-z0-9_]*\),.*$/-Wl,--wrap=\1/p' thread_faults.c) -o thread_faults
+ *       $(sed -n 's/^WRAP([^,]*, \([a-z0-9_]*\),.*$/-Wl,--wrap=\1/p' thread_faults.c)
+ *       -o thread_faults
  *   ./thread_faults FOLDER       makes its file in this folder
  *   cc the same without -DLEAST_BYTES=1       tests only what depends on that length */
 #define _GNU_SOURCE
@@ -30,13 +31,13 @@ enum { BYTES = 40 << 20, FEW = 100000 };
 #endif
 
 static int fails;
-#define CHECK(condition)                                                                     \
-    do {                                                                                     \
-        if (!(condition)) {                                                                  \
-            fails++;                                                                         \
-            fprintf(stderr, "thread_faults.c:%d: not %s (%s %d)\n", __LINE__, #condition, fault.call, \
-                    fault.at);                                                               \
-        }                                                                                    \
+#define CHECK(condition)                                                                  \
+    do {                                                                                  \
+        if (!(condition)) {                                                               \
+            fails++;                                                                      \
+            fprintf(stderr, "thread_faults.c:%d: not %s (%s %d)\n", __LINE__, #condition, \
+                    fault.call, fault.at);                                                \
+        }                                                                                 \
     } while (0)
 
 /* ---- the calls of threads.c that can fail */
@@ -54,7 +55,8 @@ static int value(int *counter) { return __atomic_load_n(counter, __ATOMIC_SEQ_CS
 
 /* Whether this call is the one that fails. */
 static int fails_now(const char *call) {
-    if (strcmp(call, fault.call) || __atomic_add_fetch(&fault.counted, 1, __ATOMIC_SEQ_CST) != fault.at)
+    if (strcmp(call, fault.call) ||
+        __atomic_add_fetch(&fault.counted, 1, __ATOMIC_SEQ_CST) != fault.at)
         return 0;
     errno = fault.error;
     return 1;
@@ -91,27 +93,35 @@ static size_t shortened(size_t n) { return reads.most && n > reads.most ? reads.
     type __wrap_##name parameters { return fails_now(#name) ? failed : __real_##name arguments; }
 
 WRAP(int32_t, blake2_c_tree_leaves, -1,
-     (uint8_t *o, size_t on, uint64_t f, uint32_t e, const uint8_t *i, size_t n, const uint8_t *s, size_t sn,
-      const uint8_t *p, size_t pn, uint32_t l), (o, on, f, e, i, n, s, sn, p, pn, l))
+     (uint8_t *o, size_t on, uint64_t f, uint32_t e, const uint8_t *i, size_t n, const uint8_t *s,
+      size_t sn, const uint8_t *p, size_t pn, uint32_t l),
+     (o, on, f, e, i, n, s, sn, p, pn, l))
 WRAP(int32_t, blake2_c_tree_root_of_leaves, -1,
-     (uint8_t *o, size_t on, const uint8_t *d, size_t n, const uint8_t *s, size_t sn, const uint8_t *p, size_t pn,
-      uint32_t l), (o, on, d, n, s, sn, p, pn, l))
+     (uint8_t *o, size_t on, const uint8_t *d, size_t n, const uint8_t *s, size_t sn,
+      const uint8_t *p, size_t pn, uint32_t l),
+     (o, on, d, n, s, sn, p, pn, l))
 WRAP(int32_t, blake2_c_tree_root, -1,
-     (uint8_t *o, size_t on, const uint8_t *i, size_t n, const uint8_t *s, size_t sn, const uint8_t *p, size_t pn,
-      uint32_t l), (o, on, i, n, s, sn, p, pn, l))
-WRAP(int32_t, blake2_c_tree_update, -1, (vulfsjor_tree_state *s, const uint8_t *i, size_t n), (s, i, n))
+     (uint8_t *o, size_t on, const uint8_t *i, size_t n, const uint8_t *s, size_t sn,
+      const uint8_t *p, size_t pn, uint32_t l),
+     (o, on, i, n, s, sn, p, pn, l))
+WRAP(int32_t, blake2_c_tree_update, -1, (vulfsjor_tree_state *s, const uint8_t *i, size_t n),
+     (s, i, n))
 WRAP(int32_t, blake2_c_tree_next_leaves, -1,
      (const vulfsjor_tree_state *s, uint8_t *o, size_t on, uint64_t k, const uint8_t *i, size_t n),
      (s, o, on, k, i, n))
 WRAP(int32_t, blake2_c_tree_update_leaves, -1,
-     (vulfsjor_tree_state *s, const uint8_t *d, size_t dn, const uint8_t *i, size_t n), (s, d, dn, i, n))
+     (vulfsjor_tree_state *s, const uint8_t *d, size_t dn, const uint8_t *i, size_t n),
+     (s, d, dn, i, n))
 WRAP(int32_t, blake2_c_tree_final, -1, (vulfsjor_tree_state *s, uint8_t *o, size_t n), (s, o, n))
 WRAP(int32_t, blake2_c_blake2b_init_node, -1,
-     (vulfsjor_blake2b_state *t, size_t o, const uint8_t *k, size_t kn, const uint8_t *s, size_t sn, const uint8_t *p,
-      size_t pn, uint8_t f, uint8_t d, uint32_t l, uint64_t n, uint8_t nd, uint8_t i),
+     (vulfsjor_blake2b_state *t, size_t o, const uint8_t *k, size_t kn, const uint8_t *s,
+      size_t sn, const uint8_t *p, size_t pn, uint8_t f, uint8_t d, uint32_t l, uint64_t n,
+      uint8_t nd, uint8_t i),
      (t, o, k, kn, s, sn, p, pn, f, d, l, n, nd, i))
-WRAP(int32_t, blake2_c_blake2b_update, -1, (vulfsjor_blake2b_state *s, const uint8_t *i, size_t n), (s, i, n))
-WRAP(int32_t, blake2_c_blake2b_final, -1, (vulfsjor_blake2b_state *s, uint8_t *o, size_t n), (s, o, n))
+WRAP(int32_t, blake2_c_blake2b_update, -1, (vulfsjor_blake2b_state *s, const uint8_t *i, size_t n),
+     (s, i, n))
+WRAP(int32_t, blake2_c_blake2b_final, -1, (vulfsjor_blake2b_state *s, uint8_t *o, size_t n),
+     (s, o, n))
 
 /* Those below do more than WRAP, whose line names them for the linker. */
 #undef WRAP
@@ -152,7 +162,8 @@ WRAP(int, sched_getaffinity, (pid_t p, size_t n, cpu_set_t *set)) {
 }
 
 WRAP(long, sysconf, (int name)) {
-    return name == _SC_NPROCESSORS_ONLN && processors != INT_MIN ? processors : __real_sysconf(name);
+    return name == _SC_NPROCESSORS_ONLN && processors != INT_MIN ? processors
+                                                                 : __real_sysconf(name);
 }
 
 WRAP(ssize_t, pread, (int f, void *to, size_t n, off_t from)) {
@@ -198,7 +209,9 @@ static void take(size_t n, uint32_t leaf_length, unsigned threads) {
     CHECK(!vulfsjor_tree_root(wanted, 64, message, n, 0, 0, 0, 0, leaf));
 }
 
-static int root_of_file(void) { return vulfsjor_tree_root_file(root, 64, path, 0, 0, 0, 0, leaf, asked); }
+static int root_of_file(void) {
+    return vulfsjor_tree_root_file(root, 64, path, 0, 0, 0, 0, leaf, asked);
+}
 
 static int root_of_bytes(void) {
     return vulfsjor_tree_root_threads(root, 64, message, length, 0, 0, 0, 0, leaf, asked);
@@ -225,7 +238,8 @@ static int root_of_updates(void) {
 static int root_of_pipe(void) {
     int ends[2], status, error;
 
-    if (pipe(ends) || fcntl(ends[1], F_SETPIPE_SZ, 1 << 20) < 0 || write(ends[1], message, length) != (ssize_t)length)
+    if (pipe(ends) || fcntl(ends[1], F_SETPIPE_SZ, 1 << 20) < 0 ||
+        write(ends[1], message, length) != (ssize_t)length)
         exit(3);
     close(ends[1]);
     status = vulfsjor_tree_root_fd(root, 64, ends[0], 0, 0, 0, 0, leaf, asked);
@@ -258,7 +272,8 @@ static void expect(int (*call)(void), int error) {
     CHECK(!value(&allocated) && !value(&running) && descriptors() == open);
 }
 
-/* Fails the first call of this name, then the second, until there is none: so many times at least. */
+/* Fails the first call of this name, then the second, until there is none: so many times at
+ * least. */
 static void each_fails(int (*call)(void), const char *name, int given, int error, int least) {
     int at = 0, hit = 1;
 
@@ -379,7 +394,8 @@ static void reads_are_short(void) {
     memset(&reads, 0, sizeof reads);
 }
 
-/* What a file becomes meanwhile: with more bytes the root is that of those it had, with fewer none. */
+/* What a file becomes meanwhile: with more bytes the root is that of those it had, with fewer
+ * none. */
 static void files_change(void) {
     for (asked = 1; asked <= 4; asked += 3) {
         take(FEW, 4096, asked);
@@ -443,7 +459,8 @@ static void least_bytes(void) {
     static const struct {
         size_t length;
         int others;
-    } rows[] = {{(1 << 18) - 1, 0}, {1 << 18, 0}, {(1 << 19) - 1, 0}, {1 << 19, 1}, {(1 << 20) - 1, 2}, {1 << 20, 3}};
+    } rows[] = {{(1 << 18) - 1, 0}, {1 << 18, 0},       {(1 << 19) - 1, 0},
+                {1 << 19, 1},       {(1 << 20) - 1, 2}, {1 << 20, 3}};
 
     for (size_t i = 0; i < sizeof rows / sizeof *rows; i++) {
         take(rows[i].length, 1000, 8);

@@ -1,7 +1,7 @@
-/* The functions of blake2_threads.h: roots of bytes, files and descriptors beside vulfsjor_tree_root
- * of the same bytes (whose values edges.c compares with hashlib), for any number of threads; files of
- * every kind; each refusal with its errno; signals, cancellation, calls at the same time. Returns 0
- * if all is as it should be.
+/* The functions of blake2_threads.h: roots of bytes, files and descriptors beside
+ * vulfsjor_tree_root of the same bytes (whose values edges.c compares with hashlib), for any number
+ * of threads; files of every kind; each refusal with its errno; signals, cancellation, calls at the
+ * same time. Returns 0 if all is as it should be.
  *
  *   cc -std=gnu99 -I FOLDER/include threads.c ARCHIVE-threads.a ARCHIVE.a -pthread -o threads
  *   ./threads FOLDER             makes its files in this folder
@@ -91,7 +91,8 @@ static void compare(size_t length, size_t outlen, uint32_t leaf, unsigned thread
     memcpy(wanted, blank, 64);
     CHECK(!vulfsjor_tree_root(wanted, outlen, in, length, "salt", 4, "pers", 4, leaf));
     memcpy(root, blank, 64);
-    CHECK(!vulfsjor_tree_root_threads(root, outlen, in, length, "salt", 4, "pers", 4, leaf, threads));
+    CHECK(
+        !vulfsjor_tree_root_threads(root, outlen, in, length, "salt", 4, "pers", 4, leaf, threads));
     CHECK(!memcmp(root, wanted, 64));
     memcpy(root, blank, 64);
     CHECK(!vulfsjor_tree_root_file(root, outlen, path, "salt", 4, "pers", 4, leaf, threads));
@@ -119,7 +120,8 @@ static void random_roots(int turns) {
 static void roots_at_edges(void) {
     static const size_t lengths[] = {0, 1, (1 << 18) - 1, 1 << 18, (1 << 18) + 1, (1 << 19) - 1,
                                      1 << 19, (1 << 20) - 1, 1 << 20, (1 << 20) + 1, 5 << 20};
-    static const uint32_t leaves[] = {1 << 14, 1 << 16, (1 << 18) - 1, 1 << 18, (1 << 18) + 1, 1 << 20};
+    static const uint32_t leaves[] = {1 << 14, 1 << 16,       (1 << 18) - 1,
+                                      1 << 18, (1 << 18) + 1, 1 << 20};
     static const unsigned threads[] = {1, 2, 255, 256, 257, UINT_MAX};
 
     for (size_t i = 0; i < sizeof lengths / sizeof *lengths; i++) {
@@ -131,7 +133,8 @@ static void roots_at_edges(void) {
 
 /* Leaves of which a buffer has no room for four, or not for one. */
 static void roots_of_long_leaves(void) {
-    static const uint32_t leaves[] = {(4 << 20) + 1, 16 << 20, (16 << 20) + 1, 17 << 20, BYTES, UINT32_MAX};
+    static const uint32_t leaves[] = {(4 << 20) + 1, 16 << 20, (16 << 20) + 1,
+                                      17 << 20,      BYTES,    UINT32_MAX};
 
     write_file(path, BYTES);
     for (size_t i = 0; i < sizeof leaves / sizeof *leaves; i++) compare(BYTES, 64, leaves[i], 3);
@@ -211,14 +214,16 @@ static void refused_updates(void) {
     KEPT(vulfsjor_tree_update_threads(&state, message, 0, 2));
     KEPT(vulfsjor_tree_update_threads(NULL, message, 5, 2));
     KEPT(vulfsjor_tree_update_threads(NULL, NULL, 0, 2));
-    CHECK(!vulfsjor_tree_init(&state, 64, 0, 0, 0, 0, 4) && !vulfsjor_tree_update(&state, message, 6));
+    CHECK(!vulfsjor_tree_init(&state, 64, 0, 0, 0, 0, 4) &&
+          !vulfsjor_tree_update(&state, message, 6));
     before = state;
     KEPT(vulfsjor_tree_update_threads(&state, NULL, 5, 2));
     KEPT(vulfsjor_tree_update_threads(&state, message, (size_t)1 << 58, 2));
     KEPT(vulfsjor_tree_update_threads(&state, message, ((size_t)1 << 58) - 6, 2));
     KEPT(vulfsjor_tree_update_threads(&state, message, SIZE_MAX, 2));
     KEPT(vulfsjor_tree_update_threads(&state, message, SIZE_MAX - 5, 2));
-    CHECK(!vulfsjor_tree_update_threads(&state, NULL, 0, 0) && !memcmp(&state, &before, sizeof state));
+    CHECK(!vulfsjor_tree_update_threads(&state, NULL, 0, 0) &&
+          !memcmp(&state, &before, sizeof state));
 }
 
 /* ---- files */
@@ -239,7 +244,8 @@ static void position_of_descriptor(void) {
     static const size_t starts[] = {1, 777, 1 << 20, (2 << 20) - 1, 2 << 20, 3 << 20};
 
     write_file(path, 2 << 20);
-    for (size_t i = 0; i < sizeof starts / sizeof *starts; i++) compare_rest(2 << 20, starts[i], 4096);
+    for (size_t i = 0; i < sizeof starts / sizeof *starts; i++)
+        compare_rest(2 << 20, starts[i], 4096);
     write_file(path, BYTES);
     compare_rest(BYTES, 777, 17 << 20);
 }
@@ -265,7 +271,8 @@ static void compare_stream(int from, int to) {
     CHECK(!vulfsjor_tree_root(wanted, 64, message, 3 << 20, 0, 0, 0, 0, 65536));
     memset(root, 0, 64);
     CHECK(!pthread_create(&writer, NULL, write_pieces, &to));
-    CHECK(!vulfsjor_tree_root_fd(root, 64, from, 0, 0, 0, 0, 65536, 4) && !memcmp(root, wanted, 64));
+    CHECK(!vulfsjor_tree_root_fd(root, 64, from, 0, 0, 0, 0, 65536, 4) &&
+          !memcmp(root, wanted, 64));
     CHECK(!pthread_join(writer, NULL));
     close(from);
 }
@@ -287,14 +294,15 @@ static void streams(void) {
     unlink(other);
     CHECK(!mkfifo(other, 0600) && !pthread_create(&writer, NULL, open_and_write, other));
     memset(root, 0, 64);
-    CHECK(!vulfsjor_tree_root_file(root, 64, other, 0, 0, 0, 0, 65536, 4) && !memcmp(root, wanted, 64));
+    CHECK(!vulfsjor_tree_root_file(root, 64, other, 0, 0, 0, 0, 65536, 4) &&
+          !memcmp(root, wanted, 64));
     CHECK(!pthread_join(writer, NULL) && !unlink(other));
 }
 
 /* A file of /proc, which says that it has no bytes, one of /sys, which says 4,096, and a device. */
 static void special_files(void) {
-    static const char *const names[] = {"/proc/version", "/sys/kernel/mm/transparent_hugepage/enabled",
-                                        "/dev/null"};
+    static const char *const names[] = {"/proc/version",
+                                        "/sys/kernel/mm/transparent_hugepage/enabled", "/dev/null"};
 
     for (size_t i = 0; i < sizeof names / sizeof *names; i++) {
         unsigned char bytes[4096];
@@ -306,8 +314,10 @@ static void special_files(void) {
         CHECK(!vulfsjor_tree_root(wanted, 64, bytes, (size_t)n, 0, 0, 0, 0, 5));
         errno = 0;
         CHECK(i == 1 && LEAST_BYTES < 4096
-                  ? vulfsjor_tree_root_file(root, 64, names[i], 0, 0, 0, 0, 5, 4) == -1 && errno == EIO
-                  : !vulfsjor_tree_root_file(root, 64, names[i], 0, 0, 0, 0, 5, 4) && !memcmp(root, wanted, 64));
+                  ? vulfsjor_tree_root_file(root, 64, names[i], 0, 0, 0, 0, 5, 4) == -1 &&
+                        errno == EIO
+                  : !vulfsjor_tree_root_file(root, 64, names[i], 0, 0, 0, 0, 5, 4) &&
+                        !memcmp(root, wanted, 64));
     }
 }
 
@@ -330,7 +340,8 @@ static void refused_arguments(void) {
     REFUSED(EINVAL, vulfsjor_tree_root_threads(root, 64, message, 5, 0, 0, message, 17, 4, 2));
     REFUSED(EINVAL, vulfsjor_tree_root_threads(root, 64, message, 5, 0, 0, NULL, 1, 4, 2));
     REFUSED(EINVAL, vulfsjor_tree_root_threads(root, 64, message, 5, 0, 0, 0, 0, 0, 2));
-    REFUSED(EINVAL, vulfsjor_tree_root_threads(root, 64, message, (size_t)1 << 58, 0, 0, 0, 0, 1, 2));
+    REFUSED(EINVAL,
+            vulfsjor_tree_root_threads(root, 64, message, (size_t)1 << 58, 0, 0, 0, 0, 1, 2));
     REFUSED(EINVAL, vulfsjor_tree_root_threads(root, 64, message, SIZE_MAX, 0, 0, 0, 0, 1, 1));
 }
 
@@ -440,7 +451,8 @@ static void *cancel_myself(void *given) {
     wrong |= vulfsjor_tree_root_threads(root, 64, message, 1 << 20, 0, 0, 0, 0, 65536, 4);
     wrong |= memcmp(root, wanted, 64);
     wrong |= vulfsjor_tree_root_fd(root, 64, file, 0, 0, 0, 0, 65536, 4) | memcmp(root, wanted, 64);
-    wrong |= vulfsjor_tree_root_file(root, 64, path, 0, 0, 0, 0, 65536, 4) | memcmp(root, wanted, 64);
+    wrong |=
+        vulfsjor_tree_root_file(root, 64, path, 0, 0, 0, 0, 65536, 4) | memcmp(root, wanted, 64);
     wrong |= vulfsjor_tree_root_file(root, 64, "/nowhere", 0, 0, 0, 0, 65536, 4) != -1;
     *(int *)given = wrong;
     pthread_testcancel();
@@ -467,7 +479,8 @@ static void exit_in_handler(int number) {
     _exit(42);
 }
 
-/* A page of a file that has become shorter: the program's handler runs, whichever thread meets it. */
+/* A page of a file that has become shorter: the program's handler runs, whichever thread meets
+ * it. */
 static void fault_of_mapped_file(void) {
     int file = open(path, O_RDWR), status = 0;
     unsigned char *bytes = mmap(NULL, 1 << 20, PROT_READ, MAP_SHARED, file, 0);

@@ -1,7 +1,8 @@
-# Part of c/run_tests.sh: the library from Rust and Python, by the tests of the folders rust/ and python/.
+# Part of c/run_tests.sh: the library from Rust and Python, by the tests of the folders rust/ and
+# python/.
 
-# Runs a script of tests with these words, and adds its counts: its last line is as that of c/run_tests.sh, and its status
-# 0 where none failed.
+# Runs a script of tests with these words, and adds its counts: its last line is as that of
+# c/run_tests.sh, and its status 0 where none failed.
 add_script() {
     local line status
     "$@" >"$work/script" 2>"$work/log"

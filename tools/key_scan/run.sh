@@ -1,15 +1,16 @@
 #!/usr/bin/env bash
-# Looks at what calls in Rattle leave of a secret on the stack, as they are built for a processor: a key, the tag
-# under it, and chaining words. docs/WIPING.md says what is wiped; a build in which a compiler has left out the
-# zeros fails here, and so does a search that finds nothing where nothing is wiped.
+# Looks at what calls in Rattle leave of a secret on the stack, as they are built for a processor: a
+# key, the tag under it, and chaining words. docs/WIPING.md says what is wiped; a build in which a
+# compiler has left out the zeros fails here, and so does a search that finds nothing where nothing
+# is wiped.
 #
 # usage: tools/key_scan/run.sh [--cpu CPU]
 #
-# CPU is the current processor if it is left out: x86-64-v3 if it has AVX2 and what belongs to it, x86-64-v2 otherwise. It
-# builds the calls of keyed.txt, a crate in Rattle, over the crates as `rt ci` or `rt check` has proved them, and links
-# them to scan.c. It needs the toolchain's command rt, a C compiler and
-# python3: where one is absent it is skipped, and a line says so. The last line is 'N passed, M failed, K skipped',
-# and the status is 1 where one failed.
+# CPU is the current processor if it is left out: x86-64-v3 if it has AVX2 and what belongs to it,
+# x86-64-v2 otherwise. It builds the calls of keyed.txt, a crate in Rattle, over the crates as `rt
+# ci` or `rt check` has proved them, and links them to scan.c. It needs the toolchain's command rt,
+# a C compiler and python3: where one is absent it is skipped, and a line says so. The last line is
+# 'N passed, M failed, K skipped', and the status is 1 where one failed.
 set -u
 here=$(dirname "$(readlink -f "$0")")
 top=$(dirname "$(dirname "$here")")
@@ -56,17 +57,18 @@ source "$top/tools/kit.sh"
 build() {
     local kit
     kit=$(kit_folder)
-    prove_libraries blake2_plain "$room/proofs" && mkdir -p "$room/src" && cp "$here/keyed.txt" "$room/src/lib.rt" &&
-        build_crate "$room" keyed blake2 "$room" --crate-type staticlib --cpu "$cpu" --toolchain "$kit/toolchain" \
-            -o "$room/keyed.a"
+    prove_libraries blake2_plain "$room/proofs" && mkdir -p "$room/src" &&
+        cp "$here/keyed.txt" "$room/src/lib.rt" &&
+        build_crate "$room" keyed blake2 "$room" --crate-type staticlib --cpu "$cpu" \
+            --toolchain "$kit/toolchain" -o "$room/keyed.a"
 }
 
-# Builds and runs the search after a message of so many bytes. Without -z now the loader's first look-up of a name
-# saves vector registers on the stack.
+# Builds and runs the search after a message of so many bytes. Without -z now the loader's first
+# look-up of a name saves vector registers on the stack.
 scan() {
     python3 "$here/secret_values.py" "$1" >"$room/secrets.h" &&
-        cc -O1 -Wall -Wextra -Werror -march="$cpu" -fno-omit-frame-pointer -mno-red-zone -Wl,-z,now -I"$room" \
-            -o "$room/scan" "$here/scan.c" "$room/keyed.a" && "$room/scan"
+        cc -O1 -Wall -Wextra -Werror -march="$cpu" -fno-omit-frame-pointer -mno-red-zone \
+            -Wl,-z,now -I"$room" -o "$room/scan" "$here/scan.c" "$room/keyed.a" && "$room/scan"
 }
 
 if ! (build) >"$room/log" 2>&1; then
@@ -81,7 +83,7 @@ for length in 0 64 1000; do
     passed=$((passed + $(grep -c '^passed: ' "$room/log")))
     failed=$((failed + count))
     if [ "$count" -eq 0 ] && { [ "$status" -ne 0 ] || [ "$(wc -l <"$room/log")" -ne 12 ]; }; then
-        fail "the search after a message of $length bytes ends with $status, and is to have 12 lines"
+        fail "the search after a message of $length bytes ends with $status, not with 12 lines"
     fi
 done
 finish

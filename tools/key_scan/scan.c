@@ -1,6 +1,7 @@
-// Looks for copies of a secret on the dead stack once a call in Rattle has returned: for each piece of 8 bytes of a
-// key, of the tag, and of the chaining words that the last compression begins with. Prints for each form of the call
-// how many were found. A form that leaves more than the table below allows fails. Answers 0 where none failed.
+// Looks for copies of a secret on the dead stack once a call in Rattle has returned: for each piece
+// of 8 bytes of a key, of the tag, and of the chaining words that the last compression begins with.
+// Prints for each form of the call how many were found. A form that leaves more than the table
+// below allows fails. Answers 0 where none failed.
 //
 // secrets.h is what secret_values.py prints: the secrets, and a message of 0, 64 or 1,000 bytes.
 #define _DEFAULT_SOURCE
@@ -13,8 +14,10 @@
 
 #include "secrets.h"
 
-typedef _Bool keyed(const uint8_t *key, const uint8_t *message, size_t length, const uint8_t *tag, size_t tag_length);
-keyed keyed_b_by_value, keyed_b_wiped, keyed_b_scrubbed, keyed_s_by_value, keyed_s_wiped, keyed_s_scrubbed;
+typedef _Bool keyed(const uint8_t *key, const uint8_t *message, size_t length, const uint8_t *tag,
+                    size_t tag_length);
+keyed keyed_b_by_value, keyed_b_wiped, keyed_b_scrubbed, keyed_s_by_value, keyed_s_wiped,
+    keyed_s_scrubbed;
 keyed hashed_b_wiped, hashed_b_dropped, hashed_s_wiped, hashed_s_dropped;
 void settle_bytes(const uint8_t *bytes);
 
@@ -22,11 +25,13 @@ void settle_bytes(const uint8_t *bytes);
 enum { DEPTH = 64 * 1024, PIECE = 8 };
 
 // One of three numbers, by the length of the message.
-#define AT(bytes_0, bytes_64, bytes_1000) (LENGTH == 0 ? bytes_0 : LENGTH == 64 ? bytes_64 : bytes_1000)
+#define AT(bytes_0, bytes_64, bytes_1000) \
+    (LENGTH == 0 ? bytes_0 : LENGTH == 64 ? bytes_64 : bytes_1000)
 
-// How many pieces of each secret a form may leave. Where that is not 0, so many were found, the more of the builds for
-// x86-64-v2 and x86-64-v3. A key of BLAKE2b has 8 pieces and one of BLAKE2s 4, and so have tags and chaining words. A
-// form that is not wiped leaves one piece of the key at least: else this looks in the wrong place.
+// How many pieces of each secret a form may leave. Where that is not 0, so many were found, the
+// more of the builds for x86-64-v2 and x86-64-v3. A key of BLAKE2b has 8 pieces and one of BLAKE2s
+// 4, and so have tags and chaining words. A form that is not wiped leaves one piece of the key at
+// least: else this looks in the wrong place.
 struct form {
     const char *name;
     keyed *call;
@@ -67,18 +72,30 @@ static __attribute__((noinline)) _Bool run(const struct form *form)
     _Bool is_taken = form->call(key, message, LENGTH, is_b ? tag_b : tag_s, is_b ? 64 : 32);
 #if defined(__AVX__)
     __asm__ volatile(
-        "vmovdqu %%ymm0, 0(%0)\n vmovdqu %%ymm1, 32(%0)\n vmovdqu %%ymm2, 64(%0)\n vmovdqu %%ymm3, 96(%0)\n"
-        "vmovdqu %%ymm4, 128(%0)\n vmovdqu %%ymm5, 160(%0)\n vmovdqu %%ymm6, 192(%0)\n vmovdqu %%ymm7, 224(%0)\n"
-        "vmovdqu %%ymm8, 256(%0)\n vmovdqu %%ymm9, 288(%0)\n vmovdqu %%ymm10, 320(%0)\n vmovdqu %%ymm11, 352(%0)\n"
-        "vmovdqu %%ymm12, 384(%0)\n vmovdqu %%ymm13, 416(%0)\n vmovdqu %%ymm14, 448(%0)\n vmovdqu %%ymm15, 480(%0)\n"
-        :: "r"(vectors) : "memory");
+        "vmovdqu %%ymm0, 0(%0)\n vmovdqu %%ymm1, 32(%0)\n"
+        "vmovdqu %%ymm2, 64(%0)\n vmovdqu %%ymm3, 96(%0)\n"
+        "vmovdqu %%ymm4, 128(%0)\n vmovdqu %%ymm5, 160(%0)\n"
+        "vmovdqu %%ymm6, 192(%0)\n vmovdqu %%ymm7, 224(%0)\n"
+        "vmovdqu %%ymm8, 256(%0)\n vmovdqu %%ymm9, 288(%0)\n"
+        "vmovdqu %%ymm10, 320(%0)\n vmovdqu %%ymm11, 352(%0)\n"
+        "vmovdqu %%ymm12, 384(%0)\n vmovdqu %%ymm13, 416(%0)\n"
+        "vmovdqu %%ymm14, 448(%0)\n vmovdqu %%ymm15, 480(%0)\n"
+        :
+        : "r"(vectors)
+        : "memory");
 #else
     __asm__ volatile(
-        "movdqu %%xmm0, 0(%0)\n movdqu %%xmm1, 16(%0)\n movdqu %%xmm2, 32(%0)\n movdqu %%xmm3, 48(%0)\n"
-        "movdqu %%xmm4, 64(%0)\n movdqu %%xmm5, 80(%0)\n movdqu %%xmm6, 96(%0)\n movdqu %%xmm7, 112(%0)\n"
-        "movdqu %%xmm8, 128(%0)\n movdqu %%xmm9, 144(%0)\n movdqu %%xmm10, 160(%0)\n movdqu %%xmm11, 176(%0)\n"
-        "movdqu %%xmm12, 192(%0)\n movdqu %%xmm13, 208(%0)\n movdqu %%xmm14, 224(%0)\n movdqu %%xmm15, 240(%0)\n"
-        :: "r"(vectors) : "memory");
+        "movdqu %%xmm0, 0(%0)\n movdqu %%xmm1, 16(%0)\n"
+        "movdqu %%xmm2, 32(%0)\n movdqu %%xmm3, 48(%0)\n"
+        "movdqu %%xmm4, 64(%0)\n movdqu %%xmm5, 80(%0)\n"
+        "movdqu %%xmm6, 96(%0)\n movdqu %%xmm7, 112(%0)\n"
+        "movdqu %%xmm8, 128(%0)\n movdqu %%xmm9, 144(%0)\n"
+        "movdqu %%xmm10, 160(%0)\n movdqu %%xmm11, 176(%0)\n"
+        "movdqu %%xmm12, 192(%0)\n movdqu %%xmm13, 208(%0)\n"
+        "movdqu %%xmm14, 224(%0)\n movdqu %%xmm15, 240(%0)\n"
+        :
+        : "r"(vectors)
+        : "memory");
 #endif
     uint8_t *from;
     __asm__ volatile("mov %%rsp, %0" : "=r"(from));
@@ -99,14 +116,15 @@ static int copies(const uint8_t *in, size_t size, const uint8_t *secret, size_t 
     return found;
 }
 
-// Copies so many bytes of the key to a frame, as far from its end as `place` says: a form that leaves a copy.
+// Copies so many bytes of the key to a frame, as far from its end as `place` says: a form that
+// leaves a copy.
 static size_t place, copied;
-static __attribute__((noinline)) _Bool leave_a_copy(const uint8_t *secret, const uint8_t *text, size_t length,
-                                                    const uint8_t *tag, size_t tag_length)
-{
+static __attribute__((noinline)) _Bool leave_a_copy(const uint8_t *secret, const uint8_t *text,
+                                                    size_t length, const uint8_t *tag,
+                                                    size_t tag_length) {
     uint8_t frame[DEPTH - 512];
     memcpy(frame + sizeof frame - place - copied, secret, copied);
-    __asm__ volatile("" :: "r"(frame), "r"(text), "r"(length), "r"(tag), "r"(tag_length) : "memory");
+    __asm__ volatile("" ::"r"(frame), "r"(text), "r"(length), "r"(tag), "r"(tag_length) : "memory");
     return 1;
 }
 
@@ -126,8 +144,8 @@ static _Bool finds_copies(void)
     return 1;
 }
 
-// Whether `settle`, which makes a compiler keep zeros, reads its 64 bytes to the last, and none behind them: a page
-// that can't be read stops it at each place but behind them.
+// Whether `settle`, which makes a compiler keep zeros, reads its 64 bytes to the last, and none
+// behind them: a page that can't be read stops it at each place but behind them.
 static sigjmp_buf before_the_read;
 static void stop(int number)
 {
@@ -137,9 +155,11 @@ static void stop(int number)
 static _Bool settle_reads_all(void)
 {
     enum { PAGE = 4096, BYTES = 64 };
-    uint8_t *pages = mmap(NULL, 2 * PAGE, PROT_READ | PROT_WRITE, MAP_PRIVATE | MAP_ANONYMOUS, -1, 0);
+    uint8_t *pages =
+        mmap(NULL, 2 * PAGE, PROT_READ | PROT_WRITE, MAP_PRIVATE | MAP_ANONYMOUS, -1, 0);
     volatile int stops = 0, readable;
-    if (pages == MAP_FAILED || mprotect(pages + PAGE, PAGE, PROT_NONE) != 0 || signal(SIGSEGV, stop) == SIG_ERR)
+    if (pages == MAP_FAILED || mprotect(pages + PAGE, PAGE, PROT_NONE) != 0 ||
+        signal(SIGSEGV, stop) == SIG_ERR)
         return 0;
     for (readable = 0; readable <= BYTES; readable++) {
         if (sigsetjmp(before_the_read, 1) == 0)
@@ -161,13 +181,13 @@ static void look(const struct form *form)
     int in_key = copies(stack, DEPTH, key, size);
     int in_tag = copies(stack, DEPTH, tag, size);
     int in_chain = copies(stack, DEPTH, chain, is_b ? CHAIN_B : CHAIN_S);
-    _Bool fits = is_taken && in_key >= !form->is_wiped && in_key <= form->key && in_tag <= form->tag &&
-                 in_chain <= form->chain;
-    printf("%s: %s, message of %d bytes: key %d, tag %d, chaining words %d", fits ? "passed" : "FAILED", form->name,
-           LENGTH, in_key, in_tag, in_chain);
-    printf("; at most %d, %d, %d; in vector registers key %d, tag %d%s\n", form->key, form->tag, form->chain,
-           copies(vectors, sizeof vectors, key, size), copies(vectors, sizeof vectors, tag, size),
-           is_taken ? "" : "; the tag is refused");
+    _Bool fits = is_taken && in_key >= !form->is_wiped && in_key <= form->key &&
+                 in_tag <= form->tag && in_chain <= form->chain;
+    printf("%s: %s, message of %d bytes: key %d, tag %d, chaining words %d",
+           fits ? "passed" : "FAILED", form->name, LENGTH, in_key, in_tag, in_chain);
+    printf("; at most %d, %d, %d; in vector registers key %d, tag %d%s\n", form->key, form->tag,
+           form->chain, copies(vectors, sizeof vectors, key, size),
+           copies(vectors, sizeof vectors, tag, size), is_taken ? "" : "; the tag is refused");
     fails += !fits;
 }
 

@@ -16,7 +16,9 @@ static uint64_t random_number(void) {
     seed ^= seed >> 27;
     return seed * 2685821657736338717u;
 }
-static size_t from_to(size_t least, size_t most) { return least + (size_t)(random_number() >> 20) % (most - least + 1); }
+static size_t from_to(size_t least, size_t most) {
+    return least + (size_t)(random_number() >> 20) % (most - least + 1);
+}
 
 static void fill(uint8_t *bytes, size_t count) {
     for (size_t i = 0; i < count; i++) bytes[i] = (uint8_t)(random_number() >> 33);
@@ -58,7 +60,9 @@ int main(int count, char **words) {
     int cases = count > 1 ? atoi(words[1]) : 0, wrong = 0;
     for (int number = 0; number < cases; number++) {
         if (!compare(number)) {
-            if (wrong++ < 5) printf("case %d: %zu bytes, a digest of %zu, a key of %zu\n", number, length, size, key_length);
+            if (wrong++ < 5)
+                printf("case %d: %zu bytes, a digest of %zu, a key of %zu\n", number, length, size,
+                       key_length);
         }
     }
     printf("%d cases, %d wrong\n", cases, wrong);

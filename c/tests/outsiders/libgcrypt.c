@@ -3,9 +3,13 @@
 #include <gcrypt.h>
 
 static int compare(int number) {
-    static const struct { int algorithm, small; size_t size; } kinds[] = {
-        {GCRY_MD_BLAKE2B_512, 0, 64}, {GCRY_MD_BLAKE2B_384, 0, 48}, {GCRY_MD_BLAKE2B_256, 0, 32}, {GCRY_MD_BLAKE2B_160, 0, 20},
-        {GCRY_MD_BLAKE2S_256, 1, 32}, {GCRY_MD_BLAKE2S_224, 1, 28}, {GCRY_MD_BLAKE2S_160, 1, 20}, {GCRY_MD_BLAKE2S_128, 1, 16},
+    static const struct {
+        int algorithm, small;
+        size_t size;
+    } kinds[] = {
+        {GCRY_MD_BLAKE2B_512, 0, 64}, {GCRY_MD_BLAKE2B_384, 0, 48}, {GCRY_MD_BLAKE2B_256, 0, 32},
+        {GCRY_MD_BLAKE2B_160, 0, 20}, {GCRY_MD_BLAKE2S_256, 1, 32}, {GCRY_MD_BLAKE2S_224, 1, 28},
+        {GCRY_MD_BLAKE2S_160, 1, 20}, {GCRY_MD_BLAKE2S_128, 1, 16},
     };
     const int small = kinds[number % 8].small, algorithm = kinds[number % 8].algorithm;
     gcry_md_hd_t handle;
@@ -20,6 +24,7 @@ static int compare(int number) {
     memcpy(theirs, gcry_md_read(handle, algorithm), size);
     gcry_md_close(handle);
     need(!(small ? vulfsjor_blake2s(ours, size, message, length, key, key_length)
-                 : vulfsjor_blake2b(ours, size, message, length, key, key_length)), "a call in one");
+                 : vulfsjor_blake2b(ours, size, message, length, key, key_length)),
+         "a call in one");
     return !memcmp(ours, theirs, size);
 }

@@ -1,14 +1,17 @@
-/* libsodium: crypto_generichash_blake2b with salt and persona, in one call and in pieces, and the derivation of
- * keys that it builds on that. */
+/* libsodium: crypto_generichash_blake2b with salt and persona, in one call and in pieces, and the
+ * derivation of keys that it builds on that. */
 #include "cases.h"
 #include <sodium.h>
 
 static int in_one_call(const uint8_t *salt_or_null, const uint8_t *persona_or_null) {
     vulfsjor_blake2b_state run;
-    need(!crypto_generichash_blake2b_salt_personal(theirs, size, message, length, key, key_length, salt_or_null, persona_or_null),
+    need(!crypto_generichash_blake2b_salt_personal(theirs, size, message, length, key, key_length,
+                                                   salt_or_null, persona_or_null),
          "crypto_generichash_blake2b_salt_personal");
-    need(!vulfsjor_blake2b_init_salt_personal(&run, size, key, key_length, salt_or_null, salt_or_null ? 16 : 0,
-                                              persona_or_null, persona_or_null ? 16 : 0), "init_salt_personal");
+    need(!vulfsjor_blake2b_init_salt_personal(&run, size, key, key_length, salt_or_null,
+                                              salt_or_null ? 16 : 0, persona_or_null,
+                                              persona_or_null ? 16 : 0),
+         "init_salt_personal");
     IN_PIECES(need(!vulfsjor_blake2b_update(&run, piece, n), "update"))
     need(!vulfsjor_blake2b_final(&run, ours, size), "final");
     return !memcmp(ours, theirs, size);
@@ -16,9 +19,12 @@ static int in_one_call(const uint8_t *salt_or_null, const uint8_t *persona_or_nu
 
 static int in_pieces(void) {
     crypto_generichash_blake2b_state state;
-    need(!crypto_generichash_blake2b_init(&state, key, key_length, size), "crypto_generichash_blake2b_init");
-    IN_PIECES(need(!crypto_generichash_blake2b_update(&state, piece, n), "crypto_generichash_blake2b_update"))
-    need(!crypto_generichash_blake2b_final(&state, theirs, size), "crypto_generichash_blake2b_final");
+    need(!crypto_generichash_blake2b_init(&state, key, key_length, size),
+         "crypto_generichash_blake2b_init");
+    IN_PIECES(need(!crypto_generichash_blake2b_update(&state, piece, n),
+                   "crypto_generichash_blake2b_update"))
+    need(!crypto_generichash_blake2b_final(&state, theirs, size),
+         "crypto_generichash_blake2b_final");
     need(!vulfsjor_blake2b(ours, size, message, length, key, key_length), "vulfsjor_blake2b");
     return !memcmp(ours, theirs, size);
 }
@@ -30,8 +36,10 @@ static int derived_key(void) {
     fill(master, sizeof master);
     for (int i = 0; i < 8; i++) number[i] = (uint8_t)(id >> 8 * i);
     size = from_to(16, 64);
-    need(!crypto_kdf_blake2b_derive_from_key(theirs, size, id, (const char *)persona, master), "crypto_kdf_blake2b");
-    need(!vulfsjor_blake2b_init_salt_personal(&run, size, master, 32, number, 8, persona, 8), "init_salt_personal");
+    need(!crypto_kdf_blake2b_derive_from_key(theirs, size, id, (const char *)persona, master),
+         "crypto_kdf_blake2b");
+    need(!vulfsjor_blake2b_init_salt_personal(&run, size, master, 32, number, 8, persona, 8),
+         "init_salt_personal");
     need(!vulfsjor_blake2b_final(&run, ours, size), "final");
     return !memcmp(ours, theirs, size);
 }

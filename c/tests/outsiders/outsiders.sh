@@ -3,8 +3,8 @@
 #
 #   c/tests/outsiders/outsiders.sh [CASES]
 #
-# CASES are those of each library on each build of dist/ and on the installed choice (20,000). It needs these packages of Debian; a library that is absent is skipped, and a
-# line says so:
+# CASES are those of each library on each build of dist/ and on the installed choice (20,000). It
+# needs these packages of Debian; a library that is absent is skipped, and a line says so:
 #
 #   libsodium-dev, libgcrypt20-dev, libbotan-2-dev, libssl-dev (of OpenSSL 3)
 #
@@ -35,8 +35,9 @@ compare() {
         return
     fi
     for build in x86-64-v2 x86-64-v3 chosen; do
-        if cc -std=gnu99 -O2 -Wall -Wextra -Werror -I"$c/include" "$here/$name.c" "$work/$build/libblake2_c.a" "$@" \
-            -o "$work/$name" >"$work/log" 2>&1 && "$work/$name" "$cases" >"$work/log"; then
+        if cc -std=gnu99 -O2 -Wall -Wextra -Werror -I"$c/include" "$here/$name.c" \
+            "$work/$build/libblake2_c.a" "$@" -o "$work/$name" >"$work/log" 2>&1 &&
+            "$work/$name" "$cases" >"$work/log"; then
             echo "passed: $name on $build, $(tail -n 1 "$work/log")"
             passed=$((passed + 1))
         else
