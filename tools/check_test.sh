@@ -45,6 +45,7 @@ while [ "\$1" != -o ]; do shift; done
 cp /bin/true "\$2"
 END
 chmod +x "$repository/tools/processor.sh" "$room/bin/compiler"
+ln -s /bin/true "$room/bin/python3"
 
 run() {
     rm -f "$room/calls"
@@ -105,6 +106,33 @@ holds "and one whose status is 1" ends 1 "24 passed, 1 failed"
 run
 holds "and a dist/ of other sources" ends 1 "23 passed, 1 failed"
 rm "$room/stale"
+
+# Where there is nothing but the commands of any system.
+mkdir "$room/few"
+for name in awk basename bash cat cp dirname flock grep mktemp readlink rm sed tail wc; do
+    ln -s "$(command -v "$name")" "$room/few/"
+done
+rm -f "$room/calls"
+PATH=$room/few CC=none "$repository/test" >"$room/output" 2>"$room/errors"
+status=$?
+holds "without a compiler and python3 the rest is tested" ends 0 "15 passed, 0 failed"
+holds "that are these parts" diff - <(sed 's/ .*//' "$room/calls" | LC_ALL=C sort) <<'END'
+c/run_tests.sh
+js/run_tests.sh
+tools/check_b2.sh
+tools/check_dist.sh
+tools/check_pages.sh
+tools/check_test.sh
+tools/dist.sh
+tools/try_tests.sh
+END
+holds "and what was skipped is listed" diff - <(tail -n 5 "$room/output" | LC_ALL=C sort) <<'END'
+15 passed, 0 failed
+== 3 tests were skipped:
+skipped: the code in dist/, and the pages (no python3)
+skipped: the examples of the README and the tutorial (no python3, or no C compiler)
+skipped: the program in dist/ (no C compiler)
+END
 
 run --prove
 holds "--prove needs rt" ends 1 "0 passed, 1 failed"
