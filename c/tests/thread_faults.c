@@ -310,6 +310,9 @@ static void memory_is_refused(void) {
     take(FEW, 4096, 4);
     each_fails(root_of_bytes, "malloc", 0, ENOMEM, 1);
     each_fails(root_of_updates, "malloc", 0, ENOMEM, 1);
+    wish("malloc", 2, 0);
+    expect(root_of_bytes, 0); /* the digests only, since the bytes are in memory */
+    CHECK(!is_hit());
     each_fails(root_of_file, "malloc", 0, ENOMEM, 2); /* the digests, and a buffer or more */
     each_fails(root_of_pipe, "malloc", 0, ENOMEM, 1);
     asked = 1;
