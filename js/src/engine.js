@@ -179,6 +179,11 @@ export async function load() {
   compiled ??= await WebAssembly.compile(decode());
 }
 
+/** The compiled module. A worker is passed that of the thread that starts it. */
+export function moduleOf(given) {
+  return (compiled ??= given ?? new WebAssembly.Module(decode()));
+}
+
 /**
  * Runs the work with the engine. A call that throws inside the library, such as on a full
  * JavaScript stack, leaves the instance unusable and its memory half written. So the memory is
@@ -187,8 +192,7 @@ export async function load() {
 function withEngine(work) {
   if (current === undefined || current.isBusy) {
     drop();
-    compiled ??= new WebAssembly.Module(decode());
-    current = new Engine(compiled);
+    current = new Engine(moduleOf());
   }
   const engine = current;
   engine.isBusy = true;

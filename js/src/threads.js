@@ -1,7 +1,7 @@
 // The root of a tree by several workers, each of which hashes ranges of leaves.
 
 import { copyOf, lengthOf, partOf } from "./arguments.js";
-import { rootOfLeaves } from "./engine.js";
+import { moduleOf, rootOfLeaves } from "./engine.js";
 
 // The bytes of a range, unless one leaf is longer.
 const RANGE = 4 * 1024 * 1024;
@@ -99,7 +99,8 @@ export class TreeThreads {
     entry.length = this.#filled;
     const message = this.#range.subarray(0, this.#filled);
     const range = { first: this.#leaf, ends };
-    entry.worker.postMessage({ settings: this.#settings, range, message }, [message.buffer]);
+    const job = { module: moduleOf(), settings: this.#settings, range, message };
+    entry.worker.postMessage(job, [message.buffer]);
   }
 
   /** Absorbs bytes. A full range stays here until more comes, since it may end the message. */

@@ -12,7 +12,8 @@ const SALT = utf8("a salt");
 const RANGE = 4 * 1024 * 1024;
 
 const rootOf = (message, options) => hex(treeRoot(message, options));
-const byThreads = async (source, options) => hex(await treeRootStream(source, { threads: 3, ...options }));
+const byThreads = async (source, options) =>
+  hex(await treeRootStream(source, { threads: 3, ...options }));
 async function* inPieces(message, size) {
   for (let at = 0; at < message.length; at += size) yield message.subarray(at, at + size);
 }
@@ -44,11 +45,13 @@ test("ranges of leaves, joined, give the root", () => {
       const whole = treeLeaves(message, { ...options, first: 0n, ends: true });
       assertClean("treeLeaves");
       assert.equal(whole.length, 64 * Math.max(1, Math.ceil(length / leafLength)));
-      assert.deepEqual(leavesInRanges(message, options), Buffer.from(whole), `${length} ${leafLength}`);
+      assert.deepEqual(
+        leavesInRanges(message, options), Buffer.from(whole), `${length} ${leafLength}`);
       for (const digestLength of [1, 33, 64]) {
         const root = treeRootOfLeaves(whole, { ...options, digestLength });
         assertClean("treeRootOfLeaves");
-        assert.equal(hex(root), rootOf(message, { ...options, digestLength }), `${length} ${leafLength}`);
+        assert.equal(
+          hex(root), rootOf(message, { ...options, digestLength }), `${length} ${leafLength}`);
       }
     }
   }
@@ -58,23 +61,30 @@ test("a leaf that changed is hashed again alone", () => {
   const message = MESSAGE.slice(0, 1000);
   const digests = treeLeaves(message, { leafLength: 64, first: 0, ends: true });
   message[64 * 5 + 3] ^= 1;
-  digests.set(treeLeaves(message.subarray(320, 384), { leafLength: 64, first: 5, ends: false }), 64 * 5);
-  assert.equal(hex(treeRootOfLeaves(digests, { leafLength: 64 })), rootOf(message, { leafLength: 64 }));
+  digests.set(
+    treeLeaves(message.subarray(320, 384), { leafLength: 64, first: 5, ends: false }), 64 * 5);
+  assert.equal(
+    hex(treeRootOfLeaves(digests, { leafLength: 64 })), rootOf(message, { leafLength: 64 }));
 });
 
 test("leaves and root are the nodes that hashlib computes", (t) => {
   const program = `
 import hashlib, sys
 message, size = bytes(range(256)) * 3, 100
-node = lambda data, **more: hashlib.blake2b(data, fanout=0, depth=2, leaf_size=size, inner_size=64, salt=b"a salt", **more)
-first = 2**45
-print("".join(node(message[i * size:i * size + size], node_offset=first + i, last_node=i == 7).hexdigest() for i in range(8)))
-leaves = b"".join(node(message[i * size:i * size + size], node_offset=i, last_node=i == 7).digest() for i in range(8)) * 1009
+def node(data, **more):
+    return hashlib.blake2b(
+        data, fanout=0, depth=2, leaf_size=size, inner_size=64, salt=b"a salt", **more)
+def leaf(i, first):
+    data = message[i * size:i * size + size]
+    return node(data, node_offset=first + i, last_node=i == 7).digest()
+print(b"".join(leaf(i, 2**45) for i in range(8)).hex())
+leaves = b"".join(leaf(i, 0) for i in range(8)) * 1009
 print(node(leaves, node_depth=1, last_node=True, digest_size=20).hexdigest())
 sys.stdout.flush(); sys.stdout.buffer.write(leaves.hex().encode())`;
   let lines;
   try {
-    lines = execFileSync("python3", ["-c", program], { encoding: "utf8", maxBuffer: 2 ** 24 }).split("\n");
+    lines = execFileSync("python3", ["-c", program], { encoding: "utf8", maxBuffer: 2 ** 24 })
+      .split("\n");
   } catch (fault) {
     if (fault.code === "ENOENT") return t.skip("no python3");
     throw fault;
@@ -84,7 +94,8 @@ sys.stdout.flush(); sys.stdout.buffer.write(leaves.hex().encode())`;
   assert.equal(hex(far), lines[0]);
   // more digests than the window holds
   const digests = Buffer.from(lines[2], "hex");
-  assert.equal(hex(treeRootOfLeaves(digests, { leafLength: 100, salt: SALT, digestLength: 20 })), lines[1]);
+  assert.equal(
+    hex(treeRootOfLeaves(digests, { leafLength: 100, salt: SALT, digestLength: 20 })), lines[1]);
 });
 
 test("what is no range of leaves is refused", () => {
@@ -94,18 +105,26 @@ test("what is no range of leaves is refused", () => {
   assert.equal(leaves({}).length, 128);
   refuses(() => leaves({ first: undefined }), "TypeError", "treeLeaves: first must be given");
   refuses(() => leaves({ ends: undefined }), "TypeError", "treeLeaves: ends must be given");
-  refuses(() => leaves({ leafLength: undefined }), "TypeError", "treeLeaves: leafLength must be given");
-  refuses(() => leaves({ leafLength: 0 }), "RangeError", "treeLeaves: leafLength must be an integer from 1 to 4294967295, not 0");
-  refuses(() => leaves({ ends: 1 }), "TypeError", "treeLeaves: ends must be a boolean, not a number");
-  refuses(() => leaves({ first: "0" }), "TypeError", "treeLeaves: first must be a number or a bigint, not a string");
-  refuses(() => leaves({ first: -1 }), "RangeError", `treeLeaves: first must be an integer from 0 to ${2n ** 58n - 1n}, not -1`);
+  refuses(() => leaves({ leafLength: undefined }), "TypeError",
+    "treeLeaves: leafLength must be given");
+  refuses(() => leaves({ leafLength: 0 }), "RangeError",
+    "treeLeaves: leafLength must be an integer from 1 to 4294967295, not 0");
+  refuses(() => leaves({ ends: 1 }), "TypeError",
+    "treeLeaves: ends must be a boolean, not a number");
+  refuses(() => leaves({ first: "0" }), "TypeError",
+    "treeLeaves: first must be a number or a bigint, not a string");
+  refuses(() => leaves({ first: -1 }), "RangeError",
+    `treeLeaves: first must be an integer from 0 to ${2n ** 58n - 1n}, not -1`);
   refuses(() => leaves({ digestLength: 64 }), "TypeError",
-    'treeLeaves: unknown property "digestLength" of options; known are leafLength, first, ends, salt, personalization');
-  refuses(() => leaves({ salt: new Uint8Array(17) }), "RangeError", "treeLeaves: salt must have 0 to 16 bytes, not 17");
+    'treeLeaves: unknown property "digestLength" of options; ' +
+      "known are leafLength, first, ends, salt, personalization");
+  refuses(() => leaves({ salt: new Uint8Array(17) }), "RangeError",
+    "treeLeaves: salt must have 0 to 16 bytes, not 17");
   refuses(() => leaves({ ends: false, leafLength: 4 }), "RangeError",
     "treeLeaves: message must be whole leaves of 4 bytes, not 10 bytes, unless it ends");
   for (const wrong of [{ ends: false }, { first: 1 }]) {
-    refuses(() => leaves(wrong, new Uint8Array(0)), "RangeError", "treeLeaves: message must have at least one leaf");
+    refuses(() => leaves(wrong, new Uint8Array(0)), "RangeError",
+      "treeLeaves: message must have at least one leaf");
   }
   assert.equal(leaves({}, new Uint8Array(0)).length, 64);
   const last = (2n ** 58n - 10n) / 5n; // leaf numbers whose range ends at 2^58 - 4, and 2^58 + 1
@@ -116,18 +135,21 @@ test("what is no range of leaves is refused", () => {
   refuses(() => leaves({ first: 2n ** 58n - 10n, leafLength: 1 }), "RangeError", text);
   assert.equal(leaves({ first: 2n ** 58n - 11n, leafLength: 1 }).length, 640);
   refuses(() => treeLeaves("text", {}), "TypeError",
-    "treeLeaves: message must be a Uint8Array, another view or an ArrayBuffer, not a string (utf8() encodes a string)");
+    "treeLeaves: message must be a Uint8Array, another view or an ArrayBuffer, " +
+      "not a string (utf8() encodes a string)");
   refuses(() => treeLeaves(MESSAGE, {}, 1), "TypeError",
     "treeLeaves: too many arguments, 3 instead of at most 2; key, length and so on are options");
   for (const length of [0, 1, 63, 65]) {
     refuses(() => treeRootOfLeaves(new Uint8Array(length), { leafLength: 5 }), "RangeError",
       `treeRootOfLeaves: digests must have 64 bytes for each leaf, not ${length} bytes`);
   }
-  refuses(() => treeRootOfLeaves(new Uint8Array(64)), "TypeError", "treeRootOfLeaves: leafLength must be given");
+  refuses(() => treeRootOfLeaves(new Uint8Array(64)), "TypeError",
+    "treeRootOfLeaves: leafLength must be given");
   refuses(() => treeRootOfLeaves([], {}), "TypeError",
     "treeRootOfLeaves: digests must be a Uint8Array, another view or an ArrayBuffer, not an array");
   refuses(() => treeRootOfLeaves(new Uint8Array(64), { leafLength: 5 }, 1), "TypeError",
-    "treeRootOfLeaves: too many arguments, 3 instead of at most 2; key, length and so on are options");
+    "treeRootOfLeaves: too many arguments, 3 instead of at most 2; " +
+      "key, length and so on are options");
   assertClean();
 });
 
@@ -142,7 +164,9 @@ test("the root by threads is that of one", async () => {
     assert.equal(await byThreads(new Blob([message]), options), wanted, `${length} ${leafLength}`);
     assert.equal(await byThreads(inPieces(message, 777_777), { ...options, threads: 2 }), wanted);
   }
-  assert.equal(await byThreads(new Blob([MESSAGE]).stream(), { leafLength: 65536 }), rootOf(MESSAGE, { leafLength: 65536 }));
+  assert.equal(
+    await byThreads(new Blob([MESSAGE]).stream(), { leafLength: 65536 }),
+    rootOf(MESSAGE, { leafLength: 65536 }));
 });
 
 test("salt and personalization are taken at the call", async () => {
@@ -150,7 +174,8 @@ test("salt and personalization are taken at the call", async () => {
   const promise = byThreads(new Blob([MESSAGE]), { leafLength: 65536, ...labels });
   labels.salt.fill(0);
   labels.personalization.fill(0);
-  assert.equal(await promise, rootOf(MESSAGE, { leafLength: 65536, salt: SALT, personalization: SALT }));
+  assert.equal(
+    await promise, rootOf(MESSAGE, { leafLength: 65536, salt: SALT, personalization: SALT }));
 });
 
 // Runs the work with another class instead of node's Worker.
@@ -178,31 +203,49 @@ test("as many workers as there are ranges start, and all of them are stopped", a
   const wanted = [[1, 0], [2, 2], [3, 3], [200, 3]];
   for (const [threads, count] of wanted) {
     const begun = [];
-    await withWorkers(counted(begun), () => byThreads(new Blob([MESSAGE]), { leafLength: 65536, threads }));
+    await withWorkers(
+      counted(begun), () => byThreads(new Blob([MESSAGE]), { leafLength: 65536, threads }));
     assert.equal(begun.length, count);
     await Promise.all(begun);
   }
   const begun = [];
-  await withWorkers(counted(begun), () => byThreads(new Blob([MESSAGE]), { leafLength: 64 * 1024 * 1024 + 1 }));
+  await withWorkers(
+    counted(begun), () => byThreads(new Blob([MESSAGE]), { leafLength: 64 * 1024 * 1024 + 1 }));
   assert.equal(begun.length, 0);
-  await withWorkers(counted(begun), () => byThreads(new Blob([MESSAGE]), { leafLength: 64 * 1024 * 1024 }));
+  await withWorkers(
+    counted(begun), () => byThreads(new Blob([MESSAGE]), { leafLength: 64 * 1024 * 1024 }));
   assert.equal(begun.length, 1);
 });
 
+test("workers use the module that is compiled here", async () => {
+  const worker = new URL("../src/worker.js", import.meta.url).href;
+  const program = `globalThis.atob = () => { throw new Error("decoded again"); };
+    import("${worker}");`;
+  const Class = counted([], () => [program, { eval: true }]);
+  const root = await withWorkers(Class, () => byThreads(new Blob([MESSAGE]), { leafLength: 65536 }));
+  assert.equal(root, rootOf(MESSAGE, { leafLength: 65536 }));
+});
+
 test("threads is an integer from 1 to 256, of the tree alone", async () => {
-  const rejects = (options, name, message) => assert.rejects(treeRootStream(new Blob([]), { leafLength: 5, ...options }), { name, message });
+  const rejects = (options, name, message) =>
+    assert.rejects(treeRootStream(new Blob([]), { leafLength: 5, ...options }), { name, message });
   for (const threads of [0, 257, 1.5, -1, NaN]) {
-    await rejects({ threads }, "RangeError", `treeRootStream: threads must be an integer from 1 to 256, not ${threads}`);
+    await rejects(
+      { threads }, "RangeError",
+      `treeRootStream: threads must be an integer from 1 to 256, not ${threads}`);
   }
-  await rejects({ threads: "4" }, "TypeError", "treeRootStream: threads must be a number, not a string");
+  await rejects(
+    { threads: "4" }, "TypeError", "treeRootStream: threads must be a number, not a string");
   assert.throws(() => treeRoot(MESSAGE, { leafLength: 5, threads: 2 }), {
-    message: 'treeRoot: unknown property "threads" of options; known are leafLength, digestLength, salt, personalization',
+    message: 'treeRoot: unknown property "threads" of options; ' +
+      "known are leafLength, digestLength, salt, personalization",
   });
 });
 
 test("progress counts what the workers have hashed", async () => {
   const counts = [];
-  await byThreads(new Blob([MESSAGE]), { leafLength: 65536, onProgress: (...both) => counts.push(both) });
+  await byThreads(
+    new Blob([MESSAGE]), { leafLength: 65536, onProgress: (...both) => counts.push(both) });
   assert.equal(counts.length, 3);
   assert.deepEqual(counts.at(-1), [9_000_001, 9_000_001]);
   assert.ok(counts.every(([count], i) => count > (counts[i - 1]?.[0] ?? 0)), String(counts));
@@ -231,7 +274,8 @@ test("an abort, or progress that throws, ends it and stops the workers", async (
       control.abort(fault);
     };
     const options = { leafLength: 65536, onProgress, signal: control.signal };
-    await assert.rejects(withWorkers(counted(begun), () => byThreads(source.stream, options)), fault);
+    await assert.rejects(
+      withWorkers(counted(begun), () => byThreads(source.stream, options)), fault);
     assert.equal(source.isLetGo, fault);
     assert.equal(source.stream.locked, false);
     assert.equal(count, 3);
@@ -239,7 +283,8 @@ test("an abort, or progress that throws, ends it and stops the workers", async (
     await Promise.all(begun);
   }
   const begun = [];
-  const call = () => byThreads(endless().stream, { leafLength: 1, signal: AbortSignal.abort(fault) });
+  const call = () =>
+    byThreads(endless().stream, { leafLength: 1, signal: AbortSignal.abort(fault) });
   await assert.rejects(withWorkers(counted(begun), call), fault);
   assert.equal(begun.length, 0);
 });
@@ -249,7 +294,8 @@ test("a worker that fails is an error, and nothing hangs", async () => {
     "nothing here": 'throw new Error("nothing here")',
     "a thing": 'throw "a thing"',
     "it exited with code 3": "process.exit(3)",
-    "it exited with code 0": 'require("node:worker_threads").parentPort.once("message", () => process.exit(0))',
+    "it exited with code 0":
+      'require("node:worker_threads").parentPort.once("message", () => process.exit(0))',
   };
   for (const [cause, program] of Object.entries(programs)) {
     for (const source of [endless().stream, new Blob([MESSAGE]), new Blob([])]) {
@@ -262,10 +308,13 @@ test("a worker that fails is an error, and nothing hangs", async () => {
     }
   }
   const refusing = class { constructor() { throw new Error("no room"); } };
-  await assert.rejects(withWorkers(refusing, () => byThreads(new Blob([MESSAGE]), { leafLength: 1 })), /^Error: no room$/);
+  await assert.rejects(
+    withWorkers(refusing, () => byThreads(new Blob([MESSAGE]), { leafLength: 1 })),
+    /^Error: no room$/);
   // one of several, and a source that gives nothing more
   let number = 0;
-  const second = counted([], (...words) => (++number === 2 ? ["process.exit(3)", { eval: true }] : words));
+  const second = counted(
+    [], (...words) => (++number === 2 ? ["process.exit(3)", { eval: true }] : words));
   const stalled = (async function* () {
     yield MESSAGE;
     await new Promise(() => setTimeout(() => {}, 1e6).unref());
@@ -277,7 +326,9 @@ test("a worker that fails is an error, and nothing hangs", async () => {
 test("a process ends after a call by threads", () => {
   const index = new URL("../index.js", import.meta.url).href;
   const program = `import { hex, treeRootStream } from "${index}";
-    console.log(hex(await treeRootStream(new Blob(["abc"]), { leafLength: 2, threads: 4 })).slice(0, 8));`;
-  const printed = execFileSync(process.execPath, ["--input-type=module", "-e", program], { encoding: "utf8", timeout: 60000 });
+    const root = await treeRootStream(new Blob(["abc"]), { leafLength: 2, threads: 4 });
+    console.log(hex(root).slice(0, 8));`;
+  const printed = execFileSync(
+    process.execPath, ["--input-type=module", "-e", program], { encoding: "utf8", timeout: 60000 });
   assert.equal(printed, "19fc31bb\n"); // hashlib's
 });
