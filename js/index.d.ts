@@ -125,8 +125,8 @@ export function treeRootOfLeaves(digests: Bytes, options: TreeOptions): Uint8Arr
 /**
  * The digest of everything that a source contains. A stream is read to its end or canceled. If a
  * file changes while it is read, the promise rejects. With `threads` the leaves of a tree are
- * hashed by workers, and the promise rejects if one of them fails; the digests of all leaves are held in
- * memory until the end, 64 bytes each.
+ * hashed by workers, and the promise rejects if one of them fails. The digests of all leaves are
+ * then in memory until the end, 64 bytes each.
  */
 export function blake2bStream(
   source: Source,

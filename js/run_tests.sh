@@ -3,8 +3,9 @@
 #
 #   js/run_tests.sh [FILE..]
 #
-# A test whose tool is missing (python3, npm, tsc, chromium, firefox-esr, jsc) is skipped, and a line says so. The last
-# line is 'N passed, M failed, K skipped', and the status is 0 if no test failed.
+# A test whose tool is missing (python3, npm, tsc, chromium, firefox-esr, jsc) is skipped, and a
+# line says so. The last line is 'N passed, M failed, K skipped', and the status is 0 if no test
+# failed.
 set -u
 cd "$(dirname "$(readlink -f "$0")")" || exit 1
 if ! node -e 'process.exit(process.getBuiltinModule ? 0 : 1)' 2>/dev/null; then

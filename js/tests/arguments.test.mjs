@@ -27,6 +27,9 @@ function refuses(call, Class, message) {
   assertClean();
 }
 
+const tooMany = (count, most) =>
+  `too many arguments, ${count} instead of at most ${most}; key, length and so on are options`;
+
 const NO_BYTES = [
   ["abc", "a string (utf8() encodes a string)"],
   [undefined, "undefined"],
@@ -45,7 +48,8 @@ const NO_BYTES = [
 
 test("what is no bytes is refused, wherever bytes are asked for", () => {
   const wants = (value, caller, what, said) =>
-    [TypeError, `${caller}: ${what} must be a Uint8Array, another view or an ArrayBuffer, not ${said}`];
+    [TypeError,
+      `${caller}: ${what} must be a Uint8Array, another view or an ArrayBuffer, not ${said}`];
   for (const [value, said] of NO_BYTES) {
     refuses(() => blake2b(value), ...wants(value, "blake2b", "message", said));
     refuses(() => blake2s(value), ...wants(value, "blake2s", "message", said));
@@ -67,7 +71,8 @@ test("what is no bytes is refused, wherever bytes are asked for", () => {
 
 test("an option that is undefined is one that is not given", () => {
   const nothing = {
-    digestLength: undefined, key: undefined, salt: undefined, personalization: undefined, tree: undefined,
+    digestLength: undefined, key: undefined, salt: undefined, personalization: undefined,
+    tree: undefined,
   };
   assert.deepEqual(blake2b(M, nothing), blake2b(M));
   assert.deepEqual(new Blake2s(nothing).update(M).digest(), blake2s(M));
@@ -81,25 +86,31 @@ test("memory that was taken away is refused", () => {
     structuredClone(0, { transfer: [view.buffer ?? view] });
     return view;
   };
-  for (const what of [(b) => b, (b) => new Uint8Array(b), (b) => new DataView(b, 1), (b) => new Uint16Array(b, 2, 2)]) {
+  for (const what of [
+    (b) => b, (b) => new Uint8Array(b), (b) => new DataView(b, 1), (b) => new Uint16Array(b, 2, 2),
+  ]) {
     const text = (caller, name) => `${caller}: the memory of ${name} is detached or has shrunk`;
     refuses(() => blake2b(taken(what)), TypeError, text("blake2b", "message"));
     refuses(() => blake2b(M, { key: taken(what) }), TypeError, text("blake2b", "key"));
   }
   if (ArrayBuffer.prototype.resize === undefined) return;
   const buffer = new ArrayBuffer(20, { maxByteLength: 20 });
-  const views = [new Uint8Array(buffer, 4, 12), new Uint8Array(buffer, 12), new DataView(buffer, 4, 12)];
+  const views = [
+    new Uint8Array(buffer, 4, 12), new Uint8Array(buffer, 12), new DataView(buffer, 4, 12),
+  ];
   const follows = new Uint8Array(buffer, 2);
   buffer.resize(8);
   for (const view of views) {
-    refuses(() => blake2b(view), TypeError, "blake2b: the memory of message is detached or has shrunk");
+    refuses(() => blake2b(view), TypeError,
+      "blake2b: the memory of message is detached or has shrunk");
   }
   assert.deepEqual(blake2b(follows), blake2b(new Uint8Array(6)));
 });
 
 test("bytes of other realms, of subclasses, and of objects that lie about themselves", () => {
   const wanted = createHash("blake2b512").update("abc").digest("hex");
-  const foreign = vm.runInNewContext("({ u: Uint8Array.of(97, 98, 99), b: Uint8Array.of(97, 98, 99).buffer, o: {} })");
+  const foreign = vm.runInNewContext(
+    "({ u: Uint8Array.of(97, 98, 99), b: Uint8Array.of(97, 98, 99).buffer, o: {} })");
   assert.equal(hexOf(blake2b(foreign.u)), wanted);
   assert.equal(hexOf(blake2b(foreign.b, foreign.o)), wanted);
   class Liar extends Uint8Array {
@@ -116,7 +127,10 @@ test("bytes of other realms, of subclasses, and of objects that lie about themse
   assert.equal(hexOf(blake2b(new Float64Array(2))), hexOf(blake2b(new Uint8Array(16))));
 });
 
-const NO_NUMBERS = [["32", "a string"], [null, "null"], [32n, "a bigint"], [true, "a boolean"], [[32], "an array"], [{}, "an object"]];
+const NO_NUMBERS = [
+  ["32", "a string"], [null, "null"], [32n, "a bigint"], [true, "a boolean"], [[32], "an array"],
+  [{}, "an object"],
+];
 const FAMILIES = [
   ["blake2b", blake2b, Blake2b, 64, 16, 2n ** 64n - 1n],
   ["blake2s", blake2s, Blake2s, 32, 8, 2n ** 48n - 1n],
@@ -134,13 +148,16 @@ for (const [name, hash, Hasher, most, short, offset] of FAMILIES) {
       refuses(() => new Hasher({ digestLength: value }), RangeError, `new ${Hasher.name}: ${text}`);
     }
     for (const [value, said] of NO_NUMBERS) {
-      refuses(() => hash(M, { digestLength: value }), TypeError, `${name}: digestLength must be a number, not ${said}`);
+      refuses(() => hash(M, { digestLength: value }), TypeError,
+        `${name}: digestLength must be a number, not ${said}`);
     }
   });
 
   test(`${name}: key, salt and personalization`, () => {
     const plain = hexOf(hash(M));
-    for (const length of [1, most - 1, most]) assert.notEqual(hexOf(hash(M, { key: bytes(length) })), plain);
+    for (const length of [1, most - 1, most]) {
+      assert.notEqual(hexOf(hash(M, { key: bytes(length) })), plain);
+    }
     for (const length of [0, most + 1, 1000]) {
       const text = `key must have 1 to ${most} bytes, not ${length}`;
       refuses(() => hash(M, { key: bytes(length) }), RangeError, `${name}: ${text}`);
@@ -153,12 +170,14 @@ for (const [name, hash, Hasher, most, short, offset] of FAMILIES) {
       refuses(() => hash(M, { [what]: bytes(short + 1) }), RangeError,
         `${name}: ${what} must have 0 to ${short} bytes, not ${short + 1}`);
     }
-    assert.notEqual(hexOf(hash(M, { salt: bytes(3) })), hexOf(hash(M, { personalization: bytes(3) })));
+    assert.notEqual(
+      hexOf(hash(M, { salt: bytes(3) })), hexOf(hash(M, { personalization: bytes(3) })));
   });
 
   test(`${name}: tree`, () => {
     const bounds = {
-      fanout: [0, 255], depth: [1, 255], leafLength: [0, 2 ** 32 - 1], nodeDepth: [0, 255], innerLength: [0, most],
+      fanout: [0, 255], depth: [1, 255], leafLength: [0, 2 ** 32 - 1], nodeDepth: [0, 255],
+      innerLength: [0, most],
     };
     for (const [what, [least, greatest]] of Object.entries(bounds)) {
       for (const value of [least, greatest]) hash(M, { tree: { [what]: value } });
@@ -167,7 +186,8 @@ for (const [name, hash, Hasher, most, short, offset] of FAMILIES) {
           `${name}: tree.${what} must be an integer from ${least} to ${greatest}, not ${value}`);
       }
       for (const [value, said] of NO_NUMBERS) {
-        refuses(() => hash(M, { tree: { [what]: value } }), TypeError, `${name}: tree.${what} must be a number, not ${said}`);
+        refuses(() => hash(M, { tree: { [what]: value } }), TypeError,
+          `${name}: tree.${what} must be a number, not ${said}`);
       }
     }
     const at = (nodeOffset) => hexOf(hash(M, { tree: { nodeOffset } }));
@@ -179,36 +199,46 @@ for (const [name, hash, Hasher, most, short, offset] of FAMILIES) {
       refuses(() => at(value), RangeError, text + value);
     }
     refuses(() => at(2 ** 53), RangeError, `${text}9007199254740992 (pass a bigint)`);
-    refuses(() => at("5"), TypeError, `${name}: tree.nodeOffset must be a number or a bigint, not a string`);
-    refuses(() => hash(M, { tree: { lastNode: 1 } }), TypeError, `${name}: tree.lastNode must be a boolean, not a number`);
+    refuses(() => at("5"), TypeError,
+      `${name}: tree.nodeOffset must be a number or a bigint, not a string`);
+    refuses(() => hash(M, { tree: { lastNode: 1 } }), TypeError,
+      `${name}: tree.lastNode must be a boolean, not a number`);
     assert.equal(hexOf(hash(M, { tree: {} })), hexOf(hash(M)));
     refuses(() => hash(M, { tree: { leaf: 1 } }), TypeError,
-      `${name}: unknown property "leaf" of tree; known are fanout, depth, leafLength, nodeOffset, nodeDepth, innerLength, lastNode`);
-    refuses(() => hash(M, { tree: 5 }), TypeError, `${name}: tree must be a plain object, not a number`);
+      `${name}: unknown property "leaf" of tree; known are fanout, depth, leafLength, ` +
+        "nodeOffset, nodeDepth, innerLength, lastNode");
+    refuses(() => hash(M, { tree: 5 }), TypeError,
+      `${name}: tree must be a plain object, not a number`);
   });
 
   test(`${name}: options that are none, and more arguments`, () => {
     const known = "known are digestLength, key, salt, personalization, tree";
     for (const wrong of ["dkLen", "outlen", "person", "personal", "Key", "digest_size", "length"]) {
-      refuses(() => hash(M, { [wrong]: undefined }), TypeError, `${name}: unknown property "${wrong}" of options; ${known}`);
+      refuses(() => hash(M, { [wrong]: undefined }), TypeError,
+        `${name}: unknown property "${wrong}" of options; ${known}`);
     }
     const others = [
-      [null, "null"], [32, "a number"], ["key", "a string"], [() => {}, "a function"], [bytes(3), "an instance of Uint8Array"],
-      [new ArrayBuffer(3), "an instance of ArrayBuffer"], [[], "an instance of Array"], [new Map(), "an instance of Map"],
-      [Promise.resolve({}), "an instance of Promise"], [Object.create({ digestLength: 3 }), "an instance of Object"],
+      [null, "null"], [32, "a number"], ["key", "a string"], [() => {}, "a function"],
+      [bytes(3), "an instance of Uint8Array"],
+      [new ArrayBuffer(3), "an instance of ArrayBuffer"], [[], "an instance of Array"],
+      [new Map(), "an instance of Map"],
+      [Promise.resolve({}), "an instance of Promise"],
+      [Object.create({ digestLength: 3 }), "an instance of Object"],
     ];
     for (const [value, said] of others) {
-      refuses(() => hash(M, value), TypeError, `${name}: options must be a plain object, not ${said}`);
-      refuses(() => new Hasher(value), TypeError, `new ${Hasher.name}: options must be a plain object, not ${said}`);
+      refuses(() => hash(M, value), TypeError,
+        `${name}: options must be a plain object, not ${said}`);
+      refuses(() => new Hasher(value), TypeError,
+        `new ${Hasher.name}: options must be a plain object, not ${said}`);
     }
     refuses(() => hash(M, undefined, 32), TypeError,
-      `${name}: too many arguments, 3 instead of at most 2; key, length and so on are options`);
+      `${name}: ${tooMany(3, 2)}`);
     refuses(() => new Hasher({}, 1), TypeError,
-      `new ${Hasher.name}: too many arguments, 2 instead of at most 1; key, length and so on are options`);
+      `new ${Hasher.name}: ${tooMany(2, 1)}`);
     refuses(() => new Hasher().digest("hex"), TypeError,
-      `${Hasher.name}.digest: too many arguments, 1 instead of at most 0; key, length and so on are options`);
+      `${Hasher.name}.digest: ${tooMany(1, 0)}`);
     refuses(() => new Hasher().update(M, "utf8"), TypeError,
-      `${Hasher.name}.update: too many arguments, 2 instead of at most 1; key, length and so on are options`);
+      `${Hasher.name}.update: ${tooMany(2, 1)}`);
     assert.throws(() => Hasher({}), TypeError);
   });
 }
@@ -216,13 +246,17 @@ for (const [name, hash, Hasher, most, short, offset] of FAMILIES) {
 test("what stands on the prototype of all objects is no option", async () => {
   const salt = bytes(3);
   const calls = [
-    () => blake2b(M), () => blake2b(M, {}), () => blake2s(M, { salt }), () => new Blake2b({ salt }).update(M).digest(),
+    () => blake2b(M), () => blake2b(M, {}), () => blake2s(M, { salt }),
+    () => new Blake2b({ salt }).update(M).digest(),
     () => blake2b(M, { tree: {} }), () => treeRoot(M, { leafLength: 2 }), () => blake2bMany([M])[0],
     () => blake2bStream(new Blob([M])),
   ];
   const digests = async () => (await Promise.all(calls.map((call) => call()))).map(hexOf);
   const wanted = await digests();
-  const names = ["key", "digestLength", "personalization", "fanout", "lastNode", "tree", "signal", "onProgress", "x"];
+  const names = [
+    "key", "digestLength", "personalization", "fanout", "lastNode", "tree", "signal", "onProgress",
+    "x",
+  ];
   for (const name of names) Object.prototype[name] = 5;
   const got = await digests().finally(() => names.forEach((name) => delete Object.prototype[name]));
   assert.deepEqual(got, wanted);
@@ -254,9 +288,11 @@ test("the tree: leafLength and digestLength", () => {
     }
     refuses(() => call({ leafLength: 1, digestLength: 65 }), RangeError,
       `${caller}: digestLength must be an integer from 1 to 64, not 65`);
-    refuses(() => call({ leafLength: 1, salt: bytes(17) }), RangeError, `${caller}: salt must have 0 to 16 bytes, not 17`);
+    refuses(() => call({ leafLength: 1, salt: bytes(17) }), RangeError,
+      `${caller}: salt must have 0 to 16 bytes, not 17`);
     refuses(() => call({ leafLength: 1, key: bytes(3) }), TypeError,
-      `${caller}: unknown property "key" of options; known are leafLength, digestLength, salt, personalization`);
+      `${caller}: unknown property "key" of options; ` +
+        "known are leafLength, digestLength, salt, personalization");
   }
 });
 
@@ -264,34 +300,43 @@ test("several messages", () => {
   for (const many of [blake2bMany, blake2sMany]) {
     assert.deepEqual(many([]), []);
     assert.deepEqual(many(new Set([M])), [many === blake2bMany ? blake2b(M) : blake2s(M)]);
-    for (const [value, said] of [[undefined, "undefined"], [5, "a number"], ["abc", "a string"], [{}, "an object"]]) {
-      refuses(() => many(value), TypeError, `${many.name}: messages must be an iterable of bytes, not ${said}`);
+    for (const [value, said] of [
+      [undefined, "undefined"], [5, "a number"], ["abc", "a string"], [{}, "an object"],
+    ]) {
+      refuses(() => many(value), TypeError,
+        `${many.name}: messages must be an iterable of bytes, not ${said}`);
     }
     refuses(() => many(M), TypeError,
       `${many.name}: message 0 must be a Uint8Array, another view or an ArrayBuffer, not a number`);
     refuses(() => many([M], { tree: {} }), TypeError,
-      `${many.name}: unknown property "tree" of options; known are digestLength, key, salt, personalization`);
-    refuses(() => many([M], {}, 1), TypeError, `${many.name}: too many arguments, 3 instead of at most 2; key, length and so on are options`);
+      `${many.name}: unknown property "tree" of options; ` +
+        "known are digestLength, key, salt, personalization");
+    refuses(() => many([M], {}, 1), TypeError, `${many.name}: ${tooMany(3, 2)}`);
   }
 });
 
 test("streams reject what calls refuse", async () => {
-  const rejects = (promise, Class, message) => assert.rejects(promise, { name: Class.name, message });
+  const rejects = (promise, Class, message) =>
+    assert.rejects(promise, { name: Class.name, message });
   await rejects(blake2bStream(M), TypeError,
-    "blake2bStream: source must be a Blob, a ReadableStream or an async iterable of bytes, not an object");
+    "blake2bStream: source must be a Blob, a ReadableStream or an async iterable of bytes, " +
+      "not an object");
   await rejects(blake2sStream("abc"), TypeError,
-    "blake2sStream: source must be a Blob, a ReadableStream or an async iterable of bytes, not a string");
+    "blake2sStream: source must be a Blob, a ReadableStream or an async iterable of bytes, " +
+      "not a string");
   await rejects(blake2bStream(undefined), TypeError,
-    "blake2bStream: source must be a Blob, a ReadableStream or an async iterable of bytes, not undefined");
+    "blake2bStream: source must be a Blob, a ReadableStream or an async iterable of bytes, " +
+      "not undefined");
   await rejects(blake2bStream(new Blob(), { dkLen: 3 }), TypeError,
-    'blake2bStream: unknown property "dkLen" of options; known are digestLength, key, salt, personalization, tree, onProgress, signal');
+    'blake2bStream: unknown property "dkLen" of options; ' +
+      "known are digestLength, key, salt, personalization, tree, onProgress, signal");
   await rejects(treeRootStream(new Blob()), TypeError, "treeRootStream: leafLength must be given");
   await rejects(blake2bStream(new Blob(), { onProgress: 5 }), TypeError,
     "blake2bStream: onProgress must be a function, not a number");
   await rejects(blake2bStream(new Blob(), { signal: {} }), TypeError,
     "blake2bStream: signal must be an AbortSignal, not an object");
   await rejects(blake2bStream(new Blob(), {}, 1), TypeError,
-    "blake2bStream: too many arguments, 3 instead of at most 2; key, length and so on are options");
+    `blake2bStream: ${tooMany(3, 2)}`);
 });
 
 test("utf8, fromHex, hex, equal", () => {
@@ -303,7 +348,8 @@ test("utf8, fromHex, hex, equal", () => {
   assert.deepEqual(fromHex("00fFaB"), Uint8Array.of(0, 255, 171));
   assert.deepEqual(fromHex(""), new Uint8Array(0));
   for (const text of ["0", "0g", "0x12", " 12", "12 ", "１２"]) {
-    refuses(() => fromHex(text), RangeError, "fromHex: text must be an even number of hexadecimal digits");
+    refuses(() => fromHex(text), RangeError,
+      "fromHex: text must be an even number of hexadecimal digits");
   }
   refuses(() => fromHex(12), TypeError, "fromHex: text must be a string, not a number");
   assert.equal(hex(Uint8Array.of(0, 15, 255)), "000fff");

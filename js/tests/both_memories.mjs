@@ -21,10 +21,12 @@ try {
   wide.memory.grow(PAGES); // as the engines did at first
 }
 narrow.memory.grow(PAGES);
-assert.throws(() => new WebAssembly.Instance(new WebAssembly.Module(lower(lower(module)))), /not 64 bits wide/);
+assert.throws(
+  () => new WebAssembly.Instance(new WebAssembly.Module(lower(lower(module)))), /not 64 bits wide/);
 
 const top = base + PAGES * 65536;
-const [STATE, OUT, KEY, SALT, RECORDS, MESSAGES] = [0, 1024, 6144, 6272, 7168, 8192].map((place) => base + place);
+const PLACES = [0, 1024, 6144, 6272, 7168, 8192];
+const [STATE, OUT, KEY, SALT, RECORDS, MESSAGES] = PLACES.map((place) => base + place);
 const both = [wide, narrow].map(({ memory }) => new Uint8Array(memory.buffer));
 const put = (bytes, at) => both.forEach((memory) => memory.set(bytes, at));
 const text = (at, most) => [BigInt(at), BigInt(randomInt(most + 1))];
@@ -47,8 +49,9 @@ function someCall() {
     () => call("", BigInt(OUT), size, ...message, ...key),
     () => call("_init", state, size, ...key, ...salts),
     () => call("_init_key", state, size, ...key),
-    () => call("_init_node", state, size, ...key, ...salts, randomInt(256), randomInt(256), randomInt(2 ** 32),
-      BigInt(randomInt(2 ** 47)), randomInt(256), randomInt(most + 1)),
+    () => call(
+      "_init_node", state, size, ...key, ...salts, randomInt(256), randomInt(256),
+      randomInt(2 ** 32), BigInt(randomInt(2 ** 47)), randomInt(256), randomInt(most + 1)),
     () => call("_init_block", state, BigInt(MESSAGES), BigInt(most)),
     () => call("_update", state, ...message),
     () => call("_update", state, ...message),
@@ -58,7 +61,9 @@ function someCall() {
     () => call("_reset", state),
     () => call("_digest_size", state),
     () => call("_wipe", state),
-    () => call("_many", BigInt(OUT), size * BigInt(messages), size, BigInt(RECORDS), BigInt(messages), ...key, ...salts),
+    () => call(
+      "_many", BigInt(OUT), size * BigInt(messages), size, BigInt(RECORDS), BigInt(messages),
+      ...key, ...salts),
     () => tree("_root", BigInt(OUT), size, ...message, ...salts, randomInt(1, 100000)),
     () => tree("_init", state, size, ...salts, randomInt(100000)),
     () => tree("_update", state, ...message),
@@ -68,16 +73,21 @@ function someCall() {
     () => call("_count", state),
     () => tree("_count", state),
     () => tree("_leaf_length", state),
-    () => tree("_next_leaves", state, BigInt(OUT), 64n * BigInt(randomInt(1, 4)), BigInt(randomInt(3)), ...message),
+    () => tree(
+      "_next_leaves", state, BigInt(OUT), 64n * BigInt(randomInt(1, 4)), BigInt(randomInt(3)),
+      ...message),
     () => tree("_update_leaves", state, BigInt(MESSAGES), 64n * BigInt(randomInt(3)), ...message),
     () => tree("_leaf_count", BigInt(randomInt(2 ** 47)), randomInt(3)),
     () => {
       const [leafLength, count] = [randomInt(20), randomInt(9)];
       const length = leafLength * count + (randomInt(5) === 0 ? 1 : 0);
-      return tree("_leaves", BigInt(OUT), 64n * BigInt(Math.max(1, count)), BigInt(randomInt(3)), randomInt(2),
-        BigInt(MESSAGES), BigInt(length), ...salts, leafLength);
+      return tree(
+        "_leaves", BigInt(OUT), 64n * BigInt(Math.max(1, count)), BigInt(randomInt(3)),
+        randomInt(2), BigInt(MESSAGES), BigInt(length), ...salts, leafLength);
     },
-    () => tree("_root_of_leaves", BigInt(OUT), size, BigInt(MESSAGES), BigInt(64 * randomInt(8) + (randomInt(5) === 0 ? 1 : 0)),
+    () => tree(
+      "_root_of_leaves", BigInt(OUT), size, BigInt(MESSAGES),
+      BigInt(64 * randomInt(8) + (randomInt(5) === 0 ? 1 : 0)),
       ...salts, randomInt(9)),
     () => ["blake2_c_is_same", [...message, BigInt(MESSAGES + randomInt(2)), message[1]]],
     () => ["blake2_c_version", []],
@@ -90,7 +100,8 @@ for (let i = 0; i < count; i++) {
   put(randomBytes(300), randomInt(KEY, SALT + 32));
   const length = randomInt(300);
   for (let each = 0; each < 20; each++) {
-    const record = new BigUint64Array([BigInt(MESSAGES + randomInt(1000)), BigInt(randomInt(3) ? length : randomInt(700))]);
+    const record = new BigUint64Array(
+      [BigInt(MESSAGES + randomInt(1000)), BigInt(randomInt(3) ? length : randomInt(700))]);
     put(new Uint8Array(record.buffer), RECORDS + 16 * each);
   }
   const [name, words] = someCall();

@@ -11,18 +11,25 @@ import { fileURLToPath } from "node:url";
 import { messageOf } from "./common.mjs";
 
 const top = fileURLToPath(new URL("..", import.meta.url));
-const TYPES = { ".js": "text/javascript", ".mjs": "text/javascript", ".json": "application/json", "": "text/html" };
+const TYPES = {
+  ".js": "text/javascript", ".mjs": "text/javascript", ".json": "application/json", "": "text/html",
+};
 const CHECK = `const [vulfsjor, { checkCases }, cases] = await Promise.all([import("/index.js"),
   import("/tests/check_cases.mjs"), fetch("/cases.json").then((answer) => answer.json())]);
   const answer = await checkCases(vulfsjor, cases);`;
 // Hashes a tree by workers of the browser, whole ones and then some that do not exist or throw.
 const THREADS = `const message = Uint8Array.from({ length: 9_000_001 }, (_, i) => i ^ (i >> 8));
-  const byThreads = () => vulfsjor.treeRootStream(new Blob([message]), { leafLength: 65536, threads: 3 })
-    .then((root) => vulfsjor.hex(root), String);
-  const threads = [vulfsjor.hex(vulfsjor.treeRoot(message, { leafLength: 65536 })), await byThreads()];
+  const byThreads = () =>
+    vulfsjor.treeRootStream(new Blob([message]), { leafLength: 65536, threads: 3 })
+      .then((root) => vulfsjor.hex(root), String);
+  const threads = [
+    vulfsjor.hex(vulfsjor.treeRoot(message, { leafLength: 65536 })), await byThreads(),
+  ];
   const { Worker: Whole } = globalThis;
   for (const script of ["/none.js", "/throws.js"]) {
-    globalThis.Worker = class extends Whole { constructor() { super(script, { type: "module" }); } };
+    globalThis.Worker = class extends Whole {
+      constructor() { super(script, { type: "module" }); }
+    };
     threads.push(await byThreads());
   }
   globalThis.Worker = Whole;`;
@@ -40,11 +47,13 @@ try {
 </script>`;
 
 function casesOf(count) {
-  const lines = execFileSync("python3", [join(top, "tests/cases.py"), "2", count], { maxBuffer: 2 ** 28, encoding: "utf8" });
+  const lines = execFileSync(
+    "python3", [join(top, "tests/cases.py"), "2", count], { maxBuffer: 2 ** 28, encoding: "utf8" });
   return lines.trim().split("\n").map((line) => JSON.parse(line))
     .filter(({ lengths }) => lengths.every((length) => length <= 6000))
     .map((line) => ({ ...line, messages: line.lengths.map((length, i) =>
-      Buffer.from(messageOf(line.kind === "many" ? `${line.number}.${i}` : line.number, length)).toString("hex")) }));
+      Buffer.from(messageOf(line.kind === "many" ? `${line.number}.${i}` : line.number, length))
+        .toString("hex")) }));
 }
 
 // Serves the package, opens the page in a browser, and answers what the page sends back.
@@ -59,11 +68,17 @@ async function answerOf(command, wordsOf, cases) {
       request.on("data", (chunk) => (text += chunk)).on("end", () => answered(JSON.parse(text)));
       return response.end();
     }
-    const files = { "/": PAGE, "/cases.json": JSON.stringify(cases), "/worker.js": `${CHECK}\npostMessage(answer);`,
-      "/throws.js": "onmessage = () => { throw new Error('no reason'); };" };
+    const files = {
+      "/": PAGE,
+      "/cases.json": JSON.stringify(cases),
+      "/worker.js": `${CHECK}\npostMessage(answer);`,
+      "/throws.js": "onmessage = () => { throw new Error('no reason'); };",
+    };
     try {
       const body = files[pathname] ?? readFileSync(join(top, pathname));
-      response.setHeader("content-type", TYPES[pathname === "/" ? "" : extname(pathname)] ?? "application/octet-stream");
+      response.setHeader(
+        "content-type",
+        TYPES[pathname === "/" ? "" : extname(pathname)] ?? "application/octet-stream");
       response.end(body);
     } catch {
       response.statusCode = 404;
@@ -71,7 +86,8 @@ async function answerOf(command, wordsOf, cases) {
     }
   });
   await new Promise((resolve) => server.listen(0, "127.0.0.1", resolve));
-  const child = spawn(command, wordsOf(folder, `http://127.0.0.1:${server.address().port}/`), { stdio: "ignore" });
+  const child = spawn(
+    command, wordsOf(folder, `http://127.0.0.1:${server.address().port}/`), { stdio: "ignore" });
   const timer = setTimeout(() => answered({ fault: "no answer within 180 seconds" }), 180_000);
   try {
     return await answer;
@@ -87,15 +103,19 @@ async function answerOf(command, wordsOf, cases) {
 }
 
 const BROWSERS = {
-  chromium: (folder, url) => ["--headless=new", "--no-sandbox", "--disable-gpu", `--user-data-dir=${folder}`,
-    "--remote-debugging-port=0", url],
+  chromium: (folder, url) => [
+    "--headless=new", "--no-sandbox", "--disable-gpu", `--user-data-dir=${folder}`,
+    "--remote-debugging-port=0", url,
+  ],
   "firefox-esr": (folder, url) => ["--headless", "--no-remote", "--profile", folder, url],
 };
 const has = (command) => spawnSync(command, ["--version"]).error === undefined;
 
 for (const [command, wordsOf] of Object.entries(BROWSERS)) {
-  test(`800 cases of hashlib and a tree by workers in ${command}, on a page and in a worker`, async (t) => {
-    if (!has(command) || !has("python3")) return t.skip(`no ${has("python3") ? command : "python3"}`);
+  test(`800 cases of hashlib and a tree by workers in ${command}`, async (t) => {
+    if (!has(command) || !has("python3")) {
+      return t.skip(`no ${has("python3") ? command : "python3"}`);
+    }
     const cases = casesOf("800");
     const { fault, page, worker, threads } = await answerOf(command, wordsOf, cases);
     assert.equal(fault, undefined);
@@ -135,7 +155,8 @@ test("800 cases of hashlib in jsc, the engine of Safari", (t) => {
       print(JSON.stringify(await checkCases(vulfsjor, cases)));
     `);
     writeFileSync(join(folder, "cases.json"), JSON.stringify(cases));
-    const { stdout, stderr } = spawnSync("jsc", ["-m", join(folder, "main.mjs")], { encoding: "utf8", maxBuffer: 2 ** 28 });
+    const { stdout, stderr } = spawnSync(
+      "jsc", ["-m", join(folder, "main.mjs")], { encoding: "utf8", maxBuffer: 2 ** 28 });
     assert.match(stdout, /^\{/, stderr);
     const { right, wrong } = JSON.parse(stdout);
     assert.deepEqual(wrong, []);

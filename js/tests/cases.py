@@ -3,8 +3,8 @@
 
 usage: cases.py SEED COUNT
 
-A message is named by its length and a number: SHAKE-128 of that number's text gives its bytes. Texts of arguments are
-hexadecimal. What kind a case is of says which call it is for.
+A message is named by its length and a number: its bytes are SHAKE-128 of the number's text. Bytes
+of arguments are in hexadecimal digits. The kind of a case says which call it is for.
 """
 import hashlib
 import json
@@ -21,7 +21,7 @@ def message_of(name, length):
 
 
 def length():
-    """A length of a message: mostly short or around blocks, at times around the pieces that are copied."""
+    """A length of a message: mostly short or around blocks, sometimes around the pieces."""
     kind = DICE.random()
     if kind < 0.5:
         return DICE.randint(0, 300)
@@ -33,7 +33,8 @@ def length():
 
 
 def text(most, least=0):
-    return DICE.randbytes(DICE.choice([least, most, DICE.randint(least, most), DICE.randint(least, most)]))
+    between = DICE.randint(least, most)
+    return DICE.randbytes(DICE.choice([least, most, between, between]))
 
 
 def arguments(name):
@@ -66,27 +67,34 @@ def root(message, leaf_size, digest_size=64, **texts):
     shared = dict(texts, fanout=0, depth=2, leaf_size=leaf_size, inner_size=64)
     cuts = list(range(0, len(message), leaf_size)) or [0]
     digests = b"".join(
-        hashlib.blake2b(message[cut:cut + leaf_size], node_offset=i, last_node=i == len(cuts) - 1, **shared).digest()
+        hashlib.blake2b(message[cut:cut + leaf_size], node_offset=i,
+                        last_node=i == len(cuts) - 1, **shared).digest()
         for i, cut in enumerate(cuts))
-    return hashlib.blake2b(digests, digest_size=digest_size, node_depth=1, last_node=True, **shared).digest()
+    return hashlib.blake2b(
+        digests, digest_size=digest_size, node_depth=1, last_node=True, **shared).digest()
 
 
 def shown(words):
-    return {name: value.hex() if isinstance(value, bytes) else str(value) if name == "node_offset" else value
-            for name, value in words.items()}
+    def text_of(name, value):
+        if isinstance(value, bytes):
+            return value.hex()
+        return str(value) if name == "node_offset" else value
+    return {name: text_of(name, value) for name, value in words.items()}
 
 
 def case(number):
     kind = DICE.choice(["blake2b", "blake2b", "blake2s", "blake2s", "tree", "many"])
-    name = DICE.choice(["blake2b", "blake2s"]) if kind == "many" else "blake2b" if kind == "tree" else kind
+    many = DICE.choice(["blake2b", "blake2s"])
+    name = {"many": many, "tree": "blake2b"}.get(kind, kind)
     words = arguments(name)
     lengths = [length()]
     line = {"kind": kind, "name": name, "number": number, "cut": DICE.random()}
     if kind == "tree":
         words.pop("key", None)
         longest = max(1, lengths[0])
-        words["leaf_size"] = DICE.choice([max(1, longest // 7), max(1, longest // 3), longest, DICE.randint(
-            max(1, longest // 40), longest), 2**32 - 1])
+        words["leaf_size"] = DICE.choice([
+            max(1, longest // 7), max(1, longest // 3), longest,
+            DICE.randint(max(1, longest // 40), longest), 2**32 - 1])
         digests = [root(message_of(number, lengths[0]), **words)]
     elif kind == "many":
         same = DICE.randint(0, 700)
@@ -97,7 +105,8 @@ def case(number):
         tree = place(name) if DICE.random() < 0.4 else {}
         digests = [getattr(hashlib, name)(message_of(number, lengths[0]), **words, **tree).digest()]
         line["tree"] = shown(tree)
-    return dict(line, words=shown(words), lengths=lengths, digests=[digest.hex() for digest in digests])
+    return dict(line, words=shown(words), lengths=lengths,
+                digests=[digest.hex() for digest in digests])
 
 
 for index in range(int(sys.argv[2])):

@@ -1,15 +1,22 @@
-// Checks cases of cases.py by the package alone, with nothing of Node, so that browsers can do it too.
+// Checks cases of cases.py by the package alone, with nothing of node, so that browsers can do it
+// too.
 
 const NAMES = {
-  digest_size: "digestLength", person: "personalization", leaf_size: "leafLength", node_offset: "nodeOffset",
+  digest_size: "digestLength", person: "personalization", leaf_size: "leafLength",
+  node_offset: "nodeOffset",
   node_depth: "nodeDepth", inner_size: "innerLength", last_node: "lastNode",
 };
 
-/** Answers how many cases were right, and which were not. The messages of each stand there in hexadecimal digits. */
+/** Returns how many cases were right, and those that were not. Messages are hexadecimal digits. */
 export async function checkCases(vulfsjor, cases) {
   const { fromHex, hex } = vulfsjor;
-  const optionsOf = (words) => Object.fromEntries(Object.entries(words).map(([name, value]) =>
-    [NAMES[name] ?? name, name === "node_offset" ? BigInt(value) : typeof value === "string" ? fromHex(value) : value]));
+  const valueOf = (name, value) => {
+    if (name === "node_offset") return BigInt(value);
+    return typeof value === "string" ? fromHex(value) : value;
+  };
+  const optionsOf = (words) =>
+    Object.fromEntries(Object.entries(words).map(([name, value]) =>
+      [NAMES[name] ?? name, valueOf(name, value)]));
   const right = [];
   const wrong = [];
   for (const { kind, name, words, tree = {}, messages, digests } of cases) {
@@ -21,7 +28,8 @@ export async function checkCases(vulfsjor, cases) {
       got.push(...vulfsjor[`${name}Many`](texts, options).map((digest) => hex(digest)));
     } else {
       const [one, stream, Hasher] = {
-        blake2b: ["blake2b", "blake2bStream", "Blake2b"], blake2s: ["blake2s", "blake2sStream", "Blake2s"],
+        blake2b: ["blake2b", "blake2bStream", "Blake2b"],
+        blake2s: ["blake2s", "blake2sStream", "Blake2s"],
         tree: ["treeRoot", "treeRootStream", "TreeHash"],
       }[kind];
       got.push(hex(vulfsjor[one](texts[0], options)));
@@ -30,8 +38,12 @@ export async function checkCases(vulfsjor, cases) {
       if (!run.copy().update(texts[0].subarray(half)).verify(fromHex(digests[0]))) got.length = 0;
       if (run.update(texts[0].subarray(half)).hex() !== digests[0]) got.length = 0;
       if (typeof Blob !== "undefined") {
-        if (hex(await vulfsjor[stream](new Blob([texts[0]]), options)) !== digests[0]) got.length = 0;
-        if (hex(await vulfsjor[stream](new Blob([texts[0]]).stream(), options)) !== digests[0]) got.length = 0;
+        if (hex(await vulfsjor[stream](new Blob([texts[0]]), options)) !== digests[0]) {
+          got.length = 0;
+        }
+        if (hex(await vulfsjor[stream](new Blob([texts[0]]).stream(), options)) !== digests[0]) {
+          got.length = 0;
+        }
       }
     }
     (String(got) === String(digests) ? right : wrong).push({ kind, name, words, digests, got });

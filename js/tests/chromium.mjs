@@ -5,8 +5,10 @@ import { mkdtempSync, rmSync } from "node:fs";
 import { tmpdir } from "node:os";
 import { join } from "node:path";
 
-const WORDS = ["--headless=new", "--no-sandbox", "--disable-gpu", "--remote-debugging-pipe", "--no-first-run",
-  "--disable-dev-shm-usage", "--disable-background-networking"];
+const WORDS = [
+  "--headless=new", "--no-sandbox", "--disable-gpu", "--remote-debugging-pipe", "--no-first-run",
+  "--disable-dev-shm-usage", "--disable-background-networking",
+];
 
 /** Starts Chromium. Rejects where there is none. */
 export async function startChromium(command = process.env.CHROMIUM ?? "chromium", more = []) {
@@ -43,19 +45,33 @@ export async function startChromium(command = process.env.CHROMIUM ?? "chromium"
     const requests = [];
     listeners.add(({ method, params, sessionId: from }) => {
       if (from !== sessionId) return;
-      if (method === "Runtime.exceptionThrown") faults.push(params.exceptionDetails.exception?.description ?? params.exceptionDetails.text);
-      if (method === "Log.entryAdded" && params.entry.level !== "verbose") faults.push(params.entry.text);
-      if (method === "Runtime.consoleAPICalled" && params.type === "error") faults.push(params.args.map((a) => a.value).join(" "));
+      if (method === "Runtime.exceptionThrown") {
+        faults.push(params.exceptionDetails.exception?.description ?? params.exceptionDetails.text);
+      }
+      if (method === "Log.entryAdded" && params.entry.level !== "verbose") {
+        faults.push(params.entry.text);
+      }
+      if (method === "Runtime.consoleAPICalled" && params.type === "error") {
+        faults.push(params.args.map((a) => a.value).join(" "));
+      }
       if (method === "Network.requestWillBeSent") requests.push(params.request.url);
     });
     const call = (method, params) => send(method, params, sessionId);
-    for (const domain of ["Page", "Runtime", "Log", "Network", "DOM"]) await call(`${domain}.enable`);
-    await call("Emulation.setDeviceMetricsOverride", { width, height, deviceScaleFactor: 1, mobile: false });
-    await call("Emulation.setEmulatedMedia", { features: [{ name: "prefers-color-scheme", value: scheme }] });
+    for (const domain of ["Page", "Runtime", "Log", "Network", "DOM"]) {
+      await call(`${domain}.enable`);
+    }
+    await call(
+      "Emulation.setDeviceMetricsOverride", { width, height, deviceScaleFactor: 1, mobile: false });
+    await call(
+      "Emulation.setEmulatedMedia",
+      { features: [{ name: "prefers-color-scheme", value: scheme }] });
     await call("Page.navigate", { url });
     const evaluate = async (expression) => {
-      const { result, exceptionDetails } = await call("Runtime.evaluate", { expression, awaitPromise: true, returnByValue: true });
-      if (exceptionDetails) throw new Error(exceptionDetails.exception?.description ?? exceptionDetails.text);
+      const { result, exceptionDetails } = await call(
+        "Runtime.evaluate", { expression, awaitPromise: true, returnByValue: true });
+      if (exceptionDetails) {
+        throw new Error(exceptionDetails.exception?.description ?? exceptionDetails.text);
+      }
       return result.value;
     };
     const until = async (expression, seconds = 120) => {
@@ -67,11 +83,13 @@ export async function startChromium(command = process.env.CHROMIUM ?? "chromium"
       throw new Error(`the page never had ${expression}; it complained of ${faults}`);
     };
     const setFiles = async (selector, files) => {
-      const { result } = await call("Runtime.evaluate", { expression: `document.querySelector(${JSON.stringify(selector)})` });
+      const { result } = await call(
+        "Runtime.evaluate", { expression: `document.querySelector(${JSON.stringify(selector)})` });
       await call("DOM.setFileInputFiles", { files, objectId: result.objectId });
     };
     const screenshot = async (whole = true) => {
-      const { data } = await call("Page.captureScreenshot", { format: "png", captureBeyondViewport: whole });
+      const { data } = await call(
+        "Page.captureScreenshot", { format: "png", captureBeyondViewport: whole });
       return Buffer.from(data, "base64");
     };
     return { call, evaluate, until, setFiles, screenshot, faults, requests };

@@ -4,13 +4,15 @@ import { createHash } from "node:crypto";
 import { memory } from "../src/engine.js";
 
 export const bytesOf = (text) => Uint8Array.from(Buffer.from(text, "hex"));
-export const hexOf = (bytes) => Buffer.from(bytes.buffer, bytes.byteOffset, bytes.length).toString("hex");
+export const hexOf = (bytes) =>
+  Buffer.from(bytes.buffer, bytes.byteOffset, bytes.length).toString("hex");
 
 /** The message that tests/cases.py names so. */
 export const messageOf = (name, length) =>
   length === 0
     ? new Uint8Array(0)
-    : new Uint8Array(createHash("shake128", { outputLength: length }).update(String(name)).digest());
+    : new Uint8Array(
+        createHash("shake128", { outputLength: length }).update(String(name)).digest());
 
 /** The sequence of RFC 7693, appendix E. */
 export function sequence(length, seed) {
@@ -25,7 +27,7 @@ export function sequence(length, seed) {
 
 let zeros = Buffer.alloc(0);
 
-/** Asserts that nothing is left in the library's memory, and that it has the size that it began with. */
+/** Asserts that nothing is left in the library's memory, and that it has not grown. */
 export function assertClean(what = "after a call") {
   const bytes = memory();
   assert.equal(bytes.length, 2 ** 20 + 8 * 65536);

@@ -133,6 +133,8 @@ test("a message of 256 MiB, in one call and in pieces", () => {
   assert.equal(hexOf(vulfsjor.blake2b(message)), wanted);
   assertClean();
   const run = new vulfsjor.Blake2b();
-  for (let at = 0; at < message.length; at += 50_000_017) run.update(message.subarray(at, at + 50_000_017));
+  for (let at = 0; at < message.length; at += 50_000_017) {
+    run.update(message.subarray(at, at + 50_000_017));
+  }
   assert.equal(run.hex(), wanted);
 });

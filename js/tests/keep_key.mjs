@@ -5,9 +5,11 @@ import { openSync, readSync, writeSync } from "node:fs";
 import { Blake2b, Blake2s, blake2b, blake2bMany, blake2s, utf8 } from "../index.js";
 
 const form = process.argv[2];
-// outside of the heap, whose collector moves what is in it, and leaves what it has moved; but for one
+// outside of the heap, whose collector moves what is in it and leaves copies; except where the form
+// says so
 const length = form.includes("2s") ? 32 : 64;
-const newKey = () => (form.includes("heap") ? new Uint8Array(length) : new Uint8Array(new ArrayBuffer(length)));
+const newKey = () =>
+  (form.includes("heap") ? new Uint8Array(length) : new Uint8Array(new ArrayBuffer(length)));
 let key = newKey();
 const drawn = new Uint8Array(new ArrayBuffer(length));
 const tag = new Uint8Array(key.length);
@@ -20,10 +22,13 @@ const forms = {
   "blake2b of a key in the heap": () => blake2b(short, { key }),
   "Blake2b of a key in the heap": () => new Blake2b({ key }).update(short).digest(),
   "blake2bMany": () => blake2bMany([short, long, long, long, long], { key }),
-  "Blake2b, digest": () => [short, long].forEach((message) => new Blake2b({ key }).update(message).digest()),
-  "Blake2s, digest": () => [short, long].forEach((message) => new Blake2s({ key }).update(message).digest()),
+  "Blake2b, digest": () =>
+    [short, long].forEach((message) => new Blake2b({ key }).update(message).digest()),
+  "Blake2s, digest": () =>
+    [short, long].forEach((message) => new Blake2s({ key }).update(message).digest()),
   "Blake2b, digest of nothing": () => new Blake2b({ key }).digest(),
-  "Blake2b, verify": () => [short, long].forEach((message) => new Blake2b({ key }).update(message).verify(tag)),
+  "Blake2b, verify": () =>
+    [short, long].forEach((message) => new Blake2b({ key }).update(message).verify(tag)),
   "Blake2b, copy and reset": () => {
     const run = new Blake2b({ key }).update(long);
     run.copy().update(short).digest();

@@ -27,7 +27,9 @@ function countPieces(pid, key) {
       if (length === 0) break;
       const seen = buffer.subarray(0, length);
       for (const piece of pieces) {
-        for (let place = seen.indexOf(piece); place >= 0; place = seen.indexOf(piece, place + 1)) count++;
+        for (let place = seen.indexOf(piece); place >= 0; place = seen.indexOf(piece, place + 1)) {
+          count++;
+        }
       }
       at += BigInt(length);
     }
@@ -53,7 +55,8 @@ async function piecesAfter(form) {
 
 const FORMS = [
   "blake2b in one call", "blake2s in one call", "blake2bMany", "Blake2b, digest", "Blake2s, digest",
-  "blake2b of a key in the heap", "Blake2b of a key in the heap", "Blake2b, digest of nothing", "Blake2b, verify", "Blake2b, copy and reset", "Blake2b, wipe", "Blake2b, dropped",
+  "blake2b of a key in the heap", "Blake2b of a key in the heap", "Blake2b, digest of nothing",
+  "Blake2b, verify", "Blake2b, copy and reset", "Blake2b, wipe", "Blake2b, dropped",
 ];
 
 test("pieces of a key in the memory of the process", async (t) => {
@@ -62,7 +65,9 @@ test("pieces of a key in the memory of the process", async (t) => {
   try {
     found = await piecesAfter("a key that is not forgotten");
   } catch (fault) {
-    if (fault.code === "EACCES" || fault.code === "EPERM") return t.skip("the memory of a child cannot be read");
+    if (fault.code === "EACCES" || fault.code === "EPERM") {
+      return t.skip("the memory of a child cannot be read");
+    }
     throw fault;
   }
   assert.ok(found >= 8, `${found} pieces of a key that is there`);

@@ -1,5 +1,5 @@
-// Messages of more than 2^32 bytes, in one call and in pieces. It takes some minutes, so it runs only
-// where it is asked for: VULFSJOR_LONG=1.
+// Messages of more than 2^32 bytes, in one call and in pieces. It takes about eight minutes, so it
+// runs only if VULFSJOR_LONG is set.
 import assert from "node:assert/strict";
 import { createHash } from "node:crypto";
 import test from "node:test";

@@ -9,7 +9,9 @@ test("the README's examples", () => {
   const program = [...text.matchAll(/```js\n([^`]*)```/g)].map(([, block]) => block).join("");
   const wanted = [...program.matchAll(/; \/\/ (.*)$/gm)].map(([, line]) => line);
   assert.ok(wanted.length >= 5);
-  const here = program.replaceAll('"vulfsjor"', JSON.stringify(new URL("../index.js", import.meta.url).href));
-  const got = execFileSync(process.execPath, ["--input-type=module", "-e", here], { encoding: "utf8" });
+  const here = program.replaceAll(
+    '"vulfsjor"', JSON.stringify(new URL("../index.js", import.meta.url).href));
+  const got = execFileSync(
+    process.execPath, ["--input-type=module", "-e", here], { encoding: "utf8" });
   assert.deepEqual(got.trim().split("\n"), wanted);
 });

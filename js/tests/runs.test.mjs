@@ -4,7 +4,9 @@ import { createHash } from "node:crypto";
 import test from "node:test";
 import v8 from "node:v8";
 import vm from "node:vm";
-import { Blake2b, Blake2s, TreeHash, blake2b, blake2bMany, equal, load, treeRoot, utf8 } from "../index.js";
+import {
+  Blake2b, Blake2s, TreeHash, blake2b, blake2bMany, equal, load, treeRoot, utf8,
+} from "../index.js";
 import { memory } from "../src/engine.js";
 import { assertClean, hexOf } from "./common.mjs";
 
@@ -18,7 +20,8 @@ const HASHERS = [
 
 for (const [Hasher, options] of HASHERS) {
   const name = `${Hasher.name} of ${Object.keys(options)}`;
-  const digestOf = (...pieces) => pieces.reduce((run, piece) => run.update(piece), new Hasher(options)).hex();
+  const digestOf = (...pieces) =>
+    pieces.reduce((run, piece) => run.update(piece), new Hasher(options)).hex();
 
   test(`${name}: copies and resets go on by themselves`, () => {
     const run = new Hasher(options);
@@ -40,7 +43,8 @@ for (const [Hasher, options] of HASHERS) {
   test(`${name}: a run that has ended refuses all but wipe`, () => {
     const ends = {
       digest: (run) => run.digest(), hex: (run) => run.hex(), wipe: (run) => run.wipe(),
-      verify: (run) => run.verify(new Uint8Array(1)), dispose: (run) => run[Symbol.dispose]?.() ?? run.wipe(),
+      verify: (run) => run.verify(new Uint8Array(1)),
+      dispose: (run) => run[Symbol.dispose]?.() ?? run.wipe(),
     };
     const calls = {
       update: (run) => run.update(M), digest: (run) => run.digest(), hex: (run) => run.hex(),
@@ -52,7 +56,8 @@ for (const [Hasher, options] of HASHERS) {
       for (const [call, make] of Object.entries(calls)) {
         assert.throws(() => make(run), {
           name: "TypeError",
-          message: `${Hasher.name}.${call}: this hash has ended, by digest, hex, verify, wipe or a failed call`,
+          message: `${Hasher.name}.${call}: this hash has ended, ` +
+            "by digest, hex, verify, wipe or a failed call",
         });
       }
       run.wipe();
@@ -82,7 +87,10 @@ for (const [Hasher, options] of HASHERS) {
     }
     const longer = new Uint8Array(digest.length + 1);
     longer.set(digest);
-    for (const wrong of [digest.subarray(1), digest.subarray(0, -1), longer, new Uint8Array(0), new Uint8Array(10 ** 6)]) {
+    for (const wrong of [
+      digest.subarray(1), digest.subarray(0, -1), longer, new Uint8Array(0),
+      new Uint8Array(10 ** 6),
+    ]) {
       assert.equal(verify(wrong), false);
     }
     assertClean();
@@ -222,11 +230,14 @@ test("a run that failed on a full stack gives no digest, or that of before", () 
     try {
       assert.equal(each.copy().hex(), before);
     } catch (fault) {
-      assert.equal(fault.message, "Blake2b.copy: this hash has ended, by digest, hex, verify, wipe or a failed call");
+      assert.equal(
+        fault.message,
+        "Blake2b.copy: this hash has ended, by digest, hex, verify, wipe or a failed call");
       ended++;
     }
   }
-  assert.ok(done.length > 0 && ended > 0, `${ended} of ${failed.length} ended, ${done.length} done`);
+  assert.ok(
+    done.length > 0 && ended > 0, `${ended} of ${failed.length} ended, ${done.length} done`);
 });
 
 test("the state of a run under a key is wiped when its object goes", async () => {

@@ -6,7 +6,9 @@ import { createReadStream, openAsBlob, writeFileSync, mkdtempSync, rmSync } from
 import { tmpdir } from "node:os";
 import { join } from "node:path";
 import test from "node:test";
-import { blake2b, blake2bStream, blake2s, blake2sStream, treeRoot, treeRootStream, utf8 } from "../index.js";
+import {
+  blake2b, blake2bStream, blake2s, blake2sStream, treeRoot, treeRootStream, utf8,
+} from "../index.js";
 import { hexOf } from "./common.mjs";
 
 const MESSAGE = new Uint8Array(randomBytes(9_000_000));
@@ -32,11 +34,14 @@ test("a blob, a stream, an async iterable and a file give one digest", async () 
   writeFileSync(file, MESSAGE);
   try {
     const sources = [
-      new Blob([MESSAGE]), new Blob([MESSAGE]).stream(), new Response(MESSAGE).body, streamOf(piecesOf(70000)),
+      new Blob([MESSAGE]), new Blob([MESSAGE]).stream(), new Response(MESSAGE).body,
+      streamOf(piecesOf(70000)),
       (async function* () { yield* piecesOf(12345); })(), createReadStream(file),
     ];
     if (openAsBlob) sources.push(await openAsBlob(file));
-    for (const source of sources) assert.equal(hexOf(await blake2bStream(source, { key: KEY })), WANTED);
+    for (const source of sources) {
+      assert.equal(hexOf(await blake2bStream(source, { key: KEY })), WANTED);
+    }
   } finally {
     rmSync(folder, { recursive: true });
   }
@@ -48,7 +53,9 @@ test("the other hashes, and empty sources", async () => {
   const options = { leafLength: 65536, digestLength: 20, personalization: KEY };
   assert.deepEqual(await treeRootStream(blob, options), treeRoot(MESSAGE, options));
   assert.equal(hexOf(await blake2bStream(new Blob([]))), createHash("blake2b512").digest("hex"));
-  assert.equal(hexOf(await blake2bStream(streamOf([][Symbol.iterator]()))), createHash("blake2b512").digest("hex"));
+  assert.equal(
+    hexOf(await blake2bStream(streamOf([][Symbol.iterator]()))),
+    createHash("blake2b512").digest("hex"));
 });
 
 test("progress counts up to the end", async () => {
@@ -56,10 +63,12 @@ test("progress counts up to the end", async () => {
   await blake2bStream(new Blob([MESSAGE]), { onProgress: (...both) => counts.push(both) });
   assert.deepEqual(counts, [[4194304, 9000000], [8388608, 9000000], [9000000, 9000000]]);
   counts.length = 0;
-  await blake2bStream(new Blob([MESSAGE.subarray(0, 4194304)]), { onProgress: (...both) => counts.push(both) });
+  await blake2bStream(
+    new Blob([MESSAGE.subarray(0, 4194304)]), { onProgress: (...both) => counts.push(both) });
   assert.deepEqual(counts, [[4194304, 4194304]]);
   counts.length = 0;
-  await blake2bStream(streamOf(piecesOf(4_000_000)), { onProgress: (...both) => counts.push(both) });
+  await blake2bStream(
+    streamOf(piecesOf(4_000_000)), { onProgress: (...both) => counts.push(both) });
   assert.deepEqual(counts, [[4000000, undefined], [8000000, undefined], [9000000, undefined]]);
 });
 
@@ -86,12 +95,15 @@ test("what fails is told, and the source is let go", async () => {
 
 test("an abort ends it, before and on the way", async () => {
   const blob = new Blob([MESSAGE]);
-  await assert.rejects(blake2bStream(blob, { signal: AbortSignal.abort() }), { name: "AbortError" });
+  await assert.rejects(
+    blake2bStream(blob, { signal: AbortSignal.abort() }), { name: "AbortError" });
   const control = new AbortController();
   const fault = new Error("enough");
   let count = 0;
   await assert.rejects(
-    blake2bStream(blob, { signal: control.signal, onProgress() { if (++count === 2) control.abort(fault); } }), fault);
+    blake2bStream(
+      blob, { signal: control.signal, onProgress() { if (++count === 2) control.abort(fault); } }),
+      fault);
   assert.equal(count, 2);
   let isCancelled = false;
   const stream = streamOf(piecesOf(1000), { cancel() { isCancelled = true; } });
@@ -104,7 +116,8 @@ test("an abort ends it, before and on the way", async () => {
   setTimeout(() => late.abort(fault), 20);
   await assert.rejects(blake2bStream(stalled, { signal: late.signal }), fault);
   assert.equal(reason, fault);
-  await assert.rejects(blake2bStream((async function* () {})(), { signal: AbortSignal.abort(fault) }), fault);
+  await assert.rejects(
+    blake2bStream((async function* () {})(), { signal: AbortSignal.abort(fault) }), fault);
 });
 
 test("no listener is left at the signal", async () => {
@@ -116,10 +129,14 @@ test("no listener is left at the signal", async () => {
 
 test("an iterator that fails to end, or to go on, changes nothing", async () => {
   const fault = new Error("the chunk");
-  const iterable = (next) => ({ [Symbol.asyncIterator]: () => ({ next, return() { throw new Error("the end"); } }) });
+  const iterable = (next) =>
+    ({ [Symbol.asyncIterator]: () => ({ next, return() { throw new Error("the end"); } }) });
   await assert.rejects(blake2bStream(iterable(() => { throw fault; })), fault);
-  await assert.rejects(blake2bStream(iterable(() => ({ done: false, value: 5 }))), { name: "TypeError" });
-  assert.equal(hexOf(await blake2bStream(iterable(() => ({ done: true })))), createHash("blake2b512").digest("hex"));
+  await assert.rejects(
+    blake2bStream(iterable(() => ({ done: false, value: 5 }))), { name: "TypeError" });
+  assert.equal(
+    hexOf(await blake2bStream(iterable(() => ({ done: true })))),
+    createHash("blake2b512").digest("hex"));
   const control = new AbortController();
   const stalled = iterable(() => new Promise(() => setTimeout(() => control.abort(fault), 20)));
   await assert.rejects(blake2bStream(stalled, { signal: control.signal }), fault);

@@ -1,23 +1,31 @@
 // Compiles, and each line marked as an error is one.
 import {
-  Blake2b, Blake2s, TreeHash, blake2b, blake2bMany, blake2bStream, blake2s, equal, fromHex, hex, load,
+  Blake2b, Blake2s, TreeHash, blake2b, blake2bMany, blake2bStream, blake2s, equal, fromHex, hex,
+  load,
   treeLeaves, treeRoot, treeRootOfLeaves, treeRootStream, utf8, type Bytes, type NodeOptions,
 } from "vulfsjor";
 
-const digest: Uint8Array = blake2b(new Uint8Array(3), { digestLength: 32, key: new ArrayBuffer(3) });
-const options: NodeOptions = { salt: new DataView(new ArrayBuffer(3)), tree: { nodeOffset: 5n, lastNode: true } };
+const digest: Uint8Array = blake2b(
+  new Uint8Array(3), { digestLength: 32, key: new ArrayBuffer(3) });
+const options: NodeOptions = {
+  salt: new DataView(new ArrayBuffer(3)), tree: { nodeOffset: 5n, lastNode: true },
+};
 const text: string = new Blake2b(options).update(digest).copy().reset().hex();
 const copy: Blake2s = new Blake2s().copy();
 const isSame: boolean = equal(digest, fromHex(hex(digest))) && copy.verify(utf8(text));
-const roots: Uint8Array[] = [treeRoot(digest, { leafLength: 5 }), new TreeHash({ leafLength: 5 }).digest()];
+const roots: Uint8Array[] = [
+  treeRoot(digest, { leafLength: 5 }), new TreeHash({ leafLength: 5 }).digest(),
+];
 const many: Uint8Array[] = blake2bMany(new Set<Bytes>([digest]));
 async function all(file: Blob, signal: AbortSignal): Promise<Uint8Array[]> {
   await load();
   return [
-    await blake2bStream(file, { key: digest, signal, onProgress: (bytes, total) => console.log(bytes, total ?? 0) }),
+    await blake2bStream(
+      file, { key: digest, signal, onProgress: (bytes, total) => console.log(bytes, total ?? 0) }),
     await blake2bStream(file.stream()),
     await treeRootStream(file, { leafLength: 65536, threads: 4 }),
-    treeRootOfLeaves(treeLeaves(digest, { leafLength: 5, first: 0n, ends: true }), { leafLength: 5 }),
+    treeRootOfLeaves(
+      treeLeaves(digest, { leafLength: 5, first: 0n, ends: true }), { leafLength: 5 }),
   ];
 }
 console.log(isSame, roots, many, all, new Blake2b()[Symbol.dispose]);
