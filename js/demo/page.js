@@ -84,6 +84,7 @@ async function copy(text, button) {
     area.select();
     document.execCommand("copy");
     area.remove();
+    button.focus(); // which the area took away
   }
   button.textContent = "Copied";
   $("said").textContent = "Copied";
@@ -207,7 +208,7 @@ function compare() {
   if (text === "") {
     say("Paste a digest, or a line of b2sum, to compare.", "quiet");
   } else if (wanted === undefined) {
-    say(`Not a digest: 64 or 128 hexadecimal digits, not these ${text.length} characters.`, "bad");
+    say(`This is not a digest of 64 or 128 hexadecimal digits (${text.length} characters).`, "bad");
   } else if (equal.length > 0) {
     const which = equal.map(({ kind, file }) => `${kind} of ${file.name}`);
     say(`Equal to the ${which.join(" and to the ")}.`, "good");
