@@ -1,4 +1,4 @@
-//! Block cores: what takes whole blocks and leaves it to a buffer to cut the input.
+//! Block cores, which absorb whole blocks and leave it to a buffer to cut the input.
 
 ghost use Rattle.std.specs.Prelude.{◌≡◌, ℕ, ◌+◌, ◌*◌, ◌^◌, ◌<◌, ◌≤◌, ◌↔◌, List, [], ◌++◌, length};
 ghost use Rattle.std.specs.Prelude.{IfOk, IsErr};
@@ -9,19 +9,20 @@ use std::fmt;
 
 /// Types that work on blocks.
 pub trait BlockSizeUser {
-    /// The bytes of a block.
+    /// The number of bytes of a block.
     const BLOCK_SIZE: usize;
 }
 
 /// Types with an output.
 pub trait OutputSizeUser {
-    /// The bytes of the output; of a core with outputs of several sizes, those of the greatest.
+    /// The number of bytes of the output. For a core with outputs of several sizes, it is the
+    /// maximum.
     const OUTPUT_SIZE: usize;
 }
 
 /// Types whose input goes through a block buffer.
 pub trait BufferKindUser {
-    /// When the buffer hands a full block on.
+    /// When the buffer passes a full block to the core.
     type BufferKind;
 }
 
@@ -29,7 +30,7 @@ pub trait BufferKindUser {
 #[derive(Clone, Copy, Debug, PartialEq, Eq)]
 pub struct Lazy;
 
-/// Which end of the greatest output a shorter one is cut from.
+/// Which end of the longest output a shorter one is cut from.
 #[derive(Clone, Copy, Debug, PartialEq, Eq)]
 pub enum TruncSide {
     /// The first bytes are kept.
@@ -38,20 +39,21 @@ pub enum TruncSide {
     Right,
 }
 
-/// A core that takes whole blocks of `B` bytes.
+/// Cores that absorb whole blocks of `B` bytes.
 pub trait UpdateCore<const B: usize> {
-    // The core once it has taken these blocks, in their order.
+    // The core after it has absorbed these blocks, in their order.
     ghost absorb: { Self → List (List ℕ) → Self };
 
-    // The bytes that the core has counted since its last start.
+    // Returns the number of bytes that the core has counted since its last start.
     ghost count: { Self → ℕ };
 
-    /// Takes the blocks, none of which is the last of the input.
+    /// Absorbs the blocks, none of which is the last of the input. Fewer than 2^64 bytes may be
+    /// counted in all.
     fn update_blocks(&mut self, blocks: &[[u8; B]])
         requires { count self.old + B * length blocks.now < 2 ^ 64 }
         ensures { self.new ≡ absorb self.old blocks.now };
 
-    /// The bytes that the core has counted since its last start.
+    /// Returns the number of bytes that the core has counted since its last start.
     fn counted(&self) -> u64
         ensures { result ≡ count self.now };
 
@@ -75,19 +77,21 @@ pub trait VariableOutputCore<const B: usize, const M: usize>: UpdateCore<B> {
     // The core is as it is made for outputs of this size.
     ghost made: { ℕ → Self → Type 0 };
 
-    // The M bytes that come where these bytes are the last block.
+    // The M bytes of output if these bytes are the last block.
     ghost last_output: { Self → List ℕ → List ℕ };
 
     // The second core is what the first becomes by that.
     ghost after_last: { Self → List ℕ → Self → Type 0 };
 
-    /// A core for outputs of `output_size` bytes, refused exactly past `M`.
+    /// Returns a core for outputs of `output_size` bytes. The error is `InvalidOutputSize`,
+    /// exactly for a size above `M`.
     fn new(output_size: usize) -> Result<Self, InvalidOutputSize>
         ensures refused { IsErr result ↔ (M < output_size) }
         ensures made { IfOk result (λ core. made output_size core) };
 
-    /// Takes the pending bytes of the buffer as the last block, writes the whole output into `out`
-    /// and leaves the buffer empty.
+    /// Absorbs the pending bytes of the buffer as the last block, writes the whole output of `M`
+    /// bytes into `out`, and empties the buffer. Fewer than 2^64 bytes may be counted in all,
+    /// including the pending ones.
     fn finalize_variable_core(&mut self, buffer: &mut LazyBuffer<B>, out: &mut [u8; M])
         requires { Self.count self.old + length buffer.old < 2 ^ 64 }
         ensures output { out.new ≡ last_output self.old buffer.old }
@@ -103,8 +107,9 @@ pub trait VariableOutputCoreCustomized {
     // The core is as it is made with these.
     ghost customized: { List ℕ → ℕ → Self → Type 0 };
 
-    /// A core with this customization, for outputs of `output_size` bytes: for BLAKE2 the persona,
-    /// at most 16 bytes in BLAKE2b and 8 in BLAKE2s.
+    /// Returns a core with this customization, for outputs of `output_size` bytes, which must be
+    /// within the core's limit. For BLAKE2 the customization is the persona, of at most 16 bytes
+    /// in BLAKE2b and 8 in BLAKE2s.
     fn new_customized(customization: &[u8], output_size: usize) -> Self
         requires { can_customize customization.now output_size }
         ensures { customized customization.now output_size result };
@@ -112,6 +117,6 @@ pub trait VariableOutputCoreCustomized {
 
 /// Types that know the name of their algorithm.
 pub trait AlgorithmName {
-    /// Writes the name. Fails only where the writer does.
+    /// Writes the name. It fails only if the writer fails.
     fn write_alg_name<W: fmt::Write>(f: &mut fmt::Formatter<W>) -> fmt::Result;
 }

@@ -1,13 +1,14 @@
-//! Why a constructor or a check refuses.
+//! The errors of constructors and checks.
 
-/// The output size is past the core's greatest one, `OutputSizeUser::OUTPUT_SIZE`.
+/// The error of a constructor whose output size is above the core's maximum,
+/// `OutputSizeUser::OUTPUT_SIZE`.
 #[derive(Clone, Copy, Debug, PartialEq, Eq)]
 pub struct InvalidOutputSize;
 
-/// A key, salt or persona has a length that the constructor does not take.
+/// The error of a constructor whose key, salt or persona has a length that it does not accept.
 #[derive(Clone, Copy, Debug, PartialEq, Eq)]
 pub struct InvalidLength;
 
-/// A tag is not the output of the MAC.
+/// The error of a check whose tag is not the output of the MAC.
 #[derive(Clone, Copy, Debug, PartialEq, Eq)]
 pub struct MacError;

@@ -16,8 +16,9 @@ pub trait CustomizedInit: Update {
     // The digest of a message under a customization and a last-node flag.
     ghost customized: { List ℕ → Bool → List ℕ → List ℕ };
 
-    /// A state that has taken nothing, with this customization: for BLAKE2 the persona, at most 16
-    /// bytes in BLAKE2b and 8 in BLAKE2s.
+    /// Returns a state that has absorbed nothing, with this customization. For BLAKE2 it is the
+    /// persona, of at most 16 bytes in BLAKE2b and 8 in BLAKE2s. The output size must be within
+    /// the type's limit.
     fn new_customized(customization: &[u8]) -> Self
         requires { can_customize customization.now }
         ensures { Fresh Self.meaning (customized customization.now) 0 result };
@@ -31,13 +32,14 @@ pub trait Digest<const N: usize>: FixedOutputReset<N> {
     // The digest of a message under a last-node flag.
     ghost digest_of: { Bool → List ℕ → List ℕ };
 
-    /// A hasher that has taken nothing.
+    /// Returns a hasher that has absorbed nothing. The output size must be within the type's
+    /// limit.
     fn new() -> Self
         requires { is_supported }
         ensures { Fresh Self.meaning digest_of 0 result };
 
-    /// Takes the input after all that was taken before. Fewer than 2^64 bytes may be counted in
-    /// all: `counted` gives the count so far.
+    /// Absorbs the input after all that was absorbed before. Fewer than 2^64 bytes may be counted
+    /// in all; `counted` returns the count so far.
     fn update(&mut self, input: &[u8])
         requires { Self.meaning.count self.old + length input.now < 2 ^ 64 }
         ensures { Updated Self.meaning self.old input.now self.new }
@@ -45,7 +47,8 @@ pub trait Digest<const N: usize>: FixedOutputReset<N> {
         Update::update(self, input);
     }
 
-    /// This hasher, once it has taken the input too.
+    /// Returns this hasher after it has absorbed the input too. Fewer than 2^64 bytes may be
+    /// counted in all.
     fn chain_update(mut self, input: &[u8]) -> Self
         requires { Self.meaning.count self + length input.now < 2 ^ 64 }
         ensures { Updated Self.meaning self input.now result }
@@ -54,21 +57,21 @@ pub trait Digest<const N: usize>: FixedOutputReset<N> {
         self
     }
 
-    /// The digest of what was taken since the last start.
+    /// Returns the digest of what was absorbed since the last start.
     fn finalize(self) -> [u8; N]
         ensures { result ≡ digest_now Self.meaning self }
     {
         self.finalize_fixed()
     }
 
-    /// Writes the digest of what was taken since the last start.
+    /// Writes the digest of what was absorbed since the last start.
     fn finalize_into(self, out: &mut [u8; N])
         ensures { out.new ≡ digest_now Self.meaning self }
     {
         FixedOutput::finalize_into(self, out);
     }
 
-    /// The digest of what was taken since the last start; the hasher is then reset.
+    /// Returns the digest of what was absorbed since the last start, and resets the hasher.
     fn finalize_reset(&mut self) -> [u8; N]
         ensures output { result ≡ digest_now Self.meaning self.old }
         ensures reset { Self.is_reset self.old self.new }
@@ -84,7 +87,8 @@ pub trait Digest<const N: usize>: FixedOutputReset<N> {
         Reset::reset(self);
     }
 
-    /// The digest of the input.
+    /// Returns the digest of the input, of fewer than 2^64 bytes. The output size must be within
+    /// the type's limit. The last-node flag is off.
     fn digest(input: &[u8]) -> [u8; N]
         requires supported { is_supported }
         requires fits { length input.now < 2 ^ 64 }

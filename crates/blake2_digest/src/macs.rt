@@ -9,9 +9,9 @@ use crate::state::{FixedOutput, Update};
 use crate::wiping::settle;
 use std::marker::Model;
 
-/// Whether the texts are equal: the comparison for tags. All bytes of texts of one length are
-/// compared, wherever they differ, and no branch here depends on one. Only the answer is promised,
-/// and not the time that compiled code takes for it.
+/// Returns whether the bytes are equal: the comparison for tags. If the lengths are equal, all
+/// bytes are compared, wherever they differ, and no branch here depends on one. Only the result
+/// is promised, not the time that compiled code needs.
 pub fn is_same(a: &[u8], b: &[u8]) -> bool
     ensures { IsTrue result ↔ (a.now ≡ b.now) }
 {
@@ -30,7 +30,7 @@ pub trait MacMarker {}
 
 /// Types with keys.
 pub trait KeySizeUser {
-    /// The bytes of the longest key.
+    /// The maximum number of bytes of a key.
     const KEY_SIZE: usize;
 }
 
@@ -45,20 +45,22 @@ pub trait KeyInit<const K: usize>: Update {
     // The bytes that a key counts for.
     ghost key_count: { ℕ };
 
-    /// A state under a key of `K` bytes.
+    /// Returns a state under a key of `K` bytes that has absorbed no message. The output size
+    /// must be within the type's limit.
     fn new(key: &[u8; K]) -> Self
         requires { is_supported }
         ensures { Fresh Self.meaning (keyed key.now) key_count result };
 
-    /// A state under this key. `InvalidLength` exactly for a key of no bytes and for one of more
-    /// than `K`.
+    /// Returns a state under this key that has absorbed no message. The output size must be
+    /// within the type's limit. The error is `InvalidLength`, exactly for a key of no bytes and
+    /// for one of more than `K`.
     fn new_from_slice(key: &[u8]) -> Result<Self, InvalidLength>
         requires { is_supported }
         ensures refused { IsErr result ↔ ((length key.now ≡ 0) ⊎ (K < length key.now)) }
         ensures made { IfOk result (λ state. Fresh Self.meaning (keyed key.now) key_count state) };
 }
 
-/// The output of a MAC: `N` bytes that are not to be compared but by `Mac::verify_slice`.
+/// The output of a MAC: `N` bytes that are to be compared only by `Mac::verify_slice`.
 #[derive(Drop)]
 pub struct CtOutput<const N: usize> {
     bytes: [u8; N],
@@ -73,7 +75,7 @@ impl<const N: usize> Model for CtOutput<N> {
 }
 
 impl<const N: usize> CtOutput<N> {
-    /// The bytes of the output.
+    /// Returns the bytes of the output.
     pub fn into_bytes(self) -> [u8; N]
         ensures { result ≡ self.entry }
     {
@@ -84,8 +86,8 @@ impl<const N: usize> CtOutput<N> {
 
 /// Message authentication codes with an output of `N` bytes.
 pub trait Mac<const N: usize>: FixedOutput<N> {
-    /// Takes the input after all that was taken before. Fewer than 2^64 bytes may be counted in
-    /// all: `counted` gives the count so far.
+    /// Absorbs the input after all that was absorbed before. Fewer than 2^64 bytes may be counted
+    /// in all; `counted` returns the count so far.
     fn update(&mut self, input: &[u8])
         requires { Self.meaning.count self.old + length input.now < 2 ^ 64 }
         ensures { Updated Self.meaning self.old input.now self.new }
@@ -93,7 +95,8 @@ pub trait Mac<const N: usize>: FixedOutput<N> {
         Update::update(self, input);
     }
 
-    /// This MAC, once it has taken the input too.
+    /// Returns this MAC after it has absorbed the input too. Fewer than 2^64 bytes may be counted
+    /// in all.
     fn chain_update(mut self, input: &[u8]) -> Self
         requires { Self.meaning.count self + length input.now < 2 ^ 64 }
         ensures { Updated Self.meaning self input.now result }
@@ -102,7 +105,7 @@ pub trait Mac<const N: usize>: FixedOutput<N> {
         self
     }
 
-    /// The output for what was taken since the last start.
+    /// Returns the output for what was absorbed since the last start.
     fn finalize(self) -> CtOutput<N>
         ensures { result ≡ digest_now Self.meaning self }
     {
@@ -111,8 +114,9 @@ pub trait Mac<const N: usize>: FixedOutput<N> {
         }
     }
 
-    /// Ok exactly where the tag is the whole output. All bytes of a tag of `N` bytes are compared,
-    /// wherever it differs, and the output is then overwritten.
+    /// Returns `Ok` exactly if the tag is the whole output for what was absorbed since the last
+    /// start, and `MacError` otherwise. All bytes of a tag of `N` bytes are compared, wherever it
+    /// differs, and the output is then overwritten.
     fn verify_slice(self, tag: &[u8]) -> Result<(), MacError>
         ensures { IsOk result ↔ (tag.now ≡ digest_now Self.meaning self) }
     {

@@ -1,19 +1,19 @@
 //! Zeros that a compiler keeps.
 //!
-//! A contract speaks of values, and a compiler may leave out what is written to a value that
-//! nothing reads afterwards. So that memory is zero is no promise here: docs/WIPING.md of the
+//! A contract describes values, and a compiler may remove what is written to a value that nothing
+//! reads afterwards. So no contract here promises that memory is zero: docs/WIPING.md of the
 //! repository says what was seen in the machine code, and how to look again.
 
 ghost use Rattle.std.specs.Prelude.{◌<◌, ◌^◌};
 
 use std::hint;
 
-// Of the stack, below the frame of the caller.
+// How many bytes of the stack are overwritten, below the frame of the caller.
 const SCRUBBED_BYTES: usize = 4096;
 
-/// Reads the bytes in a call of its own, and pauses the processor once where one is not zero. It
-/// changes nothing. What was written to the bytes before it has to be in memory then, even where
-/// nothing else reads them: so it follows where a secret is overwritten.
+/// Reads the bytes in a separate call, and pauses the processor once if one is not zero. It
+/// changes nothing. What was written to the bytes before the call has to be in memory then, even
+/// if nothing else reads them, so it follows the overwriting of a secret.
 #[inline(never)]
 pub fn settle<const N: usize>(bytes: &[u8; N]) {
     let mut bits = 0;
@@ -25,7 +25,7 @@ pub fn settle<const N: usize>(bytes: &[u8; N]) {
     }
 }
 
-// The answer of the call, from a frame of its own.
+// Returns the result of the call, which has a separate frame.
 #[inline(never)]
 fn framed<R, F: FnOnce() -> R>(call: F) -> R
     requires { F.pre call }
@@ -34,8 +34,8 @@ fn framed<R, F: FnOnce() -> R>(call: F) -> R
     call()
 }
 
-/// Writes `N` bytes of zeros over the stack below the caller's frame, where calls that have returned
-/// left copies of secrets.
+/// Writes `N` bytes of zeros, fewer than 2^63, over the stack below the caller's frame, on which
+/// calls that have returned left copies of secrets.
 #[inline(never)]
 pub fn scrub_stack<const N: usize>()
     requires { N < 2 ^ 63 }
@@ -44,12 +44,13 @@ pub fn scrub_stack<const N: usize>()
     settle(&zeros);
 }
 
-/// The answer of the call, whose frames on the stack are then overwritten with 4,096 bytes of
-/// zeros: copies of a key that calls left there, as those of a MAC that is moved, are gone.
+/// Returns the result of the call, whose frames on the stack are then overwritten with 4,096
+/// bytes of zeros. Copies of a key that calls left there, such as those of a MAC that is moved,
+/// are gone.
 ///
-/// What the call reached further down the stack stays, as do the registers, the answer itself, and
-/// all that the call refers to: a state that lies in a frame above is for its `wipe`. A MAC of this
-/// library needs less than 4,096 bytes, as built by LLVM.
+/// What the call reached further down the stack stays, as do the registers, the result itself,
+/// and all that the call refers to: a state in a frame above needs its own `wipe`. A MAC of this
+/// library needs less than 4,096 bytes of stack, as built by LLVM.
 pub fn scrubbed<R, F: FnOnce() -> R>(call: F) -> R
     requires { F.pre call }
     ensures { F.post call result }
