@@ -1,12 +1,12 @@
-//! Four lanes in a vector: [`u64x4`] for BLAKE2b and [`u32x4`] for BLAKE2s, after the items of
-//! these names in the crate `blake2`.
+//! Four lanes in a vector: [`u64x4`] for BLAKE2b and [`u32x4`] for BLAKE2s, named after the items
+//! of the crate `blake2`.
 //!
-//! Four rows hold the sixteen words of a compression, row r being words 4r to 4r + 3 (RFC 7693,
-//! section 3.2). `round` mixes the columns at once, moves the diagonals to the columns, mixes
+//! Four rows hold the sixteen words of a compression: row r has words 4r to 4r + 3 (RFC 7693,
+//! section 3.2). `round` mixes the columns in parallel, moves the diagonals to the columns, mixes
 //! these, and moves them back.
 //!
-//! Sixteen rows hold several states, one a lane: four of BLAKE2b in [`u64x4`], eight of BLAKE2s in
-//! [`u32x8`]. `round_each` mixes all of them at once, and no lane moves.
+//! Sixteen rows hold several states, one in each lane: four of BLAKE2b in [`u64x4`], eight of
+//! BLAKE2s in [`u32x8`]. `round_each` mixes all of them in parallel, and no lane moves.
 
 mod u32_lanes;
 mod u32_states;

@@ -1,5 +1,5 @@
-//! Eight states of BLAKE2s at once, one a lane: sixteen rows hold them, row k having word k of
-//! each.
+//! Eight states of BLAKE2s in parallel, one in each lane: sixteen rows hold them, row k having
+//! word k of each.
 
 ghost use Rattle.std.specs.Prelude.{◌≡◌, ℕ, ◌<◌, slice_index};
 ghost use Rattle.blake2_rows.specs.Family.{blake2s};
@@ -10,8 +10,8 @@ ghost use Rattle.blake2_rows.specs.Lanes.{in_lane};
 use super::u32_wide::u32x8;
 
 impl u32x8 {
-    // G at the places `a`, `b`, `c` and `d` of each state, with lane j of `x` and of `y` in lane j
-    // (RFC 7693, section 3.1).
+    // G at the indices `a`, `b`, `c` and `d` of each state, with lane j of `x` and of `y` in lane
+    // j (RFC 7693, section 3.1).
     #[inline(always)]
     fn mix_each(v: &mut [Self; 16], a: usize, b: usize, c: usize, d: usize, x: Self, y: Self)
         requires { (a < b) × (b < c) × (c < d) × (d < 16) }
@@ -25,9 +25,9 @@ impl u32x8 {
         v[d] = vd;
     }
 
-    /// One round on each of eight states: row k of `v` has their words k, and row k of `m` the
-    /// words k of their blocks, taken in the order `s`, sixteen numbers below 16 (RFC 7693,
-    /// section 3.2).
+    /// Replaces each of eight states by the one after a round: row k of `v` has their words k,
+    /// and row k of `m` the words k of their blocks, used in the order `s` (RFC 7693, section
+    /// 3.2). Each number of `s` must be below 16.
     #[inline(always)]
     pub fn round_each(v: &mut [Self; 16], m: &[Self; 16], s: &[usize; 16])
         requires { (j : ℕ) → j < 16 → slice_index s.now j < 16 }

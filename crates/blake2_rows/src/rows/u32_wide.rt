@@ -15,8 +15,8 @@ use std::ops::{Add, BitXor};
 use std::simd::Simd;
 use std::simd::prelude::*;
 
-/// Eight words of 32 bits, one a lane, in a vector. A contract sees the list of the eight words,
-/// lane 0 first.
+/// Eight words of 32 bits in a vector, one in each lane. A contract sees the list of the eight
+/// words, lane 0 first.
 #[allow(non_camel_case_types)]
 #[derive(Clone, Copy)]
 pub struct u32x8 {
@@ -32,7 +32,7 @@ impl Model for u32x8 {
 }
 
 impl u32x8 {
-    /// The row of these eight words.
+    /// Returns the row of these eight words, the first in lane 0.
     #[inline(always)]
     pub fn from_array(words: [u32; 8]) -> Self
         ensures { result ≡ words }
@@ -42,7 +42,7 @@ impl u32x8 {
         }
     }
 
-    /// The eight words, lane 0 first.
+    /// Returns the eight words, lane 0 first.
     #[inline(always)]
     pub fn to_array(self) -> [u32; 8]
         ensures { result ≡ self }
@@ -50,7 +50,7 @@ impl u32x8 {
         self.lanes.to_array()
     }
 
-    /// Each lane rotated to the right by `n` modulo 32 bits, for every `n`.
+    /// Returns the row with each lane rotated to the right by `n` modulo 32 bits, for every `n`.
     #[inline(always)]
     pub fn rotate_right_const(self, n: u32) -> Self
         ensures { result ≡ eight_lanes (λ j. rotate_right (word blake2s) (slice_index self j) n) }
@@ -77,7 +77,7 @@ impl u32x8 {
         }
     }
 
-    /// Rows as columns: lane j of row k is lane k of the given row j.
+    /// Returns the rows as columns: lane j of row k is lane k of the given row j.
     #[inline(always)]
     pub fn transpose(rows: [Self; 8]) -> [Self; 8]
         ensures { (j k : ℕ) → j < 8 → k < 8 → lane result k j ≡ lane rows j k }
@@ -183,7 +183,7 @@ impl u32x8 {
     }
 }
 
-/// The sum, lane by lane, modulo 2^32.
+/// The sum of each lane, modulo 2^32.
 impl Add for u32x8 {
     type Output = u32x8;
 
@@ -198,7 +198,7 @@ impl Add for u32x8 {
     }
 }
 
-/// The exclusive or, lane by lane.
+/// The exclusive or of each lane.
 impl BitXor for u32x8 {
     type Output = u32x8;
 

@@ -26,8 +26,8 @@ const R3: u32 = 16;
 
 pub(super) const R4: u32 = 63;
 
-/// Four words of 64 bits, one a lane, in a vector. A contract sees the list of the four words,
-/// lane 0 first.
+/// Four words of 64 bits in a vector, one in each lane. A contract sees the list of the four
+/// words, lane 0 first.
 #[allow(non_camel_case_types)]
 #[derive(Clone, Copy)]
 pub struct u64x4 {
@@ -43,7 +43,7 @@ impl Model for u64x4 {
 }
 
 impl u64x4 {
-    /// The row of these four words.
+    /// Returns the row of these four words, the first in lane 0.
     #[inline(always)]
     pub fn new(e0: u64, e1: u64, e2: u64, e3: u64) -> Self
         ensures { result ≡ e0 ∷ e1 ∷ e2 ∷ e3 ∷ [] }
@@ -53,7 +53,8 @@ impl u64x4 {
         }
     }
 
-    /// The row of the words of `src` at four places, each below the length of `src`.
+    /// Returns the row of the words of `src` at four indices, each of which must be below the
+    /// length of `src`.
     #[inline(always)]
     pub fn gather(src: &[u64], i0: usize, i1: usize, i2: usize, i3: usize) -> Self
         requires i0_in { i0 < length src.now }
@@ -67,7 +68,7 @@ impl u64x4 {
         Self::new(src[i0], src[i1], src[i2], src[i3])
     }
 
-    /// The sum, lane by lane, modulo 2^64.
+    /// Returns the sum of each lane, modulo 2^64.
     #[inline(always)]
     pub fn wrapping_add(self, rhs: Self) -> Self
         ensures { result ≡ lane_sums blake2b self rhs }
@@ -77,7 +78,7 @@ impl u64x4 {
         }
     }
 
-    /// Each lane rotated to the right by `n` modulo 64 bits, for every `n`.
+    /// Returns the row with each lane rotated to the right by `n` modulo 64 bits, for every `n`.
     #[inline(always)]
     pub fn rotate_right_const(self, n: u32) -> Self
         ensures { result ≡ lane_rotations blake2b self n }
@@ -89,7 +90,7 @@ impl u64x4 {
         }
     }
 
-    /// The lanes moved one place to the left: lanes 1, 2, 3, 0.
+    /// Returns the row with the lanes moved left by one: lanes 1, 2, 3, 0.
     #[inline(always)]
     pub fn shuffle_left_1(self) -> Self
         ensures lanes { result ≡ shuffle_left 1 self }
@@ -100,7 +101,7 @@ impl u64x4 {
         }
     }
 
-    /// The lanes moved two places to the left: lanes 2, 3, 0, 1.
+    /// Returns the row with the lanes moved left by two: lanes 2, 3, 0, 1.
     #[inline(always)]
     pub fn shuffle_left_2(self) -> Self
         ensures lanes { result ≡ shuffle_left 2 self }
@@ -111,7 +112,7 @@ impl u64x4 {
         }
     }
 
-    /// The lanes moved three places to the left: lanes 3, 0, 1, 2.
+    /// Returns the row with the lanes moved left by three: lanes 3, 0, 1, 2.
     #[inline(always)]
     pub fn shuffle_left_3(self) -> Self
         ensures lanes { result ≡ shuffle_left 3 self }
@@ -122,7 +123,7 @@ impl u64x4 {
         }
     }
 
-    /// The lanes moved one place to the right: lanes 3, 0, 1, 2.
+    /// Returns the row with the lanes moved right by one: lanes 3, 0, 1, 2.
     #[inline(always)]
     pub fn shuffle_right_1(self) -> Self
         ensures { result ≡ shuffle_right 1 self }
@@ -132,7 +133,7 @@ impl u64x4 {
         }
     }
 
-    /// The lanes moved two places to the right: lanes 2, 3, 0, 1.
+    /// Returns the row with the lanes moved right by two: lanes 2, 3, 0, 1.
     #[inline(always)]
     pub fn shuffle_right_2(self) -> Self
         ensures { result ≡ shuffle_right 2 self }
@@ -142,7 +143,7 @@ impl u64x4 {
         }
     }
 
-    /// The lanes moved three places to the right: lanes 1, 2, 3, 0.
+    /// Returns the row with the lanes moved right by three: lanes 1, 2, 3, 0.
     #[inline(always)]
     pub fn shuffle_right_3(self) -> Self
         ensures { result ≡ shuffle_right 3 self }
@@ -152,8 +153,8 @@ impl u64x4 {
         }
     }
 
-    /// The row of four words read from 32 bytes, each in little-endian order (RFC 7693,
-    /// section 2.4).
+    /// Returns the row of four words read from 32 bytes, each in little-endian order (RFC 7693,
+    /// section 2.4). There must be exactly 32 bytes.
     #[inline(always)]
     pub fn from_le_bytes(bytes: &[u8]) -> Self
         requires { length bytes.now ≡ 32 }
@@ -164,7 +165,7 @@ impl u64x4 {
         }
     }
 
-    /// The 32 bytes of the lanes, lane 0 first, each in little-endian order (RFC 7693,
+    /// Returns the 32 bytes of the lanes, lane 0 first, each in little-endian order (RFC 7693,
     /// section 2.4).
     #[inline(always)]
     pub fn to_bytes(self) -> [u8; 32]
@@ -174,7 +175,7 @@ impl u64x4 {
         Simd::<u64, 4>::from_array(words).to_le_bytes().to_array()
     }
 
-    /// Whether the four words are zero.
+    /// Returns whether the four words are zero.
     #[inline(always)]
     pub fn is_zero(self) -> bool
         ensures { IsTrue result ↔ (self ≡ 0 ∷ 0 ∷ 0 ∷ 0 ∷ []) }
@@ -182,7 +183,7 @@ impl u64x4 {
         self.to_array() == [0; 4]
     }
 
-    /// The four words, lane 0 first.
+    /// Returns the four words, lane 0 first.
     #[inline(always)]
     pub fn to_array(self) -> [u64; 4]
         ensures { result ≡ four (λ j. slice_index self j) }
@@ -190,7 +191,8 @@ impl u64x4 {
         self.lanes.to_array()
     }
 
-    // Each lane rotated to the right by R3 bits, which are two whole bytes: a choice of its bytes.
+    // Each lane rotated to the right by R3 bits, which are two whole bytes: a choice of its
+    // bytes.
     #[inline(always)]
     pub(super) fn rotate_bytes(self) -> Self
         ensures { result ≡ lane_rotations blake2b self 16 }
@@ -205,8 +207,8 @@ impl u64x4 {
         }
     }
 
-    // Each lane rotated to the right by R3 bits, and the lanes moved two places to the left. The
-    // rotation comes first: LLVM then joins both in one choice of bytes if the processor has one, and
+    // Each lane rotated to the right by R3 bits, and the lanes moved left by two. The rotation
+    // comes first: LLVM then joins both in one choice of bytes if the processor has one, and
     // makes a plain rotation if it has none. The other order is 6 percent slower with AVX2.
     #[inline(always)]
     fn rotate_and_shuffle(self) -> Self
@@ -215,7 +217,7 @@ impl u64x4 {
         self.rotate_right_const(R3).shuffle_left_2()
     }
 
-    /// Rows as columns: lane j of row k is lane k of the given row j.
+    /// Returns the rows as columns: lane j of row k is lane k of the given row j.
     #[inline(always)]
     pub fn transpose(rows: [Self; 4]) -> [Self; 4]
         ensures { (j k : ℕ) → j < 4 → k < 4 → lane result k j ≡ lane rows j k }
@@ -224,7 +226,8 @@ impl u64x4 {
         Self::columns_of(a, b, c, d)
     }
 
-    // The columns of four rows. Words are exchanged within halves of the vectors, and halves then.
+    // The columns of four rows. Words are exchanged within halves of the vectors first, and then
+    // halves.
     #[inline(always)]
     fn columns_of(a: Self, b: Self, c: Self, d: Self) -> [Self; 4]
         ensures { result ≡ columns_of_four a b c d }
@@ -261,8 +264,8 @@ impl u64x4 {
         }
     }
 
-    // G in each lane, but for the last rotation of row d, by R3 bits: lane j of the six rows has
-    // the words of the j-th mixing.
+    // G in each lane, except for the last rotation of row d, by R3 bits: lane j of the six rows
+    // has the words of the j-th mixing.
     #[inline(always)]
     fn mix(a: Self, b: Self, c: Self, d: Self, x: Self, y: Self) -> (Self, Self, Self, Self)
         ensures { (j : ℕ) → j < 4 → in_lane j (rows_rotated blake2b result)
@@ -275,14 +278,14 @@ impl u64x4 {
         let b1 = (b ^ c1).rotate_right_const(R2);
         let a2 = Self::sum_of(a1, b1, y);
         let d2 = d1 ^ a2;
-        // By shifts: built for x86-64-v2, a choice of bytes takes two instructions here.
+        // By shifts: built for x86-64-v2, a choice of bytes needs two instructions here.
         let c2 = c1 + d2.rotate_right_const(R3);
         let b2 = (b1 ^ c2).rotate_right_const(R4);
         (a2, b2, c2, d2)
     }
 
-    // Half a round, the mixings of the four columns of `v` at once, column j with lane j of `x`
-    // and of `y`, but for the last rotation of row 3 (RFC 7693, section 3.2).
+    // Half a round, the mixings of the four columns of `v` in parallel, column j with lane j of
+    // `x` and of `y`, except for the last rotation of row 3 (RFC 7693, section 3.2).
     #[inline(always)]
     fn mix_rows(v: [Self; 4], x: Self, y: Self) -> (Self, Self, Self, Self)
         ensures { last_row_rotated blake2b result ≡ columns blake2b (sixteen v) x y }
@@ -320,8 +323,9 @@ impl u64x4 {
         ]
     }
 
-    /// One round on the sixteen words of the rows `v`, with the block's sixteen words `m` in the
-    /// order `s`, sixteen numbers below 16 (RFC 7693, section 3.2).
+    /// Replaces the sixteen words of the rows `v` by those after one round, with the block's
+    /// sixteen words `m` in the order `s` (RFC 7693, section 3.2). Each number of `s` must be
+    /// below 16.
     #[inline(always)]
     pub fn round(v: &mut [Self; 4], m: &[u64; 16], s: &[usize; 16])
         requires { (j : ℕ) → j < 16 → slice_index s.now j < 16 }
@@ -340,7 +344,7 @@ impl u64x4 {
         *v = Self::columns_to_diagonals(diagonals);
     }
 
-    /// The sixteen words of the rows `v`, those of row 0 first.
+    /// Returns the sixteen words of the rows `v`, those of row 0 first.
     #[inline(always)]
     pub fn words(v: &[Self; 4]) -> [u64; 16]
         ensures { result ≡ sixteen v.now }
@@ -368,8 +372,8 @@ impl u64x4 {
         ]
     }
 
-    /// One round undone: `v` is left with the only rows that `round` takes, with the same `m` and
-    /// `s`, to those that were given. The arguments are those of `round`.
+    /// Undoes one round: replaces `v` by the only rows that `round`, with the same `m` and `s`,
+    /// turns into those that were given. Each number of `s` must be below 16.
     pub fn unround(v: &mut [Self; 4], m: &[u64; 16], s: &[usize; 16])
         requires { (j : ℕ) → j < 16 → slice_index s.now j < 16 }
         ensures undoes { round blake2b (sixteen v.new) m.now s.now ≡ sixteen v.old }
@@ -389,8 +393,8 @@ impl u64x4 {
     }
 }
 
-// G undone: what is left of `w` at the places `a`, `b`, `c` and `d` is what G, with `x` and `y`,
-// takes to what was there.
+// Undoes G: what is in `w` at the indices `a`, `b`, `c` and `d` afterwards is what G, with `x`
+// and `y`, turns into what was there.
 fn unmix(w: &mut [u64; 16], a: usize, b: usize, c: usize, d: usize, x: u64, y: u64)
     requires { (a < b) × (b < c) × (c < d) × (d < 16) }
     ensures { mix blake2b w.new a b c d x y ≡ w.old }
@@ -405,7 +409,7 @@ fn unmix(w: &mut [u64; 16], a: usize, b: usize, c: usize, d: usize, x: u64, y: u
     w[a] = w[a].wrapping_sub(w[b]).wrapping_sub(x);
 }
 
-/// The sum, lane by lane, modulo 2^64.
+/// The sum of each lane, modulo 2^64.
 impl Add for u64x4 {
     type Output = u64x4;
 
@@ -417,7 +421,7 @@ impl Add for u64x4 {
     }
 }
 
-/// The exclusive or, lane by lane.
+/// The exclusive or of each lane.
 impl BitXor for u64x4 {
     type Output = u64x4;
 
@@ -431,7 +435,7 @@ impl BitXor for u64x4 {
     }
 }
 
-/// Sets the four lanes to zero.
+/// Overwrites the four lanes with zeros.
 impl Wipe for u64x4 {
     ghost is_wiped = { λ row. row ≡ 0 ∷ 0 ∷ 0 ∷ 0 ∷ [] };
 

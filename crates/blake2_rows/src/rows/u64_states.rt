@@ -1,5 +1,5 @@
-//! Four states of BLAKE2b at once, one a lane: sixteen rows hold them, row k having word k of
-//! each.
+//! Four states of BLAKE2b in parallel, one in each lane: sixteen rows hold them, row k having
+//! word k of each.
 
 ghost use Rattle.std.specs.Prelude.{◌≡◌, ℕ, ◌<◌, [], ◌∷◌, slice_index};
 ghost use Rattle.blake2_rows.specs.Family.{blake2b};
@@ -10,8 +10,8 @@ ghost use Rattle.blake2_rows.specs.Lanes.{in_lane};
 use super::u64_lanes::{R1, R2, R4, u64x4};
 
 impl u64x4 {
-    // G in each lane: lane j of the six rows has the words of the j-th mixing. Unlike `mix`, which
-    // serves the rows of one state, it keeps row d as it is turned by a choice of bytes.
+    // G in each lane: lane j of the six rows has the words of the j-th mixing. Unlike `mix`,
+    // which serves the rows of one state, it keeps row d after its rotation by a choice of bytes.
     #[inline(always)]
     fn mix_lanes(a: Self, b: Self, c: Self, d: Self, x: Self, y: Self) -> (Self, Self, Self, Self)
         ensures { (j : ℕ) → j < 4 → in_lane j (result.0 ∷ result.1 ∷ result.2 ∷ result.3 ∷ [])
@@ -29,8 +29,8 @@ impl u64x4 {
         (a2, b2, c2, d2)
     }
 
-    // G at the places `a`, `b`, `c` and `d` of each state, with lane j of `x` and of `y` in lane j
-    // (RFC 7693, section 3.1).
+    // G at the indices `a`, `b`, `c` and `d` of each state, with lane j of `x` and of `y` in lane
+    // j (RFC 7693, section 3.1).
     #[inline(always)]
     fn mix_each(v: &mut [Self; 16], a: usize, b: usize, c: usize, d: usize, x: Self, y: Self)
         requires { (a < b) × (b < c) × (c < d) × (d < 16) }
@@ -44,9 +44,9 @@ impl u64x4 {
         v[d] = vd;
     }
 
-    /// One round on each of four states: row k of `v` has their words k, and row k of `m` the
-    /// words k of their blocks, taken in the order `s`, sixteen numbers below 16 (RFC 7693,
-    /// section 3.2).
+    /// Replaces each of four states by the one after a round: row k of `v` has their words k, and
+    /// row k of `m` the words k of their blocks, used in the order `s` (RFC 7693, section 3.2).
+    /// Each number of `s` must be below 16.
     #[inline(always)]
     pub fn round_each(v: &mut [Self; 16], m: &[Self; 16], s: &[usize; 16])
         requires { (j : ℕ) → j < 16 → slice_index s.now j < 16 }
