@@ -17,7 +17,7 @@ pub const BLAKE2S_IV: [u32; 8] = [
     0x6a09e667, 0xbb67ae85, 0x3c6ef372, 0xa54ff53a, 0x510e527f, 0x9b05688c, 0x1f83d9ab, 0x5be0cd19,
 ];
 
-/// SIGMA, the order in which a round takes the sixteen words of a block (RFC 7693, 2.7): round i,
+/// SIGMA, the order in which a round uses the sixteen words of a block (RFC 7693, 2.7): round i,
 /// from 0, has row `i % 10`.
 pub const SIGMA: [[usize; 16]; 10] = [
     [0, 1, 2, 3, 4, 5, 6, 7, 8, 9, 10, 11, 12, 13, 14, 15],

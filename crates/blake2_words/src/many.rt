@@ -1,5 +1,5 @@
-//! Several messages of one length at once, one in each lane of the vectors. The steps of a single
-//! compression wait for each other; those of several messages don't.
+//! Several messages of one length in parallel, one in each lane of the vectors. The steps of a
+//! single compression wait for each other; those of several messages don't.
 
 pub mod blake2b;
 pub mod blake2s;
@@ -13,8 +13,8 @@ ghost use Rattle.blake2_words.specs.Views.{input_of};
 
 use crate::steps::Input;
 
-// So many blocks of an input's data from the second on, where they stand in the message. The last
-// of the data is not among them.
+// The first `count` blocks of an input's data from the second on, as slices of the message. The
+// last block of the data is not among them.
 #[inline(always)]
 fn later_blocks<'a, const B: usize>(input: &Input<'a>, count: usize) -> &'a [[u8; B]]
     ghost f: { Family }

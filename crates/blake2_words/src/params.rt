@@ -13,27 +13,27 @@ ghost use Rattle.blake2_words.specs.Views.{given_parameters, tree_of};
 
 use blake2_rows::padded;
 
-/// The place of a hash in a tree of hashes (the BLAKE2 document, 2.10), as its parameter block
-/// names it (2.8). A core's `admits_tree` tells which of them its family takes.
+/// The position of a hash in a tree of hashes (the BLAKE2 document, 2.10), as its parameter block
+/// names it (2.8). A core's `admits_tree` returns whether its family accepts it.
 #[derive(Clone, Copy, Debug, PartialEq, Eq)]
 pub struct Tree {
-    /// How many children a node has at most; 0 is without a limit.
+    /// The maximum number of children of a node; 0 is without a limit.
     pub fanout: u8,
-    /// How many levels the tree has, 1 at least.
+    /// The number of levels of the tree, at least 1.
     pub depth: u8,
-    /// How many bytes of the message a leaf takes at most; 0 is without a limit.
+    /// The maximum number of bytes of the message in a leaf; 0 is without a limit.
     pub leaf_length: u32,
-    /// The place of this node in its level, from 0; less than 2^48 in BLAKE2s.
+    /// The position of this node in its level, from 0; less than 2^48 in BLAKE2s.
     pub node_offset: u64,
     /// The level of this node, from 0, that of the leaves.
     pub node_depth: u8,
-    /// The bytes of an inner node's digest, at most 64 in BLAKE2b and 32 in BLAKE2s.
+    /// The number of bytes of an inner node's digest, at most 64 in BLAKE2b and 32 in BLAKE2s.
     pub inner_length: u8,
 }
 
 impl Tree {
-    /// The tree parameters of a hash that is the whole tree: fanout and depth are 1, all else is 0
-    /// (RFC 7693, 2.5; the BLAKE2 document, 2.10).
+    /// Returns the tree parameters of a hash that is the whole tree: fanout and depth are 1, all
+    /// else is 0 (RFC 7693, 2.5; the BLAKE2 document, 2.10).
     #[inline]
     pub fn sequential() -> Self
         ensures { tree_of result ≡ Hash.sequential }
@@ -52,15 +52,16 @@ impl Tree {
 /// What a parameter block names (RFC 7693, 2.5; the BLAKE2 document, 2.8).
 #[derive(Clone, Copy)]
 pub struct Parameters<'a> {
-    /// The bytes of the digest, at most 64 in BLAKE2b and 32 in BLAKE2s.
+    /// The number of bytes of the digest, at most 64 in BLAKE2b and 32 in BLAKE2s.
     pub output_size: usize,
-    /// The bytes of the key, 0 without one, and at most 64 in BLAKE2b and 32 in BLAKE2s.
+    /// The number of bytes of the key, 0 without one, and at most 64 in BLAKE2b and 32 in
+    /// BLAKE2s.
     pub key_size: usize,
-    /// At most 16 bytes in BLAKE2b and 8 in BLAKE2s; zeros behind it change nothing.
+    /// The salt, at most 16 bytes in BLAKE2b and 8 in BLAKE2s. Trailing zeros change nothing.
     pub salt: &'a [u8],
-    /// At most 16 bytes in BLAKE2b and 8 in BLAKE2s; zeros behind it change nothing.
+    /// The persona, at most 16 bytes in BLAKE2b and 8 in BLAKE2s. Trailing zeros change nothing.
     pub persona: &'a [u8],
-    /// The place in a tree.
+    /// The tree parameters.
     pub tree: Tree,
 }
 
@@ -99,7 +100,7 @@ fn parameter_block<const N: usize, const O: usize, const R: usize, const S: usiz
     block
 }
 
-// The place in a tree that a parameter block names, where the node offset has O bytes.
+// The tree parameters that a parameter block names, if the node offset has O bytes.
 fn tree_in<const O: usize>(block: &[u8]) -> Tree
     ghost f: { Family }
     requires offset { offset_bytes f ≡ O }

@@ -10,34 +10,36 @@ mod reader;
 
 pub use crate::params::Tree;
 
-/// What a hash is of, but for its size. The module of each family has a function `accepts`, which
-/// tells whether the parts are as long as that family takes them, and the place in a tree is one
-/// that it has.
+/// All that a digest depends on except its size. The module of each family has a function
+/// `accepts`, which returns whether the family accepts the lengths of the parts and the tree
+/// parameters.
 #[derive(Clone, Copy)]
 pub struct Input<'a> {
-    /// At most S bytes; zeros behind it change nothing (the BLAKE2 document, 2.8).
+    /// The salt, at most S bytes. Trailing zeros change nothing (the BLAKE2 document, 2.8).
     pub salt: &'a [u8],
-    /// At most S bytes; zeros behind it change nothing (the BLAKE2 document, 2.8).
+    /// The persona, at most S bytes. Trailing zeros change nothing (the BLAKE2 document, 2.8).
     pub persona: &'a [u8],
-    /// Nothing, or 1 to 64 bytes in BLAKE2b and 1 to 32 bytes in BLAKE2s (RFC 7693, 2.1).
+    /// The key, or nothing. A key has 1 to 64 bytes in BLAKE2b and 1 to 32 bytes in BLAKE2s (RFC
+    /// 7693, 2.1).
     pub key: Option<&'a [u8]>,
-    /// The place in a tree, one that the family's `admits_tree` is true of: depth at least 1, inner
-    /// length at most 64 (BLAKE2s: 32), and for BLAKE2s a node offset below 2^48.
-    /// [`Tree::sequential`] for a hash which is the whole tree.
+    /// The tree parameters, such that the family's `admits_tree` is true of them: depth at least
+    /// 1, inner length at most 64 (BLAKE2s: 32), and for BLAKE2s a node offset below 2^48.
+    /// [`Tree::sequential`] is for a hash that is the whole tree.
     pub tree: Tree,
-    /// Whether this is the last node on its level of a tree (the BLAKE2 document, 2.10); `false`
-    /// for a hash which is the whole tree.
+    /// Whether this is the last node on its level of a tree (the BLAKE2 document, 2.10). It is
+    /// `false` for a hash that is the whole tree.
     pub last_node: bool,
-    /// Any bytes, such that with the key's block there are less than 2^64.
+    /// The message. Its bytes and those of the key's block are fewer than 2^64.
     pub message: &'a [u8],
 }
 
 /// One compression of a transcript (RFC 7693, 3.2), without its chaining words.
 #[derive(Clone, Copy, Debug, PartialEq, Eq)]
 pub struct Entry<const B: usize> {
-    /// The B bytes that are compressed; in the last block those past the data are zero.
+    /// The B bytes that are compressed. In the last block those after the data are zero.
     pub block: [u8; B],
-    /// How many bytes are counted up to and with this block, the zeros past the data aside.
+    /// The number of bytes counted up to and including this block, without the zeros after the
+    /// data.
     pub counter: u64,
     /// The final flag: no block follows.
     pub last: bool,
@@ -45,7 +47,7 @@ pub struct Entry<const B: usize> {
     pub last_node: bool,
 }
 
-/// All that a run compresses and starts from.
+/// What a run compresses, and what it starts from.
 // The bound on the vector leaves it to each B that its entries are small enough for a vector.
 #[derive(Drop)]
 #[derive_where(Debug, PartialEq, Eq; W, Vec<Entry<B>>)]
@@ -63,7 +65,8 @@ pub struct Step<W, const B: usize> {
     pub chain: [W; 8],
     /// The B bytes that are compressed.
     pub block: [u8; B],
-    /// How many bytes are counted up to and with this block, the zeros past the data aside.
+    /// The number of bytes counted up to and including this block, without the zeros after the
+    /// data.
     pub counter: u64,
     /// The final flag: no block follows.
     pub last: bool,
@@ -71,7 +74,7 @@ pub struct Step<W, const B: usize> {
     pub last_node: bool,
 }
 
-/// What a transcript is read as.
+/// The input and the output size that a transcript is read as.
 #[derive(Debug, PartialEq, Eq, Drop)]
 pub struct Reading<const S: usize> {
     /// The size of the digest, in bytes.
@@ -82,7 +85,7 @@ pub struct Reading<const S: usize> {
     pub persona: [u8; S],
     /// The key, or nothing.
     pub key: Option<Vec<u8>>,
-    /// The place in a tree.
+    /// The tree parameters.
     pub tree: Tree,
     /// Whether it is the last node on its level of the tree.
     pub last_node: bool,

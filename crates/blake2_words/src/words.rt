@@ -18,14 +18,14 @@ pub struct Flags {
 }
 
 impl Flags {
-    /// Of a block that others follow.
+    /// The flags of a block that others follow.
     pub const INNER: Self = Flags {
         last: false,
         last_node: false,
     };
 
-    /// Of the last block, where `last_node` tells whether its node is the last on its level of a
-    /// tree.
+    /// Returns the flags of the last block. `last_node` says whether its node is the last on its
+    /// level of a tree.
     #[inline(always)]
     pub fn last_block(last_node: bool) -> Self
         ensures { given_flags result ≡ final last_node }

@@ -42,7 +42,7 @@ fn step_at(chain: &[u64x4; 2], entry: &Entry<128>) -> Step<u64, 128>
     }
 }
 
-// What F gives of that step.
+// What F returns for that step.
 fn output_of(chain: &[u64x4; 2], entry: &Entry<128>) -> [u64x4; 2]
     ensures { eight result
         ≡ output blake2b (Transcript.step_at (eight chain.now) (entry_of entry.now)) }
@@ -71,7 +71,7 @@ fn last_step(input: &Input<'_>, output_size: usize) -> ([u64x4; 2], Entry<128>)
     (chain, entry_at(input, last))
 }
 
-// The bytes of what F gives of the step of an entry. Those of a run's last step begin with the
+// The bytes of what F returns for the step of an entry. Those of a run's last step begin with the
 // digest.
 fn bytes_after(chain: &[u64x4; 2], entry: &Entry<128>) -> [u8; 64]
     ensures { result ≡ bytes_of blake2b
@@ -80,7 +80,7 @@ fn bytes_after(chain: &[u64x4; 2], entry: &Entry<128>) -> [u8; 64]
     words::to_bytes(&output_of(chain, entry))
 }
 
-// The digests of `output_size` bytes are equal, where these are the last steps of two runs.
+// Whether the digests of `output_size` bytes are equal, if these are the last steps of two runs.
 fn same_digest(
     chain_a: &[u64x4; 2],
     x: &Entry<128>,
@@ -101,7 +101,7 @@ fn same_digest(
     of_a[..output_size] == of_b[..output_size]
 }
 
-// The steps of two entries, each at the chaining words before it, are equal.
+// Whether the steps of two entries, each at the chaining words before it, are equal.
 fn same_step(chain_a: &[u64x4; 2], x: &Entry<128>, chain_b: &[u64x4; 2], y: &Entry<128>) -> bool
     ensures { IsTrue result
         ↔ (Transcript.step_at (eight chain_a.now) (entry_of x.now)
@@ -110,7 +110,7 @@ fn same_step(chain_a: &[u64x4; 2], x: &Entry<128>, chain_b: &[u64x4; 2], y: &Ent
     words::to_words(chain_a) == words::to_words(chain_b) && x == y
 }
 
-// Of two runs with as many steps the last pair of steps, one of each, that differ.
+// The last pair of steps that differ, one of each of two runs with the same number of steps.
 fn last_pair(
     a: &Input<'_>,
     b: &Input<'_>,
@@ -141,14 +141,18 @@ fn last_pair(
     kept
 }
 
-/// For two inputs that are not the same and whose digests of `output_size` bytes, at most 64, are
-/// equal, a step of the first run and a step of the second that are not equal though their outputs
-/// are: in the first `output_size` bytes where they are the last, and wholly where they are not.
-/// They stand at one distance from the ends of their runs, and all steps nearer to the ends are
-/// equal in pairs. `None` for all other inputs.
+/// Returns the witness of a collision. For two inputs that are not the same and have equal
+/// digests of `output_size` bytes, it is a step of the first input's run and a step of the
+/// second's. These steps differ, and their outputs agree: in the first `output_size` bytes if
+/// they are the last of their runs, and in all bytes if they are not. They are at the same
+/// distance from the ends of their runs, and all steps nearer to the ends are equal in pairs. The
+/// result is `None` for all other inputs, such as two that differ only in zeros after a salt or a
+/// persona.
 ///
-/// The signature is that of `transcript` and `read_transcript`, which take memory. This call takes
-/// none and never fails: it does not look at `_alloc`, and what it returns is always `Ok`.
+/// `accepts` must be true of both inputs, and `output_size` is at most 64.
+///
+/// The signature is that of `transcript` and `read_transcript`, which allocate memory. This call
+/// allocates none and never fails: it does not look at `_alloc`, and its result is always `Ok`.
 #[tactic(auto, using(crate::proofs::Front::same_number))]
 pub fn witness(
     _alloc: Global,

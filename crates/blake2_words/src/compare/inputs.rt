@@ -8,8 +8,8 @@ ghost use Rattle.blake2_words.specs.Views.{input_of};
 use crate::steps::Input;
 use blake2_rows::padded;
 
-// Salts and personas, with zeros up to S bytes, keys, trees, last-node flags and messages are
-// equal.
+// Whether salts and personas, with zeros up to S bytes, keys, trees, last-node flags and messages
+// are equal.
 pub(crate) fn same<const S: usize>(a: &Input<'_>, b: &Input<'_>) -> bool
     ghost f: { Family }
     requires salt { salt_bytes f ≡ S }

@@ -10,9 +10,9 @@ ghost use Rattle.blake2_words.specs.Laws.{ZerosLeaveDigests};
 use blake2_rows::padded;
 use blake2_rows::rows::u64x4;
 
-/// `unround` undoes `round`: the sixteen words of `v` are afterwards as they were, for any sixteen
-/// words of a block `m` and any row `s` of numbers below 16. The answer is what the round made of
-/// them.
+/// Returns what a round makes of the sixteen words of `v`, and leaves `v` as it was: `unround`
+/// undoes `round`, for any sixteen words of a block `m` and any row `s`. Each number of `s` must
+/// be below 16.
 pub fn unround_undoes_round(v: &mut [u64x4; 4], m: &[u64; 16], s: &[usize; 16]) -> [u64x4; 4]
     requires { (j : ℕ) → j < 16 → slice_index s.now j < 16 }
     ensures between { sixteen result ≡ round blake2b (sixteen v.old) m.now s.now }
@@ -26,7 +26,8 @@ pub fn unround_undoes_round(v: &mut [u64x4; 4], m: &[u64; 16], s: &[usize; 16]) 
     between
 }
 
-/// `round` undoes `unround`, in the same sense: the answer is the words whose round `w` is.
+/// Returns the words whose round `w` is, and leaves `w` as it was: `round` undoes `unround`. Each
+/// number of `s` must be below 16.
 pub fn round_undoes_unround(w: &mut [u64x4; 4], m: &[u64; 16], s: &[usize; 16]) -> [u64x4; 4]
     requires { (j : ℕ) → j < 16 → slice_index s.now j < 16 }
     ensures between { round blake2b (sixteen result) m.now s.now ≡ sixteen w.old }
@@ -38,8 +39,8 @@ pub fn round_undoes_unround(w: &mut [u64x4; 4], m: &[u64; 16], s: &[usize; 16]) 
     between
 }
 
-/// A round, under one `m` and one `s`, takes different lists of sixteen words to different lists.
-/// It is what becomes of `a` and of `b`.
+/// Replaces `a` and `b` by what a round, with the same `m` and `s`, makes of them. It turns
+/// different lists of sixteen words into different lists. Each number of `s` must be below 16.
 pub fn round_keeps_apart(a: &mut [u64x4; 4], b: &mut [u64x4; 4], m: &[u64; 16], s: &[usize; 16])
     requires { (j : ℕ) → j < 16 → slice_index s.now j < 16 }
     ensures first { sixteen a.new ≡ round blake2b (sixteen a.old) m.now s.now }
@@ -55,8 +56,8 @@ pub fn round_keeps_apart(a: &mut [u64x4; 4], b: &mut [u64x4; 4], m: &[u64; 16], 
     u64x4::unround(&mut before, m, s);
 }
 
-/// A salt or persona of at most 16 bytes with zeros up to 16. Zeros after a salt or a persona,
-/// within its 16 bytes, leave each digest as it is (the BLAKE2 document, 2.8).
+/// Returns a salt or persona with zeros up to 16 bytes. It must have at most 16. Zeros after a
+/// salt or a persona, within its 16 bytes, leave each digest as it is (the BLAKE2 document, 2.8).
 pub fn padded_text(text: &[u8]) -> [u8; 16]
     requires { length text.now ≤ 16 }
     ensures padding { result ≡ Hash.padded 16 text.now }

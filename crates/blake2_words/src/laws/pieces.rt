@@ -1,12 +1,12 @@
-//! Texts in pieces of one length, the last of which may be shorter: the leaves of a tree (the
+//! Bytes in pieces of one length, the last of which may be shorter: the leaves of a tree (the
 //! BLAKE2 document, 2.10).
 
 ghost use Rattle.std.specs.Prelude.{◌≡◌, ◌↔◌, ◌<◌, length, IsTrue, MatchOption};
 ghost use Rattle.blake2_words.specs.Pieces.{piece_count, piece, IsFirstDifference};
 ghost use Rattle.blake2_words.specs.Pieces.{PiecesDetermine, NoPairDiffers};
 
-/// How many pieces of `size` bytes, at least 1, a text has: one at least, and the last may be
-/// shorter.
+/// Returns how many pieces of `size` bytes, at least 1, a message has. It has at least one, and
+/// the last may be shorter.
 pub fn piece_count(size: usize, text: &[u8]) -> usize
     requires size { 0 < size }
     ensures { result ≡ piece_count size (length text.now) }
@@ -14,7 +14,8 @@ pub fn piece_count(size: usize, text: &[u8]) -> usize
     text.len().div_ceil(size).max(1)
 }
 
-/// Piece `i` of a text, counted from 0: bytes i·size to (i+1)·size, or as many as there are.
+/// Returns piece `i`, counted from 0, of a message: bytes i·size to (i+1)·size, or up to its end.
+/// The size must be at least 1, and `i` below the number of pieces.
 pub fn piece(size: usize, text: &[u8], i: usize) -> &[u8]
     requires size { 0 < size }
     requires within { i < piece_count size (length text.now) }
@@ -24,8 +25,8 @@ pub fn piece(size: usize, text: &[u8], i: usize) -> &[u8]
     &rest[..rest.len().min(size)]
 }
 
-/// The first place at which the pieces of two texts differ that have equally many. Where there is
-/// none, the texts are equal.
+/// Returns the index of the first piece, from 0, in which two messages differ, or `None` if they
+/// are equal. They must have the same number of pieces, and the size must be at least 1.
 pub fn first_difference(size: usize, a: &[u8], b: &[u8]) -> Option<usize>
     requires size { 0 < size }
     requires equally_many { piece_count size (length a.now) ≡ piece_count size (length b.now) }
@@ -39,9 +40,10 @@ pub fn first_difference(size: usize, a: &[u8], b: &[u8]) -> Option<usize>
     None
 }
 
-/// Whether the pieces of two texts that have equally many are the same: exactly where the texts
-/// are, since equally many pieces with no differing pair are equal, and the pieces of a text
-/// determine it.
+/// Returns whether the pieces of two messages are the same, which is so exactly if the messages
+/// are: if two messages with the same number of pieces differ, some pair of pieces differs, and
+/// the pieces of a message determine it. They must have the same number of pieces, and the size
+/// must be at least 1.
 pub fn same_pieces(size: usize, a: &[u8], b: &[u8]) -> bool
     requires size { 0 < size }
     requires equally_many { piece_count size (length a.now) ≡ piece_count size (length b.now) }

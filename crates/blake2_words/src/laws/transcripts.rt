@@ -1,4 +1,4 @@
-//! What a transcript tells of its input.
+//! What a transcript shows about its input.
 
 pub mod blake2b;
 pub mod blake2s;

@@ -65,7 +65,7 @@ fn four_words(words: &[u64; 16], k: usize) -> u64x4
     u64x4::new(words[k], words[k + 1], words[k + 2], words[k + 3])
 }
 
-// Row i of the answer has the words k + i of four blocks.
+// Row i of the result has the words k + i of four blocks.
 #[inline(always)]
 fn rows_from(words: &[[u64; 16]; 4], k: usize) -> [u64x4; 4]
     requires { k ≤ 12 }
@@ -103,8 +103,8 @@ fn block_rows(blocks: &[&[u8; 128]; 4]) -> [u64x4; 16]
 }
 
 // The words 8 to 15 before the first round: IV with the counter xored into its fifth and sixth
-// word, which for 64 bits is into the fifth alone, and all ones into its seventh where the final
-// flag is on, and into its eighth where the last-node flag is.
+// word, which for 64 bits is only into the fifth, with all ones xored into its seventh if the
+// final flag is on, and into its eighth if the last-node flag is on.
 #[tactic(auto, unfolding(crate::specs::Hash::before_rounds, crate::specs::Hash::xor_words))]
 #[inline(always)]
 fn last_words(counter: u64, flags: Flags) -> [u64; 8]
@@ -146,7 +146,7 @@ fn begin(h: &[u64x4; 8], counter: u64, flags: &[Flags; 4]) -> [u64x4; 16]
     ]
 }
 
-// The round that comes after `i` others, which takes the words of the blocks in the order of a row
+// The round that comes after `i` others, which uses the words of the blocks in the order of a row
 // of SIGMA (RFC 7693, 2.7).
 #[inline(always)]
 fn round_at(v: &mut [u64x4; 16], m: &[u64x4; 16], i: usize)
@@ -157,8 +157,8 @@ fn round_at(v: &mut [u64x4; 16], m: &[u64x4; 16], i: usize)
     u64x4::round_each(v, m, &SIGMA[i % 10]);
 }
 
-// The twelve rounds. They are written out, since a loop would look up in SIGMA, as it runs, where
-// each word of the blocks stands, and work on rows of its own, which stay in registers.
+// The twelve rounds. They are written out, since a loop would look up the index of each word in
+// SIGMA at run time, and work on a copy of the rows, which stays in registers.
 #[inline(always)]
 fn rounds(v: &mut [u64x4; 16], m: &[u64x4; 16])
     ensures { (j : ℕ) → j < 4
@@ -203,9 +203,10 @@ fn finish(h: &[u64x4; 8], v: &[u64x4; 16]) -> [u64x4; 8]
     result
 }
 
-/// F, the compression (RFC 7693, 3.2), of four messages at once: `h` holds their chaining words,
-/// and block j is the next 128 bytes of message j, under flags j. `counter` is the number of bytes
-/// counted of each of them up to and with its block, padding aside.
+/// Computes F, the compression (RFC 7693, 3.2), of four messages in parallel. `h` holds their
+/// chaining words, block j is the next 128 bytes of message j, and its flags are `flags[j]`.
+/// `counter` is the number of bytes counted for each message up to and including this block,
+/// without padding.
 #[inline]
 pub fn compress(h: &mut [u64x4; 8], blocks: &[&[u8; 128]; 4], counter: u64, flags: &[Flags; 4])
     ensures { (j : ℕ) → j < 4 → in_lane j h.new
@@ -232,11 +233,11 @@ fn start(output_size: usize, inputs: &[Input<'_>; 4]) -> [u64x4; 8]
     rows_of(&words)
 }
 
-// Compresses blocks of each of four messages, one after another, as many of each, all under flags
-// j: with the first of them `counter` bytes are counted, and 128 more with each that follows, with
-// the last of them less than 2^64, as `counted` says for any number of blocks. The loop has the
-// only call of `compress`, so that the compiler lays it out there, and works on rows of its own, so
-// that what is the same for all blocks is computed once.
+// Compresses blocks of each of four messages, one after another, the same number of each, with
+// flags j for message j. `counter` bytes are counted with the first of them, 128 more with each
+// that follows, and less than 2^64 with the last, as `counted` says for any number of blocks. The
+// loop has the only call of `compress`, so that the compiler lays it out there. It works on a
+// copy of the rows, so that what is the same for all blocks is computed once.
 fn compress_blocks(h: &mut [u64x4; 8], blocks: &[&[[u8; 128]]; 4], counter: u64, flags: &[Flags; 4])
     requires same_number { (j : ℕ) → j < 4
         → length (slice_index_or (block_lists blocks.now) j [])
@@ -256,7 +257,7 @@ fn compress_blocks(h: &mut [u64x4; 8], blocks: &[&[[u8; 128]]; 4], counter: u64,
     *h = rows;
 }
 
-// Block i of each of four inputs, and their compression.
+// Compresses block i of each of four inputs.
 fn compress_at(
     h: &mut [u64x4; 8],
     inputs: &[Input<'_>; 4],
@@ -278,8 +279,8 @@ fn compress_at(
     compress_blocks(h, &[&b0[..], &b1[..], &b2[..], &b3[..]], counter, flags);
 }
 
-// Compresses all blocks of four inputs but the last. Those from the second on are read where they
-// stand.
+// Compresses all blocks of four inputs except the last. Those from the second on are read from
+// the messages without a copy.
 fn absorb_inner(h: &mut [u64x4; 8], inputs: &[Input<'_>; 4])
     requires accepted { (j : ℕ) → j < 4 → Accepts blake2b (input_at inputs.now j) }
     requires same_number { (j : ℕ) → j < 4
@@ -343,8 +344,8 @@ fn output<const N: usize>(h: &[u64x4; 2]) -> [u8; N]
     bytes
 }
 
-// The first N bytes of the last chaining words of each of four inputs, at digests of `output_size`
-// bytes.
+// The first N bytes of the last chaining words of each of four inputs, at digests of
+// `output_size` bytes.
 fn outputs<const N: usize>(output_size: usize, inputs: &[Input<'_>; 4]) -> [[u8; N]; 4]
     requires room { N ≤ output_bytes blake2b }
     requires size { output_size ≤ output_bytes blake2b }
@@ -365,8 +366,8 @@ fn outputs<const N: usize>(output_size: usize, inputs: &[Input<'_>; 4]) -> [[u8;
     outputs
 }
 
-/// Whether `hash_four` takes these inputs: each is one that `accepts` takes, and of each as many
-/// bytes are counted, those of its message and 128 where it has a key.
+/// Returns whether `hash_four` accepts these inputs: `accepts` returns true for each, and the
+/// same number of bytes is counted for each, those of its message and 128 if it has a key.
 pub fn accepts_four(inputs: &[Input<'_>; 4]) -> bool
     ensures { IsTrue result ↔ AcceptsAtOnce blake2b 4 inputs.now }
 {
@@ -385,8 +386,9 @@ pub fn accepts_four(inputs: &[Input<'_>; 4]) -> bool
     true
 }
 
-/// BLAKE2b of four inputs at once, in their order, N bytes of digest each, at most 64 (RFC 7693,
-/// 3.3). The inputs are such that `accepts_four` is true of them. No memory is taken.
+/// Returns the digests of four inputs, in their order, of N bytes each, at most 64 (RFC 7693,
+/// 3.3). The inputs must be such that `accepts_four` returns true: each is accepted, and the same
+/// number of bytes is counted for each. The call allocates nothing.
 pub fn hash_four<const N: usize>(inputs: &[Input<'_>; 4]) -> [[u8; N]; 4]
     requires size { N ≤ output_bytes blake2b }
     requires accepted { AcceptsAtOnce blake2b 4 inputs.now }
@@ -395,8 +397,10 @@ pub fn hash_four<const N: usize>(inputs: &[Input<'_>; 4]) -> [[u8; N]; 4]
     outputs(N, inputs)
 }
 
-/// The same with a size that is chosen as the program runs: the first `output_size` bytes of each
-/// answer, at most 64, are the digest, and nothing is said of those behind it.
+/// Returns the same digests with a size that is chosen at run time: the first `output_size`
+/// bytes, at most 64, of each array are the digest of its input. The remaining bytes are the rest
+/// of the last chaining words. They are not part of the digest, and the contract promises nothing
+/// about them. The inputs must be such that `accepts_four` returns true.
 pub fn hash_four_sized(output_size: usize, inputs: &[Input<'_>; 4]) -> [[u8; 64]; 4]
     requires size { output_size ≤ output_bytes blake2b }
     requires accepted { AcceptsAtOnce blake2b 4 inputs.now }

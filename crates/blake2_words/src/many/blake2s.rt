@@ -83,7 +83,7 @@ fn eight_words(words: &[u32; 16], k: usize) -> u32x8
     ])
 }
 
-// Row i of the answer has the words k + i of eight blocks.
+// Row i of the result has the words k + i of eight blocks.
 #[inline(always)]
 fn rows_from(words: &[[u32; 16]; 8], k: usize) -> [u32x8; 8]
     requires { k ≤ 8 }
@@ -127,8 +127,8 @@ fn block_rows(blocks: &[&[u8; 64]; 8]) -> [u32x8; 16]
 }
 
 // The words 8 to 15 before the first round: IV with the counter xored into its fifth and sixth
-// word, the low 32 bits and the high ones, and all ones into its seventh where the final flag is
-// on, and into its eighth where the last-node flag is.
+// word, the low 32 bits and the high ones, with all ones xored into its seventh if the final flag
+// is on, and into its eighth if the last-node flag is on.
 #[tactic(auto, unfolding(crate::specs::Hash::before_rounds, crate::specs::Hash::xor_words))]
 #[inline(always)]
 fn last_words(counter: u64, flags: Flags) -> [u32; 8]
@@ -176,7 +176,7 @@ fn begin(h: &[u32x8; 8], counter: u64, flags: &[Flags; 8]) -> [u32x8; 16]
     ]
 }
 
-// The round that comes after `i` others, which takes the words of the blocks in the order of a row
+// The round that comes after `i` others, which uses the words of the blocks in the order of a row
 // of SIGMA (RFC 7693, 2.7).
 #[inline(always)]
 fn round_at(v: &mut [u32x8; 16], m: &[u32x8; 16], i: usize)
@@ -187,8 +187,8 @@ fn round_at(v: &mut [u32x8; 16], m: &[u32x8; 16], i: usize)
     u32x8::round_each(v, m, &SIGMA[i % 10]);
 }
 
-// The ten rounds. They are written out, since a loop would look up in SIGMA, as it runs, where
-// each word of the blocks stands, and work on rows of its own, which stay in registers.
+// The ten rounds. They are written out, since a loop would look up the index of each word in
+// SIGMA at run time, and work on a copy of the rows, which stays in registers.
 #[inline(always)]
 fn rounds(v: &mut [u32x8; 16], m: &[u32x8; 16])
     ensures { (j : ℕ) → j < 8
@@ -231,9 +231,10 @@ fn finish(h: &[u32x8; 8], v: &[u32x8; 16]) -> [u32x8; 8]
     result
 }
 
-/// F, the compression (RFC 7693, 3.2), of eight messages at once: `h` holds their chaining words,
-/// and block j is the next 64 bytes of message j, under flags j. `counter` is the number of bytes
-/// counted of each of them up to and with its block, padding aside.
+/// Computes F, the compression (RFC 7693, 3.2), of eight messages in parallel. `h` holds their
+/// chaining words, block j is the next 64 bytes of message j, and its flags are `flags[j]`.
+/// `counter` is the number of bytes counted for each message up to and including this block,
+/// without padding.
 #[inline]
 pub fn compress(h: &mut [u32x8; 8], blocks: &[&[u8; 64]; 8], counter: u64, flags: &[Flags; 8])
     ensures { (j : ℕ) → j < 8 → in_lane j h.new
@@ -260,11 +261,11 @@ fn start(output_size: usize, inputs: &[Input<'_>; 8]) -> [u32x8; 8]
     rows_of(&words)
 }
 
-// Compresses blocks of each of eight messages, one after another, as many of each, all under flags
-// j: with the first of them `counter` bytes are counted, and 64 more with each that follows, with
-// the last of them less than 2^64, as `counted` says for any number of blocks. The loop has the
-// only call of `compress`, so that the compiler lays it out there, and works on rows of its own, so
-// that what is the same for all blocks is computed once.
+// Compresses blocks of each of eight messages, one after another, the same number of each, with
+// flags j for message j. `counter` bytes are counted with the first of them, 64 more with each
+// that follows, and less than 2^64 with the last, as `counted` says for any number of blocks. The
+// loop has the only call of `compress`, so that the compiler lays it out there. It works on a
+// copy of the rows, so that what is the same for all blocks is computed once.
 fn compress_blocks(h: &mut [u32x8; 8], blocks: &[&[[u8; 64]]; 8], counter: u64, flags: &[Flags; 8])
     requires same_number { (j : ℕ) → j < 8
         → length (slice_index_or (block_lists blocks.now) j [])
@@ -286,7 +287,7 @@ fn compress_blocks(h: &mut [u32x8; 8], blocks: &[&[[u8; 64]]; 8], counter: u64, 
     *h = rows;
 }
 
-// Block i of each of eight inputs, and their compression.
+// Compresses block i of each of eight inputs.
 fn compress_at(
     h: &mut [u32x8; 8],
     inputs: &[Input<'_>; 8],
@@ -326,8 +327,8 @@ fn compress_at(
     );
 }
 
-// Compresses all blocks of eight inputs but the last. Those from the second on are read where they
-// stand.
+// Compresses all blocks of eight inputs except the last. Those from the second on are read from
+// the messages without a copy.
 fn absorb_inner(h: &mut [u32x8; 8], inputs: &[Input<'_>; 8])
     requires accepted { (j : ℕ) → j < 8 → Accepts blake2s (input_at inputs.now j) }
     requires same_number { (j : ℕ) → j < 8
@@ -395,8 +396,8 @@ fn output<const N: usize>(h: &[u32x4; 2]) -> [u8; N]
     bytes
 }
 
-// The first N bytes of the last chaining words of each of eight inputs, at digests of `output_size`
-// bytes.
+// The first N bytes of the last chaining words of each of eight inputs, at digests of
+// `output_size` bytes.
 fn outputs<const N: usize>(output_size: usize, inputs: &[Input<'_>; 8]) -> [[u8; N]; 8]
     requires room { N ≤ output_bytes blake2s }
     requires size { output_size ≤ output_bytes blake2s }
@@ -416,8 +417,8 @@ fn outputs<const N: usize>(output_size: usize, inputs: &[Input<'_>; 8]) -> [[u8;
     outputs
 }
 
-/// Whether `hash_eight` takes these inputs: each is one that `accepts` takes, and of each as many
-/// bytes are counted, those of its message and 64 where it has a key.
+/// Returns whether `hash_eight` accepts these inputs: `accepts` returns true for each, and the
+/// same number of bytes is counted for each, those of its message and 64 if it has a key.
 pub fn accepts_eight(inputs: &[Input<'_>; 8]) -> bool
     ensures { IsTrue result ↔ AcceptsAtOnce blake2s 8 inputs.now }
 {
@@ -436,8 +437,9 @@ pub fn accepts_eight(inputs: &[Input<'_>; 8]) -> bool
     true
 }
 
-/// BLAKE2s of eight inputs at once, in their order, N bytes of digest each, at most 32 (RFC 7693,
-/// 3.3). The inputs are such that `accepts_eight` is true of them. No memory is taken.
+/// Returns the digests of eight inputs, in their order, of N bytes each, at most 32 (RFC 7693,
+/// 3.3). The inputs must be such that `accepts_eight` returns true: each is accepted, and the
+/// same number of bytes is counted for each. The call allocates nothing.
 pub fn hash_eight<const N: usize>(inputs: &[Input<'_>; 8]) -> [[u8; N]; 8]
     requires size { N ≤ output_bytes blake2s }
     requires accepted { AcceptsAtOnce blake2s 8 inputs.now }
@@ -446,8 +448,10 @@ pub fn hash_eight<const N: usize>(inputs: &[Input<'_>; 8]) -> [[u8; N]; 8]
     outputs(N, inputs)
 }
 
-/// The same with a size that is chosen as the program runs: the first `output_size` bytes of each
-/// answer, at most 32, are the digest, and nothing is said of those behind it.
+/// Returns the same digests with a size that is chosen at run time: the first `output_size`
+/// bytes, at most 32, of each array are the digest of its input. The remaining bytes are the rest
+/// of the last chaining words. They are not part of the digest, and the contract promises nothing
+/// about them. The inputs must be such that `accepts_eight` returns true.
 pub fn hash_eight_sized(output_size: usize, inputs: &[Input<'_>; 8]) -> [[u8; 32]; 8]
     requires size { output_size ≤ output_bytes blake2s }
     requires accepted { AcceptsAtOnce blake2s 8 inputs.now }

@@ -13,11 +13,12 @@ use crate::consts::BLAKE2B_IV;
 use crate::words::blake2b::{to_rows, to_words, xor_rows};
 use blake2_rows::rows::u64x4;
 
-// The last node offset that has room in its 8 bytes: that of the type, so none is refused for it.
+// The largest node offset that has room in its 8 bytes: that of the type, so none is refused for
+// it.
 const LAST_OFFSET: u64 = u64::MAX;
 
-/// Whether BLAKE2b takes this place in a tree: at least one level, and an inner node's digest of at
-/// most 64 bytes (the BLAKE2 document, 2.8 and 2.10). Each `u64` is a node offset.
+/// Returns whether BLAKE2b accepts these tree parameters: at least one level and an inner node's
+/// digest of at most 64 bytes (the BLAKE2 document, 2.8 and 2.10).
 pub fn admits_tree(tree: &Tree) -> bool
     ensures { IsTrue result ↔ AdmitsTree blake2b (tree_of tree.now) }
 {
@@ -26,8 +27,9 @@ pub fn admits_tree(tree: &Tree) -> bool
     place.depth >= 1 && place.inner_length <= 64 && place.node_offset <= LAST_OFFSET
 }
 
-/// Whether BLAKE2b takes these parameters: a digest and a key of at most 64 bytes, and a salt and
-/// a persona of at most 16 (RFC 7693, 2.1; the BLAKE2 document, 2.8).
+/// Returns whether BLAKE2b accepts these parameters: a digest and a key of at most 64 bytes, a
+/// salt and a persona of at most 16, and tree parameters that `admits_tree` accepts (RFC 7693,
+/// 2.1; the BLAKE2 document, 2.8).
 pub fn fits(parameters: &Parameters<'_>) -> bool
     ensures { IsTrue result ↔ Fits blake2b (given_parameters parameters.now) }
 {
@@ -38,7 +40,7 @@ pub fn fits(parameters: &Parameters<'_>) -> bool
         && admits_tree(&parameters.tree)
 }
 
-// What a parameter block names, whatever stands in its reserved bytes.
+// What a parameter block names, whatever is in its reserved bytes.
 pub(crate) fn parameters_in(block: &[u8; 64]) -> Parameters<'_>
     ensures { given_parameters result ≡ Reader.parameters_in blake2b block.now }
 {
@@ -73,8 +75,8 @@ fn block_rows(block: &[u8]) -> [u64x4; 2]
     ]
 }
 
-/// The chaining words before the first block (RFC 7693, 3.3), as two rows, under a parameter block
-/// of 64 bytes, whatever stands in it: IV xored with its words.
+/// Returns the chaining words before the first block (RFC 7693, 3.3), as two rows, for a
+/// parameter block of exactly 64 bytes, whatever is in it: IV xored with its words.
 #[inline(always)]
 pub fn start_of(block: &[u8]) -> [u64x4; 2]
     requires { length block.now ≡ 64 }
@@ -83,7 +85,8 @@ pub fn start_of(block: &[u8]) -> [u64x4; 2]
     xor_rows(to_rows(&BLAKE2B_IV), block_rows(block))
 }
 
-/// The eight parameter words (RFC 7693, 2.5), those of the parameter block.
+/// Returns the eight parameter words (RFC 7693, 2.5), those of the parameter block. `fits` must
+/// be true of the parameters.
 pub fn parameter_words(parameters: &Parameters<'_>) -> [u64; 8]
     requires { Fits blake2b (given_parameters parameters.now) }
     ensures { result ≡ Hash.parameter_words blake2b (given_parameters parameters.now) }
@@ -91,8 +94,8 @@ pub fn parameter_words(parameters: &Parameters<'_>) -> [u64; 8]
     to_words(&block_rows(&block_of(parameters)))
 }
 
-/// The chaining words before the first block (RFC 7693, 3.3), as two rows: IV xored with the
-/// parameter words.
+/// Returns the chaining words before the first block (RFC 7693, 3.3), as two rows: IV xored with
+/// the parameter words. `fits` must be true of the parameters.
 pub fn start_rows(parameters: &Parameters<'_>) -> [u64x4; 2]
     requires { Fits blake2b (given_parameters parameters.now) }
     ensures { eight result ≡ start blake2b (given_parameters parameters.now) }
@@ -100,7 +103,7 @@ pub fn start_rows(parameters: &Parameters<'_>) -> [u64x4; 2]
     start_of(&block_of(parameters))
 }
 
-/// The same chaining words, as words.
+/// Returns the same chaining words as an array. `fits` must be true of the parameters.
 pub fn start_words(parameters: &Parameters<'_>) -> [u64; 8]
     requires { Fits blake2b (given_parameters parameters.now) }
     ensures { result ≡ start blake2b (given_parameters parameters.now) }

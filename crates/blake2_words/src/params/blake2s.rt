@@ -13,11 +13,11 @@ use crate::consts::BLAKE2S_IV;
 use crate::words::blake2s::{to_rows, to_words, xor_rows};
 use blake2_rows::rows::u32x4;
 
-// The last node offset that has room in its 6 bytes.
+// The largest node offset that has room in its 6 bytes.
 const LAST_OFFSET: u64 = (1 << 48) - 1;
 
-/// Whether BLAKE2s takes this place in a tree: at least one level, an inner node's digest of at
-/// most 32 bytes, and a node offset below 2^48 (the BLAKE2 document, 2.8 and 2.10).
+/// Returns whether BLAKE2s accepts these tree parameters: at least one level, a node offset below
+/// 2^48, and an inner node's digest of at most 32 bytes (the BLAKE2 document, 2.8 and 2.10).
 pub fn admits_tree(tree: &Tree) -> bool
     ensures { IsTrue result ↔ AdmitsTree blake2s (tree_of tree.now) }
 {
@@ -26,8 +26,9 @@ pub fn admits_tree(tree: &Tree) -> bool
     place.depth >= 1 && place.inner_length <= 32 && place.node_offset <= LAST_OFFSET
 }
 
-/// Whether BLAKE2s takes these parameters: a digest and a key of at most 32 bytes, and a salt and
-/// a persona of at most 8 (RFC 7693, 2.1; the BLAKE2 document, 2.8).
+/// Returns whether BLAKE2s accepts these parameters: a digest and a key of at most 32 bytes, a
+/// salt and a persona of at most 8, and tree parameters that `admits_tree` accepts (RFC 7693,
+/// 2.1; the BLAKE2 document, 2.8).
 pub fn fits(parameters: &Parameters<'_>) -> bool
     ensures { IsTrue result ↔ Fits blake2s (given_parameters parameters.now) }
 {
@@ -38,7 +39,7 @@ pub fn fits(parameters: &Parameters<'_>) -> bool
         && admits_tree(&parameters.tree)
 }
 
-// What a parameter block names, whatever stands in its reserved bytes.
+// What a parameter block names, whatever is in its reserved bytes.
 pub(crate) fn parameters_in(block: &[u8; 32]) -> Parameters<'_>
     ensures { given_parameters result ≡ Reader.parameters_in blake2s block.now }
 {
@@ -73,8 +74,8 @@ fn block_rows(block: &[u8]) -> [u32x4; 2]
     ]
 }
 
-/// The chaining words before the first block (RFC 7693, 3.3), as two rows, under a parameter block
-/// of 32 bytes, whatever stands in it: IV xored with its words.
+/// Returns the chaining words before the first block (RFC 7693, 3.3), as two rows, for a
+/// parameter block of exactly 32 bytes, whatever is in it: IV xored with its words.
 #[inline(always)]
 pub fn start_of(block: &[u8]) -> [u32x4; 2]
     requires { length block.now ≡ 32 }
@@ -83,7 +84,8 @@ pub fn start_of(block: &[u8]) -> [u32x4; 2]
     xor_rows(to_rows(&BLAKE2S_IV), block_rows(block))
 }
 
-/// The eight parameter words (RFC 7693, 2.5), those of the parameter block.
+/// Returns the eight parameter words (RFC 7693, 2.5), those of the parameter block. `fits` must
+/// be true of the parameters.
 pub fn parameter_words(parameters: &Parameters<'_>) -> [u32; 8]
     requires { Fits blake2s (given_parameters parameters.now) }
     ensures { result ≡ Hash.parameter_words blake2s (given_parameters parameters.now) }
@@ -91,8 +93,8 @@ pub fn parameter_words(parameters: &Parameters<'_>) -> [u32; 8]
     to_words(&block_rows(&block_of(parameters)))
 }
 
-/// The chaining words before the first block (RFC 7693, 3.3), as two rows: IV xored with the
-/// parameter words.
+/// Returns the chaining words before the first block (RFC 7693, 3.3), as two rows: IV xored with
+/// the parameter words. `fits` must be true of the parameters.
 pub fn start_rows(parameters: &Parameters<'_>) -> [u32x4; 2]
     requires { Fits blake2s (given_parameters parameters.now) }
     ensures { eight result ≡ start blake2s (given_parameters parameters.now) }
@@ -100,7 +102,7 @@ pub fn start_rows(parameters: &Parameters<'_>) -> [u32x4; 2]
     start_of(&block_of(parameters))
 }
 
-/// The same chaining words, as words.
+/// Returns the same chaining words as an array. `fits` must be true of the parameters.
 pub fn start_words(parameters: &Parameters<'_>) -> [u32; 8]
     requires { Fits blake2s (given_parameters parameters.now) }
     ensures { result ≡ start blake2s (given_parameters parameters.now) }

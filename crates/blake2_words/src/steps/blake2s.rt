@@ -14,18 +14,19 @@ use crate::params::{Parameters, blake2s as params};
 use crate::words::blake2s::{to_bytes, to_rows};
 use std::alloc::{AllocError, Global};
 
-/// Whether BLAKE2s takes the input: salt and persona have at most 8 bytes, the key is absent or
-/// has 1 to 32 bytes, `admits_tree` is true of the place in a tree, and the bytes of the message,
-/// with 64 for a key, are less than 2^64 (RFC 7693, 2.1; the BLAKE2 document, 2.8).
+/// Returns whether BLAKE2s accepts the input: salt and persona have at most 8 bytes each, the key
+/// is absent or has 1 to 32 bytes, `admits_tree` is true of the tree parameters, and the bytes of
+/// the message, with 64 for a key, are fewer than 2^64 (RFC 7693, 2.1; the BLAKE2 document, 2.8).
 pub fn accepts(input: &Input<'_>) -> bool
     ensures { IsTrue result ↔ Accepts blake2s (input_of input.now) }
 {
     limits::accepts::<64, 32, 8>(input, params::admits_tree(&input.tree))
 }
 
-/// The transcript of an input at a digest of `output_size` bytes, at most 32: the parameter words,
-/// and an entry for each block. The key, if there is one, is the first block (RFC 7693, 3.3). The
-/// error is want of memory, for a vector that has just the room for the entries.
+/// Returns the transcript of an input at a digest of `output_size` bytes, at most 32: the
+/// parameter words, and an entry for each block. The key, if there is one, is the first block
+/// (RFC 7693, 3.3). `accepts` must be true of the input. The error is `AllocError`, if there is
+/// no memory for a vector with exactly the room for the entries, of 80 bytes each.
 pub fn transcript(
     alloc: Global,
     input: &Input<'_>,
@@ -43,7 +44,7 @@ pub fn transcript(
     Ok(Transcript { words, entries })
 }
 
-// The words and entries are the transcript of some input with these parameters.
+// Whether the words and entries are the transcript of some input with these parameters.
 fn is_readable(told: &Parameters<'_>, words: &[u32; 8], entries: &[Entry<64>]) -> bool
     ensures readable { IsTrue result
         ↔ IsReadable blake2s (given_parameters told.now) words.now (map entry_of entries.now) }
@@ -56,10 +57,10 @@ fn is_readable(told: &Parameters<'_>, words: &[u32; 8], entries: &[Entry<64>]) -
         && (key_size == 0 || reader::has_key(entries, key_size))
 }
 
-/// The input and the size of the digest that a transcript is of, salt and persona with their
-/// zeros; `None` where no accepted input at a size of at most 32 bytes has this transcript. The
-/// error is want of memory, and comes only where some input has it: all tests come before the
-/// first request for memory.
+/// Returns the input and the output size that have this transcript, with salt and persona padded
+/// with zeros to 8 bytes, or `None` if no accepted input at a size of at most 32 bytes has it.
+/// The error is `AllocError`, if an allocation fails. It comes only if some input has the
+/// transcript: all tests come before the first allocation. The transcript stays as it is.
 pub fn read_transcript(
     alloc: Global,
     transcript: &Transcript<u32, 64>,

@@ -63,7 +63,7 @@ pub(crate) fn step_count<const B: usize>(input: &Input<'_>) -> u64
     counted::<B>(input).saturating_sub(1) / B as u64 + 1
 }
 
-// The block of the message at place `from`.
+// The block of the message from byte `from` on.
 fn message_block<const B: usize>(message: &[u8], from: usize) -> [u8; B]
     requires { from ≤ length message.now }
     ensures { result ≡ Hash.padded B (take B (drop from message.now)) }

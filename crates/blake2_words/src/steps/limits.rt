@@ -8,7 +8,7 @@ ghost use Rattle.blake2_words.specs.Views.{input_of, key_of, tree_of};
 
 use super::Input;
 
-// The text has at most that many bytes. That they are bytes is what its type says.
+// Whether there are at most `most` bytes. That they are bytes is what their type says.
 fn fits(text: &[u8], most: usize) -> bool
     ensures within { IsTrue result ↔ (length text.now ≤ most) }
     ensures bytes { AreBytes text.now }
@@ -16,7 +16,8 @@ fn fits(text: &[u8], most: usize) -> bool
     text.len() <= most
 }
 
-// The key has 1 to K bytes, and a block of B bytes with the message is counted in 64 bits.
+// Whether the key has 1 to K bytes, and a block of B bytes with the message is counted in 64
+// bits.
 fn given_key_fits<const B: usize, const K: usize>(key: &[u8], message: &[u8]) -> bool
     ghost f: { Family }
     requires block { block_bytes f ≡ B }
@@ -31,8 +32,8 @@ fn given_key_fits<const B: usize, const K: usize>(key: &[u8], message: &[u8]) ->
     fits(message, usize::MAX - B)
 }
 
-// The key is absent or has 1 to K bytes, and the data is counted in 64 bits. That the message has
-// bytes is what its type says.
+// Whether the key is absent or has 1 to K bytes, and the data is counted in 64 bits. That the
+// message consists of bytes is what its type says.
 #[tactic(auto, unfolding(crate::specs::Hash::key_block))]
 fn key_fits<const B: usize, const K: usize>(key: &Option<&[u8]>, message: &[u8]) -> bool
     ghost f: { Family }
@@ -48,8 +49,8 @@ fn key_fits<const B: usize, const K: usize>(key: &Option<&[u8]>, message: &[u8])
     }
 }
 
-// The input is one that a family with blocks of B, keys of K and salts of S bytes takes, where
-// `takes_tree` tells whether it takes the tree.
+// Whether a family with blocks of B, keys of K and salts of S bytes accepts the input, if
+// `takes_tree` says whether it accepts the tree.
 pub(crate) fn accepts<const B: usize, const K: usize, const S: usize>(
     input: &Input<'_>,
     takes_tree: bool,

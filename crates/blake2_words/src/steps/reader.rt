@@ -24,7 +24,7 @@ fn is_zero(bytes: &[u8]) -> bool
     bytes.iter().all(|byte| *byte == 0)
 }
 
-// The block is zero from place `from` on.
+// Whether the block is zero from byte `from` on.
 fn is_zero_from<const B: usize>(block: &[u8; B], from: usize) -> bool
     requires { from ≤ B }
     ensures zero { IsTrue result ↔ IsZeroFrom from block.now }
@@ -34,7 +34,7 @@ fn is_zero_from<const B: usize>(block: &[u8; B], from: usize) -> bool
     is_zero(&bytes[from..])
 }
 
-// The entry is one that others follow, at place i.
+// Whether the entry, at index i, is one that others follow.
 fn is_inner<const B: usize>(entry: Entry<B>, i: u64) -> bool
     ghost f: { Family }
     requires family { block_bytes f ≡ B }
@@ -45,7 +45,7 @@ fn is_inner<const B: usize>(entry: Entry<B>, i: u64) -> bool
     !entry.last && !entry.last_node && entry.counter == (i + 1) * B as u64
 }
 
-// Each entry is one that others follow.
+// Whether each entry is one that others follow.
 fn are_inner<const B: usize>(entries: &[Entry<B>]) -> bool
     ghost f: { Family }
     requires family { block_bytes f ≡ B }
@@ -60,7 +60,7 @@ fn are_inner<const B: usize>(entries: &[Entry<B>]) -> bool
     true
 }
 
-// The entry is the last, after `before` others.
+// Whether the entry is the last, after `before` others.
 fn ends_run<const B: usize>(entry: Entry<B>, before: usize) -> bool
     ghost f: { Family }
     requires family { block_bytes f ≡ B }
@@ -70,7 +70,7 @@ fn ends_run<const B: usize>(entry: Entry<B>, before: usize) -> bool
     entry.last && (entry.counter.saturating_sub(1) / B as u64) as usize == before
 }
 
-// The entries are those of a run over some data.
+// Whether the entries are those of a run over some data.
 pub(crate) fn is_run<const B: usize>(entries: &[Entry<B>]) -> bool
     ghost f: { Family }
     requires family { block_bytes f ≡ B }
@@ -88,7 +88,7 @@ pub(crate) fn is_run<const B: usize>(entries: &[Entry<B>]) -> bool
     are_inner(before) && is_zero_from(&last.block, (last.counter - counted_before) as usize)
 }
 
-// The data begins with the block of a key of that many bytes.
+// Whether the data begins with the block of a key of `key_size` bytes.
 pub(crate) fn has_key<const B: usize>(entries: &[Entry<B>], key_size: usize) -> bool
     ghost f: { Family }
     requires family { block_bytes f ≡ B }
@@ -101,7 +101,7 @@ pub(crate) fn has_key<const B: usize>(entries: &[Entry<B>], key_size: usize) -> 
     last.counter >= B as u64 && is_zero_from(&first.block, key_size)
 }
 
-// The bytes of the blocks, up to that length.
+// The bytes of the blocks, up to `length` bytes.
 fn bytes_of_blocks<const B: usize>(
     alloc: Global,
     entries: &[Entry<B>],
@@ -118,7 +118,7 @@ fn bytes_of_blocks<const B: usize>(
     Ok(bytes)
 }
 
-// The key, where its size is not 0, and the message.
+// The key, if its size is not 0, and the message.
 fn key_and_message<const B: usize>(
     alloc: Global,
     entries: &[Entry<B>],
@@ -144,7 +144,7 @@ fn key_and_message<const B: usize>(
     Ok((Some(key), message))
 }
 
-// What the entries of a run are read as, under the parameters that its words tell.
+// What the entries of a run are read as, under the parameters that its words name.
 pub(crate) fn reading<const B: usize, const S: usize>(
     alloc: Global,
     told: &Parameters<'_>,

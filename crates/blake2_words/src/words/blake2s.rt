@@ -28,8 +28,8 @@ pub(crate) fn block_words(block: &[u8; 64]) -> [u32; 16]
 }
 
 // The rows before the first round: the chaining words, and IV with the counter xored into its
-// fifth and sixth word, the low 32 bits and the high ones, and all ones into its seventh where the
-// final flag is on, and into its eighth where the last-node flag is.
+// fifth and sixth word, the low 32 bits and the high ones, with all ones xored into its seventh
+// if the final flag is on, and into its eighth if the last-node flag is on.
 //
 // Each flag chooses between two constant rows, which is faster than to choose its word and then
 // to make the row of both flags.
@@ -56,7 +56,7 @@ fn begin(h: [u32x4; 2], counter: u64, flags: Flags) -> [u32x4; 4]
     [h[0], h[1], low, high ^ marks]
 }
 
-// The round that comes after `i` others, which takes the words of the block in the order of a row
+// The round that comes after `i` others, which uses the words of the block in the order of a row
 // of SIGMA (RFC 7693, 2.7).
 #[inline(always)]
 fn round_at(v: &mut [u32x4; 4], m: &[u32; 16], i: usize)
@@ -66,8 +66,8 @@ fn round_at(v: &mut [u32x4; 4], m: &[u32; 16], i: usize)
     u32x4::round(v, m, &SIGMA[i % 10]);
 }
 
-// The ten rounds. They are written out, since a loop would look up in SIGMA, as it runs, where
-// each word of the block stands.
+// The ten rounds. They are written out, since a loop would look up the index of each word in
+// SIGMA at run time.
 #[inline(always)]
 fn rounds(v: &mut [u32x4; 4], m: &[u32; 16])
     ensures { sixteen v.new ≡ after_rounds blake2s (sixteen v.old) m.now 10 }
@@ -94,9 +94,9 @@ fn finish(h: [u32x4; 2], v: [u32x4; 4]) -> [u32x4; 2]
     [h[0] ^ v[0] ^ v[2], h[1] ^ v[1] ^ v[3]]
 }
 
-/// F, the compression (RFC 7693, 3.2). `h` holds the eight chaining words, `block` the next 64
-/// bytes of the data, and `counter` the number of bytes counted up to and with this block, padding
-/// aside.
+/// Computes F, the compression (RFC 7693, 3.2). `h` holds the eight chaining words as two rows,
+/// and receives the new ones. `block` is the next 64 bytes of the data, and `counter` the number
+/// of bytes counted up to and including this block, without padding.
 #[inline]
 pub fn compress(h: &mut [u32x4; 2], block: &[u8; 64], counter: u64, flags: Flags)
     ensures { eight h.new
@@ -108,7 +108,7 @@ pub fn compress(h: &mut [u32x4; 2], block: &[u8; 64], counter: u64, flags: Flags
     *h = finish(*h, v);
 }
 
-/// The same where the eight chaining words are an array.
+/// Computes the same as `compress`, with the eight chaining words as an array.
 pub fn compress_words(h: &mut [u32; 8], block: &[u8; 64], counter: u64, flags: Flags)
     ensures { h.new ≡ Hash.compress blake2s h.old block.now counter (given_flags flags) }
 {
@@ -117,7 +117,7 @@ pub fn compress_words(h: &mut [u32; 8], block: &[u8; 64], counter: u64, flags: F
     *h = to_words(&rows);
 }
 
-/// Eight words as two rows of four.
+/// Returns eight words as two rows of four.
 #[inline(always)]
 pub fn to_rows(words: &[u32; 8]) -> [u32x4; 2]
     ensures { eight result ≡ words.now }
@@ -128,7 +128,7 @@ pub fn to_rows(words: &[u32; 8]) -> [u32x4; 2]
     ]
 }
 
-/// The eight words of two rows.
+/// Returns the eight words of two rows.
 pub fn to_words(rows: &[u32x4; 2]) -> [u32; 8]
     ensures { result ≡ eight rows.now }
 {
@@ -137,8 +137,8 @@ pub fn to_words(rows: &[u32x4; 2]) -> [u32; 8]
     [h0, h1, h2, h3, h4, h5, h6, h7]
 }
 
-/// The 32 bytes of the eight words of two rows, each word's low byte first (RFC 7693, 2.4). Those
-/// of the last chaining words begin with the digest (3.3).
+/// Returns the 32 bytes of the eight words of two rows, each word's low byte first (RFC 7693,
+/// 2.4). Those of the last chaining words begin with the digest (3.3).
 #[inline(always)]
 pub fn to_bytes(rows: &[u32x4; 2]) -> [u8; 32]
     ensures { result ≡ bytes_of blake2s (eight rows.now) }

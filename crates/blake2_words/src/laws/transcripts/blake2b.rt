@@ -1,4 +1,4 @@
-//! What a transcript of BLAKE2b tells of its input.
+//! What a transcript of BLAKE2b shows about its input.
 
 ghost use Rattle.std.specs.Prelude.{◌≡◌, ◌↔◌, IsTrue};
 ghost use Rattle.blake2_rows.specs.Family.{blake2b};
@@ -6,9 +6,9 @@ ghost use Rattle.blake2_words.specs.Transcript.{TranscriptsDetermine};
 
 use crate::steps::Transcript;
 
-/// Whether two transcripts are equal, words and entries. A transcript is of one output size and,
-/// but for zeros behind salt and persona, of one input: inputs with equal transcripts are the
-/// same.
+/// Returns whether two transcripts are equal, words and entries. A transcript belongs to one
+/// output size and, except for zeros after a salt and a persona, to one input: inputs with equal
+/// transcripts are the same.
 pub fn equal(a: &Transcript<u64, 128>, b: &Transcript<u64, 128>) -> bool
     ensures equal { IsTrue result
         ↔ ((a.now.words ≡ b.now.words) × (a.now.entries.items ≡ b.now.entries.items)) }
