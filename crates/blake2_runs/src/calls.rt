@@ -9,18 +9,19 @@ ghost use Rattle.blake2_runs.specs.Holding.{PlaysCall};
 use blake2_digest::{Duplicate, FixedOutput, FixedOutputReset, Reset, Update};
 use std::alloc::Global;
 
-/// A call on the state in a slot. Slots are counted from 0.
+/// A call on the state in a slot. Slots are numbered from 0.
 #[derive(Clone, Copy)]
 pub enum Call<'a> {
-    /// The state takes these bytes.
+    /// The state absorbs these bytes.
     Update(usize, &'a [u8]),
     /// A copy of the state becomes the next slot.
     Clone(usize),
-    /// The state starts again, with what it was made from. A last-node flag stays as it is.
+    /// The state goes back to its start, under the parameters that it was made with. A last-node
+    /// flag stays as it is.
     Reset(usize),
-    /// The state answers its digest, and the slot ends.
+    /// The state returns its digest, and the slot ends.
     Finalize(usize),
-    /// The state answers its digest, and is reset.
+    /// The state returns its digest, and is reset.
     FinalizeReset(usize),
 }
 
@@ -39,12 +40,12 @@ impl Call<'_> {
     }
 }
 
-/// Why a list of calls was refused. Places are counted from 0.
+/// Why a list of calls was refused. Calls are numbered from 0.
 #[derive(Clone, Copy, Debug, PartialEq, Eq)]
 pub enum ReplayFault {
-    /// The call at this place names a slot that is absent or has ended.
+    /// The call of this number names a slot that is absent or has ended.
     NoSuchSlot(usize),
-    /// The update at this place would bring the counted bytes of its slot to 2^64 or more.
+    /// The update of this number would bring the counted bytes of its slot to 2^64 or more.
     TooLong(usize),
     /// An allocation failed.
     Memory,
@@ -61,7 +62,7 @@ fn push<T: Drop>(items: &mut Vec<T>, item: T) -> Result<(), ReplayFault>
     }
 }
 
-// The call at this place.
+// Plays the call of this number.
 fn replay_call<H, const N: usize>(
     states: &mut Vec<Option<H>>,
     digests: &mut Vec<[u8; N]>,
@@ -106,12 +107,13 @@ where
     }
 }
 
-/// Plays the calls in their order on the state `first` in slot 0, and answers the digests in the
-/// order of their calls, `N` bytes each.
+/// Plays the calls in their order on the state `first`, which is in slot 0, and returns the
+/// digests in the order of their calls, `N` bytes each.
 ///
-/// No call is played after the first bad one: its fault is answered in place of the digests. At
-/// each call the slot is looked at first, then the length, and then memory is asked for; room for
-/// slot 0 is asked for before the first call. All states are dropped.
+/// The error is a `ReplayFault`. `NoSuchSlot` and `TooLong` name the first bad call, and neither
+/// it nor a later one is played. `Memory` means that an allocation failed. At each call the slot
+/// is checked first, then the length, and then memory is allocated. Room for slot 0 is allocated
+/// before the first call. All states are dropped.
 pub fn replay<H, const N: usize>(
     alloc: Global,
     first: H,
@@ -119,21 +121,21 @@ pub fn replay<H, const N: usize>(
 ) -> Result<Vec<[u8; N]>, ReplayFault>
 where
     H: Update + FixedOutputReset<N> + FixedOutput<N> + Reset + Duplicate + Drop,
-    // The digests are those of the definition, which has some only where no call is bad.
+    // The digests are those of the definition, which has some only if no call is bad.
     ensures digests { IfOk result (λ digests. play H.meaning first calls.now ≡ Ok digests.items) }
-    // A fault but `Memory` is that of the definition, and names the first bad call.
+    // An error other than `Memory` is that of the definition, and names the first bad call.
     ensures fault { IfErr result (λ fault.
         (fault ≡ ReplayFault.Memory) ⊎ (play H.meaning first calls.now ≡ Err fault)) }
     ensures place { IfErr result (NamesFirstBad H.meaning first calls.now) }
 
-    // So a list without a bad call is refused for want of memory alone, and one with a bad call is
-    // always refused.
+    // So a list without a bad call is refused only if an allocation fails, and one with a bad
+    // call is always refused.
     ensures no_bad_call { IsOk (play H.meaning first calls.now)
         → IsOkUnless result ReplayFault.Memory }
     ensures bad_call { IsErr (play H.meaning first calls.now) → IsErr result }
 
-    // Of a state that was just made each digest is the constructor's, of the bytes since the last
-    // start of the slot, with the last-node flag off; and the fault is that of such a state.
+    // For a state that was just made, each digest is the constructor's, of the bytes since the
+    // last start of the slot, with the last-node flag off; and the error is that of such a state.
     ensures fresh { (digest : Bool → List ℕ → List ℕ) (n : ℕ) → Fresh H.meaning digest n first
         → IfOk result (λ digests. play_fresh (digest false) n calls.now ≡ Ok digests.items) }
     ensures fresh_fault { (digest : Bool → List ℕ → List ℕ) (n : ℕ)
@@ -141,8 +143,8 @@ where
         → IfErr result (λ fault.
         (fault ≡ ReplayFault.Memory) ⊎ (play_fresh (digest false) n calls.now ≡ Err fault)) }
 
-    // The same of a state at its start with a last-node flag, that of the last node of a level
-    // too: each digest is the constructor's under the flag that the state has.
+    // The same holds for a state at its start with a last-node flag, such as that of the last
+    // node of a level: each digest is the constructor's under the flag that the state has.
     ensures at_start { (digest : Bool → List ℕ → List ℕ) (n : ℕ)
         → AtStart H.meaning digest n first
         → IfOk result (λ digests.

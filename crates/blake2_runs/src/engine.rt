@@ -1,5 +1,5 @@
-//! Hashing what a device gives: sources and sinks of bytes, and the engine that reads the one to
-//! its end and writes the digest to the other.
+//! Hashing what a device returns: sources and sinks of bytes, and the engine that reads a source
+//! to its end and writes the digest to a sink.
 
 mod device;
 mod io_sink;

@@ -1,5 +1,5 @@
-//! Lists of calls and streams on hash functions, proved from the promises of `blake2_digest` alone,
-//! for every hasher and MAC that meets them.
+//! Lists of calls and streams on hash functions, proved only from the contracts of
+//! `blake2_digest`, for every hasher and MAC that meets them.
 
 #![tactic(auto)]
 

@@ -5,8 +5,8 @@ ghost use Rattle.std.specs.Prelude.{◌≡◌, false};
 use super::device::{DeviceError, Sink};
 use std::io::Write;
 
-/// A writer of std as a sink. A write that answers an error, also an interrupted one, is a failure,
-/// and so is one that takes no byte of a piece that is not empty.
+/// A writer of std as a sink. A write that returns an error, even an interrupted one, is a
+/// failure, and so is one that accepts no byte of a piece that is not empty.
 #[derive(Drop)]
 pub struct IoSink<W> {
     inner: W,
@@ -14,7 +14,7 @@ pub struct IoSink<W> {
 }
 
 impl<W: Write> IoSink<W> {
-    /// A sink into the writer.
+    /// Returns a sink into the writer, which has not failed.
     pub fn new(inner: W) -> Self
         ensures held { ⟦<IoSink<W> as Sink>⟧.held result ≡ W.contents inner }
         ensures unfailed { ⟦<IoSink<W> as Sink>⟧.failed result ≡ false }
@@ -25,7 +25,7 @@ impl<W: Write> IoSink<W> {
         }
     }
 
-    /// The writer, with the bytes that were taken.
+    /// Returns the writer, with the bytes that it accepted.
     pub fn into_inner(self) -> W
         ensures { W.contents result ≡ ⟦<IoSink<W> as Sink>⟧.held self }
     {

@@ -5,7 +5,7 @@ ghost use Rattle.std.specs.Prelude.{◌≡◌, false};
 use super::device::{DeviceError, Source};
 use std::io::Read;
 
-/// A reader of std as a source. A read that answers an error, also an interrupted one, is a
+/// A reader of std as a source. A read that returns an error, even an interrupted one, is a
 /// failure.
 #[derive(Drop)]
 pub struct IoSource<R> {
@@ -14,7 +14,7 @@ pub struct IoSource<R> {
 }
 
 impl<R: Read> IoSource<R> {
-    /// A source of what the reader gives.
+    /// Returns a source of the bytes that the reader returns, which has not failed.
     pub fn new(inner: R) -> Self
         ensures left { ⟦<IoSource<R> as Source>⟧.left result ≡ R.remaining inner }
         ensures unfailed { ⟦<IoSource<R> as Source>⟧.failed result ≡ false }
@@ -25,7 +25,7 @@ impl<R: Read> IoSource<R> {
         }
     }
 
-    /// The reader, at the byte after those that were read.
+    /// Returns the reader, at the byte after those that were read.
     pub fn into_inner(self) -> R
         ensures { R.remaining result ≡ ⟦<IoSource<R> as Source>⟧.left self }
     {

@@ -1,4 +1,5 @@
-//! Memory as a sink that takes little at a time, has little room, or fails when told to.
+//! Memory as a sink that accepts few bytes at a time, has little room, or fails when required: a
+//! test double.
 
 ghost use Rattle.std.specs.Prelude.{◌≡◌, ◌↔◌, ◌≤◌, ◌||◌, length, Some, [], IsErr, IfOk, OnErr};
 ghost use Rattle.std.specs.Prelude.{true, false};
@@ -9,9 +10,10 @@ ghost use Rattle.blake2_runs.specs.Devices.{is_failed_write, SinkState, write_co
 use super::device::{DeviceError, Sink};
 use std::marker::Model;
 
-/// A slice as a sink: at most so many bytes a call, and an error once so many have passed. No call
-/// takes a byte past the error; a full slice takes none. The bytes that were taken stand at the
-/// front of the slice, in their order, and those behind them stay as they were.
+/// A slice as a sink, a test double: a call accepts at most `most` bytes, and returns an error
+/// once `fail_at` bytes have passed. No call accepts a byte after the error, and a full slice
+/// accepts none. The accepted bytes are at the front of the slice, in their order, and those
+/// after them stay as they were.
 #[derive(Drop)]
 pub struct SliceSink<'a> {
     room: &'a mut [u8],
@@ -40,8 +42,9 @@ impl<'a> Model for SliceSink<'a> {
 }
 
 impl<'a> SliceSink<'a> {
-    /// A sink into this memory, which takes at most `most` bytes a call, and answers an error once
-    /// `fail_at` bytes have passed.
+    /// Returns a sink into this memory, which accepts at most `most` bytes a call, at least 1,
+    /// and returns `DeviceError` once `fail_at` bytes have passed. `None` means that it never
+    /// does.
     pub fn new(room: &'a mut [u8], most: usize, fail_at: Option<usize>) -> Self
         requires { 1 ≤ most }
         ensures { result ≡ record {
@@ -61,7 +64,7 @@ impl<'a> SliceSink<'a> {
         }
     }
 
-    /// How many bytes it has taken.
+    /// Returns how many bytes it has accepted.
     pub fn written(&self) -> usize
         ensures { result ≡ length self.now.held }
     {
@@ -79,7 +82,7 @@ impl Sink for SliceSink<'_> {
         ensures bytes { WriteAppends (Some self.old.held) (Some self.new.held) result buf.now }
         ensures fails { self.new.failed ≡ (self.old.failed || is_failed_write result buf.now) }
 
-        // What it answers, and what it holds then.
+        // What it returns, and what it holds then.
         ensures refused { IsErr result ↔ (self.old.before_error ≡ Some 0) }
         ensures count { IfOk result (λ n. n ≡ write_count self.old (length buf.now)) }
         ensures taken { IfOk result (λ n. self.new ≡ taken_state self.old buf.now n) }

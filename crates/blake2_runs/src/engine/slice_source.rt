@@ -1,4 +1,4 @@
-//! Memory as a source that gives little at a time, or fails when told to.
+//! Memory as a source that returns few bytes at a time, or fails when required: a test double.
 
 ghost use Rattle.std.specs.Prelude.{◌≡◌, ◌↔◌, ◌≤◌, ◌||◌, length, Some, is_err, IsErr, IfOk, OnErr};
 ghost use Rattle.std.specs.Prelude.{true, false};
@@ -8,8 +8,9 @@ ghost use Rattle.blake2_runs.specs.Devices.{Gives, SourceState, read_count, give
 use super::device::{DeviceError, Source};
 use std::marker::Model;
 
-/// A slice as a source: at most so many bytes a call, and an error once so many have passed. No
-/// call gives a byte past the error, which comes also where no byte is left.
+/// A slice as a source, a test double: a call returns at most `most` bytes, and an error once
+/// `fail_at` bytes have passed. No call returns a byte after the error, which comes even if no
+/// byte is left.
 #[derive(Drop)]
 pub struct SliceSource<'a> {
     rest: &'a [u8],
@@ -36,8 +37,8 @@ impl<'a> Model for SliceSource<'a> {
 }
 
 impl<'a> SliceSource<'a> {
-    /// A source of these bytes, which gives at most `most` a call, and answers an error once
-    /// `fail_at` bytes have passed.
+    /// Returns a source of these bytes, which returns at most `most` a call, at least 1, and
+    /// `DeviceError` once `fail_at` bytes have passed. `None` means that it never does.
     pub fn new(bytes: &'a [u8], most: usize, fail_at: Option<usize>) -> Self
         requires { 1 ≤ most }
         ensures { result ≡
@@ -62,7 +63,7 @@ impl Source for SliceSource<'_> {
         ensures bytes { Gives (Some self.old.rest) (Some self.new.rest) result buf.new }
         ensures fails { self.new.failed ≡ (self.old.failed || is_err result) }
 
-        // What it answers, and what is left.
+        // What it returns, and what is left.
         ensures refused { IsErr result ↔ (self.old.before_error ≡ Some 0) }
         ensures count { IfOk result (λ n. n ≡ read_count self.old (length buf.old)) }
         ensures given { IfOk result (λ n. self.new ≡ given_state self.old n) }

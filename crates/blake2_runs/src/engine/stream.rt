@@ -11,29 +11,30 @@ ghost use Rattle.blake2_runs.specs.Streams.{GivesAll, TakesPart, line_of};
 use super::device::{DeviceError, Sink, Source};
 use blake2_digest::{FixedOutput, Update};
 
-// The bytes that one read asks for.
+// The number of bytes that one read requests.
 const PIECE_BYTES: usize = 4096;
 
-// The bytes of the longest line: two digits for each of 64 bytes, and a newline.
+// The number of bytes of the longest line: two digits for each of 64 bytes, and a newline.
 const LINE_BYTES: usize = 129;
 
 /// Why a stream has no digest line.
 #[derive(Clone, Copy, Debug, PartialEq, Eq)]
 pub enum StreamFault {
-    /// A read of the source answered an error.
+    /// A read of the source returned an error.
     Read,
     /// The bytes that the hasher counts would be 2^64 or more.
     TooLong,
-    /// A write to the sink answered an error or took no byte.
+    /// A write to the sink returned an error or accepted no byte.
     Write,
 }
 
-/// Reads the source to its end and writes the hasher's digest of its bytes as a line: two
-/// lower-case hexadecimal digits for each of the `N` bytes, and a newline. Answers how many bytes
-/// it read.
+/// Reads the source to its end, writes the hasher's digest of its bytes to the sink as a line,
+/// and returns how many bytes it read. The line has two lower-case hexadecimal digits for each of
+/// the `N` bytes, at most 64, and a newline. Neither device may have failed before.
 ///
-/// A device that answers an error is not tried again. After `Read` and `TooLong` nothing was
-/// written; after `Write` a beginning of the line was, and not the whole. It takes no memory.
+/// The error is a `StreamFault`. A device that returns an error is not tried again. After `Read`
+/// and `TooLong` nothing was written. After `Write` a beginning of the line was written, and not
+/// the whole. The call allocates nothing.
 pub fn hash_stream<H, S, K, const N: usize>(
     source: &mut S,
     sink: &mut K,
@@ -47,14 +48,14 @@ where
     requires source { S.failed source.old ≡ false }
     requires sink { K.failed sink.old ≡ false }
 
-    // When each fault comes: `TooLong` where a source that has not failed has so many bytes that
-    // the count would reach 2^64.
+    // When each error comes: `TooLong` if a source that has not failed has so much input that the
+    // count would reach 2^64.
     ensures read { IsErrOf result StreamFault.Read ↔ IsTrue (S.failed source.new) }
     ensures write { IsErrOf result StreamFault.Write ↔ IsTrue (K.failed sink.new) }
     ensures too_long { IfSome (S.left source.old) (λ bytes. IsErrOf result StreamFault.TooLong ↔
         ((S.failed source.new ≡ false) × (2 ^ 64 ≤ H.meaning.count hasher + length bytes))) }
 
-    // What was read and written at each answer; a source that has failed tells nothing.
+    // What was read and written for each result; a source that has failed says nothing.
     ensures whole { IfOk result (λ n. (bytes : List ℕ) × (length bytes ≡ n)
         × GivesAll (S.left source.old) (S.left source.new) bytes
         × (H.meaning.count hasher + n < 2 ^ 64)
@@ -82,8 +83,9 @@ where
     }
 }
 
-/// Writes the whole text, and stops at the first write that answers an error or takes no byte:
-/// then the sink has taken a beginning of the text, and not the whole.
+/// Writes all bytes, and stops at the first write that returns an error or accepts no byte. The
+/// error is then `DeviceError`, and the sink has accepted a beginning of the bytes, and not the
+/// whole. The sink must not have failed before.
 pub fn write_whole<K: Sink>(sink: &mut K, text: &[u8]) -> Result<(), DeviceError>
     requires { K.failed sink.old ≡ false }
     ensures fails { IsErr result ↔ IsTrue (K.failed sink.new) }
@@ -101,7 +103,7 @@ pub fn write_whole<K: Sink>(sink: &mut K, text: &[u8]) -> Result<(), DeviceError
     Ok(())
 }
 
-// Hands all that the source gives to the hasher, and answers how many bytes that were.
+// Passes all that the source returns to the hasher, and returns how many bytes those were.
 fn absorb<H: Update, S: Source>(source: &mut S, hasher: &mut H) -> Result<u64, StreamFault>
     requires { S.failed source.old ≡ false }
     ensures read { IsErrOf result StreamFault.Read ↔ IsTrue (S.failed source.new) }
