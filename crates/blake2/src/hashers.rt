@@ -1,4 +1,4 @@
-//! The hashers: a core behind a lazy buffer.
+//! The hashers: a core after a lazy buffer.
 
 pub mod blake2b;
 pub mod blake2s;

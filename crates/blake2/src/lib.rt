@@ -1,5 +1,5 @@
-//! BLAKE2b and BLAKE2s (RFC 7693), after the crate `blake2` 0.11: hashers and MACs of every output
-//! size, with salt and persona.
+//! BLAKE2b and BLAKE2s (RFC 7693), with the names of the crate `blake2` 0.11: hashers and MACs of
+//! every output size, with salt and persona.
 //!
 //! ```rust
 //! use blake2::{Blake2b512, Digest};
@@ -10,8 +10,8 @@
 //! let digest: [u8; 64] = hasher.finalize();
 //! ```
 //!
-//! A node of a tree of hashes (the BLAKE2 document, 2.10) is hashed at its place in the tree, and
-//! the last node of each level is told that it is:
+//! A node of a tree of hashes (the BLAKE2 document, 2.10) is hashed under its tree parameters, and
+//! a flag marks the last node of each level:
 //!
 //! ```rust
 //! use blake2::{Blake2b512, Digest, LastNode, Tree};

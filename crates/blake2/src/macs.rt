@@ -1,4 +1,4 @@
-//! The MACs: a core behind a lazy buffer that starts with the key's block.
+//! The MACs: a core after a lazy buffer that starts with the key's block.
 
 pub mod blake2b;
 pub mod blake2s;

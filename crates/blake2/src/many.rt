@@ -1,4 +1,4 @@
-//! Several messages of one length at once, one in each lane of the vectors. How much time that
+//! Several messages of one length in parallel, one in each lane of the vectors. How much time that
 //! saves depends on the length of the processor's vectors: docs/SPEED.md has what was measured.
 //!
 //! ```rust

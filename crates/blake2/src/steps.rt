@@ -1,5 +1,5 @@
-//! The steps of a hash as values: inputs, transcripts and their readings, and the pair of steps
-//! that two inputs with equal digests come to. The calls are associated functions of the cores.
+//! The steps of a hash as values: inputs, transcripts and their readings, and the witness, a pair
+//! of steps from two inputs with equal digests. The calls are associated functions of the cores.
 
 mod blake2b;
 mod blake2s;

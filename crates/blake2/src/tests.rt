@@ -1,4 +1,4 @@
-//! Hashers that no caller reaches in a test's time, up to the greatest count, 2^64 - 1, and the
+//! Hashers that no caller reaches in a test's time, up to the largest count, 2^64 - 1, and the
 //! words that hashers start from.
 
 ghost use Rattle.std.specs.Prelude.{◌≤◌};
@@ -13,20 +13,20 @@ use blake2_words::consts::{BLAKE2B_IV, BLAKE2S_IV};
 use scalar::compress;
 use std::process::Abort;
 
-// BLAKE2b-512 that has compressed 2^64 - 256 bytes and holds a block of zeros back: 127 bytes are
-// left to the greatest count.
+// BLAKE2b-512 that has compressed 2^64 - 256 bytes and keeps a block of zeros: 127 bytes are left
+// to the largest count.
 fn blake2b_near_the_limit() -> Blake2b512 {
     Blake2b512::counting_from(u64::MAX - 255, &[0; 128])
 }
 
-// BLAKE2s-256 that has compressed 2^64 - 128 bytes and holds a block of zeros back: 63 bytes are
-// left to the greatest count.
+// BLAKE2s-256 that has compressed 2^64 - 128 bytes and keeps a block of zeros: 63 bytes are left
+// to the largest count.
 fn blake2s_near_the_limit() -> Blake2s256 {
     Blake2s256::counting_from(u64::MAX - 127, &[0; 64])
 }
 
-// Their digests behind so many zeros, high byte first, as a plain program of RFC 7693, 3.2, in
-// Python gives them, whose digests of short messages are those of hashlib; and the lines of these.
+// Their digests after that number of zeros, high byte first, from a plain program of RFC 7693,
+// 3.2, in Python, whose digests of short messages are those of hashlib; and the lines of these.
 const GREATEST_BLAKE2B: [u128; 4] = [
     0x13a39966e71fc38d0c2e77f8b81f5d82,
     0xc2b3345321a34447f6f9d7324d10812d,
@@ -54,7 +54,7 @@ fn check_digest(rt: &impl Abort, digest: &[u8], wanted: &[u128]) {
     }
 }
 
-// Checks what a stream of so many zeros to a hasher answers, and all that it writes.
+// Checks what a stream of a number of zeros to a hasher returns, and all that it writes.
 fn check_stream<H: Update + FixedOutput<N> + Drop, const N: usize>(
     rt: &impl Abort,
     hasher: H,
@@ -87,7 +87,7 @@ fn stream_to_the_greatest_count(rt: HostRuntime) {
     check_stream::<_, 32>(&rt, near, 64, Err(StreamFault::TooLong), b"");
 }
 
-// What a list of two calls answers: an update of so many zeros, and this one.
+// What a list of two calls returns: an update of a number of zeros, and this one.
 fn replay_zeros<H, const N: usize>(
     rt: &(impl Abort + AllocGlobal),
     first: H,
@@ -103,7 +103,7 @@ where
     replay(rt.alloc(), first, &calls)
 }
 
-// The digest that such a list answers, which is checked to be the only one.
+// The digest that such a list returns, which is checked to be the only one.
 fn only_digest<H, const N: usize>(
     rt: &(impl Abort + AllocGlobal),
     first: H,
@@ -152,14 +152,14 @@ fn to_bytes(h: [u32; 8]) -> [[u8; 4]; 8] {
     h.map(|word| word.to_le_bytes())
 }
 
-// The two blocks behind 2^32 - 64 bytes count 2^32 and 2^32 + 1, past the counter's low word.
+// The two blocks after 2^32 - 64 bytes count 2^32 and 2^32 + 1, past the counter's low word.
 #[test]
 fn count_blake2s_past_2_32(rt: HostRuntime) {
     let mut start = BLAKE2S_IV;
     start[0] ^= 0x01010020;
     let mut last = [0; 64];
     last[0] = b'*';
-    // The digest of 65 bytes 2a, as hashlib.blake2s gives it.
+    // The digest of 65 bytes 2a, from hashlib.blake2s.
     let h = compress(start, &[b'*'; 64], 64, false);
     let found = to_bytes(compress(h, &last, 65, true));
     let wanted = [

@@ -28,15 +28,15 @@ fn write_output<const N: usize>(
     out.copy_from_slice(&whole[..N]);
 }
 
-/// What a run of BLAKE2b holds: the core, and the bytes that it has not compressed yet. The bytes
-/// that stand before a message, its start block, are the holder's to keep.
+/// What a run of BLAKE2b holds: the core, and the bytes that it has not compressed yet. The
+/// holder keeps the start block, the bytes before a message.
 #[derive(Drop)]
 pub(crate) struct Blake2bContext {
     core: Blake2bVarCore,
     buffer: LazyBuffer<128>,
     ghost within_a_block: { length buffer ≤ 128 },
     ghost counted: { core.count + length buffer < 2 ^ 64 },
-    // All blocks of the counted bytes but one are compressed.
+    // All blocks of the counted bytes except one are compressed.
     ghost one_block_left: { core.count ≡ 128 * (chunk_count 128 (core.count + length buffer) - 1) },
 }
 
@@ -44,7 +44,8 @@ impl Blake2bContext {
     ghost use Rattle.blake2.specs.Contexts.{blake2b_context_meaning};
     ghost use Rattle.blake2_digest.specs.States.{Updated, digest_now};
 
-    /// A run from this core, which has counted nothing, with the start block pending.
+    /// Returns a run from this core, which must have counted nothing, with the start block
+    /// pending.
     pub(crate) fn new(core: Blake2bVarCore, start_block: LazyBuffer<128>) -> Self
         requires nothing_counted { core.count ≡ 0 }
         requires within_a_block { length start_block ≤ 128 }
@@ -57,7 +58,8 @@ impl Blake2bContext {
         }
     }
 
-    /// Takes the input after all that was taken before.
+    /// Absorbs the input after all that was absorbed before. Fewer than 2^64 bytes may be counted
+    /// in all.
     pub(crate) fn update(&mut self, input: &[u8])
         requires { self.old.core.count + length self.old.buffer + length input.now < 2 ^ 64 }
         ensures { (n : ℕ) (block : List ℕ)
@@ -66,14 +68,15 @@ impl Blake2bContext {
         self.buffer.digest_blocks(input, &mut self.core);
     }
 
-    /// The bytes counted since the last start, with those that are pending.
+    /// Returns the number of bytes counted since the last start, including those that are
+    /// pending.
     pub(crate) fn counted(&self) -> u64
         ensures { result ≡ self.now.core.count + length self.now.buffer }
     {
         self.core.counted() + self.buffer.get_pos() as u64
     }
 
-    /// Writes the output, and leaves nothing of the run.
+    /// Writes the output of `N` bytes, at most 64, and leaves nothing of the run.
     pub(crate) fn finish<const N: usize>(&mut self, out: &mut [u8; N])
         requires { N ≤ 64 }
         ensures output { (block : List ℕ)
@@ -85,7 +88,8 @@ impl Blake2bContext {
         self.core.wipe();
     }
 
-    /// Writes the output, and goes back to the start, with this block pending.
+    /// Writes the output of `N` bytes, at most 64, and goes back to the start, with this block
+    /// pending.
     pub(crate) fn finish_reset<const N: usize>(
         &mut self,
         start_block: LazyBuffer<128>,
@@ -152,8 +156,8 @@ impl Wipe for Blake2bContext {
 
 #[cfg(test)]
 impl Blake2bContext {
-    // A run for outputs of so many bytes, from the start words, that has compressed `counter` bytes
-    // and holds these back. No digests of it are promised, only its count.
+    // A run for outputs of `output_size` bytes, from the start words, that has compressed
+    // `counter` bytes and keeps `pending`. No digests of it are promised, only its count.
     pub(crate) fn counting_from(output_size: usize, counter: u64, pending: &[u8]) -> Self
         requires output_size { output_size ≤ 64 }
         requires within_a_block { length pending.now ≤ 128 }

@@ -48,17 +48,19 @@ impl Model for Blake2sVarCore {
 }
 
 impl Blake2sVarCore {
-    /// Whether BLAKE2s takes this place in a tree of hashes: at least one level, a node offset
-    /// below 2^48, an inner node's digest of at most 32 bytes (the BLAKE2 document, 2.8 and 2.10).
+    /// Returns whether BLAKE2s accepts these tree parameters: at least one level, a node offset
+    /// below 2^48, and an inner node's digest of at most 32 bytes (the BLAKE2 document, 2.8 and
+    /// 2.10).
     pub fn admits_tree(tree: &Tree) -> bool
         ensures { IsTrue result ↔ AdmitsTree blake2s (tree_of tree.now) }
     {
         params::admits_tree(tree)
     }
 
-    /// A core under these parameters: a salt and a persona of up to 8 bytes each, the length in
-    /// bytes of a key of up to 32, and that of outputs of up to 32. The key's block is the caller's
-    /// to give. The hash is the whole tree.
+    /// Returns a core under these parameters: a salt and a persona of up to 8 bytes each, the
+    /// length in bytes of a key of up to 32, and that of outputs of up to 32. It has absorbed
+    /// nothing: if there is a key, the caller passes the key's block as the first block. The hash
+    /// is the whole tree.
     pub fn new_with_params(salt: &[u8], persona: &[u8], key_size: usize, output_size: usize) -> Self
         requires salt { length salt.now ≤ 8 }
         requires persona { length persona.now ≤ 8 }
@@ -71,9 +73,9 @@ impl Blake2sVarCore {
         Self::new_with_tree(salt, persona, key_size, output_size, &tree)
     }
 
-    /// A core of a node of a tree of hashes: under the parameters of `new_with_params`, and at this
-    /// place in the tree, one that `admits_tree` takes (the BLAKE2 document, 2.10). The last-node
-    /// flag is off.
+    /// Returns a core of a node of a tree of hashes: under the parameters of `new_with_params`,
+    /// and under these tree parameters, which `admits_tree` must accept (the BLAKE2 document,
+    /// 2.10). The last-node flag is off.
     pub fn new_with_tree(
         salt: &[u8],
         persona: &[u8],
@@ -104,8 +106,8 @@ impl Blake2sVarCore {
         }
     }
 
-    /// The core that holds these chaining words, was started from those, and has counted so many
-    /// bytes. Its last-node flag is off.
+    /// Returns a core that holds the chaining words `h`, was started from the words `start`, and
+    /// has counted `counter` bytes. Its last-node flag is off.
     #[inline]
     pub fn from_words(h: &[u32; 8], start: &[u32; 8], counter: u64) -> Self
         ensures { result
@@ -119,7 +121,7 @@ impl Blake2sVarCore {
         }
     }
 
-    /// The eight chaining words.
+    /// Returns the eight chaining words.
     #[inline]
     pub fn chain_words(&self) -> [u32; 8]
         ensures { result ≡ self.now.h }
@@ -127,7 +129,7 @@ impl Blake2sVarCore {
         words::to_words(&self.h)
     }
 
-    /// The eight words that the run started from.
+    /// Returns the eight words that the run started from.
     #[inline]
     pub fn first_words(&self) -> [u32; 8]
         ensures { result ≡ self.now.start }
@@ -313,8 +315,8 @@ impl AlgorithmName for Blake2sVarCore {
     }
 }
 
-// Writes the name of a core, for `Debug`. It is given no core, so that it can write nothing of what
-// one holds.
+// Writes the name of a core, for `Debug`. It has no core as an argument, so that it can write
+// nothing of what one holds.
 fn write_name<W: fmt::Write>(f: &mut fmt::Formatter<W>) -> fmt::Result {
     f.write_str("Blake2sVarCore { ... }")
 }

@@ -27,9 +27,10 @@ impl<const N: usize> Blake2b<N> {
     ghost use Rattle.blake2.specs.Hashers.{blake2b_meaning};
     ghost use Rattle.blake2_digest.specs.States.{Fresh};
 
-    /// A hasher of a node of a tree of hashes that has taken nothing: with a salt and a persona of
-    /// up to 16 bytes each, at this place in the tree, one that `Blake2bVarCore::admits_tree` takes
-    /// (the BLAKE2 document, 2.10). Its last-node flag is off; [`LastNode::set_last_node`] sets it.
+    /// Returns a hasher of a node of a tree of hashes that has absorbed nothing, with a salt and
+    /// a persona of up to 16 bytes each. `Blake2bVarCore::admits_tree` must accept the tree
+    /// parameters (the BLAKE2 document, 2.10). The last-node flag is off;
+    /// [`LastNode::set_last_node`] sets it.
     pub fn new_with_tree(salt: &[u8], persona: &[u8], tree: &Tree) -> Self
         requires supported { N ≤ 64 }
         requires salt { length salt.now ≤ 16 }
@@ -44,7 +45,7 @@ impl<const N: usize> Blake2b<N> {
         }
     }
 
-    // A hasher with this persona that has taken nothing, of a hash which is the whole tree.
+    // A hasher with this persona that has absorbed nothing, of a hash that is the whole tree.
     fn with_persona(persona: &[u8]) -> Self
         requires supported { N ≤ 64 }
         requires persona { length persona.now ≤ 16 }
@@ -186,7 +187,7 @@ impl<const N: usize> Wipe for Blake2b<N> {
 
     ghost is_wiped = { λ s. IsWiped (blake2b_state s) };
 
-    /// Sets the core and the pending bytes to zero. As many bytes are pending as before.
+    /// Overwrites the core and the pending bytes with zeros. The number of pending bytes stays.
     fn wipe(&mut self)
         ensures wiped { IsWiped (blake2b_state self.new) }
         ensures pending { length (blake2b_state self.new).pending
@@ -205,7 +206,7 @@ impl<const N: usize> Blake2b<N> {
     ghost use Rattle.std.specs.Prelude.{◌+◌, ◌-◌, ◌*◌, ◌^◌, ◌<◌};
     ghost use Rattle.blake2_digest.specs.Blocks.{chunk_count};
 
-    // A hasher that has compressed `counter` bytes and holds these back.
+    // A hasher that has compressed `counter` bytes and keeps `pending`.
     pub(crate) fn counting_from(counter: u64, pending: &[u8]) -> Self
         requires supported { N ≤ 64 }
         requires within_a_block { length pending.now ≤ 128 }

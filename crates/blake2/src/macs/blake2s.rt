@@ -26,7 +26,7 @@ pub struct Blake2sMac<const N: usize> {
     start_block: LazyBuffer<64>,
     ghost supported: { N ≤ 32 },
     ghost start_within_a_block: { length start_block ≤ 64 },
-    // A MAC is no node of a tree of hashes.
+    // A MAC is not a node of a tree of hashes.
     ghost no_last_node: { context.core.last_node ≡ false },
 }
 
@@ -34,9 +34,10 @@ impl<const N: usize> Blake2sMac<N> {
     ghost use Rattle.blake2.specs.Hashers.{blake2s_mac_meaning};
     ghost use Rattle.blake2_digest.specs.States.{Fresh};
 
-    /// A MAC under a key of 1 to 32 bytes or none, with a salt and a persona of up to 8 bytes
-    /// each; `None` is no key, and the MAC is then the unkeyed hash. `InvalidLength` exactly for a
-    /// given key of no bytes or of more than 32, and for a salt or a persona of more than 8.
+    /// Returns a MAC that has absorbed no message, under a key of 1 to 32 bytes or none, with a
+    /// salt and a persona of up to 8 bytes each. `None` stands for no key, and the MAC is then
+    /// the unkeyed hash. The error is `InvalidLength`, exactly for a key of no bytes or of more
+    /// than 32, and for a salt or a persona of more than 8.
     pub fn new_with_salt_and_personal(
         key: Option<&[u8]>,
         salt: &[u8],
@@ -62,7 +63,7 @@ impl<const N: usize> Blake2sMac<N> {
         }
     }
 
-    // A MAC under this key that has taken nothing else.
+    // A MAC under this key that has absorbed nothing else.
     fn under_key(key: &[u8], salt: &[u8], persona: &[u8]) -> Self
         requires supported { N ≤ 32 }
         requires key { length key.now ≤ 32 }
@@ -82,7 +83,7 @@ impl<const N: usize> Blake2sMac<N> {
         mac
     }
 
-    // A MAC under no key that has taken nothing.
+    // A MAC under no key that has absorbed nothing.
     fn unkeyed(salt: &[u8], persona: &[u8]) -> Self
         requires supported { N ≤ 32 }
         requires salt { length salt.now ≤ 8 }
@@ -209,8 +210,8 @@ impl<const N: usize> Wipe for Blake2sMac<N> {
 
     ghost is_wiped = { λ s. IsWiped (blake2s_mac_state s) };
 
-    /// Sets the core, the pending bytes and the block of the start to zero. As many bytes are
-    /// pending as before, and the block of the start is as long.
+    /// Overwrites the core, the pending bytes and the block of the start with zeros. The number
+    /// of pending bytes and the length of that block stay.
     fn wipe(&mut self)
         ensures wiped { IsWiped (blake2s_mac_state self.new) }
         ensures pending { length (blake2s_mac_state self.new).pending
@@ -237,8 +238,8 @@ impl<const N: usize> Drop for Blake2sMac<N> {
 
 impl<const N: usize> ZeroizeOnDrop for Blake2sMac<N> {}
 
-// Writes the name of a MAC with outputs of `N` bytes, for `Debug`. It is given no MAC, so that it
-// can write nothing of a key.
+// Writes the name of a MAC with outputs of `N` bytes, for `Debug`. It has no MAC as an argument,
+// so that it can write nothing of a key.
 fn write_name<const N: usize, W: fmt::Write>(f: &mut fmt::Formatter<W>) -> fmt::Result {
     write!(f, "Blake2sMac{N} {{ ... }}")
 }

@@ -15,17 +15,21 @@ use blake2_words::steps::blake2b as run;
 use std::alloc::{AllocError, Global};
 
 impl Blake2bVarCore {
-    /// Whether BLAKE2b takes the input: salt and persona have at most 16 bytes each, the key is
-    /// absent or has 1 to 64, `admits_tree` is true of the place in a tree, and fewer than 2^64
-    /// bytes are counted.
+    /// Returns whether BLAKE2b accepts the input: salt and persona have at most 16 bytes each,
+    /// the key is absent or has 1 to 64 bytes, `admits_tree` is true of the tree parameters, and
+    /// fewer than 2^64 bytes are counted, those of the message with 128 for a key (RFC 7693, 2.1;
+    /// the BLAKE2 document, 2.8).
     pub fn accepts(input: &Input<'_>) -> bool
         ensures { IsTrue result ↔ Accepts blake2b (input_of input.now) }
     {
         run::accepts(input)
     }
 
-    /// The transcript of an accepted input, for a digest of `output_size` bytes, at most 64: the
-    /// parameter words, and each block with its counter and flag. Fails only for want of memory.
+    /// Returns the transcript of an input at a digest of `output_size` bytes, at most 64: the
+    /// parameter words, and an entry for each block, with its counter and flags. The key, if
+    /// there is one, is the first block (RFC 7693, 3.3). `accepts` must be true of the input. The
+    /// error is `AllocError`, if there is no memory for a vector with exactly the room for the
+    /// entries, of 144 bytes each.
     pub fn transcript(
         alloc: Global,
         input: &Input<'_>,
@@ -41,9 +45,10 @@ impl Blake2bVarCore {
         run::transcript(alloc, input, output_size)
     }
 
-    /// The input and the output size that have this transcript, with salt and persona padded to 16
-    /// bytes; `None` exactly where no accepted input has it. Fails only for want of memory, and
-    /// only where an input has it.
+    /// Returns the input and the output size that have this transcript, with salt and persona
+    /// padded with zeros to 16 bytes, or `None` if no accepted input at a size of at most 64
+    /// bytes has it. The error is `AllocError`, if an allocation fails. It comes only if some
+    /// input has the transcript. The transcript stays as it is.
     pub fn read_transcript(
         alloc: Global,
         transcript: &Transcript<u64, 128>,
@@ -59,13 +64,19 @@ impl Blake2bVarCore {
         run::read_transcript(alloc, transcript)
     }
 
-    /// Of two different accepted inputs with equal digests of `output_size` bytes, at most 64, one
-    /// step of each run: they stand at one distance from the ends, all nearer pairs are equal, they
-    /// differ, and their outputs agree: in the digest's bytes where they are the last steps, and
-    /// wholly where they are not. `None` where the inputs are the same or the digests differ.
+    /// Returns the witness of a collision. For two inputs that are not the same and have equal
+    /// digests of `output_size` bytes, it is a step of the first input's run and a step of the
+    /// second's. These steps differ, and their outputs agree: in the first `output_size` bytes if
+    /// they are the last of their runs, and in all bytes if they are not. They are at the same
+    /// distance from the ends of their runs, and all steps nearer to the ends are equal in pairs.
+    /// The result is `None` for all other inputs, such as two that differ only in zeros after a
+    /// salt or a persona.
     ///
-    /// The signature is that of `transcript` and `read_transcript`, which take memory. This call
-    /// takes none and never fails: it asks nothing of `alloc`, and what it returns is always `Ok`.
+    /// `accepts` must be true of both inputs, and `output_size` is at most 64.
+    ///
+    /// The signature is that of `transcript` and `read_transcript`, which allocate memory. This
+    /// call allocates none and never fails: it does not use `alloc`, and its result is always
+    /// `Ok`.
     pub fn witness(
         alloc: Global,
         a: &Input<'_>,
