@@ -13,13 +13,14 @@ use blake2::Blake2b;
 use blake2::digest::{FixedOutput, LastNode, Update};
 use std::mem;
 
-/// A tree of hashes with two levels over BLAKE2b, its root of `N` bytes, at most 64. It takes no
-/// memory, and four whole leaves with more input behind them are hashed at once.
+/// A tree of hashes with two levels over BLAKE2b (the BLAKE2 document, 2.10), with a root of `N`
+/// bytes, at most 64. It allocates nothing, and hashes four whole leaves in parallel if more
+/// input follows them.
 // A full leaf stays open until more input comes, since only the end shows which leaf is the last.
 #[derive(Drop)]
 pub struct TreeHasher<const N: usize> {
     nodes: Nodes,
-    // How many leaves are closed: the root has taken their digests.
+    // How many leaves are closed: the root has absorbed their digests.
     closed: u64,
     // The open leaf, full or not.
     leaf: Blake2b<64>,
@@ -41,8 +42,8 @@ impl<const N: usize> TreeHasher<N> {
     ghost use Rattle.blake2_tree.specs.LeafUpdates.{TookLeaves};
     ghost use Rattle.blake2_tree.specs.TreeHashers.{held_tree, future, count, Took};
 
-    /// A hasher that has taken nothing. Salt and persona have at most 16 bytes each, and a leaf has
-    /// `leaf_length` bytes, 1 to 2^32 - 1.
+    /// Returns a hasher that has absorbed nothing. Salt and persona have at most 16 bytes each,
+    /// and a leaf has `leaf_length` bytes, 1 to 2^32 - 1.
     pub fn new(salt: &[u8], persona: &[u8], leaf_length: u32) -> Self
         requires size { N ≤ 64 }
         requires salt { length salt.now ≤ 16 }
@@ -63,7 +64,8 @@ impl<const N: usize> TreeHasher<N> {
         }
     }
 
-    /// Takes the input after all that was taken before; fewer than 2^58 bytes in all.
+    /// Absorbs the input after all that was absorbed before. The message must have fewer than
+    /// 2^58 bytes in all; `counted` returns the count so far.
     pub fn update(&mut self, input: &[u8])
         requires { count self.old + length input.now < 2 ^ 58 }
         ensures { Took self.old input.now self.new }
@@ -79,15 +81,17 @@ impl<const N: usize> TreeHasher<N> {
         self.leaf.update(rest);
     }
 
-    /// Whether what was absorbed is whole leaves, or nothing.
+    /// Returns whether what was absorbed is whole leaves, or nothing.
     pub fn is_at_boundary(&self) -> bool
         ensures { IsTrue result ↔ IsAtBoundary (held_tree self.now) }
     {
         self.counted() % u64::from(self.nodes.leaf_length) == 0
     }
 
-    /// Whether [`TreeHasher::update_leaves`] accepts so many bytes of digests and so many bytes of
-    /// input after them.
+    /// Returns whether [`TreeHasher::update_leaves`] accepts `digests_length` bytes of digests
+    /// and `input_length` bytes of input after them. The digests must be whole, and the message
+    /// stays below 2^58 bytes. If there are digests, the hasher must be at a leaf boundary, and
+    /// at least one byte of input follows them.
     pub fn accepts_leaves(&self, digests_length: usize, input_length: usize) -> bool
         ensures { IsTrue result ↔ AcceptsLeaves (held_tree self.now) digests_length input_length }
     {
@@ -99,12 +103,12 @@ impl<const N: usize> TreeHasher<N> {
             && has_room_for(self.counted(), leaves, length, input_length as u64)
     }
 
-    /// Absorbs whole leaves that others have hashed, given by their joined digests, and then the
-    /// input: it is then as after an [`TreeHasher::update`] with the leaves' bytes and one with the
-    /// input. The digests have 64 bytes each, and are those of the next leaves in order, as
-    /// `hash_leaves` writes them of a range that does not end the message. They come at a leaf
-    /// boundary, and at least one byte of input comes after them. Without digests it is an `update`.
-    /// [`TreeHasher::accepts_leaves`] is the test.
+    /// Absorbs whole leaves that others have hashed, which are passed as their joined digests,
+    /// and then the input. It is then as after an [`TreeHasher::update`] with the leaves' bytes
+    /// and one with the input. The digests have 64 bytes each, and are those of the next leaves
+    /// in order, as `hash_leaves` writes them for a range that does not end the message. They
+    /// must come at a leaf boundary, and at least one byte of input after them. Without digests
+    /// the call is an `update`. [`TreeHasher::accepts_leaves`] must be true of the two lengths.
     pub fn update_leaves(&mut self, digests: &[u8], input: &[u8])
         requires { AcceptsLeaves (held_tree self.old) (length digests.now) (length input.now) }
         ensures { TookLeaves (held_tree self.old) digests.now input.now (held_tree self.new) }
@@ -117,14 +121,14 @@ impl<const N: usize> TreeHasher<N> {
         self.update(input);
     }
 
-    /// The bytes of the message that it has taken so far.
+    /// Returns the number of bytes of the message that it has absorbed so far.
     pub fn counted(&self) -> u64
         ensures { result ≡ count self.now }
     {
         self.closed * u64::from(self.nodes.leaf_length) + self.leaf.counted()
     }
 
-    /// The root of all that was taken.
+    /// Returns the root of all that was absorbed, `N` bytes.
     pub fn finalize(self) -> [u8; N]
         ensures { result ≡ future self.entry [] }
     {
@@ -140,15 +144,15 @@ impl<const N: usize> TreeHasher<N> {
         root.finalize_fixed()
     }
 
-    // The bytes that the open leaf still takes.
+    // The number of bytes that the open leaf still has room for.
     fn room(&self) -> u64
         ensures { result ≡ room (held_tree self.now) }
     {
         u64::from(self.nodes.leaf_length) - self.leaf.counted()
     }
 
-    // Fills the open leaf up and closes it; it is not the last, since more follows. Opens the next
-    // one and answers what is left of the input.
+    // Fills the open leaf up and closes it; it is not the last, since more follows. Opens the
+    // next one and returns what is left of the input.
     fn close_leaf<'a>(&mut self, input: &'a [u8]) -> &'a [u8]
         requires more { room (held_tree self.old) < length input.now }
         requires fits { count self.old + length input.now < 2 ^ 58 }
@@ -176,7 +180,7 @@ impl<const N: usize> TreeHasher<N> {
         self.closed += 1;
     }
 
-    // Closes the open leaf where it is full, so that the open one is empty: more follows.
+    // Closes the open leaf if it is full, so that the open one is empty: more follows.
     fn begin_leaf(&mut self)
         requires boundary { IsAtBoundary (held_tree self.old) }
         requires fits { count self.old + 1 < 2 ^ 58 }
@@ -210,8 +214,8 @@ impl<const N: usize> TreeHasher<N> {
         self.leaf = self.nodes.open_node(self.closed, 0);
     }
 
-    // Closes four leaves at once that are whole and not the last: the open one, which is empty, and
-    // the next three. Opens the next one and answers what is left of the input.
+    // Closes four leaves in parallel that are whole and not the last: the open one, which is
+    // empty, and the next three. Opens the next one and returns what is left of the input.
     fn close_four<'a>(&mut self, input: &'a [u8]) -> &'a [u8]
         requires empty { (blake2b_meaning 64).count self.old.leaf ≡ 0 }
         requires more { 4 * self.old.nodes.leaf_length < length input.now }
@@ -226,8 +230,8 @@ impl<const N: usize> TreeHasher<N> {
         &input[self.nodes.four_leaves()..]
     }
 
-    // Closes four leaves at once as long as more follows, where the open one is empty. Answers what
-    // is left of the input: four leaves at most, of which none is closed.
+    // Closes four leaves in parallel as long as more follows, if the open one is empty. Returns
+    // what is left of the input: at most four leaves, of which none is closed.
     fn close_fours<'a>(&mut self, input: &'a [u8]) -> &'a [u8]
         requires empty { (blake2b_meaning 64).count self.old.leaf ≡ 0 }
         requires fits { count self.old + length input.now < 2 ^ 58 }
@@ -244,7 +248,7 @@ impl<const N: usize> TreeHasher<N> {
         rest
     }
 
-    // The root of all that was taken and of four whole leaves behind it: the open one, which is
+    // The root of all that was absorbed and of four whole leaves after it: the open one, which is
     // empty, and three more, the last of the tree.
     fn finish_four(self, input: &[u8]) -> [u8; N]
         requires empty { (blake2b_meaning 64).count self.leaf ≡ 0 }
@@ -264,7 +268,7 @@ impl<const N: usize> TreeHasher<N> {
         root.finalize_fixed()
     }
 
-    // The root of all that was taken, where the open leaf is empty, and of the input behind it.
+    // The root of all that was absorbed, if the open leaf is empty, and of the input after it.
     fn finish(mut self, input: &[u8]) -> [u8; N]
         requires empty { (blake2b_meaning 64).count self.leaf ≡ 0 }
         requires fits { count self + length input.now < 2 ^ 58 }
@@ -282,7 +286,7 @@ impl<const N: usize> TreeHasher<N> {
 
 /// The root of a message, as [`TreeHasher`] gives it: `N` bytes, at most 64. Salt and persona have
 /// at most 16 bytes each, a leaf has `leaf_length` bytes, 1 to 2^32 - 1, and the message fewer than
-/// 2^58. It takes no memory, and hashes whole leaves by fours, the last four too.
+/// 2^58. The call allocates nothing, and hashes whole leaves by fours, the last four too.
 pub fn tree_root<const N: usize>(
     salt: &[u8],
     persona: &[u8],

@@ -7,7 +7,7 @@ use crate::limits::LABEL_BYTES;
 use blake2_digest::padded;
 use std::marker::Model;
 
-/// At most 16 bytes.
+/// A salt or a persona, at most 16 bytes.
 #[derive(Drop)]
 pub(crate) struct Label {
     bytes: [u8; LABEL_BYTES],
@@ -23,7 +23,7 @@ impl Model for Label {
 }
 
 impl Label {
-    /// Keeps these bytes.
+    /// Returns a label that keeps these bytes, at most 16.
     pub(crate) fn new(text: &[u8]) -> Self
         requires { length text.now ≤ 16 }
         ensures { result ≡ text.now }
@@ -34,7 +34,7 @@ impl Label {
         }
     }
 
-    /// The bytes that are kept.
+    /// Returns the bytes that are kept.
     pub(crate) fn as_slice(&self) -> &[u8]
         ensures bytes { result.now ≡ self.now }
         ensures short { length self.now ≤ 16 }

@@ -1,4 +1,4 @@
-//! The tree's numbers, and the pieces in which a message is best handed over.
+//! The tree's numbers, and the best length for the pieces of a message.
 
 ghost use Rattle.std.specs.Prelude.{◌≡◌, ℕ, ◌+◌, ◌*◌, ◌^◌, ◌<◌, ◌≤◌, ◌↔◌, ◌⊎◌, IsTrue};
 
@@ -9,7 +9,7 @@ pub const MESSAGE_LIMIT: u64 = 1 << 58;
 /// Salt and persona have at most this many bytes each (the BLAKE2 document, 2.8).
 pub const LABEL_BYTES: usize = 16;
 
-// Whether a message of `count` bytes still has room for so many leaves and so many bytes more.
+// Whether a message of `count` bytes still has room for `leaves` whole leaves and `more` bytes.
 pub(crate) fn has_room_for(count: u64, leaves: u64, leaf_length: u32, more: u64) -> bool
     requires some { 1 ≤ leaf_length }
     requires counted { count < 2 ^ 58 }
@@ -19,18 +19,19 @@ pub(crate) fn has_room_for(count: u64, leaves: u64, leaf_length: u32, more: u64)
     more <= rest && leaves <= (rest - more) / u64::from(leaf_length)
 }
 
-// The bytes of a piece, where leaves are short or very long.
+// The number of bytes of a piece, if leaves are short or very long.
 const PIECE_BYTES: usize = 1 << 16;
 
-// The bytes of the longest piece.
+// The number of bytes of the longest piece.
 const LONGEST_PIECE_BYTES: usize = 1 << 24;
 
-/// How many bytes a piece of a message best has, for a tree with leaves of this length, 1 at least:
-/// about 64 KiB, or 17 leaves where these are more, and at most 16 MiB. Four leaves are hashed at
-/// once that others follow. So a piece is fours of leaves and one leaf more, which stays open until
-/// the next piece shows that others follow it, and is hashed alone: one leaf in 17 at most, and one
-/// in 13 with leaves of 1 MiB, of which 17 are longer than the longest piece. Five leaves that are
-/// longer than that are no piece.
+/// Returns the best number of bytes for a piece of a message, for a tree with leaves of this
+/// length, at least 1: about 64 KiB, or 17 leaves if these are more, and at most 16 MiB. Four
+/// leaves are hashed in parallel if others follow them. So a piece is a multiple of four leaves
+/// and one leaf more, which stays open until the next piece shows that others follow it, and is
+/// hashed separately. At most one leaf in 17 is, and one in 13 with leaves of 1 MiB, of which 17
+/// are longer than the longest piece. If five leaves are longer than that, a piece is not a
+/// number of leaves.
 pub fn best_piece_length(leaf_length: u32) -> usize
     requires { 1 ≤ leaf_length }
     ensures least { 2 ^ 14 < result }

@@ -1,4 +1,4 @@
-//! The nodes of a tree: their places, hashers and inputs of them, and their digests.
+//! The nodes of a tree: their tree parameters, hashers and inputs of them, and their digests.
 
 ghost use Rattle.std.specs.Prelude.{◌≡◌, ◌+◌, ◌*◌, ◌^◌, ◌<◌, ◌≤◌, length, IfOk, true};
 ghost use Rattle.blake2.specs.Hashers.{blake2b_meaning};
@@ -17,8 +17,8 @@ use blake2::steps::{Input, Tree};
 use blake2::{Blake2b, many};
 use std::alloc::{AllocError, Global};
 
-/// What the nodes of one tree share: salt and persona of at most 16 bytes each, and the bytes of a
-/// leaf, 1 to 2^32 - 1.
+/// What the nodes of one tree share: salt and persona of at most 16 bytes each, and the number of
+/// bytes of a leaf, 1 to 2^32 - 1.
 #[derive(Drop)]
 pub struct Nodes {
     salt: Label,
@@ -27,7 +27,7 @@ pub struct Nodes {
     ghost some_length: { 1 ≤ leaf_length },
 }
 
-// Writes the bytes from place `at` on.
+// Writes the bytes from index `at` on.
 fn write_at(out: &mut [u8], at: usize, bytes: &[u8])
     requires { at + length bytes.now ≤ length out.old }
     ensures { out.new ≡ with_part at bytes.now out.old }
@@ -38,8 +38,8 @@ fn write_at(out: &mut [u8], at: usize, bytes: &[u8])
 impl Nodes {
     ghost use Rattle.blake2_tree.specs.Nodes.{shared_parameters, node_digest, four_digests};
 
-    /// What all nodes of a tree share: salt and persona, at most 16 bytes each, and the bytes of a
-    /// leaf, at least 1.
+    /// Returns what all nodes of a tree share: salt and persona, at most 16 bytes each, and the
+    /// number of bytes of a leaf, at least 1.
     pub fn new(salt: &[u8], persona: &[u8], leaf_length: u32) -> Self
         requires salt { length salt.now ≤ 16 }
         requires persona { length persona.now ≤ 16 }
@@ -53,7 +53,7 @@ impl Nodes {
         }
     }
 
-    /// The salt, 0 to 16 bytes.
+    /// Returns the salt, 0 to 16 bytes.
     pub fn salt(&self) -> &[u8]
         ensures is { result.now ≡ (shared_parameters self.now).salt }
         ensures short { length result.now ≤ 16 }
@@ -61,7 +61,7 @@ impl Nodes {
         self.salt.as_slice()
     }
 
-    /// The persona, 0 to 16 bytes.
+    /// Returns the persona, 0 to 16 bytes.
     pub fn persona(&self) -> &[u8]
         ensures is { result.now ≡ (shared_parameters self.now).persona }
         ensures short { length result.now ≤ 16 }
@@ -69,7 +69,8 @@ impl Nodes {
         self.persona.as_slice()
     }
 
-    /// The place of a node: depth 0 is that of the leaves, and depth 1 the root's, at offset 0.
+    /// Returns the tree parameters of a node: depth 0 is that of the leaves, and depth 1 the
+    /// root's, at offset 0.
     pub fn place(&self, node_offset: u64, node_depth: u8) -> Tree
         ensures { tree_of result
             ≡ place (shared_parameters self.now).leaf_length node_offset node_depth }
@@ -84,7 +85,7 @@ impl Nodes {
         }
     }
 
-    /// A hasher of a node.
+    /// Returns a hasher of a node that has absorbed nothing, with a digest of at most 64 bytes.
     pub(crate) fn open_node<const N: usize>(&self, node_offset: u64, node_depth: u8) -> Blake2b<N>
         requires { N ≤ 64 }
         ensures { Fresh (blake2b_meaning N)
@@ -116,7 +117,7 @@ impl Nodes {
         }
     }
 
-    /// Leaf `i` of a message, as an input.
+    /// Returns leaf `i` of a message as an input. `i` must be below the number of leaves.
     pub(crate) fn leaf<'a>(&'a self, message: &'a [u8], i: usize) -> Input<'a>
         requires { i < leaf_count self.now.leaf_length (length message.now) }
         ensures is { input_of result ≡ leaf_input (shared_parameters self.now) message.now i }
@@ -127,7 +128,7 @@ impl Nodes {
         self.node(i as u64, 0, is_last, piece(length, message, i))
     }
 
-    /// The root over the joined digests of the leaves, as an input.
+    /// Returns the root over the joined digests of the leaves, as an input.
     pub(crate) fn root<'a>(&'a self, digests: &'a [u8]) -> Input<'a>
         ensures is { input_of result ≡ root_over (shared_parameters self.now) digests.now }
         ensures accepted { Accepts blake2b (input_of result) }
@@ -135,15 +136,17 @@ impl Nodes {
         self.node(0, 1, true, digests)
     }
 
-    /// The bytes of four leaves, which are hashed at once.
+    /// Returns the number of bytes of four leaves, which are hashed in parallel.
     pub(crate) fn four_leaves(&self) -> usize
         ensures { result ≡ 4 * self.now.leaf_length }
     {
         4 * self.leaf_length as usize
     }
 
-    /// The digests of four whole leaves at once: leaf `i` of a message, with which the text begins,
-    /// and the next three, the fourth of which is the message's last or not.
+    /// Returns the digests, of 64 bytes each, of four whole leaves, which are hashed in parallel:
+    /// leaf `i` of a message, whose bytes are the first of `text`, and the next three. `last`
+    /// says whether the fourth is the message's last. `text` must have at least the bytes of four
+    /// leaves, and `i` is at most 2^64 - 4.
     pub fn hash_four(&self, i: u64, last: bool, text: &[u8]) -> [[u8; 64]; 4]
         requires place { i + 3 < 2 ^ 64 }
         requires whole { 4 * self.now.leaf_length ≤ length text.now }
@@ -169,7 +172,7 @@ impl Nodes {
         leaf.finalize_fixed()
     }
 
-    /// The root over the joined digests of the leaves.
+    /// Returns the root over the joined digests of the leaves, in `N` bytes, at most 64.
     pub(crate) fn root_of<const N: usize>(&self, digests: &[u8]) -> [u8; N]
         requires { N ≤ 64 }
         ensures { result ≡ node_digest N (shared_parameters self.now) 0 1 true digests.now }
@@ -180,8 +183,9 @@ impl Nodes {
         root.finalize_fixed()
     }
 
-    /// Writes the digests of a range of leaves, the first of them at place `first`, and the last of
-    /// them the message's last or not.
+    /// Writes the digests of a range of leaves, the first of which is leaf `first`. `ends` says
+    /// whether the last of them is the message's last. `out` must have exactly 64 bytes for each
+    /// leaf.
     pub(crate) fn write_digests(&self, first: u64, ends: bool, bytes: &[u8], out: &mut [u8])
         requires range { IsRange self.now.leaf_length first ends (length bytes.now) }
         requires room { length out.old ≡ 64 * leaf_count self.now.leaf_length (length bytes.now) }
@@ -198,7 +202,7 @@ impl Nodes {
         self.write_last(first + done as u64, ends, rest, &mut out[64 * done..]);
     }
 
-    // The same of at most four leaves. Four whole ones are hashed at once.
+    // The same for at most four leaves. Four whole ones are hashed in parallel.
     fn write_last(&self, first: u64, ends: bool, bytes: &[u8], out: &mut [u8])
         requires short { length bytes.now ≤ 4 * self.now.leaf_length }
         requires place { first + 3 < 2 ^ 64 }
@@ -232,7 +236,8 @@ impl Nodes {
         write_at(out, 64 * done, &digest);
     }
 
-    /// The joined digests of a message's leaves. Fails only for want of memory.
+    /// Returns the joined digests of a message's leaves. The message has fewer than 2^58 bytes.
+    /// The error is `AllocError`, if an allocation fails.
     pub(crate) fn leaf_digests(&self, alloc: Global, message: &[u8]) -> Result<Vec<u8>, AllocError>
         requires { length message.now < 2 ^ 58 }
         ensures { IfOk result (λ digests.

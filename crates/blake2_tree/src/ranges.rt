@@ -1,6 +1,6 @@
-//! Ranges of a message's leaves, each hashed by itself, and the root over their joined digests. So
-//! threads, processes or machines may each hash a part of a message, in any order, and a leaf that
-//! has changed is hashed alone.
+//! Ranges of a message's leaves, each hashed separately, and the root over their joined digests.
+//! So threads, processes or machines may each hash a part of a message, in any order, and after a
+//! change only the changed leaf is hashed.
 
 ghost use Rattle.std.specs.Prelude.{◌≡◌, ◌*◌, ◌^◌, ◌<◌, ◌≤◌, ◌↔◌, length, IsTrue};
 ghost use Rattle.blake2_rows.specs.Family.{blake2b};
@@ -12,8 +12,9 @@ ghost use Rattle.blake2_tree.specs.Ranges.{IsRootOfCuts, IsRootOfChanges};
 use crate::limits::MESSAGE_LIMIT;
 use crate::nodes::Nodes;
 
-/// How many leaves a message of so many bytes has: one at least. A range of leaves has as many as a
-/// message of its bytes.
+/// Returns the number of leaves of a message of `message_length` bytes: at least one. A range of
+/// leaves has the same number as a message of its bytes. A leaf has `leaf_length` bytes, at least
+/// 1.
 pub fn leaf_count(leaf_length: u32, message_length: u64) -> u64
     requires { 1 ≤ leaf_length }
     ensures { result ≡ leaf_count leaf_length message_length }
@@ -21,9 +22,10 @@ pub fn leaf_count(leaf_length: u32, message_length: u64) -> u64
     message_length.div_ceil(u64::from(leaf_length)).max(1)
 }
 
-/// Whether so many bytes are a range of a message's leaves, the first of them leaf `first`, from 0.
-/// Where the range `ends` the message its last leaf may be shorter, and else all are whole. It has
-/// bytes, unless it is a message of none, and its leaves are within the first 2^58 bytes.
+/// Returns whether `range_length` bytes are a range of a message's leaves, the first of which is
+/// leaf `first`, from 0. If the range `ends` the message, its last leaf may be shorter; otherwise
+/// all are whole. A range has bytes, unless it is a message of none, and its leaves are within
+/// the first 2^58 - 1 bytes. A leaf has `leaf_length` bytes, at least 1.
 pub fn is_range(leaf_length: u32, first: u64, ends: bool, range_length: u64) -> bool
     requires { 1 ≤ leaf_length }
     ensures { IsTrue result ↔ IsRange leaf_length first ends range_length }
@@ -38,10 +40,11 @@ pub fn is_range(leaf_length: u32, first: u64, ends: bool, range_length: u64) -> 
 }
 
 /// Writes the digests of a range of a message's leaves, 64 bytes each, in order: the leaves from
-/// `first` on that these bytes make, the last of which is the message's last where the range `ends`
-/// it. `is_range` says which bytes are a range, and `leaf_count` how many leaves they make. Salt
-/// and persona have at most 16 bytes each, and a leaf has `leaf_length` bytes, 1 to 2^32 - 1. It
-/// takes no memory, and hashes whole leaves by fours.
+/// `first` on that these bytes make. If the range `ends` the message, the last of them is the
+/// message's last. `is_range` must be true of the bytes, and `digests` must have exactly 64 bytes
+/// for each leaf, of which `leaf_count` returns the number. Salt and persona have at most 16
+/// bytes each, and a leaf has `leaf_length` bytes, 1 to 2^32 - 1. The call allocates nothing, and
+/// hashes whole leaves by fours.
 pub fn hash_leaves(
     salt: &[u8],
     persona: &[u8],
@@ -64,11 +67,19 @@ pub fn hash_leaves(
     Nodes::new(salt, persona, leaf_length).write_digests(first, ends, bytes, digests);
 }
 
-/// The root over the joined digests of a message's leaves, `N` bytes, at most 64: `tree_root` of
-/// the message that was cut into ranges of leaves, where these are the digests of all ranges, in
-/// order. It is also that of a message of which a range has changed, where the range's new digests
-/// were put in the place of its old ones. Salt and persona have at most 16 bytes each, and a leaf
-/// has `leaf_length` bytes, 1 to 2^32 - 1.
+/// Returns the root over the joined digests of a message's leaves, in `N` bytes, at most 64. It
+/// is the `tree_root` of a message that was cut into ranges of leaves, if these are the digests
+/// of all ranges, in order. Salt and persona have at most 16 bytes each, and a leaf has
+/// `leaf_length` bytes, 1 to 2^32 - 1.
+///
+/// If a range of the message changes, replace its digests with the new ones: this is then the
+/// root of the changed message. That message may be longer, if the range ends it.
+///
+/// If a message becomes shorter, it is cut into two ranges, and two calls are enough. Keep the
+/// digests of the whole leaves before the new last range, and let [`hash_leaves`] write those of
+/// that range after them, with `ends`, and with the number of kept leaves as `first`. Then call
+/// this function with both. The new last leaf is in that range even if its bytes are the same,
+/// since it was not the last before.
 pub fn root_of_leaves<const N: usize>(
     salt: &[u8],
     persona: &[u8],

@@ -1,4 +1,4 @@
-//! Trees against their nodes, and against roots that Python's `hashlib` gives.
+//! Trees against their nodes, and against roots from Python's `hashlib`.
 
 ghost use Rattle.std.specs.Prelude.{◌^◌, ◌<◌, length};
 

@@ -14,19 +14,22 @@ use std::alloc::{AllocError, Global};
 /// message's tree, whose outputs agree.
 #[derive(Clone, Copy, Debug, PartialEq, Eq)]
 pub enum TreeWitness {
-    /// The leaves' digests differ: a step of each root.
+    /// A step of each root. The digests of the leaves differ.
     Root(Step<u64, 128>, Step<u64, 128>),
-    /// They are equal: the first leaf that differs, from 0, and a step of each of its two digests.
+    /// The index, from 0, of the first leaf that differs, and a step of each of its two digests.
+    /// The digests of the leaves are equal.
     Leaf(u64, Step<u64, 128>, Step<u64, 128>),
 }
 
-/// Of two different messages whose roots of `output_size` bytes, at most 64, are equal: where their
-/// leaves' digests differ, a differing step of each root, and else the first leaf that differs and
-/// a differing step of each of its two digests. `None` where the messages are the same or the roots
-/// differ. Fails only for want of memory: it keeps the digests of all leaves.
+/// Returns the witness of a collision of roots. For two different messages whose roots of
+/// `output_size` bytes, at most 64, are equal, it has a differing step of each root if their
+/// leaves' digests differ; otherwise it has the first leaf that differs and a differing step of
+/// each of its two digests. The result is `None` if the messages are the same or the roots
+/// differ. The error is `AllocError`, if an allocation fails: the call keeps the digests of all
+/// leaves.
 ///
-/// Salt and persona have at most 16 bytes each, a leaf has `leaf_length` bytes, 1 to 2^32 - 1, and
-/// each message fewer than 2^58.
+/// Salt and persona have at most 16 bytes each, a leaf has `leaf_length` bytes, 1 to 2^32 - 1,
+/// and each message fewer than 2^58.
 pub fn tree_witness(
     alloc: Global,
     salt: &[u8],

@@ -1,5 +1,5 @@
-//! Trees where memory is refused: a witness answers want of memory, or what it answers where there
-//! is enough; a root takes none.
+//! Trees when memory is refused: a witness returns an error, or what it returns if there is
+//! enough; a root needs none.
 
 ghost use Rattle.std.specs.Prelude.{◌≤◌};
 
@@ -10,12 +10,12 @@ use blake2::steps::Step;
 use std::alloc::{AllocError, Global};
 use std::process::Abort;
 
-// Takes all memory of the process but 65,536 bytes that lie together, in blocks that halve, down
-// to the smallest.
+// Allocates all memory of the process except 65,536 bytes that lie together, in blocks that
+// halve, down to the smallest.
 //
 // A process has 2^47 bytes of addresses, and a machine with a GiB of memory grants blocks of half
-// of that, so that 300,000 blocks are enough; there is room for them from the start. The turns are
-// more than the blocks and the sizes together, so that the smallest size ends the loop.
+// of that, so that 300,000 blocks are enough; there is room for them from the start. The turns
+// are more than the blocks and the sizes together, so that the smallest size ends the loop.
 fn hoard(alloc: Global) -> Result<Vec<Vec<u8>>, AllocError> {
     let mut blocks = Vec::with_capacity(alloc, 300_000)?;
     let spare: Vec<u8> = Vec::with_capacity(alloc, 65536)?;
@@ -33,7 +33,7 @@ fn hoard(alloc: Global) -> Result<Vec<Vec<u8>>, AllocError> {
     Ok(blocks)
 }
 
-// Takes what a hoard left but so many bytes.
+// Allocates what a hoard left, except a number of bytes.
 fn plug(alloc: Global, left: usize) -> Result<Vec<u8>, AllocError>
     requires { left ≤ 65536 }
 {
@@ -51,7 +51,7 @@ enum Messages {
     TwoLeaves,
 }
 
-// What `tree_witness` answers for them.
+// What `tree_witness` returns for them.
 fn witness_of(alloc: Global, messages: Messages) -> Result<Option<TreeWitness>, AllocError> {
     match messages {
         Messages::OneLeaf => tree_witness(alloc, &[], &[], 4, 0, b"a", b"b"),
@@ -61,8 +61,8 @@ fn witness_of(alloc: Global, messages: Messages) -> Result<Option<TreeWitness>, 
     }
 }
 
-// What it answers for them with so many bytes left by a hoard, and whether as many are granted then
-// as the digests of one message's leaves have.
+// What it returns for them with a number of bytes left by a hoard, and whether enough are granted
+// then for the digests of one message's leaves.
 fn witness_within(
     alloc: Global,
     messages: Messages,
@@ -83,9 +83,9 @@ fn witness_within(
     Ok((found, first_fits))
 }
 
-// Asks for the witness under a hoard, with 16 bytes more in each try. Gives the try behind the last
-// that was refused; whether one was refused where its first request would have been granted; and
-// the first that is wrong: it gave another witness, or was refused behind one that was not.
+// Requests the witness under a hoard, with 16 bytes more in each try. Returns the try after the
+// last that was refused; whether one was refused whose first request would have been granted; and
+// the first that is wrong: it returned another witness, or was refused after one that was not.
 fn tries(
     alloc: Global,
     messages: Messages,
@@ -113,8 +113,8 @@ fn tries(
     Ok((refused, is_behind_the_first, wrong))
 }
 
-// Checks that `tree_witness` answers want of memory for the messages until no request is refused,
-// and then this. Some refusals come behind the first request, which a control makes too.
+// Checks that `tree_witness` returns the error for the messages until no request is refused, and
+// then this. Some refusals come after the first request, which a control makes too.
 fn check_refusals(rt: &(impl Abort + AllocGlobal), messages: Messages, wanted: TreeWitness) {
     assert!(rt; witness_of(rt.alloc(), messages) == Ok(Some(wanted)));
     let found = tries(rt.alloc(), messages, wanted).expect(rt, "room for the hoard");
@@ -137,8 +137,8 @@ fn step_over(letter: u8) -> Step<u64, 128> {
     root_step(0x6a09e58ff1bcc908, [first, last].as_flattened())
 }
 
-// A witness asks for the 64 bytes of a leaf's digest, and not for more the longer a leaf is: so it
-// has enough under a budget that is far below 64 bytes for each byte of the messages.
+// A witness requests the 64 bytes of a leaf's digest, and not more for a longer leaf: so it has
+// enough under a budget that is far below 64 bytes for each byte of the messages.
 #[test]
 fn refuse_memory_to_a_witness_of_long_leaves(rt: HostRuntime) {
     let wanted = TreeWitness::Root(step_over(b'a'), step_over(b'b'));
@@ -156,7 +156,7 @@ fn root_steps(
     }
 }
 
-// Where there is memory, a witness of messages of more than 4,096 leaves, whose last ones differ.
+// If there is memory, a witness of messages of more than 4,096 leaves, whose last ones differ.
 #[test]
 fn witness_of_many_leaves(rt: HostRuntime) {
     let a = [0; 4100];

@@ -29,7 +29,7 @@ fn hash_range(
     length
 }
 
-// Checks the digest of the digests of ranges from several places on.
+// Checks the digest of the digests of ranges from several leaves on.
 fn check_ranges(rt: &impl Abort, leaf_length: u32, wanted: [u128; 2])
     requires least { 1 ≤ leaf_length }
     requires most { leaf_length ≤ 200 }
@@ -124,7 +124,7 @@ fn digests_of_ranges(rt: HostRuntime) {
     );
 }
 
-// The root that two ranges of a message give, of which the first ends where `cut` says.
+// The root from two ranges of a message, of which the first ends at `cut`.
 fn root_of_two(rt: &impl Abort, message: &[u8], cut: usize, ends: bool) -> [u8; 64] {
     let mut digests = [0; 704];
     assert!(rt; cut <= message.len());
@@ -139,8 +139,8 @@ fn root_of_two(rt: &impl Abort, message: &[u8], cut: usize, ends: bool) -> [u8; 
     root_of_leaves(b"salt", b"persona", 4, &digests[..at + written])
 }
 
-// Up to eleven leaves of four bytes, cut at each border of leaves. A range of whole leaves that is
-// not said to end the message has another root.
+// Up to eleven leaves of four bytes, cut at each border of leaves. A range of whole leaves has
+// another root if `ends` is not set.
 #[test]
 fn roots_of_two_ranges(rt: HostRuntime) {
     let mut text = [0; 44];
@@ -166,7 +166,7 @@ fn roots_of_two_ranges(rt: HostRuntime) {
     assert!(rt; root_of_two(&rt, b"", 0, true) == root);
 }
 
-// The root over digests has the size that is asked for.
+// The root over digests has the size that is requested.
 #[test]
 fn roots_of_each_size(rt: HostRuntime) {
     let message = b"abcdefghi";
@@ -210,8 +210,8 @@ fn ranges_are_told(rt: HostRuntime) {
     assert!(rt; !is_range(leaf, 1 << 27, true, 1));
 }
 
-// The root that a hasher gives of a message of which the leaves between these places come by their
-// digests, and what follows in two pieces. Each count is as it should be.
+// The root that a hasher returns for a message of which the leaves between these two come as
+// their digests, and what follows in two pieces. Each count is as it should be.
 fn root_by_hasher(rt: &impl Abort, message: &[u8], from: usize, to: usize, cut: usize) -> [u8; 64]
     requires { length message.now ≤ 44 }
 {

@@ -27,7 +27,7 @@ fn root_by_nodes(rt: &(impl Abort + AllocGlobal), message: &[u8], leaves: u64) -
     (node(4, 0, 1, true, &digests), digests.len())
 }
 
-// The root that a hasher gives of a message in two pieces, which counts the bytes of both.
+// The root that a hasher returns for a message in two pieces, which counts the bytes of both.
 fn root_of_pieces(first: &[u8], second: &[u8]) -> Option<[u8; 64]>
     requires first { length first.now ≤ 100 }
     requires second { length second.now ≤ 100 }
@@ -44,7 +44,7 @@ fn root_of_pieces(first: &[u8], second: &[u8]) -> Option<[u8; 64]>
     Some(hasher.finalize())
 }
 
-// Checks the root that a hasher gives of a message, for each cut.
+// Checks the root that a hasher returns for a message, for each cut.
 fn check_cuts(rt: &impl Abort, message: &[u8], root: [u8; 64])
     requires { length message.now ≤ 100 }
 {
@@ -56,7 +56,7 @@ fn check_cuts(rt: &impl Abort, message: &[u8], root: [u8; 64])
     }
 }
 
-// Checks the root of the beginning of `abcdefghi` that has so many bytes, and so many leaves.
+// Checks the root of the first bytes of `abcdefghi`, and their number of leaves.
 fn check_root(
     rt: &(impl Abort + AllocGlobal),
     length: usize,
@@ -113,7 +113,8 @@ fn roots_by_nodes(rt: HostRuntime) {
     check_root(&rt, 9, 3, 192, wanted);
 }
 
-// Up to eleven leaves of four bytes, and each cut: four leaves at once stand on both sides of it.
+// Up to eleven leaves of four bytes, and each cut: four leaves in parallel are on both sides of
+// it.
 #[test]
 fn roots_of_every_cut(rt: HostRuntime) {
     let mut text = [0; 41];
@@ -219,7 +220,7 @@ fn roots_around_each_number_of_leaves(rt: HostRuntime) {
     );
 }
 
-// Leaves of the greatest length, with the longest salt and persona.
+// Leaves of the maximum length, with the longest salt and persona.
 #[test]
 fn root_of_one_leaf(rt: HostRuntime) {
     let root = tree_root::<20>(b"0123456789abcdef", b"fedcba9876543210", u32::MAX, b"abc");

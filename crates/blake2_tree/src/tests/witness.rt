@@ -5,7 +5,7 @@ use crate::{TreeWitness, tree_root, tree_witness};
 use blake2::steps::Step;
 use std::process::Abort;
 
-// The digests of the only leaf of `a` and of `b`, in leaves of four bytes, as hashlib gives them.
+// The digests of the only leaf of `a` and of `b`, in leaves of four bytes, from hashlib.
 const LEAF_A: [u128; 4] = [
     0xdd206e533109e907ae7c0cf0ab50bdbb,
     0xb1a25921d9275613722b853530500cd8,
