@@ -23,22 +23,23 @@ use blake2_digest::{
 use blake2_words::params::blake2b::start_of;
 use blake2_words::words::blake2b::to_words;
 
-/// A state of BLAKE2b as plain numbers. Every value of the fields is one, and none is unsafe; it
-/// gives digests where it is ready ([`State::is_ready`]), as all are that a constructor has made.
+/// A state of BLAKE2b as plain numbers. All values of the fields are states, and none is unsafe.
+/// A state returns digests if it is ready ([`State::is_ready`]), as all are that `new`,
+/// `new_with_tree` and `from_block` have made.
 #[repr(C)]
 #[derive(Drop)]
 pub struct State {
     /// The chaining words.
     pub chain: [u64; 8],
-    /// Those that the run started from.
+    /// The words that the run started from.
     pub first: [u64; 8],
-    /// The bytes of the blocks that were compressed.
+    /// The number of bytes of the blocks that were compressed.
     pub counter: u64,
-    /// How many bytes are pending, 0 to 128.
+    /// The number of pending bytes, 0 to 128.
     pub pending_length: usize,
-    /// How many bytes a start leaves pending: 128 of a key's block, or none.
+    /// The number of bytes that a start leaves pending: 128 of a key's block, or none.
     pub start_length: usize,
-    /// The bytes of the digest, 1 to 64.
+    /// The number of bytes of the digest, 1 to 64.
     pub output_size: usize,
     /// The last-node flag (the BLAKE2 document, 2.10): 0 is off, and all else on.
     pub last_node: usize,
@@ -49,7 +50,7 @@ pub struct State {
 }
 
 impl State {
-    /// Whether the state gives digests.
+    /// Returns whether the state returns digests.
     pub fn is_ready(&self) -> bool
         ensures { IsTrue result ↔ IsReady self.now }
     {
@@ -60,7 +61,7 @@ impl State {
             && self.counter <= u64::MAX - self.pending_length as u64
     }
 
-    /// The state of zeros, which is not ready.
+    /// Returns the zeroed state, which is not ready.
     pub fn zeros() -> Self
         ensures { result ≡ zeros }
     {
@@ -77,14 +78,14 @@ impl State {
         }
     }
 
-    /// Sets everything to zero. The state is then not ready.
+    /// Overwrites everything with zeros. The state is then not ready.
     pub fn wipe(&mut self)
         ensures { self.new ≡ zeros }
     {
         *self = Self::zeros();
     }
 
-    // A state from these words that has taken nothing, under no key.
+    // A state from these words that has absorbed nothing, under no key.
     fn starting_from(first: [u64; 8], output_size: usize) -> Self
         ensures { result
             ≡ record zeros { chain = first; first = first; output_size = output_size } }
@@ -102,7 +103,7 @@ impl State {
         }
     }
 
-    // A state of these parameters that has taken nothing, under no key.
+    // A state of these parameters that has absorbed nothing, under no key.
     fn unkeyed(given: &StateParameters<'_>, tree: &Tree) -> Self
         requires least { 1 ≤ given.now.output_size }
         requires most { given.now.output_size ≤ 64 }
@@ -126,7 +127,7 @@ impl State {
         Self::starting_from(core.first_words(), output_size)
     }
 
-    // A state under this key that has taken nothing else.
+    // A state under this key that has absorbed nothing else.
     fn under_key(given: &StateParameters<'_>, tree: &Tree) -> Self
         requires least { 1 ≤ given.now.output_size }
         requires most { given.now.output_size ≤ 64 }
@@ -163,9 +164,9 @@ impl State {
         }
     }
 
-    /// A state of these parameters that has taken nothing: a digest of 1 to 64 bytes, a key of up
-    /// to 64 (none is no key), a salt and a persona of up to 16 each. Refused exactly for other
-    /// lengths.
+    /// Returns a state of these parameters that has absorbed no message: a digest of 1 to 64
+    /// bytes, a key of up to 64 (no bytes mean no key), a salt and a persona of up to 16 each.
+    /// The last-node flag is off. The error is `InvalidLength`, exactly for other lengths.
     pub fn new(given: &StateParameters<'_>) -> Result<Self, InvalidLength>
         ensures refused { IsErr result ↔ IsRefusedGiven blake2b given.now }
         ensures ready { IfOk result (λ s. IsReady s) }
@@ -176,17 +177,18 @@ impl State {
         Self::new_with_tree(given, &Tree::sequential())
     }
 
-    /// Whether BLAKE2b takes this place in a tree of hashes: at least one level, an inner node's
-    /// digest of at most 64 bytes (the BLAKE2 document, 2.8 and 2.10).
+    /// Returns whether BLAKE2b accepts these tree parameters: at least one level and an inner
+    /// node's digest of at most 64 bytes (the BLAKE2 document, 2.8 and 2.10).
     pub fn admits_tree(tree: &Tree) -> bool
         ensures { IsTrue result ↔ AdmitsTree blake2b (tree_of tree.now) }
     {
         Blake2bVarCore::admits_tree(tree)
     }
 
-    /// A state of a node of a tree of hashes that has taken nothing: of the parameters of `new`, at
-    /// this place in the tree, one that `admits_tree` takes (the BLAKE2 document, 2.10). Its
-    /// last-node flag is off. Refused exactly for the lengths that `new` refuses.
+    /// Returns a state of a node of a tree of hashes that has absorbed no message, with the
+    /// parameters of `new` and these tree parameters, which `admits_tree` must accept (the BLAKE2
+    /// document, 2.10). The last-node flag is off. The error is `InvalidLength`, exactly for the
+    /// lengths that `new` refuses.
     // Inlined, so that under a key no frame reaches below the zeros that `blake2_c` writes over the
     // stack (docs/WIPING.md).
     #[inline]
@@ -211,11 +213,11 @@ impl State {
         Ok(Self::under_key(given, tree))
     }
 
-    /// The state of a parameter block (the BLAKE2 document, 2.8) that has taken nothing, of as many
-    /// bytes as the block says. Where the block names a key, the key's block, padded with zeros to
-    /// 128 bytes, is the caller's to give as the first input. Refused exactly for a block that has
-    /// not 64 bytes, and for one that names a digest of 0 or more than 64 bytes or a key of more
-    /// than 64.
+    /// Returns the state of a parameter block (the BLAKE2 document, 2.8) that has absorbed
+    /// nothing, with a digest of the size that the block names. If the block names a key, the
+    /// caller passes the key's block, padded with zeros to 128 bytes, as the first input. The
+    /// error is `InvalidLength`, exactly for a block that does not have 64 bytes, and for one
+    /// that names a digest of 0 or more than 64 bytes or a key of more than 64.
     pub fn from_block(block: &[u8]) -> Result<Self, InvalidLength>
         ensures refused { IsErr result ↔ IsRefusedBlock blake2b block.now }
         ensures ready { IfOk result (λ s. IsReady s) }
@@ -247,8 +249,8 @@ impl State {
     }
 
     /// Sets the last-node flag, which says that this is the last node of its level in a tree of
-    /// hashes (the BLAKE2 document, 2.10). It can be set at any time before the digest, and a reset
-    /// keeps it.
+    /// hashes (the BLAKE2 document, 2.10). The state must be ready. The flag can be set at any
+    /// time before the digest, and a reset keeps it.
     pub fn set_last_node(&mut self, on: bool)
         requires { IsReady self.old }
         ensures ready { IsReady self.new }
@@ -258,7 +260,8 @@ impl State {
         self.last_node = if on { 1 } else { 0 };
     }
 
-    /// How many bytes the state has counted since its last start.
+    /// Returns how many bytes the state has counted since its last start, including those that
+    /// are pending and those of a key's block. The state must be ready.
     pub fn counted(&self) -> u64
         requires { IsReady self.now }
         ensures { result ≡ meaning.count self.now }
@@ -266,7 +269,7 @@ impl State {
         self.counter + self.pending_length as u64
     }
 
-    // Takes one byte that the pending block has room for.
+    // Absorbs one byte that the pending block has room for.
     #[inline(always)]
     fn keep_byte(&mut self, byte: u8)
         requires ready { IsReady self.old }
@@ -281,7 +284,7 @@ impl State {
         self.pending_length = pos + 1;
     }
 
-    // Takes an input that the pending block has room for.
+    // Absorbs an input that the pending block has room for.
     fn keep(&mut self, input: &[u8])
         requires ready { IsReady self.old }
         requires room { self.old.pending_length + length input.now ≤ 128 }
@@ -296,7 +299,7 @@ impl State {
         self.pending_length = end;
     }
 
-    // Takes any input.
+    // Absorbs any input.
     fn absorb(&mut self, input: &[u8])
         requires ready { IsReady self.old }
         requires counted { meaning.count self.old + length input.now < 2 ^ 64 }
@@ -312,9 +315,9 @@ impl State {
         self.counter = core.counted();
     }
 
-    // Takes any input, by the shorter way where the pending block has room for it: that needs no
-    // core, whose words would move to rows and back. It stays a call of its own, so that `update`
-    // saves no registers where one byte comes.
+    // Absorbs any input, by the shorter way if the pending block has room for it: that needs no
+    // core, whose words would move to rows and back. It stays a separate call, so that `update`
+    // saves no registers if one byte comes.
     #[inline(never)]
     fn take(&mut self, input: &[u8])
         requires ready { IsReady self.old }
@@ -330,8 +333,8 @@ impl State {
         }
     }
 
-    /// Takes the input after all that was taken before. Fewer than 2^64 bytes may be counted in
-    /// all: `counted` gives the count so far.
+    /// Absorbs the input after all that was absorbed before. The state must be ready. Fewer than
+    /// 2^64 bytes may be counted in all; `counted` returns the count so far.
     pub fn update(&mut self, input: &[u8])
         requires ready { IsReady self.old }
         requires counted { meaning.count self.old + length input.now < 2 ^ 64 }
@@ -347,7 +350,8 @@ impl State {
         }
     }
 
-    /// Goes back to the start: parameters, key and last-node flag are kept.
+    /// Goes back to the start: parameters, key and last-node flag are kept. The state must be
+    /// ready.
     pub fn reset(&mut self)
         requires { IsReady self.old }
         ensures ready { IsReady self.new }
@@ -360,9 +364,9 @@ impl State {
         self.pending = self.start_block;
     }
 
-    /// Writes the digest of what was taken since the last start at the beginning of `out`, which
-    /// has at least `output_size` bytes; those behind the digest stay as they are. The state stays
-    /// as it is, and can take more.
+    /// Writes the digest of what was absorbed since the last start at the beginning of `out`,
+    /// which must have at least `output_size` bytes. Those after the digest stay as they are. The
+    /// state must be ready. It stays as it is, and can absorb more.
     pub fn write_digest(&self, out: &mut [u8])
         requires ready { IsReady self.now }
         requires room { self.now.output_size ≤ length out.old }
@@ -376,8 +380,9 @@ impl State {
         out[..size].copy_from_slice(&whole[..size]);
     }
 
-    /// Whether the tag is the whole digest of what was taken since the last start. All bytes of a
-    /// tag of its length are compared, wherever it differs.
+    /// Returns whether the tag is the whole digest of what was absorbed since the last start. All
+    /// bytes of a tag of its length are compared, wherever it differs. The state must be ready,
+    /// and stays as it is.
     pub fn is_digest(&self, tag: &[u8]) -> bool
         requires { IsReady self.now }
         ensures { IsTrue result ↔ (tag.now ≡ digest_now meaning self.now) }

@@ -1,6 +1,6 @@
-//! The tree over a message that comes in pieces, with a state of plain numbers: any caller can keep
-//! one anywhere, copy it and hand it over as bytes, and the root's size is chosen as the program
-//! runs. `blake2_c` shows it to C.
+//! The tree over a message that comes in pieces, with a state of plain numbers: any caller can
+//! keep one anywhere, copy it and pass it on as bytes, and the root's size is chosen at run time.
+//! `blake2_c` makes it available to C.
 
 ghost use Rattle.std.specs.Prelude.{◌≡◌, ℕ, ◌+◌, ◌*◌, ◌^◌, ◌<◌, ◌≤◌, ◌↔◌, List, [], ◌++◌, length};
 ghost use Rattle.std.specs.Prelude.{◌/◌, ◌%◌, drop, false, IfOk, IsErr, IsTrue};
@@ -26,23 +26,24 @@ use blake2_digest::{InvalidLength, padded};
 use blake2_tree::nodes::Nodes;
 use blake2_tree::{LABEL_BYTES, MESSAGE_LIMIT, hash_leaves, is_range};
 
-/// A run of the tree as plain numbers. Every value of the fields is a state, and none is unsafe; it
-/// gives a root where it is ready ([`TreeState::is_ready`]), as all are that `new` has made.
+/// A state of the tree as plain numbers. All values of the fields are states, and none is unsafe.
+/// A state returns a root if it is ready ([`TreeState::is_ready`]), as all are that `new` has
+/// made.
 // A full leaf stays open until more input comes, since only the end shows which leaf is the last.
 #[repr(C)]
 #[derive(Drop)]
 pub struct TreeState {
     /// The open leaf, full or not.
     pub leaf: State,
-    /// The root, which has taken the digests of the closed leaves.
+    /// The root, which has absorbed the digests of the closed leaves.
     pub root: State,
     /// How many leaves are closed.
     pub closed: u64,
-    /// The bytes of a leaf, 1 to 2^32 - 1.
+    /// The number of bytes of a leaf, 1 to 2^32 - 1.
     pub leaf_length: u64,
-    /// The bytes of the salt, 0 to 16.
+    /// The number of bytes of the salt, 0 to 16.
     pub salt_length: usize,
-    /// The bytes of the persona, 0 to 16.
+    /// The number of bytes of the persona, 0 to 16.
     pub persona_length: usize,
     /// The salt, at the beginning.
     pub salt: [u8; LABEL_BYTES],
@@ -73,9 +74,9 @@ fn node_state(nodes: &Nodes, output_size: usize, node_offset: u64, node_depth: u
     }
 }
 
-/// Writes the root over the joined digests of a message's leaves, as `root_of_leaves` of the crate
-/// `blake2_tree` gives it, in as many bytes as `out` has, 1 to 64. Salt and persona have at most 16
-/// bytes each, and a leaf has `leaf_length` bytes, 1 to 2^32 - 1.
+/// Writes the root over the joined digests of a message's leaves, as `root_of_leaves` of the
+/// crate `blake2_tree` returns it, in all bytes of `out`, which must have 1 to 64. Salt and
+/// persona have at most 16 bytes each, and a leaf has `leaf_length` bytes, 1 to 2^32 - 1.
 pub fn write_root_of_leaves(
     out: &mut [u8],
     digests: &[u8],
@@ -113,7 +114,7 @@ fn digest_of(leaf: &State) -> [u8; 64]
     digest
 }
 
-// Whether the bytes of so many leaves and `taken` more are below 2^58.
+// Whether the bytes of `closed` leaves and `taken` more are below 2^58.
 fn is_counted(closed: u64, leaf_length: u64, taken: u64) -> bool
     requires some { 1 ≤ leaf_length }
     requires taken { taken < 2 ^ 58 }
@@ -123,7 +124,7 @@ fn is_counted(closed: u64, leaf_length: u64, taken: u64) -> bool
 }
 
 impl TreeState {
-    /// Whether the state gives a root.
+    /// Returns whether the state returns a root.
     pub fn is_ready(&self) -> bool
         ensures { IsTrue result ↔ IsReady self.now }
     {
@@ -158,7 +159,7 @@ impl TreeState {
             && self.root.counted() == 64 * self.closed
     }
 
-    /// The state of zeros, which is not ready.
+    /// Returns the zeroed state, which is not ready.
     pub fn zeros() -> Self
         ensures { result ≡ zeros }
     {
@@ -174,16 +175,16 @@ impl TreeState {
         }
     }
 
-    /// Sets everything to zero. The state is then not ready.
+    /// Overwrites everything with zeros. The state is then not ready.
     pub fn wipe(&mut self)
         ensures { self.new ≡ zeros }
     {
         *self = Self::zeros();
     }
 
-    /// A state that has taken nothing: a root of 1 to 64 bytes, a salt and a persona of up to 16
-    /// each, and leaves of `leaf_length` bytes, 1 at least (the BLAKE2 document, 2.10). Refused
-    /// exactly for other lengths.
+    /// Returns a state that has absorbed nothing: a root of 1 to 64 bytes, a salt and a persona
+    /// of up to 16 each, and leaves of `leaf_length` bytes, at least 1 (the BLAKE2 document,
+    /// 2.10). The error is `InvalidLength`, exactly for other lengths.
     pub fn new(
         output_size: usize,
         salt: &[u8],
@@ -210,7 +211,7 @@ impl TreeState {
         Ok(Self::begun(output_size, salt, persona, leaf_length))
     }
 
-    // The same where the lengths are taken.
+    // The same if the lengths are accepted.
     fn begun(output_size: usize, salt: &[u8], persona: &[u8], leaf_length: u32) -> Self
         requires least { 1 ≤ output_size }
         requires most { output_size ≤ 64 }
@@ -248,7 +249,8 @@ impl TreeState {
         Nodes::new(salt, persona, self.leaf_length as u32)
     }
 
-    /// The bytes of the message that it has taken so far.
+    /// Returns the number of bytes of the message that the state has absorbed so far. The state
+    /// must be ready.
     pub fn counted(&self) -> u64
         requires { IsReady self.now }
         ensures { result ≡ count self.now }
@@ -256,7 +258,7 @@ impl TreeState {
         self.closed * self.leaf_length + self.leaf.counted()
     }
 
-    // The bytes that the open leaf still takes.
+    // The number of bytes that the open leaf still has room for.
     fn room(&self) -> u64
         requires { IsReady self.now }
         ensures { result ≡ room (state_tree self.now) }
@@ -264,7 +266,7 @@ impl TreeState {
         self.leaf_length - self.leaf.counted()
     }
 
-    /// Whether what was absorbed is whole leaves, or nothing.
+    /// Returns whether what was absorbed is whole leaves, or nothing. The state must be ready.
     pub fn is_at_boundary(&self) -> bool
         requires { IsReady self.now }
         ensures { IsTrue result ↔ IsAtBoundary (state_tree self.now) }
@@ -272,8 +274,9 @@ impl TreeState {
         self.counted() % self.leaf_length == 0
     }
 
-    /// Whether so many bytes are whole leaves of this tree, the first of them `skip` leaves behind
-    /// the next one of a state at a leaf boundary.
+    /// Returns whether the state is at a leaf boundary, and `length` bytes are whole leaves of
+    /// its tree, at least one, of which the first comes `skip` leaves after the next one, and all
+    /// end below 2^58 bytes of the message. The state must be ready.
     pub fn are_next_leaves(&self, skip: u64, length: u64) -> bool
         requires { IsReady self.now }
         ensures { IsTrue result ↔ AreNextLeaves (state_tree self.now) skip length }
@@ -288,9 +291,10 @@ impl TreeState {
             )
     }
 
-    /// Writes the digests of whole leaves of this tree, 64 bytes each, in order: the first of them
-    /// is the one `skip` leaves behind the next one of the state, which is at a leaf boundary. None
-    /// is the last of the message. [`TreeState::are_next_leaves`] is the test.
+    /// Writes the digests of whole leaves of this tree, 64 bytes each, in order. The first of
+    /// them comes `skip` leaves after the next one of the state, and none is the last of the
+    /// message. The state must be ready, [`TreeState::are_next_leaves`] must be true, and
+    /// `digests` must have exactly 64 bytes for each leaf. The state stays as it is.
     pub fn hash_next_leaves(&self, skip: u64, bytes: &[u8], digests: &mut [u8])
         requires ready { IsReady self.now }
         requires next { AreNextLeaves (state_tree self.now) skip (length bytes.now) }
@@ -314,8 +318,10 @@ impl TreeState {
         );
     }
 
-    /// Whether [`TreeState::update_leaves`] accepts so many bytes of digests and so many bytes of
-    /// input after them.
+    /// Returns whether [`TreeState::update_leaves`] accepts `digests_length` bytes of digests and
+    /// `input_length` bytes of input after them. The digests must be whole, and the message stays
+    /// below 2^58 bytes. If there are digests, the state must be at a leaf boundary, and at least
+    /// one byte of input follows them. The state must be ready.
     pub fn accepts_leaves(&self, digests_length: usize, input_length: usize) -> bool
         requires { IsReady self.now }
         ensures { IsTrue result ↔ AcceptsLeaves (state_tree self.now) digests_length input_length }
@@ -329,12 +335,13 @@ impl TreeState {
             && is_counted(leaves, self.leaf_length, self.counted() + input)
     }
 
-    /// Absorbs whole leaves that others have hashed, given by their joined digests, and then the
-    /// input: the state is then as after an update with the leaves' bytes and one with the input.
-    /// The digests have 64 bytes each, and are those of the next leaves in order, as
-    /// [`TreeState::hash_next_leaves`] writes them. They come at a leaf boundary, and at least one
-    /// byte of input comes after them. Without digests it is an update.
-    /// [`TreeState::accepts_leaves`] is the test.
+    /// Absorbs whole leaves that others have hashed, which are passed as their joined digests,
+    /// and then the input. A state that `new` made, and that only calls have changed, is then as
+    /// after an update with the leaves' bytes and one with the input. The digests have 64 bytes
+    /// each, and are those of the next leaves in order, as [`TreeState::hash_next_leaves`] writes
+    /// them. They must come at a leaf boundary, and at least one byte of input after them.
+    /// Without digests the call is an update. The state must be ready, and
+    /// [`TreeState::accepts_leaves`] true of the two lengths.
     pub fn update_leaves(&mut self, digests: &[u8], input: &[u8])
         requires ready { IsReady self.old }
         requires accepted { AcceptsLeaves (state_tree self.old) (length digests.now)
@@ -379,7 +386,8 @@ impl TreeState {
         self.leaf = node_state(&nodes, 64, self.closed, 0);
     }
 
-    /// Takes the input after all that was taken before; fewer than 2^58 bytes in all.
+    /// Absorbs the input after all that was absorbed before. The state must be ready, and the
+    /// message must have fewer than 2^58 bytes in all; `counted` returns the count so far.
     pub fn update(&mut self, input: &[u8])
         requires ready { IsReady self.old }
         requires counted { count self.old + length input.now < 2 ^ 58 }
@@ -396,7 +404,7 @@ impl TreeState {
         }
     }
 
-    // Takes the input, where the open leaf has taken nothing.
+    // Absorbs the input, if the open leaf has absorbed nothing.
     fn take_leaves(&mut self, input: &[u8])
         requires ready { IsReady self.old }
         requires begun { IsBegun self.old }
@@ -417,8 +425,8 @@ impl TreeState {
         self.leaf.update(rest);
     }
 
-    // Fills the open leaf up and closes it; it is not the last, since more follows. Opens the next
-    // one and answers what is left of the input.
+    // Fills the open leaf up and closes it; it is not the last, since more follows. Opens the
+    // next one and returns what is left of the input.
     fn close_leaf<'a>(&mut self, input: &'a [u8]) -> &'a [u8]
         requires ready { IsReady self.old }
         requires more { room (state_tree self.old) < length input.now }
@@ -454,7 +462,7 @@ impl TreeState {
         self.leaf = node_state(&nodes, 64, self.closed, 0);
     }
 
-    // Closes the open leaf where it is full, so that the open one is empty: more follows.
+    // Closes the open leaf if it is full, so that the open one is empty: more follows.
     fn begin_leaf(&mut self)
         requires ready { IsReady self.old }
         requires boundary { IsAtBoundary (state_tree self.old) }
@@ -473,8 +481,8 @@ impl TreeState {
         }
     }
 
-    // Closes four leaves at once that are whole and not the last: the open one, which is empty, and
-    // the next three. Opens the next one and answers what is left of the input.
+    // Closes four leaves in parallel that are whole and not the last: the open one, which is
+    // empty, and the next three. Opens the next one and returns what is left of the input.
     fn close_four<'a>(&mut self, input: &'a [u8]) -> &'a [u8]
         requires ready { IsReady self.old }
         requires begun { IsBegun self.old }
@@ -493,8 +501,9 @@ impl TreeState {
         &input[4 * self.leaf_length as usize..]
     }
 
-    /// Writes the root of all that was taken at the beginning of `out`. The state stays as it is,
-    /// and can take more.
+    /// Writes the root of all that was absorbed at the beginning of `out`, which must have at
+    /// least the root's bytes. Those after the root stay as they are. The state must be ready. It
+    /// stays as it is, and can absorb more.
     pub fn write_root(&self, out: &mut [u8])
         requires ready { IsReady self.now }
         requires room { self.now.root.output_size ≤ length out.old }
