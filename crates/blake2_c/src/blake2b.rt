@@ -1,4 +1,4 @@
-//! BLAKE2b with sizes that are chosen as the program runs.
+//! BLAKE2b with sizes that are chosen at run time.
 
 ghost use Rattle.std.specs.Prelude.{◌≡◌, ◌≢◌, ◌↔◌, ◌+◌, ◌-◌, ◌^◌, ◌<◌, ◌≤◌, ◌++◌, ◌⊎◌, [], length, drop};
 ghost use Rattle.std.specs.Prelude.{slice_index, pos, negsuc, None, IsTrue};
@@ -33,8 +33,8 @@ const TAKE_BYTES: usize = 1152;
 
 const GIVE_BYTES: usize = 1664;
 
-// Whether the key's block is pending: fewer bytes are compressed than a start leaves. It is then
-// the next block that is compressed.
+// Whether the key's block is pending: fewer bytes are compressed than a start leaves pending. It
+// is then the next block that is compressed.
 fn has_key_pending(state: &State) -> bool {
     state.counter < state.start_length as u64
 }
@@ -47,7 +47,7 @@ fn write_longest(out: &mut [u8], input: &[u8])
     out.copy_from_slice(&Blake2b512::digest(input));
 }
 
-// What `blake2_c_blake2b` does under a key, in a frame of its own, which the caller scrubs.
+// What `blake2_c_blake2b` does under a key, in a separate frame, which the caller scrubs.
 #[inline(never)]
 fn write_keyed(out: &mut [u8], input: &[u8], key: &[u8]) -> i32
     ensures status { Answers result (IsRefusedState blake2b (length out.old) key.now [] []
@@ -69,9 +69,9 @@ fn write_keyed(out: &mut [u8], input: &[u8], key: &[u8]) -> i32
     }
 }
 
-/// Writes the digest of the input in as many bytes as `out` has, 1 to 64, under a key of up to 64
-/// bytes (none is no key; RFC 7693, 3.3). Answers 0, or -1 where a length is not among these or the
-/// input and the key's block have 2^64 bytes; nothing is then written.
+/// Writes the digest of the input in all bytes of `out`, 1 to 64, under a key of up to 64 bytes
+/// (no bytes mean no key; RFC 7693, 3.3). Returns 0, or -1 if a length is not among these or the
+/// input and the key's block have 2^64 bytes or more; nothing is then written.
 #[unsafe(no_mangle)]
 pub extern "C" fn blake2_c_blake2b(out: &mut [u8], input: &[u8], key: &[u8]) -> i32
     ensures status { Answers result (IsRefusedState blake2b (length out.old) key.now [] []
@@ -99,8 +99,8 @@ pub extern "C" fn blake2_c_blake2b(out: &mut [u8], input: &[u8], key: &[u8]) -> 
     }
 }
 
-// What `blake2_c_blake2b_init_node` does at a place that is taken, in a frame of its own, which the
-// caller scrubs if there is a key.
+// What `blake2_c_blake2b_init_node` does for tree parameters that are accepted, in a separate
+// frame, which the caller scrubs if there is a key.
 #[inline(never)]
 fn begin(state: &mut State, given: &StateParameters<'_>, tree: &Tree) -> i32
     requires tree { AdmitsTree blake2b (tree_of tree.now) }
@@ -124,9 +124,9 @@ fn begin(state: &mut State, given: &StateParameters<'_>, tree: &Tree) -> i32
     }
 }
 
-/// Begins a run in this state, whatever it was: a digest of 1 to 64 bytes, a key of up to 64 (none
-/// is no key), a salt and a persona of up to 16 each. Answers 0, or -1 where a length is not among
-/// these; the state is then that of zeros, which no other call takes.
+/// Initializes this state, whatever it was: a digest of 1 to 64 bytes, a key of up to 64 (no
+/// bytes mean no key), a salt and a persona of up to 16 each. Returns 0, or -1 if a length is not
+/// among these; the state is then zeroed, and so not ready.
 #[unsafe(no_mangle)]
 pub extern "C" fn blake2_c_blake2b_init(
     state: &mut State,
@@ -157,8 +157,9 @@ pub extern "C" fn blake2_c_blake2b_init(
     status
 }
 
-/// The same under a key of 1 to 64 bytes, without salt and persona. Refused also where there is no
-/// key.
+/// Initializes this state, whatever it was: a digest of 1 to 64 bytes, under a key of 1 to 64
+/// bytes, without salt and persona. Returns 0, or -1 if a length is not among these, so also if
+/// there is no key; the state is then zeroed.
 #[unsafe(no_mangle)]
 pub extern "C" fn blake2_c_blake2b_init_key(
     state: &mut State,
@@ -181,10 +182,10 @@ pub extern "C" fn blake2_c_blake2b_init_key(
     blake2_c_blake2b_init(state, output_size, key, &[], &[])
 }
 
-/// Begins a run of a node of a tree of hashes in this state, whatever it was: of the parameters of
-/// `blake2_c_blake2b_init`, at the place of these numbers (the BLAKE2 document, 2.8 and 2.10). The
-/// last-node flag is off. Answers 0, or -1 where a length is not among those, the depth is 0, or
-/// the inner length more than 64; the state is then that of zeros.
+/// Initializes this state, whatever it was, for a node of a tree of hashes: with the lengths of
+/// `blake2_c_blake2b_init`, and with these tree parameters (the BLAKE2 document, 2.8 and 2.10).
+/// The last-node flag is off. Returns 0, or -1 if a length is not among those, the depth is 0, or
+/// the inner length is more than 64; the state is then zeroed.
 #[unsafe(no_mangle)]
 pub extern "C" fn blake2_c_blake2b_init_node(
     state: &mut State,
@@ -235,11 +236,11 @@ pub extern "C" fn blake2_c_blake2b_init_node(
     status
 }
 
-/// Begins a run in this state, whatever it was, from a parameter block of 64 bytes (the BLAKE2
-/// document, 2.8), whatever stands in its fields but a digest of 0 or more than 64 bytes or a key
-/// of more than 64. Where it names a key, the key's block, padded with zeros to 128 bytes, is the
-/// caller's to give as the first input. Answers 0, or -1 where the block is none of these; the
-/// state is then that of zeros.
+/// Initializes this state, whatever it was, from a parameter block of 64 bytes (the BLAKE2
+/// document, 2.8), whatever is in its fields except a digest of 0 or more than 64 bytes or a key
+/// of more than 64. If the block names a key, the caller passes the key's block, padded with
+/// zeros to 128 bytes, as the first input. Returns 0, or -1 if the block is not one of these; the
+/// state is then zeroed.
 #[unsafe(no_mangle)]
 pub extern "C" fn blake2_c_blake2b_init_block(state: &mut State, block: &[u8]) -> i32
     ensures status { Answers result (IsRefusedBlock blake2b block.now) }
@@ -261,7 +262,7 @@ pub extern "C" fn blake2_c_blake2b_init_block(state: &mut State, block: &[u8]) -
     }
 }
 
-// Takes the input, in a frame of its own, which the caller scrubs.
+// Absorbs the input, in a separate frame, which the caller scrubs.
 #[inline(never)]
 fn take(state: &mut State, input: &[u8])
     requires ready { IsReady state.old }
@@ -273,8 +274,8 @@ fn take(state: &mut State, input: &[u8])
     state.update(input);
 }
 
-// What `blake2_c_blake2b_update` does where the key's block is pending. Other updates are to make
-// no frame for this one.
+// What `blake2_c_blake2b_update` does if the key's block is pending. Other updates do not make a
+// frame for this one.
 #[inline(never)]
 fn take_scrubbed(state: &mut State, input: &[u8])
     requires ready { IsReady state.old }
@@ -287,8 +288,8 @@ fn take_scrubbed(state: &mut State, input: &[u8])
     scrub_stack::<TAKE_BYTES>();
 }
 
-/// Takes the input after all that was taken before. Answers 0, or -1 where the state is not ready
-/// or its count would reach 2^64; the state then stays as it is.
+/// Absorbs the input after all that was absorbed before. Returns 0, or -1 if the state is not
+/// ready or its count would reach 2^64; the state then stays as it is.
 #[unsafe(no_mangle)]
 pub extern "C" fn blake2_c_blake2b_update(state: &mut State, input: &[u8]) -> i32
     ensures status { Answers result
@@ -312,8 +313,8 @@ pub extern "C" fn blake2_c_blake2b_update(state: &mut State, input: &[u8]) -> i3
     0
 }
 
-// What `blake2_c_blake2b_final` does that is not refused, in a frame of its own, which the caller
-// scrubs where the key's block was pending.
+// What `blake2_c_blake2b_final` does if it is not refused, in a separate frame, which the caller
+// scrubs if the key's block was pending.
 #[inline(never)]
 fn give(state: &mut State, out: &mut [u8])
     requires ready { IsReady state.old }
@@ -326,8 +327,8 @@ fn give(state: &mut State, out: &mut [u8])
 }
 
 /// Writes the digest at the beginning of `out`, and wipes the state, which is then not ready.
-/// Answers 0, or -1 where the state is not ready or `out` has less room than the digest; nothing is
-/// then written, and the state stays as it is.
+/// What is in `out` after the digest stays as it is. Returns 0, or -1 if the state is not ready
+/// or `out` has less room than the digest; nothing is then written, and the state stays as it is.
 #[unsafe(no_mangle)]
 pub extern "C" fn blake2_c_blake2b_final(state: &mut State, out: &mut [u8]) -> i32
     ensures status { Answers result
@@ -349,8 +350,8 @@ pub extern "C" fn blake2_c_blake2b_final(state: &mut State, out: &mut [u8]) -> i
     0
 }
 
-// Whether the tag is the whole digest, in a frame of its own, which the caller scrubs where the
-// key's block was pending.
+// Whether the tag is the whole digest, in a separate frame, which the caller scrubs if the key's
+// block was pending.
 #[inline(never)]
 fn is_digest_of(state: &State, tag: &[u8]) -> bool
     requires { IsReady state.now }
@@ -359,8 +360,9 @@ fn is_digest_of(state: &State, tag: &[u8]) -> bool
     state.is_digest(tag)
 }
 
-/// Whether the tag is the whole digest: 0, or -1 where it is not or the state is not ready. It
-/// looks at all bytes of a tag of the digest's length. A state that was ready is then wiped.
+/// Returns 0 if the tag is the whole digest, and -1 if it is not or the state is not ready. It
+/// looks at all bytes of a tag of the digest's length. A state that was ready is then wiped, and
+/// any other stays as it is.
 #[unsafe(no_mangle)]
 pub extern "C" fn blake2_c_blake2b_verify(state: &mut State, tag: &[u8]) -> i32
     ensures status { Answers result
@@ -380,9 +382,9 @@ pub extern "C" fn blake2_c_blake2b_verify(state: &mut State, tag: &[u8]) -> i32
     if is_digest { 0 } else { -1 }
 }
 
-/// Sets the last-node flag of the state, or clears it where `on` is 0: it says that this is the
-/// last node of its level in a tree of hashes (the BLAKE2 document, 2.10). A reset keeps it.
-/// Answers 0, or -1 where the state is not ready, and then stays as it is.
+/// Sets the last-node flag of the state, or clears it if `on` is 0: it says that this is the last
+/// node of its level in a tree of hashes (the BLAKE2 document, 2.10). A reset keeps it. Returns
+/// 0, or -1 if the state is not ready; the state then stays as it is.
 #[unsafe(no_mangle)]
 pub extern "C" fn blake2_c_blake2b_set_last_node(state: &mut State, on: u32) -> i32
     ensures status { Answers result (¬ IsReady state.old) }
@@ -398,8 +400,9 @@ pub extern "C" fn blake2_c_blake2b_set_last_node(state: &mut State, on: u32) -> 
     0
 }
 
-/// Brings the state back to its start: it has then taken nothing, under the same parameters, key
-/// and last-node flag. Answers 0, or -1 where the state is not ready, and then stays as it is.
+/// Brings the state back to its start: it has then absorbed no message, under the same
+/// parameters, key and last-node flag. Returns 0, or -1 if the state is not ready; the state then
+/// stays as it is.
 #[unsafe(no_mangle)]
 pub extern "C" fn blake2_c_blake2b_reset(state: &mut State) -> i32
     ensures status { Answers result (¬ IsReady state.old) }
@@ -415,7 +418,7 @@ pub extern "C" fn blake2_c_blake2b_reset(state: &mut State) -> i32
     0
 }
 
-/// Sets the state to zeros. It is then not ready.
+/// Overwrites the state with zeros. It is then not ready.
 #[unsafe(no_mangle)]
 pub extern "C" fn blake2_c_blake2b_wipe(state: &mut State)
     ensures { state.new ≡ zeros }
@@ -423,7 +426,7 @@ pub extern "C" fn blake2_c_blake2b_wipe(state: &mut State)
     state.wipe();
 }
 
-/// The bytes of the state's digest, 1 to 64; 0 where the state is not ready.
+/// Returns the number of bytes of the state's digest, 1 to 64, or 0 if the state is not ready.
 #[unsafe(no_mangle)]
 pub extern "C" fn blake2_c_blake2b_digest_size(state: &State) -> usize
     ensures ready { IsReady state.now → result ≡ state.now.output_size }
@@ -436,8 +439,9 @@ pub extern "C" fn blake2_c_blake2b_digest_size(state: &State) -> usize
     }
 }
 
-/// The bytes of messages that the state has absorbed since its last start: those of the key's block
-/// are not counted. 0 where the state is not ready.
+/// Returns the number of bytes of the message that the state has absorbed since its last start,
+/// or 0 if the state is not ready. Those of the key's block are not counted, unless the caller
+/// passed it after `blake2_c_blake2b_init_block`.
 #[unsafe(no_mangle)]
 pub extern "C" fn blake2_c_blake2b_count(state: &State) -> u64
     ensures ready { IsReady state.now
@@ -450,7 +454,7 @@ pub extern "C" fn blake2_c_blake2b_count(state: &State) -> u64
     state.counted().saturating_sub(state.start_length as u64)
 }
 
-/// The bytes of a state.
+/// Returns the number of bytes of a state.
 #[unsafe(no_mangle)]
 pub extern "C" fn blake2_c_blake2b_state_size() -> usize
     ensures { result ≡ 424 }

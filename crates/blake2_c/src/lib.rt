@@ -1,11 +1,11 @@
 //! BLAKE2b and BLAKE2s (RFC 7693) as a static library for C: the digest of a message in one call,
 //! or step by step with a state that the caller keeps. `c/include/blake2_c.h` declares these
-//! functions and says what a caller owes; C programs use the functions `vulfsjor_*` of that header,
-//! which take null pointers too.
+//! functions and says what a caller must guarantee. C programs use the functions `vulfsjor_*` of
+//! that header, which accept null pointers too.
 //!
-//! No pointer is null, not even that of no bytes, each text is as long as its length says, and what
-//! a function writes overlaps nothing else that it is given. A text is a pointer and a length in
-//! bytes. A state is memory of written bytes, whatever they are.
+//! No pointer is null, not even that of no bytes. A buffer is a pointer and its length in bytes.
+//! What a function writes overlaps none of its other arguments. A state is memory of written
+//! bytes, whatever they are.
 
 #![tactic(auto)]
 
@@ -19,22 +19,23 @@ mod trees;
 
 use blake2_digest::is_same;
 
-/// A text among several, as `vulfsjor_message` of the header: a pointer and a length.
+/// One of several messages, as `vulfsjor_message` of the header: a pointer and a length.
 #[repr(C)]
 pub struct Text<'a> {
     /// Its bytes.
     pub bytes: &'a [u8],
 }
 
-// The version of the library (https://semver.org), each number below 256. It stands here alone:
-// the header and the file for pkg-config name the same, and their tests compare.
+// The version of the library (https://semver.org), each number below 256. Only this place sets
+// it: the header and the file for pkg-config name the same, and their tests compare.
 const MAJOR: u32 = 0;
 
 const MINOR: u32 = 1;
 
 const PATCH: u32 = 0;
 
-/// The version of the library: 65,536 times its first number, 256 times its second, and its third.
+/// Returns the version of the library: 65,536 times its first number, 256 times its second, and
+/// its third.
 #[unsafe(no_mangle)]
 pub extern "C" fn blake2_c_version() -> u32
     ensures { result ≡ 256 }
@@ -42,8 +43,8 @@ pub extern "C" fn blake2_c_version() -> u32
     MAJOR * 65536 + MINOR * 256 + PATCH
 }
 
-/// Whether the texts are equal: 0, or -1 where they are not. It looks at all bytes of texts of one
-/// length, wherever the first difference stands.
+/// Returns 0 if the bytes are equal, and -1 if they are not. If the lengths are equal, it looks
+/// at all bytes, wherever the first difference is.
 #[unsafe(no_mangle)]
 pub extern "C" fn blake2_c_is_same(a: &[u8], b: &[u8]) -> i32
     ensures { Answers result (a.now ≢ b.now) }

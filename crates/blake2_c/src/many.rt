@@ -6,7 +6,8 @@ ghost use Rattle.std.specs.List.{All, flat_map};
 
 use crate::Text;
 
-/// Writes the first `size` bytes of each digest at the beginning of `out`, one behind the other.
+/// Writes the first `size` bytes, at most `N`, of each digest at the beginning of `out`, one
+/// after the other. `out` must have room for them, and what is after them stays as it is.
 pub(crate) fn write_digests<const N: usize>(out: &mut [u8], size: usize, digests: &[[u8; N]])
     requires size { size ≤ N }
     requires room { length digests.now * size ≤ length out.old }
@@ -19,7 +20,7 @@ pub(crate) fn write_digests<const N: usize>(out: &mut [u8], size: usize, digests
     }
 }
 
-/// Whether each text can be counted beside so many bytes, in all below 2^64.
+/// Returns whether each message can be counted after `counted` bytes: the sum is below 2^64.
 pub(crate) fn are_counted(counted: u64, texts: &[Text<'_>]) -> bool
     ensures { IsTrue result
         ↔ All (λ t. counted + length t.bytes.now < 2 ^ 64) texts.now }
@@ -29,7 +30,7 @@ pub(crate) fn are_counted(counted: u64, texts: &[Text<'_>]) -> bool
         .all(|text| text.bytes.len() as u64 <= u64::MAX - counted)
 }
 
-/// Whether so many bytes are as many as `count` times `size`.
+/// Returns whether `room` is `count` times `size`.
 pub(crate) fn is_room_for(room: usize, count: usize, size: usize) -> bool
     ensures { IsTrue result ↔ room ≡ count * size }
 {

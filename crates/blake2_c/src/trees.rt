@@ -20,8 +20,8 @@ use crate::many::is_room_for;
 use blake2_plain::tree::{TreeState, write_root_of_leaves};
 use blake2_tree::{LABEL_BYTES, MESSAGE_LIMIT, hash_leaves, is_range, leaf_count, tree_root};
 
-// Writes the root in `N` bytes. It knows the whole input, and so hashes the last four leaves at
-// once too, as a state can't.
+// Writes the root in `N` bytes. It knows the whole input, and so hashes the last four leaves in
+// parallel too, as a state can't.
 fn write_root<const N: usize>(
     out: &mut [u8],
     input: &[u8],
@@ -41,10 +41,10 @@ fn write_root<const N: usize>(
     out.copy_from_slice(&root);
 }
 
-/// Writes the root of the input in as many bytes as `out` has, 1 to 64, where a leaf has
-/// `leaf_length` bytes, 1 at least (the BLAKE2 document, 2.10). Salt and persona have up to 16
-/// bytes each, and the input fewer than 2^58. Answers 0, or -1 where one of these is not so;
-/// nothing is then written.
+/// Writes the root of the input in all bytes of `out`, 1 to 64, with leaves of `leaf_length`
+/// bytes, at least 1 (the BLAKE2 document, 2.10). Salt and persona have up to 16 bytes each, and
+/// the input fewer than 2^58. Returns 0, or -1 if one of these is not so; nothing is then
+/// written.
 #[unsafe(no_mangle)]
 pub extern "C" fn blake2_c_tree_root(
     out: &mut [u8],
@@ -79,10 +79,9 @@ pub extern "C" fn blake2_c_tree_root(
     }
 }
 
-/// Begins a run of the tree in this state, whatever it was: a root of 1 to 64 bytes, a salt and a
-/// persona of up to 16 bytes each, and leaves of `leaf_length` bytes, 1 at least (the BLAKE2
-/// document, 2.10). Answers 0, or -1 where a length is not among these; the state is then that of
-/// zeros.
+/// Initializes this state of the tree, whatever it was: a root of 1 to 64 bytes, a salt and a
+/// persona of up to 16 bytes each, and leaves of `leaf_length` bytes, at least 1 (the BLAKE2
+/// document, 2.10). Returns 0, or -1 if a length is not among these; the state is then zeroed.
 #[unsafe(no_mangle)]
 pub extern "C" fn blake2_c_tree_init(
     state: &mut TreeState,
@@ -115,8 +114,8 @@ pub extern "C" fn blake2_c_tree_init(
     }
 }
 
-/// Takes the input after all that was taken before. Answers 0, or -1 where the state is not ready
-/// or its count would reach 2^58; the state then stays as it is.
+/// Absorbs the input after all that was absorbed before. Returns 0, or -1 if the state is not
+/// ready or its count would reach 2^58; the state then stays as it is.
 #[unsafe(no_mangle)]
 pub extern "C" fn blake2_c_tree_update(state: &mut TreeState, input: &[u8]) -> i32
     ensures status { Answers result
@@ -137,12 +136,12 @@ pub extern "C" fn blake2_c_tree_update(state: &mut TreeState, input: &[u8]) -> i
     0
 }
 
-/// Writes the digests of whole leaves of the state's tree, 64 bytes each, in order. The state is at
-/// a leaf boundary: what it has absorbed is whole leaves, or nothing. The first of the leaves is the
-/// one `skip` leaves behind the next one, and none is the last of the message. Answers 0, or -1
-/// where the state is not ready or not at a leaf boundary, the input is not one whole leaf or more,
-/// it reaches 2^58 bytes of the message, or `out` has not 64 bytes for each leaf; nothing is then
-/// written.
+/// Writes the digests of whole leaves of the state's tree, 64 bytes each, in order. The state is
+/// at a leaf boundary: what it has absorbed is whole leaves, or nothing. The first of the leaves
+/// comes `skip` leaves after the next one, and none is the last of the message. Returns 0, or -1
+/// if the state is not ready or not at a leaf boundary, the input is not one or more whole
+/// leaves, it reaches 2^58 bytes of the message, or `out` does not have exactly 64 bytes for each
+/// leaf; nothing is then written. The state stays as it is.
 #[unsafe(no_mangle)]
 pub extern "C" fn blake2_c_tree_next_leaves(
     state: &TreeState,
@@ -173,13 +172,14 @@ pub extern "C" fn blake2_c_tree_next_leaves(
     0
 }
 
-/// Absorbs whole leaves, given by their joined digests of 64 bytes each, and then the input: the
-/// state is then as after one update with the leaves' bytes and one with the input. The digests are
-/// those of the next leaves in order, as `blake2_c_tree_next_leaves` writes them. They come at a
-/// leaf boundary, and at least one byte of input comes after them, since the last leaf has no such
-/// digest. Without digests it is an update. Answers 0, or -1 where the state is not ready,
-/// `digests` has no multiple of 64 bytes, there are digests but the state is not at a leaf boundary
-/// or the input is empty, or the count would reach 2^58; the state then stays as it is.
+/// Absorbs whole leaves, which are passed as their joined digests of 64 bytes each, and then the
+/// input. A state that `blake2_c_tree_init` made, and that only calls have changed, is then as
+/// after one update with the leaves' bytes and one with the input. The digests are those of the
+/// next leaves in order, as `blake2_c_tree_next_leaves` writes them. They come at a leaf
+/// boundary, and at least one byte of input comes after them, since the last leaf has another
+/// digest. Without digests the call is an update. Returns 0, or -1 if the state is not ready, the
+/// length of `digests` is not a multiple of 64, there are digests and the state is not at a leaf
+/// boundary or the input is empty, or the count would reach 2^58; the state then stays as it is.
 #[unsafe(no_mangle)]
 pub extern "C" fn blake2_c_tree_update_leaves(
     state: &mut TreeState,
@@ -203,9 +203,10 @@ pub extern "C" fn blake2_c_tree_update_leaves(
     0
 }
 
-/// Writes the root of all that was taken at the beginning of `out`, and wipes the state, which is
-/// then not ready. Answers 0, or -1 where the state is not ready or `out` has less room than the
-/// root; nothing is then written, and the state stays as it is.
+/// Writes the root of all that was absorbed at the beginning of `out`, and wipes the state, which
+/// is then not ready. What is in `out` after the root stays as it is. Returns 0, or -1 if the
+/// state is not ready or `out` has less room than the root; nothing is then written, and the
+/// state stays as it is.
 #[unsafe(no_mangle)]
 pub extern "C" fn blake2_c_tree_final(state: &mut TreeState, out: &mut [u8]) -> i32
     ensures status { Answers result
@@ -224,7 +225,7 @@ pub extern "C" fn blake2_c_tree_final(state: &mut TreeState, out: &mut [u8]) -> 
     0
 }
 
-/// Sets the state to zeros. It is then not ready.
+/// Overwrites the state with zeros. It is then not ready.
 #[unsafe(no_mangle)]
 pub extern "C" fn blake2_c_tree_wipe(state: &mut TreeState)
     ensures { state.new ≡ zeros }
@@ -232,7 +233,7 @@ pub extern "C" fn blake2_c_tree_wipe(state: &mut TreeState)
     state.wipe();
 }
 
-/// The bytes of the state's root, 1 to 64; 0 where the state is not ready.
+/// Returns the number of bytes of the state's root, 1 to 64, or 0 if the state is not ready.
 #[unsafe(no_mangle)]
 pub extern "C" fn blake2_c_tree_digest_size(state: &TreeState) -> usize
     ensures ready { IsReady state.now → result ≡ state.now.root.output_size }
@@ -245,7 +246,8 @@ pub extern "C" fn blake2_c_tree_digest_size(state: &TreeState) -> usize
     }
 }
 
-/// The bytes of the message that the state has absorbed; 0 where it is not ready.
+/// Returns the number of bytes of the message that the state has absorbed, or 0 if it is not
+/// ready.
 #[unsafe(no_mangle)]
 pub extern "C" fn blake2_c_tree_count(state: &TreeState) -> u64
     ensures ready { IsReady state.now → result ≡ count state.now }
@@ -257,7 +259,8 @@ pub extern "C" fn blake2_c_tree_count(state: &TreeState) -> u64
     state.counted()
 }
 
-/// The bytes of a leaf of the state's tree, 1 to 2^32 - 1; 0 where the state is not ready.
+/// Returns the number of bytes of a leaf of the state's tree, 1 to 2^32 - 1, or 0 if the state is
+/// not ready.
 #[unsafe(no_mangle)]
 pub extern "C" fn blake2_c_tree_leaf_length(state: &TreeState) -> u32
     ensures ready { IsReady state.now → result ≡ (parameters state.now).leaf_length }
@@ -269,7 +272,7 @@ pub extern "C" fn blake2_c_tree_leaf_length(state: &TreeState) -> u32
     state.leaf_length as u32
 }
 
-/// The bytes of a state.
+/// Returns the number of bytes of a state.
 #[unsafe(no_mangle)]
 pub extern "C" fn blake2_c_tree_state_size() -> usize
     ensures { result ≡ 912 }
@@ -277,8 +280,9 @@ pub extern "C" fn blake2_c_tree_state_size() -> usize
     size_of::<TreeState>()
 }
 
-/// How many leaves of `leaf_length` bytes a message of so many bytes has, one at least, or a range
-/// of leaves: `blake2_c_tree_leaves` writes 64 bytes for each. 0 where `leaf_length` is 0.
+/// Returns how many leaves of `leaf_length` bytes a message of `message_length` bytes has, at
+/// least one, or 0 if `leaf_length` is 0. A range of leaves has the same number as a message of
+/// its bytes: `blake2_c_tree_leaves` writes 64 bytes for each.
 #[unsafe(no_mangle)]
 pub extern "C" fn blake2_c_tree_leaf_count(message_length: u64, leaf_length: u32) -> u64
     ensures none { leaf_length ≡ 0 → result ≡ 0 }
@@ -290,12 +294,13 @@ pub extern "C" fn blake2_c_tree_leaf_count(message_length: u64, leaf_length: u32
     leaf_count(leaf_length, message_length)
 }
 
-/// Writes the digests of a range of a message's leaves, 64 bytes each, in order: leaf `first`, from
-/// 0, and those behind it that the input makes. Where `ends` is not 0 the range ends the message,
-/// and its last leaf may be shorter; else all are whole. Answers 0, or -1 where salt or persona
-/// have more than 16 bytes, `leaf_length` is 0, the input is no range (it has no bytes, but is not
-/// a whole message; or it is not whole leaves, and does not end the message; or it reaches 2^58
-/// bytes of the message), or `out` has not 64 bytes for each leaf; nothing is then written.
+/// Writes the digests of a range of a message's leaves, 64 bytes each, in order: leaf `first`,
+/// from 0, and those after it that the input makes. If `ends` is not 0 the range ends the
+/// message, and its last leaf may be shorter; otherwise all are whole. Returns 0, or -1 if salt
+/// or persona have more than 16 bytes, `leaf_length` is 0, the input is not a range (it has no
+/// bytes and is not a whole message; or it is not whole leaves, and does not end the message; or
+/// it reaches 2^58 bytes of the message), or `out` does not have exactly 64 bytes for each leaf;
+/// nothing is then written.
 #[unsafe(no_mangle)]
 pub extern "C" fn blake2_c_tree_leaves(
     out: &mut [u8],
@@ -329,11 +334,13 @@ pub extern "C" fn blake2_c_tree_leaves(
     0
 }
 
-/// Writes the root over the joined digests of a message's leaves in as many bytes as `out` has, 1
-/// to 64. These are 64 bytes for each leaf, in order, as `blake2_c_tree_leaves` has written them of
-/// ranges that are the whole message together. Answers 0, or -1 where `out` has another length, or
-/// `digests` has no bytes or no multiple of 64, salt or persona have more than 16, or `leaf_length`
-/// is 0; nothing is then written.
+/// Writes the root over the joined digests of a message's leaves in all bytes of `out`, 1 to 64.
+/// The digests are 64 bytes for each leaf, in order, as `blake2_c_tree_leaves` writes them for
+/// ranges that are the whole message together. If a message becomes shorter, keep the digests of
+/// the whole leaves before its new last range, and let `blake2_c_tree_leaves` write those of that
+/// range after them, with `ends`. Returns 0, or -1 if `out` has another length, `digests` has no
+/// bytes or a length that is not a multiple of 64, salt or persona have more than 16 bytes, or
+/// `leaf_length` is 0; nothing is then written.
 #[unsafe(no_mangle)]
 pub extern "C" fn blake2_c_tree_root_of_leaves(
     out: &mut [u8],

@@ -58,8 +58,8 @@ fn write_one(out: &mut [u8], given: &StateParameters<'_>, message: &[u8])
     }
 }
 
-// Writes the digests of the first messages at the beginning of `out`, 8 where these are hashed at
-// once, else one, and answers of how many.
+// Writes the digests of the first messages at the beginning of `out`, 8 if these are hashed in
+// parallel, otherwise one, and returns how many.
 fn write_next(out: &mut [u8], given: &StateParameters<'_>, messages: &[Text<'_>]) -> usize
     requires taken { ¬ IsRefusedGiven blake2s given.now }
     requires counted { AreCounted blake2s given.now.key.now messages.now }
@@ -98,11 +98,11 @@ fn write_next(out: &mut [u8], given: &StateParameters<'_>, messages: &[Text<'_>]
     1
 }
 
-/// Writes the digests of the messages, each as `blake2_c_blake2s` would with this size and key, and
-/// with a salt and a persona of up to 8 bytes each, one behind the other. Eight messages in a row
-/// that have one length are hashed at once. Answers 0, or -1 where a length is not one that BLAKE2s
-/// takes, a message and the key's block have 2^64 bytes, or `out` has not `output_size` bytes for
-/// each message; nothing is then written.
+/// Writes the digests of the messages, each as `blake2_c_blake2s` would with this size and key,
+/// and with a salt and a persona of up to 8 bytes each, one after the other. Eight messages in a
+/// row that have one length are hashed in parallel. Returns 0, or -1 if a length is not one that
+/// BLAKE2s accepts, a message and the key's block have 2^64 bytes or more, or `out` does not have
+/// exactly `output_size` bytes for each message; nothing is then written.
 #[unsafe(no_mangle)]
 pub extern "C" fn blake2_c_blake2s_many(
     out: &mut [u8],
@@ -138,8 +138,8 @@ pub extern "C" fn blake2_c_blake2s_many(
     0
 }
 
-// Writes the digests of the messages, in a frame of its own: where there is a key, the caller
-// scrubs it.
+// Writes the digests of the messages, in a separate frame: if there is a key, the caller scrubs
+// it.
 #[inline(never)]
 fn write_all(out: &mut [u8], given: &StateParameters<'_>, messages: &[Text<'_>])
     requires taken { ¬ IsRefusedGiven blake2s given.now }
