@@ -8,7 +8,7 @@ ghost use Rattle.blake2_callers.specs.Pieces.{one_message};
 use blake2::digest::Digest;
 use blake2::{Blake2b512, Blake2s256};
 
-/// The digest of two pieces taken as one message.
+/// Returns the digest of two pieces, absorbed as one message.
 pub fn digest_of_parts(first: &[u8], second: &[u8]) -> [u8; 64]
     requires { length first.now + length second.now < 2 ^ 64 }
     ensures { result ≡ digest_of blake2b 64 [] [] None (first.now ++ second.now) }
@@ -19,7 +19,7 @@ pub fn digest_of_parts(first: &[u8], second: &[u8]) -> [u8; 64]
     hasher.finalize()
 }
 
-/// The digest of all pieces taken as one message.
+/// Returns the digest of all pieces, absorbed as one message.
 pub fn digest_of_pieces(pieces: &[&[u8]]) -> [u8; 32]
     requires { length (one_message pieces.now) < 2 ^ 64 }
     ensures { result ≡ digest_of blake2s 32 [] [] None (one_message pieces.now) }
@@ -31,7 +31,7 @@ pub fn digest_of_pieces(pieces: &[&[u8]]) -> [u8; 32]
     hasher.finalize()
 }
 
-/// The digests of two messages, by one hasher.
+/// Returns the digests of two messages, by one hasher.
 pub fn digests_in_turn(first: &[u8], second: &[u8]) -> ([u8; 64], [u8; 64])
     requires first { length first.now < 2 ^ 64 }
     requires second { length second.now < 2 ^ 64 }
@@ -45,7 +45,7 @@ pub fn digests_in_turn(first: &[u8], second: &[u8]) -> ([u8; 64], [u8; 64])
     (digest, hasher.finalize())
 }
 
-/// The digest of a message by any hash function of the traits.
+/// Returns the digest of a message by any hash function of the traits.
 pub fn digest_by<D: Digest<N> + Drop, const N: usize>(message: &[u8]) -> [u8; N]
     requires supported { D.is_supported }
     requires fits { length message.now < 2 ^ 64 }

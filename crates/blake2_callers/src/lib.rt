@@ -1,5 +1,5 @@
 //! Callers of this project's libraries, as the pages CALLING.md of their crates show them: what a
-//! caller writes, and what it may then promise.
+//! caller writes, and what its contract may then promise.
 
 #![tactic(auto)]
 

@@ -8,7 +8,8 @@ ghost use Rattle.blake2.specs.States.{digest_of};
 use blake2::Blake2bMac512;
 use blake2::digest::{InvalidLength, KeyInit, Mac};
 
-/// Whether the tag is that of the message under this key, of 1 to 64 bytes.
+/// Returns whether the tag is that of the message under this key, of 1 to 64 bytes. The error is
+/// `InvalidLength`, exactly for a key of another length.
 pub fn is_authentic(key: &[u8], message: &[u8], tag: &[u8]) -> Result<bool, InvalidLength>
     requires { 128 + length message.now < 2 ^ 64 }
     ensures refused { IsErr result ↔ ((length key.now ≡ 0) ⊎ (64 < length key.now)) }

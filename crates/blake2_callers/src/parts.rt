@@ -16,14 +16,14 @@ use blake2_words::params::{Parameters, blake2b as params};
 use blake2_words::words::{Flags, blake2b as words};
 use std::alloc::Global;
 
-/// The sums of the lanes, each rotated to the right by 24 bits.
+/// Returns the sums of the lanes, each rotated to the right by 24 bits.
 pub fn add_and_rotate(a: u64x4, b: u64x4) -> u64x4
     ensures { result ≡ lane_rotations blake2b (lane_sums blake2b a b) 24 }
 {
     (a + b).rotate_right_const(24)
 }
 
-/// The chaining words under these parameters after a first block that others follow.
+/// Returns the chaining words under these parameters after a first block that others follow.
 pub fn after_first_block(parameters: &Parameters<'_>, block: &[u8; 128]) -> [u64; 8]
     requires { Fits blake2b (given_parameters parameters.now) }
     ensures { result
@@ -34,7 +34,7 @@ pub fn after_first_block(parameters: &Parameters<'_>, block: &[u8; 128]) -> [u64
     h
 }
 
-/// The digests that a list of calls on a new hasher answers.
+/// Returns the digests of a list of calls on a new hasher.
 pub fn digests_of_calls(alloc: Global, calls: &[Call<'_>]) -> Result<Vec<[u8; 64]>, ReplayFault>
     ensures { IfOk result (λ digests. play_fresh (digest_of blake2b 64 [] [] None) 0 calls.now
         ≡ Ok digests.items) }
@@ -42,8 +42,8 @@ pub fn digests_of_calls(alloc: Global, calls: &[Call<'_>]) -> Result<Vec<[u8; 64
     replay(alloc, Blake2b512::new(), calls)
 }
 
-/// The digests that a list of calls answers on a hasher of the node at this place in a tree of
-/// hashes, the last of its level: each under the last-node flag, which no call of a list changes.
+/// Returns the digests of a list of calls on a hasher of the node with these tree parameters, the
+/// last of its level: each under the last-node flag, which no call of a list changes.
 pub fn digests_of_last_node(
     alloc: Global,
     tree: &Tree,

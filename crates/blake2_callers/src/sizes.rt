@@ -1,4 +1,4 @@
-//! Callers with sizes that are known as the program runs.
+//! Callers with sizes that are known at run time.
 
 ghost use Rattle.std.specs.Prelude.{◌≡◌, ◌+◌, ◌^◌, ◌<◌, ◌↔◌, ◌⊎◌, [], length, None, OnOk, OnErr};
 ghost use Rattle.std.specs.Prelude.{IsErr};
@@ -9,7 +9,8 @@ use blake2_digest::InvalidLength;
 use blake2_plain::StateParameters;
 use blake2_plain::blake2s::State;
 
-/// Fills `out` with the digest of the message in as many bytes as it has, 1 to 32.
+/// Fills `out`, of 1 to 32 bytes, with the digest of the message. The error is `InvalidLength`,
+/// exactly for another length. `out` then stays as it is.
 pub fn fill(out: &mut [u8], message: &[u8]) -> Result<(), InvalidLength>
     requires { length message.now < 2 ^ 64 }
     ensures refused { IsErr result ↔ ((length out.old ≡ 0) ⊎ (32 < length out.old)) }

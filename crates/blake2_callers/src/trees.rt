@@ -16,7 +16,7 @@ use blake2_digest::InvalidLength;
 use blake2_plain::tree::TreeState;
 use blake2_tree::{TreeHasher, hash_leaves, leaf_count, root_of_leaves, tree_root};
 
-/// The digest of a node at this place in a tree of hashes, the last of its level.
+/// Returns the digest of a node with these tree parameters, the last of its level.
 pub fn last_node_digest(tree: &Tree, bytes: &[u8]) -> [u8; 64]
     requires tree { AdmitsTree blake2b (tree_of tree.now) }
     requires fits { length bytes.now < 2 ^ 64 }
@@ -28,7 +28,7 @@ pub fn last_node_digest(tree: &Tree, bytes: &[u8]) -> [u8; 64]
     hasher.finalize()
 }
 
-/// The root of a message in a tree with leaves of 65,536 bytes.
+/// Returns the root of a message in a tree with leaves of 65,536 bytes.
 pub fn root(message: &[u8]) -> [u8; 64]
     requires { length message.now < 2 ^ 58 }
     ensures { result ≡ root_of 64 (tree_parameters [] [] 65536) message.now }
@@ -36,7 +36,7 @@ pub fn root(message: &[u8]) -> [u8; 64]
     tree_root(b"", b"", 65536, message)
 }
 
-/// The same of a message that comes in two pieces.
+/// Returns the same root for a message that comes in two pieces.
 pub fn root_of_parts(first: &[u8], second: &[u8]) -> [u8; 64]
     requires { length first.now + length second.now < 2 ^ 58 }
     ensures { result ≡ root_of 64 (tree_parameters [] [] 65536) (first.now ++ second.now) }
@@ -47,7 +47,8 @@ pub fn root_of_parts(first: &[u8], second: &[u8]) -> [u8; 64]
     hasher.finalize()
 }
 
-/// Fills `out` with the root of a message in two pieces, in as many bytes as it has, 1 to 64.
+/// Fills `out`, of 1 to 64 bytes, with the root of a message in two pieces. The error is
+/// `InvalidLength`, exactly for another length. `out` then stays as it is.
 pub fn fill_root(out: &mut [u8], first: &[u8], second: &[u8]) -> Result<(), InvalidLength>
     requires { length first.now + length second.now < 2 ^ 58 }
     ensures refused { IsErr result ↔ ((length out.old ≡ 0) ⊎ (64 < length out.old)) }
@@ -62,8 +63,8 @@ pub fn fill_root(out: &mut [u8], first: &[u8], second: &[u8]) -> Result<(), Inva
     Ok(())
 }
 
-/// The root of a message of which two ranges of leaves are hashed by themselves: the front of it,
-/// which is whole leaves, and the rest. Each could be hashed by another thread.
+/// Returns the root of a message, of which two ranges of leaves are hashed separately: `front`,
+/// which is whole leaves, and `last`. Each could be hashed by another thread.
 pub fn root_of_ranges(front: &[u8], last: &[u8], digests: &mut [u8]) -> [u8; 64]
     requires whole { AreWhole 65536 front.now }
     requires some { 0 < length last.now }
@@ -79,8 +80,9 @@ pub fn root_of_ranges(front: &[u8], last: &[u8], digests: &mut [u8]) -> [u8; 64]
     root_of_leaves(b"", b"", 65536, digests)
 }
 
-/// The root of a message of which a hasher absorbs whole leaves by their digests: `first` comes as
-/// bytes, `middle` is hashed by itself, which another thread could do, and `last` follows.
+/// Returns the root of a message, of which a hasher absorbs whole leaves by their digests:
+/// `first` comes as bytes, `middle` is hashed separately, which another thread could do, and
+/// `last` follows.
 pub fn root_by_digests(first: &[u8], middle: &[u8], last: &[u8], digests: &mut [u8]) -> [u8; 64]
     requires first { length first.now % 65536 ≡ 0 }
     requires middle { AreWhole 65536 middle.now }
@@ -98,8 +100,8 @@ pub fn root_by_digests(first: &[u8], middle: &[u8], last: &[u8], digests: &mut [
     hasher.finalize()
 }
 
-/// The root of a message of which one leaf has changed, where `digests` are those of the leaves
-/// before: those of the leaves after, once it has returned. Only the new leaf is hashed.
+/// Returns the root of a message after one leaf has changed. `digests` must be those of the
+/// leaves before the change, and the call replaces the changed one. Only the new leaf is hashed.
 pub fn root_after_change(digests: &mut [u8], first: u64, ends: bool, leaf: &[u8]) -> [u8; 64]
     requires range { IsRange 65536 first ends (length leaf.now) }
     requires one { length leaf.now ≤ 65536 }
