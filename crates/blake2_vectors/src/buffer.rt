@@ -1,4 +1,4 @@
-//! What the buffer hands on and what it holds back, on a core that counts.
+//! What the buffer passes on and what it keeps, on a core that counts.
 
 ghost use Rattle.std.specs.Prelude.{◌≡◌, ◌+◌, ◌*◌, ◌^◌, ◌<◌, ◌≤◌, length};
 ghost use Rattle.std.proofs.Common.{arith, length-append};
@@ -6,7 +6,7 @@ ghost use Rattle.std.proofs.Common.{arith, length-append};
 use blake2::digest::{Duplicate, LazyBuffer, Reset, UpdateCore, Wipe};
 use std::marker::Model;
 
-// A core that counts the blocks of 64 bytes that it takes.
+// A core that counts the blocks of 64 bytes that it absorbs.
 struct Counter {
     blocks: u64,
 }
@@ -41,7 +41,8 @@ impl UpdateCore<64> for Counter {
     ghost count_grows = { λ count xs. Prim.omega arith };
 }
 
-// The blocks that are handed on, and the bytes that stay, where these bytes meet this input.
+// The number of blocks that are passed on, and of bytes that stay, if `pending` bytes are
+// followed by this input.
 fn handed_and_held(pending: &[u8], input: &[u8]) -> (u64, usize)
     requires pending { length pending.now ≤ 64 }
     requires input { length input.now ≤ 128 }

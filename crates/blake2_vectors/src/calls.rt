@@ -6,7 +6,7 @@ use blake2::digest::{Duplicate, FixedOutput, FixedOutputReset, Reset, Update};
 use blake2::{Blake2b256, Blake2b512, Blake2bMac512, Blake2s256, Blake2sMac256, Digest};
 use std::process::Abort;
 
-/// Checks that a list of calls answers these digests, in hexadecimal.
+/// Checks that a list of calls returns these digests, in hexadecimal.
 pub(crate) fn check_replay<H, const N: usize>(
     rt: &(impl Abort + AllocGlobal),
     first: H,
@@ -75,8 +75,8 @@ fn refuse_the_first_bad_call(rt: HostRuntime) {
     assert!(rt; matches!(refused, Err(ReplayFault::NoSuchSlot(0))));
 }
 
-// Checks the digest of the digests of the beginnings of 1 to 1,000 bytes, each by a copy in a slot
-// of its own. The expected ones are those of `tools/expected_values.py`, under `replays`.
+// Checks the digest of the digests of the first 1 to 1,000 bytes, each by a copy in a separate
+// slot. The expected ones are those of `tools/expected_values.py`, under `replays`.
 fn check_beginnings<H, const N: usize>(rt: &(impl Abort + AllocGlobal), first: H, wanted: &str)
 where
     H: Update + FixedOutputReset<N> + FixedOutput<N> + Reset + Duplicate + Drop,

@@ -5,7 +5,7 @@ use blake2::Tree;
 use blake2_words::params::{self, Parameters};
 use blake2_words::words::{self, Flags};
 
-// `abc` fills one block; its digest stands in RFC 7693, appendix A.
+// `abc` fills one block; its digest is in RFC 7693, appendix A.
 #[test]
 fn blake2b_of_abc(rt: HostRuntime) {
     let mut block = [0; 128];
@@ -23,7 +23,7 @@ fn blake2b_of_abc(rt: HostRuntime) {
     check_digits(&rt, &words::blake2b::to_bytes(&h), digest);
 }
 
-// The same of BLAKE2s (appendix B), over chaining words that are an array.
+// The same for BLAKE2s (appendix B), over chaining words that are an array.
 #[test]
 fn blake2s_of_abc(rt: HostRuntime) {
     let mut block = [0; 64];
@@ -41,8 +41,8 @@ fn blake2s_of_abc(rt: HostRuntime) {
     check_digits(&rt, &words::blake2s::to_bytes(&rows), digest);
 }
 
-// Only the last-node flag tells these digests from those of `abc` above: they are the values of
-// Python's hashlib with `last_node`.
+// Only the last-node flag makes these digests differ from those of `abc` above: they are the
+// values of Python's hashlib with `last_node`.
 #[test]
 fn blake2b_of_a_last_node(rt: HostRuntime) {
     let mut block = [0; 128];

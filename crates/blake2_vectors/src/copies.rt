@@ -11,7 +11,7 @@ use blake2::{
 };
 use std::process::Abort;
 
-// Checks that a state gives this output once it has taken the piece.
+// Checks that a state returns this output after it has absorbed the piece.
 fn check_output<S: FixedOutput<N> + Drop, const N: usize>(
     rt: &impl Abort,
     mut state: S,
@@ -34,7 +34,7 @@ fn output_of<S: FixedOutput<N> + Duplicate + Drop, const N: usize>(
     state.finalize_fixed()
 }
 
-// Checks copies, resets and digests between two pieces, and gives the output for both.
+// Checks copies, resets and digests between two pieces, and returns the output for both.
 fn check_pieces<S, const N: usize>(rt: &impl Abort, start: &S, message: &[u8], at: usize) -> [u8; N]
 where
     S: FixedOutputReset<N> + Duplicate + Clone + Drop,
@@ -160,8 +160,8 @@ fn keep_key_salt_and_persona_over_resets(rt: HostRuntime) {
     check_resets(&rt, mac.expect(&rt, wanted), wanted);
 }
 
-// Checks the calls of `Digest` between two pieces, and takes the digests of the first and of the
-// second that `finalize_reset` gives, one after the other.
+// Checks the calls of `Digest` between two pieces, and absorbs the digests of the first and of
+// the second that `finalize_reset` returns, one after the other.
 fn check_digest_calls<H: Digest<N> + Drop, const N: usize>(
     rt: &impl Abort,
     digests: &mut Blake2b256,

@@ -17,7 +17,7 @@ fn made<C: VariableOutputCore<B, M>, const B: usize, const M: usize>(
     C::new(output_size)
 }
 
-// Takes the beginnings of the outputs over messages of each length.
+// Absorbs the first `output_size` bytes of the outputs over messages of each length.
 fn take_outputs<C, const B: usize, const M: usize>(
     rt: &impl Abort,
     outputs: &mut Blake2b256,

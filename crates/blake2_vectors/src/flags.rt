@@ -42,7 +42,7 @@ fn hash_a_node_of_blake2b(rt: HostRuntime) {
     assert!(rt; u128::from_be_bytes(hasher.finalize()) == off);
 }
 
-// The output for 200 bytes 2a, as the core of BLAKE2b gives it.
+// The output for 200 bytes 2a, as the core of BLAKE2b returns it.
 fn finalize_blake2b(rt: &impl Abort, core: &mut Blake2bVarCore) -> u128 {
     let mut buffer = LazyBuffer::<128>::default();
     assert!(rt; core.counted() == 0);
@@ -72,7 +72,7 @@ fn finalize_a_node_of_blake2b(rt: HostRuntime) {
     let mut copy = core.duplicate();
     assert!(rt; finalize_blake2b(&rt, &mut core) == 0x04a52bc275493b1e9aad139bc4c48022);
     assert!(rt; finalize_blake2b(&rt, &mut copy) == 0x04a52bc275493b1e9aad139bc4c48022);
-    // A finalising call keeps the flag, and so does a reset.
+    // A finalization keeps the flag, and so does a reset.
     core.reset();
     assert!(rt; finalize_blake2b(&rt, &mut core) == 0x04a52bc275493b1e9aad139bc4c48022);
     core.reset();
@@ -114,7 +114,7 @@ fn hash_a_node_of_blake2s(rt: HostRuntime) {
     assert!(rt; u128::from_be_bytes(hasher.finalize()) == off);
 }
 
-// The output for 200 bytes 2a, as the core of BLAKE2s gives it.
+// The output for 200 bytes 2a, as the core of BLAKE2s returns it.
 fn finalize_blake2s(rt: &impl Abort, core: &mut Blake2sVarCore) -> u128 {
     let mut buffer = LazyBuffer::<64>::default();
     assert!(rt; core.counted() == 0);
@@ -144,7 +144,7 @@ fn finalize_a_node_of_blake2s(rt: HostRuntime) {
     let mut copy = core.duplicate();
     assert!(rt; finalize_blake2s(&rt, &mut core) == 0x52cef7a497f72d4c2e9f0077ee696b5d);
     assert!(rt; finalize_blake2s(&rt, &mut copy) == 0x52cef7a497f72d4c2e9f0077ee696b5d);
-    // A finalising call keeps the flag, and so does a reset.
+    // A finalization keeps the flag, and so does a reset.
     core.reset();
     assert!(rt; finalize_blake2s(&rt, &mut core) == 0x52cef7a497f72d4c2e9f0077ee696b5d);
     core.reset();
@@ -157,7 +157,7 @@ fn admit_trees(rt: HostRuntime) {
     let sequential = Tree::sequential();
     assert!(rt; Blake2bVarCore::admits_tree(&sequential));
     assert!(rt; Blake2sVarCore::admits_tree(&sequential));
-    // Offset, depth and inner length, and whether BLAKE2b and BLAKE2s take them.
+    // Offset, depth and inner length, and whether BLAKE2b and BLAKE2s accept them.
     for (node_offset, depth, inner_length, by_blake2b, by_blake2s) in [
         ((1 << 48) - 1, 255, 32, true, true),
         (1 << 48, 255, 32, true, false),
@@ -185,8 +185,8 @@ fn admit_trees(rt: HostRuntime) {
     }
 }
 
-// Checks that a state that has taken `ab` gives the digest of `abc` at the byte `c`, and again
-// after each of the two calls that start it again.
+// Checks that a state that has absorbed `ab` returns the digest of `abc` at the byte `c`, and
+// again after each of the two calls that start it again.
 fn check_starts<H, const N: usize>(rt: &impl Abort, state: &mut H, digest: &str)
 where
     H: FixedOutputReset<N>,
@@ -220,8 +220,8 @@ where
     );
 }
 
-// Checks that the flag of the last node is kept by all calls but the one that sets it: `off` and
-// `on` are the digests of `abc` without it and with it.
+// Checks that the flag of the last node is kept by all calls except the one that sets it: `off`
+// and `on` are the digests of `abc` without it and with it.
 fn check_flag<H, const N: usize>(rt: &impl Abort, fresh: H, off: &str, on: &str)
 where
     H: FixedOutputReset<N> + Duplicate + LastNode + Drop,

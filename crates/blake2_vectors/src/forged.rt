@@ -1,7 +1,6 @@
-//! Long transcripts, and those that were changed in one place: the reader answers nothing, or an
-//! input that has just the changed transcript. How many are read is what
-//! `tools/expected_values.py` finds, under `forged`, and the digests of long ones are its, under
-//! `transcripts`.
+//! Long transcripts, and those with one change: the reader returns nothing, or an input that has
+//! just the changed transcript. How many are read is what `tools/expected_values.py` finds, under
+//! `forged`, and the digests of long ones are its, under `transcripts`.
 
 ghost use Rattle.std.specs.Prelude.{◌≤◌};
 
@@ -90,7 +89,7 @@ impl Steps<u32, 64> for Blake2sVarCore {
     }
 }
 
-// Whether the transcript is read under these words, with another entry at this place.
+// Whether the transcript is read under these words, with another entry at this index.
 fn is_read_with<C: Steps<W, B>, W: Copy + Drop, const B: usize>(
     rt: &(impl Abort + AllocGlobal),
     told: &Transcript<W, B>,
@@ -107,7 +106,7 @@ fn is_read_with<C: Steps<W, B>, W: Copy + Drop, const B: usize>(
     C::is_read(rt, &changed)
 }
 
-// Whether the transcript is read with the entries at two places in each other's.
+// Whether the transcript is read with two entries exchanged.
 fn is_read_swapped<C: Steps<W, B>, W: Copy + Drop, const B: usize>(
     rt: &(impl Abort + AllocGlobal),
     told: &Transcript<W, B>,
@@ -126,7 +125,7 @@ fn is_read_swapped<C: Steps<W, B>, W: Copy + Drop, const B: usize>(
 
 // How many transcripts are read of those with one bit of a word turned: of the sizes that the
 // first word begins with, and of the words of salt and persona. The words between are checked
-// alone. A word has B / 2 bits, since a block has sixteen words.
+// separately. A word has B / 2 bits, since a block has sixteen words.
 fn read_words<C: Steps<W, B>, W: Copy + Drop, const B: usize>(
     rt: &(impl Abort + AllocGlobal),
     told: &Transcript<W, B>,
@@ -185,7 +184,7 @@ fn read_entries<C: Steps<W, B>, W: Copy + Drop, const B: usize>(
     (counters, flags, blocks)
 }
 
-// Whether the transcript is read with these entries in place of its own.
+// Whether the transcript is read with these entries instead of its entries.
 fn is_read_of<C: Steps<W, B>, W: Copy + Drop, const B: usize>(
     rt: &(impl Abort + AllocGlobal),
     told: &Transcript<W, B>,
@@ -197,7 +196,7 @@ fn is_read_of<C: Steps<W, B>, W: Copy + Drop, const B: usize>(
     C::is_read(rt, &changed)
 }
 
-// Whether the transcript is read with one more entry behind its own.
+// Whether the transcript is read with one more entry after its entries.
 fn is_read_longer<C: Steps<W, B>, W: Copy + Drop, const B: usize>(
     rt: &(impl Abort + AllocGlobal),
     told: &Transcript<W, B>,
@@ -211,7 +210,7 @@ fn is_read_longer<C: Steps<W, B>, W: Copy + Drop, const B: usize>(
 }
 
 // Checks that no other list of the same entries is read: none that lacks its first or its last
-// ones, none that has one of them twice, and none that has two of them in each other's place.
+// ones, none that has one of them twice, and none that has two of them exchanged.
 fn check_other_lists<C: Steps<W, B>, W: Copy + Drop, const B: usize>(
     rt: &(impl Abort + AllocGlobal),
     told: &Transcript<W, B>,
@@ -290,7 +289,7 @@ fn read_changed_transcripts_of_blake2s(rt: HostRuntime) {
     }
 }
 
-// Checks that a transcript is read, and the digest of all its entries: of each the counter, low
+// Checks that a transcript is read, and the digest of all its entries: for each the counter, low
 // byte first, the flag and the block.
 fn check_long<C: Steps<W, B>, W: Copy + Drop, const B: usize>(
     rt: &(impl Abort + AllocGlobal),

@@ -1,6 +1,6 @@
-//! What generic code may promise of the members that a type fills in. Each function over a trait is
-//! called at a type by one that concludes the definition: where the type's member says less, that
-//! caller has no proof.
+//! What generic code may promise about the members that a type fills in. Each function over a
+//! trait is called at a type by one that concludes the definition: if the type's member says
+//! less, that caller has no proof.
 
 ghost use Rattle.std.specs.Prelude.{◌≡◌, ◌+◌, ◌^◌, ◌<◌, ◌≤◌, false, true, [], length, replicate};
 ghost use Rattle.std.specs.Prelude.{None, Some, IfOk};

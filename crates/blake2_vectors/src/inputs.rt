@@ -1,5 +1,5 @@
-//! A key, lengths, a place in a tree, messages and pieces that several tests share; and inputs,
-//! entries, steps and readings. What has several fields is made here alone.
+//! A key, lengths, tree parameters, messages and pieces that several tests share; and inputs,
+//! entries, steps and readings. Only this file makes values of several fields.
 
 ghost use Rattle.std.specs.Prelude.{◌≡◌, ◌≤◌, [], length};
 
@@ -46,7 +46,7 @@ pub(crate) fn reads(bytes: &[u8], digits: &str) -> bool {
     }
 }
 
-/// Checks that these digits are the bytes, as `reads` tells.
+/// Checks that these digits are the bytes, as `reads` returns.
 pub(crate) fn check_digits(rt: &impl Abort, bytes: &[u8], digits: &str) {
     assert!(rt; reads(bytes, digits), "not {digits}");
 }
@@ -56,7 +56,7 @@ pub(crate) fn check_digest_of(rt: &impl Abort, bytes: &[u8], wanted: &str) {
     check_digits(rt, &Blake2b256::digest(bytes), wanted);
 }
 
-/// Takes a short piece, where few bytes are counted so far, and checks the new count.
+/// Absorbs a short piece, if few bytes are counted so far, and checks the new count.
 pub(crate) fn take<S: Update>(rt: &impl Abort, state: &mut S, piece: &[u8]) {
     let before = state.counted();
     assert!(rt; before <= 0x10_0000 && piece.len() <= 0x1000);
@@ -65,7 +65,7 @@ pub(crate) fn take<S: Update>(rt: &impl Abort, state: &mut S, piece: &[u8]) {
     assert!(rt; state.counted() == wanted, "{wanted}");
 }
 
-/// An input of these parts, of a hash which is the whole tree, with the last-node flag off.
+/// An input of these parts, of a hash that is the whole tree, with the last-node flag off.
 pub(crate) fn input<'a>(
     key: Option<&'a [u8]>,
     salt: &'a [u8],
@@ -93,7 +93,7 @@ pub(crate) fn unkeyed<'a>(message: &'a [u8]) -> Input<'a>
     input(None, b"", b"", message)
 }
 
-/// An entry whose block goes on with zeros behind these bytes, with the last-node flag off.
+/// An entry whose block has zeros after these bytes, with the last-node flag off.
 pub(crate) fn entry<const B: usize>(beginning: &[u8], counter: u64, last: bool) -> Entry<B>
     requires { length beginning.now ≤ B }
 {
@@ -115,7 +115,7 @@ pub(crate) fn transcript<W: Drop, const B: usize>(
     Transcript { words, entries }
 }
 
-/// A step whose block goes on with zeros behind these bytes, with the last-node flag off.
+/// A step whose block has zeros after these bytes, with the last-node flag off.
 pub(crate) fn step<W: Drop, const B: usize>(
     chain: [W; 8],
     beginning: &[u8],
@@ -158,7 +158,7 @@ pub(crate) fn reading<const S: usize>(
     }
 }
 
-/// The input that a reading tells.
+/// The input that a reading names.
 pub(crate) fn read_input<'a, const S: usize>(read: &'a Reading<S>) -> Input<'a> {
     let key = match &read.key {
         Some(key) => Some(key.as_slice()),

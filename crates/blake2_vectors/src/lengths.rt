@@ -1,4 +1,4 @@
-//! The lengths of keys, salts and personas that are taken, and those that are refused. The
+//! The lengths of keys, salts and personas that are accepted, and those that are refused. The
 //! expected digests of the outputs are those of `tools/expected_values.py`, under `lengths`.
 
 ghost use Rattle.std.specs.Prelude.{◌≤◌};
@@ -21,8 +21,8 @@ fn input<'a>(key: Option<&'a [u8]>, salt: &'a [u8], persona: &'a [u8]) -> Input<
     }
 }
 
-// Checks one choice of parts: all that is told whether they are taken agrees, and their output is
-// taken.
+// Checks one choice of parts: all functions agree on whether they are accepted, and their output
+// is absorbed.
 fn check_parts<M: FixedOutput<N> + Drop, const N: usize>(
     rt: &impl Abort,
     outputs: &mut Blake2b256,

@@ -1,9 +1,9 @@
-//! Worked values of the libraries, but of trees, which have their own beside them: of hash functions,
-//! buffers, transcripts, readings, witnesses, lists of calls and streams, over devices that fail and
-//! where memory is refused. They come from RFC 7693 and from Python's `hashlib.blake2b` and
-//! `hashlib.blake2s`, and not from this project's own code. They stand apart from the libraries,
-//! since a crate that has tests is proved twice; `blake2` and `blake2_tree` have in themselves the
-//! tests of what is private there and of trees.
+//! Worked values of the libraries, except trees, which have their own: of hash functions,
+//! buffers, transcripts, readings, witnesses, lists of calls and streams, over devices that fail
+//! and when memory is refused. They come from RFC 7693 and from Python's `hashlib.blake2b` and
+//! `hashlib.blake2s`, and not from this project's own code. They are apart from the libraries,
+//! since a crate that has tests is proved twice. `blake2` and `blake2_tree` contain the tests of
+//! what is private there and of trees.
 
 #![tactic(auto)]
 

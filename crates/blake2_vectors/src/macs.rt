@@ -126,7 +126,8 @@ fn verify_a_tag_of_blake2s(rt: HostRuntime) {
     check_digits(&rt, tag, wanted);
 }
 
-// Takes the outputs over `abc` under the keys 0, 1, 2 and so on, of all their bytes and of one.
+// Absorbs the outputs over `abc` under the keys 0, 1, 2 and so on, with all their bytes and with
+// one.
 fn take_keyed<M, const K: usize, const N: usize>(rt: &impl Abort, outputs: &mut Blake2b256)
 where
     M: KeyInit<K> + FixedOutput<N> + Drop,

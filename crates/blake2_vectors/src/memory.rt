@@ -1,5 +1,5 @@
-//! Calls where memory is refused. Each answers want of memory, or what it answers where there is
-//! enough; what takes no memory answers as ever.
+//! Calls when memory is refused. Each returns an error, or what it returns if there is enough;
+//! what needs no memory returns the same as ever.
 
 ghost use Rattle.std.specs.Prelude.{◌≤◌};
 
@@ -10,12 +10,12 @@ use blake2::{Blake2b512, Blake2bVarCore, Blake2sVarCore, Digest};
 use std::alloc::{AllocError, Global};
 use std::process::Abort;
 
-// Takes all memory of the process but 65,536 bytes that lie together, in blocks that halve, down
-// to the smallest.
+// Allocates all memory of the process except 65,536 bytes that lie together, in blocks that
+// halve, down to the smallest.
 //
 // A process has 2^47 bytes of addresses, and a machine with a GiB of memory grants blocks of half
-// of that, so that 300,000 blocks are enough; there is room for them from the start. The turns are
-// more than the blocks and the sizes together, so that the smallest size ends the loop.
+// of that, so that 300,000 blocks are enough; there is room for them from the start. The turns
+// are more than the blocks and the sizes together, so that the smallest size ends the loop.
 fn hoard(alloc: Global) -> Result<Vec<Vec<u8>>, AllocError> {
     let mut blocks = Vec::with_capacity(alloc, 300_000)?;
     let spare: Vec<u8> = Vec::with_capacity(alloc, 65536)?;
@@ -33,7 +33,7 @@ fn hoard(alloc: Global) -> Result<Vec<Vec<u8>>, AllocError> {
     Ok(blocks)
 }
 
-// Takes what a hoard left but so many bytes.
+// Allocates what a hoard left, except a number of bytes.
 fn plug(alloc: Global, left: usize) -> Result<Vec<u8>, AllocError>
     requires { left ≤ 65536 }
 {
@@ -43,7 +43,7 @@ fn plug(alloc: Global, left: usize) -> Result<Vec<u8>, AllocError>
 // Under a hoard each try has 16 bytes more than the one before, and the first has none.
 const TRIES: usize = 512;
 
-// What a try finds: the answer, a refusal for want of memory, or anything else.
+// What a try finds: the result, a refused allocation, or anything else.
 #[derive(Copy, Clone, PartialEq, Eq)]
 enum Found {
     Answer,
@@ -51,7 +51,7 @@ enum Found {
     Other,
 }
 
-// Checks that memory was refused at the first tries, and that all later ones found the answer.
+// Checks that memory was refused at the first tries, and that all later ones found the result.
 fn check_found(rt: &impl Abort, found: &[Found]) {
     let mut refused = 0usize;
     for (tries, found) in found.iter().enumerate() {
@@ -72,7 +72,7 @@ fn is_refused(alloc: Global) -> bool {
     one.is_err() && sixteen.is_err()
 }
 
-// BLAKE2b-512 of `abc` and of no bytes, as `hashlib` gives them.
+// BLAKE2b-512 of `abc` and of no bytes, from `hashlib`.
 const ABC: [u8; 64] = [
     0xba, 0x80, 0xa5, 0x3f, 0x98, 0x1c, 0x4d, 0x0d, 0x6a, 0x27, 0x97, 0xb6, 0x9f, 0x12, 0xf6, 0xe9,
     0x4c, 0x21, 0x2f, 0x14, 0x68, 0x5a, 0xc4, 0xb7, 0x4b, 0x12, 0xbb, 0x6f, 0xdb, 0xff, 0xa2, 0xd1,
@@ -87,7 +87,7 @@ const NOTHING: [u8; 64] = [
     0x90, 0x3a, 0x68, 0x5b, 0x14, 0x48, 0xb7, 0x55, 0xd5, 0x6f, 0x70, 0x1a, 0xfe, 0x9b, 0xe2, 0xce,
 ];
 
-// What a list of calls finds where so many bytes are left.
+// What a list of calls finds if a number of bytes are left.
 fn replay_with(alloc: Global, left: usize) -> Found
     requires { left ≤ 65536 }
 {
@@ -123,15 +123,15 @@ fn refuse_memory_to_replay(rt: HostRuntime) {
     check_found(&rt, &found);
 }
 
-// Whether a list of calls is refused by what it owes where there is memory for slot 0, and else by
-// that or for want of memory.
+// Whether a list of calls is refused for `owed` if there is memory for slot 0, and otherwise for
+// that or because an allocation fails.
 fn is_owed(alloc: Global, is_enough: bool, calls: &[Call<'_>], owed: Option<ReplayFault>) -> bool {
     let found = replay::<_, 64>(alloc, Blake2b512::new(), calls).err();
     found == owed || !is_enough && found == Some(ReplayFault::Memory)
 }
 
-// Whether lists whose first call is bad are refused for that call, long ones too: nothing is asked
-// for of the calls behind it.
+// Whether lists whose first call is bad are refused for that call, long ones too: nothing is
+// allocated for the calls after it.
 fn are_first_owed(alloc: Global, is_enough: bool) -> bool {
     let owed = Some(ReplayFault::NoSuchSlot(0));
     let mut copies = [Call::Clone(0); 300];
@@ -146,7 +146,7 @@ fn are_first_owed(alloc: Global, is_enough: bool) -> bool {
         & is_owed(alloc, is_enough, &digests, owed)
 }
 
-// Whether updates and resets want no memory, before a bad call and without one.
+// Whether updates and resets need no memory, before a bad call and without one.
 fn are_later_owed(alloc: Global, is_enough: bool) -> bool {
     let owed = Some(ReplayFault::NoSuchSlot(2));
     let mut calls = [Call::Update(0, b"abc"); 5];
@@ -157,8 +157,8 @@ fn are_later_owed(alloc: Global, is_enough: bool) -> bool {
     is_good_owed & is_owed(alloc, is_enough, &calls, owed)
 }
 
-// What lists with a bad call find where so many bytes are left: the answer where there is memory
-// for slot 0, and all are refused by what they owe.
+// What lists with a bad call find if a number of bytes are left: the result if there is memory
+// for slot 0, and all are refused for their bad call.
 fn replay_bad_with(alloc: Global, left: usize) -> Found
     requires { left ≤ 65536 }
 {
@@ -199,7 +199,7 @@ const WORDS: [u64; 8] = [
     0x6665646362613938,
 ];
 
-// What a transcript finds where so many bytes are left.
+// What a transcript finds if a number of bytes are left.
 fn transcript_with(
     alloc: Global,
     left: usize,
@@ -219,7 +219,7 @@ fn transcript_with(
     }
 }
 
-// What its reader finds where so many bytes are left.
+// What its reader finds if a number of bytes are left.
 fn reading_with(
     alloc: Global,
     left: usize,
@@ -262,7 +262,7 @@ fn refuse_memory_to_transcripts_and_their_reader(rt: HostRuntime) {
     check_found(&rt, &read);
 }
 
-// Transcripts of BLAKE2b that are those of no input.
+// Transcripts of BLAKE2b that belong to no input.
 fn forged(rt: &(impl Abort + AllocGlobal)) -> Vec<Transcript<u64, 128>> {
     let words = [0x01010040, 0, 0, 0, 0, 0, 0, 0];
     let block = [0x2a; 128];
@@ -334,7 +334,7 @@ fn blake2b_witnesses(alloc: Global) -> bool {
         && Blake2bVarCore::witness(alloc, &a, &a, 0) == Ok(None)
 }
 
-// The same of BLAKE2s, whose greatest size is 32, and of `b` and itself.
+// The same for BLAKE2s, whose maximum size is 32, and for `b` and itself.
 fn blake2s_witnesses(alloc: Global) -> bool {
     let (a, b) = (unkeyed(b"a"), unkeyed(b"b"));
     if !Blake2sVarCore::accepts(&a) || !Blake2sVarCore::accepts(&b) {

@@ -8,9 +8,9 @@ use blake2::digest::{Duplicate, FixedOutputReset, TreeNode};
 use blake2::{Blake2b512, Blake2bVarCore, Blake2s256, Blake2sVarCore, LastNode};
 use std::process::Abort;
 
-// Checks that calls on a node with this flag give these digests: first that of `abc`, which comes
-// in two pieces, by the node and by a copy of it; then that of nothing, by a copy made after the
-// reset; and that of `abc` after a byte that a reset drops.
+// Checks that calls on a node with this flag return these digests: first that of `abc`, which
+// comes in two pieces, by the node and by a copy of it; then that of nothing, by a copy made
+// after the reset; and that of `abc` after a byte that a reset drops.
 fn check_node<H, const N: usize>(
     rt: &(impl Abort + AllocGlobal),
     mut node: H,

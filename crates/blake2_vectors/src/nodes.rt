@@ -12,8 +12,8 @@ use blake2::steps::{Entry, Input, Step, Tree};
 use blake2::{Blake2b512, Blake2bVarCore, Blake2s256, Blake2sVarCore, Digest, LastNode};
 use std::process::Abort;
 
-// The place of the node with this number among 64, where node offsets have 64 bits less `shift`,
-// and outputs at most `longest` bytes.
+// The tree parameters of the node with this number among 64, if node offsets have 64 bits less
+// `shift`, and outputs at most `longest` bytes.
 fn place(number: u8, shift: u32, longest: u32) -> Tree {
     Tree {
         fanout: number.wrapping_mul(37),
@@ -130,7 +130,8 @@ fn hash_nodes_of_blake2s(rt: HostRuntime) {
     check_digest_of(&rt, transcripts.as_slice(), wanted);
 }
 
-// A place at depth 1 of this fanout, leaf length, node offset, node depth and inner length.
+// Tree parameters of depth 1 with this fanout, leaf length, node offset, node depth and inner
+// length.
 fn at(fanout: u8, leaf_length: u32, node_offset: u64, node_depth: u8, inner_length: u8) -> Tree {
     Tree {
         fanout,
@@ -142,7 +143,7 @@ fn at(fanout: u8, leaf_length: u32, node_offset: u64, node_depth: u8, inner_leng
     }
 }
 
-// Whether BLAKE2b reads the transcript of these words and entries as this input at its greatest
+// Whether BLAKE2b reads the transcript of these words and entries as this input at its maximum
 // size, or as none.
 fn blake2b_reads(
     rt: &(impl Abort + AllocGlobal),
@@ -237,7 +238,7 @@ fn read_the_last_node_in_one_entry_of_blake2b(rt: HostRuntime) {
     }
 }
 
-// Whether BLAKE2s reads the transcript of these words and entries as this input at its greatest
+// Whether BLAKE2s reads the transcript of these words and entries as this input at its maximum
 // size, or as none.
 fn blake2s_reads(
     rt: &(impl Abort + AllocGlobal),
@@ -304,7 +305,7 @@ fn read_the_last_node_of_blake2s(rt: HostRuntime) {
     }
 }
 
-// The same of BLAKE2s.
+// The same for BLAKE2s.
 #[test]
 fn read_the_last_node_in_one_entry_of_blake2s(rt: HostRuntime) {
     let message = [0x2a; 64];

@@ -1,4 +1,4 @@
-//! The words of the parameter block, and the places in trees that are taken.
+//! The words of the parameter block, and the tree parameters that are accepted.
 
 use blake2::Tree;
 use blake2_words::params::{Parameters, blake2b, blake2s};
@@ -53,7 +53,7 @@ fn words_of_a_tree_blake2b(rt: HostRuntime) {
     assert!(rt; of_root == [0x0000100002000020, 0, 0x4001, 0, 0, 0, 0, 0]);
 }
 
-// The same of BLAKE2s, whose node offset has 48 bits.
+// The same for BLAKE2s, whose node offset has 48 bits.
 #[test]
 fn words_of_a_tree_blake2s(rt: HostRuntime) {
     let node = Tree {
@@ -74,7 +74,7 @@ fn words_of_a_tree_blake2s(rt: HostRuntime) {
     assert!(rt; of_node == [0x03020020, 7, 5, 0x20010001, 0, 0, 0, 0]);
 }
 
-// The last of 48 bits' node offsets is taken, the next is not, nor are an inner length past 32
+// The last of 48 bits' node offsets is accepted. The next is not, nor are an inner length past 32
 // or a tree without levels.
 #[test]
 fn trees_of_blake2s(rt: HostRuntime) {

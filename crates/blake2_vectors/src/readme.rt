@@ -1,11 +1,11 @@
 //! The examples of the README, word for word (`tools/check_calling.py` compares them), and what
-//! they answer.
+//! they return.
 
 use crate::inputs::check_digits;
 use blake2::digest::{InvalidLength, Mac};
 use blake2::{Blake2b512, Blake2bMac512, Digest};
 
-/// The digest of a greeting that comes in two pieces.
+/// Returns the digest of a greeting that comes in two pieces.
 pub fn greeting() -> [u8; 64] {
     let mut hasher = Blake2b512::new();
     hasher.update(b"hello ");
@@ -13,7 +13,7 @@ pub fn greeting() -> [u8; 64] {
     hasher.finalize()
 }
 
-/// Whether the tag is that of the record under this key.
+/// Returns whether the tag is that of the record under this key.
 pub fn is_authentic(key: &[u8], record: &[u8], tag: &[u8]) -> Result<bool, InvalidLength> {
     let mut mac = Blake2bMac512::new_with_salt_and_personal(Some(key), b"", b"records")?;
     mac.update(record);

@@ -20,7 +20,8 @@ fn fill(bytes: &mut [u8], seed: u32) {
     }
 }
 
-// Takes BLAKE2b's digests of one size, for each of the appendix's lengths without and with a key.
+// Absorbs BLAKE2b's digests of one size, for each of the appendix's lengths without and with a
+// key.
 fn take_blake2b<const N: usize>(rt: &impl Abort, digests: &mut Blake2b256)
     requires { N ≤ 64 }
 {
@@ -38,7 +39,8 @@ fn take_blake2b<const N: usize>(rt: &impl Abort, digests: &mut Blake2b256)
     }
 }
 
-// Takes BLAKE2s's digests of one size, for each of the appendix's lengths without and with a key.
+// Absorbs BLAKE2s's digests of one size, for each of the appendix's lengths without and with a
+// key.
 fn take_blake2s<const N: usize>(rt: &impl Abort, digests: &mut Blake2s256)
     requires { N ≤ 32 }
 {

@@ -1,4 +1,4 @@
-//! The sizes that types tell, and the marks that they bear.
+//! The sizes that types name, and the marks that they have.
 
 ghost use Rattle.std.specs.Prelude.{◌≤◌};
 

@@ -222,7 +222,7 @@ fn read_no_input_from_other_entries(rt: HostRuntime) {
     }
 }
 
-// The transcript of BLAKE2s that has these entries and, but for the first, words of zeros.
+// The transcript of BLAKE2s that has these entries and, after the first word, words of zeros.
 fn blake2s_told(
     rt: &(impl Abort + AllocGlobal),
     first_word: u32,

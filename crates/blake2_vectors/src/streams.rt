@@ -1,4 +1,4 @@
-//! Streams between devices in memory that give and take little, or fail.
+//! Streams between devices in memory that move few bytes at a time, or fail.
 
 ghost use Rattle.std.specs.Prelude.{◌≤◌};
 
@@ -11,8 +11,9 @@ use std::process::Abort;
 const LINE: &[u8] = b"ba80a53f981c4d0d6a2797b69f12f6e94c212f14685ac4b74b12bb6fdbffa2d1\
     7d87c5392aab792dc252d5de4533cc9518d38aa8dbf1925ab92386edd4009923\n";
 
-// Hashes `abc` between devices that move at most so many bytes a call, the sink over this room: the
-// answer, whether the source and the sink have failed, and how many bytes the sink took.
+// Hashes `abc` between devices that move a limited number of bytes a call, the sink over this
+// room. Returns the result, whether the source and the sink have failed, and how many bytes the
+// sink accepted.
 fn hash_between(
     most: usize,
     source_fails: Option<usize>,
@@ -71,7 +72,7 @@ fn fail_to_read_in_mid_stream(rt: HostRuntime) {
     assert!(rt; written == 0);
 }
 
-// Checks that a digest of no bytes is a newline alone, over messages of each length.
+// Checks that a digest of no bytes is only a newline, over messages of each length.
 fn check_empty_lines<H: Digest<0> + Drop>(rt: &impl Abort)
     requires { H.is_supported }
 {

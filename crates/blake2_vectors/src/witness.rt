@@ -1,7 +1,6 @@
-//! The pairs of steps that two inputs with one digest come to. Start words are IV's (RFC 7693,
-//! 2.6) xored with those of the parameter block (2.5). The chaining words behind a first block
-//! come from a plain program of the compression (3.2) in Python, whose digests are those of
-//! `hashlib`.
+//! The witnesses of two inputs with equal digests. Start words are IV's (RFC 7693, 2.6) xored
+//! with those of the parameter block (2.5). The chaining words after a first block come from a
+//! plain program of the compression (3.2) in Python, whose digests are those of `hashlib`.
 
 ghost use Rattle.std.specs.Prelude.{◌≤◌, length};
 
@@ -77,7 +76,7 @@ fn blake2b_has_none(
     matches!(blake2b_witness(rt, a, b, output_size), Ok(None))
 }
 
-// The same of BLAKE2s.
+// The same for BLAKE2s.
 fn blake2s_has_none(
     rt: &(impl Abort + AllocGlobal),
     a: &Input<'_>,
@@ -89,12 +88,12 @@ fn blake2s_has_none(
     matches!(blake2s_witness(rt, a, b, output_size), Ok(None))
 }
 
-// An input that has a salt alone.
+// An input that has only a salt.
 fn salted<'a>(salt: &'a [u8]) -> Input<'a> {
     input(None, salt, b"", b"")
 }
 
-// An input that has a key alone.
+// An input that has only a key.
 fn keyed<'a>(key: &'a [u8]) -> Input<'a> {
     input(Some(key), b"", b"", b"")
 }
@@ -185,8 +184,8 @@ fn witness_different_numbers_of_steps_of_blake2s(rt: HostRuntime) {
     assert!(rt; found == Ok(Some((x, y))));
 }
 
-// Of the 257 messages of two bytes that are the numbers 0 to 256 two with equal digests of one
-// byte.
+// Two of the 257 messages of two bytes that are the numbers 0 to 256 that have equal digests of
+// one byte.
 fn equal_digests<H: Digest<1> + Drop>() -> Option<(u16, u16)>
     requires { H.is_supported }
 {
