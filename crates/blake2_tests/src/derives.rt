@@ -13,7 +13,7 @@ use std::alloc::AllocError;
 use std::fmt;
 use std::process::Abort;
 
-// Checks that each value is equal to itself alone.
+// Checks that each value is equal only to itself.
 fn check_different<T: Eq>(rt: &impl Abort, values: &[T]) {
     for (i, value) in values.iter().enumerate() {
         for (j, other) in values.iter().enumerate() {
@@ -163,7 +163,7 @@ fn print_witnesses_and_places(rt: HostRuntime) {
     check_name(&rt, &Tree::sequential(), "Tree");
 }
 
-// Places in trees, each of which differs from the first in one number at most.
+// Tree parameters, each of which differs from the first in one number at most.
 fn places() -> [Tree; 7] {
     let whole = Tree::sequential();
     [

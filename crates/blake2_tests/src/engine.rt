@@ -1,5 +1,5 @@
-//! The engine over devices that give little or fail, with a hash function of the tests' own: the
-//! value of the bytes as the digits of a number in base 31, modulo 2^32.
+//! The engine over devices that move few bytes or fail, with a hash function that only these
+//! tests have: the value of the bytes as the digits of a number in base 31, modulo 2^32.
 
 ghost use Rattle.std.specs.Prelude.{◌≡◌, ◌+◌, ◌*◌, ◌%◌, ◌^◌, ◌≤◌, false, fold, IfOk};
 ghost use Rattle.std.proofs.Common.{arith};
@@ -56,7 +56,7 @@ fn fresh() -> Base31
     Base31 { value: 0, count: 0 }
 }
 
-// The line of some bytes, through a reader and a writer that tell theirs.
+// The line of some bytes, through a reader and a writer that say which bytes they have.
 fn line_in_memory(alloc: Global, bytes: &[u8]) -> Result<Vec<u8>, StreamFault>
     ensures { IfOk result (λ line. line.items ≡ line_of (to_be_bytes w32
         (fold (λ a b. (a * 31 % 2 ^ 32 + b) % 2 ^ 32) 0 bytes.now))) }
@@ -83,8 +83,8 @@ fn writes_the_line(rt: HostRuntime) {
     }
 }
 
-// Streams `abc` between devices in memory, the sink over this room: the answer, whether the source
-// and the sink have failed, and how many bytes the sink took.
+// Streams `abc` between devices in memory, the sink over this room. Returns the result, whether
+// the source and the sink have failed, and how many bytes the sink accepted.
 fn stream_between(
     most_given: usize,
     read_fails: Option<usize>,
@@ -103,8 +103,8 @@ fn stream_between(
 
 #[test]
 fn devices_over_memory(rt: HostRuntime) {
-    // The most that a read gives and when it fails; the same of a write, after the bytes of room;
-    // the answer; and how many bytes of the line were taken.
+    // The most that a read returns and when it fails; the same for a write, after the bytes of
+    // room; the result; and how many bytes of the line were accepted.
     for (most_given, read_fails, size, most_taken, write_fails, answer, taken) in [
         (1, None, 9, 1, None, Ok(3), 9),
         (2, Some(0), 9, 9, None, Err(StreamFault::Read), 0),
@@ -152,7 +152,7 @@ fn counts_below_2_64(rt: HostRuntime) {
     }
 }
 
-// Gives one byte a read, and an error in mid-stream; after it the reads go on.
+// Returns one byte a read, and an error in mid-stream; after it the reads go on.
 #[derive(Drop)]
 struct Interrupted {
     reads: u32,
@@ -186,7 +186,7 @@ fn a_reader_fails_in_mid_stream(rt: HostRuntime) {
     assert!(rt; reads == 3);
 }
 
-// Takes two bytes, then none, and then answers errors.
+// Accepts two bytes, then none, and then returns errors.
 #[derive(Drop)]
 struct Filling {
     writes: u32,
@@ -235,7 +235,7 @@ fn a_writer_fills_up_in_mid_stream(rt: HostRuntime) {
     assert!(rt; writes == 2);
 }
 
-// Fails its first write, by an error or by taking no byte, and takes all that comes later.
+// Fails its first write, by an error or by accepting no byte, and accepts all that comes later.
 #[derive(Drop)]
 struct FailsOnce {
     by_error: bool,
@@ -271,8 +271,8 @@ impl FailsOnce {
     }
 }
 
-// What one write of `abc` to a sink that fails once answers, whether the sink has then failed, and
-// how many writes come later.
+// What one write of `abc` to a sink that fails once returns, whether the sink has then failed,
+// and how many writes come later.
 fn write_once(by_error: bool) -> (Result<usize, DeviceError>, bool, u32) {
     let mut sink = IoSink::new(FailsOnce::new(by_error));
     let answer = sink.write(b"abc");
@@ -280,14 +280,14 @@ fn write_once(by_error: bool) -> (Result<usize, DeviceError>, bool, u32) {
     (answer, failed, sink.into_inner().later)
 }
 
-// What it answers to whole writes, and how many writes come later.
+// What it returns for whole writes, and how many writes come later.
 fn write_whole_once(by_error: bool) -> (Result<(), DeviceError>, u32) {
     let mut sink = IoSink::new(FailsOnce::new(by_error));
     let answer = write_whole(&mut sink, b"abc");
     (answer, sink.into_inner().later)
 }
 
-// What a stream to it answers, and how many writes come later.
+// What a stream to it returns, and how many writes come later.
 fn stream_once(by_error: bool) -> (Result<u64, StreamFault>, u32) {
     let mut sink = IoSink::new(FailsOnce::new(by_error));
     let mut source = SliceSource::new(b"abc", 4, None);

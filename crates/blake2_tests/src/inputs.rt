@@ -13,7 +13,7 @@ pub(crate) fn count_up(bytes: &mut [u8]) {
     }
 }
 
-/// The number that a row begins with, and what stands behind it and a bar.
+/// The number that a row begins with, and what is after it and a bar.
 pub(crate) fn numbered(row: &str) -> Option<(usize, &str)> {
     let (number, rest) = row.split_once('|')?;
     Some((number.parse().ok()?, rest))
@@ -28,7 +28,7 @@ pub(crate) fn reads(bytes: &[u8], digits: &str) -> bool {
     }
 }
 
-/// An input of these parts, of a hash which is the whole tree, with the last-node flag off.
+/// An input of these parts, of a hash that is the whole tree, with the last-node flag off.
 pub(crate) fn input<'a>(
     key: Option<&'a [u8]>,
     salt: &'a [u8],
@@ -56,7 +56,7 @@ pub(crate) fn unkeyed<'a>(message: &'a [u8]) -> Input<'a>
     input(None, b"", b"", message)
 }
 
-/// An entry whose block goes on with zeros behind these bytes, with the last-node flag off.
+/// An entry whose block has zeros after these bytes, with the last-node flag off.
 pub(crate) fn entry<const B: usize>(beginning: &[u8], counter: u64, last: bool) -> Entry<B>
     requires { length beginning.now ≤ B }
 {
@@ -78,7 +78,7 @@ pub(crate) fn transcript<W: Drop, const B: usize>(
     Transcript { words, entries }
 }
 
-/// A step whose block goes on with zeros behind these bytes, with the last-node flag off.
+/// A step whose block has zeros after these bytes, with the last-node flag off.
 pub(crate) fn step<W: Drop, const B: usize>(
     chain: [W; 8],
     beginning: &[u8],

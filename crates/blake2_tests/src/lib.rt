@@ -1,7 +1,7 @@
-//! Tests of what has no worked values of its own: the derives of plain values, the laws, several
-//! messages at once, states of plain numbers, and the calls that are generic at work on small states
-//! of the tests' own. Digests are those of Python's `hashlib`. `blake2_vectors` has the worked
-//! values: two crates of tests are proved side by side.
+//! Tests of what has no worked values: the derives of plain values, the laws, several messages in
+//! parallel, states of plain numbers, and the generic calls at work on small states that only
+//! these tests have. Digests are those of Python's `hashlib`. `blake2_vectors` has the worked
+//! values: two crates of tests are proved in parallel.
 
 #![tactic(auto)]
 

@@ -1,4 +1,4 @@
-//! Several messages at once, without and with keys.
+//! Several messages in parallel, without and with keys.
 
 mod blake2b;
 mod blake2s;

@@ -90,7 +90,8 @@ fn digests_of(alloc: Global, calls: &[Call<'_>]) -> Result<Vec<[u8; 1]>, ReplayF
     replay(alloc, first, calls)
 }
 
-// The digests of calls on a hasher that starts from nothing and has two bytes left to 2^64 - 1.
+// The digests of calls on a hasher whose start counts nothing, and which has two bytes left to
+// 2^64 - 1.
 fn digests_near_the_limit(alloc: Global, calls: &[Call<'_>]) -> Result<Vec<[u8; 1]>, ReplayFault> {
     let first = Tally {
         start: 0,

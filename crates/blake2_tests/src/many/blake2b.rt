@@ -1,5 +1,5 @@
-//! Inputs at once against the digests of Python's hashlib, each of 16 bytes, one after the other in
-//! hexadecimal.
+//! Inputs in parallel against the digests of Python's hashlib, each of 16 bytes, one after the
+//! other in hexadecimal.
 
 ghost use Rattle.std.specs.Prelude.{◌+◌, ◌≤◌, ◌<◌};
 
@@ -14,7 +14,7 @@ fn counted() -> [u8; 4216] {
     bytes
 }
 
-// The first n bytes of text j: they count up from 40j, and begin anew after 250.
+// The first n bytes of message j: they count up from 40j, and begin anew after 250.
 fn text<'a>(bytes: &'a [u8; 4216], j: usize, n: usize) -> &'a [u8]
     requires text { j < 4 }
     requires bytes { n ≤ 4096 }
@@ -30,7 +30,7 @@ fn keyed<'a>(key: &'a [u8], message: &'a [u8]) -> Input<'a> {
     input(Some(key), b"", b"", message)
 }
 
-// Inputs without keys, each of the first n bytes of its text.
+// Inputs without keys, each of the first n bytes of its message.
 fn inputs_of<'a>(bytes: &'a [u8; 4216], n: usize) -> [Input<'a>; 4]
     requires { n ≤ 4096 }
 {
@@ -125,7 +125,7 @@ f37dae6f4c9eb4f16086e52d9202faf0ba01fa9034bd6aab5d2f8882ff74e439\n\
 7f42d24b52f11760492d4f0d93b7d7486617b817a3f109034f74232411b3d043\n\
 ";
 
-// A key counts for 128 bytes, so n bytes under one stand beside n + 128 without.
+// A key counts for 128 bytes, so n bytes under one are next to n + 128 without.
 #[test]
 fn hash_four_that_count_alike(rt: HostRuntime) {
     let key = [7; 64];

@@ -1,5 +1,5 @@
-//! Inputs at once against the digests of Python's hashlib, each of 16 bytes, one after the other in
-//! hexadecimal.
+//! Inputs in parallel against the digests of Python's hashlib, each of 16 bytes, one after the
+//! other in hexadecimal.
 
 ghost use Rattle.std.specs.Prelude.{◌+◌, ◌≤◌, ◌<◌};
 
@@ -14,7 +14,7 @@ fn counted() -> [u8; 4306] {
     bytes
 }
 
-// The first n bytes of text j: they count up from 30j, and begin anew after 250.
+// The first n bytes of message j: they count up from 30j, and begin anew after 250.
 fn text<'a>(bytes: &'a [u8; 4306], j: usize, n: usize) -> &'a [u8]
     requires text { j < 8 }
     requires bytes { n ≤ 4096 }
@@ -30,7 +30,7 @@ fn keyed<'a>(key: &'a [u8], message: &'a [u8]) -> Input<'a> {
     input(Some(key), b"", b"", message)
 }
 
-// Inputs without keys, each of the first n bytes of its text.
+// Inputs without keys, each of the first n bytes of its message.
 fn inputs_of<'a>(bytes: &'a [u8; 4306], n: usize) -> [Input<'a>; 8]
     requires { n ≤ 4096 }
 {
@@ -167,7 +167,7 @@ f1656b4872f969a5f07ae72a1422230a7a468e41cd1ae7e8f2b497df06ded93a\
 1c074d3138c0dc9dfdc51a9cb22066fd43b907c4563e6d08967d458681985e86\n\
 ";
 
-// A key counts for 64 bytes, so n bytes under one stand beside n + 64 without.
+// A key counts for 64 bytes, so n bytes under one are next to n + 64 without.
 #[test]
 fn hash_eight_that_count_alike(rt: HostRuntime) {
     let key = [7; 32];

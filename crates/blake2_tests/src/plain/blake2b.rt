@@ -1,4 +1,4 @@
-//! Digests that hashlib gives, in pieces; refusals; what a wipe and a reset leave.
+//! Digests from hashlib, in pieces; refusals; what a wipe and a reset leave.
 
 use crate::inputs::{count_up, reads};
 use blake2::Tree;
@@ -7,7 +7,7 @@ use blake2_plain::blake2b::State;
 use blake2_words::consts::BLAKE2B_IV;
 use std::process::Abort;
 
-// Takes the input where the state can.
+// Absorbs the input if the state can.
 fn take(state: &mut State, input: &[u8]) -> bool {
     if !state.is_ready() || input.len() as u64 > u64::MAX - state.counted() {
         return false;
@@ -16,7 +16,7 @@ fn take(state: &mut State, input: &[u8]) -> bool {
     true
 }
 
-// Writes the digest where there is one and room for it.
+// Writes the digest if there is one and room for it.
 fn give(state: &State, out: &mut [u8]) -> bool {
     if !state.is_ready() || out.len() < state.output_size {
         return false;
@@ -25,7 +25,7 @@ fn give(state: &State, out: &mut [u8]) -> bool {
     true
 }
 
-// Sets the last-node flag where the state gives digests.
+// Sets the last-node flag if the state returns digests.
 fn mark(state: &mut State, on: bool) -> bool {
     if !state.is_ready() {
         return false;
@@ -54,7 +54,7 @@ fn is_taken(output_size: usize, key: &[u8], salt: &[u8], persona: &[u8]) -> bool
     State::new(&given(output_size, key, salt, persona)).is_ok()
 }
 
-// A keyed node at this place, where the family has it.
+// A keyed node with these tree parameters, if the family accepts them.
 fn node(tree: &Tree) -> Option<State> {
     if !State::admits_tree(tree) {
         return None;
@@ -62,7 +62,7 @@ fn node(tree: &Tree) -> Option<State> {
     State::new_with_tree(&given(20, b"key", b"salt", b"persona"), tree).ok()
 }
 
-// Goes back to the start where the state has one.
+// Goes back to the start if the state has one.
 fn start_again(state: &mut State) -> bool {
     if !state.is_ready() {
         return false;
@@ -71,12 +71,12 @@ fn start_again(state: &mut State) -> bool {
     true
 }
 
-// Whether the tag is that of a state that gives digests.
+// Whether the tag is that of a state that returns digests.
 fn accepts(state: &State, tag: &[u8]) -> bool {
     state.is_ready() && state.is_digest(tag)
 }
 
-// A keyed state that has taken 300 bytes in two pieces, after a reset behind three bytes.
+// A keyed state that has absorbed 300 bytes in two pieces, after three bytes and a reset.
 fn in_pieces(rt: &impl Abort) -> State {
     let made = State::new(&given(20, b"key", b"salt", b"persona"));
     let mut state = made.expect(rt, "a keyed state");

@@ -1,5 +1,5 @@
-//! Plain states of a tree that hash whole leaves, and absorb them by their digests, against roots of
-//! `tree_root`.
+//! Plain states of a tree that hash whole leaves, and absorb them by their digests, against roots
+//! of `tree_root`.
 
 ghost use Rattle.std.specs.Prelude.{◌≤◌, length};
 
@@ -8,7 +8,7 @@ use blake2_plain::tree::{TreeState, write_root_of_leaves};
 use blake2_tree::{hash_leaves, is_range, leaf_count, tree_root};
 use std::process::Abort;
 
-// The root over digests has as many bytes as there is room for.
+// The root over digests has the number of bytes that there is room for.
 #[test]
 fn plain_roots_of_leaves(rt: HostRuntime) {
     let message = b"abcdefghi";
@@ -23,7 +23,7 @@ fn plain_roots_of_leaves(rt: HostRuntime) {
     assert!(rt; longest == tree_root::<64>(b"salt", b"persona", 4, message));
 }
 
-// The root that a state gives of a message of which the leaves between these places come by their
+// The root that a state returns for a message of which the leaves between these two come as their
 // digests, which the state hashes one by one, and what follows in two pieces.
 fn root_by_state(rt: &impl Abort, message: &[u8], from: usize, to: usize, cut: usize) -> [u8; 64]
     requires { length message.now ≤ 44 }

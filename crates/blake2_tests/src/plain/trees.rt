@@ -6,7 +6,7 @@ use crate::inputs::count_up;
 use blake2_plain::tree::TreeState;
 use blake2_tree::tree_root;
 
-// The roots that a state gives between two pieces of a message and after them; it counts both.
+// The roots that a state returns between two pieces of a message and after them; it counts both.
 fn roots_of_pieces(leaf_length: u32, first: &[u8], second: &[u8]) -> Option<([u8; 64], [u8; 64])>
     requires first { length first.now ≤ 2000 }
     requires second { length second.now ≤ 2000 }
@@ -45,7 +45,7 @@ fn plain_roots_of_every_cut(rt: HostRuntime) {
     }
 }
 
-// The bytes behind the root stay.
+// The bytes after the root stay.
 #[test]
 fn plain_root_of_twenty_bytes(rt: HostRuntime) {
     let salt = b"0123456789abcdef";
