@@ -7,8 +7,17 @@ use Rattle.b2_commands.specs.declared.fault.Fault.TheVariants.{WrongWords, Wrong
 use Rattle.b2_commands.specs.declared.fault.Fault.TheVariants.{WrongLine}
 use Rattle.b2_commands.specs.declared.fault.Fault.TheVariants.{NoSuchSlot, LineTooLong, TooLong}
 use Rattle.b2_commands.specs.declared.fault.Fault.TheVariants.{ReadFailed, NoMemory, WriteFailed}
+use Rattle.blake2_runs.specs.declared.engine.stream.StreamFault.{StreamFault}
+use Rattle.blake2_runs.specs.declared.engine.stream.StreamFault.TheVariants.{Read, Write}
+use Rattle.blake2_runs.specs.declared.engine.stream.StreamFault.TheVariants.{TooLong as StreamTooLong}
 use Rattle.b2_commands.specs.Words.{Task, task_of, IsReadingFault}
 use Rattle.b2_commands.specs.Tasks.{IsRefusedTask, IsTooLongFor, IsFaultOfScript, TakesMemory}
+
+-- the fault of the program where a stream that is hashed has one
+abbrev pub fault_of_stream : StreamFault → Fault
+fault_of_stream Read = ReadFailed
+fault_of_stream StreamTooLong = TooLong
+fault_of_stream Write = WriteFailed
 
 -- the status that a fault ends with: 2 for the words and the input, 1 for the devices and the
 -- memory

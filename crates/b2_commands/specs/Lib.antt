@@ -1,14 +1,12 @@
-pub mod Commands
-pub mod Comparisons
 pub mod Ends
 pub mod Faults
-pub mod Hashes
 pub mod Inputs
+pub mod Kinds
 pub mod Lines
 pub mod Numbers
 pub mod Options
+pub mod Parsed
 pub mod Reading
-pub mod Requests
 pub mod Scripts
 pub mod Tasks
 pub mod Trees

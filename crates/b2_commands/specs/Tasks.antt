@@ -3,25 +3,18 @@ use Rattle.std.specs.Prelude.{◌≡◌, ℕ, ◌+◌, ◌<◌, ◌≤◌, ◌^�
 use Rattle.std.specs.Prelude.{unwrap_or, IfSome, Result, Err, IsOkAnd}
 use Rattle.std.specs.List.{flat_map}
 use Rattle.std.specs.Io.KnownBytes.{Appends}
-use Rattle.blake2.specs.Family.{Family, blake2b, blake2s}
+use Rattle.blake2.specs.Family.{Family}
 use Rattle.blake2.specs.Hash.{Input, sequential}
 use Rattle.blake2.specs.Keys.{key_count, IsRefused}
 use Rattle.blake2.specs.States.{digest_of, node_digest_of, input as input_of_parts}
 use Rattle.blake2.specs.Streams.{line_of}
 use Rattle.blake2_tree.specs.TreeRoot.{tree_parameters, tree_root}
 use Rattle.b2_commands.specs.declared.fault.Fault.{Fault}
-use Rattle.b2_commands.specs.declared.words.Family.{Family as FamilyNamed}
-use Rattle.b2_commands.specs.declared.words.Family.TheVariants.{Blake2b, Blake2s}
 use Rattle.b2_commands.specs.Words.{Given, nothing_given, Task}
 use Rattle.b2_commands.specs.Words.Task.{to_sum, to_script, to_steps, to_witness, to_tree}
 use Rattle.b2_commands.specs.Lines.{transcript_lines}
 use Rattle.b2_commands.specs.Scripts.{script_digests}
 use Rattle.b2_commands.specs.Witnesses.{PrintsWitness}
-
--- the family that a kind names
-abbrev pub family_of : FamilyNamed → Family
-family_of Blake2b = blake2b
-family_of Blake2s = blake2s
 
 -- a key, a salt or a persona that is given has a length that the family does not take
 abbrev pub IsRefusedBy : Family → Given → Type 0
@@ -56,9 +49,9 @@ input_with given message =
 
 -- a task has a key, a salt or a persona of a length that is not taken
 abbrev pub IsRefusedTask : Task → Type 0
-IsRefusedTask (to_sum kind given) = IsRefusedBy (family_of kind.family) given
-IsRefusedTask (to_script kind given) = IsRefusedBy (family_of kind.family) given
-IsRefusedTask (to_steps kind given) = IsRefusedBy (family_of kind.family) given
+IsRefusedTask (to_sum kind given) = IsRefusedBy kind.family given
+IsRefusedTask (to_script kind given) = IsRefusedBy kind.family given
+IsRefusedTask (to_steps kind given) = IsRefusedBy kind.family given
 IsRefusedTask (to_witness kind a b) = ⊥
 IsRefusedTask (to_tree kind leaf_length given) = IsRefusedByTree given
 
@@ -69,9 +62,9 @@ IsTooLongBy f given input = 2 ^ 64 ≤ key_count f given.key + length input
 -- so they would be for a task. A script counts the bytes of each slot, `witness` reads no input,
 -- and a tree takes fewer than 2^58 bytes
 abbrev pub IsTooLongFor : Task → List ℕ → Type 0
-IsTooLongFor (to_sum kind given) input = IsTooLongBy (family_of kind.family) given input
+IsTooLongFor (to_sum kind given) input = IsTooLongBy kind.family given input
 IsTooLongFor (to_script kind given) input = ⊥
-IsTooLongFor (to_steps kind given) input = IsTooLongBy (family_of kind.family) given input
+IsTooLongFor (to_steps kind given) input = IsTooLongBy kind.family given input
 IsTooLongFor (to_witness kind a b) input = ⊥
 IsTooLongFor (to_tree kind leaf_length given) input = 2 ^ 58 ≤ length input
 
@@ -91,22 +84,22 @@ script_answer f n given script =
 -- a script has this fault
 abbrev pub IsFaultOfScript : Fault → Task → List ℕ → Type 0
 IsFaultOfScript fault (to_script kind given) input =
-    script_answer (family_of kind.family) kind.bytes given input ≡ Err fault
+    script_answer kind.family kind.bytes given input ≡ Err fault
 IsFaultOfScript fault task input = ⊥
 
 -- a sink took the output of a task over what a source had left; `witness` reads no input
 abbrev pub Outputs : Task → Option (List ℕ) → Option (List ℕ) → Option (List ℕ) → Type 0
 Outputs (to_sum kind given) left old new =
     IfSome left (λ input. Appends old new
-    (line_of (digest_with (family_of kind.family) kind.bytes given input)))
+    (line_of (digest_with kind.family kind.bytes given input)))
 Outputs (to_script kind given) left old new =
-    IfSome left (λ input. IsOkAnd (script_answer (family_of kind.family) kind.bytes given input)
+    IfSome left (λ input. IsOkAnd (script_answer kind.family kind.bytes given input)
     (λ digests. Appends old new (flat_map line_of digests)))
 Outputs (to_steps kind given) left old new =
     IfSome left (λ input.
-    Appends old new (transcript_lines (family_of kind.family) kind.bytes (input_with given input)))
+    Appends old new (transcript_lines kind.family kind.bytes (input_with given input)))
 Outputs (to_witness kind a b) left old new =
-    PrintsWitness (family_of kind.family) kind.bytes
+    PrintsWitness kind.family kind.bytes
     (input_with nothing_given a) (input_with nothing_given b) old new
 Outputs (to_tree kind leaf_length given) left old new =
     IfSome left (λ input. Appends old new

@@ -7,10 +7,8 @@ use Rattle.std.specs.List.{before_first, after_first}
 use Rattle.std.specs.Result.{result_map_both}
 use Rattle.std.specs.Str.{bytes_eq}
 use Rattle.hex.specs.Hex.{decode_of}
+use Rattle.blake2.specs.Family.{Family, blake2b, blake2s}
 use Rattle.b2_commands.specs.Numbers.{number_value}
-use Rattle.b2_commands.specs.declared.words.Family.{Family}
-use Rattle.b2_commands.specs.declared.words.Family.TheVariants.{Blake2b, Blake2s}
-use Rattle.b2_commands.specs.declared.words.Kind.{Kind}
 use Rattle.b2_commands.specs.declared.fault.Fault.{Fault}
 use Rattle.b2_commands.specs.declared.fault.Fault.TheVariants.{WrongWords, WrongHex, NoMemory}
 
@@ -26,13 +24,18 @@ IsReadingFault WrongHex expected = expected ≡ Err WrongHex
 IsReadingFault NoMemory expected = ⊤
 IsReadingFault fault expected = ⊥
 
+-- a hash function of a family, whose digests have so many bytes
+pub record Kind : Type 0 where
+  pub family : Family
+  pub bytes : ℕ
+
 -- the kind of BLAKE2b whose digests have n bytes
 abbrev pub blake2b_of : ℕ → Kind
-blake2b_of n = record { family = Blake2b; bytes = n }
+blake2b_of n = record { family = blake2b; bytes = n }
 
 -- the kind of BLAKE2s whose digests have n bytes
 abbrev pub blake2s_of : ℕ → Kind
-blake2s_of n = record { family = Blake2s; bytes = n }
+blake2s_of n = record { family = blake2s; bytes = n }
 
 -- the kind that a word names
 abbrev pub kind_of : List ℕ → Result Kind Fault
@@ -46,13 +49,8 @@ kind_of word =
 
 -- whether a family is BLAKE2b
 abbrev pub is_blake2b : Family → Bool
-is_blake2b Blake2b = true
-is_blake2b Blake2s = false
-
--- whether a kind is one of these
-abbrev pub is_sized : Kind → Bool
-is_sized kind =
-    (kind.bytes == 16) || ((kind.bytes == 32) || (is_blake2b kind.family && (kind.bytes == 64)))
+is_blake2b blake2b = true
+is_blake2b blake2s = false
 
 -- the bytes of HEX: an even number of hexadecimal digits of either case, perhaps none
 abbrev pub hex_value : List ℕ → Result (List ℕ) Fault

@@ -1,25 +1,70 @@
 //! The words of `b2 witness`.
 
-ghost use Rattle.std.specs.Prelude.{◌≡◌, ◌<◌, ◌≤◌, length, map, IfOk, IfErr};
+ghost use Rattle.std.specs.Prelude.{◌≡◌, ◌≢◌, ◌<◌, ◌≤◌, length, map, IfOk, IfErr};
 ghost use Rattle.std.specs.String.{string_bytes};
 ghost use Rattle.blake2.specs.Family.{output_bytes};
-ghost use Rattle.b2_commands.specs.Tasks.{family_of};
+ghost use Rattle.b2_commands.specs.Kinds.{family_value};
 
 use crate::fault::Fault;
-use crate::words::{Kind, message_of};
+use crate::words::{Blake2bKind, Blake2sKind, Kind, message_of};
 use std::alloc::Global;
+
+/// A family of BLAKE2.
+#[derive(Clone, Copy)]
+pub(crate) enum Family {
+    /// BLAKE2b, with digests of up to 64 bytes.
+    Blake2b,
+    /// BLAKE2s, with digests of up to 32 bytes.
+    Blake2s,
+}
+
+/// The digests by which messages are compared: those of this family with this many bytes.
+#[derive(Clone, Copy)]
+pub(crate) struct Compared {
+    pub(crate) family: Family,
+    pub(crate) bytes: usize,
+    ghost fits: { bytes ≤ output_bytes (family_value family) },
+}
+
+impl Compared {
+    ghost use Rattle.b2_commands.specs.Parsed.{compared_value};
+    ghost use Rattle.b2_commands.specs.Words.{compared_kind_of};
+
+    // The digests that KIND names: `b0`, `b8`, `s0` and `s8`, with no bytes or 1, and those of the
+    // other commands.
+    fn from_word(word: &str) -> Result<Compared, Fault>
+        ensures kind { IfOk result (λ compared.
+            compared_kind_of word.now ≡ Ok (compared_value compared)) }
+        ensures fault { IfErr result (λ fault. compared_kind_of word.now ≡ Err fault) }
+        ensures memory { result ≢ Err Fault.NoMemory }
+    {
+        let (family, bytes) = match word {
+            "b0" => (Family::Blake2b, 0),
+            "b8" => (Family::Blake2b, 1),
+            "s0" => (Family::Blake2s, 0),
+            "s8" => (Family::Blake2s, 1),
+            _ => match Kind::from_word(word)? {
+                Kind::Blake2b(Blake2bKind::B128) => (Family::Blake2b, 16),
+                Kind::Blake2b(Blake2bKind::B256) => (Family::Blake2b, 32),
+                Kind::Blake2b(Blake2bKind::B512) => (Family::Blake2b, 64),
+                Kind::Blake2s(Blake2sKind::S128) => (Family::Blake2s, 16),
+                Kind::Blake2s(Blake2sKind::S256) => (Family::Blake2s, 32),
+            },
+        };
+        Ok(Compared { family, bytes })
+    }
+}
 
 /// Two messages, without key, salt or persona, and the digests by which they are compared.
 #[derive(Drop)]
 pub(crate) struct Comparison {
-    pub(crate) kind: Kind,
+    pub(crate) by: Compared,
     pub(crate) a: Vec<u8>,
     pub(crate) b: Vec<u8>,
-    ghost fits: { kind.bytes ≤ output_bytes (family_of kind.family) },
 }
 
 impl Comparison {
-    ghost use Rattle.b2_commands.specs.Comparisons.{comparison_task};
+    ghost use Rattle.b2_commands.specs.Parsed.{comparison_task};
     ghost use Rattle.b2_commands.specs.Words.{witness_task, IsReadingFault};
 
     /// Reads the words KIND HEX HEX from left to right.
@@ -33,7 +78,7 @@ impl Comparison {
         let Some((kind, words)) = words.split_first() else {
             return Err(Fault::WrongWords);
         };
-        let kind = Kind::compared(kind.as_str())?;
+        let by = Compared::from_word(kind.as_str())?;
         let Some((a, words)) = words.split_first() else {
             return Err(Fault::WrongWords);
         };
@@ -43,7 +88,7 @@ impl Comparison {
         };
         let b = message_of(alloc, b.as_bytes())?;
         match words.split_first() {
-            None => Ok(Comparison { kind, a, b }),
+            None => Ok(Comparison { by, a, b }),
             Some(_) => Err(Fault::WrongWords),
         }
     }

@@ -4,10 +4,11 @@ ghost use Rattle.std.specs.Prelude.{◌≡◌, ◌≢◌, ◌<◌, ◌↔◌, []
 ghost use Rattle.std.specs.Io.KnownBytes.{Appends};
 ghost use Rattle.b2_commands.specs.declared.fault.Fault.TheVariants.{WrongLength, NoMemory};
 ghost use Rattle.b2_commands.specs.declared.fault.Fault.TheVariants.{WriteFailed};
+ghost use Rattle.b2_commands.specs.Faults.{fault_of_stream};
 
 use crate::print::{LINE_BYTES, Line};
 use blake2::digest::InvalidLength;
-use blake2::engine::Sink;
+use blake2::engine::{Sink, StreamFault};
 use std::alloc::AllocError;
 
 /// A fault of the words, the devices or the memory. Each prints one line, but for the last.
@@ -123,6 +124,18 @@ impl From<InvalidLength> for Fault {
 
     fn from(_: InvalidLength) -> Fault {
         Fault::WrongLength
+    }
+}
+
+impl From<StreamFault> for Fault {
+    ghost from_gives = { λ fault r. r ≡ fault_of_stream fault };
+
+    fn from(fault: StreamFault) -> Fault {
+        match fault {
+            StreamFault::Read => Fault::ReadFailed,
+            StreamFault::TooLong => Fault::TooLong,
+            StreamFault::Write => Fault::WriteFailed,
+        }
     }
 }
 

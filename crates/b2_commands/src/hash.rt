@@ -1,4 +1,4 @@
-//! `b2 sum`, `b2 script`, `b2 steps` and `b2 tree`, under the hash function that is asked for.
+//! `b2 sum`, `b2 script` and `b2 steps` with the hash function that is asked for.
 
 ghost use Rattle.std.specs.Prelude.{◌≡◌, ◌≤◌, ◌↔◌, false, IsTrue, IfOk, IsErr, IsOkUnless};
 ghost use Rattle.blake2.specs.States.{Fresh};
@@ -8,16 +8,16 @@ ghost use Rattle.blake2.specs.Keys.{key_count};
 ghost use Rattle.b2_commands.specs.Options.{given_of};
 ghost use Rattle.b2_commands.specs.Tasks.{node_digest_with, IsRefusedBy};
 ghost use Rattle.b2_commands.specs.Ends.{EndsTask};
-ghost use Rattle.b2_commands.specs.Requests.{request_task};
+ghost use Rattle.b2_commands.specs.Kinds.{kind_value};
+ghost use Rattle.b2_commands.specs.Parsed.{output_task};
 ghost use Rattle.b2_commands.specs.Words.{blake2b_of, blake2s_of};
 
 use crate::fault::Fault;
-use crate::request::{Output, Request};
 use crate::script::script;
 use crate::steps::{steps_blake2b, steps_blake2s};
 use crate::sum::sum;
-use crate::tree::tree;
-use crate::words::{Family, Options};
+use crate::task::Output;
+use crate::words::{Blake2bKind, Blake2sKind, Kind, Options};
 use blake2::engine::{Sink, Source};
 use blake2::{Blake2b, Blake2bMac, Blake2s, Blake2sMac, Digest};
 use std::alloc::Global;
@@ -25,45 +25,57 @@ use std::alloc::Global;
 /// Prints what is asked for of what the source gives.
 pub(crate) fn hash<S: Source, K: Sink>(
     alloc: Global,
-    request: &Request,
+    output: Output,
+    kind: Kind,
+    options: &Options,
     source: &mut S,
     sink: &mut K,
 ) -> Result<(), Fault>
     requires source { S.failed source.old ≡ false }
     requires sink { K.failed sink.old ≡ false }
-    ensures { EndsTask (request_task request.now) result (S.left source.old)
-        (S.failed source.new) (K.failed sink.new) (K.held sink.old) (K.held sink.new) }
+    ensures { EndsTask (output_task output (kind_value kind) (given_of options.now)) result
+        (S.left source.old) (S.failed source.new) (K.failed sink.new)
+        (K.held sink.old) (K.held sink.new) }
 {
-    match (request.kind.family, request.kind.bytes) {
-        (Family::Blake2b, 16) => hash_blake2b::<S, K, 16>(alloc, request, source, sink),
-        (Family::Blake2b, 32) => hash_blake2b::<S, K, 32>(alloc, request, source, sink),
-        (Family::Blake2b, _) => hash_blake2b::<S, K, 64>(alloc, request, source, sink),
-        (Family::Blake2s, 16) => hash_blake2s::<S, K, 16>(alloc, request, source, sink),
-        (Family::Blake2s, _) => hash_blake2s::<S, K, 32>(alloc, request, source, sink),
+    match kind {
+        Kind::Blake2b(Blake2bKind::B128) => {
+            hash_blake2b::<S, K, 16>(alloc, output, options, source, sink)
+        }
+        Kind::Blake2b(Blake2bKind::B256) => {
+            hash_blake2b::<S, K, 32>(alloc, output, options, source, sink)
+        }
+        Kind::Blake2b(Blake2bKind::B512) => {
+            hash_blake2b::<S, K, 64>(alloc, output, options, source, sink)
+        }
+        Kind::Blake2s(Blake2sKind::S128) => {
+            hash_blake2s::<S, K, 16>(alloc, output, options, source, sink)
+        }
+        Kind::Blake2s(Blake2sKind::S256) => {
+            hash_blake2s::<S, K, 32>(alloc, output, options, source, sink)
+        }
     }
 }
 
 fn hash_blake2b<S: Source, K: Sink, const N: usize>(
     alloc: Global,
-    request: &Request,
+    output: Output,
+    options: &Options,
     source: &mut S,
     sink: &mut K,
 ) -> Result<(), Fault>
     requires size { N ≤ 64 }
-    requires kind { request.now.kind ≡ blake2b_of N }
     requires source { S.failed source.old ≡ false }
     requires sink { K.failed sink.old ≡ false }
-    ensures { EndsTask (request_task request.now) result (S.left source.old)
-        (S.failed source.new) (K.failed sink.new) (K.held sink.old) (K.held sink.new) }
+    ensures { EndsTask (output_task output (blake2b_of N) (given_of options.now)) result
+        (S.left source.old) (S.failed source.new) (K.failed sink.new)
+        (K.held sink.old) (K.held sink.new) }
 {
-    let options = &request.options;
-    match request.output {
+    match output {
         Output::Digest if options.are_empty() => sum(Blake2b::<N>::new(), source, sink),
         Output::Digest => sum(mac_blake2b::<N>(options)?, source, sink),
         Output::Digests if options.are_empty() => script(alloc, Blake2b::<N>::new(), source, sink),
         Output::Digests => script(alloc, mac_blake2b::<N>(options)?, source, sink),
         Output::Transcript => steps_blake2b(alloc, options, N, source, sink),
-        Output::Root(leaf_length) => tree::<S, K, N>(alloc, leaf_length, options, source, sink),
     }
 }
 
@@ -86,25 +98,24 @@ fn mac_blake2b<const N: usize>(options: &Options) -> Result<Blake2bMac<N>, Fault
 
 fn hash_blake2s<S: Source, K: Sink, const N: usize>(
     alloc: Global,
-    request: &Request,
+    output: Output,
+    options: &Options,
     source: &mut S,
     sink: &mut K,
 ) -> Result<(), Fault>
     requires size { N ≤ 32 }
-    requires kind { request.now.kind ≡ blake2s_of N }
     requires source { S.failed source.old ≡ false }
     requires sink { K.failed sink.old ≡ false }
-    ensures { EndsTask (request_task request.now) result (S.left source.old)
-        (S.failed source.new) (K.failed sink.new) (K.held sink.old) (K.held sink.new) }
+    ensures { EndsTask (output_task output (blake2s_of N) (given_of options.now)) result
+        (S.left source.old) (S.failed source.new) (K.failed sink.new)
+        (K.held sink.old) (K.held sink.new) }
 {
-    let options = &request.options;
-    match request.output {
+    match output {
         Output::Digest if options.are_empty() => sum(Blake2s::<N>::new(), source, sink),
         Output::Digest => sum(mac_blake2s::<N>(options)?, source, sink),
         Output::Digests if options.are_empty() => script(alloc, Blake2s::<N>::new(), source, sink),
         Output::Digests => script(alloc, mac_blake2s::<N>(options)?, source, sink),
         Output::Transcript => steps_blake2s(alloc, options, N, source, sink),
-        Output::Root(_) => unreachable!(),
     }
 }
 

@@ -1,6 +1,8 @@
-//! The whole of the input.
+//! Input, read until a buffer is full or nothing is left.
 
-ghost use Rattle.std.specs.Prelude.{◌≡◌, ◌↔◌, ◌⊎◌, false, IsTrue, IfOk, IfErr, IfSome};
+ghost use Rattle.std.specs.Prelude.{◌≡◌, ◌↔◌, ◌⊎◌, ◌<◌, ◌≤◌, length, take, false, IsTrue, IfOk};
+ghost use Rattle.std.specs.Prelude.{IfErr, IfSome, IsOkUnless};
+ghost use Rattle.std.specs.Io.KnownBytes.{Consumes, IsAtEnd};
 ghost use Rattle.std.specs.Result.{IsErrOf};
 ghost use Rattle.b2_commands.specs.declared.fault.Fault.TheVariants.{ReadFailed, NoMemory};
 
@@ -8,7 +10,7 @@ use crate::fault::Fault;
 use blake2::engine::Source;
 use std::alloc::Global;
 
-// The bytes that one read asks for.
+// The length in bytes of the buffer between the source and the memory.
 const PIECE_BYTES: usize = 4096;
 
 /// All that the source gives, in memory.
@@ -21,12 +23,35 @@ pub(crate) fn read_all<S: Source>(alloc: Global, source: &mut S) -> Result<Vec<u
     let mut bytes = Vec::new(alloc);
     let mut buffer = [0u8; PIECE_BYTES];
     'reading: loop {
-        let Ok(count) = source.read(&mut buffer) else {
+        let filled = fill(source, &mut buffer)?;
+        bytes.extend_from_slice(&buffer[..filled])?;
+        if filled < PIECE_BYTES {
+            return Ok(bytes);
+        }
+    }
+}
+
+/// Fills the buffer from its front with what the source gives next. Returns how many bytes these
+/// are: fewer than the buffer's length only if the source is at its end.
+pub(crate) fn fill<S: Source>(source: &mut S, buffer: &mut [u8]) -> Result<usize, Fault>
+    requires { S.failed source.old ≡ false }
+    ensures read { IsErrOf result Fault.ReadFailed ↔ IsTrue (S.failed source.new) }
+    ensures fault { IsOkUnless result Fault.ReadFailed }
+    ensures size { length buffer.new ≡ length buffer.old }
+    ensures within { IfOk result (λ n. n ≤ length buffer.new) }
+    ensures bytes { IfOk result (λ n.
+        Consumes (S.left source.old) (S.left source.new) (take n buffer.new)) }
+    ensures end { IfOk result (λ n. n < length buffer.new → IsAtEnd (S.left source.new)) }
+{
+    let mut at = 0;
+    'filling: while at < buffer.len() {
+        let Ok(count) = source.read(&mut buffer[at..]) else {
             return Err(Fault::ReadFailed);
         };
         if count == 0 {
-            return Ok(bytes);
+            return Ok(at);
         }
-        bytes.extend_from_slice(&buffer[..count])?;
+        at += count;
     }
+    Ok(at)
 }

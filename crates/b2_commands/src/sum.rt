@@ -8,7 +8,7 @@ ghost use Rattle.b2_commands.specs.Ends.{EndsBy};
 
 use crate::fault::Fault;
 use blake2::digest::FixedOutput;
-use blake2::engine::{Sink, Source, StreamFault, hash_stream};
+use blake2::engine::{Sink, Source, hash_stream};
 
 /// Prints the digest of what the source gives, as a line, with a hasher that has taken nothing yet.
 /// It takes no memory.
@@ -32,10 +32,6 @@ where
         → EndsBy (λ message. line_of (digest false message)) n result (S.left source.old)
         (K.held sink.old) (K.held sink.new) }
 {
-    match hash_stream(source, sink, hasher) {
-        Ok(_) => Ok(()),
-        Err(StreamFault::Read) => Err(Fault::ReadFailed),
-        Err(StreamFault::TooLong) => Err(Fault::TooLong),
-        Err(StreamFault::Write) => Err(Fault::WriteFailed),
-    }
+    hash_stream(source, sink, hasher)?;
+    Ok(())
 }

@@ -1,27 +1,51 @@
 //! `b2 tree`: the root of a tree of hashes over the input.
 
-ghost use Rattle.std.specs.Prelude.{◌≡◌, ◌≢◌, ◌↔◌, ◌⊎◌, ◌+◌, ◌^◌, ◌<◌, ◌≤◌, length, take, false};
-ghost use Rattle.std.specs.Prelude.{IsTrue, IfOk, IfErr, IfSome, IsOkUnless, OnOk};
-ghost use Rattle.std.specs.Io.KnownBytes.{Appends, Consumes, IsAtEnd, Keeps};
+ghost use Rattle.std.specs.Prelude.{◌≡◌, ◌≢◌, ◌↔◌, ◌⊎◌, ◌+◌, ◌^◌, ◌<◌, ◌≤◌, length, false};
+ghost use Rattle.std.specs.Prelude.{IsTrue, IfErr, IfSome, OnOk};
+ghost use Rattle.std.specs.Io.KnownBytes.{Appends, Keeps};
 ghost use Rattle.std.specs.Result.{IsErrOf};
 ghost use Rattle.blake2.specs.Streams.{line_of};
 ghost use Rattle.blake2_tree.specs.TreeHashers.{count, Took};
 ghost use Rattle.b2_commands.specs.declared.fault.Fault.TheVariants.{ReadFailed, TooLong};
 ghost use Rattle.b2_commands.specs.declared.fault.Fault.TheVariants.{WriteFailed};
+ghost use Rattle.b2_commands.specs.Ends.{EndsTask};
 ghost use Rattle.b2_commands.specs.Options.{given_of};
+ghost use Rattle.b2_commands.specs.Parsed.{root_task};
 ghost use Rattle.b2_commands.specs.Tasks.{IsRefusedByTree, root_with};
 ghost use Rattle.b2_commands.specs.Trees.{IsFaultOfTree};
 
 use crate::fault::Fault;
+use crate::input::fill;
 use crate::print::print_digest;
-use crate::words::Options;
+use crate::task::Root;
+use crate::words::{Blake2bKind, Options};
 use blake2::engine::{Sink, Source};
 use blake2_tree::{LABEL_BYTES, MESSAGE_LIMIT, TreeHasher, best_piece_length};
 use std::alloc::Global;
 
-/// Prints the root of N bytes of what the source gives, as a line. It reads the source in pieces,
-/// and takes memory for one.
-pub(crate) fn tree<S: Source, K: Sink, const N: usize>(
+/// Prints the root of what the source gives, as a line. It reads the source in pieces, and
+/// allocates memory for one.
+pub(crate) fn tree<S: Source, K: Sink>(
+    alloc: Global,
+    root: &Root,
+    source: &mut S,
+    sink: &mut K,
+) -> Result<(), Fault>
+    requires source { S.failed source.old ≡ false }
+    requires sink { K.failed sink.old ≡ false }
+    ensures { EndsTask (root_task root.now) result (S.left source.old)
+        (S.failed source.new) (K.failed sink.new) (K.held sink.old) (K.held sink.new) }
+{
+    let options = &root.options;
+    match root.kind {
+        Blake2bKind::B128 => print_root::<S, K, 16>(alloc, root.leaf_length, options, source, sink),
+        Blake2bKind::B256 => print_root::<S, K, 32>(alloc, root.leaf_length, options, source, sink),
+        Blake2bKind::B512 => print_root::<S, K, 64>(alloc, root.leaf_length, options, source, sink),
+    }
+}
+
+// Prints the root of N bytes.
+fn print_root<S: Source, K: Sink, const N: usize>(
     alloc: Global,
     leaf_length: u32,
     options: &Options,
@@ -82,29 +106,4 @@ fn absorb<S: Source, const N: usize>(
             return Ok(());
         }
     }
-}
-
-// Fills the buffer from its front with what the source gives next, and answers how many bytes these
-// are: fewer than it has room for only where the source is at its end.
-fn fill<S: Source>(source: &mut S, buffer: &mut [u8]) -> Result<usize, Fault>
-    requires { S.failed source.old ≡ false }
-    ensures read { IsErrOf result Fault.ReadFailed ↔ IsTrue (S.failed source.new) }
-    ensures fault { IsOkUnless result Fault.ReadFailed }
-    ensures size { length buffer.new ≡ length buffer.old }
-    ensures within { IfOk result (λ n. n ≤ length buffer.new) }
-    ensures bytes { IfOk result (λ n.
-        Consumes (S.left source.old) (S.left source.new) (take n buffer.new)) }
-    ensures end { IfOk result (λ n. n < length buffer.new → IsAtEnd (S.left source.new)) }
-{
-    let mut at = 0;
-    'filling: while at < buffer.len() {
-        let Ok(count) = source.read(&mut buffer[at..]) else {
-            return Err(Fault::ReadFailed);
-        };
-        if count == 0 {
-            return Ok(at);
-        }
-        at += count;
-    }
-    Ok(at)
 }

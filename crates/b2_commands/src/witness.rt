@@ -9,15 +9,14 @@ ghost use Rattle.blake2.specs.Inputs.{Accepts};
 ghost use Rattle.blake2.specs.Views.{input_of, step_of};
 ghost use Rattle.b2_commands.specs.Words.{nothing_given};
 ghost use Rattle.b2_commands.specs.Tasks.{input_with};
-ghost use Rattle.b2_commands.specs.Comparisons.{comparison_task};
 ghost use Rattle.b2_commands.specs.Ends.{EndsTask};
 ghost use Rattle.b2_commands.specs.Lines.{step_line};
+ghost use Rattle.b2_commands.specs.Parsed.{comparison_task};
 ghost use Rattle.b2_commands.specs.Witnesses.{PrintsWitness};
 
-use crate::comparison::Comparison;
+use crate::comparison::{Comparison, Family};
 use crate::fault::Fault;
 use crate::print::Line;
-use crate::words::Family;
 use blake2::engine::{Sink, write_whole};
 use blake2::steps::{Input, Step, Tree};
 use blake2::{Blake2bVarCore, Blake2sVarCore};
@@ -37,8 +36,8 @@ pub(crate) fn witness<K: Sink>(
 {
     let a = comparison.a.as_slice();
     let b = comparison.b.as_slice();
-    let size = comparison.kind.bytes;
-    match comparison.kind.family {
+    let size = comparison.by.bytes;
+    match comparison.by.family {
         Family::Blake2b => witness_blake2b(alloc, a, b, size, sink),
         Family::Blake2s => witness_blake2s(alloc, a, b, size, sink),
     }

@@ -1,9 +1,8 @@
 //! The words of the command line, read from left to right.
 
-ghost use Rattle.std.specs.Prelude.{◌≡◌, ◌<◌, ◌≤◌, ◌↔◌, [], length, map, unwrap_or, IsTrue};
+ghost use Rattle.std.specs.Prelude.{◌≡◌, ◌≢◌, ◌<◌, ◌↔◌, [], length, map, unwrap_or, IsTrue};
 ghost use Rattle.std.specs.Prelude.{IfOk, IfErr, OnOk};
 ghost use Rattle.std.specs.String.{string_bytes};
-ghost use Rattle.blake2.specs.Family.{output_bytes};
 ghost use Rattle.blake2.specs.Views.{key_of};
 ghost use Rattle.b2_commands.specs.Words.{hex_value, message_value, IsReadingFault};
 
@@ -11,76 +10,50 @@ use crate::fault::Fault;
 use hex::FromHexError;
 use std::alloc::Global;
 
-/// A family of BLAKE2.
+/// The hash functions of BLAKE2b that have a name.
 #[derive(Clone, Copy)]
-pub(crate) enum Family {
-    /// BLAKE2b, with digests of up to 64 bytes.
-    Blake2b,
-    /// BLAKE2s, with digests of up to 32 bytes.
-    Blake2s,
+pub(crate) enum Blake2bKind {
+    /// `b128`, whose digests have 16 bytes.
+    B128,
+    /// `b256`, whose digests have 32 bytes.
+    B256,
+    /// `b512`, whose digests have 64 bytes.
+    B512,
+}
+
+/// The hash functions of BLAKE2s that have a name.
+#[derive(Clone, Copy)]
+pub(crate) enum Blake2sKind {
+    /// `s128`, whose digests have 16 bytes.
+    S128,
+    /// `s256`, whose digests have 32 bytes.
+    S256,
 }
 
 /// The hash function of a command, named by its KIND.
 #[derive(Clone, Copy)]
-pub(crate) struct Kind {
-    pub(crate) family: Family,
-    /// The bytes of a digest.
-    pub(crate) bytes: usize,
+pub(crate) enum Kind {
+    Blake2b(Blake2bKind),
+    Blake2s(Blake2sKind),
 }
 
 impl Kind {
-    ghost use Rattle.b2_commands.specs.Tasks.{family_of};
-    ghost use Rattle.b2_commands.specs.Words.{blake2b_of, blake2s_of, kind_of, compared_kind_of};
-    ghost use Rattle.b2_commands.specs.Words.{is_sized};
+    ghost use Rattle.b2_commands.specs.Words.{kind_of};
+    ghost use Rattle.b2_commands.specs.Kinds.{kind_value};
 
-    // BLAKE2b with digests of so many bytes.
-    fn blake2b(bytes: usize) -> Kind
-        ensures { result ≡ blake2b_of bytes }
-    {
-        Kind {
-            family: Family::Blake2b,
-            bytes,
-        }
-    }
-
-    // BLAKE2s with digests of so many bytes.
-    fn blake2s(bytes: usize) -> Kind
-        ensures { result ≡ blake2s_of bytes }
-    {
-        Kind {
-            family: Family::Blake2s,
-            bytes,
-        }
-    }
-
-    /// The kind of this name.
+    /// Returns the kind of this name.
     pub(crate) fn from_word(word: &str) -> Result<Kind, Fault>
-        ensures kind { result ≡ kind_of word.now }
-        ensures sized { IfOk result (λ kind. IsTrue (is_sized kind)) }
-        ensures fits { IfOk result (λ kind. kind.bytes ≤ output_bytes (family_of kind.family)) }
+        ensures kind { IfOk result (λ kind. kind_of word.now ≡ Ok (kind_value kind)) }
+        ensures fault { IfErr result (λ fault. kind_of word.now ≡ Err fault) }
+        ensures memory { result ≢ Err Fault.NoMemory }
     {
         match word {
-            "b128" => Ok(Kind::blake2b(16)),
-            "b256" => Ok(Kind::blake2b(32)),
-            "b512" => Ok(Kind::blake2b(64)),
-            "s128" => Ok(Kind::blake2s(16)),
-            "s256" => Ok(Kind::blake2s(32)),
+            "b128" => Ok(Kind::Blake2b(Blake2bKind::B128)),
+            "b256" => Ok(Kind::Blake2b(Blake2bKind::B256)),
+            "b512" => Ok(Kind::Blake2b(Blake2bKind::B512)),
+            "s128" => Ok(Kind::Blake2s(Blake2sKind::S128)),
+            "s256" => Ok(Kind::Blake2s(Blake2sKind::S256)),
             _ => Err(Fault::WrongWords),
-        }
-    }
-
-    /// The kind of this name among those that `witness` compares: `b0`, `b8`, `s0` and `s8`, with
-    /// no bytes or 1, are more of them.
-    pub(crate) fn compared(word: &str) -> Result<Kind, Fault>
-        ensures kind { result ≡ compared_kind_of word.now }
-        ensures fits { IfOk result (λ kind. kind.bytes ≤ output_bytes (family_of kind.family)) }
-    {
-        match word {
-            "b0" => Ok(Kind::blake2b(0)),
-            "b8" => Ok(Kind::blake2b(1)),
-            "s0" => Ok(Kind::blake2s(0)),
-            "s8" => Ok(Kind::blake2s(1)),
-            _ => Kind::from_word(word),
         }
     }
 }

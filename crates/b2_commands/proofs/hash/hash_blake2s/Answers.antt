@@ -9,18 +9,18 @@ use Rattle.b2_commands.proofs.hash.hash_blake2s.Goals as goal
 
 pub returns-in-Digest : goal.returns-in-Digest
 returns-in-Digest g c =
-    let none : given_of c.args.request.now.options ≡ nothing_given = search rules in
+    let none : given_of c.args.options.now ≡ nothing_given = search rules in
     let told = c.sum.ensures in
-    rw (c.in-Digest.is, c.requires.kind, none)
+    rw (c.in-Digest.is, none)
     (sum_ends (blake2s_of g.row.N) nothing_given c.sum.result _ _ _ _ _
     (nothing_taken blake2s) told.length told.read told.write told.memory
     (told.ends (node_digest_with blake2s g.row.N nothing_given) 0 c.new.ensures))
 
 pub returns-in_ok-mac_blake2s-in-Digest-2 : goal.returns-in_ok-mac_blake2s-in-Digest-2
 returns-in_ok-mac_blake2s-in-Digest-2 g c =
-    let given = given_of c.args.request.now.options in
+    let given = given_of c.args.options.now in
     let told = c.sum-in-Digest-2.ensures in
-    rw (c.in-Digest-2.is, c.requires.kind)
+    rw (c.in-Digest-2.is)
     (sum_ends (blake2s_of g.row.N) given c.sum-in-Digest-2.result _ _ _ _ _
     (search rules) told.length told.read told.write told.memory
     (told.ends (node_digest_with blake2s g.row.N given) (key_count blake2s given.key)
@@ -28,18 +28,18 @@ returns-in_ok-mac_blake2s-in-Digest-2 g c =
 
 pub returns-in-Digests : goal.returns-in-Digests
 returns-in-Digests g c =
-    let none : given_of c.args.request.now.options ≡ nothing_given = search rules in
+    let none : given_of c.args.options.now ≡ nothing_given = search rules in
     let told = c.script.ensures in
-    rw (c.in-Digests.is, c.requires.kind, none)
+    rw (c.in-Digests.is, none)
     (script_ends (blake2s_of g.row.N) nothing_given c.script.result _ _ _ _ _
     (nothing_taken blake2s) told.length told.read told.write
     (told.ends (node_digest_with blake2s g.row.N nothing_given) 0 c.new-in-Digests.ensures))
 
 pub returns-in_ok-mac_blake2s-in-Digests-2 : goal.returns-in_ok-mac_blake2s-in-Digests-2
 returns-in_ok-mac_blake2s-in-Digests-2 g c =
-    let given = given_of c.args.request.now.options in
+    let given = given_of c.args.options.now in
     let told = c.script-in-Digests-2.ensures in
-    rw (c.in-Digests-2.is, c.requires.kind)
+    rw (c.in-Digests-2.is)
     (script_ends (blake2s_of g.row.N) given c.script-in-Digests-2.result _ _ _ _ _
     (search rules) told.length told.read told.write
     (told.ends (node_digest_with blake2s g.row.N given) (key_count blake2s given.key)

@@ -1,6 +1,6 @@
 use Rattle.std.proofs.Common.{◌≡◌, ◌-◌, ◌≤◌, false, length, take}
 use Rattle.std.specs.Io.KnownBytes.{Consumes}
-use Rattle.b2_commands.proofs.tree.fill.Given as goal
+use Rattle.b2_commands.proofs.input.fill.Given as goal
 
 -- the front of the buffer has what the source gave
 abbrev pub invariant-filling : goal.invariant-filling

@@ -1,7 +1,7 @@
 use Rattle.std.proofs.Common.{◌≡◌, ◌-◌, ◌∙◌, false, ◌||◌, ap, arith, length, rules, take}
 use Rattle.std.proofs.KnownBytes.{Consumes-trans}
 use Rattle.b2_commands.proofs.Filling.{take-more}
-use Rattle.b2_commands.proofs.tree.fill.Goals as goal
+use Rattle.b2_commands.proofs.input.fill.Goals as goal
 
 pub filling-preserved : goal.filling-preserved
 filling-preserved g c =

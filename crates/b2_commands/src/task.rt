@@ -1,0 +1,127 @@
+//! The task that the words of a command line name.
+
+ghost use Rattle.std.specs.Prelude.{◌≡◌, ◌<◌, ◌≤◌, length, map, IfOk, IfErr};
+ghost use Rattle.std.specs.String.{string_bytes};
+ghost use Rattle.b2_commands.specs.Words.{task_of, IsReadingFault};
+
+use crate::comparison::Comparison;
+use crate::fault::Fault;
+use crate::numbers::number_of;
+use crate::words::{Blake2bKind, Kind, Options};
+use std::alloc::Global;
+
+/// What is printed of the input.
+#[derive(Clone, Copy)]
+pub(crate) enum Output {
+    /// `sum`: its digest.
+    Digest,
+    /// `script`: the digests that the calls of its lines return.
+    Digests,
+    /// `steps`: its transcript.
+    Transcript,
+}
+
+/// The root of a tree over the input, whose leaves have `leaf_length` bytes.
+#[derive(Drop)]
+pub(crate) struct Root {
+    pub(crate) kind: Blake2bKind,
+    pub(crate) leaf_length: u32,
+    pub(crate) options: Options,
+    ghost leaf: { 1 ≤ leaf_length },
+}
+
+/// What a command line asks for.
+#[derive(Drop)]
+pub(crate) enum Task {
+    /// `sum`, `script` or `steps`, with the hash function of the kind under the options.
+    Hash(Output, Kind, Options),
+    /// `witness`.
+    Compare(Comparison),
+    /// `tree`.
+    Tree(Root),
+}
+
+impl Task {
+    ghost use Rattle.b2_commands.specs.Parsed.{output_task, task_value};
+    ghost use Rattle.b2_commands.specs.Words.{given_task};
+
+    /// Reads the words from left to right: the command, its KIND and then the rest. Returns an
+    /// error if a word is not expected or is missing, or if memory for the bytes of HEX is refused.
+    pub(crate) fn from_words(alloc: Global, words: &[String]) -> Result<Task, Fault>
+        ensures task { IfOk result (λ task.
+            task_of (map string_bytes words.now) ≡ Ok (task_value task)) }
+        ensures fault { IfErr result (λ fault.
+            IsReadingFault fault (task_of (map string_bytes words.now))) }
+        ensures memory { result ≡ Err Fault.NoMemory → 2 < length words.now }
+    {
+        let Some((command, words)) = words.split_first() else {
+            return Err(Fault::WrongWords);
+        };
+        match command.as_str() {
+            "sum" => Self::hash(alloc, Output::Digest, words),
+            "script" => Self::hash(alloc, Output::Digests, words),
+            "steps" => Self::hash(alloc, Output::Transcript, words),
+            "witness" => Ok(Task::Compare(Comparison::from_words(alloc, words)?)),
+            "tree" => Ok(Task::Tree(Root::from_words(alloc, words)?)),
+            _ => Err(Fault::WrongWords),
+        }
+    }
+
+    // Reads the words KIND [key=HEX] [salt=HEX] [persona=HEX] from left to right.
+    fn hash(alloc: Global, output: Output, words: &[String]) -> Result<Task, Fault>
+        ensures task { IfOk result (λ task.
+            given_task (output_task output) (map string_bytes words.now) ≡ Ok (task_value task)) }
+        ensures fault { IfErr result (λ fault.
+            IsReadingFault fault (given_task (output_task output) (map string_bytes words.now))) }
+        ensures memory { result ≡ Err Fault.NoMemory → 1 < length words.now }
+    {
+        let Some((kind, words)) = words.split_first() else {
+            return Err(Fault::WrongWords);
+        };
+        let kind = Kind::from_word(kind.as_str())?;
+        let options = Options::from_words(alloc, true, words)?;
+        Ok(Task::Hash(output, kind, options))
+    }
+}
+
+impl Root {
+    ghost use Rattle.b2_commands.specs.Parsed.{root_task};
+    ghost use Rattle.b2_commands.specs.Words.{tree_task, leaf_value};
+
+    // Reads the words KIND LEAF [salt=HEX] [persona=HEX] from left to right.
+    fn from_words(alloc: Global, words: &[String]) -> Result<Root, Fault>
+        ensures task { IfOk result (λ root.
+            tree_task (map string_bytes words.now) ≡ Ok (root_task root)) }
+        ensures fault { IfErr result (λ fault.
+            IsReadingFault fault (tree_task (map string_bytes words.now))) }
+        ensures memory { result ≡ Err Fault.NoMemory → 1 < length words.now }
+    {
+        let Some((kind, words)) = words.split_first() else {
+            return Err(Fault::WrongWords);
+        };
+        let Kind::Blake2b(kind) = Kind::from_word(kind.as_str())? else {
+            return Err(Fault::WrongWords);
+        };
+        let Some((leaf, words)) = words.split_first() else {
+            return Err(Fault::WrongWords);
+        };
+        let leaf_length = Self::leaf_of(leaf.as_bytes())?;
+        let options = Options::from_words(alloc, false, words)?;
+        Ok(Root {
+            kind,
+            leaf_length,
+            options,
+        })
+    }
+
+    // The bytes of a leaf that LEAF names: 1 to 2^32 - 1 in decimal digits without a leading zero.
+    fn leaf_of(digits: &[u8]) -> Result<u32, Fault>
+        ensures value { result ≡ leaf_value digits.now }
+        ensures some { IfOk result (λ n. 1 ≤ n) }
+    {
+        match number_of(digits, 10) {
+            Some(number) if number > 0 => u32::try_from(number).map_err(|_| Fault::WrongWords),
+            _ => Err(Fault::WrongWords),
+        }
+    }
+}
