@@ -241,7 +241,7 @@ test("what is proved opens from the link at the top, and from a link to it", asy
   assert.equal(await linked.evaluate("document.getElementById('proved').open"), true);
 });
 
-// The least ratio of luminance (WCAG 2) of body text, quiet text on a card, and the link at the top.
+// The smallest ratio of luminance (WCAG 2) of body text, quiet text and the link at the top.
 const CONTRAST = `{
   const light = (color) => {
     const [r, g, b] = color.match(/\\d+/g).map((c) => c / 255)
@@ -265,7 +265,8 @@ test("it fits narrow and wide windows, light and dark, and its text has contrast
       const page = await opened({ width, scheme });
       await page.hash(["one byte"]);
       assert.equal(
-        await page.evaluate("document.documentElement.scrollWidth <= innerWidth"), true, `${width}`);
+        await page.evaluate("document.documentElement.scrollWidth <= innerWidth"), true,
+        `${width}`);
       const ratio = await page.evaluate(CONTRAST);
       assert.ok(ratio >= 4.5, `${scheme}: ${ratio}`);
       grounds.add(await page.evaluate("getComputedStyle(document.body).backgroundColor"));
@@ -344,7 +345,8 @@ test("a file is stopped before its turn", async (t) => {
   await page.evaluate("workers.forEach((worker) => (worker.isFree = true)); start()");
   await page.until("document.querySelectorAll('[data-state=done]').length === 1");
   const [stopped, done] = await page.evaluate(CARDS);
-  assert.deepEqual([stopped.name, stopped.shown, stopped.state], ["empty.txt", "stopped", "failed"]);
+  assert.deepEqual(
+    [stopped.name, stopped.shown, stopped.state], ["empty.txt", "stopped", "failed"]);
   assert.deepEqual(Object.values(stopped.digests), KINDS.map(() => "stopped"));
   assert.equal(done.name, "one byte");
   assert.deepEqual(page.faults, []);
@@ -361,7 +363,8 @@ test("a file that changes while it waits is reported", async (t) => {
   await page.evaluate("workers.forEach((worker) => (worker.isFree = true)); start()");
   await page.until("document.querySelector('article').dataset.state === 'failed'");
   const [{ digests }] = await page.evaluate(CARDS);
-  assert.match(digests["BLAKE2b-512"], /^cannot be read \(is it a folder, or has it changed\?\): ./);
+  assert.match(
+    digests["BLAKE2b-512"], /^cannot be read \(is it a folder, or has it changed\?\): ./);
   assert.equal(await page.evaluate("document.querySelector('article p').textContent"),
     "some digests could not be computed");
   assert.deepEqual(page.faults, []);

@@ -39,6 +39,77 @@ test("10,000 random calls of both modules answer the same and leave the same mem
   }
 });
 
+// A module of one function from an i64 to nothing, with a 64-bit memory, and this body.
+const moduleOf = (...body) => Uint8Array.of(
+  0, 97, 115, 109, 1, 0, 0, 0, 1, 5, 1, 0x60, 1, 0x7e, 0, 3, 2, 1, 0, 5, 3, 1, 4, 1,
+  10, body.length + 4, 1, body.length + 2, 0, ...body, 0x0b);
+const ADDRESS = [0x20, 0];
+const DROP = 0x1a;
+const CONSTANTS = { // each followed by the instruction that uses it
+  i32: [0x41, 0x80, 0x7f], i64: [0x42, 0x80, 0x7f], f32: [0x43, 1, 2, 3, 4],
+  f64: [0x44, 1, 2, 3, 4, 5, 6, 7, 8], v128: [0xfd, 12, ...Array(16).fill(5)],
+};
+
+test("each access to the memory is lowered to a valid one", () => {
+  const lowers = (...body) => {
+    const lowered = lower(moduleOf(...body));
+    assert.ok(WebAssembly.validate(lowered), String(body));
+    return lowered;
+  };
+  for (let code = 0x28; code <= 0x35; code++) lowers(...ADDRESS, code, 0, 8, DROP);
+  const stored = ["i32", "i64", "f32", "f64", "i32", "i32", "i64", "i64", "i64"];
+  for (const [i, type] of stored.entries()) lowers(...ADDRESS, ...CONSTANTS[type], 0x36 + i, 0, 8);
+  for (const code of [0, 1, 2, 3, 4, 5, 6, 7, 8, 9, 10, 92, 93]) {
+    lowers(...ADDRESS, 0xfd, code, 0, 8, DROP);
+  }
+  lowers(...ADDRESS, ...CONSTANTS.v128, 0xfd, 11, 0, 8);
+  for (let code = 84; code <= 91; code++) {
+    lowers(...ADDRESS, ...CONSTANTS.v128, 0xfd, code, 0, 8, 1, ...(code < 88 ? [DROP] : []));
+  }
+  // what follows an instruction with a lane or 16 bytes is lowered too
+  const load = [...ADDRESS, 0xfd, 0, 0, 8];
+  const both = [...CONSTANTS.v128, ...CONSTANTS.v128];
+  lowers(...both, 0xfd, 13, ...Array(16).fill(5), DROP, ...load, DROP);
+  for (let code = 21; code <= 34; code++) {
+    const type = [0, 0, "i32", 0, 0, "i32", 0, "i32", 0, "i64", 0, "f32", 0, "f64"][code - 21];
+    const words = type === 0 ? CONSTANTS.v128 : [...CONSTANTS.v128, ...CONSTANTS[type]];
+    lowers(...words, 0xfd, code, 1, DROP, ...load, DROP);
+  }
+  lowers(...load, ...load, 0xfd, 0xae, 1, DROP); // i32x4.add
+  lowers(...ADDRESS, ...CONSTANTS.i32, ...ADDRESS, 0xfc, 11, 0);
+  lowers(...ADDRESS, ...ADDRESS, ...ADDRESS, 0xfc, 10, 0, 0);
+  for (let code = 0; code <= 7; code++) {
+    lowers(...CONSTANTS[code % 4 < 2 ? "f32" : "f64"], 0xfc, code, DROP, ...load, DROP);
+  }
+  // blocks, branches, a table of them, select, locals
+  lowers(0x02, 0x40, 0x03, 0x40, 0x41, 0, 0x0d, 1, 0x41, 0, 0x0e, 1, 0, 1, 0x0b, 0x0b);
+  lowers(0x41, 0, 0x04, 0x40, 0x0f, 0x05, 0x01, 0x0b, ...ADDRESS, 0x22, 0, 0x21, 0, 0x00);
+  lowers(...ADDRESS, ...ADDRESS, 0x41, 0, 0x1b, 0x29, 3, 8, 0x50, DROP, 0x0c, 0);
+});
+
+test("a lowered module runs as it did", () => {
+  // a second function of the type would need another section: this one stores, copies and fills
+  const body = [
+    ...ADDRESS, 0x42, 0x88, 0x7f, 0x37, 3, 8, // memory[p + 8..] = -120
+    ...ADDRESS, 0x42, 8, 0x7c, ...ADDRESS, 0x42, 8, 0x7c, 0x29, 3, 0, 0x37, 3, 8, // and at p + 16
+    ...ADDRESS, ...ADDRESS, 0x42, 8, 0x7c, 0x42, 2, 0xfc, 10, 0, 0, // copies 2 bytes to p
+    ...ADDRESS, 0x42, 4, 0x7c, 0x41, 9, 0x42, 3, 0xfc, 11, 0, // fills 3 bytes at p + 4 with 9
+  ];
+  const bytes = [...lower(moduleOf(...body))];
+  const code = bytes.indexOf(10, 24); // exports stand before the code
+  const exports = [7, 9, 2, 1, 102, 0, 0, 1, 109, 2, 0]; // f and m
+  bytes.splice(code, 0, ...exports);
+  const { f, m } = new WebAssembly.Instance(
+    new WebAssembly.Module(Uint8Array.from(bytes))).exports;
+  f(1000n);
+  assert.deepEqual([...new Uint8Array(m.buffer, 1000, 24)], [
+    0x88, 0xff, 0, 0, 9, 9, 9, 0,
+    0x88, 0xff, 0xff, 0xff, 0xff, 0xff, 0xff, 0xff, 0x88, 0xff, 0xff, 0xff, 0xff, 0xff, 0xff, 0xff,
+  ]);
+});
+
+const range = (first, last) => Array.from({ length: last - first + 1 }, (_, i) => first + i);
+
 test("lower refuses what it does not know", () => {
   const bytes = Uint8Array.from(readFileSync(MODULE));
   assert.throws(() => lower(lower(bytes)), { message: "lower: the memory is not 64 bits wide" });
@@ -47,31 +118,56 @@ test("lower refuses what it does not know", () => {
   assert.throws(
     () => lower(bytes.subarray(1)),
     { message: "lower: this is not a WebAssembly module of version 1" });
-  // a module of one function: (memory i64 1) and this body
-  const moduleOf = (...body) => Uint8Array.of(
-    0, 97, 115, 109, 1, 0, 0, 0, 1, 5, 1, 0x60, 1, 0x7e, 0, 3, 2, 1, 0, 5, 3, 1, 4, 1,
-    10, body.length + 4, 1, body.length + 2, 0, ...body, 0x0b);
-  const kept = [
-    [0x20, 0, 0x28, 2, 0, 0x1a], [0x20, 0, 0x20, 0, 0x37, 3, 8],
-    [0x20, 0, 0x41, 1, 0x20, 0, 0xfc, 11, 0],
-    [0x20, 0, 0x20, 0, 0x20, 0, 0xfc, 10, 0, 0], [0x20, 0, 0xfd, 0, 4, 0, 0x1a],
-    [0x20, 0, 0xfd, 93, 3, 0, 0x1a],
-    [0x20, 0, 0x20, 0, 0xfd, 92, 2, 0, 0xfd, 11, 4, 0],
-    [0x20, 0, 0x20, 0, 0xfd, 92, 2, 0, 0xfd, 84, 0, 0, 3, 0x1a],
-    [0x20, 0, 0x20, 0, 0xfd, 92, 2, 0, 0xfd, 91, 3, 0, 1],
+  const refuses = (what, ...body) => assert.throws(
+    () => lower(moduleOf(...body)), { message: `lower: instruction 0x${what} is not known` });
+  const known = [
+    ...range(0, 5), ...range(0x0b, 0x10), 0x1a, 0x1b, ...range(0x20, 0x24), ...range(0x28, 0x3e),
+    ...range(0x41, 0xc4), 0xfc, 0xfd,
   ];
-  for (const body of kept) assert.ok(WebAssembly.validate(lower(moduleOf(...body))), String(body));
-  const refused = {
-    "instruction 0x3f": [0x3f, 0, 0x1a], "instruction 0x40": [0x42, 1, 0x40, 0, 0x1a],
-    "instruction 0x11": [0x11, 0, 0], "instruction 0xfe": [0xfe, 3, 0],
-    "instruction 0xd0": [0xd0, 0x70, 0x1a],
-    "instruction 0xfc 0x8": [0xfc, 8, 0, 0], "instruction 0xfd 0x105": [0xfd, 0x85, 2],
-  };
-  for (const [what, body] of Object.entries(refused)) {
-    assert.throws(() => lower(moduleOf(...body)), { message: `lower: ${what} is not known` });
+  for (let code = 0; code < 256; code++) {
+    if (!known.includes(code)) refuses(code.toString(16), code, 0, 0);
   }
-  assert.throws(
-    () => lower(moduleOf(0x20, 0, 0x28, 0x42, 1, 0, 0x1a)), { message: "lower: several memories" });
-  assert.throws(() => lower(moduleOf(0x20, 0, 0x28, 2, 0x80, 0x80, 0x80, 0x80, 0x10, 0x1a)),
-    { message: "lower: a number is too large for 32 bits" });
+  for (const code of [8, 9, ...range(12, 17)]) {
+    refuses(`fc 0x${code.toString(16)}`, 0xfc, code, 0, 0);
+  }
+  refuses("fd 0x100", 0xfd, 0x80, 2);
+  refuses("fd 0x105", 0xfd, 0x85, 2);
+  const throws = (message, module) => assert.throws(() => lower(module), { message });
+  throws("lower: several memories", moduleOf(...ADDRESS, 0x28, 0x40, 1, 0, DROP));
+  throws("lower: several memories", moduleOf(...ADDRESS, ...ADDRESS, ...ADDRESS, 0xfc, 10, 0, 1));
+  throws("lower: several memories", moduleOf(...ADDRESS, ...ADDRESS, ...ADDRESS, 0xfc, 10, 1, 0));
+  throws("lower: several memories",
+    moduleOf(...ADDRESS, ...CONSTANTS.i32, ...ADDRESS, 0xfc, 11, 1));
+  throws("lower: a number is too large for 32 bits",
+    moduleOf(...ADDRESS, 0x28, 2, 0x80, 0x80, 0x80, 0x80, 0x10, DROP));
+  assert.ok(WebAssembly.validate( // the greatest number that is not
+    lower(moduleOf(...ADDRESS, 0x28, 2, 0xff, 0xff, 0xff, 0xff, 0x0f, DROP))));
+});
+
+test("lower refuses sections that it does not know, and data in other forms", () => {
+  const head = [0, 97, 115, 109, 1, 0, 0, 0];
+  const memory = [5, 3, 1, 4, 1];
+  const throws = (message, ...sections) =>
+    assert.throws(() => lower(Uint8Array.of(...head, ...sections)), { message });
+  const data = (...content) => [...memory, 11, content.length, ...content];
+  for (const id of [2, 4, 8, 9, 12, 13]) {
+    throws(`lower: section 0x${id.toString(16)} is not known`, id, 1, 0);
+  }
+  throws("lower: a type is not a function's", 1, 4, 1, 0x5f, 0, 0);
+  throws("lower: there is not one memory", 5, 5, 2, 4, 1, 4, 1);
+  for (const flags of [0, 1, 2, 3, 6, 7]) {
+    throws("lower: the memory is not 64 bits wide", 5, 3, 1, flags, 1);
+  }
+  throws("lower: data without a plain address", ...data(1, 1, 1, 7)); // passive
+  throws("lower: data without a plain address", ...data(1, 0, 0x23, 0, 0x0b, 1, 7)); // a global
+  throws("lower: a wrong address", ...data(1, 0, 0x42, 0x7f, 0x0b, 1, 7)); // -1
+  throws("lower: a wrong address", ...data(1, 0, 0x42, 0, 0x01, 0x0b, 1, 7));
+  throws("lower: a wrong address",
+    ...data(1, 0, 0x42, 0x80, 0x80, 0x80, 0x80, 0x08, 0x0b, 1, 7)); // 2^31
+  throws("lower: the module ends too early", ...data(1, 0, 0x42, 0, 0x0b, 2, 7));
+  const lowered = (...sections) => [...lower(Uint8Array.of(...head, ...sections))].slice(8);
+  assert.deepEqual(lowered(...data(1, 0, 0x42, 0xff, 0xff, 0xff, 0xff, 0x07, 0x0b, 2, 7, 8)),
+    [5, 3, 1, 0, 1, 11, 12, 1, 0, 0x41, 0xff, 0xff, 0xff, 0xff, 0x07, 0x0b, 2, 7, 8]);
+  assert.deepEqual(lowered(5, 4, 1, 5, 1, 2), [5, 4, 1, 1, 1, 2]); // a maximum is kept
+  assert.deepEqual(lowered(0, 3, 1, 97, 5, ...memory), [5, 3, 1, 0, 1]); // no names
 });

@@ -262,7 +262,9 @@ test("the state of a run under a key is wiped when its object goes", async () =>
     await collectUntil((i) => i === 10); // those of the tests before
     wiped.length = 0;
     (() => {
-      for (let i = 0; i < 50; i++) new Blake2b({ key: KEY }).update(M).copy();
+      for (let i = 0; i < 50; i++) {
+        new Blake2b({ key: KEY.subarray(31 * (i % 2)) }).update(M).copy();
+      }
     })();
     await collectUntil(() => wiped.length >= 100);
   } finally {

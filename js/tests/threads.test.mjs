@@ -222,7 +222,8 @@ test("workers use the module that is compiled here", async () => {
   const program = `globalThis.atob = () => { throw new Error("decoded again"); };
     import("${worker}");`;
   const Class = counted([], () => [program, { eval: true }]);
-  const root = await withWorkers(Class, () => byThreads(new Blob([MESSAGE]), { leafLength: 65536 }));
+  const root = await withWorkers(
+    Class, () => byThreads(new Blob([MESSAGE]), { leafLength: 65536 }));
   assert.equal(root, rootOf(MESSAGE, { leafLength: 65536 }));
 });
 
@@ -249,6 +250,11 @@ test("progress counts what the workers have hashed", async () => {
   assert.equal(counts.length, 3);
   assert.deepEqual(counts.at(-1), [9_000_001, 9_000_001]);
   assert.ok(counts.every(([count], i) => count > (counts[i - 1]?.[0] ?? 0)), String(counts));
+  counts.length = 0;
+  await byThreads(
+    new Blob([MESSAGE]), { leafLength: 1000, onProgress: (count) => counts.push(count) });
+  const lengths = counts.map((count, i) => count - (counts[i - 1] ?? 0));
+  assert.deepEqual(lengths.sort((a, b) => a - b), [612_001, 4_194_000, 4_194_000]);
   await byThreads(new Blob([]), { leafLength: 1, onProgress: (...both) => counts.push(both) });
   assert.deepEqual(counts.at(-1), [0, 0]);
 });
