@@ -27,7 +27,7 @@ function fail(cause) {
 
 function tell(worker, { data }) {
   if ("ready" in data) {
-    if (!data.ready) return fail(data.fault ?? "its own test failed");
+    if (!data.ready) return fail(data.fault ?? "its self-test failed");
     worker.isFree = true;
     $("self").textContent = "passed.";
     return start();

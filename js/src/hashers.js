@@ -89,7 +89,6 @@ class Hasher {
 
   update(message, ...rest) {
     const caller = `${this.#name}.update`;
-    this.#open("update");
     refuseMore(rest, caller, 1);
     const bytes = bytesOf(message, caller, "message");
     const state = this.#last("update"); // if the call throws, the hash has ended
@@ -100,7 +99,6 @@ class Hasher {
   }
 
   digest(...rest) {
-    this.#open("digest");
     refuseMore(rest, `${this.#name}.digest`, 0);
     return engine.final(this.#kind, this.#last("digest"), this.#digestLength);
   }
@@ -113,7 +111,6 @@ class Hasher {
 
   verify(tag, ...rest) {
     const caller = `${this.#name}.verify`;
-    this.#open("verify");
     refuseMore(rest, caller, 1);
     const bytes = bytesOf(tag, caller, "tag");
     return engine.verify(this.#kind, this.#last("verify"), this.#digestLength, bytes);

@@ -46,7 +46,7 @@ const NO_BYTES = [
   [() => {}, "a function"],
 ];
 
-test("what is no bytes is refused, wherever bytes are asked for", () => {
+test("what is not bytes is refused, wherever bytes are expected", () => {
   const wants = (value, caller, what, said) =>
     [TypeError,
       `${caller}: ${what} must be a Uint8Array, another view or an ArrayBuffer, not ${said}`];
@@ -211,7 +211,7 @@ for (const [name, hash, Hasher, most, short, offset] of FAMILIES) {
       `${name}: tree must be a plain object, not a number`);
   });
 
-  test(`${name}: options that are none, and more arguments`, () => {
+  test(`${name}: unknown options, and more arguments`, () => {
     const known = "known are digestLength, key, salt, personalization, tree";
     for (const wrong of ["dkLen", "outlen", "person", "personal", "Key", "digest_size", "length"]) {
       refuses(() => hash(M, { [wrong]: undefined }), TypeError,
@@ -243,7 +243,7 @@ for (const [name, hash, Hasher, most, short, offset] of FAMILIES) {
   });
 }
 
-test("what stands on the prototype of all objects is no option", async () => {
+test("properties of the prototype of all objects are not options", async () => {
   const salt = bytes(3);
   const calls = [
     () => blake2b(M), () => blake2b(M, {}), () => blake2s(M, { salt }),

@@ -1,5 +1,5 @@
 // Makes the same random calls of the module that the proved source compiles to, whose memory has
-// 64-bit addresses, and of the lowered one, and compares answers and whole memories after each:
+// 64-bit addresses, and of the lowered one, and compares results and whole memories after each:
 //
 //   node --experimental-wasm-memory64 tests/both_memories.mjs MODULE COUNT
 import assert from "node:assert/strict";

@@ -56,7 +56,7 @@ function casesOf(count) {
         .toString("hex")) }));
 }
 
-// Serves the package, opens the page in a browser, and answers what the page sends back.
+// Serves the package, opens the page in a browser, and returns what the page sends back.
 async function answerOf(command, wordsOf, cases) {
   const folder = mkdtempSync(join(tmpdir(), "vulfsjor-browser-"));
   let answered;
@@ -131,7 +131,7 @@ for (const [command, wordsOf] of Object.entries(BROWSERS)) {
 }
 
 test("800 cases of hashlib in jsc, the engine of Safari", (t) => {
-  // its --version is no word of jsc's, which ends with another status then
+  // jsc does not know --version, and then ends with another status
   if (!has("jsc") || !has("python3")) return t.skip(`no ${has("python3") ? "jsc" : "python3"}`);
   const folder = mkdtempSync(join(tmpdir(), "vulfsjor-jsc-"));
   try {

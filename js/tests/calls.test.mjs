@@ -1,10 +1,11 @@
-// The calls of the library that each function makes: how many messages or bytes each has. Digests
-// do not depend on it, but speed does.
+// The calls of the library that each function makes: how many messages or bytes each has, on which
+// speed depends, and what happens if one is refused.
 import assert from "node:assert/strict";
 import test from "node:test";
 
 // Instances whose functions note their name and the arguments that say how much they are given.
 const calls = [];
+let refused; // the name of a function that refuses
 const { Instance } = WebAssembly;
 const GIVEN = {
   blake2_c_blake2b: 3, blake2_c_blake2s: 3, blake2_c_blake2b_update: 2, blake2_c_blake2s_update: 2,
@@ -18,15 +19,18 @@ WebAssembly.Instance = class {
         if (typeof value !== "function") return [name, value];
         return [name, (...given) => {
           const amount = given[GIVEN[name]] ?? "";
-          calls.push(`${name.replace("blake2_c_", "")} ${amount}`.trim());
-          return value(...given);
+          const called = name.replace("blake2_c_", "");
+          calls.push(`${called} ${amount}`.trim());
+          return called === refused ? -1 : value(...given);
         }];
       }));
   }
 };
 const {
-  blake2b, blake2bMany, blake2s, blake2sMany, equal, treeLeaves, treeRoot, treeRootOfLeaves,
+  Blake2b, Blake2s, TreeHash, blake2b, blake2bMany, blake2s, blake2sMany, equal, treeLeaves,
+  treeRoot, treeRootOfLeaves,
 } = await import("../index.js");
+const engine = await import("../src/engine.js");
 
 const PIECE = 65536;
 const WINDOW = 8 * 65536 - 8192;
@@ -97,4 +101,60 @@ test("equal compares halves of the window", () => {
   makes(() => both(WINDOW / 2), `is_same ${WINDOW / 2}`);
   makes(() => both(WINDOW / 2 + 1), `is_same ${WINDOW / 2}`, "is_same 1");
   makes(() => equal(part(1), part(2)));
+});
+
+test("what the library refuses is an error, and the memory is given up", () => {
+  const tree = { leafLength: 5 };
+  const some = part(3);
+  for (const [name, work, message = "vulfsjor: the library refused a call"] of [
+    ["blake2b", () => blake2b(some)],
+    ["blake2s_init", () => new Blake2s()],
+    ["blake2b_init_node", () => blake2b(some, { tree: {} })],
+    ["blake2b_set_last_node", () => blake2b(some, { tree: { lastNode: true } })],
+    ["blake2b_final", () => new Blake2b().digest()],
+    ["blake2s_reset", () => new Blake2s().reset()],
+    ["blake2b_many", () => blake2bMany([some])],
+    ["tree_init", () => new TreeHash(tree)],
+    ["tree_final", () => new TreeHash(tree).verify(new Uint8Array(64))],
+    ["tree_leaves", () => treeLeaves(some, { ...tree, first: 0, ends: true })],
+    ["tree_root_of_leaves", () => treeRootOfLeaves(part(64), tree)],
+    ["blake2b_update", () => blake2b(part(PIECE + 1)), "vulfsjor: the message is too long"],
+  ]) {
+    refused = name;
+    assert.throws(work, { name: "Error", message }, name);
+    refused = undefined;
+    assert.equal(engine.memory(), undefined);
+  }
+});
+
+test("an update that is too long changes nothing", () => {
+  const wanted = new Blake2b().update(part(3)).hex();
+  for (const length of [3, PIECE + 1, 2 * PIECE]) {
+    const run = new Blake2b().update(part(3));
+    refused = "blake2b_update";
+    assert.throws(() => run.update(part(length)),
+      { name: "RangeError", message: "Blake2b.update: the message is too long" });
+    refused = undefined;
+    assert.ok(engine.memory().every((byte) => byte === 0));
+    assert.equal(run.hex(), wanted);
+  }
+  // by the library itself, at the largest count
+  const options = { digestLength: 64, key: part(0), salt: part(0), personalization: part(0) };
+  const state = engine.begin(engine.BLAKE2B, options);
+  new DataView(state.buffer).setBigUint64(128, 2n ** 64n - 1n, true);
+  const before = state.slice();
+  assert.equal(engine.update(engine.BLAKE2B, state, part(1000)), false);
+  assert.deepEqual(state, before);
+});
+
+test("digest and verify set the state to zero", () => {
+  const options = { digestLength: 64, key: part(0), salt: part(0), personalization: part(0) };
+  for (const end of [
+    (state) => engine.final(engine.BLAKE2B, state, 64),
+    (state) => engine.verify(engine.BLAKE2B, state, 64, part(64)),
+  ]) {
+    const state = engine.begin(engine.BLAKE2B, options);
+    end(state);
+    assert.ok(state.every((byte) => byte === 0));
+  }
 });

@@ -1,5 +1,4 @@
-// Checks cases of cases.py by the package alone, with nothing of node, so that browsers can do it
-// too.
+// Checks cases of cases.py with nothing but the package, so that browsers can do it too.
 
 const NAMES = {
   digest_size: "digestLength", person: "personalization", leaf_size: "leafLength",

@@ -10,7 +10,7 @@ const WORDS = [
   "--disable-dev-shm-usage", "--disable-background-networking",
 ];
 
-/** Starts Chromium. Rejects where there is none. */
+/** Starts Chromium. Rejects if there is none. */
 export async function startChromium(command = process.env.CHROMIUM ?? "chromium", more = []) {
   const profile = mkdtempSync(join(tmpdir(), "vulfsjor-chromium-"));
   const child = spawn(command, [...WORDS, ...more, `--user-data-dir=${profile}`],
@@ -37,7 +37,7 @@ export async function startChromium(command = process.env.CHROMIUM ?? "chromium"
       input.write(JSON.stringify({ id: count, method, params, sessionId }) + "\0");
     });
 
-  /** Opens a page. Its faults are what it and the browser complained of. */
+  /** Opens a page. Its faults are the errors that it and the browser have logged. */
   async function open(url, { width = 1000, height = 900, scheme = "light" } = {}) {
     const { targetId } = await send("Target.createTarget", { url: "about:blank" });
     const { sessionId } = await send("Target.attachToTarget", { targetId, flatten: true });
@@ -80,7 +80,7 @@ export async function startChromium(command = process.env.CHROMIUM ?? "chromium"
         if (value) return value;
         await new Promise((resolve) => setTimeout(resolve, 50));
       }
-      throw new Error(`the page never had ${expression}; it complained of ${faults}`);
+      throw new Error(`the page never had ${expression}; its errors are: ${faults}`);
     };
     const setFiles = async (selector, files) => {
       const { result } = await call(

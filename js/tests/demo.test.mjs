@@ -48,7 +48,7 @@ async function opened(options) {
   const page = await chromium.open(PAGE, options);
   await page.until("document.getElementById('self').textContent === 'passed.'");
   const textOf = (id) => page.evaluate(`document.getElementById("${id}").textContent`);
-  // Chooses files, and waits until so many cards are done.
+  // Chooses files, and waits until this number of cards is done.
   const hash = async (names, count = names.length) => {
     await page.setFiles("#files", names.map((name) => join(folder, name)));
     await page.until(`document.querySelectorAll("[data-state=done]").length === ${count}`);
@@ -149,7 +149,7 @@ test("an expected digest is compared with all digests", async (t) => {
   assert.deepEqual(page.faults, []);
 });
 
-test("a digest is copied, also where the page may not write to the clipboard", async (t) => {
+test("a digest is copied, also if the page may not write to the clipboard", async (t) => {
   if (missing) return t.skip(missing);
   const page = await opened();
   await page.hash(["one byte"]);
@@ -370,7 +370,7 @@ test("a file that changes while it waits is reported", async (t) => {
   assert.deepEqual(page.faults, []);
 });
 
-test("a page whose own test fails says so, and hashes nothing", async (t) => {
+test("a page whose self-test fails says so, and hashes nothing", async (t) => {
   if (missing) return t.skip(missing);
   const text = readFileSync(fileURLToPath(PAGE), "utf8");
   for (const digits of ["ba80a53f", "bddd813c", "508c5e8c", "19fc31bb"]) {
@@ -381,7 +381,7 @@ test("a page whose own test fails says so, and hashes nothing", async (t) => {
     await page.until("document.getElementById('self').textContent === 'failed.'", 60);
     assert.equal(
       await page.evaluate("document.getElementById('broken').textContent"),
-      "The page cannot hash here: its own test failed.");
+      "The page cannot hash here: its self-test failed.");
     await page.setFiles("#files", [join(folder, "one byte")]);
     await page.evaluate("new Promise((resolve) => setTimeout(resolve, 200))");
     assert.equal(await page.evaluate("document.querySelectorAll('[data-state=done]').length"), 0);
@@ -483,7 +483,7 @@ test("the page's policy forbids connections and other scripts", async (t) => {
   assert.match(String(result.value), /^EvalError/);
 });
 
-test("names, labels and roles are there for all that one can act on", async (t) => {
+test("each control has a name and a role", async (t) => {
   if (missing) return t.skip(missing);
   const page = await opened();
   await page.setFiles("#files", [join(folder, "one byte")]);

@@ -1,4 +1,4 @@
-// Random calls beside Python's hashlib, with all parameters, and beside node:crypto.
+// Random calls with all parameters, compared with Python's hashlib and with node:crypto.
 import assert from "node:assert/strict";
 import { execFileSync } from "node:child_process";
 import { createHash, randomBytes, randomInt } from "node:crypto";
@@ -75,7 +75,7 @@ function checkMany({ name, number, words, lengths, digests }) {
   if (lengths.length > 0) assertClean();
 }
 
-test(`${COUNT} random cases of all parameters beside hashlib`, (t) => {
+test(`${COUNT} random cases of all parameters, compared with hashlib`, (t) => {
   const script = fileURLToPath(new URL("cases.py", import.meta.url));
   let text;
   try {
@@ -98,7 +98,7 @@ test(`${COUNT} random cases of all parameters beside hashlib`, (t) => {
 
 const native = (name, message) => createHash(name).update(message).digest("hex");
 
-test("all lengths from 0 to 600, and around the pieces, beside node:crypto", () => {
+test("all lengths from 0 to 600, and around the pieces, compared with node:crypto", () => {
   const piece = 65536;
   const window = 8 * 65536 - 8192;
   const lengths = Array.from({ length: 601 }, (_, i) => i);
@@ -114,7 +114,7 @@ test("all lengths from 0 to 600, and around the pieces, beside node:crypto", () 
   assertClean();
 });
 
-test("10,000 messages in random pieces beside node:crypto", () => {
+test("10,000 messages in random pieces, compared with node:crypto", () => {
   for (let i = 0; i < 10000; i++) {
     const message = randomBytes(randomInt(i % 100 === 0 ? 300000 : 2000));
     const runs = [new vulfsjor.Blake2b(), new vulfsjor.Blake2s()];

@@ -1,4 +1,4 @@
-// The module of the package: made of the one that is proved, and doing the same.
+// The module of the package: made from that of dist/wasm, and doing the same.
 import assert from "node:assert/strict";
 import { execFileSync } from "node:child_process";
 import { readFileSync } from "node:fs";
@@ -10,18 +10,18 @@ import { lower } from "../tools/lower.mjs";
 const here = (path) => fileURLToPath(new URL(path, import.meta.url));
 const MODULE = here("../../dist/wasm/blake2_c.wasm");
 
-test("src/wasm.js and demo/index.html are made of what stands here", () => {
+test("src/wasm.js and demo/index.html are what tools/build.mjs makes", () => {
   execFileSync(process.execPath, [here("../tools/build.mjs"), "--check"]);
 });
 
-test("the lowered module is a valid one, and its own only", () => {
+test("the lowered module is valid, and is that of the package", () => {
   const bytes = decode();
   assert.ok(WebAssembly.validate(bytes));
   assert.deepEqual(WebAssembly.Module.imports(new WebAssembly.Module(bytes)), []);
   assert.deepEqual(lower(readFileSync(MODULE)), bytes);
 });
 
-test("10,000 random calls of both modules answer the same and leave the same memory", () => {
+test("10,000 random calls of both modules return the same and leave the same memory", () => {
   const flags = Number(process.versions.node.split(".")[0]) < 24
     ? ["--experimental-wasm-memory64"] : [];
   const text = execFileSync(
@@ -68,12 +68,18 @@ test("each access to the memory is lowered to a valid one", () => {
   }
   // what follows an instruction with a lane or 16 bytes is lowered too
   const load = [...ADDRESS, 0xfd, 0, 0, 8];
+  const store = [0xfd, 11, 0, 8];
   const both = [...CONSTANTS.v128, ...CONSTANTS.v128];
-  lowers(...both, 0xfd, 13, ...Array(16).fill(5), DROP, ...load, DROP);
-  for (let code = 21; code <= 34; code++) {
-    const type = [0, 0, "i32", 0, 0, "i32", 0, "i32", 0, "i64", 0, "f32", 0, "f64"][code - 21];
-    const words = type === 0 ? CONSTANTS.v128 : [...CONSTANTS.v128, ...CONSTANTS[type]];
-    lowers(...words, 0xfd, code, 1, DROP, ...load, DROP);
+  lowers(...ADDRESS, ...both, 0xfd, 13, ...Array(16).fill(5), ...store);
+  const lanes = [ // extracted and put, of each shape
+    [21, "i32", 0x36, 3], [22, "i32", 0x36, 3], [24, "i32", 0x36, 3], [25, "i32", 0x36, 3],
+    [27, "i32", 0x36, 3], [29, "i64", 0x37, 1], [31, "f32", 0x38, 3], [33, "f64", 0x39, 1],
+  ];
+  for (const [code, , storing, lane] of lanes) {
+    lowers(...ADDRESS, ...CONSTANTS.v128, 0xfd, code, lane, storing, 0, 8);
+  }
+  for (const [code, type, , lane] of lanes.filter(([code]) => code !== 21 && code !== 24)) {
+    lowers(...ADDRESS, ...CONSTANTS.v128, ...CONSTANTS[type], 0xfd, code + 1, lane, ...store);
   }
   lowers(...load, ...load, 0xfd, 0xae, 1, DROP); // i32x4.add
   lowers(...ADDRESS, ...CONSTANTS.i32, ...ADDRESS, 0xfc, 11, 0);
@@ -153,6 +159,8 @@ test("lower refuses sections that it does not know, and data in other forms", ()
   for (const id of [2, 4, 8, 9, 12, 13]) {
     throws(`lower: section 0x${id.toString(16)} is not known`, id, 1, 0);
   }
+  throws("lower: the module ends too early", 5);
+  throws("lower: the module ends too early", 5, 4, 1, 4, 1);
   throws("lower: a type is not a function's", 1, 4, 1, 0x5f, 0, 0);
   throws("lower: there is not one memory", 5, 5, 2, 4, 1, 4, 1);
   for (const flags of [0, 1, 2, 3, 6, 7]) {

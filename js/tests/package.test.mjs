@@ -44,7 +44,7 @@ test("npm packs and installs it, and programs import it by its name", (t) => {
   });
 });
 
-test("the types say what the functions take", (t) => {
+test("the types say what the functions accept", (t) => {
   if (!has("tsc")) return t.skip("no tsc");
   inFolder((folder) => {
     mkdirSync(join(folder, "node_modules/vulfsjor"), { recursive: true });

@@ -1,4 +1,4 @@
-// The examples of the README print what stands behind them.
+// The examples of the README print what the comments after them say.
 import assert from "node:assert/strict";
 import { execFileSync } from "node:child_process";
 import { readFileSync } from "node:fs";

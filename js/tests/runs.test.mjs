@@ -75,7 +75,7 @@ for (const [Hasher, options] of HASHERS) {
     assert.equal(run.hex(), digestOf(M));
   });
 
-  test(`${name}: verify takes the whole digest alone`, () => {
+  test(`${name}: verify accepts only the whole digest`, () => {
     const digest = new Hasher(options).update(M).digest();
     const verify = (tag) => new Hasher(options).update(M).verify(tag);
     assert.equal(verify(digest), true);
@@ -158,7 +158,7 @@ test("the memory does not grow with messages or with runs", () => {
 });
 
 // Fills the stack of JavaScript, and calls at each depth on the way back, until some calls in a row
-// have found enough of it left. Answers how many did not.
+// have found enough of it left. Returns how many did not.
 function callOnFullStack(call) {
   let refused = 0;
   let passed = 0;
@@ -207,7 +207,7 @@ test("a stack that is full ends a call, and not the library", () => {
   for (const bytes of seen) assert.ok(bytes.every((byte) => byte === 0));
 });
 
-test("a run that failed on a full stack gives no digest, or that of before", () => {
+test("a run that failed on a full stack returns no digest, or that of before", () => {
   const long = new Uint8Array(300);
   const begun = () => new Blake2b({ key: KEY }).update(M);
   const before = begun().hex();

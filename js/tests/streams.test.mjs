@@ -28,7 +28,7 @@ const streamOf = (pieces, more = {}) =>
     ...more,
   });
 
-test("a blob, a stream, an async iterable and a file give one digest", async () => {
+test("a blob, a stream, an async iterable and a file have one digest", async () => {
   const folder = mkdtempSync(join(tmpdir(), "vulfsjor-"));
   const file = join(folder, "file");
   writeFileSync(file, MESSAGE);
@@ -72,7 +72,7 @@ test("progress counts up to the end", async () => {
   assert.deepEqual(counts, [[4000000, undefined], [8000000, undefined], [9000000, undefined]]);
 });
 
-test("what fails is told, and the source is let go", async () => {
+test("what fails rejects, and the source is released", async () => {
   let reason;
   const cancel = (why) => { reason = why ?? "cancelled"; };
   const fault = new Error("progress");

@@ -57,7 +57,7 @@ test("ranges of leaves, joined, give the root", () => {
   }
 });
 
-test("a leaf that changed is hashed again alone", () => {
+test("only a leaf that changed is hashed again", () => {
   const message = MESSAGE.slice(0, 1000);
   const digests = treeLeaves(message, { leafLength: 64, first: 0, ends: true });
   message[64 * 5 + 3] ^= 1;
@@ -98,7 +98,7 @@ sys.stdout.flush(); sys.stdout.buffer.write(leaves.hex().encode())`;
     hex(treeRootOfLeaves(digests, { leafLength: 100, salt: SALT, digestLength: 20 })), lines[1]);
 });
 
-test("what is no range of leaves is refused", () => {
+test("what is not a range of leaves is refused", () => {
   const refuses = (call, name, message) => assert.throws(call, { name, message });
   const leaves = (options, message = new Uint8Array(10)) =>
     treeLeaves(message, { leafLength: 5, first: 0, ends: true, ...options });
@@ -200,7 +200,7 @@ function counted(begun = [], make = (...words) => words) {
 }
 
 test("as many workers as there are ranges start, and all of them are stopped", async () => {
-  const wanted = [[1, 0], [2, 2], [3, 3], [200, 3]];
+  const wanted = [[undefined, 0], [1, 0], [2, 2], [3, 3], [200, 3]];
   for (const [threads, count] of wanted) {
     const begun = [];
     await withWorkers(
@@ -259,7 +259,7 @@ test("progress counts what the workers have hashed", async () => {
   assert.deepEqual(counts.at(-1), [0, 0]);
 });
 
-// A source that gives pieces for as long as it is asked, and says when it was let go.
+// A source without end, which notes the reason when it is canceled.
 function endless() {
   const source = { isLetGo: false };
   source.stream = new ReadableStream({
@@ -317,7 +317,7 @@ test("a worker that fails is an error, and nothing hangs", async () => {
   await assert.rejects(
     withWorkers(refusing, () => byThreads(new Blob([MESSAGE]), { leafLength: 1 })),
     /^Error: no room$/);
-  // one of several, and a source that gives nothing more
+  // one of several, and a source that stalls
   let number = 0;
   const second = counted(
     [], (...words) => (++number === 2 ? ["process.exit(3)", { eval: true }] : words));

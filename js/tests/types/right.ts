@@ -30,7 +30,7 @@ async function all(file: Blob, signal: AbortSignal): Promise<Uint8Array[]> {
 }
 console.log(isSame, roots, many, all, new Blake2b()[Symbol.dispose]);
 
-// @ts-expect-error a text is no bytes
+// @ts-expect-error a string is not bytes
 blake2b("abc");
 // @ts-expect-error an unknown option
 blake2b(digest, { dkLen: 32 });
@@ -42,11 +42,11 @@ blake2s(digest, {}, 32);
 treeRoot(digest);
 // @ts-expect-error a range says whether it ends
 treeLeaves(digest, { leafLength: 5, first: 0 });
-// @ts-expect-error threads are of trees alone
+// @ts-expect-error only trees have threads
 blake2bStream(new Blob([]), { threads: 2 });
 // @ts-expect-error a tree has no key
 new TreeHash({ leafLength: 5, key: digest });
-// @ts-expect-error digest takes no encoding
+// @ts-expect-error digest accepts no encoding
 new Blake2b().digest("hex");
 // @ts-expect-error a tag is bytes
 new Blake2b().verify("00");
