@@ -160,9 +160,7 @@ class Engine {
   clean(kind, used, depth = kind.isTree ? DEEP : SHALLOW) {
     const most = kind.isTree ? WINDOW_LENGTH : PIECE;
     this.bytes.fill(0, this.base - depth, this.base + PERSONALIZATION + 16);
-    if (used > 0) {
-      this.bytes.fill(0, this.base + WINDOW, this.base + WINDOW + Math.min(used, most));
-    }
+    this.bytes.fill(0, this.base + WINDOW, this.base + WINDOW + Math.min(used, most));
   }
 }
 

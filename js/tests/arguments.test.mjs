@@ -1,5 +1,6 @@
 // Each argument at its edges and beyond, and the exact texts of the errors.
 import assert from "node:assert/strict";
+import { execFileSync } from "node:child_process";
 import { createHash } from "node:crypto";
 import test from "node:test";
 import vm from "node:vm";
@@ -261,6 +262,20 @@ test("properties of the prototype of all objects are not options", async () => {
   const got = await digests().finally(() => names.forEach((name) => delete Object.prototype[name]));
   assert.deepEqual(got, wanted);
   assert.equal(wanted[0], createHash("blake2b512").update("abc").digest("hex"));
+});
+
+test("it works without SharedArrayBuffer and Blob, as in some browsers", () => {
+  const index = new URL("../index.js", import.meta.url).href;
+  const program = `delete globalThis.SharedArrayBuffer;
+    delete globalThis.Blob;
+    const { blake2b, blake2bStream, hex } = await import("${index}");
+    const source = (async function* () { yield Uint8Array.of(97, 98, 99).buffer; })();
+    console.log(hex(blake2b(Uint8Array.of(97, 98, 99).buffer)));
+    console.log(hex(await blake2bStream(source)));`;
+  const words = ["--input-type=module", "-e", program];
+  const wanted = createHash("blake2b512").update("abc").digest("hex");
+  assert.equal(
+    execFileSync(process.execPath, words, { encoding: "utf8" }), `${wanted}\n${wanted}\n`);
 });
 
 test("options are read once, and code of theirs may hash", () => {

@@ -128,6 +128,7 @@ test("an expected digest is compared with all digests", async (t) => {
   for (const [text, verdict] of [
     [digest, equal],
     [` ${digest.toUpperCase().slice(0, 32)}\n${digest.slice(32)} `, equal],
+    [digest.replace(/.{8}/g, "$& "), equal],
     [`BLAKE2s-256 (empty.txt) = ${digest}`, equal],
     [`${digests["BLAKE2b-512"]} *empty.txt`, "Equal to the BLAKE2b-512 of empty.txt. 1"],
     [other.digests["tree root"], "Equal to the tree root of one byte. 1"],

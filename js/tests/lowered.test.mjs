@@ -1,7 +1,9 @@
 // The module of the package: made from that of dist/wasm, and doing the same.
 import assert from "node:assert/strict";
-import { execFileSync } from "node:child_process";
-import { readFileSync } from "node:fs";
+import { execFileSync, spawnSync } from "node:child_process";
+import { cpSync, mkdtempSync, readFileSync, rmSync, writeFileSync } from "node:fs";
+import { tmpdir } from "node:os";
+import { join } from "node:path";
 import test from "node:test";
 import { fileURLToPath } from "node:url";
 import { decode } from "../src/wasm.js";
@@ -12,6 +14,50 @@ const MODULE = here("../../dist/wasm/blake2_c.wasm");
 
 test("src/wasm.js and demo/index.html are what tools/build.mjs makes", () => {
   execFileSync(process.execPath, [here("../tools/build.mjs"), "--check"]);
+});
+
+test("tools/build.mjs writes both files, compares them, and refuses a page that breaks", () => {
+  const folder = mkdtempSync(join(tmpdir(), "vulfsjor-build-"));
+  const file = (path) => join(folder, path);
+  const build = (...words) => {
+    const { status, stderr } = spawnSync(
+      process.execPath, [file("js/tools/build.mjs"), ...words], { encoding: "utf8" });
+    return [status, stderr];
+  };
+  const unlike = (paths) =>
+    [1, paths.map((path) => `build: ${file(path)} is not what this script makes\n`).join("")];
+  try {
+    for (const path of ["index.js", "package.json", "src", "tools", "demo"]) {
+      cpSync(here(`../${path}`), file(`js/${path}`), { recursive: true });
+    }
+    cpSync(MODULE, file("dist/wasm/blake2_c.wasm"));
+    const made = ["js/src/wasm.js", "js/demo/index.html"];
+    const texts = made.map((path) => readFileSync(file(path), "utf8"));
+    assert.deepEqual(build("--check"), [0, ""]);
+    for (const [i, path] of made.entries()) {
+      writeFileSync(file(path), `${texts[i]} `);
+      assert.deepEqual(build("--check"), unlike(made.slice(i))); // the page contains wasm.js
+      assert.deepEqual(build(), [0, ""]);
+      assert.equal(readFileSync(file(path), "utf8"), texts[i]);
+    }
+    for (const [path, text, message] of [
+      ["js/demo/page.css", "</STYLE>", "build: the page's style would end too early"],
+      ["js/demo/page.js", "// <!--", "build: the page's script would end too early"],
+      ["js/demo/worker.js", "// </script>", "build: the page's worker would end too early"],
+      ["js/demo/worker.js", "export default 5;", "bundle: an unknown form in "],
+      ["js/src/streams.js", 'import "./more.js";', "bundle: an unknown form in "],
+      ["js/src/streams.js", "import.meta.dirname;", "bundle: an unknown form in "],
+    ]) {
+      const before = readFileSync(file(path));
+      writeFileSync(file(path), `${before}\n${text}\n`);
+      const [status, stderr] = build();
+      assert.equal(status, 1);
+      assert.ok(stderr.includes(`Error: ${message}`), stderr);
+      writeFileSync(file(path), before);
+    }
+  } finally {
+    rmSync(folder, { recursive: true });
+  }
 });
 
 test("the lowered module is valid, and is that of the package", () => {
@@ -89,6 +135,7 @@ test("each access to the memory is lowered to a valid one", () => {
   }
   // blocks, branches, a table of them, select, locals
   lowers(0x02, 0x40, 0x03, 0x40, 0x41, 0, 0x0d, 1, 0x41, 0, 0x0e, 1, 0, 1, 0x0b, 0x0b);
+  lowers(...Array(3).fill([0x02, 0x40]).flat(), 0x41, 0, 0x0e, 1, 0, 2, 0x36, 0, 8, 11, 11, 11);
   lowers(0x41, 0, 0x04, 0x40, 0x0f, 0x05, 0x01, 0x0b, ...ADDRESS, 0x22, 0, 0x21, 0, 0x00);
   lowers(...ADDRESS, ...ADDRESS, 0x41, 0, 0x1b, 0x29, 3, 8, 0x50, DROP, 0x0c, 0);
 });
