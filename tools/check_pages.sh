@@ -1,10 +1,11 @@
 #!/usr/bin/env bash
-# Compares the pages with the sources: tools/check_calling.py those that quote callers and
-# contracts, tools/check_docs.py the names and numbers in the pages, and
-# tools/check_specification.py the program with one that was written from docs/SPECIFICATION.md
-# only. tools/check_style.py looks for phrases that the pages avoid, and tools/manual.py compares
-# the man page with docs/PROGRAM.md. tools/pictures.py compares the pictures of docs/. At the end it
-# looks for symbolic links in the repository, which the toolchain refuses.
+# Compares the pages with the sources. tools/check_calling.py looks at those that quote callers and
+# contracts, tools/check_docs.py at the names and numbers in the pages, and tools/reference.py at
+# docs/reference/, after tools/check_reference.py has tested it. tools/check_style.py looks for
+# phrases that the pages avoid. tools/manual.py compares the man page with docs/PROGRAM.md,
+# tools/pictures.py the pictures of docs/, and tools/check_specification.py the program with one that
+# was written from docs/SPECIFICATION.md only. At the end it looks for symbolic links in the
+# repository, which the toolchain refuses.
 #
 # usage: tools/check_pages.sh [PROGRAM]
 #
@@ -17,9 +18,9 @@ tools=$(dirname "$(readlink -f "$0")")
 program=${1:-$(dirname "$tools")/crates/b2/out/b2}
 passed=0 failed=0 skipped=0
 for script in check_calling.py check_docs.py check_style.py manual.py pictures.py \
-    check_specification.py; do
+    check_reference.py reference.py check_specification.py; do
     given=()
-    [[ $script != @(manual|pictures).py ]] || given=(--check)
+    [[ $script != @(manual|pictures|reference).py ]] || given=(--check)
     [ "$script" != check_specification.py ] || given=(--program "$program")
     if [ "$script" = check_specification.py ] && [ ! -x "$program" ]; then
         echo "skipped: tools/$script (no program at $program)"

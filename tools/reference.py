@@ -1,0 +1,220 @@
+#!/usr/bin/env python3
+"""Writes docs/reference/: a page for each crate with its items and definitions, and an index.
+
+An item of crates/NAME/src/ is shown with its doc comment, its signature and its clauses, and a
+definition of crates/NAME/specs/ with its comment. Links lead to the definitions that they name.
+The sources are read in the layout of `rt fmt`. A public item without a doc comment is an error,
+and so is a public definition without a comment.
+
+usage: tools/reference.py [--check]
+
+  --check  writes nothing, but prints one line for each page that is not current
+"""
+import glob
+import os
+import re
+import sys
+from itertools import groupby, takewhile
+
+from blake2_kinds import TOP, Parser
+from sources import Definitions, anchor, exported, modules, read
+
+FOLDER = "docs/reference"
+NOTE = "<!-- Written by tools/reference.py from the sources: do not edit. -->"
+IMPL = re.compile(r"impl(?:<.*?>)? (?:(.+) for )?(\w+)")
+
+
+class Page:
+    """The page of a crate, with the titles of its sections and what is wrong in its sources."""
+
+    def __init__(self, crate, definitions):
+        self.crate, self.definitions = crate, definitions
+        self.lines, self.titles, self.names, self.wrong = [], [], [], []
+        root = "main" if read(f"crates/{crate}/src/main.rt") else "lib"
+        self.modules = list(modules(f"crates/{crate}/src/{root}.rt"))
+        self.paths = paths(self.modules)
+        self.add_modules()
+        self.add_definitions()
+
+    def section(self, marks, title, *parts):
+        """Adds a section, with a blank line between its parts."""
+        if anchor(title) in map(anchor, self.titles):
+            self.wrong.append(f"crates/{self.crate}: two sections have the title {title}")
+        self.titles.append(title)
+        self.lines += [f"{marks} {title}", ""]
+        for part in filter(None, parts):
+            self.lines += [*part, ""]
+
+    def links(self, words):
+        """The line that leads to these definitions."""
+        links = []
+        for word in words:
+            file = "" if word.crate == self.crate else f"{word.crate}.md"
+            links.append(f"[`{word.name}`]({file}#{anchor(word.title())})")
+        return [f"Definitions: {', '.join(links)}"] if links else []
+
+    def entries(self, module):
+        """The title, the items and the item to be documented of each section on this module."""
+        types = {name: path for (_, name), path in self.paths.items()}
+        impls = {}
+        for item in module.items:
+            if item.kind == "impl":
+                trait, name = IMPL.match(" ".join(item.head)).groups()
+                path = self.paths.get((module.path, name)) or types.get(name)
+                if trait and path:
+                    impls.setdefault(f"Traits of `{path}`", []).append(item)
+                for member in item.members() if path else ():
+                    if member.is_public:
+                        yield f"`{path}::{member.name}`", [member], member
+            elif (module.path, item.name) in self.paths:
+                path = self.paths[module.path, item.name]
+                yield f"`{path}`", [item], item
+                for member in item.members() if item.kind == "trait" else ():
+                    if member.kind == "fn":
+                        yield f"`{path}::{member.name}`", [member], member
+        for title, items in impls.items():
+            yield title, items, None
+
+    def add_modules(self):
+        """Adds the crate's items, module by module."""
+        for module in self.modules:
+            entries, used = list(self.entries(module)), module.re_exports()
+            if entries or used:
+                path, doc = "::".join(module.path), module.doc if module.path else None
+                self.section("##", f"Module `{path}`" if path else "The crate's root", doc,
+                             source(module.file), used and ["```rust", *used, "```"])
+            for title, items, documented in entries:
+                if documented:
+                    self.names.append(("::".join(title.strip("`").split("::")[-2:]), title))
+                    self.wrong += uncommented(module.file, documented)
+                lines = "\n\n".join("\n".join(item.shown()) for item in items).split("\n")
+                self.section("###", title, documented and documented.doc,
+                             ["```rust", *lines, "```"],
+                             self.links(self.definitions.named(module.text, lines)))
+
+    def add_definitions(self):
+        """Adds the crate's definitions, file by file."""
+        for file, words in groupby(self.definitions.of[self.crate], lambda word: word.file):
+            path, words = f"crates/{self.crate}/specs/{file}.antt", list(words)
+            about = takewhile(lambda line: line.startswith("--"), read(path).splitlines())
+            self.section("##", f"Definitions of `{file}`", [line[3:] for line in about],
+                         source(path))
+            for word in words:
+                if word.is_public and not word.comment:
+                    self.wrong.append(f"{path}: {word.name} has no comment")
+                used = self.definitions.named(read(path), word.lines, words)
+                self.section("###", word.title(), word.comment,
+                             ["```text", *word.lines, "```"],
+                             self.links([other for other in used if other is not word]))
+
+    def text(self, pages):
+        """The whole page, with links to the sections of all pages."""
+        contents = []
+        for title in self.titles:
+            link = f"[{title}](#{anchor(title)})"
+            if title.startswith(("Module ", "The ", "Definitions ")):
+                contents.append(f"- {link}")
+            else:
+                contents[-1] += f"{', ' if ': ' in contents[-1] else ': '}{link}"
+        lines = [f"# `{self.crate}`", "", NOTE, "", *self.modules[0].doc, "", "## Contents", "",
+                 *contents, "", *self.lines]
+        titles = [(title, "" if page is self else f"{page.crate}.md")
+                  for page in (self, *pages) for title in page.titles]
+        return linked("\n".join(lines), titles)
+
+
+def source(path):
+    """The line that leads to a file of the sources."""
+    return [f"Source: [{re.split('/src/|/specs/', path)[1]}](../../{path})"]
+
+
+def paths(modules_of):
+    """The public path of each public item, by its module's path and its name."""
+    public = exported(modules_of)
+    found = {}
+    for module in modules_of:
+        for item in module.items:
+            if item.is_public and item.kind not in ("mod", "use"):
+                own = (*module.path, item.name)
+                path = own[-1:] if item.is_export else public.get(own, own)
+                found[module.path, item.name] = "::".join(path)
+    return found
+
+
+def uncommented(file, item):
+    """What is public of this item and has no doc comment."""
+    if not item.doc:
+        yield f"{file}:{item.number}: {item.name} has no doc comment"
+    part = {"struct": r"    pub \w+:", "enum": r"    [A-Z]\w*[ ,({]"}.get(item.kind, r"$.")
+    for i, line in enumerate(item.lines):
+        if re.match(part, line) and not item.lines[i - 1].lstrip().startswith("///"):
+            yield f"{file}:{item.number + i}: {line.strip()} has no doc comment"
+
+
+def linked(text, titles):
+    """The text with links for its brackets, such as [`Update`], to the first section so named."""
+    def link(match):
+        found = [f"[`{match[1]}`]({file}#{anchor(title)})" for title, file in titles
+                 if re.search(rf"(?:`|::){match[1]}`$", title)]
+        return found[0] if found else f"`{match[1]}`"
+    parts = re.split(r"^(```.*?^```)$", text, flags=re.DOTALL | re.MULTILINE)
+    for i in range(0, len(parts), 2):
+        prose = re.sub(r"^\[`.*`\]: .*\n", "", parts[i], flags=re.MULTILINE)
+        parts[i] = re.sub(r"\[`([\w:]+)`\](?!\()", link, prose)
+    return re.sub(r"\n{3,}", "\n\n", "".join(parts)).rstrip() + "\n"
+
+
+def index(pages, definitions):
+    """The page that leads to the others: the crates, and all items and definitions by name."""
+    yield from ("# Reference", "", NOTE, "",
+                "One page for each crate: its public items with their contracts, and the",
+                "definitions that the contracts use.", "",
+                "| crate | contents | items | definitions |", "|---|---|---|---|")
+    items, words = [], []
+    for page in pages:
+        about = re.split(r"[.:] ", " ".join(page.modules[0].doc) + " ")[0]
+        own = definitions.of[page.crate]
+        items += [(name, title, page.crate) for name, title in page.names]
+        words += [(word.name, word.title(), page.crate) for word in own]
+        yield f"| [`{page.crate}`]({page.crate}.md) | {about} | {len(page.names)} | {len(own)} |"
+    for heading, found in (("Items by name", items), ("Definitions by name", words)):
+        yield from ("", f"## {heading}", "")
+        found.sort(key=lambda name: name[0].split("::")[-1].lower())
+        for letter, names in groupby(found, lambda name: name[0].split("::")[-1][0].upper()):
+            links = (f"[`{name}`]({crate}.md#{anchor(title)})" for name, title, crate in names)
+            yield f"- {letter}: {', '.join(links)}"
+
+
+def write(texts, others):
+    """Writes the pages, and removes the others of the folder."""
+    os.makedirs(f"{TOP}/{FOLDER}", exist_ok=True)
+    for name in others:
+        os.remove(f"{TOP}/{FOLDER}/{name}")
+    for name, text in texts.items():
+        with open(f"{TOP}/{FOLDER}/{name}", "w", encoding="utf-8") as file:
+            file.write(text)
+
+
+def main():
+    parser = Parser(description=__doc__.split("\n\n")[0])
+    parser.add_argument("--check", action="store_true",
+                        help="write nothing, but say which pages are not current")
+    given = parser.parse_args()
+    crates = re.findall(r"^(\w+).*:", read("crates.txt"), re.MULTILINE)
+    definitions = Definitions(crates)
+    pages = [page for page in (Page(crate, definitions) for crate in crates) if page.titles]
+    texts = {f"{page.crate}.md": page.text(pages) for page in pages}
+    texts["README.md"] = "\n".join(index(pages, definitions)) + "\n"
+    others = sorted(set(glob.glob("*", root_dir=f"{TOP}/{FOLDER}")) - set(texts))
+    wrong = [line for page in pages for line in page.wrong]
+    if not given.check and not wrong:
+        write(texts, others)
+    elif given.check:
+        stale = [name for name, text in texts.items() if read(f"{FOLDER}/{name}") != text] + others
+        wrong += [f"{FOLDER}/{name} is not current: run tools/reference.py" for name in stale]
+    print("\n".join(wrong) if wrong else f"{len(texts)} pages of reference are current")
+    return 1 if wrong else 0
+
+
+if __name__ == "__main__":
+    sys.exit(main())

@@ -1,0 +1,183 @@
+"""Reads items of .rt files, in the layout of `rt fmt`, and definitions of specs/. No program."""
+import os
+import re
+from dataclasses import dataclass
+
+from blake2_kinds import TOP
+
+ITEM = re.compile(r'(?:pub(?:\(\w+\))? )?(?:unsafe |extern "C" |const (?=fn))*(\w+)(?: (\w+))?')
+DEFINITION = re.compile(r"(?:abbrev |unfoldable )*(pub )?(data |record )?([\w-]+)")
+IMPORT = re.compile(r"^ *(?:ghost |unfoldable |pub )*use Rattle\.(\w+)\.specs\.(\w+)"
+                    r"(?:\.\{([^}]*)\}| as (\w+))?;?$", re.MULTILINE)
+NAME = re.compile(r"[A-Za-z_][\w-]*(?:\.[A-Za-z_][\w-]*)?")
+
+
+def read(path):
+    """The text of a file of the repository, or an empty one if there is none."""
+    if not os.path.exists(os.path.join(TOP, path)):
+        return ""
+    with open(os.path.join(TOP, path), encoding="utf-8") as file:
+        return file.read()
+
+
+def anchor(title):
+    """The anchor of a heading, as a browser of the repository makes it."""
+    return re.sub(r"[^\w -]", "", title.lower()).replace(" ", "-")
+
+
+@dataclass
+class Item:
+    """An item of a .rt file: the lines above it, its own, and the number of its first."""
+    above: list
+    lines: list
+    number: int
+
+    def __post_init__(self):
+        self.kind, self.name = ITEM.match(self.lines[0]).groups()
+        self.doc = [line[4:] for line in self.above if line.startswith("///")]
+        self.is_public = self.lines[0].startswith("pub ")
+        self.is_export = "#[unsafe(no_mangle)]" in self.above
+        opened = [i for i, line in enumerate(self.lines)
+                  if line[:1] != " " and line.endswith(("{", "{}"))]
+        end = opened[0] + 1 if opened else len(self.lines)
+        self.head = re.sub(r"\s*(?:\{\}?|;)$", "", "\n".join(self.lines[:end])).split("\n")
+        self.body, self.body_number = [line[4:] for line in self.lines[end:-1]], self.number + end
+
+    def members(self):
+        """The items in the body of a trait or an impl."""
+        return list(items(self.body, self.body_number))
+
+    def shown(self):
+        """The lines to show, without the bodies of functions; of a trait without its functions."""
+        if self.kind == "fn":
+            return self.head
+        if self.kind not in ("trait", "impl"):
+            kept = [line for line in self.above if line.startswith(("#[derive", "#[repr"))]
+            return kept + self.lines
+        inner = []
+        for member in self.members():
+            is_import = (member.kind, member.name) == ("ghost", "use")
+            if not is_import and (self.kind, member.kind) != ("trait", "fn"):
+                lines = [line for line in member.above if line.startswith("//")] + member.shown()
+                lines[-1] += ";" if member.kind == "fn" else ""
+                inner += ["", *lines]
+        lines = ["    " + line if line else "" for line in inner[1:]]
+        return [*self.head[:-1], self.head[-1] + " {", *lines, "}"] if inner else self.head
+
+
+def items(lines, number=1):
+    """The items of these lines, of which the first has this number, except those of tests."""
+    above, begin, depth = [], None, 0
+    for i, line in enumerate(lines):
+        if begin is None and (not line or line.startswith(("//", "#"))):
+            above = above + [line] if line else []
+            continue
+        begin = i if begin is None else begin
+        depth += line.count("{") - line.count("}")
+        is_outer = line[:1] != " "
+        if is_outer and line.endswith(("}", ";")) or depth == 0 and line.endswith(";"):
+            if "#[cfg(test)]" not in above:
+                yield Item(above, lines[begin:i + 1], number + begin)
+            above, begin, depth = [], None, 0
+
+
+class Module:
+    """A file of src/: its path in the crate, and its items."""
+
+    def __init__(self, file, path):
+        self.file, self.path, self.text = file, path, read(file)
+        self.doc = [line[4:] for line in self.text.splitlines() if line.startswith("//!")]
+        self.items = list(items(self.text.splitlines()))
+
+    def re_exports(self):
+        """The lines that make items of other crates public here."""
+        own = {item.name for item in self.items if item.kind == "mod"}
+        return [line for item in self.items if item.is_public and item.kind == "use"
+                and item.name not in own for line in item.lines]
+
+
+def modules(file, path=()):
+    """The modules of a crate, from this file on."""
+    module = Module(file, path)
+    yield module
+    folder = file[:-len(".rt")] if path else os.path.dirname(file)
+    for item in module.items:
+        if item.kind == "mod":
+            yield from modules(f"{folder}/{item.name}.rt", (*path, item.name))
+
+
+def exported(crate):
+    """The shorter public paths that `pub use` gives to items of these modules, by their own."""
+    found = {}
+    for module in crate:
+        for item in module.items:
+            names = re.match(r"pub use ([\w:]+)::(?:\{(.*)\}|(\w+));", " ".join(item.lines))
+            for name in re.findall(r"\w+", names[2] or names[3]) if names else ():
+                found[(*module.path, *names[1].split("::"), name)] = (*module.path, name)
+    return found
+
+
+@dataclass
+class Word:
+    """A definition: its crate, its file without .antt, what it is, its comment and its lines."""
+    crate: str
+    file: str
+    is_public: bool
+    kind: str  # "record ", "data " or nothing
+    name: str
+    comment: list
+    lines: list
+
+    def title(self):
+        """Its heading, in which a record and a function of one name differ."""
+        return f"{self.kind}`{self.file}.{self.name}`"
+
+
+def words_of(crate):
+    """The definitions of a crate, in the order of the files in its Lib.antt."""
+    library = read(f"crates/{crate}/specs/Lib.antt")
+    for file in re.findall(r"^pub mod (\w+)", library, re.MULTILINE):
+        for part in re.split(r"\n\s*\n", read(f"crates/{crate}/specs/{file}.antt").strip()):
+            comment = [line[3:] for line in part.splitlines() if line.startswith("--")]
+            lines = [line for line in part.splitlines() if not line.startswith("--")]
+            if lines and not re.match(r"(?:unfoldable |pub )*use ", lines[0]):
+                public, kind, name = DEFINITION.match(lines[0]).groups("")
+                yield Word(crate, file, bool(public), kind, name, comment, lines)
+
+
+class Definitions:
+    """The definitions of all crates, and how the names in a file lead to them."""
+
+    def __init__(self, crates):
+        self.of = {crate: list(words_of(crate)) for crate in crates}
+        self.known = {(word.crate, word.file, word.name): word
+                      for words in self.of.values() for word in words}
+
+    def find(self, crate, file, name):
+        """The definition of this name in a crate's file, which may have it from another."""
+        if (crate, file, name) in self.known:
+            return self.known[crate, file, name]
+        for source, wanted in (file, name), ("Lib", file):
+            for *place, names, _ in IMPORT.findall(read(f"crates/{crate}/specs/{source}.antt")):
+                brought = re.split(r",\s*", names) if names else place[1:]
+                if wanted in brought:
+                    return self.find(*place, name)
+        return None
+
+    def named(self, text, lines, own=()):
+        """The definitions that these lines name, by the imports in the text and the own words."""
+        words, files = {word.name: (word.crate, word.file, word.name) for word in own}, {}
+        for crate, file, names, other in IMPORT.findall(text):
+            if not names:
+                files[other or file] = (crate, file)
+            for name in filter(None, re.split(r",\s*", names)):
+                known, _, shown = name.partition(" as ")
+                words[shown or known] = (crate, file, known)
+        found = []
+        for name in NAME.findall("\n".join(lines)):
+            first, _, rest = name.partition(".")
+            place = (*files[first], rest) if first in files else words.get(first)
+            word = place and self.find(*place)
+            if word and word not in found:
+                found.append(word)
+        return found
