@@ -1,10 +1,8 @@
 #!/usr/bin/env python3
 """Checks the names and numbers that the documents give against the sources.
 
-- docs/DEFINITIONS.md: each word stands in the file of its row, and each public word of a file of specs/ has
-  a row.
-- docs/CONTRACTS.md: each function, clause, definition and must-fail edit in the last column of a table
-  stands in the crate of its section.
+- All pages: each clause that they name, as in `replay: digests`, is one of that function.
+- docs/CONTRACTS.md: each must-fail edit in its table is one of that crate.
 - docs/SPECIFICATION.md: its numbers, tables, fields, KINDs, nodes and faults are those of the definitions.
 - docs/MAP.md and docs/REVIEW.md: the sizes of crates and definitions are about those, and with CONTRIBUTING.md
   each file that they name is there.
@@ -15,7 +13,7 @@ Prints what is wrong, a line each, and ends with status 1 where anything is.
 
 usage: tools/check_docs.py
 """
-import fnmatch
+import functools
 import glob
 import os
 import re
@@ -24,12 +22,9 @@ import subprocess
 import sys
 
 from blake2_kinds import TOP, Parser
+from sources import anchor, modules
 
 WORD = re.compile(r"`([^`]+)`")
-# What declares a word in a file of specs/: a definition, a record, a constructor, or the type of one.
-DECLARED = re.compile(r"^(?:abbrev |unfoldable )?(?:pub )?(?:data |record )?([\w-]+)(?= [({]| :| *$)", re.MULTILINE)
-PUBLIC = re.compile(r"^(?:abbrev |unfoldable )?pub (?:data |record )?([\w-]+)", re.MULTILINE)
-CONSTRUCTORS = re.compile(r"^  ((?:[\w]+ )+):", re.MULTILINE)
 
 
 def read(path):
@@ -43,74 +38,42 @@ def paths(pattern):
     return sorted(glob.glob(pattern, root_dir=TOP, recursive=True))
 
 
-def rows(text):
-    """The cells of the rows of all tables, without those of the head."""
-    for line in text.splitlines():
-        cells = [cell.strip() for cell in line.strip("|").split(" | ")]
-        if line.startswith("|") and not line.startswith("|---") and "`" in line:
-            yield cells
+def pages():
+    """The documents."""
+    return paths("*.md") + paths("*/*.md") + paths("docs/*/*.md") + paths("crates/*/*.md")
 
 
-def declared(text):
-    """The words that a file of specs/ declares."""
-    found = set(DECLARED.findall(text))
-    for names in CONSTRUCTORS.findall(text):
-        found.update(name for name in names.split() if name != "pub")
+def clauses():
+    """The names of the clauses of each function, by its name. Functions of one name share them."""
+    found = {}
+    roots = paths("crates/*/src/lib.rt") + paths("crates/*/src/main.rt")
+    kept = [item for root in roots for module in modules(root) for item in module.items]
+    while kept:
+        item = kept.pop()
+        kept += item.members() if item.kind in ("impl", "trait") else ()
+        if item.kind == "fn":
+            names = re.findall(r"^ +ensures (\w+) \{", "\n".join(item.head), re.MULTILINE)
+            found.setdefault(item.name, set()).update(names)
     return found
 
 
-def check_definitions():
-    """What is wrong in docs/DEFINITIONS.md."""
-    named = {}
-    for cells in rows(read("docs/DEFINITIONS.md")):
-        files = ["crates/" + name for name in WORD.findall(cells[-1])]
-        for path in files:
-            if not os.path.exists(os.path.join(TOP, path)):
-                yield f"DEFINITIONS: there is no {path}"
-        texts = [read(path) for path in files if os.path.exists(os.path.join(TOP, path))]
-        for word in WORD.findall(cells[0]):
-            named.setdefault(word, set()).update(files)
-            if not any(word in declared(text) for text in texts):
-                yield f"DEFINITIONS: `{word}` does not stand in {' or '.join(files)}"
-    for path in paths("crates/*/specs/*.antt"):
-        for word in PUBLIC.findall(read(path)):
-            if word not in ("mod", "use") and path not in named.get(word, ()):
-                yield f"DEFINITIONS: no row has `{word}` of {path}"
+def check_clauses():
+    """Which clauses that a page names are not in the sources."""
+    known = clauses()
+    for page in pages():
+        for name, clause in re.findall(r"`(?:\w+::)*(\w+): (\w+)`", read(page)):
+            if clause not in known.get(name, ()) and name != "function":
+                yield f"{page}: there is no clause `{name}: {clause}`"
 
 
-def check_contracts():
-    """What is wrong in docs/CONTRACTS.md."""
-    crate = None
-    for part in re.split(r"^## ", read("docs/CONTRACTS.md"), flags=re.MULTILINE)[1:]:
-        crate = re.match(r"`(\w+)`", part)
-        for cells in rows(part):
-            for word in WORD.findall(cells[-1]):
-                places = f"crates/{crate[1]}/**/*" if crate else "crates/**/*"
-                if crate and not word.endswith("/") and not in_sources(word, crate[1]):
-                    yield f"CONTRACTS: `{word}` does not stand in {places}"
-                if not crate and not is_crate(word) and not edits(word):
-                    yield f"CONTRACTS: no must-fail edit has the name `{word}`"
-
-
-def is_crate(word):
-    """Whether a crate has this name."""
-    return os.path.isdir(os.path.join(TOP, "crates", word))
-
-
-def edits(pattern):
-    """The must-fail edits of this name, which may have a star."""
-    return [path for path in paths("crates/*/must-fail/*.edit")
-            if fnmatch.fnmatch(os.path.basename(path), pattern + ".edit")]
-
-
-def in_sources(words, crate):
-    """Whether each name in `function: clause` stands as one in the crate's sources or in a lower crate's."""
-    text = "".join(read(path) for path in paths(f"crates/{crate}/src/**/*.rt") + paths("crates/*/specs/*.antt"))
-    if crate == "blake2":
-        text += "".join(read(path) for path in paths("crates/blake2_digest/src/*.rt"))
-    kinds = "fn|ensures|ghost|pub|trait|mod|struct|enum|type|const"
-    return all(re.search(rf"(?:{kinds}) {re.escape(word)}\b", text) or word in declared(text)
-               for word in re.split(r"[:. ]+", words) if word)
+def check_edits():
+    """Which must-fail edits of the table in docs/CONTRACTS.md are not there."""
+    edits = re.findall(r"\| `(\w+)`, `(\w+)` \|$", read("docs/CONTRACTS.md"), re.MULTILINE)
+    for crate, name in edits:
+        if not paths(f"crates/{crate}/must-fail/{name}.edit"):
+            yield f"CONTRACTS: there is no crates/{crate}/must-fail/{name}.edit"
+    if not edits:
+        yield "CONTRACTS: no must-fail edit"
 
 
 def values(path, name):
@@ -282,28 +245,29 @@ def check_files():
                 yield f"{page}: there is no {word}"
 
 
+@functools.cache
 def anchors(path):
     """The anchors of a page's headings, as a browser of the repository makes them."""
-    titles = re.findall(r"^#+ (.+)$", re.sub(r"^```.*?^```$", "", read(path), flags=re.M | re.S), re.MULTILINE)
-    return {re.sub(r"[^\w -]", "", title.lower()).replace(" ", "-") for title in titles}
+    text = re.sub(r"^```.*?^```$", "", read(path), flags=re.MULTILINE | re.DOTALL)
+    return set(map(anchor, re.findall(r"^#+ (.+)$", text, re.MULTILINE)))
 
 
 def check_links():
     """Which links of the documents lead nowhere."""
-    for page in paths("*.md") + paths("*/*.md") + paths("crates/*/*.md"):
-        for target, anchor in re.findall(r"\]\(([^)#]*)(?:#([^)]*))?\)", read(page)):
+    for page in pages():
+        for target, name in re.findall(r"\]\(([^)#]*)(?:#([^)]*))?\)", read(page)):
             path = os.path.normpath(os.path.join(os.path.dirname(page), target)) if target else page
             if "://" in target:
                 continue
             if not os.path.exists(os.path.join(TOP, path)):
                 yield f"{page}: there is no {target}"
-            elif anchor and anchor not in anchors(path):
-                yield f"{page}: {path} has no heading for #{anchor}"
+            elif name and name not in anchors(path):
+                yield f"{page}: {path} has no heading for #{name}"
 
 
 def main():
     Parser(description=__doc__.split("\n\n")[0]).parse_args()
-    wrong = [*check_definitions(), *check_contracts(), *check_specification(), *check_version(), *check_sizes(),
+    wrong = [*check_clauses(), *check_edits(), *check_specification(), *check_version(), *check_sizes(),
              *check_files(), *check_links(), *check_kit()]
     print(kit(KIT.search(read("README.md"))))
     print("\n".join(wrong) if wrong else "the names and numbers of the documents stand in the sources")

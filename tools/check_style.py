@@ -92,8 +92,7 @@ TO_DO = (
     "c/README.md", "c/include/blake2_c.h", "c/include/blake2_threads.h",
     "crates/blake2/CALLING.md", "crates/blake2_digest/CALLING.md", "crates/blake2_plain/CALLING.md",
     "crates/blake2_rows/CALLING.md", "crates/blake2_runs/CALLING.md", "crates/blake2_tree/CALLING.md",
-    "crates/blake2_words/CALLING.md", "dist/README.md", "docs/CONTRACTS.md",
-    "docs/DEFINITIONS.md",
+    "crates/blake2_words/CALLING.md", "dist/README.md",
     "docs/SPECIFICATION.md", "js/README.md", "python/README.md", "rust/README.md",
     "rust-digest/README.md",
 )
