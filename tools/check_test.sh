@@ -1,7 +1,7 @@
 #!/usr/bin/env bash
 # Checks the script `test`, without testing anything else: in a small repository of its own, whose
-# parts are stand-ins that note their call and print what the file `prints` says. The last line is
-# 'N passed, M failed', and the status is 1 if one failed.
+# parts are stand-ins that note their call and print what the file `prints` says. Then it checks what
+# the Makefile would run. The last line is 'N passed, M failed', and the status is 1 if one failed.
 set -u
 top=$(dirname "$(dirname "$(readlink -f "$0")")")
 room=$(mktemp -d)
@@ -166,5 +166,38 @@ run --help
 holds "help ends with 0" [ "$status" -eq 0 ]
 holds "it is printed" grep -q "^  ./test --prove " "$room/output"
 holds "and runs nothing" [ ! -e "$room/calls" ]
+
+# The Makefile, of which nothing is run.
+if command -v make >/dev/null; then
+    made() {
+        for name in test prove dist bench docs; do
+            make -ns --no-print-directory -C "$top" "$name"
+        done
+    }
+    holds "make's names run these" diff - <(made) <<'END'
+./test
+./test --prove
+tools/dist.sh make
+bench/speed.py
+tools/reference.py
+tools/manual.py
+tools/pictures.py
+tools/check_pages.sh
+END
+    for script in $(made | cut -d ' ' -f 1 | sort -u); do
+        holds "$script is there" [ -x "$top/$script" ]
+    done
+    make -s --no-print-directory -C "$top" >"$room/output" 2>"$room/errors"
+    holds "make alone lists them" diff <(grep -o '^make [a-z]*' "$room/output") - <<'END'
+make help
+make test
+make prove
+make dist
+make bench
+make docs
+END
+else
+    echo "skipped: the Makefile (no make)"
+fi
 
 counts
