@@ -53,7 +53,7 @@ from typing import Callable
 TOP = os.path.dirname(os.path.dirname(os.path.abspath(__file__)))
 sys.path.insert(0, os.path.join(TOP, "tools"))
 from blake2_kinds import FAMILIES, KINDS, Parser, at_least  # noqa: E402
-from blake2_tree import tree_root  # noqa: E402
+from oracle import tree_root  # noqa: E402
 import plot  # noqa: E402
 
 PAGE = os.path.join(TOP, "docs", "SPEED.md")

@@ -10,7 +10,7 @@ Two tables, as Markdown on standard output, in 10^9 bytes a second by the clock,
 With --write both go into docs/SPEED.md, between the two marks for threads.
 
 The library is the one that c/install.sh installs from dist/, and `b2` the one that ./b2 builds from it, so nothing is
-proved here. Each root is first compared with the one that tools/blake2_tree.py makes with hashlib. Then the candidates
+proved here. Each root is first compared with the one that tools/oracle.py makes with hashlib. Then the candidates
 of a table are timed in turns, and the best time of each counts. Leaves have 64 KiB. A peer that is absent is named on
 standard error and left out: Debian's package b3sum has it.
 
@@ -29,7 +29,7 @@ from callers import installed
 from speed import OUT, TOP, Parser, at_least, say
 
 sys.path.insert(0, os.path.join(TOP, "tools"))
-from blake2_tree import tree_root  # noqa: E402
+from oracle import tree_root  # noqa: E402
 
 MARKS = ("<!-- measured by bench/threads.py -->\n", "<!-- end of what bench/threads.py measured -->\n")
 THREADS = (1, 2, 4)

@@ -21,6 +21,7 @@ import sys
 
 from blake2_kinds import KINDS, TOP, Parser, at_least, program
 from from_specification import B, S, Input, Place, entries, parameter_words, read, run
+from oracle import tree_root
 
 PAGE = os.path.join(TOP, "docs", "SPECIFICATION.md")
 FUNCTIONS = {"b": hashlib.blake2b, "s": hashlib.blake2s}
@@ -160,7 +161,7 @@ def of_hashlib(words, message):
     given = {name: bytes.fromhex(digits) for name, digits in (word.split("=") for word in words if "=" in word)}
     named = {"salt": given.get("salt", b""), "person": given.get("persona", b""), "digest_size": KINDS[words[1]][1]}
     if words[0] == "tree":
-        return tree_of_hashlib(message, int(words[2]), **named)
+        return tree_root(message, int(words[2]), **named).hex()
     return FUNCTIONS[words[1][0]](message, key=given.get("key", b""), **named).hexdigest()
 
 
@@ -191,7 +192,7 @@ def worked():
         answer = run(words.encode().split(), lambda: b"")
         yield "fault of " + words, answer == (2, f"b2: {fault}\n".encode()) and f"`{words}`" in page
     root = run([b"tree", b"b512", b"4"], lambda: b"abcde")[1].decode().strip()
-    yield "root", root[:64] in page and root[64:] in page and root == tree_of_hashlib(b"abcde", 4)
+    yield "root", root[:64] in page and root[64:] in page and root == tree_root(b"abcde", 4).hex()
     pair = run([b"witness", b"b0", b"61", b"62"], None)[1].decode()
     yield "witness", pair.count("\n") == 2 and pair.count("s 6a09e667f2bdc908 ") == 2 and "6a09e667f2bdc908" in page
     slots = run([b"script", b"s256"], lambda: b"u 0 6162\nc 0\nu 0 63\nf 0")
@@ -205,16 +206,6 @@ def worked():
                         ("a last counter of 128", [first, (last[0], 128, *last[2:])]),
                         ("two final flags", [(*first[:2], True, False), last])):
         yield "the reader refuses " + name, read(B, words, other) is None
-
-
-def tree_of_hashlib(message, leaf, digest_size=64, **named):
-    """The root, node by node of hashlib."""
-    cuts = [message[i:i + leaf] for i in range(0, max(1, len(message)), leaf)]
-    shared = {"fanout": 0, "depth": 2, "leaf_size": leaf, "inner_size": 64, **named}
-    leaves = [hashlib.blake2b(cut, node_offset=i, node_depth=0, last_node=i == len(cuts) - 1, **shared)
-              for i, cut in enumerate(cuts)]
-    digests = b"".join(node.digest() for node in leaves)
-    return hashlib.blake2b(digests, digest_size=digest_size, node_depth=1, last_node=True, **shared).hexdigest()
 
 
 def examples():

@@ -13,10 +13,11 @@ import random
 import struct
 
 from blake2_kinds import FAMILIES, KINDS, Parser
-from blake2_scalar import WORDS, Tree, blocks, check, hashlib_tree, parameter_words
-from blake2_tree import range_digests, tree_root
+from oracle import (WORDS, Tree, blocks, check, hashlib_tree, parameter_words, range_digests,
+                    tree_root)
 
 ALPHABET = bytes(i % 251 for i in range(6000))
+TEXTS = {"salt": b"salt", "person": b"persona"}
 LENGTHS = [0, 1, 63, 64, 65, 127, 128, 129, 255, 256, 257]
 
 
@@ -261,9 +262,10 @@ def trees():
     a persona, of messages around each number of leaves, for each length of a leaf."""
     for length in (0, 4, 5, 8, 9):
         print(f"  {length}: {tree_root(b'abcdefghi'[:length], 4, 64).hex()}")
-    print(f"  abc: {tree_root(b'abc', 2**32 - 1, 20, b'0123456789abcdef', b'fedcba9876543210').hex()}")
+    abc = tree_root(b"abc", 2**32 - 1, 20, salt=b"0123456789abcdef", person=b"fedcba9876543210")
+    print(f"  abc: {abc.hex()}")
     for leaf in (1, 2, 3, 64, 127, 128, 129, 200):
-        roots = b"".join(tree_root(ALPHABET[:leaf * leaves + more], leaf, 32, b"salt", b"persona")
+        roots = b"".join(tree_root(ALPHABET[:leaf * leaves + more], leaf, 32, **TEXTS)
                          for leaves in (0, 1, 3, 4, 5, 8, 9) for more in (0, 1, leaf - 1))
         print(f"  {leaf}: {digest(roots)}")
 
@@ -272,7 +274,7 @@ def ranges():
     """ranges: the digest of the joined digests of ranges of leaves under a salt and a persona, for each length of a
     leaf: from places 0, 7 and 2^40 on, of whole leaves in the midst of a message, and of its end."""
     for leaf in (1, 2, 3, 64, 127, 128, 129, 200):
-        digests = b"".join(range_digests(ALPHABET[:leaf * leaves - less], leaf, first, ends, b"salt", b"persona")
+        digests = b"".join(range_digests(ALPHABET[:leaf * leaves - less], leaf, first, ends, **TEXTS)
                            for first in (0, 7, 2**40) for leaves in (1, 3, 4, 5, 8, 9)
                            for ends, less in ((False, 0), (True, 0), (True, leaf // 2)))
         print(f"  {leaf}: {digest(digests)}")

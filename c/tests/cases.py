@@ -11,8 +11,12 @@ The first 512 cases are the messages of the official known answers: 0 to 255 byt
 without a key and under the longest key, of bytes counting from 0.
 """
 import hashlib
+import os
 import random
 import sys
+
+sys.path.append(os.path.join(os.path.dirname(os.path.abspath(__file__)), "..", "..", "tools"))
+from oracle import tree_root  # noqa: E402
 
 RANDOM = random.Random(7693)
 SMALL = sys.argv[1] == "s"
@@ -52,11 +56,7 @@ def node_case(message):
 def root_case(size, leaf, message):
     """A line of the root of a message, hashed node by node."""
     salt, persona = text(RANDOM.randint(0, SALT)), text(RANDOM.randint(0, SALT))
-    shared = dict(salt=salt, person=persona, fanout=0, depth=2, leaf_size=leaf, inner_size=64)
-    leaves = [message[i:i + leaf] for i in range(0, len(message), leaf)] or [b""]
-    digests = b"".join(HASH(bytes, digest_size=64, node_offset=i, last_node=i + 1 == len(leaves), **shared).digest()
-                       for i, bytes in enumerate(leaves))
-    root = HASH(digests, digest_size=size, node_depth=1, last_node=True, **shared).digest()
+    root = tree_root(message, leaf, size, salt=salt, person=persona)
     print("r", size, *map(hexadecimal, (salt, persona)), leaf, *map(hexadecimal, (message, root)))
 
 

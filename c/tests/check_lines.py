@@ -2,16 +2,15 @@
 """Reads the lines of edges.c, parts.c and libb2_header.c from standard input and compares each digest with Python's hashlib.
 
 Answers 0 where all agree, the line `end` came, and there were 20 others. A parameter block that hashlib can't say (a
-depth of 0, reserved bytes) is hashed by tools/blake2_scalar.py, which is first compared with hashlib itself.
+depth of 0, reserved bytes) is hashed by tools/oracle.py, which is first compared with hashlib.
 """
-import hashlib
 import os
 import struct
 import sys
 
 sys.path.append(os.path.join(os.path.dirname(os.path.abspath(__file__)), "..", "..", "tools"))
 from blake2_kinds import FAMILIES  # noqa: E402
-from blake2_scalar import WORDS, Step, compress  # noqa: E402
+from oracle import WORDS, Step, compress, tree_node, tree_root  # noqa: E402
 
 BYTES = bytes(i % 251 for i in range(8 * 128 + 64))
 KEY = bytes(i + 100 for i in range(66))
@@ -31,37 +30,36 @@ def hash_line(family, size, keylen, saltlen, personalen, start, length):
     """A hash of the bytes from a start on, under the beginnings of the key, the salt and the persona."""
     start, length = int(start), int(length)
     assert start + length <= len(BYTES)
-    return FAMILIES[family].function(BYTES[start:start + length], digest_size=int(size), key=KEY[:int(keylen)],
-                               salt=SALT[:int(saltlen)], person=PERSONA[:int(personalen)])
+    words = dict(digest_size=int(size), key=KEY[:int(keylen)], salt=SALT[:int(saltlen)],
+                 person=PERSONA[:int(personalen)])
+    return FAMILIES[family].function(BYTES[start:start + length], **words).digest()
 
 
 def last_line(family, size, length):
     """A hash under the last-node flag."""
-    return FAMILIES[family].function(BYTES[:int(length)], digest_size=int(size), last_node=True)
+    words = dict(digest_size=int(size), last_node=True)
+    return FAMILIES[family].function(BYTES[:int(length)], **words).digest()
 
 
 def node_line(family, fanout, depth, leaf_length, node_offset, node_depth, inner_length):
     """A node of a tree."""
-    return FAMILIES[family].function(BYTES[:20], fanout=int(fanout), depth=int(depth), leaf_size=int(leaf_length),
-                               node_offset=int(node_offset), node_depth=int(node_depth), inner_size=int(inner_length))
+    place = dict(fanout=int(fanout), depth=int(depth), leaf_size=int(leaf_length),
+                 node_offset=int(node_offset), node_depth=int(node_depth), inner_size=int(inner_length))
+    return FAMILIES[family].function(BYTES[:20], **place).digest()
 
 
 def root_line(size, saltlen, personalen, leaf, length):
     """The root of a tree of two levels."""
-    leaf, message = int(leaf), BYTES[:int(length)]
-    shared = dict(salt=SALT[:int(saltlen)], person=PERSONA[:int(personalen)], fanout=0, depth=2, leaf_size=leaf, inner_size=64)
-    leaves = [message[i:i + leaf] for i in range(0, len(message), leaf)] or [b""]
-    digests = b"".join(hashlib.blake2b(part, node_offset=i, last_node=i + 1 == len(leaves), **shared).digest()
-                       for i, part in enumerate(leaves))
-    return hashlib.blake2b(digests, digest_size=int(size), node_depth=1, last_node=True, **shared)
+    return tree_root(BYTES[:int(length)], int(leaf), int(size), salt=SALT[:int(saltlen)],
+                     person=PERSONA[:int(personalen)])
 
 
 def leaf_line(saltlen, personalen, leaf, offset, is_last, start, length):
     """A leaf of a tree of two levels."""
     start = int(start)
-    return hashlib.blake2b(BYTES[start:start + int(length)], salt=SALT[:int(saltlen)], person=PERSONA[:int(personalen)],
-                           fanout=0, depth=2, leaf_size=int(leaf), node_offset=int(offset), inner_size=64,
-                           last_node=is_last == "1")
+    return tree_node(BYTES[start:start + int(length)], int(leaf), salt=SALT[:int(saltlen)],
+                     person=PERSONA[:int(personalen)], node_offset=int(offset),
+                     last_node=is_last == "1")
 
 
 def zeros_line(family, length):
@@ -70,19 +68,22 @@ def zeros_line(family, length):
     while left:
         run.update(piece[:left])
         left -= min(left, len(piece))
-    return run
+    return run.digest()
+
+
+def block_line(family, block):
+    """A hash from a parameter block as it stands."""
+    return of_block(family, bytes.fromhex(block), BYTES[:20])
 
 
 KINDS = {"hash": hash_line, "last": last_line, "node": node_line, "root": root_line, "leaf": leaf_line,
-         "zeros": zeros_line}
+         "zeros": zeros_line, "block": block_line}
 
 
 def wanted(line):
     """The digest that a line should end with, in digits."""
     kind, *fields = line.split()[:-1]
-    if kind == "block":
-        return of_block(fields[0], bytes.fromhex(fields[1]), BYTES[:20]).hex()
-    return KINDS[kind](*fields).hexdigest()
+    return KINDS[kind](*fields).hex()
 
 
 def main():

@@ -49,7 +49,7 @@ sanitized() {
 # The lines of tree_sum for these files with leaves of so many bytes, by hashlib.
 wanted_of_trees() {
     PYTHONPATH=$top/tools python3 -c 'import sys
-from blake2_tree import tree_root
+from oracle import tree_root
 for name in sys.argv[2:]:
     with open("/dev/stdin" if name == "-" else name, "rb") as file:
         print(tree_root(file.read(), int(sys.argv[1]), 64).hex(), "", name)' "$@"

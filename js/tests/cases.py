@@ -8,8 +8,12 @@ of arguments are in hexadecimal digits. The kind of a case says which call it is
 """
 import hashlib
 import json
+import os
 import random
 import sys
+
+sys.path.append(os.path.join(os.path.dirname(os.path.abspath(__file__)), "..", "..", "tools"))
+from oracle import tree_root  # noqa: E402
 
 DICE = random.Random(int(sys.argv[1]))
 LENGTHS = {"blake2b": 64, "blake2s": 32}
@@ -62,18 +66,6 @@ def place(name):
     }
 
 
-def root(message, leaf_size, digest_size=64, **texts):
-    """The root of the tree of two levels (the BLAKE2 document, 2.10), node by node."""
-    shared = dict(texts, fanout=0, depth=2, leaf_size=leaf_size, inner_size=64)
-    cuts = list(range(0, len(message), leaf_size)) or [0]
-    digests = b"".join(
-        hashlib.blake2b(message[cut:cut + leaf_size], node_offset=i,
-                        last_node=i == len(cuts) - 1, **shared).digest()
-        for i, cut in enumerate(cuts))
-    return hashlib.blake2b(
-        digests, digest_size=digest_size, node_depth=1, last_node=True, **shared).digest()
-
-
 def shown(words):
     def text_of(name, value):
         if isinstance(value, bytes):
@@ -95,7 +87,7 @@ def case(number):
         words["leaf_size"] = DICE.choice([
             max(1, longest // 7), max(1, longest // 3), longest,
             DICE.randint(max(1, longest // 40), longest), 2**32 - 1])
-        digests = [root(message_of(number, lengths[0]), **words)]
+        digests = [tree_root(message_of(number, lengths[0]), **words)]
     elif kind == "many":
         same = DICE.randint(0, 700)
         lengths = [same if DICE.random() < 0.8 else length() for _ in range(DICE.randint(0, 40))]

@@ -3,7 +3,7 @@
 
 usage: test_dask.py FOLDER
 
-The roots are those that tools/blake2_tree.py makes with Python's hashlib. One worker is killed while it
+The roots are those that tools/oracle.py makes with Python's hashlib. One worker is killed while it
 hashes a range, after it has hashed others. The status is 0 if all is as it should be. It needs Dask
 (Debian's python3-distributed).
 """
@@ -25,8 +25,8 @@ if __name__ == "__main__":  # a worker imports this file too, and has the path f
     os.environ["PYTHONPATH"] = os.pathsep.join([*FOLDERS, os.environ.get("PYTHONPATH", "")])
 
 import dask_root  # noqa: E402
-from blake2_tree import tree_root  # noqa: E402
 from distributed import Client, LocalCluster  # noqa: E402
+from oracle import tree_root  # noqa: E402
 
 hash_range = dask_root.hash_range
 SCRIPT = os.path.join(HERE, "dask_root.py")

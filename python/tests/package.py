@@ -20,24 +20,16 @@ import time
 import tracemalloc
 import unittest
 
+HERE = os.path.dirname(os.path.abspath(__file__))
+sys.path.append(os.path.join(HERE, "..", "..", "tools"))
 sys.path.insert(0, sys.argv[1])
+import oracle  # noqa: E402
 import vulfsjor  # noqa: E402
 
-HERE = os.path.dirname(os.path.abspath(__file__))
 DICE = random.Random(1)
 FAMILIES = (("blake2b", vulfsjor.blake2b, hashlib.blake2b, vulfsjor.blake2b_many, 64),
             ("blake2s", vulfsjor.blake2s, hashlib.blake2s, vulfsjor.blake2s_many, 32))
 LONG = bytes(1 << 26)
-
-
-def root_by_hashlib(data, leaf_size, digest_size=64, salt=b"", person=b""):
-    """The root of a tree of two levels, node by node."""
-    shared = dict(salt=salt, person=person, fanout=0, depth=2, leaf_size=leaf_size, inner_size=64)
-    leaves = [data[start:start + leaf_size] for start in range(0, len(data), leaf_size)] or [b""]
-    digests = [hashlib.blake2b(leaf, node_offset=place, last_node=place + 1 == len(leaves), **shared).digest()
-               for place, leaf in enumerate(leaves)]
-    root = hashlib.blake2b(b"".join(digests), digest_size=digest_size, node_depth=1, last_node=True, **shared)
-    return root.digest()
 
 
 class Verify(unittest.TestCase):
@@ -116,12 +108,14 @@ class TreeRoot(unittest.TestCase):
         for leaf_size in (1, 7, 128, 1000, 4096, 2**32 - 1):
             for length in (0, 1, 6, 7, 8, 128, 129, 1000, 5000, 9001):
                 data, salt, person = (DICE.randbytes(n) for n in (length, DICE.randint(0, 16), DICE.randint(0, 16)))
-                self.assertEqual(vulfsjor.tree_root(data, leaf_size), root_by_hashlib(data, leaf_size))
+                wanted = oracle.tree_root(data, leaf_size)
+                self.assertEqual(vulfsjor.tree_root(data, leaf_size), wanted)
                 size = DICE.randint(1, 64)
                 words = dict(leaf_size=leaf_size, digest_size=size, salt=salt, person=person)
-                self.assertEqual(vulfsjor.tree_root(bytearray(data), **words), root_by_hashlib(data, **words))
+                wanted = oracle.tree_root(data, **words)
+                self.assertEqual(vulfsjor.tree_root(bytearray(data), **words), wanted)
         for size in range(1, 65):
-            wanted = root_by_hashlib(b"abc", 2, size)
+            wanted = oracle.tree_root(b"abc", 2, size)
             self.assertEqual(vulfsjor.tree_root(memoryview(b"abc"), 2, digest_size=size), wanted)
 
     def test_refusals(self):

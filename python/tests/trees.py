@@ -7,7 +7,6 @@ import array
 import ctypes
 import errno
 import fcntl
-import hashlib
 import os
 import pathlib
 import random
@@ -20,34 +19,16 @@ import time
 import unittest
 from unittest import mock
 
+sys.path.append(os.path.join(os.path.dirname(os.path.abspath(__file__)), "..", "..", "tools"))
 sys.path.insert(0, sys.argv[1])
+import oracle  # noqa: E402
 import vulfsjor  # noqa: E402
 from vulfsjor import _threads  # noqa: E402
 
 DICE = random.Random(2)
 MIB = 1 << 20
-
-
-def nodes(leaf_size, salt=b"", person=b""):
-    """The parameters of all nodes of a tree."""
-    return dict(salt=salt, person=person, fanout=0, depth=2, leaf_size=leaf_size, inner_size=64)
-
-
-def leaves_by_hashlib(data, leaf_size, first=0, ends=True, **texts):
-    """The joined digests of a range of leaves."""
-    leaves = [data[start:start + leaf_size] for start in range(0, len(data), leaf_size)] or [b""]
-    return b"".join(hashlib.blake2b(leaf, node_offset=first + i, last_node=ends and i + 1 == len(leaves),
-                                    **nodes(leaf_size, **texts)).digest() for i, leaf in enumerate(leaves))
-
-
-def root_by_hashlib(data, leaf_size, digest_size=64, **texts):
-    """The root of a message, node by node."""
-    return hashlib.blake2b(leaves_by_hashlib(data, leaf_size, **texts), digest_size=digest_size, node_depth=1,
-                           last_node=True, **nodes(leaf_size, **texts)).digest()
-
-
 DATA = DICE.randbytes(9 * MIB + 12345)
-ROOT = root_by_hashlib(DATA, 1 << 14)
+ROOT = oracle.tree_root(DATA, 1 << 14)
 TEXTS = dict(salt=b"salt", person=b"a persona of 16b")
 
 
@@ -126,12 +107,14 @@ class Parts(Test):
                 for first in (0, 1, 5, 2**32 + 1, (2**58 - 1) // leaf_size - count):
                     data = DICE.randbytes(count * leaf_size)
                     for ends, part in ((False, data), (True, data), (True, data[:len(data) - leaf_size // 2])):
-                        wanted = leaves_by_hashlib(part, leaf_size, first, ends, **TEXTS)
+                        wanted = oracle.range_digests(part, leaf_size, first, ends, **TEXTS)
                         found = vulfsjor.tree_leaves(part, leaf_size, first=first, ends=ends, **TEXTS)
                         self.assertEqual(found, wanted)
-        self.assertEqual(vulfsjor.tree_leaves(b"", 5, first=0, ends=True), leaves_by_hashlib(b"", 5))
+        found = vulfsjor.tree_leaves(b"", 5, first=0, ends=True)
+        self.assertEqual(found, oracle.range_digests(b"", 5))
         for data in (bytearray(b"abc"), memoryview(b"xabcx")[1:4], array.array("b", b"abc")):
-            self.assertEqual(vulfsjor.tree_leaves(data, 2, first=1, ends=True), leaves_by_hashlib(b"abc", 2, 1))
+            found = vulfsjor.tree_leaves(data, 2, first=1, ends=True)
+            self.assertEqual(found, oracle.range_digests(b"abc", 2, 1))
 
     def test_the_root_of_any_cut(self):
         for length in (0, 1, 99, 100, 101, 1000, 1234):
@@ -143,7 +126,7 @@ class Parts(Test):
                 self.assertEqual(len(digests), 64 * vulfsjor.tree_leaf_count(length, 100))
                 for size in (1, 20, 64):
                     root = vulfsjor.tree_root_of_leaves(digests, 100, digest_size=size, **TEXTS)
-                    self.assertEqual(root, root_by_hashlib(data, 100, size, **TEXTS))
+                    self.assertEqual(root, oracle.tree_root(data, 100, size, **TEXTS))
 
     def test_ranges_are_refused(self):
         leaves, tail = vulfsjor.tree_leaves, "data must be whole leaves, unless it ends the message"
@@ -219,7 +202,7 @@ class Pieces(Test):
                     hasher = vulfsjor.TreeHasher(100, digest_size=size, **TEXTS)
                     for at in range(0, length, piece):
                         self.assertIsNone(hasher.update(DATA[at:min(at + piece, length)]))
-                    wanted = root_by_hashlib(DATA[:length], 100, size, **TEXTS)
+                    wanted = oracle.tree_root(DATA[:length], 100, size, **TEXTS)
                     self.assertEqual((hasher.digest(), hasher.hexdigest()), (wanted, wanted.hex()))
                     self.assertEqual((hasher.digest(), hasher.digest_size, hasher.leaf_size), (wanted, size, 100))
 
@@ -229,11 +212,11 @@ class Pieces(Test):
         other = hasher.copy()
         hasher.update(b"defghijklm")
         self.assertEqual((type(other), other.leaf_size), (vulfsjor.TreeHasher, 10))
-        self.assertEqual(other.digest(), root_by_hashlib(b"abc", 10))
-        self.assertEqual(hasher.digest(), root_by_hashlib(b"abcdefghijklm", 10))
+        self.assertEqual(other.digest(), oracle.tree_root(b"abc", 10))
+        self.assertEqual(hasher.digest(), oracle.tree_root(b"abcdefghijklm", 10))
         del hasher
         other.update(bytes(5000))
-        self.assertEqual(other.digest(), root_by_hashlib(b"abc" + bytes(5000), 10))
+        self.assertEqual(other.digest(), oracle.tree_root(b"abc" + bytes(5000), 10))
 
     def test_data_is_refused(self):
         hasher = vulfsjor.TreeHasher(10)
@@ -243,7 +226,7 @@ class Pieces(Test):
         self.assertRaises(BufferError, hasher.update, memoryview(b"abcd")[::2])
         for name in ("digest_size", "leaf_size", "other"):
             self.assertRaises(AttributeError, setattr, hasher, name, 1)
-        self.assertEqual(hasher.digest(), root_by_hashlib(b"abc", 10))
+        self.assertEqual(hasher.digest(), oracle.tree_root(b"abc", 10))
 
     def test_inputs_end_before_2_to_the_58(self):
         for length in (5, 3000):
@@ -286,7 +269,7 @@ class Pieces(Test):
             thread.start()
         for thread in threads:
             thread.join()
-        self.assertEqual(hasher.digest(), root_by_hashlib(piece * 225, 4000))
+        self.assertEqual(hasher.digest(), oracle.tree_root(piece * 225, 4000))
 
 
 class Leaves(Test):
@@ -301,17 +284,18 @@ class Leaves(Test):
                 end = 100 * (before + leaves)
                 starts = range(100 * before, end, 200)
                 digests = [hasher.next_leaves(data[at:min(at + 200, end)], at // 100 - before) for at in starts]
-                self.assertEqual(b"".join(digests), leaves_by_hashlib(data[100 * before:end], 100, before, False,
-                                                                      **TEXTS) if leaves else b"")
+                wanted = oracle.range_digests(data[100 * before:end], 100, before, False, **TEXTS)
+                self.assertEqual(b"".join(digests), wanted if leaves else b"")
                 self.assertEqual(hasher.count, 100 * before)
                 self.assertIsNone(hasher.update_leaves(b"".join(digests), data[end:end + 1]))
                 self.assertEqual(hasher.count, end + 1)
                 hasher.update(data[end + 1:])
-                self.assertEqual((hasher.digest(), hasher.count), (root_by_hashlib(data, 100, **TEXTS), 2000))
+                self.assertEqual(hasher.digest(), oracle.tree_root(data, 100, **TEXTS))
+                self.assertEqual(hasher.count, 2000)
         hasher = vulfsjor.TreeHasher(1000)
         digests = hasher.next_leaves(memoryview(DATA)[:MIB // 1000 * 1000], skip=0)
         hasher.update_leaves(bytearray(digests), memoryview(DATA)[MIB // 1000 * 1000:])
-        self.assertEqual(hasher.digest(), root_by_hashlib(DATA, 1000))
+        self.assertEqual(hasher.digest(), oracle.tree_root(DATA, 1000))
 
     def test_leaves_are_refused(self):
         boundary = "the hasher is not at a leaf boundary"
@@ -352,7 +336,7 @@ class Leaves(Test):
 
     def test_updates_by_threads(self):
         for leaf_size in (1000, 1 << 16, MIB, MIB + 1, 3 * MIB, 20 * MIB):
-            wanted = root_by_hashlib(DATA, leaf_size, 20, **TEXTS)
+            wanted = oracle.tree_root(DATA, leaf_size, 20, **TEXTS)
             for cut in (0, 1, leaf_size, 5 * MIB, 5 * MIB + 7, len(DATA) - 1, len(DATA)):
                 for threads in (0, 1, 3):
                     hasher = vulfsjor.TreeHasher(leaf_size, digest_size=20, **TEXTS)
@@ -378,14 +362,14 @@ class Leaves(Test):
         with mock.patch.object(_threads, "_start", start):
             self.refuses(RuntimeError, "another thread has updated the hasher meanwhile", hasher.update, DATA,
                          threads=3)
-        self.assertEqual(hasher.digest(), root_by_hashlib(DATA[:5] + b"more", 1 << 14))
+        self.assertEqual(hasher.digest(), oracle.tree_root(DATA[:5] + b"more", 1 << 14))
 
     def test_an_interrupted_update_changes_nothing(self):
         hasher = vulfsjor.TreeHasher(1 << 14)
         hasher.update(DATA[:5])
         with mock.patch.object(_threads, "Future", side_effect=KeyboardInterrupt):
             self.assertRaises(KeyboardInterrupt, hasher.update, DATA, threads=3)
-        self.assertEqual((hasher.digest(), hasher.count), (root_by_hashlib(DATA[:5], 1 << 14), 5))
+        self.assertEqual((hasher.digest(), hasher.count), (oracle.tree_root(DATA[:5], 1 << 14), 5))
 
     def test_threads_of_an_update(self):
         hasher = vulfsjor.TreeHasher(1 << 14)
@@ -407,24 +391,24 @@ class Threads(Test):
             for leaf_size in (1000, 1 << 16, MIB, MIB + 1, 3 * MIB, 2**32 - 1):
                 data = DATA[:length]
                 size = DICE.randint(1, 64)
-                wanted = root_by_hashlib(data, leaf_size, size, **TEXTS)
+                wanted = oracle.tree_root(data, leaf_size, size, **TEXTS)
                 for threads in (2, 3, 5):
                     found = vulfsjor.tree_root(data, leaf_size, digest_size=size, threads=threads, **TEXTS)
                     self.assertEqual(found, wanted)
         small = DATA[:3 * MIB]
-        self.assertEqual(vulfsjor.tree_root(small, 61, threads=3), root_by_hashlib(small, 61))
+        self.assertEqual(vulfsjor.tree_root(small, 61, threads=3), oracle.tree_root(small, 61))
 
     def test_leaves_longer_than_a_call(self):
         with mock.patch.multiple(_threads, _PART_BYTES=30_000, _MOST_BYTES=50_000, _MOST_BUFFER_BYTES=50_000):
             for leaf_size in (7000, 49_999, 50_000, 50_001, 60_000, MIB, 20 * MIB):
-                wanted = root_by_hashlib(DATA, leaf_size)
+                wanted = oracle.tree_root(DATA, leaf_size)
                 self.assertEqual(vulfsjor.tree_root(DATA, leaf_size, threads=3), wanted)
                 self.assertEqual(vulfsjor.tree_root_file(self.file(DATA), leaf_size, threads=3), wanted)
                 self.assertEqual(vulfsjor.tree_root_file(self.file(DATA), leaf_size, threads=1), wanted)
 
     def test_any_buffer(self):
         short = DATA[:3 * MIB]
-        wanted = root_by_hashlib(short, 4096)
+        wanted = oracle.tree_root(short, 4096)
         shaped = ((ctypes.c_char * MIB) * 3).from_buffer_copy(short)
         for data in (bytearray(short), memoryview(DATA)[:3 * MIB], memoryview(array.array("d", short)),
                      (ctypes.c_uint16.__ctype_be__ * (3 * MIB // 2)).from_buffer_copy(short),
@@ -450,7 +434,7 @@ class Threads(Test):
             for call in (lambda: vulfsjor.tree_root(DATA[:3 * MIB], MIB, threads=3),
                          lambda: vulfsjor.tree_root_file(self.file(DATA[:3 * MIB]), MIB, threads=3)):
                 seen.clear()
-                self.assertEqual(call(), root_by_hashlib(DATA[:3 * MIB], MIB))
+                self.assertEqual(call(), oracle.tree_root(DATA[:3 * MIB], MIB))
                 self.assertEqual(len(seen - {threading.get_ident()}), 3)
 
     def test_a_mebibyte_for_each_thread(self):
@@ -499,7 +483,8 @@ class Files(Test):
 
     def test_regular_files(self):
         for length in (0, 1, 99, 100, 2047, MIB, 2 * MIB + 1, len(DATA)):
-            path, wanted = self.file(DATA[:length]), root_by_hashlib(DATA[:length], 5000, 20, **TEXTS)
+            path = self.file(DATA[:length])
+            wanted = oracle.tree_root(DATA[:length], 5000, 20, **TEXTS)
             for threads in (0, 1, 2, 4):
                 for name in (path, path.encode(), pathlib.Path(path)):
                     seen = []
@@ -547,27 +532,29 @@ class Files(Test):
             for threads in (0, 1, 3):
                 seen = []
                 found = self.through_pipe(data, step, threads=threads, progress=seen.append)
-                self.assertEqual((found, seen[-1]), (root_by_hashlib(data, 1 << 14), len(data)))
+                self.assertEqual((found, seen[-1]), (oracle.tree_root(data, 1 << 14), len(data)))
         name = os.path.join(self.folder.name, "fifo")
         os.mkfifo(name)
         with subprocess.Popen(["sh", "-c", f"printf abc >'{name}'"]):
-            self.assertEqual(vulfsjor.tree_root_file(name, 2), root_by_hashlib(b"abc", 2))
+            self.assertEqual(vulfsjor.tree_root_file(name, 2), oracle.tree_root(b"abc", 2))
 
     def test_files_of_the_system(self):
         with open("/proc/version", "rb") as file:
-            self.assertEqual(vulfsjor.tree_root_file("/proc/version", 10), root_by_hashlib(file.read(), 10))
+            wanted = oracle.tree_root(file.read(), 10)
+            self.assertEqual(vulfsjor.tree_root_file("/proc/version", 10), wanted)
             file.seek(3)
             self.assertEqual(vulfsjor.tree_root_file(file.fileno(), 10), vulfsjor.tree_root_file("/proc/version", 10))
-        self.assertEqual(vulfsjor.tree_root_file("/dev/null", 10), root_by_hashlib(b"", 10))
+        self.assertEqual(vulfsjor.tree_root_file("/dev/null", 10), oracle.tree_root(b"", 10))
         name = "/sys/kernel/mm/transparent_hugepage/enabled"  # shorter than the 4,096 bytes that it reports
         if os.path.exists(name):
             with open(name, "rb") as file:
-                self.assertEqual(vulfsjor.tree_root_file(name, 10), root_by_hashlib(file.read(), 10))
+                wanted = oracle.tree_root(file.read(), 10)
+                self.assertEqual(vulfsjor.tree_root_file(name, 10), wanted)
 
     def test_sparse_and_growing_files(self):
         path = self.file(b"")
         os.truncate(path, 5 * MIB + 3)
-        wanted = root_by_hashlib(bytes(5 * MIB + 3), 1 << 16)
+        wanted = oracle.tree_root(bytes(5 * MIB + 3), 1 << 16)
         for threads in (1, 4):
             self.assertEqual(vulfsjor.tree_root_file(path, 1 << 16, threads=threads), wanted)
 

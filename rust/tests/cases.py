@@ -8,8 +8,12 @@ the leaves of a tree, their joined digests, and the root over those. A line `y L
 has the root of the message whose bytes are their places modulo 251.
 """
 import hashlib
+import os
 import random
 import sys
+
+sys.path.append(os.path.join(os.path.dirname(os.path.abspath(__file__)), "..", "..", "tools"))
+from oracle import range_digests, root_of_leaves, tree_root  # noqa: E402
 
 RANDOM = random.Random(2)
 HASH, MAX = (hashlib.blake2s, 32) if sys.argv[1] == "s" else (hashlib.blake2b, 64)
@@ -35,49 +39,26 @@ def many_case(size, key, salt, person, lengths):
     print("m", size, *map(hexadecimal, (key, salt, person)), texts, hexadecimal(digests))
 
 
-def nodes(leaf, salt, person):
-    """The parameters of all nodes of a tree."""
-    return dict(salt=salt, person=person, fanout=0, depth=2, leaf_size=leaf, inner_size=64)
-
-
-def leaves_of(leaf, data):
-    """The leaves of these bytes, one at least."""
-    return [data[start:start + leaf] for start in range(0, len(data), leaf)] or [b""]
-
-
-def digests_of(leaves, first, ends, words):
-    """The joined digests of leaves, from this one on."""
-    digests = (hashlib.blake2b(leaf, node_offset=first + i, last_node=ends and i + 1 == len(leaves), **words).digest()
-               for i, leaf in enumerate(leaves))
-    return b"".join(digests)
-
-
-def root_of(digests, size, words):
-    """The root over joined digests."""
-    return hashlib.blake2b(digests, digest_size=size, node_depth=1, last_node=True, **words).digest()
-
-
 def texts():
     """A salt and a persona."""
-    return RANDOM.randbytes(RANDOM.randint(0, 16)), RANDOM.randbytes(RANDOM.randint(0, 16))
+    return {name: RANDOM.randbytes(RANDOM.randint(0, 16)) for name in ("salt", "person")}
 
 
 def range_case(leaf, first, ends, length):
     """A line of a range of leaves."""
-    salt, person = texts()
-    data, size, words = RANDOM.randbytes(length), RANDOM.randint(1, 64), nodes(leaf, salt, person)
-    digests = digests_of(leaves_of(leaf, data), first, ends, words)
-    root = root_of(digests, size, words)
-    print("l", leaf, first, int(ends), *map(hexadecimal, (salt, person, data, digests)), size, root.hex())
+    words, data, size = texts(), RANDOM.randbytes(length), RANDOM.randint(1, 64)
+    digests = range_digests(data, leaf, first, ends, **words)
+    root = root_of_leaves(digests, leaf, size, **words)
+    shown = map(hexadecimal, (*words.values(), data, digests))
+    print("l", leaf, first, int(ends), *shown, size, root.hex())
 
 
 def long_case(leaf, length):
     """A line of a long message."""
-    salt, person = texts()
+    words, size = texts(), RANDOM.randint(1, 64)
     data = (bytes(range(251)) * (length // 251 + 1))[:length]
-    size, words = RANDOM.randint(1, 64), nodes(leaf, salt, person)
-    root = root_of(digests_of(leaves_of(leaf, data), 0, True, words), size, words)
-    print("y", leaf, length, *map(hexadecimal, (salt, person)), size, root.hex())
+    root = tree_root(data, leaf, size, **words)
+    print("y", leaf, length, *map(hexadecimal, words.values()), size, root.hex())
 
 
 def tree_cases():

@@ -11,7 +11,7 @@ import struct
 import sys
 
 sys.path.insert(0, os.path.dirname(os.path.dirname(os.path.abspath(__file__))))
-from blake2_scalar import WORDS, steps  # noqa: E402
+from oracle import WORDS, steps  # noqa: E402
 
 
 def declared(name, data):

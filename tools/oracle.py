@@ -1,8 +1,14 @@
-"""BLAKE2 on plain words, written from RFC 7693 and the BLAKE2 document alone. No program of its own.
+"""The expected values of all tests: trees by Python's hashlib, and BLAKE2 on plain words. No program.
 
-tools/expected_values.py and tests compute expected values by it. `check` holds it to Python's hashlib. Section
-numbers are those of RFC 7693.
+A test that only needs a digest calls hashlib. The functions here are for what hashlib does not have
+in one call (roots, ranges of leaves) or not at all (steps, a parameter block of any bytes). BLAKE2
+on plain words is written from RFC 7693 and the BLAKE2 document, and `check` compares it with
+hashlib. Section numbers are those of RFC 7693.
+
+tools/from_specification.py uses none of this on purpose: it is written from docs/SPECIFICATION.md
+only, and shows that the page by itself determines every output.
 """
+import hashlib
 import struct
 import sys
 from dataclasses import dataclass
@@ -157,6 +163,32 @@ def random_tree(source, family):
                 source.randint(0, FAMILIES[family].key))
 
 
+def tree_node(data, leaf_size, digest_size=64, salt=b"", person=b"", **place):
+    """The digest of a node of the tree of two levels (the BLAKE2 document, 2.10) at this place."""
+    return hashlib.blake2b(data, digest_size=digest_size, salt=salt, person=person, fanout=0,
+                           depth=2, leaf_size=leaf_size, inner_size=64, **place).digest()
+
+
+def range_digests(data, leaf_size, first=0, ends=True, **texts):
+    """The joined digests of the leaves in these bytes, at least one: leaf `first` and those after it.
+    The last one ends the message, or not. The texts are salt and person."""
+    leaves = [data[start:start + leaf_size] for start in range(0, len(data), leaf_size)] or [b""]
+    last = len(leaves) - 1 if ends else None
+    return b"".join(tree_node(leaf, leaf_size, node_offset=first + i, last_node=i == last, **texts)
+                    for i, leaf in enumerate(leaves))
+
+
+def root_of_leaves(digests, leaf_size, digest_size=64, **texts):
+    """The root over the joined digests of all leaves."""
+    return tree_node(digests, leaf_size, digest_size, node_depth=1, last_node=True, **texts)
+
+
+def tree_root(message, leaf_size, digest_size=64, **texts):
+    """The root of the message."""
+    digests = range_digests(message, leaf_size, **texts)
+    return root_of_leaves(digests, leaf_size, digest_size, **texts)
+
+
 def check(source):
     """Ends the program where a digest differs from hashlib's, over random inputs and places in trees at every
     size of digest."""
@@ -171,4 +203,4 @@ def check(source):
                                           **hashlib_tree(place, is_last))
                 if digest(family, size, message, key, salt, persona, place, is_last) == wanted.digest():
                     continue
-                sys.exit(f"blake2_scalar: another digest than hashlib's, BLAKE2{family} of {size} bytes")
+                sys.exit(f"oracle: another digest than hashlib's, BLAKE2{family} of {size} bytes")
