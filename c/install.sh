@@ -66,9 +66,8 @@ version=$(sed -n 's/^#define VULFSJOR_VERSION "\(.*\)"$/\1/p' "$here/include/bla
 files=("$libdir/libblake2_c.a" "$libdir/libblake2_c.so.$version" "$libdir/libblake2_c.so.0"
     "$libdir/libblake2_c.so" "$libdir/libblake2_c-libb2.a" "$libdir/pkgconfig/blake2_c.pc"
     "$libdir/pkgconfig/blake2_c-static.pc" "$beside/libb2.a" "$beside/pkgconfig/libb2.pc"
-    "$libdir/libblake2_c-threads.a" "$libdir/pkgconfig/blake2_c-threads.pc" \
-        "$include/blake2_threads.h"
-    "$include/blake2_c.h" "$include/blake2_c-libb2/blake2.h")
+    "$libdir/libblake2_c-threads.a" "$libdir/pkgconfig/blake2_c-threads.pc"
+    "$include/blake2_threads.h" "$include/blake2_c.h" "$include/blake2_c-libb2/blake2.h")
 folders=("$beside/pkgconfig" "$beside" "$include/blake2_c-libb2")
 if [ "$uninstall" = yes ]; then
     for name in "${files[@]}"; do rm -f -- "$root$name"; done

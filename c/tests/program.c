@@ -119,12 +119,15 @@ static void check_memory(void) {
     CHECK(last_freed == more.place);
 }
 
-#ifdef PROCESSOR
-/* The leaves of a processor that is made up. */
+#ifdef HAS_LEAVES
 struct leaf {
     unsigned told[4], active[4];
 };
 const struct leaf *__x86_get_cpuid_feature_leaf(unsigned number);
+#endif
+
+#ifdef PROCESSOR
+/* The leaves of a processor that is made up. */
 void make_up(unsigned first, unsigned seventh, unsigned extended, unsigned saved);
 
 static bool is_leaf(unsigned number, unsigned at, unsigned told, unsigned active) {
@@ -133,8 +136,8 @@ static bool is_leaf(unsigned number, unsigned at, unsigned told, unsigned active
 }
 
 static void check_leaves(void) {
-    const unsigned all = ~0u, first = 1u << 12 | 1u << 28 | 1u << 29, avx2 = 1u << 5,
-                   no_xsave = ~(1u << 27);
+    const unsigned all = ~0u, first = 1u << 12 | 1u << 28 | 1u << 29, avx2 = 1u << 5;
+    const unsigned no_xsave = ~(1u << 27), other = 0xdeadbeef; /* as processor.h has it */
 
     for (unsigned saved = 0; saved < 16; saved++) {
         const bool saves = saved == 6 || saved == 7 || saved >= 14;
@@ -142,12 +145,22 @@ static void check_leaves(void) {
         CHECK(is_leaf(0, 2, all, saves ? all : ~first));
         CHECK(is_leaf(1, 1, all, saves ? all : ~avx2));
         CHECK(is_leaf(2, 2, 0x21, 0x21));
+        CHECK(is_leaf(0, 1, other, other) && is_leaf(1, 2, other, other));
+        CHECK(is_leaf(2, 1, other, other));
         make_up(no_xsave, all, 0x21, saved);
         CHECK(is_leaf(0, 2, no_xsave, no_xsave & ~first));
         CHECK(is_leaf(1, 1, all, ~avx2));
     }
     make_up(all, all, all, 6);
     for (unsigned at = 0; at < 4; at++) CHECK(is_leaf(3, at, 0, 0) && is_leaf(~0u, at, 0, 0));
+}
+#elif defined(HAS_LEAVES)
+/* Those of this processor, for which the compiler has a test too. */
+static void check_leaves(void) {
+    CHECK(!(__x86_get_cpuid_feature_leaf(0)->active[2] >> 12 & 1) ==
+          !__builtin_cpu_supports("fma"));
+    CHECK(!(__x86_get_cpuid_feature_leaf(1)->active[1] >> 5 & 1) ==
+          !__builtin_cpu_supports("avx2"));
 }
 #else
 static void check_leaves(void) {}

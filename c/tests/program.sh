@@ -17,6 +17,14 @@ leaves_of_program() {
     functions_of_program -DHAS_LEAVES=0 -DPROCESSOR='"made_up.h"' -I"$work" -I"$tests"
 }
 
+# Whether ../b2.c has the function that only new versions of glibc have, exactly if this one has it
+# not.
+leaves_are_there_once() {
+    cc -O2 -DMAIN=checks -c "$here/b2.c" -o "$work/b2.o" &&
+        { nm -D "$(cc -print-file-name=libc.so.6)" && nm "$work/b2.o"; } >"$work/names" &&
+        [ "$(grep -c ' T __x86_get_cpuid_feature_leaf' "$work/names")" -eq 1 ]
+}
+
 # The program, at most ten seconds, over an input whose first read fails.
 program_reads() {
     local text=$dist/x86_64/b2-v2.s
@@ -42,6 +50,10 @@ test_program() {
     else
         skip "the C of the program, with sanitizers" "cc has none"
     fi
-    if is_x86; then check "what it says of a processor" leaves_of_program; fi
+    if is_x86; then
+        check "what it says of processors that are made up" leaves_of_program
+        check "what it says of this processor" functions_of_program -DHAS_LEAVES=0
+        check "who says it" leaves_are_there_once
+    fi
     check "the program after a read that fails" program_reads
 }
