@@ -475,6 +475,9 @@ static void least_bytes(void) {
     }
     take((1 << 18) - 1, 1000, 8);
     each_fails(root_of_file, "read", ENXIO, ENXIO, 1);
+    take(1 << 18, 1000, 8);
+    each_fails(root_of_file, "pread", ENXIO, ENXIO, 1);
+    take((1 << 18) - 1, 1000, 8);
     CHECK(!vulfsjor_tree_root(wanted, 64, message, 1 << 17, 0, 0, 0, 0, leaf));
     resize(1, 1 << 17, 0);
 }

@@ -479,20 +479,31 @@ static void exit_in_handler(int number) {
     _exit(42);
 }
 
-/* A page of a file that has become shorter: the program's handler runs, whichever thread meets
- * it. */
-static void fault_of_mapped_file(void) {
-    int file = open(path, O_RDWR), status = 0;
-    unsigned char *bytes = mmap(NULL, 1 << 20, PROT_READ, MAP_SHARED, file, 0);
-    pid_t child;
-
-    CHECK(bytes != MAP_FAILED && !ftruncate(file, 0));
-    if (!(child = fork())) {
-        signal(SIGBUS, exit_in_handler);
-        _exit(vulfsjor_tree_root_threads(root, 64, bytes, 1 << 20, 0, 0, 0, 0, 65536, 4));
+/* Hashes 1 MiB that cannot be read: the program's handler runs, whichever thread meets it. */
+static void expect_handler(int number, const void *bytes) {
+    for (int i = 0; i < 10; i++) {
+        int status = 0;
+        pid_t child = fork();
+        if (!child) {
+            signal(number, exit_in_handler);
+            _exit(vulfsjor_tree_root_threads(root, 64, bytes, 1 << 20, 0, 0, 0, 0, 65536, 4));
+        }
+        CHECK(waitpid(child, &status, 0) == child);
+        CHECK(WIFEXITED(status) && WEXITSTATUS(status) == 42);
     }
-    CHECK(waitpid(child, &status, 0) == child && WIFEXITED(status) && WEXITSTATUS(status) == 42);
-    munmap(bytes, 1 << 20);
+}
+
+/* Pages of a file that has become shorter, and pages without access. */
+static void faults_of_memory(void) {
+    int file = open(path, O_RDWR);
+    void *mapped = mmap(NULL, 1 << 20, PROT_READ, MAP_SHARED, file, 0);
+    void *hidden = mmap(NULL, 1 << 20, PROT_NONE, MAP_PRIVATE | MAP_ANONYMOUS, -1, 0);
+
+    CHECK(mapped != MAP_FAILED && hidden != MAP_FAILED && !ftruncate(file, 0));
+    expect_handler(SIGBUS, mapped);
+    expect_handler(SIGSEGV, hidden);
+    munmap(mapped, 1 << 20);
+    munmap(hidden, 1 << 20);
     close(file);
 }
 
@@ -542,7 +553,7 @@ int main(int count, char **words) {
     refused_files();
     signals_while_hashing();
     cancellation();
-    fault_of_mapped_file();
+    faults_of_memory();
     CHECK(entries("/proc/self/fd") == files && has_threads(threads));
     unlink(path);
     free(message);
