@@ -1,4 +1,4 @@
-//! The words of `b2 witness`.
+//! The arguments of `b2 witness`.
 
 ghost use Rattle.std.specs.Prelude.{◌≡◌, ◌≢◌, ◌<◌, ◌≤◌, length, map, IfOk, IfErr};
 ghost use Rattle.std.specs.String.{string_bytes};
@@ -18,7 +18,8 @@ pub(crate) enum Family {
     Blake2s,
 }
 
-/// The digests by which messages are compared: those of this family with this many bytes.
+/// The digests by which messages are compared: those of `family` with `bytes` bytes, from 0 to
+/// the family's maximum.
 #[derive(Clone, Copy)]
 pub(crate) struct Compared {
     pub(crate) family: Family,
@@ -30,8 +31,9 @@ impl Compared {
     ghost use Rattle.b2_commands.specs.Parsed.{compared_value};
     ghost use Rattle.b2_commands.specs.Words.{compared_kind_of};
 
-    // The digests that KIND names: `b0`, `b8`, `s0` and `s8`, with no bytes or 1, and those of the
-    // other commands.
+    // Returns the digests that KIND names: `b0` and `s0` of no bytes, `b8` and `s8` of one byte,
+    // and those of the other commands. The error is `Fault::WrongWords`, if KIND is not one of
+    // these.
     fn from_word(word: &str) -> Result<Compared, Fault>
         ensures kind { IfOk result (λ compared.
             compared_kind_of word.now ≡ Ok (compared_value compared)) }
@@ -55,7 +57,7 @@ impl Compared {
     }
 }
 
-/// Two messages, without key, salt or persona, and the digests by which they are compared.
+/// Two messages, without key, salt and persona, and the digests by which they are compared.
 #[derive(Drop)]
 pub(crate) struct Comparison {
     pub(crate) by: Compared,
@@ -67,7 +69,10 @@ impl Comparison {
     ghost use Rattle.b2_commands.specs.Parsed.{comparison_task};
     ghost use Rattle.b2_commands.specs.Words.{witness_task, IsReadingFault};
 
-    /// Reads the words KIND HEX HEX from left to right.
+    /// Reads the arguments KIND HEX HEX from left to right, and returns the comparison. The error
+    /// is a `Fault`, that of the first bad argument: `WrongWords` if it is missing, is not
+    /// expected or is not a KIND; `WrongHex` if it is not a message; `NoMemory` if an allocation
+    /// for the message's bytes fails.
     pub(crate) fn from_words(alloc: Global, words: &[String]) -> Result<Comparison, Fault>
         ensures task { IfOk result (λ comparison.
             witness_task (map string_bytes words.now) ≡ Ok (comparison_task comparison)) }

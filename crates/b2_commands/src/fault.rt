@@ -1,4 +1,4 @@
-//! Why the program ends without its output.
+//! The errors that end the program without its whole output.
 
 ghost use Rattle.std.specs.Prelude.{◌≡◌, ◌≢◌, ◌<◌, ◌↔◌, [], ◌∷◌, ◌++◌, length, false, IsTrue};
 ghost use Rattle.std.specs.Io.KnownBytes.{Appends};
@@ -11,35 +11,40 @@ use blake2::digest::InvalidLength;
 use blake2::engine::{Sink, StreamFault};
 use std::alloc::AllocError;
 
-/// A fault of the words, the devices or the memory. Each prints one line, but for the last.
+/// An error of the arguments, the input, the devices or the memory. Each except `WriteFailed`
+/// prints one line.
 #[derive(Clone, Copy, Debug, PartialEq, Eq)]
 pub enum Fault {
-    /// No command, an unknown one, or words that it does not take.
+    /// There is no command, it is unknown, or an argument is missing or is not one that it
+    /// accepts.
     WrongWords,
-    /// Text that is not an even number of hexadecimal digits.
+    /// The HEX of an argument is not an even number of hexadecimal digits, or the argument of a
+    /// message is empty.
     WrongHex,
-    /// A key, salt or persona of a length that the MAC or the tree refuses.
+    /// A key, salt or persona has a length that the hash function or the tree does not accept.
     WrongLength,
-    /// The script's line of this number, counted from 1, is malformed.
+    /// The line of this number in the script, counted from 1, is malformed.
     WrongLine(usize),
-    /// The call of this line names a slot that is absent or has ended.
+    /// The call in the line of this number names a slot that is absent or has ended.
     NoSuchSlot(usize),
-    /// The update of this line would bring its slot's count to 2^64 bytes.
+    /// The update in the line of this number would bring its slot's count to 2^64 bytes or more.
     LineTooLong(usize),
-    /// Input that would bring the count to 2^64 bytes, or for `tree` input of 2^58 bytes or more.
+    /// The input, with the key's block if there is a key, has 2^64 bytes or more; for `tree`, the
+    /// input has 2^58 bytes or more.
     TooLong,
-    /// Standard input answered an error.
+    /// A read of the source returned an error.
     ReadFailed,
-    /// A request for memory was refused.
+    /// An allocation failed.
     NoMemory,
-    /// Standard output answered an error or took no byte.
+    /// A write to the sink returned an error or accepted no byte.
     WriteFailed,
 }
 
 impl Fault {
     ghost use Rattle.b2_commands.specs.Faults.{status_of, line_number, fault_text, fault_line};
 
-    // The line that the fault prints, without its newline.
+    // Returns the line that the error prints, without its newline: there is room for that. The
+    // error must not be `WriteFailed`, which prints no line.
     fn line(self) -> Line
         requires { self ≢ WriteFailed }
         ensures text { result ++ 10 ∷ [] ≡ fault_line self }
@@ -55,7 +60,8 @@ impl Fault {
         line
     }
 
-    // The line of the script that the fault names.
+    // Returns the number of the script's line that the error names, from 1, or `None` if it names
+    // no line.
     fn script_line(self) -> Option<usize>
         ensures { result ≡ line_number self }
     {
@@ -67,7 +73,7 @@ impl Fault {
         }
     }
 
-    // What the fault says.
+    // Returns what the error's line says of its cause, or nothing for `WriteFailed`.
     fn cause(self) -> &'static str
         ensures { result.now ≡ fault_text self }
     {
@@ -84,7 +90,8 @@ impl Fault {
         }
     }
 
-    // The status that the fault ends with.
+    // Returns the status of the error: 2 for the arguments and the input, 1 for the devices and
+    // the memory.
     fn status(self) -> u8
         ensures { result ≡ status_of self }
     {
@@ -100,7 +107,9 @@ impl Fault {
         }
     }
 
-    /// Prints the fault's line, and answers its status; 1 where the output fails.
+    /// Prints the error's line, and returns its status, or 1 if a write fails. For `WriteFailed`
+    /// it prints nothing and returns 1. The error must be `WriteFailed` if the sink has failed
+    /// before, and only then.
     pub fn report<K: Sink>(self, sink: &mut K) -> u8
         requires { (self ≡ WriteFailed) ↔ IsTrue (K.failed sink.old) }
         ensures printed { K.failed sink.new ≡ false →

@@ -1,4 +1,4 @@
-//! `b2 sum`, `b2 script` and `b2 steps` with the hash function that is asked for.
+//! `b2 sum`, `b2 script` and `b2 steps` with the hash function that the arguments name.
 
 ghost use Rattle.std.specs.Prelude.{◌≡◌, ◌≤◌, ◌↔◌, false, IsTrue, IfOk, IsErr, IsOkUnless};
 ghost use Rattle.blake2.specs.States.{Fresh};
@@ -22,7 +22,10 @@ use blake2::engine::{Sink, Source};
 use blake2::{Blake2b, Blake2bMac, Blake2s, Blake2sMac, Digest};
 use std::alloc::Global;
 
-/// Prints what is asked for of what the source gives.
+/// Prints the output for all that the source returns, with the hash function of this kind under
+/// the options. Neither device may have failed before. The error is a `Fault`: `WrongLength` if
+/// the hash function does not accept a length of the options, and the errors of `sum`, `script`
+/// or `steps_blake2b`. If it is not `WriteFailed`, nothing was printed.
 pub(crate) fn hash<S: Source, K: Sink>(
     alloc: Global,
     output: Output,
@@ -79,7 +82,8 @@ fn hash_blake2b<S: Source, K: Sink, const N: usize>(
     }
 }
 
-// The MAC under the options.
+// Returns a MAC with the options' key, salt and persona, which has absorbed nothing. The error is
+// `Fault::WrongLength`, if BLAKE2b does not accept the length of one of them.
 fn mac_blake2b<const N: usize>(options: &Options) -> Result<Blake2bMac<N>, Fault>
     requires size { N ≤ 64 }
     ensures length { IsErr result ↔ IsRefusedBy blake2b (given_of options.now) }
@@ -119,7 +123,8 @@ fn hash_blake2s<S: Source, K: Sink, const N: usize>(
     }
 }
 
-// The MAC under the options.
+// Returns a MAC with the options' key, salt and persona, which has absorbed nothing. The error is
+// `Fault::WrongLength`, if BLAKE2s does not accept the length of one of them.
 fn mac_blake2s<const N: usize>(options: &Options) -> Result<Blake2sMac<N>, Fault>
     requires size { N ≤ 32 }
     ensures length { IsErr result ↔ IsRefusedBy blake2s (given_of options.now) }

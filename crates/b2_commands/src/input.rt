@@ -1,4 +1,4 @@
-//! Input, read until a buffer is full or nothing is left.
+//! Reads of the source: until a buffer is full, or to the source's end.
 
 ghost use Rattle.std.specs.Prelude.{◌≡◌, ◌↔◌, ◌⊎◌, ◌<◌, ◌≤◌, length, take, false, IsTrue, IfOk};
 ghost use Rattle.std.specs.Prelude.{IfErr, IfSome, IsOkUnless};
@@ -10,10 +10,12 @@ use crate::fault::Fault;
 use blake2::engine::Source;
 use std::alloc::Global;
 
-// The length in bytes of the buffer between the source and the memory.
+// The length of the buffer between the source and the memory, in bytes.
 const PIECE_BYTES: usize = 4096;
 
-/// All that the source gives, in memory.
+/// Reads the source to its end, and returns all its bytes. The source must not have failed
+/// before. The error is a `Fault`: `ReadFailed` if a read returns an error, `NoMemory` if an
+/// allocation fails.
 pub(crate) fn read_all<S: Source>(alloc: Global, source: &mut S) -> Result<Vec<u8>, Fault>
     requires { S.failed source.old ≡ false }
     ensures read { IsErrOf result Fault.ReadFailed ↔ IsTrue (S.failed source.new) }
@@ -31,8 +33,9 @@ pub(crate) fn read_all<S: Source>(alloc: Global, source: &mut S) -> Result<Vec<u
     }
 }
 
-/// Fills the buffer from its front with what the source gives next. Returns how many bytes these
-/// are: fewer than the buffer's length only if the source is at its end.
+/// Fills the buffer from its front with the next bytes of the source, and returns how many they
+/// are: fewer than the buffer's length only if the source is at its end. The source must not have
+/// failed before. The error is `Fault::ReadFailed`, if a read returns an error.
 pub(crate) fn fill<S: Source>(source: &mut S, buffer: &mut [u8]) -> Result<usize, Fault>
     requires { S.failed source.old ≡ false }
     ensures read { IsErrOf result Fault.ReadFailed ↔ IsTrue (S.failed source.new) }

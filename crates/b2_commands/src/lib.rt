@@ -1,5 +1,6 @@
-//! The commands of `b2`: digests, scripts and transcripts of BLAKE2b and BLAKE2s over a source of
-//! bytes, and what they print to a sink. The program gives them standard input and output.
+//! The commands of `b2`: digests, scripts, transcripts and witnesses of BLAKE2b and BLAKE2s, and
+//! roots of trees. They read a source of bytes and print to a sink. The program passes standard
+//! input and standard output to them.
 
 #![tactic(auto)]
 

@@ -13,23 +13,25 @@ use crate::words::message_of;
 use blake2::calls::Call;
 use std::alloc::{AllocError, Global};
 
-/// A call of a script, with the bytes of an update in memory of its own. Slots are counted from 0.
+/// A call of a script, which owns the bytes of an update. Slots are numbered from 0.
 #[derive(Drop)]
 pub(crate) enum ScriptCall {
-    /// `u SLOT HEX`: the slot's state takes these bytes.
+    /// `u SLOT HEX`: the slot's state absorbs these bytes.
     Update(usize, Vec<u8>),
     /// `c SLOT`: a copy of the slot's state becomes the next slot.
     Clone(usize),
-    /// `r SLOT`: the slot's state goes back to what it was when it was made.
+    /// `r SLOT`: the slot's state goes back to its start, and has then absorbed no message.
     Reset(usize),
-    /// `f SLOT`: the slot's state answers its digest, and the slot ends.
+    /// `f SLOT`: the slot's state returns its digest, and the slot ends.
     Finalize(usize),
-    /// `d SLOT`: the slot's state answers its digest, and is reset.
+    /// `d SLOT`: the slot's state returns its digest, and is reset.
     FinalizeReset(usize),
 }
 
 impl ScriptCall {
-    // Reads the line of this number, whose fields are parted by one space each.
+    // Returns the call in the line of this number, whose fields have one space between them. The
+    // error is a `Fault`: `WrongLine` with this number if the line is not a call, `NoMemory` if
+    // an allocation for the bytes of HEX fails.
     fn from_line(alloc: Global, number: usize, line: &[u8]) -> Result<ScriptCall, Fault>
         ensures call { IfOk result (λ call. call_at number line.now ≡ Ok (call_value call)) }
         ensures fault { IfErr result (λ fault. IsLineFault fault (call_at number line.now)) }
@@ -53,7 +55,7 @@ impl ScriptCall {
         }
     }
 
-    // The call, over the bytes that are held here.
+    // Returns the call, which borrows the bytes of an update.
     fn as_call(&self) -> Call<'_>
         ensures { unplaced result ≡ call_value self.now }
     {
@@ -67,7 +69,9 @@ impl ScriptCall {
     }
 }
 
-// Reads the fields SLOT and HEX of an update, which stands in the line of this number.
+// Returns the update with the fields SLOT and HEX, which are in the line of this number. The
+// error is a `Fault`: `WrongLine` with this number if the fields are wrong, `NoMemory` if an
+// allocation for the bytes of HEX fails.
 fn update_of(alloc: Global, number: usize, fields: &[u8]) -> Result<ScriptCall, Fault>
     ensures call { IfOk result
         (λ call. ok_or (update_fields fields.now) (WrongLine number) ≡ Ok (call_value call)) }
@@ -88,7 +92,9 @@ fn update_of(alloc: Global, number: usize, fields: &[u8]) -> Result<ScriptCall, 
     }
 }
 
-/// Reads all lines of a script, which newlines end; the last line may lack its own.
+/// Returns the calls of all lines of a script, in their order. Each line ends with a newline,
+/// which the last line may lack. The error is a `Fault`: `WrongLine` with the number of the first
+/// wrong line, counted from 1, or `NoMemory` if an allocation fails.
 pub(crate) fn read_script(alloc: Global, text: &[u8]) -> Result<Vec<ScriptCall>, Fault>
     ensures calls { IfOk result
         (λ script. script_calls text.now ≡ Ok (map call_value script.items)) }
@@ -105,7 +111,8 @@ pub(crate) fn read_script(alloc: Global, text: &[u8]) -> Result<Vec<ScriptCall>,
     Ok(script)
 }
 
-/// The calls of a script, over the bytes that it holds.
+/// Returns the calls of a script in their order. They borrow its bytes. The error is
+/// `AllocError`, if an allocation fails.
 pub(crate) fn calls_of(alloc: Global, script: &[ScriptCall]) -> Result<Vec<Call<'_>>, AllocError>
     ensures { IfOk result (λ calls. map unplaced calls.items ≡ map call_value script.now) }
 {
@@ -116,7 +123,8 @@ pub(crate) fn calls_of(alloc: Global, script: &[ScriptCall]) -> Result<Vec<Call<
     Ok(calls)
 }
 
-// The first line of a text that is not empty, without its newline, and what follows it.
+// Returns the first line of `text`, without its newline, and what comes after that. `text` must
+// not be empty.
 fn split_line(text: &[u8]) -> (&[u8], &[u8])
     requires { 0 < length text.now }
     ensures lines { lines_of text.now ≡ result.0.now ∷ lines_of result.1.now }
@@ -125,7 +133,8 @@ fn split_line(text: &[u8]) -> (&[u8], &[u8])
     split_once(text, b'\n').unwrap_or((text, &[]))
 }
 
-// What stands before the first such byte, and what stands after it.
+// Returns what is before the first such byte, and what is after it, or `None` if there is no such
+// byte.
 fn split_once(text: &[u8], byte: u8) -> Option<(&[u8], &[u8])>
     ensures { option_map (λ parts. (parts.0.now, parts.1.now)) result ≡ cut_at byte text.now }
 {
@@ -133,7 +142,8 @@ fn split_once(text: &[u8], byte: u8) -> Option<(&[u8], &[u8])>
     Some((&text[..place], &text[place + 1..]))
 }
 
-// The slot that a field names: 1 to 9 decimal digits without a leading zero.
+// Returns the slot that a field names, in 1 to 9 decimal digits without a leading zero, or `None`
+// if the field is anything else.
 fn slot_of(digits: &[u8]) -> Option<usize>
     ensures { result ≡ slot_value digits.now }
 {

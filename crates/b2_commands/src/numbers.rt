@@ -1,4 +1,4 @@
-//! Decimal numbers, in the words of a command line and in the lines of a script.
+//! Decimal numbers, in the arguments of a command and in the lines of a script.
 
 ghost use Rattle.std.specs.Prelude.{◌≡◌, ◌≤◌, length, if◌then◌else◌};
 ghost use Rattle.std.specs.Char.{is_ascii_digit};
@@ -6,7 +6,8 @@ ghost use Rattle.std.specs.List.{list_all};
 ghost use Rattle.std.specs.Str.Parse.{digits_value};
 ghost use Rattle.b2_commands.specs.Numbers.{number_value};
 
-/// The number that at most so many decimal digits write, without a leading zero.
+/// Returns the number that 1 to `most` decimal digits write, without a leading zero except in `0`
+/// itself, or `None` if `digits` is anything else. `most` is at most 10.
 pub(crate) fn number_of(digits: &[u8], most: usize) -> Option<usize>
     requires { most ≤ 10 }
     ensures { result ≡ number_value most digits.now }
@@ -17,7 +18,7 @@ pub(crate) fn number_of(digits: &[u8], most: usize) -> Option<usize>
     value_of(digits)
 }
 
-// The value of decimal digits.
+// Returns the value of at most 10 decimal digits, or `None` if a byte is not a digit.
 fn value_of(digits: &[u8]) -> Option<usize>
     requires { length digits.now ≤ 10 }
     ensures { result ≡

@@ -13,23 +13,23 @@ use crate::fault::Fault;
 use blake2::engine::{Sink, write_whole};
 use std::marker::Model;
 
-// The bytes of eight words as fields, of 16 digits each in BLAKE2b and of 8 in BLAKE2s. Before each
-// field stands a space.
+// The length in bytes of eight words as fields, with 16 digits each in BLAKE2b and 8 in BLAKE2s.
+// Each field has a space before it.
 const WORDS_OF_64_BYTES: usize = 8 * (1 + 16);
 
 const WORDS_OF_32_BYTES: usize = 8 * (1 + 8);
 
-// The bytes of the longest number as a field, of 20 digits.
+// The length in bytes of the longest number as a field, with 20 digits.
 const NUMBER_BYTES: usize = 1 + 20;
 
-// The bytes of a flag as a field.
+// The length in bytes of a flag as a field.
 const FLAG_BYTES: usize = 1 + 1;
 
-// The bytes of a block of BLAKE2b as a field.
+// The length in bytes of a block of BLAKE2b as a field.
 const BLOCK_BYTES: usize = 1 + 2 * 128;
 
-/// The bytes of the longest line, that of a step of BLAKE2b: a letter, eight words, a counter, a
-/// flag, a block and a newline.
+/// The length in bytes of the longest line, that of a step of BLAKE2b: a letter, eight words, a
+/// counter, a flag, a block and a newline.
 pub(crate) const LINE_BYTES: usize = 1
     + WORDS_OF_64_BYTES
     + NUMBER_BYTES
@@ -37,7 +37,8 @@ pub(crate) const LINE_BYTES: usize = 1
     + BLOCK_BYTES
     + 1;
 
-/// A line that is put together field by field, with a space before each, in memory of its own.
+/// A line that is built field by field, with a space before each. It has at most `LINE_BYTES`
+/// bytes, and allocates nothing.
 #[derive(Drop)]
 pub(crate) struct Line {
     bytes: [u8; LINE_BYTES],
@@ -56,7 +57,7 @@ impl Model for Line {
 }
 
 impl Line {
-    /// A line of no bytes yet.
+    /// Returns a line of no bytes.
     pub(crate) fn new() -> Line
         ensures { result ≡ [] }
     {
@@ -66,7 +67,7 @@ impl Line {
         }
     }
 
-    /// A line that begins with this text.
+    /// Returns a line of these bytes, at most `LINE_BYTES`.
     pub(crate) fn starting(text: &[u8]) -> Line
         requires { length text.now ≤ LINE_BYTES }
         ensures { result ≡ text.now }
@@ -76,7 +77,7 @@ impl Line {
         line
     }
 
-    /// Puts text behind the line.
+    /// Appends these bytes. The line must have room for them.
     pub(crate) fn push(&mut self, text: &[u8])
         requires { length self.old + length text.now ≤ LINE_BYTES }
         ensures { self.new ≡ self.old ++ text.now }
@@ -87,7 +88,7 @@ impl Line {
         self.length = end;
     }
 
-    /// Puts bytes behind the line, two lower-case hexadecimal digits each.
+    /// Appends two lower-case hexadecimal digits for each byte. The line must have room for them.
     pub(crate) fn push_hex(&mut self, bytes: &[u8])
         requires { length self.old + 2 * length bytes.now ≤ LINE_BYTES }
         ensures { self.new ≡ self.old ++ encode_lower bytes.now }
@@ -98,7 +99,8 @@ impl Line {
         self.length = end;
     }
 
-    /// Puts bytes behind the line as a field, two lower-case hexadecimal digits each.
+    /// Appends a field: a space, and two lower-case hexadecimal digits for each byte. The line
+    /// must have room for it.
     pub(crate) fn add_bytes(&mut self, bytes: &[u8])
         requires { length self.old + 2 * length bytes.now < LINE_BYTES }
         ensures added { self.new ≡ self.old ++ bytes_field bytes.now }
@@ -108,7 +110,8 @@ impl Line {
         self.push_hex(bytes);
     }
 
-    /// Puts words behind the line as fields of 16 digits each.
+    /// Appends the words as fields: a space and 16 lower-case hexadecimal digits each. The line
+    /// must have room for `WORDS_OF_64_BYTES` bytes.
     pub(crate) fn add_words_of_64(&mut self, words: &[u64; 8])
         requires { length self.old + WORDS_OF_64_BYTES ≤ LINE_BYTES }
         ensures added { self.new ≡ self.old ++ word_fields blake2b words.now }
@@ -119,7 +122,8 @@ impl Line {
         }
     }
 
-    /// Puts words behind the line as fields of 8 digits each.
+    /// Appends the words as fields: a space and 8 lower-case hexadecimal digits each. The line
+    /// must have room for `WORDS_OF_32_BYTES` bytes.
     pub(crate) fn add_words_of_32(&mut self, words: &[u32; 8])
         requires { length self.old + WORDS_OF_32_BYTES ≤ LINE_BYTES }
         ensures added { self.new ≡ self.old ++ word_fields blake2s words.now }
@@ -130,7 +134,7 @@ impl Line {
         }
     }
 
-    /// Puts a number behind the line, in decimal.
+    /// Appends a number in decimal, without leading zeros. The line must have room for it.
     pub(crate) fn push_decimal(&mut self, n: u64)
         requires { length self.old + length (decimal n) ≤ LINE_BYTES }
         ensures { self.new ≡ self.old ++ decimal n }
@@ -141,7 +145,8 @@ impl Line {
         self.push(&[b'0' + (n % 10) as u8]);
     }
 
-    /// Puts a number behind the line as a field, in decimal.
+    /// Appends a field: a space, and a number in decimal, without leading zeros. The line must
+    /// have room for `NUMBER_BYTES` bytes, even if the number is shorter.
     pub(crate) fn add_number(&mut self, n: u64)
         requires { length self.old + NUMBER_BYTES ≤ LINE_BYTES }
         ensures added { self.new ≡ self.old ++ number_field n }
@@ -151,7 +156,7 @@ impl Line {
         self.push_decimal(n);
     }
 
-    /// Puts a flag behind the line as a field: `1` or `0`.
+    /// Appends a field: a space, and `1` or `0`. The line must have room for it.
     pub(crate) fn add_flag(&mut self, flag: bool)
         requires { length self.old + FLAG_BYTES ≤ LINE_BYTES }
         ensures added { self.new ≡ self.old ++ flag_field flag }
@@ -160,7 +165,9 @@ impl Line {
         self.push(if flag { b" 1" } else { b" 0" });
     }
 
-    /// Ends the line, and writes it.
+    /// Appends a newline, and writes the line. The line must have room for the newline, and the
+    /// sink must not have failed before. The error is `Fault::WriteFailed`, if a write returns an
+    /// error or accepts no byte.
     pub(crate) fn print<K: Sink>(mut self, sink: &mut K) -> Result<(), Fault>
         requires room { length self < LINE_BYTES }
         requires sink { K.failed sink.old ≡ false }
@@ -174,7 +181,9 @@ impl Line {
     }
 }
 
-/// Prints a digest as a line.
+/// Prints a digest of at most 64 bytes as a line, two lower-case hexadecimal digits for each
+/// byte. The sink must not have failed before. The error is `Fault::WriteFailed`, if a write
+/// fails.
 pub(crate) fn print_digest<K: Sink, const N: usize>(
     digest: &[u8; N],
     sink: &mut K,

@@ -1,4 +1,4 @@
-//! `b2 script`: the digests that the input's calls answer.
+//! `b2 script`: the digests that the input's calls return.
 
 ghost use Rattle.std.specs.Prelude.{◌≡◌, ◌≢◌, ◌≤◌, ◌↔◌, ℕ, Bool, List, false, IsTrue, OnOk};
 ghost use Rattle.std.specs.Prelude.{IsOkUnless};
@@ -20,9 +20,14 @@ use blake2::digest::{Duplicate, FixedOutput, FixedOutputReset, Reset, Update};
 use blake2::engine::{Sink, Source};
 use std::alloc::Global;
 
-/// Prints the digests that the calls of the source's lines answer, a line each, where the state in
-/// slot 0 begins as this one. The script and its digests are held in memory, and all lines are read
-/// before the first call.
+/// Prints the digests that the calls in the source's lines return, a line each. The state in slot
+/// 0 is `first`, which has absorbed nothing. All lines are read before the first call, and the
+/// script and its digests are held in memory. Neither device may have failed before.
+///
+/// The error is a `Fault`: `ReadFailed` if a read returns an error; `WrongLine` if a line is not
+/// a call; `NoSuchSlot` if a call names a slot that is absent or has ended; `LineTooLong` if an
+/// update would bring its slot's count to 2^64 bytes or more; `NoMemory` if an allocation fails;
+/// `WriteFailed` if a write fails. If it is not `WriteFailed`, nothing was printed.
 pub(crate) fn script<H, S, K, const N: usize>(
     alloc: Global,
     first: H,
@@ -52,7 +57,8 @@ where
     }
 }
 
-// The fault of the program where a list of calls has one. The call at place i stands in line i + 1.
+// Returns the program's error for an error of a list of calls. Call i, from 0, is in line i + 1,
+// which must fit a usize.
 fn fault_of(fault: ReplayFault) -> Fault
     requires { IsPlaced fault }
     ensures { result ≡ fault_of_calls fault }
@@ -64,7 +70,8 @@ fn fault_of(fault: ReplayFault) -> Fault
     }
 }
 
-// Prints each digest as a line.
+// Prints each digest, of at most 64 bytes, as a line. The sink must not have failed before. The
+// error is `Fault::WriteFailed`, if a write fails.
 fn print_lines<K: Sink, const N: usize>(digests: &[[u8; N]], sink: &mut K) -> Result<(), Fault>
     requires size { N ≤ 64 }
     requires sink { K.failed sink.old ≡ false }

@@ -23,9 +23,15 @@ use blake2::steps::{Entry, Input, Transcript, Tree};
 use blake2::{Blake2bVarCore, Blake2sVarCore};
 use std::alloc::Global;
 
-/// Prints the transcript of what the source gives under BLAKE2b: its parameter words, and then a
-/// line for each entry. The whole input is held in memory, and its transcript, of about as many
-/// bytes, beside it.
+/// Prints the transcript of all that the source returns under BLAKE2b, with digests of
+/// `output_size` bytes, at most 64: a line of its parameter words, and then a line for each
+/// entry. The whole input is held in memory, and next to it the transcript, which has about the
+/// same number of bytes. Neither device may have failed before.
+///
+/// The error is a `Fault`: `WrongLength` if BLAKE2b does not accept the length of a key, salt or
+/// persona; `ReadFailed` if a read returns an error; `TooLong` if the input, with the key's block
+/// if there is a key, has 2^64 bytes or more; `NoMemory` if an allocation fails; `WriteFailed` if
+/// a write fails. If it is not `WriteFailed`, nothing was printed.
 pub(crate) fn steps_blake2b<S: Source, K: Sink>(
     alloc: Global,
     options: &Options,
@@ -56,7 +62,8 @@ pub(crate) fn steps_blake2b<S: Source, K: Sink>(
     print_blake2b(&transcript, sink)
 }
 
-// Prints the lines of a transcript.
+// Prints the lines of a transcript: its parameter words, and then its entries. The sink must not
+// have failed before. The error is `Fault::WriteFailed`, if a write fails.
 fn print_blake2b<K: Sink>(transcript: &Transcript<u64, 128>, sink: &mut K) -> Result<(), Fault>
     requires { K.failed sink.old ≡ false }
     ensures write { IsErrOf result Fault.WriteFailed ↔ IsTrue (K.failed sink.new) }
@@ -71,7 +78,7 @@ fn print_blake2b<K: Sink>(transcript: &Transcript<u64, 128>, sink: &mut K) -> Re
     print_entries(transcript.entries.as_slice(), sink)
 }
 
-/// The same of BLAKE2s.
+/// Does what `steps_blake2b` does, under BLAKE2s, with digests of at most 32 bytes.
 pub(crate) fn steps_blake2s<S: Source, K: Sink>(
     alloc: Global,
     options: &Options,
@@ -102,7 +109,8 @@ pub(crate) fn steps_blake2s<S: Source, K: Sink>(
     print_blake2s(&transcript, sink)
 }
 
-// Prints the lines of a transcript.
+// Prints the lines of a transcript: its parameter words, and then its entries. The sink must not
+// have failed before. The error is `Fault::WriteFailed`, if a write fails.
 fn print_blake2s<K: Sink>(transcript: &Transcript<u32, 64>, sink: &mut K) -> Result<(), Fault>
     requires { K.failed sink.old ≡ false }
     ensures write { IsErrOf result Fault.WriteFailed ↔ IsTrue (K.failed sink.new) }
@@ -117,7 +125,7 @@ fn print_blake2s<K: Sink>(transcript: &Transcript<u32, 64>, sink: &mut K) -> Res
     print_entries(transcript.entries.as_slice(), sink)
 }
 
-// The input of this message, with the options' key, salt and persona.
+// Returns the input of this message, with the options' key, salt and persona.
 fn input_under<'a>(options: &'a Options, message: &'a [u8]) -> Input<'a>
     ensures input { input_of result ≡ input_with (given_of options.now) message.now }
     ensures bytes { IsOfBytes (input_of result) }
@@ -136,12 +144,13 @@ fn input_under<'a>(options: &'a Options, message: &'a [u8]) -> Input<'a>
     input
 }
 
-// Does nothing. Proofs read from the type of the slice that each element is a byte.
+// Does nothing. It shows proofs that each element of the slice is a byte, which they read from
+// its type.
 fn tell_bytes(slice: &[u8])
     ensures { AreBytes slice.now }
 {}
 
-// The same of a key, where there is one.
+// Does the same for a key, if there is one.
 fn tell_key_bytes(key: &Option<&[u8]>)
     ensures { IsKeyOfBytes (key_of key.now) }
 {
@@ -150,7 +159,8 @@ fn tell_key_bytes(key: &Option<&[u8]>)
     }
 }
 
-// Prints a line for each entry.
+// Prints a line for each entry, whose block has at most 128 bytes. The sink must not have failed
+// before. The error is `Fault::WriteFailed`, if a write fails.
 fn print_entries<K: Sink, const B: usize>(entries: &[Entry<B>], sink: &mut K) -> Result<(), Fault>
     requires block { B ≤ 128 }
     requires sink { K.failed sink.old ≡ false }
@@ -166,7 +176,8 @@ fn print_entries<K: Sink, const B: usize>(entries: &[Entry<B>], sink: &mut K) ->
     Ok(())
 }
 
-// Prints an entry's line.
+// Prints an entry's line: its counter, its final flag and its block of at most 128 bytes. The
+// sink must not have failed before. The error is `Fault::WriteFailed`, if a write fails.
 fn print_entry<K: Sink, const B: usize>(entry: &Entry<B>, sink: &mut K) -> Result<(), Fault>
     requires block { B ≤ 128 }
     requires sink { K.failed sink.old ≡ false }

@@ -10,8 +10,12 @@ use crate::fault::Fault;
 use blake2::digest::FixedOutput;
 use blake2::engine::{Sink, Source, hash_stream};
 
-/// Prints the digest of what the source gives, as a line, with a hasher that has taken nothing yet.
-/// It takes no memory.
+/// Prints the digest of all that the source returns, at most 64 bytes, as a line. The hasher has
+/// absorbed nothing before. Neither device may have failed before. It allocates nothing.
+///
+/// The error is a `Fault`: `ReadFailed` if a read returns an error; `TooLong` if the input, with
+/// the key's block if there is a key, has 2^64 bytes or more; `WriteFailed` if a write fails. If
+/// it is not `WriteFailed`, nothing was printed.
 pub(crate) fn sum<H, S, K, const N: usize>(
     hasher: H,
     source: &mut S,

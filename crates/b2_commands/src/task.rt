@@ -1,4 +1,4 @@
-//! The task that the words of a command line name.
+//! The task that the arguments of a command line name.
 
 ghost use Rattle.std.specs.Prelude.{◌≡◌, ◌<◌, ◌≤◌, length, map, IfOk, IfErr};
 ghost use Rattle.std.specs.String.{string_bytes};
@@ -10,18 +10,18 @@ use crate::numbers::number_of;
 use crate::words::{Blake2bKind, Kind, Options};
 use std::alloc::Global;
 
-/// What is printed of the input.
+/// What a command prints for the input.
 #[derive(Clone, Copy)]
 pub(crate) enum Output {
     /// `sum`: its digest.
     Digest,
-    /// `script`: the digests that the calls of its lines return.
+    /// `script`: the digests that the calls in its lines return.
     Digests,
     /// `steps`: its transcript.
     Transcript,
 }
 
-/// The root of a tree over the input, whose leaves have `leaf_length` bytes.
+/// The root of a tree over the input, whose leaves have `leaf_length` bytes, at least 1.
 #[derive(Drop)]
 pub(crate) struct Root {
     pub(crate) kind: Blake2bKind,
@@ -30,7 +30,7 @@ pub(crate) struct Root {
     ghost leaf: { 1 ≤ leaf_length },
 }
 
-/// What a command line asks for.
+/// The task that a command line names.
 #[derive(Drop)]
 pub(crate) enum Task {
     /// `sum`, `script` or `steps`, with the hash function of the kind under the options.
@@ -45,8 +45,10 @@ impl Task {
     ghost use Rattle.b2_commands.specs.Parsed.{output_task, task_value};
     ghost use Rattle.b2_commands.specs.Words.{given_task};
 
-    /// Reads the words from left to right: the command, its KIND and then the rest. Returns an
-    /// error if a word is not expected or is missing, or if memory for the bytes of HEX is refused.
+    /// Reads the arguments from left to right, the command, its KIND and then the rest, and
+    /// returns the task. The error is a `Fault`, that of the first bad argument: `WrongWords` if
+    /// it is missing or is not expected; `WrongHex` if its HEX is wrong; `NoMemory` if an
+    /// allocation for the bytes of HEX fails, which only the arguments after KIND need.
     pub(crate) fn from_words(alloc: Global, words: &[String]) -> Result<Task, Fault>
         ensures task { IfOk result (λ task.
             task_of (map string_bytes words.now) ≡ Ok (task_value task)) }
@@ -67,7 +69,8 @@ impl Task {
         }
     }
 
-    // Reads the words KIND [key=HEX] [salt=HEX] [persona=HEX] from left to right.
+    // Reads the arguments KIND [key=HEX] [salt=HEX] [persona=HEX] from left to right, and returns
+    // the task that prints this output. The errors are those of `Task::from_words`.
     fn hash(alloc: Global, output: Output, words: &[String]) -> Result<Task, Fault>
         ensures task { IfOk result (λ task.
             given_task (output_task output) (map string_bytes words.now) ≡ Ok (task_value task)) }
@@ -88,7 +91,8 @@ impl Root {
     ghost use Rattle.b2_commands.specs.Parsed.{root_task};
     ghost use Rattle.b2_commands.specs.Words.{tree_task, leaf_value};
 
-    // Reads the words KIND LEAF [salt=HEX] [persona=HEX] from left to right.
+    // Reads the arguments KIND LEAF [salt=HEX] [persona=HEX] from left to right, and returns the
+    // root. KIND must be one of BLAKE2b. The errors are those of `Task::from_words`.
     fn from_words(alloc: Global, words: &[String]) -> Result<Root, Fault>
         ensures task { IfOk result (λ root.
             tree_task (map string_bytes words.now) ≡ Ok (root_task root)) }
@@ -114,7 +118,8 @@ impl Root {
         })
     }
 
-    // The bytes of a leaf that LEAF names: 1 to 2^32 - 1 in decimal digits without a leading zero.
+    // Returns the number of bytes of a leaf that LEAF names: 1 to 2^32 - 1 in decimal digits
+    // without a leading zero. The error is `Fault::WrongWords`, if LEAF is anything else.
     fn leaf_of(digits: &[u8]) -> Result<u32, Fault>
         ensures value { result ≡ leaf_value digits.now }
         ensures some { IfOk result (λ n. 1 ≤ n) }

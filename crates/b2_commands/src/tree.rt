@@ -23,8 +23,13 @@ use blake2::engine::{Sink, Source};
 use blake2_tree::{LABEL_BYTES, MESSAGE_LIMIT, TreeHasher, best_piece_length};
 use std::alloc::Global;
 
-/// Prints the root of what the source gives, as a line. It reads the source in pieces, and
-/// allocates memory for one.
+/// Prints the root of all that the source returns, as a line. It reads the source in pieces, and
+/// allocates memory for one. Neither device may have failed before.
+///
+/// The error is a `Fault`: `WrongLength` if the salt or the persona has more than 16 bytes;
+/// `ReadFailed` if a read returns an error; `TooLong` if the input has 2^58 bytes or more;
+/// `NoMemory` if the allocation fails; `WriteFailed` if a write fails. If it is not
+/// `WriteFailed`, nothing was printed.
 pub(crate) fn tree<S: Source, K: Sink>(
     alloc: Global,
     root: &Root,
@@ -44,7 +49,8 @@ pub(crate) fn tree<S: Source, K: Sink>(
     }
 }
 
-// Prints the root of N bytes.
+// Prints the root of `N` bytes, at most 64, with leaves of `leaf_length` bytes, at least 1. The
+// errors are those of `tree`.
 fn print_root<S: Source, K: Sink, const N: usize>(
     alloc: Global,
     leaf_length: u32,
@@ -79,8 +85,10 @@ fn print_root<S: Source, K: Sink, const N: usize>(
     print_digest(&hasher.finalize(), sink)
 }
 
-// Hands all that the source gives to the hasher, as many bytes at a time as the buffer has: one at
-// least, and 16 MiB at most, so that a longer piece is a fault of the proof.
+// Passes all that the source returns to the hasher, in pieces of the buffer's length. That is at
+// least 1 and at most 16 MiB, so that a longer piece fails the proof. The source must not have
+// failed before. The error is a `Fault`: `ReadFailed` if a read returns an error, `TooLong` if
+// the hasher's count would reach 2^58.
 fn absorb<S: Source, const N: usize>(
     source: &mut S,
     buffer: &mut [u8],

@@ -1,4 +1,4 @@
-//! `b2 witness`: the pair of steps that two messages with one digest come to.
+//! `b2 witness`: the pair of steps to which two messages with equal digests lead.
 
 ghost use Rattle.std.specs.Prelude.{◌≡◌, ◌≤◌, ◌↔◌, [], ◌∷◌, ◌++◌, ℕ, List, Option, codes, false};
 ghost use Rattle.std.specs.Prelude.{IsTrue, IsOkUnless, OnOk};
@@ -22,9 +22,11 @@ use blake2::steps::{Input, Step, Tree};
 use blake2::{Blake2bVarCore, Blake2sVarCore};
 use std::alloc::Global;
 
-/// Prints a step of each message, where the messages differ and their digests are equal: the steps
-/// stand at one distance from the ends of the two runs, they differ, and their outputs agree in the
-/// digest's bytes. Else prints `none`. It takes no memory.
+/// Prints a step of each message, a line each, if the messages differ and their digests are
+/// equal. The steps differ, and are at the same distance from the ends of the two runs. Their
+/// outputs agree: in the digest's bytes if they are the last of their runs, and in all bytes if
+/// they are not. For other messages it prints `none`. It allocates nothing. The sink must not
+/// have failed before. The error is `Fault::WriteFailed`, if a write fails.
 pub(crate) fn witness<K: Sink>(
     alloc: Global,
     comparison: &Comparison,
@@ -91,7 +93,7 @@ fn witness_blake2s<K: Sink>(
     }
 }
 
-// The input of this message, without key, salt or persona.
+// Returns the input of this message, without key, salt and persona.
 fn unkeyed(message: &[u8]) -> Input<'_>
     ensures input { input_of result ≡ input_with nothing_given message.now }
     ensures accepted { (f : AnyFamily) → Accepts f (input_of result) }
@@ -106,7 +108,8 @@ fn unkeyed(message: &[u8]) -> Input<'_>
     }
 }
 
-// Prints the line of a step of BLAKE2b.
+// Prints the line of a step of BLAKE2b: its chaining words, counter, final flag and block. The
+// sink must not have failed before. The error is `Fault::WriteFailed`, if a write fails.
 fn print_blake2b<K: Sink>(step: &Step<u64, 128>, sink: &mut K) -> Result<(), Fault>
     requires { K.failed sink.old ≡ false }
     ensures write { IsErrOf result Fault.WriteFailed ↔ IsTrue (K.failed sink.new) }
@@ -122,7 +125,8 @@ fn print_blake2b<K: Sink>(step: &Step<u64, 128>, sink: &mut K) -> Result<(), Fau
     line.print(sink)
 }
 
-// Prints the line of a step of BLAKE2s.
+// Prints the line of a step of BLAKE2s: its chaining words, counter, final flag and block. The
+// sink must not have failed before. The error is `Fault::WriteFailed`, if a write fails.
 fn print_blake2s<K: Sink>(step: &Step<u32, 64>, sink: &mut K) -> Result<(), Fault>
     requires { K.failed sink.old ≡ false }
     ensures write { IsErrOf result Fault.WriteFailed ↔ IsTrue (K.failed sink.new) }
@@ -138,7 +142,8 @@ fn print_blake2s<K: Sink>(step: &Step<u32, 64>, sink: &mut K) -> Result<(), Faul
     line.print(sink)
 }
 
-// Prints that there is no such pair.
+// Prints `none`, the line if there is no such pair. The sink must not have failed before. The
+// error is `Fault::WriteFailed`, if a write fails.
 fn print_none<K: Sink>(sink: &mut K) -> Result<(), Fault>
     requires { K.failed sink.old ≡ false }
     ensures write { IsErrOf result Fault.WriteFailed ↔ IsTrue (K.failed sink.new) }

@@ -1,4 +1,4 @@
-//! The words of the command line, read from left to right.
+//! The arguments of a command, read from left to right.
 
 ghost use Rattle.std.specs.Prelude.{◌≡◌, ◌≢◌, ◌<◌, ◌↔◌, [], length, map, unwrap_or, IsTrue};
 ghost use Rattle.std.specs.Prelude.{IfOk, IfErr, OnOk};
@@ -30,7 +30,7 @@ pub(crate) enum Blake2sKind {
     S256,
 }
 
-/// The hash function of a command, named by its KIND.
+/// The hash function of a command, which its KIND names.
 #[derive(Clone, Copy)]
 pub(crate) enum Kind {
     Blake2b(Blake2bKind),
@@ -41,7 +41,7 @@ impl Kind {
     ghost use Rattle.b2_commands.specs.Words.{kind_of};
     ghost use Rattle.b2_commands.specs.Kinds.{kind_value};
 
-    /// Returns the kind of this name.
+    /// Returns the kind of this name. The error is `Fault::WrongWords`, if there is no such kind.
     pub(crate) fn from_word(word: &str) -> Result<Kind, Fault>
         ensures kind { IfOk result (λ kind. kind_of word.now ≡ Ok (kind_value kind)) }
         ensures fault { IfErr result (λ fault. kind_of word.now ≡ Err fault) }
@@ -58,7 +58,8 @@ impl Kind {
     }
 }
 
-/// The bytes of the words `key=HEX`, `salt=HEX` and `persona=HEX`, where they are given.
+/// The bytes of the arguments `key=HEX`, `salt=HEX` and `persona=HEX`, or `None` for each that is
+/// absent.
 #[derive(Drop)]
 pub(crate) struct Options {
     pub(crate) key: Option<Vec<u8>>,
@@ -70,8 +71,12 @@ impl Options {
     ghost use Rattle.b2_commands.specs.Options.{given_of};
     ghost use Rattle.b2_commands.specs.Words.{nothing_given, with_word, with_words, IsReadingFault};
 
-    /// Reads the words in any order, each at most once: for each its name first and its HEX next.
-    /// `key` is a name where a key is taken.
+    /// Reads the arguments NAME=HEX from left to right, and returns their bytes. The names are
+    /// `salt`, `persona` and, if `takes_key` is true, `key`. They come in any order, each at most
+    /// once. The error is a `Fault`, that of the first bad argument, whose name is checked before
+    /// its HEX: `WrongWords` if it has no `=`, or its name is unknown or comes again; `WrongHex`
+    /// if its HEX is not an even number of hexadecimal digits; `NoMemory` if an allocation for
+    /// its bytes fails.
     pub(crate) fn from_words(
         alloc: Global,
         takes_key: bool,
@@ -96,7 +101,8 @@ impl Options {
         Ok(options)
     }
 
-    // Takes the word NAME=HEX, whose name no word before it had.
+    // Adds the bytes of the argument NAME=HEX, whose name must be new. The errors are those of
+    // `from_words`.
     fn take_word(&mut self, alloc: Global, takes_key: bool, word: &str) -> Result<(), Fault>
         ensures taken { OnOk result
             (with_word takes_key (given_of self.old) word.now ≡ Ok (given_of self.new)) }
@@ -120,14 +126,14 @@ impl Options {
         Ok(())
     }
 
-    /// The key, where it is given.
+    /// Returns the key, or `None` if it is absent.
     pub(crate) fn key(&self) -> Option<&[u8]>
         ensures { key_of result ≡ (given_of self.now).key }
     {
         self.key.as_ref().map(|key| key.as_slice())
     }
 
-    /// The salt, empty where it is not given.
+    /// Returns the salt, or no bytes if it is absent.
     pub(crate) fn salt(&self) -> &[u8]
         ensures { result.now ≡ unwrap_or (given_of self.now).salt [] }
     {
@@ -137,7 +143,7 @@ impl Options {
         }
     }
 
-    /// The persona, empty where it is not given.
+    /// Returns the persona, or no bytes if it is absent.
     pub(crate) fn persona(&self) -> &[u8]
         ensures { result.now ≡ unwrap_or (given_of self.now).persona [] }
     {
@@ -147,7 +153,7 @@ impl Options {
         }
     }
 
-    /// Whether none is given.
+    /// Returns whether key, salt and persona are all absent.
     pub(crate) fn are_empty(&self) -> bool
         ensures { IsTrue result ↔ (given_of self.now ≡ nothing_given) }
     {
@@ -155,7 +161,9 @@ impl Options {
     }
 }
 
-/// The bytes of HEX as a message: two or more hexadecimal digits, an even number, or `-` for none.
+/// Returns the bytes of HEX as a message: an even number of hexadecimal digits, at least two, or
+/// `-` for no bytes. The error is a `Fault`: `WrongHex` if HEX is anything else, `NoMemory` if an
+/// allocation fails.
 pub(crate) fn message_of(alloc: Global, digits: &[u8]) -> Result<Vec<u8>, Fault>
     ensures bytes { IfOk result (λ bytes. message_value digits.now ≡ Ok bytes.items) }
     ensures fault { IfErr result (λ fault. IsReadingFault fault (message_value digits.now)) }
@@ -167,7 +175,9 @@ pub(crate) fn message_of(alloc: Global, digits: &[u8]) -> Result<Vec<u8>, Fault>
     }
 }
 
-/// The bytes of an even number of hexadecimal digits of either case, perhaps none.
+/// Returns the bytes of an even number of hexadecimal digits of either case, or no bytes for no
+/// digits. The error is a `Fault`: `WrongHex` if `digits` is anything else, `NoMemory` if an
+/// allocation fails.
 pub(crate) fn bytes_of(alloc: Global, digits: &[u8]) -> Result<Vec<u8>, Fault>
     ensures bytes { IfOk result (λ bytes. hex_value digits.now ≡ Ok bytes.items) }
     ensures fault { IfErr result (λ fault. IsReadingFault fault (hex_value digits.now)) }
