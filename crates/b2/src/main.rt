@@ -1,4 +1,4 @@
-//! `b2`: digests, scripts and transcripts of BLAKE2b and BLAKE2s over standard input.
+//! `b2`: digests, scripts, transcripts and witnesses of BLAKE2b and BLAKE2s, and roots of trees.
 
 #![tactic(auto)]
 
@@ -18,7 +18,8 @@ fn main(rt: HostRuntime) -> ExitCode {
     ExitCode::from(status)
 }
 
-// The arguments without the program's name.
+// Returns the arguments without the program's name. The error is that of `env::args`, or of an
+// allocation that fails.
 fn arguments(rt: &(impl Env + AllocGlobal)) -> io::Result<Vec<String>> {
     Ok(env::args(rt)?.skip(1).collect(rt.alloc())?)
 }

@@ -1,5 +1,5 @@
-//! Runs of the commands of `b2`, as tests. They stand apart from the commands, since a crate that
-//! has tests is proved twice.
+//! Tests that run the commands of `b2`. They are in a separate crate, since a crate that has
+//! tests is proved twice.
 
 #![tactic(auto)]
 

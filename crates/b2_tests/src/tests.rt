@@ -1,8 +1,8 @@
-//! Runs of the program over memory. Expected digests are `hashlib`'s, and those that stand for
-//! many lines come from `tools/expected_values.py`.
+//! Tests that run the commands over memory. Expected digests are from `hashlib`, and those that
+//! stand for many lines come from `tools/expected_values.py`.
 //!
-//! The checks assert by themselves, with the words of the command as message, so that the tests
-//! have no errors to pass on: each of those would be one more way out of a test to prove.
+//! The checks assert by themselves, with the arguments of the command as message, so that the
+//! tests have no errors to return: each of those would be one more way out of a test to prove.
 
 mod devices;
 mod large;
@@ -23,7 +23,7 @@ use blake2::{Blake2b256, Digest};
 use std::alloc::{AllocError, Global};
 use std::process::Abort;
 
-// The words of a command line, which spaces part.
+// Returns the arguments of a command, which spaces separate.
 fn words_of(alloc: Global, text: &str) -> Result<Vec<String>, AllocError> {
     let mut words = Vec::new(alloc);
     for word in text.split_whitespace() {
@@ -32,7 +32,8 @@ fn words_of(alloc: Global, text: &str) -> Result<Vec<String>, AllocError> {
     Ok(words)
 }
 
-// The status of a command over an input, which fails after so many bytes, and what it prints.
+// Runs a command over a source of the input, which fails once `fail_at` bytes have passed.
+// Returns its status, and what it prints.
 fn run_over(
     alloc: Global,
     text: &str,
@@ -46,8 +47,8 @@ fn run_over(
     Ok((status, sink.into_inner()))
 }
 
-// Adds pieces, which bars part, to a text. Before a star a piece has how often it comes: `3*ab` is
-// `ababab`, and so is `2*ab|ab`.
+// Appends pieces, which bars separate. A number and a star before a piece say how often it comes:
+// `3*ab` is `ababab`, and so is `2*ab|ab`.
 fn push_pieces(text: &mut String, pieces: &str) -> Result<(), AllocError> {
     for piece in pieces.split('|') {
         let (times, piece) = match piece.split_once('*') {
@@ -61,7 +62,7 @@ fn push_pieces(text: &mut String, pieces: &str) -> Result<(), AllocError> {
     Ok(())
 }
 
-// The text of these parts, one after the other, each of pieces.
+// Returns the text of these parts, one after the other. Each part has pieces.
 fn text_of(alloc: Global, parts: &[&str]) -> Result<String, AllocError> {
     let mut text = String::new(alloc);
     for part in parts {
@@ -70,13 +71,13 @@ fn text_of(alloc: Global, parts: &[&str]) -> Result<String, AllocError> {
     Ok(text)
 }
 
-// Whether this is the digest of the outputs, BLAKE2b-256 in hexadecimal.
+// Returns whether this is the digest of the outputs, BLAKE2b-256 in hexadecimal.
 fn is_digest_of(outputs: &[u8], digits: &str) -> bool {
     let mut wanted = [0u8; 32];
     hex::decode_to_slice(digits, &mut wanted).is_ok() && wanted == Blake2b256::digest(outputs)
 }
 
-// What a command of these parts prints over an input, and nothing where it does not succeed.
+// Returns what a command of these parts prints over an input, or no bytes if it does not succeed.
 fn output_of(alloc: Global, parts: &[&str], input: &[u8]) -> Vec<u8> {
     if let Ok(words) = text_of(alloc, parts) {
         if let Ok((0, output)) = run_over(alloc, words.as_str(), input, None) {
@@ -86,7 +87,8 @@ fn output_of(alloc: Global, parts: &[&str], input: &[u8]) -> Vec<u8> {
     Vec::new(alloc)
 }
 
-// Runs a command of these parts over an input, and adds what it prints: it has to print something.
+// Runs a command of these parts over an input, and appends what it prints. It must print
+// something.
 fn add_output(
     rt: &(impl Abort + AllocGlobal),
     outputs: &mut Vec<u8>,
@@ -99,8 +101,8 @@ fn add_output(
     added.expect(rt, "memory for the test");
 }
 
-// Checks the status of a command over an input, which fails after so many bytes, and what it
-// prints.
+// Checks the status of a command over a source of the input, which fails once `fail_at` bytes
+// have passed, and what it prints.
 fn check_run(
     rt: &(impl Abort + AllocGlobal),
     words: &str,
@@ -115,7 +117,7 @@ fn check_run(
     assert_eq!(rt; (found_status, found), (status, text), "b2 {words}");
 }
 
-// Checks the status of a command, and that it prints this line alone.
+// Checks the status of a command, and that it prints only this line.
 fn check_line(
     rt: &(impl Abort + AllocGlobal),
     words: &str,
@@ -128,7 +130,8 @@ fn check_line(
     check_run(rt, words, input, fail_at, status, text.as_str());
 }
 
-// Checks that a command whose second half are these words prints this line alone, with status 0.
+// Checks that a command whose second half are these arguments prints only this line, with status
+// 0.
 fn check_command(
     rt: &(impl Abort + AllocGlobal),
     command: &str,
@@ -140,7 +143,8 @@ fn check_command(
     check_line(rt, words.as_str(), input, None, 0, line);
 }
 
-// Checks commands, a row each, with bars between the words, the input and the line that is printed.
+// Checks commands, a row each, with bars between the arguments, the input and the line that is
+// printed.
 fn check_rows(rt: &(impl Abort + AllocGlobal), rows: &str, fail_at: Option<usize>, status: u8) {
     for row in rows.lines() {
         let (words, rest) = row.split_once('|').unwrap_or((row, ""));
@@ -151,7 +155,7 @@ fn check_rows(rt: &(impl Abort + AllocGlobal), rows: &str, fail_at: Option<usize
     }
 }
 
-// Checks that a command over an input prints a text, with status 0.
+// Checks that a command over an input prints exactly the text of these parts, with status 0.
 fn check_prints(rt: &(impl Abort + AllocGlobal), words: &str, input: &[u8], parts: &[&str]) {
     let text = text_of(rt.alloc(), parts).expect(rt, words);
     check_run(rt, words, input, None, 0, text.as_str());

@@ -1,4 +1,4 @@
-//! Devices that give or take little at a time, and that fail at each call.
+//! Devices that move few bytes a call, and that fail at each call.
 
 use super::lengths::script_of;
 use super::{check_line, run_over, words_of};
@@ -7,7 +7,7 @@ use blake2::engine::{SliceSink, SliceSource};
 use std::alloc::{AllocError, Global};
 use std::process::Abort;
 
-// A command, its words apart, and its input.
+// A command, its arguments one by one, and its input.
 #[derive(Drop)]
 struct Command<'a> {
     text: &'a str,
@@ -15,8 +15,8 @@ struct Command<'a> {
     input: &'a [u8],
 }
 
-// The status of a command between a source and a sink that move at most so many bytes a call, and
-// how many bytes the sink took into the room before it failed.
+// Runs a command between a source and a sink that move at most `most` bytes a call. Returns its
+// status, and how many bytes the sink accepted into the room before it failed.
 fn run_between(
     alloc: Global,
     command: &Command<'_>,
@@ -31,7 +31,7 @@ fn run_between(
     (status, sink.written())
 }
 
-// Checks a command between devices that move few bytes a call, where it prints the whole output.
+// Checks that a command between devices that move few bytes a call prints the whole output.
 fn check_little(
     rt: &(impl Abort + AllocGlobal),
     command: &Command<'_>,
@@ -49,14 +49,15 @@ fn check_little(
     }
 }
 
-// Whether a run ended with status 1, and took just so many bytes of the whole output into the room.
+// Returns whether a run ended with status 1, and the sink accepted exactly the first `length`
+// bytes of the whole output into the room.
 fn is_cut(run: (u8, usize), room: &[u8], whole: &[u8], length: usize) -> bool {
     let (status, written) = run;
     status == 1 && room.get(..written) == whole.get(..length)
 }
 
-// Whether a command at a sink that has room for so many bytes, fewer than the whole output, prints
-// just those, with status 1.
+// Returns whether a command at a sink that has room for `length` bytes, fewer than the whole
+// output, prints exactly those, with status 1.
 fn fills(
     alloc: Global,
     command: &Command<'_>,
@@ -74,7 +75,7 @@ fn fills(
 }
 
 // Checks a command at a sink that fails after each number of bytes below the whole output's, and
-// at one that has room for no more, where it prints just so many, with status 1.
+// at one that has no room for more. It prints exactly those bytes, with status 1.
 fn check_sinks(
     rt: &(impl Abort + AllocGlobal),
     command: &Command<'_>,
@@ -93,12 +94,12 @@ fn check_sinks(
     }
 }
 
-// Checks that a command over a source that fails after so many bytes prints that a read failed.
+// Checks that a command over a source that fails after `fail_at` bytes prints that a read failed.
 fn check_source(rt: &(impl Abort + AllocGlobal), words: &str, input: &[u8], fail_at: usize) {
     check_line(rt, words, input, Some(fail_at), 1, "b2: read failed");
 }
 
-// A command's words, its status, the whole output, and room for that.
+// Returns a command's arguments, its status, the whole output, and room for that.
 fn whole_run(
     alloc: Global,
     text: &str,
@@ -122,8 +123,8 @@ fn check_outputs(rt: &(impl Abort + AllocGlobal), text: &str, input: &[u8]) {
     check_sinks(rt, &command, room.as_mut_slice(), whole.as_slice());
 }
 
-// Checks the same of a command that reads its input, and that it prints that a read failed where
-// the source fails after each number of bytes, the whole input's among them.
+// Checks the same for a command that reads its input. Checks also that it prints that a read
+// failed if the source fails after each number of bytes, from 0 to the whole input's.
 fn check_devices(rt: &(impl Abort + AllocGlobal), text: &str, input: &[u8]) {
     check_outputs(rt, text, input);
     for fail_at in 0..=input.len() {
@@ -156,8 +157,8 @@ fn outputs_take_little_or_fail(rt: HostRuntime) {
     check_outputs(&rt, "witness b512 61 62", b"");
 }
 
-// Checks that a command whose source fails at one of these ends of pieces, or a byte before it or
-// behind it, prints that a read failed.
+// Checks that a command prints that a read failed, if its source fails at one of these ends of
+// pieces, or a byte before or after it.
 fn check_ends(rt: &(impl Abort + AllocGlobal), words: &str, input: &[u8], ends: &[usize]) {
     for end in ends {
         check_source(rt, words, input, end.saturating_sub(1));
@@ -166,7 +167,7 @@ fn check_ends(rt: &(impl Abort + AllocGlobal), words: &str, input: &[u8], ends: 
     }
 }
 
-// The source gives 4,096 bytes a read.
+// The source returns at most 4,096 bytes a read.
 #[test]
 fn reads_fail_behind_whole_pieces(rt: HostRuntime) {
     let input = [b'a'; 70_000];
@@ -179,7 +180,8 @@ fn reads_fail_behind_whole_pieces(rt: HostRuntime) {
     ] {
         check_ends(&rt, words, &input, &[4096, 8192, 65_536]);
     }
-    // A piece of a tree's input has 65,537 bytes in leaves of one, and 69,632 in leaves of 4,096.
+    // A piece of a tree's input has 65,537 bytes if a leaf has one byte, and 69,632 if it has
+    // 4,096.
     check_ends(&rt, "tree b512 1", &input, &[4096, 65_537]);
     check_ends(&rt, "tree b256 4096", &input, &[4096, 69_632]);
 }

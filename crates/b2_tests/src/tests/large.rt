@@ -1,12 +1,12 @@
 //! Inputs of more than a MiB, and scripts of ten thousand lines. The lines and digests over the
-//! input are those of `tools/expected_values.py`, under `large`.
+//! input come from `tools/expected_values.py`, under `large`.
 
 use super::script::check_wrong;
 use super::{check_command, is_digest_of, output_of, text_of};
 use std::alloc::{AllocError, Global};
 use std::process::Abort;
 
-// The bytes of the input.
+// The length of the input in bytes.
 const INPUT_BYTES: usize = (1 << 20) + 1;
 
 // KIND; the line of `sum` over the input; and the digest of what `steps` prints over it.
@@ -18,8 +18,8 @@ s256|5b6a9e00d9e93e5e5702a6a6f6853905a79f10243d6883f9d49b5e32c43ff310|\
 f506f03008633ed93b4adae5c5ca1cbb9a51ec0ae2958ae4766f69c7cc268be9\n\
 ";
 
-// LEAF, and the line of `tree b256` over the input: leaves of which many are read at once, few, and
-// none.
+// LEAF, and the line of `tree b256` over the input. A piece of the input has many such leaves, a
+// few, or not a whole one.
 const ROOTS: &str = "\
 1|f407bf53d3409f308fe0e894fdb3a448e5542b8c651cf28e9d2e90d145595883\n\
 64|1b6af88dbba72489483c4756533e1050f6c780af2f42784787c398987a7c71f5\n\
@@ -31,7 +31,7 @@ const ROOTS: &str = "\
 67108864|fdfeaf6df7e020f83b31b41a2b244efbcb97f99a917a024d2480e86d104f4248\n\
 ";
 
-// Byte i is i modulo 251.
+// Returns the input, whose byte i is i modulo 251.
 fn large_input(alloc: Global) -> Result<Vec<u8>, AllocError> {
     let mut input = Vec::with_capacity(alloc, INPUT_BYTES)?;
     for i in 0..INPUT_BYTES {
@@ -40,7 +40,7 @@ fn large_input(alloc: Global) -> Result<Vec<u8>, AllocError> {
     Ok(input)
 }
 
-// Checks a KIND over the input and over a script that takes it.
+// Checks a KIND over the input and over a script that updates slot 0 with it.
 fn check_kind(
     rt: &(impl Abort + AllocGlobal),
     kind: &str,
@@ -58,7 +58,7 @@ fn check_kind(
     );
 }
 
-// The input, its digits, and a script that takes it.
+// Returns the input, its digits, and a script that updates slot 0 with it.
 fn large_texts(alloc: Global) -> Result<(Vec<u8>, String, String), AllocError> {
     let input = large_input(alloc)?;
     let digits = hex::encode(alloc, input.as_slice())?;
@@ -87,7 +87,7 @@ fn takes_a_large_input_as_a_tree(rt: HostRuntime) {
     }
 }
 
-// A script of ten thousand lines, of which the one at this place, from 0, is another.
+// Returns a script of ten thousand lines, of which the one at `place`, from 0, is `other`.
 fn script_with(alloc: Global, place: usize, line: &str, other: &str) -> Result<String, AllocError> {
     let mut script = String::new(alloc);
     for i in 0..10_000 {
@@ -97,8 +97,8 @@ fn script_with(alloc: Global, place: usize, line: &str, other: &str) -> Result<S
     Ok(script)
 }
 
-// Checks which line of such a script is refused: the lines, the other one and the cause are given
-// between bars.
+// Checks which line of such a script is refused. Bars are between the line, the other one and the
+// cause.
 fn check_other_line(rt: &(impl Abort + AllocGlobal), place: usize, lines: &str) {
     let (line, rest) = lines.split_once('|').unwrap_or((lines, ""));
     let (other, cause) = rest.split_once('|').unwrap_or((rest, ""));
@@ -112,7 +112,7 @@ fn names_a_line_of_ten_thousand(rt: HostRuntime) {
     for place in [
         0, 1, 8, 9, 98, 99, 999, 1023, 1024, 4095, 4096, 5000, 8999, 9998, 9999,
     ] {
-        // The lines, the other line, and the cause.
+        // The line, the other line, and the cause.
         check_other_line(&rt, place, "u 0 61|u 0 6|wrong line");
         check_other_line(&rt, place, "d 0||wrong line");
         check_other_line(&rt, place, "c 0|c 00|wrong line");

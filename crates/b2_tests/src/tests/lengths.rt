@@ -1,13 +1,13 @@
-//! Inputs that end about the ends of pieces of 4,096 bytes, and keys, salts and personas of one
-//! byte and of the greatest length. The digests are those of `tools/expected_values.py`, under
+//! Inputs that end near the ends of pieces of 4,096 bytes, and keys, salts and personas of one
+//! byte and of the maximum length. The digests come from `tools/expected_values.py`, under
 //! `texts` and `longest`.
 
 use super::{add_output, is_digest_of, text_of};
 use std::alloc::{AllocError, Global};
 use std::process::Abort;
 
-// The words of a command, and the digest of what it prints over texts of 4,090 to 4,100 and of
-// 8,186 to 8,196 bytes.
+// The arguments of a command, and the digest of what it prints over inputs of 4,090 to 4,100 and
+// of 8,186 to 8,196 bytes.
 const TEXTS: &str = "\
 sum b512|2bef40ee99a2ca25958fd1bc033c2b6bb347c5c39718d99af3eb7f126bead250\n\
 script b512|a6850053548d86878befcb93be81dcb922d0aa7dbb5aada4c29cd1baa2204f61\n\
@@ -20,7 +20,8 @@ tree b512 64|6ddb6c171b252ba67072faaff8f088a4ba04980c48999526b33a3e2fd1e99bf4\n\
 tree b512 4096|4d497f7ac4b02de9b61e49f8de8316b01a22887bdc2ee09cd356187e86a86cc8\n\
 ";
 
-// KIND, and the digests of what `sum` and `steps` print over `abc` under all choices of lengths.
+// KIND, the digest of what `sum` and `script` print over `abc` under all choices of lengths, and
+// that of what `steps` prints.
 const LONGEST: &str = "\
 b128|5f86ac34270813ce2fa65eaf28e11ce4489169a2b14c75787521625a5a3e5665|\
 7a6480bca8d7b41f914ca44e9f3c4d510dd6b390d6b69809b9c307d8a277e388\n\
@@ -34,7 +35,8 @@ s256|df6afbc6104dc75c498d85b3ebbd59049592f9acbd69017e138031a492e532dd|\
 d27d61cba45fd39885a479081b3ecc6dbefdefa8cff4cec4f3b7c1e273235c4c\n\
 ";
 
-// A script of so many bytes, 8 and more: one slot takes zeros, and gives their digest.
+// Returns a script of `length` bytes, at least 10. It updates one slot with zeros, and prints
+// their digest.
 pub(super) fn script_of(alloc: Global, length: usize) -> Result<Vec<u8>, AllocError> {
     let mut script = Vec::from_slice(alloc, b"u 0 ")?;
     for _ in 4..length / 2 {
@@ -47,7 +49,7 @@ pub(super) fn script_of(alloc: Global, length: usize) -> Result<Vec<u8>, AllocEr
     Ok(script)
 }
 
-// A text of so many bytes, 8 and more, that a command takes: a script, or letters a.
+// Returns an input of `length` bytes for a command: a script, of at least 10 bytes, or letters a.
 fn input_of(alloc: Global, words: &str, length: usize) -> Result<Vec<u8>, AllocError> {
     if words.starts_with("script") {
         script_of(alloc, length)
@@ -56,7 +58,7 @@ fn input_of(alloc: Global, words: &str, length: usize) -> Result<Vec<u8>, AllocE
     }
 }
 
-// Runs a command over a text of so many bytes, and adds what it prints.
+// Runs a command over an input of `length` bytes, and appends what it prints.
 fn add_output_over(
     rt: &(impl Abort + AllocGlobal),
     outputs: &mut Vec<u8>,
@@ -83,7 +85,8 @@ fn takes_texts_about_the_ends_of_pieces(rt: HostRuntime) {
     }
 }
 
-// Words NAME=HEX for a key, a salt and a persona of so many bytes of 0, 1, 2 and so on.
+// Returns the arguments NAME=HEX for a key, a salt and a persona of these lengths, up to 64 bytes
+// each. The bytes are 0, 1, 2 and so on.
 fn options_of(alloc: Global, lengths: (usize, usize, usize)) -> Result<String, AllocError> {
     let digits = "000102030405060708090a0b0c0d0e0f101112131415161718191a1b1c1d1e1f\
                   202122232425262728292a2b2c2d2e2f303132333435363738393a3b3c3d3e3f";
@@ -94,7 +97,8 @@ fn options_of(alloc: Global, lengths: (usize, usize, usize)) -> Result<String, A
     text_of(alloc, &["key=", key, " salt=", salt, " persona=", persona])
 }
 
-// Adds what `sum`, `script` and `steps` print over `abc` under a KIND and options of these lengths.
+// Appends what `sum`, `script` and `steps` print over `abc` under a KIND and options of these
+// lengths.
 fn add_outputs(
     rt: &(impl Abort + AllocGlobal),
     sums: &mut Vec<u8>,
@@ -114,7 +118,8 @@ fn add_outputs(
     add_output(rt, transcripts, &["steps ", kind, " ", options], b"abc");
 }
 
-// Checks a KIND whose longest key, and whose longest salt and persona, have so many bytes.
+// Checks a KIND whose longest key has `key` bytes, and whose longest salt and persona have `text`
+// bytes.
 fn check_lengths(
     rt: &(impl Abort + AllocGlobal),
     kind: &str,

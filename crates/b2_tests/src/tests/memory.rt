@@ -1,4 +1,4 @@
-//! Runs of the program where requests for memory are refused.
+//! Runs of the commands in which allocations fail.
 
 ghost use Rattle.std.specs.Prelude.{◌≤◌};
 
@@ -8,17 +8,19 @@ use blake2::engine::{SliceSink, SliceSource};
 use std::alloc::{AllocError, Global};
 use std::process::Abort;
 
-// The bytes that a hoard leaves together: those of the shortest piece of a tree's input, and more.
+// The number of bytes that a hoard leaves free in one block. The shortest piece of a tree's input
+// has fewer.
 const SPARE_BYTES: usize = 131_072;
 
-// How often a command is tried.
+// The number of times that a command is tried.
 const TRIES: usize = 1024;
 
-// Takes all memory of the process but the spare, in blocks that halve, down to the smallest.
+// Allocates all memory of the process except the spare, in blocks whose sizes halve, down to the
+// smallest.
 //
 // A process has 2^47 bytes of addresses, and a machine with a GiB of memory grants blocks of half
-// of that, so that 300,000 blocks are enough; there is room for them from the start. The turns are
-// more than the blocks and the sizes together, so that the smallest size ends the loop.
+// a GiB, so that 300,000 blocks are enough. There is room for them from the start. The loop has
+// more turns than there are blocks and sizes together, so that the smallest size ends it.
 fn hoard(alloc: Global) -> Result<Vec<Vec<u8>>, AllocError> {
     let mut blocks = Vec::with_capacity(alloc, 300_000)?;
     let spare: Vec<u8> = Vec::with_capacity(alloc, SPARE_BYTES)?;
@@ -36,8 +38,8 @@ fn hoard(alloc: Global) -> Result<Vec<Vec<u8>>, AllocError> {
     Ok(blocks)
 }
 
-// The status of a command under a hoard, and how many bytes it prints into the room, where so many
-// bytes of memory are left.
+// Runs a command under a hoard, with `left` bytes of memory left, at most 131,072. Returns its
+// status, and how many bytes it prints into the room.
 fn run_with_memory(
     alloc: Global,
     words: &[String],
@@ -55,12 +57,12 @@ fn run_with_memory(
     Ok((status, sink.written()))
 }
 
-// What a command does where so many bytes of memory are left.
+// What a command does if little memory is left, or none.
 #[derive(Clone, Copy, PartialEq)]
 enum Answer {
-    // It answers that memory is wanted, with status 1.
+    // It reports that an allocation failed, with status 1.
     Refused,
-    // It prints the text that is wanted, with status 0.
+    // It prints the expected output, with status 0.
     Printed,
     // It does anything else.
     Other,
@@ -89,9 +91,9 @@ fn answer_with_memory(
     }
 }
 
-// How many of the tries are refused, where all of them stand before those that print what is
-// wanted, and there is none of another kind. Each has so many bytes more than the one before it,
-// and the first has none.
+// Returns how many of the tries are refused, if all of these come before those that print the
+// expected output, and no try does anything else. Otherwise it returns `None`. Each try has
+// `step` bytes of memory more than the one before it, and the first has none.
 fn count_refused(
     alloc: Global,
     words: &[String],
@@ -112,8 +114,8 @@ fn count_refused(
     Some(refused)
 }
 
-// The same of a command whose words are to be parted, and a text that is to be made, before the
-// memory is taken.
+// Does the same for a command, once its arguments are separated and the expected output is made:
+// the hoard comes after that.
 fn count_refused_of(
     alloc: Global,
     text: &str,
@@ -131,9 +133,9 @@ fn count_refused_of(
     Ok(refused)
 }
 
-// Checks a command where no memory is left, and at each further try with so many bytes more. At
-// the first tries it answers that memory is wanted, with status 1, and at all others it prints the
-// text, with status 0.
+// Checks a command with no memory left, and with `step` bytes more at each further try. At the
+// first tries, at least one and not all, it reports that an allocation failed, with status 1. At
+// all others it prints the expected output, with status 0.
 fn check_refusals(
     rt: &(impl Abort + AllocGlobal),
     text: &str,
@@ -150,15 +152,16 @@ fn check_refusals(
     );
 }
 
-// Whether requests for a byte of memory, and for sixteen, are refused.
+// Returns whether allocations of one byte and of 16 bytes both fail.
 fn is_refused(alloc: Global) -> bool {
     let one: Result<Vec<u8>, AllocError> = Vec::with_capacity(alloc, 1);
     let sixteen: Result<Vec<u8>, AllocError> = Vec::with_capacity(alloc, 16);
     one.is_err() && sixteen.is_err()
 }
 
-// The status of a command where no memory is left, and how many bytes it prints into the room; or
-// none where a request for a byte or for sixteen is granted before it or after it.
+// Runs a command with no memory left. Returns its status, and how many bytes it prints into the
+// room. The result is `None` if an allocation of one byte or of 16 bytes succeeds before it or
+// after it.
 fn run_without_memory(
     alloc: Global,
     text: &str,
@@ -182,7 +185,8 @@ fn run_without_memory(
     }
 }
 
-// Checks a command that takes no memory: it prints the text where no memory is left.
+// Checks a command that allocates nothing: with no memory left it prints this text, with this
+// status.
 fn check_without_memory(
     rt: &(impl Abort + AllocGlobal),
     words: &str,

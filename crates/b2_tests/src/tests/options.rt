@@ -1,9 +1,9 @@
-//! Every choice of key, salt and persona that are given or absent, at each KIND.
+//! Every choice of a key, a salt and a persona that are present or absent, at each KIND.
 
 use super::{check_command, is_digest_of, output_of};
 use std::process::Abort;
 
-// KIND and the words behind it; the line of `sum` over `abc`; and the digest of what `steps`
+// KIND and the arguments after it; the line of `sum` over `abc`; and the digest of what `steps`
 // prints over it.
 const OPTIONS: &str = "\
 b128|cf4ab791c62b8d2b2109c90275287816|\

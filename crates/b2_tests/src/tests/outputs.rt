@@ -1,4 +1,4 @@
-//! Outputs that fail once, and would then take everything: nothing more is written to them.
+//! Outputs that fail once, and would then accept everything: nothing more is written to them.
 
 use super::words_of;
 use b2_commands::{Fault, run};
@@ -7,8 +7,8 @@ use std::alloc::Global;
 use std::io;
 use std::io::{ErrorKind, Write};
 
-// Takes so many bytes, then fails once, by an error or by taking none, and takes all that comes
-// later.
+// Accepts `before` bytes, then fails once, by an error or by accepting none, and accepts all that
+// comes later.
 #[derive(Drop)]
 struct FailsOnce {
     before: usize,
@@ -50,8 +50,8 @@ impl Write for FailsOnce {
     }
 }
 
-// Whether the command, over an output that fails once after so many bytes, answers status 1 and
-// writes no more.
+// Returns whether the command, over an output that fails once after `before` bytes, returns
+// status 1 and writes no more.
 fn stops_for_good(alloc: Global, text: &str, input: &[u8], before: usize) -> bool {
     let Ok(words) = words_of(alloc, text) else {
         return false;
@@ -68,8 +68,9 @@ fn stops_for_good(alloc: Global, text: &str, input: &[u8], before: usize) -> boo
     true
 }
 
-// How many bytes are taken, the words and the input, of each command at its first byte, within a
-// line and between lines; and of the line of a fault.
+// The number of bytes that the output accepts before it fails, the arguments and the input. The
+// output fails at a command's first byte, within a line and between lines, and it does so at the
+// line of an error.
 const STOPS: &str = "\
 0|sum b512|abc;128|sum b512|abc;32|sum s128 key=01|abc;\
 0|script s128|d 0\nd 0\nf 0\n;33|script s128|d 0\nd 0\nf 0\n;\
@@ -79,7 +80,7 @@ const STOPS: &str = "\
 0|witness b0 61 62|;208|witness s0 61 62|;0|witness b512 61 62|;4|witness b512 61 62|;\
 0|add|;13|sum b512 key=1|;0|script b512|f 0\nf 0\n;15|steps b512 key=|";
 
-// Whether a row's command stops for good.
+// Returns whether a row's command stops for good.
 fn row_stops(alloc: Global, row: &str) -> bool {
     let (before, rest) = row.split_once('|').unwrap_or((row, ""));
     let (words, input) = rest.split_once('|').unwrap_or((rest, ""));

@@ -1,11 +1,11 @@
-//! Words that are refused.
+//! Arguments that are refused.
 
 use super::{check_rows, words_of};
 use b2_commands::run;
 use blake2::engine::{SliceSink, SliceSource};
 use std::alloc::{AllocError, Global};
 
-// The words, no input, and the line.
+// The arguments, no input, and the line.
 const REFUSALS: &str = "\
 ||b2: wrong words\n\
 sum||b2: wrong words\n\
@@ -94,14 +94,14 @@ tree b512 4 salt=0000000000000000000000000000000000||b2: wrong length\n\
 tree b512 4 persona=0000000000000000000000000000000000||b2: wrong length\n\
 ";
 
-// An input that fails at once shows that it is not read.
+// The source fails at its first read, which shows that no command reads it.
 #[test]
 fn refuses_words(rt: HostRuntime) {
     check_rows(&rt, REFUSALS, Some(0), 2);
 }
 
-// The status of `witness` where the second message is a word of no bytes, which no spaces part
-// from another, and how many bytes it prints into the room.
+// Runs `witness` with an empty argument as the second message, which `words_of` can't make.
+// Returns its status, and how many bytes it prints into the room.
 fn run_no_digits(alloc: Global, room: &mut [u8]) -> Result<(u8, usize), AllocError> {
     let mut words = words_of(alloc, "witness b512 61")?;
     words.push(String::new(alloc))?;

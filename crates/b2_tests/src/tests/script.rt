@@ -3,7 +3,7 @@
 use super::{check_line, check_prints, text_of};
 use std::process::Abort;
 
-// Checks that `script b512` over these lines prints this line alone, with status 2.
+// Checks that `script b512` over these lines prints only this line, with status 2.
 pub(super) fn check_wrong(rt: &(impl Abort + AllocGlobal), lines: &[u8], line: &str) {
     check_line(rt, "script b512", lines, None, 2, line);
 }
@@ -49,7 +49,8 @@ fn prints_digests_of_macs(rt: HostRuntime) {
         &["u 0 61\nr 0\nd 0\nc 0\nf 1\n"],
         &["2*25a4ee63b594aed3f88a971e1877ef7099534f9097291f88fb86c79b5e70d022\n"],
     );
-    // 129 bytes and one in two slots, where the key's block is counted again after each reset.
+    // Two slots have 129 bytes and one more in the second. The key's block is counted again after
+    // each reset.
     check_script(
         &rt,
         "script b128 key=0102 salt=73616c74 persona=706572736f6e61",
@@ -72,7 +73,7 @@ fn prints_digests_of_macs(rt: HostRuntime) {
     );
 }
 
-// Lines that are none of a script, between bars.
+// Lines that a script can't have, with bars between them.
 const WRONG_LINES: &str = "\
 |u|u |u 0|u 0 |u 0 6|u 0 6g|u 0 6162 |u 0  61|u  0 61|u 0 61 62|u 00 61|u - 61|u 0 --\
 |U 0 61| u 0 61|c|c |c 0 |c  0|c 0 61|c -1|c +1|c x|r|r 01|f|f 00|f 1000000000|f 0\r\
@@ -94,7 +95,7 @@ fn names_wrong_lines(rt: HostRuntime) {
     check_wrong(&rt, b"\n", "b2: line 1: wrong line");
 }
 
-// Checks that of a script of these parts this line is printed.
+// Checks that `script b512` over a script of these parts prints only this line, with status 2.
 pub(super) fn check_place(rt: &(impl Abort + AllocGlobal), script: &[&str], line: &str) {
     let script = text_of(rt.alloc(), script).expect(rt, line);
     check_wrong(rt, script.as_bytes(), line);

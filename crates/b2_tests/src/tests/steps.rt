@@ -2,7 +2,7 @@
 
 use super::check_prints;
 
-// A line of zero words behind the first, and 128 bytes of zeros.
+// The zero words after the first word of a line, and 128 bytes of zeros.
 const ZERO_WORDS: &str = "7* 0000000000000000|\n";
 
 const ZEROS: &str = "128*00|\n";

@@ -2,7 +2,7 @@
 
 use super::check_rows;
 
-// Words, input and line.
+// The arguments, the input and the line.
 const DIGESTS: &str = "\
 sum b512|abc|ba80a53f981c4d0d6a2797b69f12f6e94c212f14685ac4b74b12bb6fdbffa2d1\
 7d87c5392aab792dc252d5de4533cc9518d38aa8dbf1925ab92386edd4009923\n\

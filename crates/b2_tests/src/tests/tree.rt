@@ -2,7 +2,7 @@
 
 use super::check_rows;
 
-// Words, input and line.
+// The arguments, the input and the line.
 const ROOTS: &str = "\
 tree b512 4|abcde|14b0752e3ca5c2b4f5df98dcb4fab97caeda23424260d531f9b0b52310bb58ee\
 cb6e13211a8298c3e52d543a21efa545053f3006100629ff6bd181611b38f8c8\n\

@@ -4,7 +4,7 @@ use super::{check_prints, check_rows};
 use blake2::{Blake2b, Blake2s, Digest};
 use std::process::Abort;
 
-// The letter and the chaining words of the only step of a message, where the digest has no bytes.
+// The letter and the chaining words of the only step of a message, for a digest of no bytes.
 const B0: &str =
     "s 6a09e667f2bdc908 bb67ae8584caa73b 3c6ef372fe94f82b a54ff53a5f1d36f1 510e527fade682d1 \
     9b05688c2b3e6c1f 1f83d9abfb41bd6b 5be0cd19137e2179 ";
@@ -33,7 +33,7 @@ fn prints_pairs(rt: HostRuntime) {
     );
 }
 
-// Of the messages 0000 to 0100, which are 257, two with equal digests of one byte.
+// Returns two of the 257 messages 0000 to 0100 that have equal digests of one byte.
 fn equal_pair<H: Digest<1> + Drop>() -> Option<(u16, u16)>
     requires { H.is_supported }
 {
@@ -49,7 +49,8 @@ fn equal_pair<H: Digest<1> + Drop>() -> Option<(u16, u16)>
     None
 }
 
-// Checks the steps of such a pair: their letter and chaining words, and the zeros behind a message.
+// Checks the steps of such a pair: their letter and chaining words, and the zeros after a
+// message.
 fn check_equal_pair<H: Digest<1> + Drop>(
     rt: &(impl Abort + AllocGlobal),
     kind: &str,
@@ -74,7 +75,7 @@ fn prints_pairs_of_equal_bytes(rt: HostRuntime) {
     check_equal_pair::<Blake2s<1>>(&rt, "s8", chain, "62");
 }
 
-// Words, no input, and the line.
+// The arguments, no input, and the line.
 const NONE: &str = "\
 witness b512 61 61||none\n\
 witness b512 616263 -||none\n\
@@ -88,7 +89,7 @@ witness s8 61 61||none\n\
 witness b8 61 62||none\n\
 ";
 
-// An input that fails at once shows that it is not read.
+// The source fails at its first read, which shows that no command reads it.
 #[test]
 fn prints_none(rt: HostRuntime) {
     check_rows(&rt, NONE, Some(0), 0);
