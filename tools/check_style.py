@@ -93,7 +93,7 @@ TO_DO = (
     "crates/blake2/CALLING.md", "crates/blake2_digest/CALLING.md", "crates/blake2_plain/CALLING.md",
     "crates/blake2_rows/CALLING.md", "crates/blake2_runs/CALLING.md", "crates/blake2_tree/CALLING.md",
     "crates/blake2_words/CALLING.md", "dist/README.md",
-    "docs/SPECIFICATION.md", "js/README.md", "python/README.md", "rust/README.md",
+    "docs/SPECIFICATION.md", "python/README.md", "rust/README.md",
     "rust-digest/README.md",
 )
 
