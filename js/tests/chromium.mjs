@@ -43,6 +43,7 @@ export async function startChromium(command = process.env.CHROMIUM ?? "chromium"
     const { sessionId } = await send("Target.attachToTarget", { targetId, flatten: true });
     const faults = [];
     const requests = [];
+    const choosers = []; // how files are chosen, each time that the page asks for some
     listeners.add(({ method, params, sessionId: from }) => {
       if (from !== sessionId) return;
       if (method === "Runtime.exceptionThrown") {
@@ -55,6 +56,7 @@ export async function startChromium(command = process.env.CHROMIUM ?? "chromium"
         faults.push(params.args.map((a) => a.value).join(" "));
       }
       if (method === "Network.requestWillBeSent") requests.push(params.request.url);
+      if (method === "Page.fileChooserOpened") choosers.push(params.mode);
     });
     const call = (method, params) => send(method, params, sessionId);
     for (const domain of ["Page", "Runtime", "Log", "Network", "DOM"]) {
@@ -92,7 +94,7 @@ export async function startChromium(command = process.env.CHROMIUM ?? "chromium"
         "Page.captureScreenshot", { format: "png", captureBeyondViewport: whole });
       return Buffer.from(data, "base64");
     };
-    return { call, evaluate, until, setFiles, screenshot, faults, requests };
+    return { call, evaluate, until, setFiles, screenshot, faults, requests, choosers };
   }
 
   async function close() {

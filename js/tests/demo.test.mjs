@@ -197,11 +197,13 @@ test("all of it works by keyboard alone", async (t) => {
     getComputedStyle(e.id === "files" ? document.getElementById("drop") : e).outlineStyle;
   }`);
   await page.hash(["one byte"]);
+  await page.call("Page.setInterceptFileChooserDialog", { enabled: true });
   const seen = [];
   for (let i = 0; i < 13; i++) {
     await press("Tab");
     seen.push(await focused());
     assert.equal(await outline(), "solid", seen.at(-1));
+    if (seen.at(-1) === "files") await press(" ", "Space", " ");
     if (seen.at(-1) === "BLAKE2s-256") await press(" ", "Space", " ");
     if (seen.at(-1) === "wanted") await page.call("Input.insertText", { text: "00" });
     if (seen.at(-1) === "What is proved, and what is not") await press("Enter", "Enter", "\r");
@@ -211,6 +213,7 @@ test("all of it works by keyboard alone", async (t) => {
     "wanted", ...KINDS.map((kind) => `Copy the ${kind} of one byte`),
     "What is proved, and what is not",
   ]);
+  assert.deepEqual(page.choosers, ["selectMultiple"]);
   assert.equal(
     await page.evaluate("document.querySelector('[value=\"BLAKE2s-256\"]').checked"), false);
   assert.equal(await page.evaluate("document.getElementById('proved').open"), true);

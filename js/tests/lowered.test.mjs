@@ -185,12 +185,15 @@ test("lower refuses what it does not know", () => {
   }
   refuses("fd 0x100", 0xfd, 0x80, 2);
   refuses("fd 0x105", 0xfd, 0x85, 2);
-  const throws = (message, module) => assert.throws(() => lower(module), { message });
+  const throws = (message, module) =>
+    assert.throws(() => lower(Uint8Array.from(module)), { message });
   throws("lower: several memories", moduleOf(...ADDRESS, 0x28, 0x40, 1, 0, DROP));
   throws("lower: several memories", moduleOf(...ADDRESS, ...ADDRESS, ...ADDRESS, 0xfc, 10, 0, 1));
   throws("lower: several memories", moduleOf(...ADDRESS, ...ADDRESS, ...ADDRESS, 0xfc, 10, 1, 0));
   throws("lower: several memories",
     moduleOf(...ADDRESS, ...CONSTANTS.i32, ...ADDRESS, 0xfc, 11, 1));
+  throws("lower: a number is not in its shortest form", // that of groups of locals
+    [...moduleOf().slice(0, 24), 10, 5, 1, 3, 0x80, 0, 0x0b]);
   throws("lower: a number is too large for 32 bits",
     moduleOf(...ADDRESS, 0x28, 2, 0x80, 0x80, 0x80, 0x80, 0x10, DROP));
   assert.ok(WebAssembly.validate( // the greatest number that is not
