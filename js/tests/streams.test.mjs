@@ -127,6 +127,24 @@ test("no listener is left at the signal", async () => {
   assert.equal(getEventListeners(signal, "abort").length, 0);
 });
 
+test("no listener is left for a chunk", async () => {
+  const { AbortController } = globalThis;
+  const signals = [];
+  globalThis.AbortController = class extends AbortController {
+    constructor() {
+      super();
+      signals.push(this.signal);
+    }
+  };
+  try {
+    await blake2bStream((async function* () { yield* piecesOf(1_000_000); })());
+  } finally {
+    globalThis.AbortController = AbortController;
+  }
+  await new Promise((resolve) => setTimeout(resolve, 0));
+  assert.deepEqual(signals.map((signal) => getEventListeners(signal, "abort").length), [0]);
+});
+
 test("an iterator that fails to end, or to go on, changes nothing", async () => {
   const fault = new Error("the chunk");
   const iterable = (next) =>

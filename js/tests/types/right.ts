@@ -40,6 +40,12 @@ blake2b(digest, 32);
 blake2s(digest, {}, 32);
 // @ts-expect-error a tree needs the length of its leaves
 treeRoot(digest);
+// @ts-expect-error a tree needs the length of its leaves
+treeRoot(digest, {});
+// @ts-expect-error leaves need their length
+treeLeaves(digest, { first: 0, ends: true });
+// @ts-expect-error a range says where it begins
+treeLeaves(digest, { leafLength: 5, ends: true });
 // @ts-expect-error a range says whether it ends
 treeLeaves(digest, { leafLength: 5, first: 0 });
 // @ts-expect-error only trees have threads
