@@ -227,6 +227,29 @@ test("workers use the module that is compiled here", async () => {
   assert.equal(root, rootOf(MESSAGE, { leafLength: 65536 }));
 });
 
+test("ranges and digests are transferred, not copied", async () => {
+  const lengths = [];
+  const Class = class extends workerThreads.Worker {
+    postMessage(job, ...more) {
+      super.postMessage(job, ...more);
+      lengths.push(job.message.length);
+    }
+  };
+  await withWorkers(Class, () => byThreads(new Blob([MESSAGE]), { leafLength: 65536 }));
+  assert.deepEqual(lengths, [0, 0, 0]);
+  // the worker's side, here
+  const sent = [];
+  globalThis.postMessage = (...words) => sent.push(words);
+  await import("../src/worker.js");
+  const message = MESSAGE.slice(0, 1000);
+  const settings = { leafLength: 100, salt: SALT, personalization: new Uint8Array(0) };
+  globalThis.onmessage({ data: { settings, range: { first: 5n, ends: true }, message } });
+  delete globalThis.postMessage;
+  delete globalThis.onmessage;
+  const digests = treeLeaves(message, { leafLength: 100, first: 5, ends: true, salt: SALT });
+  assert.deepEqual(sent, [[digests, [digests.buffer]]]);
+});
+
 test("threads is an integer from 1 to 256, of the tree alone", async () => {
   const rejects = (options, name, message) =>
     assert.rejects(treeRootStream(new Blob([]), { leafLength: 5, ...options }), { name, message });
