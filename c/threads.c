@@ -290,7 +290,7 @@ int vulfsjor_tree_root_threads(void *out, size_t outlen, const void *in, size_t 
     int before, error = EINVAL;
 
     pthread_setcancelstate(PTHREAD_CANCEL_DISABLE, &before);
-    if (out && (in || !inlen) && !(inlen >> 58) &&
+    if ((in || !inlen) && !(inlen >> 58) &&
         !vulfsjor_tree_init(&state, outlen, salt, saltlen, personal, personallen, leaf_length))
         error = root_of_bytes(&j, out, outlen, threads);
     return answer(error, before);

@@ -87,6 +87,19 @@ names_are_hidden() {
         [ "$(names_of_object -D --defined-only "$work/libtheirs.so")" = theirs ]
 }
 
+# A program takes of the archives what it calls, if the linker leaves out the rest.
+programs_take_what_they_call() {
+    local lib=$prefix/lib section
+    block_of_readme c >"$work/hello.c"
+    cc -O2 -I"$include" "$work/hello.c" "$archive" -Wl,--gc-sections -o "$work/hello" &&
+        nm "$work/hello" >"$work/names" && grep -q ' blake2_c_blake2b_update$' "$work/names" &&
+        ! grep 'blake2_c_\(tree\|blake2s\|blake2b_many\)' "$work/names" || return 1
+    readelf -SW "$lib/libblake2_c-libb2.a" "$lib/libblake2_c-threads.a" >"$work/sections"
+    for section in blake2b_init blake2s_final vulfsjor_tree_root_fd; do
+        grep -q " \.text\.$section " "$work/sections" || return 1
+    done
+}
+
 # choose.c over functions of its own.
 compile_choose() {
     printf 'CALL("probe")\nCALL("probe_arguments")\n' >"$work/functions.h" &&
@@ -294,6 +307,7 @@ test_choosing() {
         check "one list of functions" names_are_one
         check "the shared library's form" shared_library_is_right
         check "the texts beside those of another version" texts_stand_together "${here_texts[@]}"
+        check "what a program takes of the library" programs_take_what_they_call
         check "hidden names, libblake2_c.a" names_are_hidden "$archive"
         check "hidden names, libblake2_c-libb2.a" names_are_hidden "$prefix/lib/libblake2_c-libb2.a"
     else
