@@ -1,29 +1,41 @@
-/* BLAKE2b and BLAKE2s (RFC 7693): the digest of a message in one call, or step by step with a
- * state that the caller keeps. No function takes or frees memory, or keeps a pointer. For C from
- * C99 on and C++ from C++11 on.
+/* BLAKE2b and BLAKE2s (RFC 7693): hashes, message authentication codes and trees of hashes. For C99
+ * and later, and for C++11 and later.
  *
- * C programs call the functions vulfsjor_*. Each of these is inline, tests for null pointers, and
- * then makes one call of a function blake2_c_* of the library. That one is proved to do what is
- * said here of the call, where the caller gives it what it asks for. The inline functions are C,
- * which no proof covers. Other languages call blake2_c_* themselves.
+ *     unsigned char digest[32];
+ *     vulfsjor_blake2b_state state;
+ *     if (vulfsjor_blake2b_init(&state, sizeof digest)) abort();
+ *     if (vulfsjor_blake2b_update(&state, "hello ", 6)) abort();
+ *     if (vulfsjor_blake2b_update(&state, "world", 5)) abort();
+ *     if (vulfsjor_blake2b_final(&state, digest, sizeof digest)) abort();
  *
- * Lengths are in bytes. A text is a pointer and a length, and a text of 0 bytes may be a null
- * pointer in a call of vulfsjor_*. No pointer that is given to blake2_c_* is null.
+ * Call the functions vulfsjor_*. They are inline: each checks for null pointers and then makes one
+ * call of a function blake2_c_* of the library. The functions blake2_c_* are proved to do what this
+ * file says, provided that the caller meets the preconditions. The inline functions are tested, not
+ * proved. Other languages call blake2_c_* directly.
  *
- * Status: 0, or -1 where the call is refused. -1 also where a state, an output, a parameter block,
- * a place in a tree or a text of more than 0 bytes is null. A refused call writes nothing and
- * leaves the state as it was, but for two:
- *   - A refused init leaves the state of zeros. All calls but init and wipe refuse that.
- *   - verify answers -1 for a wrong tag, and wipes the state then too. To try another tag, copy the
- *     state first. A state that is not ready, and that of a null tag of more than 0 bytes, stays.
+ * Lengths are in bytes. A pointer may be null if its length is 0.
  *
- * The caller owes, and no call can test, that each pointer is to as many bytes as its length
- * says, and that what a call writes (the state, the output) overlaps nothing else that it is
- * given.
+ * Return value: 0, or -1 if the call fails. The comment of each function says when it fails. Every
+ * function with a status also returns -1 if a pointer to a state, an output, a parameter block or
+ * tree parameters is null, or if any other pointer is null and its length is not 0. A call that
+ * fails writes nothing and leaves the state unchanged, with two exceptions:
+ *   - An init that fails sets the state to zero.
+ *   - verify returns -1 for a wrong tag, and then wipes the state too.
  *
- * Secrets: final and verify wipe the state. A call that is given a key, or compresses its block
- * (the first update, or a final or verify that had taken no input), overwrites its part of the
- * stack before it returns. Registers are not wiped. docs/WIPING.md says what was found and
+ * A state is ready after an init that returned 0, until final, verify or wipe sets it to zero.
+ * Calls with a status return -1 for a state that is not ready, except the inits.
+ *
+ * Preconditions, which no call can check: each pointer points to memory of at least the length that
+ * is passed with it. The memory that a call writes (the state, the output) overlaps no other
+ * argument.
+ *
+ * Memory and threads: no function allocates or frees memory, takes a lock, or keeps a pointer after
+ * it returns. Threads may call at the same time. One state may be used by only one thread at a
+ * time.
+ *
+ * Secrets: final and verify wipe the state. A call that is passed a key, or that compresses the
+ * key's block (the first update, or a final or verify of an empty message), overwrites its part of
+ * the stack before it returns. Registers are not wiped. docs/WIPING.md says what was found and
  * tested. */
 #ifndef BLAKE2_C_H
 #define BLAKE2_C_H
@@ -36,24 +48,25 @@
 extern "C" {
 #endif
 
-/* The version of this header: as a text, by its three numbers, and as the number that
- * vulfsjor_version returns for the library, 65,536 times the first, 256 times the second, and the
- * third. */
+/* The version of this header: as a string, as three numbers, and as the number that
+ * vulfsjor_version returns for the library. That number is 65,536 times the first, plus 256 times
+ * the second, plus the third. */
 #define VULFSJOR_VERSION "0.1.0"
 #define VULFSJOR_VERSION_MAJOR 0
 #define VULFSJOR_VERSION_MINOR 1
 #define VULFSJOR_VERSION_PATCH 0
 #define VULFSJOR_VERSION_NUMBER 0x000100
 
-/* On the calls whose answer no later call repeats, so that to ignore it is a fault. A refused init,
- * reset or set_last_node is no such call: what follows is refused too. */
+/* For functions whose failure would otherwise go unnoticed. init, reset and set_last_node are not
+ * marked: if they fail, every later call on the state fails too. */
 #if defined(__GNUC__)
 #define VULFSJOR_MUST_USE __attribute__((warn_unused_result))
 #else
 #define VULFSJOR_MUST_USE
 #endif
 
-/* Lengths in bytes: of a block, the longest digest and key, and the longest salt and persona. */
+/* Lengths in bytes: of a block, of the longest digest and key, and of the longest salt and
+ * personalization. */
 enum {
     VULFSJOR_BLAKE2B_BLOCKBYTES = 128,
     VULFSJOR_BLAKE2B_OUTBYTES = 64,
@@ -67,42 +80,42 @@ enum {
     VULFSJOR_BLAKE2S_PERSONALBYTES = 8
 };
 
-/* A run of BLAKE2b. Keep it anywhere that is aligned for it, copy it by assignment (a copy is a run
- * of its own), and leave its fields alone. An init of vulfsjor_* makes one, in memory of any
- * content; every other call, and each of blake2_c_*, asks for bytes that were written. No value of
- * them is unsafe: one that no init has made is refused, or has a digest without meaning. Two
- * threads may not use one at once.
+/* A state of BLAKE2b. Keep it in any memory with the alignment of its type. Copy it by assignment;
+ * copies are independent. Do not access its fields. The inits vulfsjor_* accept memory with any
+ * contents, initialized or not. All other functions, and all functions blake2_c_*, require that
+ * every byte was written. No contents are unsafe: if no init wrote them, calls fail or return a
+ * digest without meaning.
  *
- * Layout: a version that changes the size, the fields or their meaning of a state also changes the
- * soname of the shared library, so that a program never meets a library with other states. States
- * are not for files: a later version need not read them. */
+ * A version that changes the size, the fields or their meaning also changes the soname of the
+ * shared library. Do not write states to files: a later version need not read them. */
 typedef struct vulfsjor_blake2b_state {
     uint64_t chain[8];       /* the chaining words */
-    uint64_t first[8];       /* those that the run started from */
+    uint64_t first[8];       /* the chaining words before the first block */
     uint64_t counter;        /* the bytes of the blocks that were compressed */
-    size_t pending_length;   /* how many bytes are pending, 0 to 128 */
-    size_t start_length;     /* how many a reset leaves pending: those of a key's block, or none */
-    size_t output_size;      /* the bytes of the digest, 1 to 64; 0 in the state of zeros */
+    size_t pending_length;   /* the bytes that are pending, 0 to 128 */
+    size_t start_length;     /* the same after a reset: 128 with a key, otherwise 0 */
+    size_t output_size;      /* the bytes of the digest, 1 to 64; 0 in a wiped state */
     size_t last_node;        /* the last-node flag: 0 is off */
-    uint8_t pending[128];    /* the pending bytes, at the beginning */
-    uint8_t start_block[128]; /* those that a reset leaves pending, at the beginning */
+    uint8_t pending[128];    /* starts with the pending bytes */
+    uint8_t start_block[128]; /* the same after a reset */
 } vulfsjor_blake2b_state;
 
-/* The same of BLAKE2s. */
+/* A state of BLAKE2s. What the comment on vulfsjor_blake2b_state says holds for it too. */
 typedef struct vulfsjor_blake2s_state {
-    uint32_t chain[8];
-    uint32_t first[8];
-    uint64_t counter;
-    size_t pending_length;   /* 0 to 64 */
-    size_t start_length;
-    size_t output_size;      /* 1 to 32 */
-    size_t last_node;
-    uint8_t pending[64];
-    uint8_t start_block[64];
+    uint32_t chain[8];       /* the chaining words */
+    uint32_t first[8];       /* the chaining words before the first block */
+    uint64_t counter;        /* the bytes of the blocks that were compressed */
+    size_t pending_length;   /* the bytes that are pending, 0 to 64 */
+    size_t start_length;     /* the same after a reset: 64 with a key, otherwise 0 */
+    size_t output_size;      /* the bytes of the digest, 1 to 32; 0 in a wiped state */
+    size_t last_node;        /* the last-node flag: 0 is off */
+    uint8_t pending[64];     /* starts with the pending bytes */
+    uint8_t start_block[64]; /* the same after a reset */
 } vulfsjor_blake2s_state;
 
-/* The parameter block of BLAKE2b (the BLAKE2 document, 2.8), with the fields of the reference
- * code. Without a tree, fanout and depth are 1, and all other fields of numbers are 0. */
+/* The parameter block of BLAKE2b (the BLAKE2 document, 2.8), with the field names of the reference
+ * code. Without a tree, fanout and depth are 1, and node_offset, leaf_length, node_depth and
+ * inner_length are 0. */
 typedef struct vulfsjor_blake2b_param {
     uint8_t digest_length; /* 1 to 64 */
     uint8_t key_length;    /* 0 to 64 */
@@ -117,7 +130,9 @@ typedef struct vulfsjor_blake2b_param {
     uint8_t personal[16];
 } vulfsjor_blake2b_param;
 
-/* The same of BLAKE2s. */
+/* The parameter block of BLAKE2s (the BLAKE2 document, 2.8), with the field names of the reference
+ * code. Without a tree, fanout and depth are 1, and node_offset, leaf_length, node_depth and
+ * inner_length are 0. */
 typedef struct vulfsjor_blake2s_param {
     uint8_t digest_length; /* 1 to 32 */
     uint8_t key_length;    /* 0 to 32 */
@@ -131,36 +146,37 @@ typedef struct vulfsjor_blake2s_param {
     uint8_t personal[8];
 } vulfsjor_blake2s_param;
 
-/* The place of a hash in a tree of hashes (the BLAKE2 document, 2.10). A hash that is the whole
- * tree has fanout and depth 1, and 0 in all other fields. */
+/* Tree parameters: which node of a tree of hashes a state hashes (the BLAKE2 document, 2.10).
+ * Without a tree, fanout and depth are 1 and all other fields are 0. */
 typedef struct vulfsjor_tree {
-    uint64_t node_offset; /* the place of this node in its level; below 2^48 in BLAKE2s */
-    uint32_t leaf_length; /* the bytes of a leaf at most; 0 is no limit */
-    uint8_t fanout;       /* the children of a node at most; 0 is no limit */
-    uint8_t depth;        /* the levels of the tree, 1 to 255 */
-    uint8_t node_depth;   /* the level of this node, from 0, that of the leaves */
-    uint8_t inner_length; /* the bytes of an inner node's digest, up to 64 (BLAKE2s: 32) */
+    uint64_t node_offset; /* the index of this node in its level, from 0; below 2^48 in BLAKE2s */
+    uint32_t leaf_length; /* the maximum length of a leaf; 0 is unlimited */
+    uint8_t fanout;       /* the maximum number of children of a node; 0 is unlimited */
+    uint8_t depth;        /* the number of levels of the tree, 1 to 255 */
+    uint8_t node_depth;   /* the level of this node; leaves have 0 */
+    uint8_t inner_length; /* the length of an inner node's digest, up to 64 (BLAKE2s: 32) */
 } vulfsjor_tree;
 
-/* A message among several: its bytes, which are never null, and how many. */
+/* A message for the functions _many. bytes is never null, even if length is 0. */
 typedef struct vulfsjor_message {
     const void *bytes;
     size_t length;
 } vulfsjor_message;
 
-/* A run of a tree of hashes with two levels over BLAKE2b, to be kept as a run of BLAKE2b is. */
+/* A state of the tree of two levels over BLAKE2b. What the comment on vulfsjor_blake2b_state says
+ * holds for it too. */
 typedef struct vulfsjor_tree_state {
     vulfsjor_blake2b_state leaf; /* the open leaf, full or not */
-    vulfsjor_blake2b_state root; /* the root, which has taken the digests of the closed leaves */
-    uint64_t closed;             /* how many leaves are closed */
+    vulfsjor_blake2b_state root; /* the root, which has absorbed the digests of the closed leaves */
+    uint64_t closed;             /* the number of closed leaves */
     uint64_t leaf_length;        /* the bytes of a leaf, 1 to 2^32 - 1 */
     size_t salt_length;          /* the bytes of the salt, 0 to 16 */
-    size_t persona_length;       /* the bytes of the persona, 0 to 16 */
-    uint8_t salt[16];            /* the salt, at the beginning */
-    uint8_t persona[16];         /* the persona, at the beginning */
+    size_t persona_length;       /* the bytes of the personalization, 0 to 16 */
+    uint8_t salt[16];            /* starts with the salt */
+    uint8_t persona[16];         /* starts with the personalization */
 } vulfsjor_tree_state;
 
-/* The library is built for 64 bits, and knows these layouts. */
+/* The library requires a 64-bit platform and these layouts. */
 typedef char vulfsjor_layouts[sizeof(size_t) == 8 && sizeof(vulfsjor_blake2b_state) == 424 &&
                               sizeof(vulfsjor_blake2s_state) == 232 &&
                               sizeof(vulfsjor_tree_state) == 912 &&
@@ -168,11 +184,14 @@ typedef char vulfsjor_layouts[sizeof(size_t) == 8 && sizeof(vulfsjor_blake2b_sta
                               sizeof(vulfsjor_blake2b_param) == 64 &&
                               sizeof(vulfsjor_blake2s_param) == 32 ? 1 : -1];
 
-/* ---- The functions of the library. No pointer is null, and a state is memory of written bytes,
- * whatever they are. Each does what is said of the call of its name below, but for these: init does
- * what is said of init_salt_personal, init_node what is said of init_tree, and init_block what is
- * said of init_param. many refuses an out_length that is not count times output_size. is_same
- * takes texts of two lengths too, which differ. state_size answers the bytes of a state. */
+/* ---- The functions of the library, for other languages. Preconditions: no pointer is null, and
+ * every byte of a state was written. Each function does what is said below of the function with its
+ * name, with these exceptions:
+ *   - init does what is said of init_salt_personal, init_node of init_tree, and init_block of
+ *     init_param.
+ *   - many fails if out_length is not count times output_size.
+ *   - is_same accepts two lengths; buffers of different lengths differ.
+ *   - state_size returns the length of a state. */
 
 uint32_t blake2_c_version(void);
 int32_t blake2_c_is_same(const uint8_t *a, size_t a_length, const uint8_t *b, size_t b_length);
@@ -267,26 +286,26 @@ int32_t blake2_c_tree_update_leaves(vulfsjor_tree_state *state, const uint8_t *d
                                     size_t digests_length, const uint8_t *input,
                                     size_t input_length);
 
-/* ---- For C. */
+/* ---- For C and C++ */
 
-/* The pointer, or one that is not null for a text of 0 bytes. */
+/* Internal: returns the pointer, or a pointer that is not null if it is null. */
 static inline const uint8_t *vulfsjor_text(const void *text) {
     return text ? (const uint8_t *)text : (const uint8_t *)"";
 }
 
-/* The version of the library, as VULFSJOR_VERSION_NUMBER is that of this header. */
+/* Returns the version of the library, to compare with VULFSJOR_VERSION_NUMBER of this header. */
 static inline uint32_t vulfsjor_version(void) {
     return blake2_c_version();
 }
 
-/* 0 where the first length bytes of a and b are equal, and -1 where not. It looks at all of
- * them: the comparison for tags. */
+/* Returns 0 if the first length bytes of a and b are equal, and -1 otherwise. All bytes are
+ * compared, so use it for tags. */
 VULFSJOR_MUST_USE static inline int vulfsjor_is_same(const void *a, const void *b, size_t length) {
     if ((!a || !b) && length) return -1;
     return blake2_c_is_same(vulfsjor_text(a), length, vulfsjor_text(b), length);
 }
 
-/* Whether one of the messages has no bytes to point to. */
+/* Internal: returns whether the bytes of any message are null. */
 static inline int vulfsjor_has_null(const vulfsjor_message *messages, size_t count) {
     size_t i;
     for (i = 0; i < count; i++)
@@ -296,9 +315,11 @@ static inline int vulfsjor_has_null(const vulfsjor_message *messages, size_t cou
 
 /* -- BLAKE2b */
 
-/* Begins a run with digests of outlen bytes, 1 to 64, under a key of keylen bytes, 0 to 64 (0 is
- * no key), with a salt and a persona of up to 16 bytes each. Zeros behind a salt or a persona
- * change nothing. -1 where a length is not among these. */
+/* Initializes a state for BLAKE2b digests of outlen bytes, 1 to 64. The key has 0 to 64 bytes;
+ * without a key keylen is 0. With a key the digest is a message authentication code. The salt and
+ * the personalization have 0 to 16 bytes each, and trailing zeros in them change nothing. Use a
+ * different personalization for each purpose. Returns -1 and sets the state to zero if a length is
+ * out of range. */
 static inline int vulfsjor_blake2b_init_salt_personal(
     vulfsjor_blake2b_state *S, size_t outlen, const void *key, size_t keylen, const void *salt,
     size_t saltlen, const void *personal, size_t personallen) {
@@ -309,12 +330,15 @@ static inline int vulfsjor_blake2b_init_salt_personal(
                                  saltlen, vulfsjor_text(personal), personallen);
 }
 
-/* The same without key, salt and persona. */
+/* Initializes a state for BLAKE2b digests of outlen bytes, 1 to 64, without key, salt and
+ * personalization. Returns -1 and sets the state to zero if outlen is out of range. */
 static inline int vulfsjor_blake2b_init(vulfsjor_blake2b_state *S, size_t outlen) {
     return vulfsjor_blake2b_init_salt_personal(S, outlen, 0, 0, 0, 0, 0, 0);
 }
 
-/* The same under a key of 1 to 64 bytes, without salt and persona. */
+/* Initializes a state for BLAKE2b digests of outlen bytes, 1 to 64, under a key of 1 to 64 bytes,
+ * without salt and personalization. Returns -1 and sets the state to zero if a length is out of
+ * range. A key of 0 bytes is refused here. */
 static inline int vulfsjor_blake2b_init_key(vulfsjor_blake2b_state *S, size_t outlen,
                                             const void *key, size_t keylen) {
     if (!S) return -1;
@@ -323,9 +347,10 @@ static inline int vulfsjor_blake2b_init_key(vulfsjor_blake2b_state *S, size_t ou
     return blake2_c_blake2b_init_key(S, outlen, (const uint8_t *)key, keylen);
 }
 
-/* Begins the run of a node of a tree of hashes, at this place (the BLAKE2 document, 2.10), with
- * digest length, key, salt and persona as above. Its last-node flag is off. -1 also where there is
- * no such place: a depth of 0, or a number above those that the struct names. */
+/* Initializes a state for a node of a tree of hashes with these tree parameters (the BLAKE2
+ * document, 2.10). The other arguments are those of vulfsjor_blake2b_init_salt_personal. The
+ * last-node flag is off. Returns -1 and sets the state to zero if a length is out of range, if
+ * tree->depth is 0, or if tree->inner_length is more than 64. */
 static inline int vulfsjor_blake2b_init_tree(
     vulfsjor_blake2b_state *S, size_t outlen, const void *key, size_t keylen, const void *salt,
     size_t saltlen, const void *personal, size_t personallen, const vulfsjor_tree *tree) {
@@ -338,10 +363,10 @@ static inline int vulfsjor_blake2b_init_tree(
                                       tree->node_depth, tree->inner_length);
 }
 
-/* Begins a run from a parameter block, as it stands: the words of its bytes are xored into the
- * IV. Where it names a key, the first 128 bytes of input have to be the key with zeros behind
- * it. -1 where digest_length is not 1 to 64, or key_length more than 64; no other field is
- * looked at. */
+/* Initializes a state from a parameter block, whose bytes are xored into the IV as they are. If
+ * P->key_length is not 0, the first 128 bytes of input must be the key followed by zeros. Returns
+ * -1 and sets the state to zero if P->digest_length is not 1 to 64, or if P->key_length is more
+ * than 64. No other field is checked. */
 static inline int vulfsjor_blake2b_init_param(vulfsjor_blake2b_state *S,
                                               const vulfsjor_blake2b_param *P) {
     if (!S) return -1;
@@ -350,66 +375,69 @@ static inline int vulfsjor_blake2b_init_param(vulfsjor_blake2b_state *S,
     return blake2_c_blake2b_init_block(S, (const uint8_t *)P, sizeof *P);
 }
 
-/* Takes the input after all that was taken before. -1 where the bytes since the start, a key's
- * block among them, would be 2^64 or more. */
+/* Absorbs inlen bytes of input. The digest does not depend on how the input is split into calls.
+ * Returns -1 if the state is not ready, or if the bytes absorbed since the init or the last reset,
+ * with a key's block of 128 bytes, would be 2^64 or more. The state is then unchanged. */
 VULFSJOR_MUST_USE static inline int vulfsjor_blake2b_update(vulfsjor_blake2b_state *S,
                                                             const void *in, size_t inlen) {
     if (!S || (!in && inlen)) return -1;
     return blake2_c_blake2b_update(S, vulfsjor_text(in), inlen);
 }
 
-/* Writes the digest of all input since the start at the beginning of out, and wipes the state.
- * -1 where outlen, the bytes that out has room for, is less than the digest has. */
+/* Writes the digest of all input to the beginning of out, and wipes the state. outlen is the room
+ * in out. It may be more than the length of the digest; the remaining bytes are unchanged. Returns
+ * -1 if the state is not ready or the digest is longer than outlen. Then out and the state are
+ * unchanged. */
 VULFSJOR_MUST_USE static inline int vulfsjor_blake2b_final(vulfsjor_blake2b_state *S, void *out,
                                                            size_t outlen) {
     if (!S || !out) return -1;
     return blake2_c_blake2b_final(S, (uint8_t *)out, outlen);
 }
 
-/* Compares the tag with the digest of all input since the start, and wipes the state, whichever
- * the answer: 0 where the tag is the whole digest, -1 where not. It looks at all bytes of a tag of
- * the digest's length. To try another tag, copy the state first. A null tag of more than 0 bytes
- * leaves the state. */
+/* Returns 0 if tag is the whole digest of all input, and -1 otherwise. It wipes the state in either
+ * case, so copy the state first to try another tag. All bytes of a tag of the right length are
+ * compared. The state is unchanged if it was not ready, or if tag is null and taglen is not 0. */
 VULFSJOR_MUST_USE static inline int vulfsjor_blake2b_verify(vulfsjor_blake2b_state *S,
                                                             const void *tag, size_t taglen) {
     if (!S || (!tag && taglen)) return -1;
     return blake2_c_blake2b_verify(S, vulfsjor_text(tag), taglen);
 }
 
-/* Sets the last-node flag, or clears it where on is 0: it says that this is the last node of its
- * level in a tree of hashes (the BLAKE2 document, 2.10). It can be set at any time before the
- * digest. */
+/* Sets the last-node flag, or clears it if on is 0. The flag marks the last node on its level of a
+ * tree of hashes (the BLAKE2 document, 2.10). You may call it at any time before final or verify.
+ * Returns -1 if the state is not ready. */
 static inline int vulfsjor_blake2b_set_last_node(vulfsjor_blake2b_state *S, int on) {
     if (!S) return -1;
     return blake2_c_blake2b_set_last_node(S, (uint32_t)on);
 }
 
-/* Goes back to the start: no input is taken, and digest length, key, salt, persona, place in a
- * tree and last-node flag are kept. */
+/* Discards all input. Digest length, key, salt, personalization, tree parameters and last-node flag
+ * are kept. After init_param the key's block is input, so pass it again. Returns -1 if the state is
+ * not ready. */
 static inline int vulfsjor_blake2b_reset(vulfsjor_blake2b_state *S) {
     if (!S) return -1;
     return blake2_c_blake2b_reset(S);
 }
 
-/* Sets the state to zeros, whatever it was. */
+/* Sets every byte of the state to zero, whether it is ready or not. Does nothing if S is null. */
 static inline void vulfsjor_blake2b_wipe(vulfsjor_blake2b_state *S) {
     if (S) blake2_c_blake2b_wipe(S);
 }
 
-/* The bytes of the digest that the state will give, 1 to 64; 0 where it is null or gives none. */
+/* Returns the length of the state's digest, 1 to 64; 0 if the state is null or not ready. */
 static inline size_t vulfsjor_blake2b_digest_size(const vulfsjor_blake2b_state *S) {
     return S ? blake2_c_blake2b_digest_size(S) : 0;
 }
 
-/* The number of bytes of input that the state has absorbed since its start or its last reset; the
- * block of a key is not counted, unless it was given as input after init_param. 0 if the state is
- * null or not ready. */
+/* Returns the number of bytes of input absorbed since the init or the last reset; 0 if the state is
+ * null or not ready. A key's block is counted only if it was passed as input after init_param. */
 static inline uint64_t vulfsjor_blake2b_count(const vulfsjor_blake2b_state *S) {
     return S ? blake2_c_blake2b_count(S) : 0;
 }
 
-/* The digest of the input in outlen bytes, 1 to 64, under a key of 0 to 64 bytes (0 is no key).
- * -1 where a length is not among these, or input and key's block are 2^64 bytes or more. */
+/* Writes the BLAKE2b digest of the input to out: outlen bytes, 1 to 64, under a key of 0 to 64
+ * bytes; without a key keylen is 0. Returns -1 and writes nothing if a length is out of range, or
+ * if the input and a key's block of 128 bytes have 2^64 bytes or more. */
 VULFSJOR_MUST_USE static inline int vulfsjor_blake2b(void *out, size_t outlen, const void *in,
                                                      size_t inlen, const void *key, size_t keylen) {
     if (!out || (!in && inlen) || (!key && keylen)) return -1;
@@ -417,12 +445,13 @@ VULFSJOR_MUST_USE static inline int vulfsjor_blake2b(void *out, size_t outlen, c
                             keylen);
 }
 
-/* The digests of count messages, each as vulfsjor_blake2b has it, with a salt and a persona too,
- * all under the same arguments: digest i stands in the outlen bytes at out + i * outlen. Four
- * messages in a row of one length are hashed at once; the build for x86-64-v3 takes fewer
- * instructions so than one by one (docs/SPEED.md of the repository has times). -1 where
- * vulfsjor_blake2b or an init refuses one of them. -1 too where out, messages or the bytes of one
- * of them are null, whatever the count and the lengths. Nothing is then written. */
+/* Writes the digests of count messages to out, which has room for count * outlen bytes. Digest i is
+ * at out + i * outlen. All have the same digest length, key, salt and personalization, with the
+ * lengths of vulfsjor_blake2b_init_salt_personal. Four messages in a row that have the same length
+ * are hashed in parallel. Built for x86-64-v3, that needs fewer instructions than one after another
+ * (docs/SPEED.md has times). Returns -1 and writes nothing if a length is out of range, if a
+ * message and a key's block have 2^64 bytes or more, or if out, messages or the bytes of a message
+ * are null, even if count or the length is 0. */
 VULFSJOR_MUST_USE static inline int vulfsjor_blake2b_many(
     void *out, size_t outlen, const vulfsjor_message *messages, size_t count, const void *key,
     size_t keylen, const void *salt, size_t saltlen, const void *personal, size_t personallen) {
@@ -433,9 +462,13 @@ VULFSJOR_MUST_USE static inline int vulfsjor_blake2b_many(
                                  vulfsjor_text(personal), personallen);
 }
 
-/* -- BLAKE2s: the same, with digests and keys of up to 32 bytes, salts and personas of up to 8,
- * and key blocks of 64. */
+/* -- BLAKE2s */
 
+/* Initializes a state for BLAKE2s digests of outlen bytes, 1 to 32. The key has 0 to 32 bytes;
+ * without a key keylen is 0. With a key the digest is a message authentication code. The salt and
+ * the personalization have 0 to 8 bytes each, and trailing zeros in them change nothing. Use a
+ * different personalization for each purpose. Returns -1 and sets the state to zero if a length is
+ * out of range. */
 static inline int vulfsjor_blake2s_init_salt_personal(
     vulfsjor_blake2s_state *S, size_t outlen, const void *key, size_t keylen, const void *salt,
     size_t saltlen, const void *personal, size_t personallen) {
@@ -446,10 +479,15 @@ static inline int vulfsjor_blake2s_init_salt_personal(
                                  saltlen, vulfsjor_text(personal), personallen);
 }
 
+/* Initializes a state for BLAKE2s digests of outlen bytes, 1 to 32, without key, salt and
+ * personalization. Returns -1 and sets the state to zero if outlen is out of range. */
 static inline int vulfsjor_blake2s_init(vulfsjor_blake2s_state *S, size_t outlen) {
     return vulfsjor_blake2s_init_salt_personal(S, outlen, 0, 0, 0, 0, 0, 0);
 }
 
+/* Initializes a state for BLAKE2s digests of outlen bytes, 1 to 32, under a key of 1 to 32 bytes,
+ * without salt and personalization. Returns -1 and sets the state to zero if a length is out of
+ * range. A key of 0 bytes is refused here. */
 static inline int vulfsjor_blake2s_init_key(vulfsjor_blake2s_state *S, size_t outlen,
                                             const void *key, size_t keylen) {
     if (!S) return -1;
@@ -458,6 +496,11 @@ static inline int vulfsjor_blake2s_init_key(vulfsjor_blake2s_state *S, size_t ou
     return blake2_c_blake2s_init_key(S, outlen, (const uint8_t *)key, keylen);
 }
 
+/* Initializes a state for a node of a tree of hashes with these tree parameters (the BLAKE2
+ * document, 2.10). The other arguments are those of vulfsjor_blake2s_init_salt_personal. The
+ * last-node flag is off. Returns -1 and sets the state to zero if a length is out of range, if
+ * tree->depth is 0, if tree->inner_length is more than 32, or if tree->node_offset is 2^48 or
+ * more. */
 static inline int vulfsjor_blake2s_init_tree(
     vulfsjor_blake2s_state *S, size_t outlen, const void *key, size_t keylen, const void *salt,
     size_t saltlen, const void *personal, size_t personallen, const vulfsjor_tree *tree) {
@@ -470,6 +513,10 @@ static inline int vulfsjor_blake2s_init_tree(
                                       tree->node_depth, tree->inner_length);
 }
 
+/* Initializes a state from a parameter block, whose bytes are xored into the IV as they are. If
+ * P->key_length is not 0, the first 64 bytes of input must be the key followed by zeros. Returns -1
+ * and sets the state to zero if P->digest_length is not 1 to 32, or if P->key_length is more than
+ * 32. No other field is checked. */
 static inline int vulfsjor_blake2s_init_param(vulfsjor_blake2s_state *S,
                                               const vulfsjor_blake2s_param *P) {
     if (!S) return -1;
@@ -478,46 +525,69 @@ static inline int vulfsjor_blake2s_init_param(vulfsjor_blake2s_state *S,
     return blake2_c_blake2s_init_block(S, (const uint8_t *)P, sizeof *P);
 }
 
+/* Absorbs inlen bytes of input. The digest does not depend on how the input is split into calls.
+ * Returns -1 if the state is not ready, or if the bytes absorbed since the init or the last reset,
+ * with a key's block of 64 bytes, would be 2^64 or more. The state is then unchanged. */
 VULFSJOR_MUST_USE static inline int vulfsjor_blake2s_update(vulfsjor_blake2s_state *S,
                                                             const void *in, size_t inlen) {
     if (!S || (!in && inlen)) return -1;
     return blake2_c_blake2s_update(S, vulfsjor_text(in), inlen);
 }
 
+/* Writes the digest of all input to the beginning of out, and wipes the state. outlen is the room
+ * in out. It may be more than the length of the digest; the remaining bytes are unchanged. Returns
+ * -1 if the state is not ready or the digest is longer than outlen. Then out and the state are
+ * unchanged. */
 VULFSJOR_MUST_USE static inline int vulfsjor_blake2s_final(vulfsjor_blake2s_state *S, void *out,
                                                            size_t outlen) {
     if (!S || !out) return -1;
     return blake2_c_blake2s_final(S, (uint8_t *)out, outlen);
 }
 
+/* Returns 0 if tag is the whole digest of all input, and -1 otherwise. It wipes the state in either
+ * case, so copy the state first to try another tag. All bytes of a tag of the right length are
+ * compared. The state is unchanged if it was not ready, or if tag is null and taglen is not 0. */
 VULFSJOR_MUST_USE static inline int vulfsjor_blake2s_verify(vulfsjor_blake2s_state *S,
                                                             const void *tag, size_t taglen) {
     if (!S || (!tag && taglen)) return -1;
     return blake2_c_blake2s_verify(S, vulfsjor_text(tag), taglen);
 }
 
+/* Sets the last-node flag, or clears it if on is 0. The flag marks the last node on its level of a
+ * tree of hashes (the BLAKE2 document, 2.10). You may call it at any time before final or verify.
+ * Returns -1 if the state is not ready. */
 static inline int vulfsjor_blake2s_set_last_node(vulfsjor_blake2s_state *S, int on) {
     if (!S) return -1;
     return blake2_c_blake2s_set_last_node(S, (uint32_t)on);
 }
 
+/* Discards all input. Digest length, key, salt, personalization, tree parameters and last-node flag
+ * are kept. After init_param the key's block is input, so pass it again. Returns -1 if the state is
+ * not ready. */
 static inline int vulfsjor_blake2s_reset(vulfsjor_blake2s_state *S) {
     if (!S) return -1;
     return blake2_c_blake2s_reset(S);
 }
 
+/* Sets every byte of the state to zero, whether it is ready or not. Does nothing if S is null. */
 static inline void vulfsjor_blake2s_wipe(vulfsjor_blake2s_state *S) {
     if (S) blake2_c_blake2s_wipe(S);
 }
 
+/* Returns the length of the state's digest, 1 to 32; 0 if the state is null or not ready. */
 static inline size_t vulfsjor_blake2s_digest_size(const vulfsjor_blake2s_state *S) {
     return S ? blake2_c_blake2s_digest_size(S) : 0;
 }
 
+/* Returns the number of bytes of input absorbed since the init or the last reset; 0 if the state is
+ * null or not ready. A key's block is counted only if it was passed as input after init_param. */
 static inline uint64_t vulfsjor_blake2s_count(const vulfsjor_blake2s_state *S) {
     return S ? blake2_c_blake2s_count(S) : 0;
 }
 
+/* Writes the BLAKE2s digest of the input to out: outlen bytes, 1 to 32, under a key of 0 to 32
+ * bytes; without a key keylen is 0. Returns -1 and writes nothing if a length is out of range, or
+ * if the input and a key's block of 64 bytes have 2^64 bytes or more. */
 VULFSJOR_MUST_USE static inline int vulfsjor_blake2s(void *out, size_t outlen, const void *in,
                                                      size_t inlen, const void *key, size_t keylen) {
     if (!out || (!in && inlen) || (!key && keylen)) return -1;
@@ -525,7 +595,13 @@ VULFSJOR_MUST_USE static inline int vulfsjor_blake2s(void *out, size_t outlen, c
                             keylen);
 }
 
-/* Eight messages in a row of one length are hashed at once. */
+/* Writes the digests of count messages to out, which has room for count * outlen bytes. Digest i is
+ * at out + i * outlen. All have the same digest length, key, salt and personalization, with the
+ * lengths of vulfsjor_blake2s_init_salt_personal. Eight messages in a row that have the same length
+ * are hashed in parallel. Built for x86-64-v3, that needs fewer instructions than one after another
+ * (docs/SPEED.md has times). Returns -1 and writes nothing if a length is out of range, if a
+ * message and a key's block have 2^64 bytes or more, or if out, messages or the bytes of a message
+ * are null, even if count or the length is 0. */
 VULFSJOR_MUST_USE static inline int vulfsjor_blake2s_many(
     void *out, size_t outlen, const vulfsjor_message *messages, size_t count, const void *key,
     size_t keylen, const void *salt, size_t saltlen, const void *personal, size_t personallen) {
@@ -536,13 +612,15 @@ VULFSJOR_MUST_USE static inline int vulfsjor_blake2s_many(
                                  vulfsjor_text(personal), personallen);
 }
 
-/* -- The tree of two levels over BLAKE2b (the BLAKE2 document, 2.10) */
+/* -- The tree of two levels over BLAKE2b (the BLAKE2 document, 2.10). The message is cut into
+ * leaves of leaf_length bytes, the last of which may be shorter. The root hashes their digests of
+ * 64 bytes. All nodes have the salt and the personalization, fanout 0, depth 2, this leaf length
+ * and inner length 64. The last leaf and the root have the last-node flag. The root is not the
+ * BLAKE2b digest of the message. */
 
-/* The root of the tree, in outlen bytes, 1 to 64: the input is cut into leaves of leaf_length
- * bytes, the last of which may be shorter, and the root hashes their digests of 64 bytes. All nodes
- * have the salt and the persona, fanout 0, depth 2, this leaf length and inner length 64; the last
- * leaf and the root have the last-node flag. -1 where outlen is another, leaf_length is 0, salt or
- * persona have more than 16 bytes, or the input has 2^58 or more. */
+/* Writes the root of the input's tree to out: outlen bytes, 1 to 64. leaf_length is at least 1, and
+ * the salt and the personalization have 0 to 16 bytes each. Returns -1 and writes nothing if a
+ * length is out of range, or if the input has 2^58 bytes or more. */
 VULFSJOR_MUST_USE static inline int vulfsjor_tree_root(void *out, size_t outlen, const void *in,
                                                        size_t inlen, const void *salt,
                                                        size_t saltlen, const void *personal,
@@ -552,8 +630,8 @@ VULFSJOR_MUST_USE static inline int vulfsjor_tree_root(void *out, size_t outlen,
                               saltlen, vulfsjor_text(personal), personallen, leaf_length);
 }
 
-/* Begins a run of that tree, with a root of outlen bytes, 1 to 64. -1 where outlen is another,
- * leaf_length is 0, or salt or persona have more than 16 bytes. */
+/* Initializes a state for a root of outlen bytes, 1 to 64. The other arguments are those of
+ * vulfsjor_tree_root. Returns -1 and sets the state to zero if a length is out of range. */
 static inline int vulfsjor_tree_init(vulfsjor_tree_state *S, size_t outlen, const void *salt,
                                      size_t saltlen, const void *personal, size_t personallen,
                                      uint32_t leaf_length) {
@@ -564,63 +642,71 @@ static inline int vulfsjor_tree_init(vulfsjor_tree_state *S, size_t outlen, cons
                               personallen, leaf_length);
 }
 
-/* Takes the input after all that was taken before, of any length. Whole leaves behind the open one
- * are hashed four at once, where more follows them, so pieces of several leaves suit it best. -1
- * where the bytes of all would be 2^58 or more. */
+/* Absorbs inlen bytes of input. The root does not depend on how the input is split into calls.
+ * Pieces of several leaves are fastest: whole leaves after the open one are hashed four in
+ * parallel, if more input follows them. Returns -1 if the state is not ready, or if it would have
+ * absorbed 2^58 bytes or more. The state is then unchanged. */
 VULFSJOR_MUST_USE static inline int vulfsjor_tree_update(vulfsjor_tree_state *S, const void *in,
                                                          size_t inlen) {
     if (!S || (!in && inlen)) return -1;
     return blake2_c_tree_update(S, vulfsjor_text(in), inlen);
 }
 
-/* Writes the root of all input at the beginning of out, and wipes the state. -1 where outlen, the
- * bytes that out has room for, is less than the root has. */
+/* Writes the root of all input to the beginning of out, and wipes the state. outlen is the room in
+ * out. It may be more than the length of the root; the remaining bytes are unchanged. Returns -1 if
+ * the state is not ready or the root is longer than outlen. Then out and the state are
+ * unchanged. */
 VULFSJOR_MUST_USE static inline int vulfsjor_tree_final(vulfsjor_tree_state *S, void *out,
                                                         size_t outlen) {
     if (!S || !out) return -1;
     return blake2_c_tree_final(S, (uint8_t *)out, outlen);
 }
 
-/* Sets the state to zeros, whatever it was. */
+/* Sets every byte of the state to zero, whether it is ready or not. Does nothing if S is null. */
 static inline void vulfsjor_tree_wipe(vulfsjor_tree_state *S) {
     if (S) blake2_c_tree_wipe(S);
 }
 
-/* The bytes of the root that the state will give, 1 to 64; 0 where it is null or gives none. */
+/* Returns the length of the state's root, 1 to 64; 0 if the state is null or not ready. */
 static inline size_t vulfsjor_tree_digest_size(const vulfsjor_tree_state *S) {
     return S ? blake2_c_tree_digest_size(S) : 0;
 }
 
-/* The number of bytes of input that the state has absorbed; 0 if it is null or not ready. */
+/* Returns the number of bytes of input that the state has absorbed; 0 if it is null or not
+ * ready. */
 static inline uint64_t vulfsjor_tree_count(const vulfsjor_tree_state *S) {
     return S ? blake2_c_tree_count(S) : 0;
 }
 
-/* The number of bytes in a leaf of the state's tree, 1 to 2^32 - 1; 0 if the state is null or not
+/* Returns the length of a leaf of the state's tree, 1 to 2^32 - 1; 0 if the state is null or not
  * ready. */
 static inline uint32_t vulfsjor_tree_leaf_length(const vulfsjor_tree_state *S) {
     return S ? blake2_c_tree_leaf_length(S) : 0;
 }
 
 /* -- The same tree in parts, for threads, processes or machines. The digests of a range of leaves
- * need the bytes of that range alone. Ranges may be hashed in any order and at the same time; their
- * digests, put together in the order of the leaves, are those of all leaves, whatever the cut, and
- * root_of_leaves of them is vulfsjor_tree_root of the whole message. Where leaves have changed,
- * hash a range that holds them again, put its digests in the place of the old ones, and the root
- * over all is that of the message as it is now. */
+ * need only the bytes of that range. Hash ranges in any order and at the same time, and join their
+ * digests in the order of the leaves. vulfsjor_tree_root_of_leaves of all digests is
+ * vulfsjor_tree_root of the message. If leaves have changed, hash a range that contains them again,
+ * replace its digests, and compute the root again. */
 
-/* How many leaves inlen bytes make: one at least. 0 where leaf_length is 0. */
+/* Returns the number of leaves of a message of inlen bytes, which is at least 1; 0 if leaf_length
+ * is 0. */
 static inline uint64_t vulfsjor_tree_leaf_count(uint64_t inlen, uint32_t leaf_length) {
     return blake2_c_tree_leaf_count(inlen, leaf_length);
 }
 
-/* Writes the digests of a range of leaves, 64 bytes for each, to out: leaf first, counted from 0,
- * and those behind it that the input makes. ends says whether the message ends with them (0 is no):
- * if so the last leaf may be shorter, and else all are whole. outlen is 64 times
- * vulfsjor_tree_leaf_count of inlen. -1 where it is not, where the input is no range of leaves (it
- * is not whole leaves, and ends is 0; it has no bytes, and is not all of a message of none, which
- * is first 0 and an ends that is not 0; or it goes beyond byte 2^58 of the message), where
- * leaf_length is 0, or salt or persona have more than 16 bytes. */
+/* Writes the digests of a range of leaves to out, 64 bytes each. The input is the bytes of these
+ * leaves, and first is the index of the first one, counted from 0. ends is whether the message ends
+ * with the input (0 if not). If it does, the last leaf may be shorter; if not, all leaves must be
+ * whole. No call can check ends: a wrong value on whole leaves makes a wrong root. outlen must be
+ * 64 times vulfsjor_tree_leaf_count(inlen, leaf_length). Returns -1 and writes nothing
+ *
+ *   - if outlen is another number, leaf_length is 0, or the salt or the personalization has more
+ *     than 16 bytes;
+ *   - if ends is 0 and the input is empty or not whole leaves;
+ *   - if ends is not 0 and the input is empty, unless first is 0 (an empty message has one leaf);
+ *   - if the range ends at byte 2^58 of the message or after it. */
 VULFSJOR_MUST_USE static inline int vulfsjor_tree_leaves(void *out, size_t outlen, uint64_t first,
                                                          int ends, const void *in, size_t inlen,
                                                          const void *salt, size_t saltlen,
@@ -632,9 +718,9 @@ VULFSJOR_MUST_USE static inline int vulfsjor_tree_leaves(void *out, size_t outle
                                 leaf_length);
 }
 
-/* The root over the digests of all leaves, 64 bytes for each, in their order, in outlen bytes, 1 to
- * 64. -1 where outlen is another, digestslen is 0 or no multiple of 64, leaf_length is 0, or salt
- * or persona have more than 16 bytes. */
+/* Writes the root over the digests of all leaves, 64 bytes each, in their order, to out: outlen
+ * bytes, 1 to 64. The other arguments are those of vulfsjor_tree_root. Returns -1 and writes
+ * nothing if digestslen is 0 or not a multiple of 64, or if another length is out of range. */
 VULFSJOR_MUST_USE static inline int
 vulfsjor_tree_root_of_leaves(void *out, size_t outlen, const void *digests, size_t digestslen,
                              const void *salt, size_t saltlen, const void *personal,
@@ -645,16 +731,17 @@ vulfsjor_tree_root_of_leaves(void *out, size_t outlen, const void *digests, size
                                         vulfsjor_text(personal), personallen, leaf_length);
 }
 
-/* -- A run of that tree whose leaves are hashed apart, for a stream that threads hash. The state is
- * at a leaf boundary when vulfsjor_tree_count is a multiple of vulfsjor_tree_leaf_length. Then
- * threads hash the next leaves with next_leaves, which only reads the state, and one update_leaves
- * absorbs the digests of all of them, in order, and the input that follows. */
+/* -- The same tree as a stream whose leaves are hashed by threads. A state is at a leaf boundary if
+ * vulfsjor_tree_count is a multiple of vulfsjor_tree_leaf_length. Then threads hash the next leaves
+ * with next_leaves, which only reads the state. One call of update_leaves absorbs the digests of
+ * all of them, in order, and the input that follows. */
 
-/* Writes the digests of whole leaves of the state's tree, 64 bytes for each, to out. The first of
- * them is the one skip leaves after the next leaf of the state, which must be at a leaf boundary.
- * None of them is the last leaf of the message. outlen is 64 times the number of leaves. -1 if the
- * state is not at a leaf boundary, the input is empty or not whole leaves, outlen is another, or
- * the leaves go beyond byte 2^58 of the message. */
+/* Writes the digests of whole leaves of the state's tree to out, 64 bytes each. The input is the
+ * bytes of these leaves. The first is skip leaves after the next leaf of the state, and none of
+ * them is the last leaf of the message. outlen must be 64 times the number of leaves. Returns -1
+ * and writes nothing if the state is not ready or not at a leaf boundary, if the input is empty or
+ * not whole leaves, if outlen is another number, or if the leaves end at byte 2^58 of the message
+ * or after it. */
 VULFSJOR_MUST_USE static inline int vulfsjor_tree_next_leaves(const vulfsjor_tree_state *S,
                                                               void *out, size_t outlen,
                                                               uint64_t skip, const void *in,
@@ -663,13 +750,13 @@ VULFSJOR_MUST_USE static inline int vulfsjor_tree_next_leaves(const vulfsjor_tre
     return blake2_c_tree_next_leaves(S, (uint8_t *)out, outlen, skip, vulfsjor_text(in), inlen);
 }
 
-/* Absorbs whole leaves, given by their digests as next_leaves writes them from skip 0 on, and then
- * the input: the state is then the one that vulfsjor_tree_update makes of the leaves' bytes and the
- * input. The state must be at a leaf boundary, and at least one byte of input follows the digests,
- * since the last leaf of a message has another digest. Without digests (digestslen 0) this is
- * vulfsjor_tree_update. -1 if digestslen is not a multiple of 64, if there are digests but the
- * state is not at a leaf boundary or the input is empty, or if the bytes of all would be 2^58 or
- * more. */
+/* Absorbs whole leaves, given by the digests that next_leaves wrote from skip 0 on, and then inlen
+ * bytes of input. The state is then the one that vulfsjor_tree_update would make of the leaves'
+ * bytes and the input. If there are digests, the state must be at a leaf boundary and inlen at
+ * least 1, since the last leaf of a message has another digest. Without digests (digestslen 0) this
+ * is vulfsjor_tree_update. Returns -1 if the state is not ready, if digestslen is not a multiple of
+ * 64, if there are digests but the state is not at a leaf boundary or the input is empty, or if the
+ * state would have absorbed 2^58 bytes or more. The state is then unchanged. */
 VULFSJOR_MUST_USE static inline int vulfsjor_tree_update_leaves(vulfsjor_tree_state *S,
                                                                 const void *digests,
                                                                 size_t digestslen, const void *in,

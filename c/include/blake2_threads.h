@@ -1,23 +1,24 @@
-/* The root of vulfsjor_tree_root by several threads: of bytes in memory, of a file, and of a
- * message that is absorbed in pieces.
+/* The root of the tree of two levels (blake2_c.h) by several threads: of bytes in memory, of a
+ * file, and of a message that is absorbed in pieces.
  *
  *   cc program.c $(pkg-config --cflags --libs blake2_c-threads)
  *
  * These functions allocate memory and start threads, so they are in a separate library,
- * libblake2_c-threads.a, which is linked before libblake2_c.a and with -pthread. They are C over
- * the proved library, and are tested, not proved.
+ * libblake2_c-threads.a. Link it before libblake2_c.a and with -pthread. They are C over the proved
+ * library, and are tested, not proved.
  *
  * The root depends on the leaf length, and never on the number of threads. Each thread hashes
- * ranges of leaves (vulfsjor_tree_leaves); the caller's thread is one of them, and hashes their
- * digests at the end. All threads have ended when a call returns.
+ * ranges of leaves (vulfsjor_tree_leaves). The caller's thread is one of them, and hashes the
+ * digests of the leaves at the end. All threads have ended when a call returns.
  *
- * threads is the number of threads that hash, the caller's among them, at most 256. 0 is one for
- * each processor that the caller's thread may run on. At most one thread hashes for each 256 KiB of
- * input. If the system starts fewer, those that run hash everything.
+ * threads is the number of threads that hash, with the caller's: at most 256, and 0 is one for each
+ * processor that the caller's thread may run on. A call uses at most one thread for each 256 KiB of
+ * input. If the system starts fewer threads, those that run hash everything.
  *
- * Each call returns 0, or -1 with errno. It then has written nothing to out. The errors are:
+ * Every function returns 0, or -1 with errno if it fails. It then has written nothing to out. The
+ * errors are:
  *
- *   EINVAL   a pointer is null, or a length is not accepted, as in vulfsjor_tree_root
+ *   EINVAL   a pointer is null, or a length is out of range, as in vulfsjor_tree_root
  *   ENOMEM   an allocation failed
  *   EFBIG    a file has 2^58 bytes or more
  *   EIO      a file ended before the length that it had when the call began
@@ -25,13 +26,13 @@
  * and those of open, fstat, lseek, read and pread. EINTR comes only from open: an interrupted read
  * is repeated.
  *
- * A call allocates 64 bytes for each leaf, except for one thread in memory and for files that one
- * thread reads to the end. For a file each thread allocates a buffer too: of 1 MiB or four leaves,
- * whichever is more, and of at most 16 MiB.
+ * A call allocates 64 bytes for each leaf, except with one thread in memory and for files that one
+ * thread reads to the end. For a file each thread also allocates a buffer: 1 MiB or four leaves,
+ * whichever is more, and at most 16 MiB.
  *
- * The threads that a call starts take no signals, except SIGBUS and SIGSEGV. A call is not a
- * cancellation point. As with any call of the library, several threads may call at the same time,
- * while nobody writes to their input. */
+ * The threads that a call starts block all signals except SIGBUS and SIGSEGV. A call is not a
+ * cancellation point. Several threads may call at the same time, as long as none writes to the
+ * input of another. */
 #ifndef BLAKE2_THREADS_H
 #define BLAKE2_THREADS_H
 
@@ -41,36 +42,38 @@
 extern "C" {
 #endif
 
-/* Writes vulfsjor_tree_root of inlen bytes to out, in outlen bytes, 1 to 64. */
+/* Writes the root of inlen bytes to out: outlen bytes, 1 to 64. The other arguments are those of
+ * vulfsjor_tree_root, and so is the root. */
 VULFSJOR_MUST_USE int vulfsjor_tree_root_threads(void *out, size_t outlen, const void *in,
                                                  size_t inlen, const void *salt, size_t saltlen,
                                                  const void *personal, size_t personallen,
                                                  uint32_t leaf_length, unsigned threads);
 
-/* Writes the root of the file with this path to out, in outlen bytes, 1 to 64.
+/* Writes the root of the file with this path to out: outlen bytes, 1 to 64.
  *
- * A regular file of at least 256 KiB is read by several threads. Its root is that of the length
- * that it had when the call began: what is appended meanwhile is not hashed, and EIO is returned if
- * it became shorter. Bytes that are changed meanwhile are hashed in either form. Any other file is
- * read to its end by the caller's thread: a pipe, a device, a short file, a file of /proc. A
- * directory is refused with EISDIR. */
+ * A regular file of at least 256 KiB is read by several threads. Its length is the one that it had
+ * when the call began: bytes appended meanwhile are not hashed, and the call fails with EIO if the
+ * file became shorter. Bytes that are changed meanwhile are hashed as they were or as they are. Any
+ * other file (a pipe, a device, a short file, a file of /proc) is read to its end by the caller's
+ * thread. A directory fails with EISDIR. */
 VULFSJOR_MUST_USE int vulfsjor_tree_root_file(void *out, size_t outlen, const char *path,
                                               const void *salt, size_t saltlen,
                                               const void *personal, size_t personallen,
                                               uint32_t leaf_length, unsigned threads);
 
-/* The same for an open file, from its position to its end, where its position is then. If the call
- * fails, the position is any. The descriptor stays open. */
+/* Writes the root of an open file, from its position to its end, to out: outlen bytes, 1 to 64. The
+ * position is then at the end; if the call fails, it is unspecified. The descriptor stays open. A
+ * file is read as by vulfsjor_tree_root_file. */
 VULFSJOR_MUST_USE int vulfsjor_tree_root_fd(void *out, size_t outlen, int fd, const void *salt,
                                             size_t saltlen, const void *personal,
                                             size_t personallen, uint32_t leaf_length,
                                             unsigned threads);
 
-/* Absorbs inlen bytes into the state, as vulfsjor_tree_update does, which may absorb others before
- * and after. Pieces of several MiB suit it best: the end of a leaf that is open, and the last leaf
- * of the input, are hashed by the caller's thread. EINVAL: the state is null or not ready, in is
- * null and inlen is not 0, or the bytes of all would be 2^58 or more. If the call fails, the state
- * stays as it was. */
+/* Absorbs inlen bytes of input, with the same result as vulfsjor_tree_update, which you may call
+ * before and after. Pieces of several MiB are fastest: the caller's thread hashes the end of an
+ * open leaf and the last leaf of the input. Fails with EINVAL if the state is null or not ready, if in
+ * is null and inlen is not 0, or if the state would have absorbed 2^58 bytes or more. If the call
+ * fails, the state is unchanged. */
 VULFSJOR_MUST_USE int vulfsjor_tree_update_threads(vulfsjor_tree_state *S, const void *in,
                                                    size_t inlen, unsigned threads);
 

@@ -1,12 +1,11 @@
-/* libb2's functions under their own names, over blake2_c.h, for what looks for libb2 by linking
- * with it (a configure script) or was compiled with libb2's own header. c/join.sh puts them and the
- * library into libblake2_c-libb2.a.
+/* libb2's functions under their own names, over blake2_c.h: for programs that look for libb2 by
+ * linking with it (configure scripts), and for objects that were compiled with libb2's own header.
+ * c/join.sh puts them and the library into libblake2_c-libb2.a.
  *
  * A state has libb2's layout here. ../include/libb2/blake2.h, whose functions are inline, has
- * another: the parts of a program that hand a state to each other are compiled with one and the
- * same header.
+ * another one, so compile all parts of a program that share a state with the same header.
  *
- * c/README.md lists what differs from libb2. blake2sp and blake2bp are not here. */
+ * c/LIBB2.md lists the differences from libb2. blake2sp and blake2bp are not here. */
 #include "../include/blake2_c.h"
 
 #pragma GCC visibility push(hidden)

@@ -1,4 +1,4 @@
-"""What the example in Python of c/README.md takes and refuses: ctypes_example.py HELLO.py LIBRARY"""
+"""What c/examples/ctypes_hash.py accepts and refuses: ctypes_example.py ctypes_hash.py LIBRARY"""
 import array
 import hashlib
 import sys

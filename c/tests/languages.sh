@@ -108,11 +108,11 @@ bench_runs() {
         "$work/bench" 1 >"$work/said" && [ "$(grep -c '^| [a-z].* | [0-9]' "$work/said")" -eq 14 ]
 }
 
-# The example in Python, and what it takes and refuses.
+# The example in Python, and what it accepts and refuses.
 python_example() {
-    block_of_readme python >"$work/hello.py"
-    python3 "$work/hello.py" "$shared" >"$work/said" && diff "$work/said" <(wanted_of_readme) &&
-        python3 "$tests/ctypes_example.py" "$work/hello.py" "$shared"
+    local example=$here/examples/ctypes_hash.py
+    python3 "$example" "$shared" >"$work/said" && diff "$work/said" <(wanted_of_readme) &&
+        python3 "$tests/ctypes_example.py" "$example" "$shared"
 }
 
 # test.c of a family, in each way that a program meets the library.
@@ -182,7 +182,7 @@ test_examples() {
     fi
     check "the program c/examples/sum.c" sum_example
     check "the benchmark c/bench.c" bench_runs
-    check "the example in Python of c/README.md" python_example
+    check "the example c/examples/ctypes_hash.py" python_example
 }
 
 test_languages() {

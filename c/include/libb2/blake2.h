@@ -1,19 +1,22 @@
-/* The names of libb2, for programs that were written for it: put this folder before the others
- * where the compiler looks for headers, so that `#include <blake2.h>` finds this file, and link
- * with libblake2_c instead of libb2. What blake2_c.h says of a call holds here too, and one thing
- * more: the digest that blake2b, blake2s or blake2 writes may overlap the input and the key.
+/* The names of libb2, for programs that were written for it. Put this folder before the others in
+ * which the compiler looks for headers, so that `#include <blake2.h>` finds this file, and link
+ * libblake2_c instead of libb2. The functions do what blake2_c.h says of the functions with
+ * vulfsjor_ in front of their names, with one addition: the digest that blake2b, blake2s or blake2
+ * writes may overlap the input and the key.
  *
  * Stricter than libb2:
- *   - Null pointers: libb2 ends the program at most of them; here the call is refused (-1). So is
- *     an update of a null state with 0 bytes, which libb2 takes.
- *   - After final the state is zeros. A second final, or an update after it, is refused; libb2 goes
- *     on, to a digest without meaning. A state of zeros is refused at once.
- *   - init_param refuses a digest of 0 bytes, or of more than 64 (BLAKE2s: 32), and a key of more
- *     than 64 (32). libb2 takes them.
- *   - A state has other fields, is larger (424 and 232 bytes, not 358 and 182), and asks for an
- *     alignment of 8. Of libb2's fields there is last_node, a size_t: set it to 1 before final.
+ *   - Null pointers: libb2 ends the program for most of them; here the call returns -1. So does an
+ *     update of a null state with 0 bytes, which returns 0 in libb2.
+ *   - After final the state is zero. A second final, or an update after it, returns -1. libb2 goes
+ *     on, and returns a digest without meaning. A zeroed state is refused from the first call on.
+ *   - init_param returns -1 for a digest of 0 bytes or of more than 64 (BLAKE2s: 32), and for a key
+ *     of more than 64 (32). libb2 accepts them.
+ *   - A state has other fields and is larger (424 and 232 bytes, not 358 and 182), and its
+ *     alignment is 8. Its only field with libb2's name is last_node, a size_t: set it to 1 before
+ *     final.
  *
- * Not here: blake2sp, blake2bp, BLAKE2_API, and the tags of libb2's structs. */
+ * Not here: blake2sp, blake2bp, BLAKE2_API, and the tags of libb2's structs. c/LIBB2.md of the
+ * repository has the complete list. */
 #ifndef VULFSJOR_LIBB2_BLAKE2_H
 #define VULFSJOR_LIBB2_BLAKE2_H
 
@@ -55,13 +58,15 @@ static inline int blake2b_update(blake2b_state *S, const uint8_t *in, size_t inl
     return vulfsjor_blake2b_update(S, in, inlen);
 }
 
-/* As libb2's, it is refused where outlen is not the digest's length. */
+/* Writes the digest, as vulfsjor_blake2b_final does, and wipes the state. outlen must be the length
+ * of the digest: otherwise it returns -1, and the state is unchanged, as in libb2. */
 static inline int blake2b_final(blake2b_state *S, uint8_t *out, size_t outlen) {
     if (!S || S->output_size != outlen) return -1;
     return vulfsjor_blake2b_final(S, out, outlen);
 }
 
-/* The digest is written last, so that it may stand where the input or the key does. */
+/* Writes the digest of the input to out, as vulfsjor_blake2b does. out may overlap the input and
+ * the key. Returns -1 and writes nothing if a length is out of range. */
 static inline int blake2b(uint8_t *out, const void *in, const void *key, size_t outlen,
                           size_t inlen, size_t keylen) {
     uint8_t digest[BLAKE2B_OUTBYTES];
@@ -91,11 +96,15 @@ static inline int blake2s_update(blake2s_state *S, const uint8_t *in, size_t inl
     return vulfsjor_blake2s_update(S, in, inlen);
 }
 
+/* Writes the digest, as vulfsjor_blake2s_final does, and wipes the state. outlen must be the length
+ * of the digest: otherwise it returns -1, and the state is unchanged, as in libb2. */
 static inline int blake2s_final(blake2s_state *S, uint8_t *out, size_t outlen) {
     if (!S || S->output_size != outlen) return -1;
     return vulfsjor_blake2s_final(S, out, outlen);
 }
 
+/* Writes the digest of the input to out, as vulfsjor_blake2s does. out may overlap the input and
+ * the key. Returns -1 and writes nothing if a length is out of range. */
 static inline int blake2s(uint8_t *out, const void *in, const void *key, size_t outlen,
                           size_t inlen, size_t keylen) {
     uint8_t digest[BLAKE2S_OUTBYTES];
@@ -105,6 +114,7 @@ static inline int blake2s(uint8_t *out, const void *in, const void *key, size_t 
     return 0;
 }
 
+/* The same as blake2b. */
 static inline int blake2(uint8_t *out, const void *in, const void *key, size_t outlen, size_t inlen,
                          size_t keylen) {
     return blake2b(out, in, key, outlen, inlen, keylen);
