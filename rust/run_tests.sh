@@ -214,7 +214,7 @@ elif ! has python3; then
     skip "the crates for Rust" "no python3 for their known answers"
 elif check "the crate vulfsjor" cargo_here test; then
     python3 -c 'import hashlib; print(hashlib.blake2b(b"abc").hexdigest())' >"$work/abc"
-    check "the crate vulfsjor, optimised" cargo_here test --release --lib --test glue --test known_answers
+    check "the crate vulfsjor, optimized" cargo_here test --release --lib --test glue --test known_answers
     check "the crate vulfsjor without std is built" cargo_here build --no-default-features
     check "the crate vulfsjor without std" cargo_here test --no-default-features --lib
     check "the package of the crate" build_package
@@ -225,7 +225,7 @@ elif check "the crate vulfsjor" cargo_here test; then
     if [ "$(uname -m)" = x86_64 ]; then
         check "the crate vulfsjor over the build for x86-64-v2" cargo_v2 test --lib --test glue --test known_answers
         check "a program holds what it calls, in each profile" only_what_is_called
-        check "one build alone where AVX2 is taken for granted" one_build_for_v3
+        check "only one build if the target has AVX2" one_build_for_v3
         if has qemu-x86_64; then
             check "the choice on other processors" other_processors
         else
@@ -233,7 +233,7 @@ elif check "the crate vulfsjor" cargo_here test; then
         fi
     fi
     if [ -n "$for_c" ]; then
-        check "the crate beside the library for C in one program" beside_c
+        check "the crate and the library for C in one program" beside_c
     fi
     if ! ls "$(rustc --print sysroot)/lib/rustlib/$arm/lib" >/dev/null 2>&1; then
         skip "the crate vulfsjor on 64-bit ARM" "no standard library of Rust for $arm"

@@ -1,13 +1,13 @@
-//! The hashers and MACs of the crate `vulfsjor` under the traits of the crate `digest` 0.10, so that they go
-//! where generic code asks for a `Digest`, a `Mac` or a `VariableOutput`. Names, key lengths and answers are those
-//! of the crate `blake2` 0.10, but that an empty key is refused. These lines are not proved; they call those of
-//! `vulfsjor`, which call the proved functions. What a dropped one held is wiped.
+//! The hashers and MACs of the crate `vulfsjor` under the traits of the crate `digest` 0.10, for generic code
+//! that requires a `Digest`, a `Mac` or a `VariableOutput`. Names, key lengths and results are those of the crate
+//! `blake2` 0.10, except that an empty key is refused. This code is not proved; it calls `vulfsjor`, which calls
+//! the proved functions. A value is wiped when it is dropped.
 //!
-//! `hmac::SimpleHmac`, `hkdf::SimpleHkdf` and `pbkdf2` take the hash functions here; `hmac::Hmac` asks for one that
-//! compresses each block as soon as it is full, which BLAKE2 is not. A MAC of BLAKE2 needs none of them:
-//! [`Blake2bMac`] is one by itself.
+//! `hmac::SimpleHmac`, `hkdf::SimpleHkdf` and `pbkdf2` accept these hash functions. `hmac::Hmac` does not: it
+//! requires one that compresses each block as soon as the block is full. BLAKE2 needs no HMAC construction: use
+//! [`Blake2bMac`].
 //!
-//! It is a crate of its own, so that `vulfsjor` itself keeps building without a registry.
+//! It is a separate crate, so that `vulfsjor` builds without a registry.
 //!
 //! ```
 //! use digest::Digest;
@@ -52,7 +52,8 @@ macro_rules! family {
                 made.map(|hasher| $hasher(hasher, PhantomData)).map_err(|_| InvalidLength)
             }
 
-            /// One with a salt and a persona, and no key. Refused where one is longer than the family takes.
+            /// Returns a hasher with a salt and a persona. The error is `InvalidLength`, exactly if one of
+            /// them is longer than the family accepts.
             pub fn new_with_salt_and_personal(salt: &[u8], persona: &[u8]) -> Result<Self, InvalidLength> {
                 Self::with(Params::new().salt(salt).persona(persona))
             }
@@ -83,8 +84,8 @@ macro_rules! family {
         where
             N: ArrayLength<u8> + IsLessOrEqual<$max, Output = True> + NonZero,
         {
-            /// One with a salt and a persona, under a key of 1 byte at least. Refused where there is none, or a
-            /// length is more than the family takes.
+            /// Returns a MAC with a key of at least 1 byte, a salt and a persona. The error is `InvalidLength`,
+            /// exactly if the key is empty or a length is more than the family accepts.
             pub fn new_with_salt_and_personal(key: &[u8], salt: &[u8], persona: &[u8]) -> Result<Self, InvalidLength> {
                 let params = Params::new().output_size(N::USIZE).key(key).salt(salt).persona(persona);
                 let made = vulfsjor::$mac::with_params(&params);

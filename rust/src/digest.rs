@@ -6,9 +6,9 @@ use crate::InvalidLength;
 
 /// A digest of 1 to 64 bytes.
 ///
-/// `==` with another digest, an array or a slice looks at all bytes of two texts of one length,
-/// wherever they differ, so tags may be compared by it. [`Hash`] and the conversions below have no
-/// such care.
+/// `==` with another digest, an array or a slice of the same length compares all bytes, wherever
+/// they differ, so you may compare tags with it. [`Hash`] and the conversions below do not protect
+/// secrets in this way.
 ///
 /// ```
 /// use vulfsjor::Blake2s;
@@ -27,7 +27,7 @@ pub struct Digest {
 }
 
 impl Digest {
-    // One of so many zeros.
+    // A digest of this number of zeros.
     pub(crate) fn zeros(size: usize) -> Self {
         Digest {
             bytes: [0; 64],
@@ -35,7 +35,7 @@ impl Digest {
         }
     }
 
-    /// The bytes.
+    /// Returns the bytes.
     pub fn as_bytes(&self) -> &[u8] {
         &self.bytes[..self.size]
     }
@@ -91,7 +91,8 @@ impl Hash for Digest {
     }
 }
 
-/// The bytes of a digest of this length. Refused exactly for another.
+/// The bytes of a digest of this length. The error is [`InvalidLength`], exactly for another
+/// length.
 impl<const N: usize> TryFrom<Digest> for [u8; N] {
     type Error = InvalidLength;
 
@@ -100,14 +101,15 @@ impl<const N: usize> TryFrom<Digest> for [u8; N] {
     }
 }
 
-/// The digits in small letters, as `{:x}`. A precision cuts them: `{:.8}` shows the first 8.
+/// Lower-case hexadecimal digits, as with `{:x}`. A precision truncates them: `{:.8}` shows the
+/// first 8.
 impl fmt::Display for Digest {
     fn fmt(&self, f: &mut fmt::Formatter<'_>) -> fmt::Result {
         self.show(b"0123456789abcdef", |digits| f.pad(digits))
     }
 }
 
-/// The digits in small letters, two a byte; `{:#x}` begins with 0x.
+/// Lower-case hexadecimal digits, two for each byte; `{:#x}` begins with 0x.
 impl fmt::LowerHex for Digest {
     fn fmt(&self, f: &mut fmt::Formatter<'_>) -> fmt::Result {
         self.show(b"0123456789abcdef", |digits| {
@@ -116,7 +118,7 @@ impl fmt::LowerHex for Digest {
     }
 }
 
-/// The digits in capital letters, two a byte; `{:#X}` begins with 0x.
+/// Upper-case hexadecimal digits, two for each byte; `{:#X}` begins with 0x.
 impl fmt::UpperHex for Digest {
     fn fmt(&self, f: &mut fmt::Formatter<'_>) -> fmt::Result {
         self.show(b"0123456789ABCDEF", |digits| {

@@ -104,9 +104,9 @@ macro_rules! family {
             ///
             /// # Errors
             ///
-            /// [`InvalidLength`] exactly if a length is beyond the family's, the parameters have another
-            /// size than `N` (they need not have one), tree parameters or the last-node flag, or there
-            /// are not as many digests as messages. No digest is then written.
+            /// [`InvalidLength`] exactly if a length is beyond the family's, the parameters have
+            /// another size than `N` (they need not have one), tree parameters or the last-node
+            /// flag, or there are more or fewer digests than messages. No digest is then written.
             pub fn digest_many<const N: usize>(
                 params: &Params<'_>,
                 messages: &[impl AsRef<[u8]>],
@@ -228,9 +228,8 @@ macro_rules! family {
         #[doc = concat!("A message authentication code by ", $family, " in progress. It is wiped when it")]
         /// is dropped.
         ///
-        /// Use a random key of 32 bytes and tags of at least 16 bytes, and compare them by
-        /// `verify`, never byte by byte. Give each use of a key its own persona. A password is not
-        /// a key: turn it into one by a slow function, such as Argon2.
+        /// Compare tags with `verify`. The project's README, "Use it safely", has the rules for
+        /// keys, tags and personas.
         #[derive(Clone)]
         pub struct $mac($hasher);
 

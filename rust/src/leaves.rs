@@ -14,7 +14,7 @@ pub fn tree_leaf_count(message_length: u64, leaf_length: u32) -> u64 {
 ///
 /// `bytes` is leaf `first`, counted from 0, and the leaves after it. If the range `ends` the
 /// message, its last leaf may be shorter; otherwise all its leaves are whole. Take `ends` from the
-/// length of the message: a wrong one gives a wrong root, and no error.
+/// length of the message: a wrong value produces a wrong root, and no error.
 ///
 /// The digests of the ranges of a message, joined in the order of the leaves, are what
 /// [`tree_root_of_leaves`] accepts, however the message was cut. So ranges can be hashed in any

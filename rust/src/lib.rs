@@ -1,10 +1,9 @@
-//! BLAKE2b and BLAKE2s (RFC 7693) by proved functions, which the crate holds as the assembly that
-//! their proofs built. Its interface is safe, it has no dependency, and it allocates memory only
-//! in the calls by several threads. Its own lines, which call that assembly, are tested and not
-//! proved.
+//! BLAKE2b and BLAKE2s (RFC 7693): safe bindings to formally verified functions. The crate contains
+//! the assembly that the proved source compiles to. It has no dependencies, and allocates memory
+//! only in the calls that use several threads. The Rust code of the crate is tested, not proved.
 //!
-//! It runs on Linux on x86-64, from x86-64-v2 on (SSE4.2 and POPCNT), with AVX2 if the processor
-//! has it, and on 64-bit ARM. On an older x86-64 processor the first call panics.
+//! It runs on Linux on 64-bit ARM and on x86-64 from x86-64-v2 on (SSE4.2 and POPCNT), and uses
+//! AVX2 if the processor has it. On an older x86-64 processor the first call panics.
 //!
 //! A digest of a message, in pieces or in one call:
 //!
@@ -82,9 +81,9 @@
 //! # Ok::<(), vulfsjor::InvalidLength>(())
 //! ```
 //!
-//! The same root by all processors is [`tree_root_threads`], and [`TreeHasher::update_threads`] in
-//! pieces. [`tree_leaves`] and [`tree_root_of_leaves`] compute it in parts, by any threads,
-//! processes or machines.
+//! [`tree_root_threads`] computes the same root on all processors, and
+//! [`TreeHasher::update_threads`] does so in pieces. [`tree_leaves`] and [`tree_root_of_leaves`]
+//! compute it in parts, in any threads or processes or on any machines.
 //!
 //! A stream, through [`std::io::Write`]:
 //!
@@ -97,19 +96,15 @@
 //!
 //! # Safe use
 //!
-//! - **Tags**: a random key of 32 bytes and tags of at least 16 bytes, compared by `verify` or by
-//!   `==` of a [`Digest`], never byte by byte.
-//! - **A separate persona for each use** of a hash or a key, so that the digests of one use mean
-//!   nothing in another. Zeros at its end change nothing: `b"a"` and `b"a\0"` are the same
-//!   persona. So are salts.
-//! - **No passwords**: these functions are fast, and so is guessing. Use Argon2 or scrypt.
-//! - **Which family**: BLAKE2b on 64-bit machines; BLAKE2s if the other side has 32 bits or less,
-//!   or if a format requires it.
-//! - **When a tree**: for large inputs whose parts are hashed in parallel or checked separately.
-//!   Its root depends on the length of the leaves.
-//! - **Secrets**: a hasher is wiped when it is dropped, and no `Debug` shows a byte of one. The
-//!   calls that accept a key or compress its block overwrite what they leave of it on the stack.
-//!   If a value is moved, what it leaves at its old address is not wiped.
+//! The project's README, "Use it safely", has the rules for keys, tags, personas and passwords. In
+//! this crate:
+//!
+//! - Compare tags with `verify` of a MAC or with `==` of a [`Digest`]. Both compare all bytes.
+//! - A hasher is wiped when it is dropped, and its `Debug` shows no byte of it. Calls that accept a
+//!   key or compress its block overwrite their part of the stack. If a value is moved, the bytes at
+//!   its old address are not wiped.
+//! - The root of a tree depends on the length of the leaves. Use a tree for large inputs whose
+//!   parts are hashed in parallel or checked separately.
 //!
 //! # Features
 //!

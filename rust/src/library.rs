@@ -67,8 +67,8 @@ macro_rules! symbol {
     };
 }
 
-// The name that the text in `dist/` gives to the same function. It carries the version too, as all
-// names and labels there do, since lto = "fat" makes one assembly of the texts of two versions.
+// The name of the same function in the assembly of `dist/`. It includes the version, as all names
+// and labels there do, since lto = "fat" makes one assembly of those of two versions.
 macro_rules! text_symbol {
     ($name:ident, $build:ident) => {
         concat!(

@@ -2,9 +2,9 @@ use core::fmt;
 
 use crate::{Blake2b, Blake2s, InvalidLength};
 
-/// The place of a hash in a tree of hashes (the BLAKE2 document, 2.10).
+/// Tree parameters: which node of a tree of hashes a hash is (the BLAKE2 document, 2.10).
 ///
-/// By itself that of a hash which is the whole tree, so that a node names what differs:
+/// The default is sequential hashing, so name only the fields that differ:
 ///
 /// ```
 /// use vulfsjor::Tree;
@@ -14,22 +14,22 @@ use crate::{Blake2b, Blake2s, InvalidLength};
 /// ```
 #[derive(Clone, Copy, Debug, PartialEq, Eq, Hash)]
 pub struct Tree {
-    /// How many children a node has at most; 0 is without a limit.
+    /// The maximum number of children of a node; 0 is unlimited.
     pub fanout: u8,
-    /// How many levels the tree has, 1 at least.
+    /// The number of levels of the tree, at least 1.
     pub depth: u8,
-    /// How many bytes of the message a leaf takes at most; 0 is without a limit.
+    /// The maximum number of bytes in a leaf; 0 is unlimited.
     pub leaf_length: u32,
-    /// The place of this node in its level, from 0; less than 2^48 in BLAKE2s.
+    /// The index of this node in its level, from 0; less than 2^48 in BLAKE2s.
     pub node_offset: u64,
-    /// The level of this node, from 0, that of the leaves.
+    /// The level of this node; leaves have 0.
     pub node_depth: u8,
-    /// The bytes of an inner node's digest, at most 64 in BLAKE2b and 32 in BLAKE2s.
+    /// The number of bytes in an inner node's digest, at most 64 in BLAKE2b and 32 in BLAKE2s.
     pub inner_length: u8,
 }
 
 impl Tree {
-    /// That of a hash which is the whole tree: fanout and depth are 1, all else is 0.
+    /// The parameters of sequential hashing: fanout and depth are 1, and all other fields are 0.
     pub const SEQUENTIAL: Tree = Tree {
         fanout: 1,
         depth: 1,
@@ -47,10 +47,10 @@ impl Default for Tree {
     }
 }
 
-/// What a hash is made with: by itself the longest digest, no key, no salt and no persona, and the
-/// hash is the whole tree.
+/// The parameters of a hash: digest length, key, salt, persona, tree parameters and last-node flag.
 ///
-/// Its `Debug` shows the length of the key, and no byte of it.
+/// The default is the longest digest, and none of the others. Lengths are checked when a hasher is
+/// made, not here. `Debug` shows the length of the key, and no byte of it.
 #[derive(Clone, Copy)]
 pub struct Params<'a> {
     pub(crate) output_size: Option<usize>,
@@ -62,7 +62,7 @@ pub struct Params<'a> {
 }
 
 impl<'a> Params<'a> {
-    /// The longest digest of the family, without key, salt and persona.
+    /// Returns parameters for the longest digest of the family, without key, salt and persona.
     pub fn new() -> Self {
         Params {
             output_size: None,
@@ -74,7 +74,7 @@ impl<'a> Params<'a> {
         }
     }
 
-    /// A digest of this many bytes: 1 to 64 of BLAKE2b, 1 to 32 of BLAKE2s.
+    /// Sets the number of bytes in the digest: 1 to 64 for BLAKE2b, 1 to 32 for BLAKE2s.
     pub fn output_size(self, bytes: usize) -> Self {
         Params {
             output_size: Some(bytes),
@@ -82,39 +82,48 @@ impl<'a> Params<'a> {
         }
     }
 
-    /// A key of up to 64 bytes for BLAKE2b, up to 32 for BLAKE2s. No bytes are no key.
+    /// Sets the key: up to 64 bytes for BLAKE2b, up to 32 for BLAKE2s. An empty slice means no key.
     pub fn key(self, key: &'a [u8]) -> Self {
         Params { key, ..self }
     }
 
-    /// A salt of up to 16 bytes for BLAKE2b, up to 8 for BLAKE2s. Zeros behind it change nothing.
+    /// Sets the salt: up to 16 bytes for BLAKE2b, up to 8 for BLAKE2s. Trailing zeros change
+    /// nothing.
     pub fn salt(self, salt: &'a [u8]) -> Self {
         Params { salt, ..self }
     }
 
-    /// A persona of up to 16 bytes for BLAKE2b, up to 8 for BLAKE2s: one for each use of a hash or
-    /// a key. Zeros behind it change nothing.
+    /// Sets the persona: up to 16 bytes for BLAKE2b, up to 8 for BLAKE2s. Trailing zeros change
+    /// nothing. Use a different persona for each purpose.
     pub fn persona(self, persona: &'a [u8]) -> Self {
         Params { persona, ..self }
     }
 
-    /// A place in a tree of hashes, whose numbers are within what [`Tree`] says of them.
+    /// Sets the tree parameters, within the limits that [`Tree`] states.
     pub fn tree(self, tree: Tree) -> Self {
         Params { tree, ..self }
     }
 
-    /// Whether the hash is the last node of its level in a tree of hashes (the BLAKE2 document,
-    /// 2.10).
+    /// Sets whether the hash is the last node on its level of a tree of hashes (the BLAKE2
+    /// document, 2.10).
     pub fn last_node(self, last_node: bool) -> Self {
         Params { last_node, ..self }
     }
 
-    /// A BLAKE2b hasher of these.
+    /// Returns a BLAKE2b hasher with these parameters.
+    ///
+    /// # Errors
+    ///
+    /// [`InvalidLength`] exactly if a length or a tree parameter is beyond BLAKE2b's.
     pub fn blake2b(&self) -> Result<Blake2b, InvalidLength> {
         Blake2b::with_params(self)
     }
 
-    /// A BLAKE2s hasher of these.
+    /// Returns a BLAKE2s hasher with these parameters.
+    ///
+    /// # Errors
+    ///
+    /// [`InvalidLength`] exactly if a length or a tree parameter is beyond BLAKE2s's.
     pub fn blake2s(&self) -> Result<Blake2s, InvalidLength> {
         Blake2s::with_params(self)
     }

@@ -1,13 +1,13 @@
-//! Which of the two builds this processor runs.
+//! Which of the two builds this processor supports.
 use core::arch::x86_64::{__cpuid, __cpuid_count, _xgetbv};
 use core::sync::atomic::{AtomicU8, Ordering::Relaxed};
 
-// The level of the processor, 2 or 3, or 0 where no call has asked yet. It never changes after
-// that, and threads that ask at the same time write the same.
+// The level of the processor, 2 or 3, or 0 if no call has detected it yet. It never changes after
+// that, and threads that detect it at the same time write the same value.
 static LEVEL: AtomicU8 = AtomicU8::new(0);
 
-/// 3 or 2 for the builds for x86-64-v3 and x86-64-v2, or 0 where [`ask`] has to be called first.
-/// Where the compiler may assume the instructions of x86-64-v3 anyway, the answer is a constant.
+/// Returns 3 or 2 for the builds for x86-64-v3 and x86-64-v2, or 0 if [`ask`] has to be called
+/// first. If the compiler may assume the instructions of x86-64-v3, the result is a constant.
 #[inline]
 pub(crate) fn level() -> u8 {
     let is_v3 = cfg!(all(
@@ -28,7 +28,11 @@ pub(crate) fn level() -> u8 {
     }
 }
 
-/// Asks the processor, and panics where it is below x86-64-v2.
+/// Detects the processor.
+///
+/// # Panics
+///
+/// If it is below x86-64-v2.
 #[cold]
 pub(crate) fn ask() {
     let level = level_here();
@@ -39,8 +43,8 @@ pub(crate) fn ask() {
     LEVEL.store(level, Relaxed);
 }
 
-// What the levels ask of CPUID (the x86-64 psABI, 3.1.1): of leaf 1 in ecx, of leaf 7 in ebx, and
-// of leaf 0x80000001 in ecx.
+// The bits of CPUID that the levels require (the x86-64 psABI, 3.1.1): leaf 1 in ecx, leaf 7 in
+// ebx, and leaf 0x80000001 in ecx.
 const SSE3: u32 = 1 << 0;
 const SSSE3: u32 = 1 << 9;
 const FMA: u32 = 1 << 12;
@@ -58,8 +62,8 @@ const BMI2: u32 = 1 << 8;
 const LAHF: u32 = 1 << 0;
 const LZCNT: u32 = 1 << 5;
 
-// 3, 2, or 1 for what is below. It is 3 only where the system saves the registers of SSE and AVX
-// (XCR0, bits 1 and 2).
+// Returns 3, 2, or 1 for a processor below x86-64-v2. It is 3 only if the system saves the
+// registers of SSE and AVX (XCR0, bits 1 and 2).
 #[allow(unused_unsafe)] // later versions of Rust know that CPUID is safe
 pub(crate) fn level_here() -> u8 {
     // Safety: every x86-64 processor has CPUID.

@@ -1,5 +1,5 @@
-//! The tree by several threads. The proved functions hash the ranges of leaves; that this module
-//! hashes all of them and puts each digest in its place is tested.
+//! The tree with several threads. The functions that hash ranges of leaves are proved. That this
+//! module hashes every range, and puts each digest where it belongs, is tested.
 use std::sync::{Mutex, PoisonError};
 use std::{thread, vec};
 
@@ -10,7 +10,7 @@ pub(crate) const LEAST_BYTES: usize = 1 << 18;
 // A thread hashes about this number of bytes between two looks at what is left.
 pub(crate) const PART_BYTES: usize = 1 << 20;
 
-// The threads that hash this number of bytes in parts of leaves. 0 asks for all processors.
+// Returns the number of threads that hash this number of bytes. `asked` 0 means all processors.
 pub(crate) fn thread_count(asked: usize, length: usize, leaf_count: usize) -> usize {
     let all = || thread::available_parallelism().map_or(1, usize::from);
     let asked = if asked == 0 { all() } else { asked };
@@ -100,8 +100,8 @@ impl TreeHasher {
     /// Absorbs the input as [`update`](Self::update) does, by several threads.
     ///
     /// `threads` is as in [`tree_root_threads`]. The whole leaves of the input that others follow
-    /// are hashed by threads; the caller's thread alone hashes the bytes before and after them. So
-    /// inputs of many leaves suit it best. The call allocates 64 bytes for each whole leaf.
+    /// are hashed by threads; only the caller's thread hashes the bytes before and after them. So
+    /// inputs of many leaves are fastest. The call allocates 64 bytes for each whole leaf.
     ///
     /// # Panics
     ///
