@@ -182,7 +182,7 @@ typedef struct given {
     vulfsjor_tree tree;
 } given;
 
-/* Checks what was given in hashlib's order, and fills in the place in the tree. */
+/* Checks the arguments in hashlib's order, and fills in the tree parameters. */
 static int check_given(given *g, const family *f) {
     uint64_t leaf_size;
     if (number_of(g->leaf, &leaf_size) || number_of(g->offset, &g->tree.node_offset) ||
@@ -253,7 +253,7 @@ static PyObject *update(PyObject *self, PyObject *data) {
     Py_RETURN_NONE;
 }
 
-/* Writes the state as it is now. Who asks for it ends it, which wipes it. */
+/* Copies the state as it is now. The caller must end the copy, which wipes it. */
 static void copy_state(hash *self, state *copied) {
     take_lock(self->lock);
     memcpy(copied, &self->run, self->f->state);
@@ -336,17 +336,17 @@ static PyMethodDef methods[] = {
      "update($self, data, /)\n--\n\nUpdate this hash object's state with the provided bytes-like object."},
     {"verify", verify, METH_O,
      "verify($self, tag, /)\n--\n\nReturn whether the tag is the whole digest of all input so far.\n\n"
-     "All bytes of a tag of the digest's length are looked at, wherever they differ: this is\n"
-     "the comparison for message authentication codes."},
+     "All bytes of a tag of the digest's length are compared, wherever they differ, so use it for\n"
+     "message authentication codes."},
     {NULL, NULL, 0, NULL}};
 
 static PyGetSetDef fields[] = {
     {"name", name_of, NULL, "The name of the hash function.", NULL},
-    {"block_size", block_of, NULL, "How many bytes a block of the hash function has.", NULL},
-    {"digest_size", size_of, NULL, "How many bytes the digest has.", NULL},
+    {"block_size", block_of, NULL, "The number of bytes in a block of the hash function.", NULL},
+    {"digest_size", size_of, NULL, "The number of bytes in the digest.", NULL},
     {NULL, NULL, NULL, NULL, NULL}};
 
-/* ---- Several messages at once */
+/* ---- Several messages in parallel */
 
 static void let_go(messages *m) {
     while (m->count > 0) PyBuffer_Release(&m->views[--m->count]);
@@ -373,7 +373,7 @@ static int hold(messages *m, PyObject *tuple) {
     return 0;
 }
 
-/* A list of the digests that stand one behind the other. */
+/* Returns a list of digests that are stored one after another. */
 static PyObject *list_of(const uint8_t *digests, Py_ssize_t count, int size) {
     PyObject *list = PyList_New(count);
     for (Py_ssize_t i = 0; list && i < count; i++) {
@@ -437,7 +437,7 @@ static PyObject *many_s(PyObject *module, PyObject *args, PyObject *words) {
 #define MANY(f, size, lanes)                                                                                   \
     #f "_many(messages, /, *, digest_size=" #size ", key=b'', salt=b'', person=b'')\n--\n\n"                   \
        "Return a list of the digests of the messages, each under these parameters.\n\n"                       \
-       "Messages in a row that have one length are hashed " lanes " at once, which is faster\n"                \
+       "Messages in a row of the same length are hashed " lanes " in parallel, which is faster\n"             \
        "on a processor with AVX2."
 static PyMethodDef functions[] = {
     {"blake2b_many", WITH_WORDS(many_b), MANY(blake2b, 64, "four")},

@@ -186,7 +186,7 @@ PyMethodDef tree_functions[] = {
      "Return the digests of a range of the leaves of tree_root, 64 bytes each, as bytes.\n\n"
      "The data is leaf first, counted from 0, and the leaves after it. ends says whether the\n"
      "message ends with the data. If not, the data must be whole leaves. Take ends from the\n"
-     "length of the message: a wrong one gives a wrong root, and no error. The digests of all\n"
+     "length of the message: a wrong value makes a wrong root, and no error. The digests of all\n"
      "ranges of a message, joined in order, are what tree_root_of_leaves accepts. The GIL is\n"
      "released meanwhile."},
     {"tree_root", WITH_WORDS(tree_root),
@@ -427,7 +427,7 @@ static PyMethodDef methods[] = {
      "hexdigest($self, /)\n--\n\nReturn the root of all data so far, as a string of hexadecimal digits."},
     {"update", update, METH_O,
      "update($self, data, /)\n--\n\nAbsorb the data after all earlier data.\n\n"
-     "Pieces of many leaves suit it best, since whole leaves that more data follows are hashed\n"
+     "Pieces of many leaves are fastest, since whole leaves that more data follows are hashed\n"
      "four at a time."},
     {NULL, NULL, 0, NULL}};
 

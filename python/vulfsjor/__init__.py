@@ -1,17 +1,17 @@
-"""BLAKE2b and BLAKE2s (RFC 7693) by proved functions, with the interface of hashlib's.
+"""BLAKE2b and BLAKE2s (RFC 7693) by formally verified functions, with the interface of hashlib.
 
     >>> import vulfsjor
     >>> vulfsjor.blake2b(b"hello world", digest_size=16).hexdigest()
     'e9a804b2e527fd3601d2ffc0bb023cd6'
 
-A message authentication code, whose tag is compared over all bytes:
+A message authentication code. `verify` compares all bytes of the tag:
 
     >>> mac = vulfsjor.blake2b(b"message", key=bytes(32), person=b"my program")
     >>> tag = mac.digest()
     >>> mac.verify(tag), mac.verify(tag[:16])
     (True, False)
 
-Several messages of one length at once, and the root of a tree of two levels:
+Several messages in one call, and the root of a tree of two levels:
 
     >>> [digest.hex()[:8] for digest in vulfsjor.blake2b_many([b"abc", b"xyz"])]
     ['ba80a53f', '6e592853']

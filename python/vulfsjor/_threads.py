@@ -1,5 +1,5 @@
-"""The root of a tree by several threads: of data in memory, and of a file. What is proved is each call of the library;
-that this module hashes all leaves and joins their digests in order is tested."""
+"""The root of a tree with several threads: of data in memory, and of a file. Each call of the library is proved. That
+this module hashes all leaves and joins their digests in order is tested."""
 import errno
 import io
 import operator
@@ -29,7 +29,7 @@ _MOST_BUFFER_BYTES = 1 << 24
 
 
 def _thread_count(threads: SupportsIndex) -> int:
-    """The number of threads that a caller asks for: 0 is all processors that this process may run on."""
+    """The number of threads that a caller requests: 0 is all processors that this process may run on."""
     count = operator.index(threads)
     if count < 0:
         raise ValueError("threads must be 0 or more")
@@ -37,7 +37,7 @@ def _thread_count(threads: SupportsIndex) -> int:
 
 
 def _work(tasks: "SimpleQueue[tuple[Future[bytes], int] | None]", call: Callable[[int], bytes]) -> None:
-    """What a thread does: it gives each task the result of the call, until there is None."""
+    """What a thread does: it sets the result of each task to that of the call, until a task is None."""
     while (task := tasks.get()) is not None:
         future, place = task
         if future.set_running_or_notify_cancel():
@@ -48,7 +48,7 @@ def _work(tasks: "SimpleQueue[tuple[Future[bytes], int] | None]", call: Callable
 
 
 def _start(threads: int, run: Callable[[], None]) -> list[Thread]:
-    """Starts threads, or as many of them as the system lets."""
+    """Starts threads, or fewer if the system refuses some."""
     started: list[Thread] = []
     try:
         for _ in range(threads):
@@ -61,8 +61,8 @@ def _start(threads: int, run: Callable[[], None]) -> list[Thread]:
 
 
 def _in_order(call: Callable[[int], bytes], count: int, threads: int, stopped: Event) -> Generator[bytes, None, None]:
-    """Yields call(0), call(1) and so on, of this number of calls, made by threads. At most twice as many calls as threads
-    are ahead of the caller. If no thread starts, the caller's makes the calls. When the generator is closed it sets
+    """Yields call(0), call(1) and so on, of this number of calls, made by threads. At most 2 * threads calls are
+    ahead of the caller. If no thread starts, the caller's makes the calls. When the generator is closed it sets
     `stopped`, which ends a call early, and waits for the threads."""
     tasks: SimpleQueue[tuple[Future[bytes], int] | None] = SimpleQueue()
     workers = _start(threads, partial(_work, tasks, call))
@@ -158,7 +158,7 @@ def tree_root(data: "Buffer", /, leaf_size: int, *, digest_size: SupportsIndex =
 
 
 class TreeHasher(_library.TreeHasher):
-    """The tree of tree_root over data that comes in pieces: TreeHasher(leaf_size, *, digest_size=64, salt=b'', person=b'')."""
+    """The tree of tree_root over data in pieces: TreeHasher(leaf_size, *, digest_size=64, salt=b'', person=b'')."""
 
     __slots__ = ()
 
@@ -198,7 +198,7 @@ class TreeHasher(_library.TreeHasher):
 
 
 class _File:
-    """A file that is open for reading, at its own place if it is a regular one: that of its descriptor stays."""
+    """A file that is open for reading. A regular one is read at separate positions: that of its descriptor stays."""
 
     def __init__(self, file: io.FileIO, path: "FileDescriptorOrPath"):
         self.file, self.path, self.held = file.fileno(), path, local()
