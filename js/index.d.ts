@@ -1,5 +1,5 @@
 /**
- * BLAKE2b and BLAKE2s (RFC 7693) by proved functions, in WebAssembly.
+ * BLAKE2b and BLAKE2s (RFC 7693) in WebAssembly, compiled from formally verified functions.
  *
  * Input is a `Uint8Array`, any other view or an `ArrayBuffer`; digests are new `Uint8Array`s. A
  * string is refused: `utf8(text)` encodes it. Values of another type, unknown options and further
@@ -14,7 +14,7 @@ declare global {
   }
 }
 
-/** Bytes. Of a view, only the part that it covers. */
+/** Bytes. If it is a view, only the part that it covers is read. */
 export type Bytes = ArrayBufferView | ArrayBuffer | SharedArrayBuffer;
 
 /** The options of a hash or a message authentication code. */
@@ -25,7 +25,10 @@ export interface Options {
   key?: Bytes | undefined;
   /** Up to 16 bytes, BLAKE2s up to 8. Trailing zeros change nothing. */
   salt?: Bytes | undefined;
-  /** The same lengths. A separate one for each use keeps digests of different uses apart. */
+  /**
+   * Up to 16 bytes, BLAKE2s up to 8. Trailing zeros change nothing. Use a different one for each
+   * purpose.
+   */
   personalization?: Bytes | undefined;
 }
 
@@ -47,33 +50,39 @@ export interface NodePosition {
   lastNode?: boolean | undefined;
 }
 
+/** The options of a hash that may be a node of a tree of hashes. */
 export interface NodeOptions extends Options {
+  /** Which node it is. The default is sequential hashing. */
   tree?: NodePosition | undefined;
 }
 
+/** The options of a tree of two levels. */
 export interface TreeOptions {
   /** The length of a leaf in bytes, 1 to 2^32 - 1. */
   leafLength: number;
   /** The length of the root in bytes, 1 to 64. The default is 64. */
   digestLength?: number | undefined;
-  /** Up to 16 bytes. */
+  /** Up to 16 bytes. Trailing zeros change nothing. */
   salt?: Bytes | undefined;
-  /** Up to 16 bytes. */
+  /** Up to 16 bytes. Trailing zeros change nothing. */
   personalization?: Bytes | undefined;
 }
 
+/** The options of a range of leaves. */
 export interface LeavesOptions {
   /** The length of a leaf in bytes, 1 to 2^32 - 1. */
   leafLength: number;
-  /** The number of the first leaf of this range in the whole message, counted from 0. */
+  /** The index of the first leaf of this range in the message, counted from 0. */
   first: number | bigint;
-  /** Whether the message ends with this range. */
+  /** Whether the message ends with this range. A wrong value produces a wrong root. */
   ends: boolean;
-  /** Those of the root. */
+  /** The salt of the root. */
   salt?: Bytes | undefined;
+  /** The personalization of the root. */
   personalization?: Bytes | undefined;
 }
 
+/** How many workers hash. */
 export interface ThreadsOptions {
   /**
    * The maximum number of workers, 1 to 256. The default 1 hashes on the calling thread, as do
@@ -82,60 +91,76 @@ export interface ThreadsOptions {
   threads?: number | undefined;
 }
 
+/** Progress and cancellation. */
 export interface StreamOptions {
   /**
-   * Called while the source is hashed with the number of bytes so far and the total, if known. What
-   * it throws rejects the promise.
+   * Called while the source is hashed, with the number of bytes so far and the total, if it is
+   * known. If it throws, the promise rejects with that error.
    */
   onProgress?: ((bytes: number, total: number | undefined) => void) | undefined;
   /** Stops the call: the promise rejects with the signal's reason. */
   signal?: AbortSignal | undefined;
 }
 
-/** A file, the body of a response, a stream of node. */
+/** A source of bytes: a file, the body of a response, or a stream of node. */
 export type Source = Blob | ReadableStream<Bytes> | AsyncIterable<Bytes>;
 
-/** The digest of a message. */
+/** Returns the BLAKE2b digest of a message. */
 export function blake2b(message: Bytes, options?: NodeOptions): Uint8Array;
+/** Returns the BLAKE2s digest of a message. */
 export function blake2s(message: Bytes, options?: NodeOptions): Uint8Array;
 
-/** The digests of several messages with the same options. Equal lengths hash in parallel. */
+/**
+ * Returns the BLAKE2b digests of several messages with the same options. Four messages in a row
+ * that have the same length are hashed in parallel.
+ */
 export function blake2bMany(messages: Iterable<Bytes>, options?: Options): Uint8Array[];
+/**
+ * Returns the BLAKE2s digests of several messages with the same options. Eight messages in a row
+ * that have the same length are hashed in parallel.
+ */
 export function blake2sMany(messages: Iterable<Bytes>, options?: Options): Uint8Array[];
 
 /**
- * The root of a tree of two levels over BLAKE2b: the message is cut into leaves of `leafLength`
- * bytes, and the root hashes their digests. It is not a BLAKE2b digest of the message.
+ * Returns the root of a tree of two levels over BLAKE2b. The message is cut into leaves of
+ * `leafLength` bytes, and the root hashes their digests. The root is not a BLAKE2b digest of the
+ * message.
  */
 export function treeRoot(message: Bytes, options: TreeOptions): Uint8Array;
 
 /**
- * The digests of a range of leaves in the tree of `treeRoot`, 64 bytes each. Ranges can be hashed
- * in any order and in parallel. The bytes are whole leaves unless the message ends with them; they
- * are empty only if they are all of an empty message. Ranges end below byte 2^58 of the message.
+ * Returns the digests of a range of leaves in the tree of `treeRoot`, 64 bytes each. Ranges can be
+ * hashed in any order and in parallel. `message` is the bytes of these leaves: whole leaves, unless
+ * the message ends with them, and empty only if the whole message is empty. The range must end
+ * before byte 2^58 of the message.
  */
 export function treeLeaves(message: Bytes, options: LeavesOptions): Uint8Array;
 
 /**
- * The root over the digests of all leaves of a message, joined in order: the `treeRoot` of the
- * message. If a leaf changes, hash that leaf again, replace its digest, and compute the root.
+ * Returns the root over the digests of all leaves of a message, joined in order. It is the
+ * `treeRoot` of the message. If a leaf changes, hash that leaf again, replace its digest, and
+ * compute the root again.
  */
 export function treeRootOfLeaves(digests: Bytes, options: TreeOptions): Uint8Array;
 
 /**
- * The digest of everything that a source contains. A stream is read to its end or canceled. If a
- * file changes while it is read, the promise rejects. With `threads` the leaves of a tree are
- * hashed by workers, and the promise rejects if one of them fails. The digests of all leaves are
- * then in memory until the end, 64 bytes each.
+ * Returns the BLAKE2b digest of everything that a source contains. A stream is read to its end or
+ * canceled. If a file changes while it is read, the promise rejects.
  */
 export function blake2bStream(
   source: Source,
   options?: NodeOptions & StreamOptions,
 ): Promise<Uint8Array>;
+/** Returns the BLAKE2s digest of a source, as `blake2bStream` does for BLAKE2b. */
 export function blake2sStream(
   source: Source,
   options?: NodeOptions & StreamOptions,
 ): Promise<Uint8Array>;
+/**
+ * Returns the `treeRoot` of everything that a source contains, which is read as by `blake2bStream`.
+ * With `threads` above 1, workers hash the leaves, and the promise rejects if one of them fails.
+ * The digests of all leaves are in memory until the end, 64 bytes each.
+ */
 export function treeRootStream(
   source: Source,
   options: TreeOptions & StreamOptions & ThreadsOptions,
@@ -152,28 +177,31 @@ declare class Hasher {
   readonly blockLength: number;
   /** Absorbs more of the message. */
   update(message: Bytes): this;
-  /** The digest of everything absorbed. Ends the hash. */
+  /** Returns the digest of everything absorbed. Ends the hash. */
   digest(): Uint8Array;
-  /** The same in hexadecimal digits. Ends the hash. */
+  /** Returns the digest in hexadecimal digits. Ends the hash. */
   hex(): string;
   /**
-   * Whether the tag is the whole digest. Ends the hash. The comparison reads all bytes of a tag of
-   * the right length, wherever they differ.
+   * Returns whether the tag is the whole digest. Ends the hash. All bytes of a tag of the right
+   * length are compared, wherever they differ.
    */
   verify(tag: Bytes): boolean;
-  /** A separate hash that has absorbed the same. */
+  /** Returns a separate hash that has absorbed the same bytes. */
   copy(): this;
-  /** Returns to the start, with the same options. */
+  /** Discards what was absorbed, and keeps the options. */
   reset(): this;
-  /** Ends the hash, and sets its state to zero. May be called again. */
+  /** Ends the hash, and sets its state to zero. You may call it more than once. */
   wipe(): void;
+  /** The same as `wipe`, for `using`. */
   [Symbol.dispose](): void;
 }
 
+/** An incremental BLAKE2b hash. */
 export class Blake2b extends Hasher {
   constructor(options?: NodeOptions);
 }
 
+/** An incremental BLAKE2s hash. */
 export class Blake2s extends Hasher {
   constructor(options?: NodeOptions);
 }
@@ -183,14 +211,15 @@ export class TreeHash extends Hasher {
   constructor(options: TreeOptions);
 }
 
-/** Whether two byte arrays are equal. Reads all bytes of equal lengths, wherever they differ. */
+/** Returns whether two byte arrays are equal. Compares all bytes of arrays of the same length. */
 export function equal(a: Bytes, b: Bytes): boolean;
 
-/** Lowercase hexadecimal digits, and the bytes of hexadecimal digits of either case. */
+/** Returns the bytes as lower-case hexadecimal digits. */
 export function hex(bytes: Bytes): string;
+/** Returns the bytes of hexadecimal digits of either case. */
 export function fromHex(text: string): Uint8Array;
 
-/** A string in UTF-8. Throws a `RangeError` if it has a lone surrogate. */
+/** Returns the string in UTF-8. Throws a `RangeError` if it has a lone surrogate. */
 export function utf8(text: string): Uint8Array;
 
 /**
