@@ -3,7 +3,7 @@
 
 - All pages: each clause that they name, as in `replay: digests`, is one of that function.
 - docs/CONTRACTS.md: each must-fail edit in its table is one of that crate.
-- docs/SPECIFICATION.md: its numbers, tables, fields, KINDs, nodes and faults are those of the definitions.
+- docs/SPECIFICATION.md: its numbers, tables, fields, KINDs, nodes and errors are those of the definitions.
 - docs/MAP.md and docs/REVIEW.md: the sizes of crates and definitions are about those, and with CONTRIBUTING.md
   each file that they name is there.
 - CHANGELOG.md: its newest version is that of the headers and packages.
@@ -77,7 +77,7 @@ def check_edits():
 
 
 def values(path, name):
-    """What each case of a definition by cases gives, as `name case = value` lines say it."""
+    """The value of each case of a definition by cases, as `name case = value` lines say it."""
     text = read(path)
     cases = re.findall(rf"^{name} \(?([\w.]+)[^=\n]*\)? =([^=]*?)(?=^\S|^ *--|\Z)", text, re.MULTILINE | re.DOTALL)
     return {case: " ".join(value.split()) for case, value in cases}
@@ -131,9 +131,9 @@ def field_rows():
 
 
 def program_rows():
-    """The rows that have the KINDs and the faults."""
+    """The rows that have the KINDs and the errors."""
     words = read("crates/b2_commands/specs/Words.antt")
-    for name, of_b, of_s in (("kind_of", "all", "all but `tree`"), ("compared_kind_of", "`witness`", "`witness`")):
+    for name, of_b, of_s in (("kind_of", "all", "all except `tree`"), ("compared_kind_of", "`witness`", "`witness`")):
         cases = re.search(rf"^{name} word =\n(.*?)\n\n", words, re.MULTILINE | re.DOTALL)[1]
         for word, family, size in re.findall(r'codes "(\w+)"\) then Ok \(blake2([bs])_of ([0-9]+)\)', cases):
             yield f"| `{word}` | BLAKE2{family} | {size} | {of_b if family == 'b' else of_s} |"
@@ -176,14 +176,14 @@ def check_specification():
             yield f"SPECIFICATION: the definitions say {told!r}"
 
 
-# Where the version stands, by what stands before it.
+# Where the version is, by what is before it.
 VERSIONS = (("CHANGELOG.md", r"^## "), ("c/include/blake2_c.h", r"VULFSJOR_VERSION \""),
             ("Cargo.toml", r"^version = \""), ("rust-digest/Cargo.toml", r"^version = \""),
             ("python/pyproject.toml", r"^version = \""), ("js/package.json", r"^ *\"version\": \""))
 
 
 def check_version():
-    """Which file tells another version than the top of CHANGELOG.md."""
+    """Which file has another version than the top of CHANGELOG.md."""
     wanted = None
     for path, before in VERSIONS:
         if not os.path.exists(os.path.join(TOP, path)):
@@ -204,7 +204,7 @@ def check_kit():
 
 
 def kit(named):
-    """A line on the kit that README.md names and the one that is here. Another one is no fault."""
+    """A line on the kit that README.md names and the one that is here. Another one is not an error."""
     if not named:
         return "README.md names no kit"
     if not shutil.which("rt"):
