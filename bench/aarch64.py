@@ -1,9 +1,9 @@
 #!/usr/bin/env python3
-"""Counts the instructions that BLAKE2b-512 and BLAKE2s-256 take on a 64-bit ARM processor, beside other libraries.
+"""Counts the instructions that BLAKE2b-512 and BLAKE2s-256 take on a 64-bit ARM processor, next to other libraries.
 
-The table, as Markdown on standard output, has instructions a byte of messages of 64 KiB, of one message and of as many
-as are hashed at once, and instructions of one call over 64 and over 1,024 bytes. With --write it goes into
-docs/SPEED.md, between its two marks for ARM. It tells nothing of time: no instruction takes as long as another.
+The table, as Markdown on standard output, has instructions a byte of messages of 64 KiB, of one message and of several
+that are hashed in parallel, and instructions of one call over 64 and over 1,024 bytes. With --write it goes into
+docs/SPEED.md, between its two marks for ARM. It says nothing about time, since instructions differ in it.
 
 "ours" is the library that c/install.sh makes from dist/ for aarch64. "plain C" is aarch64/plain.c, the hash as the RFC
 writes it, by each compiler that is there. qemu runs the programs, with a plugin that counts (aarch64/count.c): what two
@@ -43,7 +43,7 @@ PEERS = {"libb2": ("LIBB2", "libb2.so.1", "libb2-1"), "libsodium": ("SODIUM", "l
 
 
 def run(command, **more):
-    """Runs a command, which has to succeed, and answers what it printed and what it said."""
+    """Runs a command, which has to succeed, and returns its output and its error output."""
     done = subprocess.run(command, stdin=subprocess.DEVNULL, capture_output=True, text=True, **more)
     if done.returncode != 0:
         sys.exit(f"aarch64: {' '.join(command)} failed: {done.stderr.strip()}")
@@ -115,7 +115,7 @@ class Counter:
         self.words += ["-E", "LD_LIBRARY_PATH=" + peers] if peers else []
 
     def total(self, program, kind, messages, length, times):
-        """The instructions of a program that hashes these messages so many times."""
+        """The instructions of a program that hashes these messages that number of times."""
         given = [kind.word, str(messages), str(length), str(times)]
         printed, said = run([*self.words, program, *given])
         text = bytes(i % 251 for i in range(length + messages))

@@ -1,11 +1,11 @@
 #!/usr/bin/env python3
-"""Times BLAKE2b-512 and BLAKE2s-256 as callers in C and in Rust meet them, beside other libraries, in one run.
+"""Times BLAKE2b-512 and BLAKE2s-256 as programs in C and in Rust call them, next to other libraries, in one run.
 
 Tables, as Markdown on standard output, and a plot:
 
 - pieces: a message of 64 KiB in pieces, with the start and the end of the run: one update a piece.
 - once: digests in one call.
-- file: the program c/examples/sum.c over a file of random bytes, beside `b2 sum` and other programs, in
+- file: the program c/examples/sum.c over a file of random bytes, next to `b2 sum` and other programs, in
   turns: the medians of the time by the clock and of the processor's.
 - plot: the message in pieces of 1 byte to 64 KiB, at each power of two.
 
@@ -13,8 +13,8 @@ With --write all of them go into the documents: the tables to docs/SPEED.md, bet
 callers, and the plot to docs/callers.svg.
 
 "ours from C" are calls of the header's functions in a program in C (callers/callers.c) that is linked with
-the library as c/install.sh installs it, which chooses its build as it runs; the two names with a processor are the same
-program over that build alone. "ours from Rust" are calls of the crate in rust/ (callers/rust). "hashlib through
+the library as c/install.sh installs it, which chooses its build at run time; the two names with a processor are the same
+program over only that build. "ours from Rust" are calls of the crate in rust/ (callers/rust). "hashlib through
 Python" is what a program in Python makes of the same, an object a digest and an update a piece. In all other points
 bench/speed.py says how it is timed, and which packages have the peers.
 
@@ -71,7 +71,7 @@ def crate_in_rust(folder):
 
 
 def calls_in_c(folder):
-    """The shared libraries over the calls in C by their names: over the chosen build, and over each alone."""
+    """The shared libraries over the calls in C by their names: over the chosen build, and over only one."""
     source = os.path.join(HERE, "callers.c")
     found = {CHOSEN: speed.shared("callers.so", [source, *words_for(folder)])}
     for cpu in speed.CPUS:
@@ -211,7 +211,7 @@ def options_given():
     parser.add_argument("--mebibytes", type=at_least(1), default=1024, help="the size of the file (1024)")
     parser.add_argument("--turns", type=at_least(1), default=7, help="how often each program is timed (7)")
     which = parser.add_mutually_exclusive_group()
-    which.add_argument("--only", choices=("pieces", "once", "file"), help="one part alone")
+    which.add_argument("--only", choices=("pieces", "once", "file"), help="only this part")
     which.add_argument("--write", action="store_true", help="put all into docs/SPEED.md and docs/callers.svg")
     return parser.parse_args()
 

@@ -1,10 +1,10 @@
-"""A plot of speed by lengths as SVG, written without a plotting library. No program of its own:
+"""A plot of speed by lengths as SVG, written without a plotting library. Not a program by itself:
 bench/speed.py and bench/callers.py hand it what they have measured.
 """
 from xml.sax.saxutils import escape
 
-# By the candidates' names: the colour, the width of the line in pixels, and its dashes. The colours are
-# told apart by all kinds of sight (Okabe and Ito).
+# By the candidates' names: the color, the width of the line in pixels, and its dashes. People with any kind of sight
+# can distinguish the colors (Okabe and Ito).
 STYLES = {
     "ours: `blake2`, x86-64-v3": ("#d55e00", 3, ""),
     "ours: `blake2`, x86-64-v2": ("#d55e00", 3, "8 4"),
@@ -16,7 +16,7 @@ STYLES = {
     "hashlib's C functions": ("#56b4e9", 2, "2 3"),
 }
 PANEL, HEIGHT = 430, 320  # the size of a panel's axes, in pixels
-LEFT, TOP, GAP, BOTTOM = 56, 48, 56, 110  # what stands around and between the panels
+LEFT, TOP, GAP, BOTTOM = 56, 48, 56, 110  # the room around and between the panels
 
 
 def length_text(length):
@@ -28,7 +28,7 @@ def length_text(length):
 
 
 def text(x, y, words, anchor="middle", size=13, more=""):
-    """A text at a place."""
+    """Text at a position."""
     return f'<text x="{x:.1f}" y="{y:.1f}" text-anchor="{anchor}" font-size="{size}"{more}>{escape(words)}</text>'
 
 

@@ -1,16 +1,16 @@
 #!/usr/bin/env python3
-"""Times this project's BLAKE2b-512 and BLAKE2s-256 beside other programs and libraries, in one run.
+"""Times this project's BLAKE2b-512 and BLAKE2s-256 next to other programs and libraries, in one run.
 
 Tables, as Markdown on standard output, and a plot:
 
-- long: `b2 sum` beside programs, each over one file of random bytes as its standard input: the processor's
+- long: `b2 sum` next to programs, each over one file of random bytes as its standard input: the processor's
   time (user and system) of the whole program, with its start. hashlib.file_digest runs in this process, with
   no start of Python.
 - kernel: one message of 1 MiB in memory, digested again and again.
 - short: messages of 0, 64 and 1,024 bytes in memory, digested again and again.
 - several: four messages of BLAKE2b-512 and eight of BLAKE2s-256, each of 64, 1,024 and 4,096 bytes, digested
-  one after another and at once, by this project (blake2_c_.._many) and by blake2_simd (hash_many).
-- tree: the roots of trees with leaves of 4 KiB, 64 KiB and 1 MiB over one message of 16 MiB in memory, beside
+  one after another and in parallel, by this project (blake2_c_.._many) and by blake2_simd (hash_many).
+- tree: the roots of trees with leaves of 4 KiB, 64 KiB and 1 MiB over one message of 16 MiB in memory, next to
   one stream over it; blake2_simd's root hashes its leaves by `hash_many`.
 - plot: messages of 64 bytes to 1 MiB in memory, at each power of two.
 
@@ -23,7 +23,7 @@ a digest a call, so each pays for one such call, and nothing is subtracted from 
 are those that hashlib.blake2b and hashlib.blake2s of this Python run, called at their addresses in its
 module _blake2, so nothing of Python is counted; "hashlib through Python" is the same digest as a Python
 program gets it, with the turn of its loop. OpenSSL's algorithm is looked up once, and its context is used
-again. blake2_simd stands for the Rust crates blake2b_simd and blake2s_simd, which choose AVX2 as they run
+again. blake2_simd stands for the Rust crates blake2b_simd and blake2s_simd, which choose AVX2 at run time
 where the processor has it; libb2 chooses among its functions likewise.
 
 Each digest is first compared with hashlib's. Then the candidates of a column are timed in turns, and the
@@ -65,14 +65,14 @@ CPUS = ("x86-64-v2", "x86-64-v3")
 KERNEL_BYTES = 1 << 20
 SHORT_BYTES = (0, 64, 1024)
 SEVERAL_BYTES = (64, 1024, 4096)
-SEVERAL = {"b512": 4, "s256": 8}  # how many messages at once
+SEVERAL = {"b512": 4, "s256": 8}  # how many messages in parallel
 TREE_MEBIBYTES = 16  # of the message
 TREE_LEAVES = (1 << 12, 1 << 16, 1 << 20)
 PLOT_BYTES = tuple(1 << power for power in range(6, 21))
 TURN_NANOSECONDS = 2e6  # of one timing in memory, at least
 MEMORY_TURNS = 50  # timings in memory for each turn over the file, at the lengths of the tables
 TREE_TURNS = 2  # timings of roots for each turn over the file
-PLOT_TURNS = 25  # and at the lengths of the plot alone
+PLOT_TURNS = 25  # and at the lengths that only the plot has
 DEBIAN_CRATES = ["--config", 'source.crates-io.replace-with="debian"',
                  "--config", 'source.debian.directory="/usr/share/cargo/registry"']
 
@@ -265,7 +265,7 @@ def peak_and_digest(command, file):
 
 
 def program_timer(command, file):
-    """A function that answers the processor's time in nanoseconds of one run over this input."""
+    """A function that returns the CPU time in nanoseconds of one run over this input."""
     def timer():
         file.seek(0)
         process = subprocess.Popen(command, stdin=file, stdout=subprocess.DEVNULL)
@@ -278,7 +278,7 @@ def program_timer(command, file):
 
 
 def file_digest_timer(kind, file):
-    """A function that answers the processor's time in nanoseconds of hashlib.file_digest."""
+    """A function that returns the CPU time in nanoseconds of hashlib.file_digest."""
     def timer():
         file.seek(0)
         start = time.process_time_ns()
@@ -330,7 +330,7 @@ def libraries():
 
 
 def loop_timer(loop):
-    """A function that answers the nanoseconds of one digest, given a loop that answers those of so many."""
+    """A function that returns the nanoseconds of one digest, given a loop that returns those of several."""
     count = 1
     while min(loop(count) for _ in range(3)) < TURN_NANOSECONDS:
         count *= 2
@@ -391,7 +391,7 @@ class Memory:
         return loop
 
     def best(self, kind, length):
-        """The best time in nanoseconds of a digest of so many bytes by each library, and through Python."""
+        """The best time in nanoseconds of a digest of this number of bytes by each library, and through Python."""
         if (kind, length) not in self.measured:
             self.measured[kind, length] = self.timed(kind, length)
         return self.measured[kind, length]
@@ -410,7 +410,7 @@ class Memory:
 # What is printed.
 
 def rate(length):
-    """The text of a time in nanoseconds for so many bytes: 10^9 bytes a second."""
+    """The speed, as text, of a time in nanoseconds for this number of bytes: 10^9 bytes a second."""
     return lambda nanoseconds: f"{length / nanoseconds:.2f}"
 
 
@@ -437,7 +437,7 @@ def table(corner, columns, last=None):
 
 
 def random_file(mebibytes):
-    """A file of so many MiB of random bytes, without a name."""
+    """A file of this number of MiB of random bytes, without a name."""
     say(f"writing a file of {mebibytes} MiB")
     file = tempfile.TemporaryFile()
     for _ in range(mebibytes):
@@ -515,7 +515,7 @@ def several_loop(clock, name, function, kind, messages):
 
 
 def several_table(kind, clock, functions, turns):
-    """The table of several messages at once."""
+    """The table of several messages in parallel."""
     columns = []
     for length in SEVERAL_BYTES:
         say(f"timing several messages at {kind.title} of {length:,} bytes")
@@ -555,7 +555,7 @@ def tree_timer(name, function, message, wanted):
 
 
 def tree_table(turns):
-    """The table of roots of trees of BLAKE2b beside one stream, over one message."""
+    """The table of roots of trees of BLAKE2b next to one stream, over one message."""
     roots, single = tree_functions()
     columns = []
     with random_file(TREE_MEBIBYTES) as file:
@@ -576,7 +576,7 @@ def tree_table(turns):
 
 
 def picture(places, label, bytes_at, best_at):
-    """A plot of speed as SVG: of each kind at each place, so many bytes in the best time of each candidate."""
+    """A plot of speed as SVG: for each kind and each length, the bytes a second in the best time of each candidate."""
     panels = {}
     for kind in TIMED:
         best = {place: best_at(kind, place) for place in places}
@@ -614,11 +614,11 @@ def heading(options):
 
 def options_given():
     """The options of the command line."""
-    parser = Parser(description="Times this project beside other programs and libraries.")
+    parser = Parser(description="Times this project next to other programs and libraries.")
     parser.add_argument("--mebibytes", type=at_least(1), default=512, help="the size of the file (512)")
     parser.add_argument("--turns", type=at_least(1), default=6, help="how often each program is timed (6)")
     which = parser.add_mutually_exclusive_group()
-    which.add_argument("--only", choices=("long", "kernel", "short", "several", "tree"), help="one part alone")
+    which.add_argument("--only", choices=("long", "kernel", "short", "several", "tree"), help="only this part")
     which.add_argument("--write", action="store_true", help="put all into docs/SPEED.md and docs/speed.svg")
     return parser.parse_args()
 

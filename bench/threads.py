@@ -4,7 +4,7 @@
 Two tables, as Markdown on standard output, in 10^9 bytes a second by the clock, by 1, 2 and 4 threads:
 
 - memory: vulfsjor_tree_root_threads, and its ratio to vulfsjor_tree_root, which is one call in one thread.
-- file: vulfsjor_tree_root_file beside `b3sum`, and, with one thread, `b2 tree` and `b2sum`. A program is timed with
+- file: vulfsjor_tree_root_file next to `b3sum`, and, with one thread, `b2 tree` and `b2sum`. A program is timed with
   its start.
 
 With --write both go into docs/SPEED.md, between the two marks for threads.
@@ -75,7 +75,7 @@ def functions(folder):
 
 
 def clocked(call, wanted=None):
-    """A function that answers the nanoseconds of one call by the clock. Its result is compared first."""
+    """A function that returns the nanoseconds of one call by the clock. Its result is compared first."""
     if wanted is not None and call() != wanted:
         sys.exit("threads: a root is not the one of hashlib")
 

@@ -11,24 +11,24 @@
 #   FOLDER/lib/libblake2_c-threads.a          roots of trees by several threads, which needs one of
 #                                             the first two
 #   FOLDER/lib/pkgconfig/                     blake2_c.pc, blake2_c-static.pc, blake2_c-threads.pc
-#   FOLDER/lib/blake2_c-libb2/                libb2.a and pkgconfig/libb2.pc, for what looks for
-#                                             libb2
+#   FOLDER/lib/blake2_c-libb2/                libb2.a and pkgconfig/libb2.pc, for programs that
+#                                             look for libb2
 #   FOLDER/include/blake2_c.h                 the functions
 #   FOLDER/include/blake2_threads.h           those of libblake2_c-threads.a
 #   FOLDER/include/blake2_c-libb2/blake2.h    the same by the names of libb2
 #
-# It assembles what dist/ has for the machine that the C compiler (CC, or else cc) compiles for,
-# Linux on x86-64 or aarch64, in a second or two. Beside the compiler it needs its binutils. With
-# --prove it proves the crates and takes what they compile to, and not dist/: that needs the
-# toolchain's command rt too, and the first time some minutes. With --from it takes what
-# `tools/dist.sh make` has left in the folder DIST.
+# It assembles the files of dist/ for the machine that the C compiler (CC, otherwise cc) compiles
+# for, Linux on x86-64 or aarch64, in a second or two. It needs the compiler and its binutils. With
+# --prove it proves the crates and installs what they compile to instead of dist/. That needs the
+# toolchain's command rt too, and 10 to 20 minutes the first time. With --from it installs what
+# `tools/dist.sh make` has written to the folder DIST.
 #
-# On x86-64 the library holds the code for x86-64-v2 and for x86-64-v3 processors, and chooses as it
-# runs. With --cpu it holds the code for CPU alone, x86-64-v2 or x86-64-v3, and runs on no lesser
-# one.
+# On x86-64 the library contains the code for x86-64-v2 and for x86-64-v3 processors, and chooses at
+# run time. With --cpu it contains only the code for CPU, x86-64-v2 or x86-64-v3, and runs on no
+# older processor.
 #
-# LIBDIR takes the place of FOLDER/lib; a path without a slash before it is below FOLDER. Where
-# DESTDIR is set, all files go below it. --uninstall removes the files that are named above, with
+# LIBDIR replaces FOLDER/lib; a path that does not begin with a slash is below FOLDER. If DESTDIR is
+# set, all files are installed below it. --uninstall removes the files that are named above, with
 # the same LIBDIR and DESTDIR.
 set -eu
 here=$(dirname "$(readlink -f "$0")")

@@ -1,5 +1,5 @@
 #!/usr/bin/env bash
-# Makes the libraries that callers link from the assembly texts of dist/:
+# Makes the libraries that callers link from the assembly of dist/:
 #
 #   c/join.sh [--test 2|3|0] FOLDER V2.s V3.s   both builds for x86-64, one of which is chosen at
 #                                               run time
@@ -11,7 +11,7 @@
 #   FOLDER/libblake2_c-threads.a             roots of trees by several threads, over either of the
 #                                            first two
 #
-# The functions are those that include/blake2_c.h declares: a text, or choose.c, with one more or
+# The functions are those that include/blake2_c.h declares: assembly, or choose.c, with one more or
 # one less is refused. choose.c says how a call goes, and what --test is. It needs a C compiler (CC,
 # or cc if that is not set), which may be one for another machine, and its binutils.
 set -eu

@@ -1,11 +1,10 @@
 #!/usr/bin/env bash
-# Tests the library as its callers in C, C++, Python and Rust meet it:
+# Tests the library as programs in C, C++, Python and Rust use it:
 #
 #   c/run_tests.sh [--cpu CPU] [--from DIST] [--only PART]
 #
-# It installs the library in a folder of its own (c/install.sh, which says what all but the last
-# word are), from dist/ where no DIST is named. PART is one of the parts below, each of which is a
-# file of tests/:
+# It installs the library in a separate folder (c/install.sh explains the other options), from dist/
+# unless DIST is named. PART is one of the parts below, each of which is a file of tests/:
 #
 #   languages   C, C++, the examples of c/README.md
 #   choosing    the choice between the two builds, and what the libraries show
@@ -17,9 +16,9 @@
 #   aarch64     the library for aarch64, by a compiler for it and an emulated processor
 #   wrappers    Rust and Python, by rust/run_tests.sh and python/run_tests.sh
 #
-# The parts go side by side, each in a folder of its own, and are shown in this order. A test whose
-# tool is absent is skipped, and a line says so. The last line counts, and the status is 0 where no
-# test failed.
+# The parts run in parallel, each in a separate folder, and are shown in this order. A test whose
+# tool is absent is skipped, and a line says so. The last line counts, and the status is 0 if every
+# test passed.
 set -u
 here=$(dirname "$(readlink -f "$0")")
 top=$(dirname "$here")

@@ -3,10 +3,10 @@
 #
 #   python/run_tests.sh
 #
-# It is built three times: by setup.py alone, which needs setuptools; as a wheel from a source distribution, which needs
-# the packages wheel and pip too; and by `pip install ./python`. PYTHONS names the interpreters to test with (python3 and
-# /usr/bin/python3). A test whose tool is absent is skipped, and a line says so. The last line counts, and the status is
-# 0 where no test failed.
+# It is built three times: by only setup.py, which needs setuptools; as a wheel from a source
+# distribution, which needs the packages wheel and pip too; and by `pip install ./python`. PYTHONS
+# names the interpreters to test with (python3 and /usr/bin/python3). A test whose tool is absent is
+# skipped, and a line says so. The last line counts, and the status is 0 if every test passed.
 set -u
 here=$(dirname "$(readlink -f "$0")")
 top=$(dirname "$here")
@@ -151,8 +151,8 @@ elif check "the package for Python is built by $python" build "$python"; then
         full=$("$each" -c 'import sys; print(sys.version_info >= (3, 11) and sys.executable)' 2>/dev/null)
         case "${full:-False} $tested " in False*) continue ;; *" $full "*) continue ;; esac
         tested="$tested $full"
-        check "the package beside hashlib, in $each" "$full" "$here/tests/compare.py" "$work/built" 20000
-        check "tests of the package alone, in $each" "$full" "$here/tests/package.py" "$work/built"
+        check "the package next to hashlib, in $each" "$full" "$here/tests/compare.py" "$work/built" 20000
+        check "tests of only the package, in $each" "$full" "$here/tests/package.py" "$work/built"
         check "trees in parts, by threads and of files, in $each" "$full" "$here/tests/trees.py" "$work/built"
         if "$full" -c 'import test.test_hashlib' 2>/dev/null; then
             check "CPython's test_hashlib over the package, in $each" "$full" "$here/tests/cpython.py" "$work/built"
@@ -183,9 +183,9 @@ elif check "the package for Python is built by $python" build "$python"; then
     if [ -z "$wheel" ]; then
         skip "the wheel" "no python3 with pip and wheel"
     elif check "the wheel is built by $wheel" build_wheel "$wheel"; then
-        check "the wheel beside hashlib" "$wheel" "$here/tests/compare.py" "$work/installed" 1000
+        check "the wheel next to hashlib" "$wheel" "$here/tests/compare.py" "$work/installed" 1000
         check "pip installs the folder" install_folder "$wheel" &&
-            check "the package by pip beside hashlib" "$wheel" "$here/tests/compare.py" "$work/by_pip" 1000
+            check "the package by pip next to hashlib" "$wheel" "$here/tests/compare.py" "$work/by_pip" 1000
     fi
 fi
 echo "$passed passed, $failed failed, $skipped skipped"

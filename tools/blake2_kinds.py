@@ -1,4 +1,4 @@
-"""What the scripts share: the two families of BLAKE2, the KINDs of `b2`, and the command line. No program of its own.
+"""What the scripts share: the two families of BLAKE2, the KINDs of `b2`, and the command line. Not a program by itself.
 """
 import argparse
 import hashlib
@@ -25,7 +25,7 @@ KINDS = {"b128": ("b", 16), "b256": ("b", 32), "b512": ("b", 64), "s128": ("s", 
 
 
 class Parser(argparse.ArgumentParser):
-    """A parser that answers wrong arguments in one line, with status 2."""
+    """A parser that reports wrong arguments in one line, with status 2."""
 
     def error(self, message):
         self.exit(2, f"{self.prog}: {message} (--help says what it takes)\n")
@@ -35,7 +35,7 @@ def at_least(least):
     """Reads an argument that is a whole number, and not below this one."""
     def number(text):
         if not text.isdecimal() or int(text) < least:
-            raise argparse.ArgumentTypeError(f"{text!r} is no whole number from {least} on")
+            raise argparse.ArgumentTypeError(f"{text!r} is not a whole number of at least {least}")
         return int(text)
     return number
 
@@ -43,5 +43,5 @@ def at_least(least):
 def program(path):
     """Reads an argument that names a program."""
     if not os.access(path, os.X_OK) or os.path.isdir(path):
-        raise argparse.ArgumentTypeError(f"{path!r} is no program")
+        raise argparse.ArgumentTypeError(f"{path!r} is not a program")
     return os.path.abspath(path)

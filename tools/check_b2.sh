@@ -1,8 +1,8 @@
 #!/usr/bin/env bash
-# Checks the script `b2` and tools/processor.sh, without proving anything: in a small repository of
-# its own, whose command `rt` is a stand-in that prints what the real one prints and leaves what it
-# leaves, and whose tools/dist.sh and C compiler are stand-ins too. The last line is 'N passed, M
-# failed', and the status is 1 where one failed.
+# Checks the script `b2` and tools/processor.sh, without proving anything: in a small separate
+# repository, with stand-ins for the command `rt`, for tools/dist.sh and for the C compiler. The
+# stand-in for `rt` prints what the real one prints and leaves the files that it leaves. The last
+# line is 'N passed, M failed', and the status is 1 if one failed.
 set -u
 top=$(dirname "$(dirname "$(readlink -f "$0")")")
 room=$(mktemp -d)
@@ -133,7 +133,7 @@ b2 --help
 holds "help ends with 0" ends 0
 holds "help builds nothing" calls 0
 holds "help is printed" grep -q "^usage: b2 sum KIND" "$room/output"
-holds "on standard output alone" tells_nothing
+holds "only on standard output" tells_nothing
 b2 -h
 holds "-h is help" grep -q "^usage: b2 sum KIND" "$room/output"
 
@@ -150,7 +150,7 @@ holds "nothing is left of it" stands_not "$repository/out/begun".*
 settle
 b2 steps
 holds "the next run builds nothing" compiles 1
-holds "the next run tells nothing" tells_nothing
+holds "the next run reports nothing" tells_nothing
 b2 --build
 holds "nor does --build" compiles 1
 holds "and that runs nothing" prints ""
@@ -209,7 +209,7 @@ holds "where it is not built nothing is installed" diff <(echo 'bin/other 600') 
 rm -f "$program"
 b2 sum b512
 holds "a refused compilation ends with 1" ends 1
-holds "it tells why" tells "compiler: refused"
+holds "it reports why" tells "compiler: refused"
 holds "it leaves nothing" stands_not "$repository/out"/*
 rm "$room/refuse"
 
@@ -278,7 +278,7 @@ holds "the checker's work is removed as the next crate begins" finds_work "*/out
 holds "the checker's work is removed" stands_not "$repository/crates/low/out/incremental"
 holds "the last crate's is removed too" stands_not "$repository/crates/b2/out/incremental"
 holds "what was proved is kept" stands "$repository/crates/low/out/rlib"
-holds "the removal is told once" tells_once "removed the checker's work"
+holds "the removal is reported once" tells_once "removed the checker's work"
 holds "nothing is left of the build" stands_not "$repository/out/begun".*
 
 settle
@@ -286,9 +286,9 @@ b2 steps
 holds "the second run ends as the program does" ends 7
 holds "the second run builds nothing" calls 1
 holds "the second run prints what the program prints" prints "<steps>inproved"
-holds "the second run tells nothing" tells_nothing
+holds "the second run reports nothing" tells_nothing
 b2 --prove
-holds "nothing is built where nothing changed" calls 1
+holds "nothing is built if nothing changed" calls 1
 holds "that prints nothing" prints ""
 holds "that ends with 0" ends 0
 
@@ -316,7 +316,7 @@ echo low/out/incremental >"$room/slow"
 rm -f "$program"
 mkdir -p "$repository/crates/low/out/incremental"
 b2 --prove
-holds "work that stood before is kept" stands "$repository/crates/low/out/incremental"
+holds "work that existed before is kept" stands "$repository/crates/low/out/incremental"
 holds "and while the next crates are built" finds_work low/out/incremental
 holds "work of this build is removed" stands_not "$repository/crates/middle/out/incremental"
 rm -rf "$program" "$repository"/crates/*/out/incremental
@@ -333,12 +333,12 @@ rm "$room/slow"
 holds "work is kept where asked" stands "$repository/crates/middle/out/incremental"
 holds "and while the next crates are built, where asked" \
     finds_work "low/out/incremental middle/out/incremental"
-holds "no removal is told where work is kept" tells_not "removed the checker's work"
+holds "no removal is reported if work is kept" tells_not "removed the checker's work"
 holds "a build with --keep runs nothing" prints ""
 holds "a build with --keep ends with 0" ends 0
 rm -f "$program"
 b2 --prove
-holds "no removal is told where all work stood before" tells_not "removed the checker's work"
+holds "no removal is reported if all work existed before" tells_not "removed the checker's work"
 rm -rf "$repository"/crates/*/out/incremental
 
 echo edit >"$room/turn"
@@ -353,7 +353,7 @@ rm -f "$program"
 b2 --prove
 holds "a failed build ends with 1" ends 1
 holds "a failed build prints nothing" prints ""
-holds "a failed build tells the cause" tells "error: no proof of the goal"
+holds "a failed build reports the cause" tells "error: no proof of the goal"
 holds "a failed build names its log" tells "the whole log is $program.log"
 holds "a failed build leaves no program" stands_not "$program"
 holds "a failed build leaves no file" stands_not "$repository/out/begun".*

@@ -1,8 +1,8 @@
 #!/usr/bin/env python3
 """Compares the pages CALLING.md and the README of the crate blake2 with the sources that they quote.
 
-Each function that a block of Rust shows has to stand in crates/blake2_callers/src, and each contract that a
-block of text shows in the file of the page's crate that the line before the block names, but for spaces. The
+Each function in a block of Rust has to be in crates/blake2_callers/src, and each contract in a block of text in the file
+of the page's crate that the line before the block names. Spaces may differ. The
 README's functions and `use` lines have to be in crates/blake2_vectors/src/readme.rt, whose tests run them.
 
 usage: tools/check_calling.py
@@ -58,7 +58,7 @@ def readme_faults():
 
 
 def main():
-    """Says what differs, and answers whether something does."""
+    """Prints what differs, and returns whether something does."""
     pages = sorted(glob.glob(os.path.join(TOP, "crates", "*", "CALLING.md")))
     found, total = readme_faults()
     differs = len(found)

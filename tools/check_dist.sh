@@ -1,8 +1,7 @@
 #!/usr/bin/env bash
-# Checks tools/dist.sh, without proving anything: in a small repository of its own, over a kit whose
-# command rt, prover and clang are stand-ins. Without python3, which tools/dist.sh needs, it is
-# skipped, and a line says so. The last line is 'N passed, M failed', and the status is 1 where one
-# failed.
+# Checks tools/dist.sh, without proving anything: in a small separate repository, with stand-ins for
+# the command rt, the prover and clang. Without python3, which tools/dist.sh needs, it is skipped,
+# and a line says so. The last line is 'N passed, M failed', and the status is 1 if one failed.
 set -u
 if ! command -v python3 >/dev/null; then
     echo "skipped: the script that makes dist/ (no python3)"
@@ -110,14 +109,14 @@ dist make
 holds "make ends with 0" ends 0
 holds "make proves both" diff <(printf 'check %s\n' blake2_c b2) "$room/calls"
 holds "each file is made" [ "$(made | wc -l)" -eq 8 ]
-holds "a text is that of its crate and processor" \
+holds "a file is that of its crate and processor" \
     grep -qF '"blake2_c for x86_64-unknown-linux-gnu, x86-64-v3, .L::f"' "$text"
 holds "aarch64 is for each" grep -qF 'b2 for aarch64-unknown-linux-gnu, generic,' \
     "$repository/dist/aarch64/b2.s"
 holds "the module is linked" \
     grep -qx 'blake2_c for wasm64-unknown-unknown, lime1, ' "$repository/dist/wasm/blake2_c.wasm"
 wants() { [ "$(grep -c -- "$1" "$room/clang")" -eq "$2" ]; }
-holds "on aarch64 clang is told of the attributes, as it prints and as it compiles" \
+holds "on aarch64 clang gets the attributes, when it prints and when it compiles" \
     wants "--target=aarch64.* -mllvm -forceattrs-csv-path=$repository/tools/aarch64_attr.*\.csv" 4
 holds "the module has SIMD" wants "--target=wasm64.* -c .*-msimd128$" 1
 holds "nothing else has" wants "-msimd128" 2
@@ -187,10 +186,10 @@ for file in aarch64/b2.s wasm/blake2_c.wasm; do
 done
 echo "fn more() {}" >>"$repository/crates/beside/src/lib.rt"
 dist current
-holds "a change of another crate is none" ends 0
+holds "a change of another crate changes nothing" ends 0
 printf '//! a comment\n    // another\n' >>"$repository/crates/blake2_plain/src/lib.rt"
 dist current
-holds "nor is a comment on a line of its own" ends 0
+holds "nor does a comment on a separate line" ends 0
 sed -i '/^ *\/\//d' "$repository/crates/blake2_plain/src/lib.rt"
 for file in tools/plain_names.py tools/aarch64_attributes.csv; do
     echo "# more" >>"$repository/$file"

@@ -270,7 +270,7 @@ def main():
     wrong = [*check_clauses(), *check_edits(), *check_specification(), *check_version(), *check_sizes(),
              *check_files(), *check_links(), *check_kit()]
     print(kit(KIT.search(read("README.md"))))
-    print("\n".join(wrong) if wrong else "the names and numbers of the documents stand in the sources")
+    print("\n".join(wrong) if wrong else "the names and numbers of the pages are those of the sources")
     return 1 if wrong else 0
 
 

@@ -1,18 +1,18 @@
 #!/usr/bin/env bash
-# Compares the pages with the sources. tools/check_calling.py looks at those that quote callers and
-# contracts, tools/check_docs.py at the names and numbers in the pages, and tools/reference.py at
-# docs/reference/, after tools/check_reference.py has tested it. tools/check_style.py looks for
-# phrases that the pages avoid. tools/manual.py compares the man page with docs/PROGRAM.md,
-# tools/pictures.py the pictures of docs/, and tools/check_specification.py the program with one that
-# was written from docs/SPECIFICATION.md only. At the end it looks for symbolic links in the
-# repository, which the toolchain refuses.
+# Compares the pages with the sources. tools/check_calling.py looks at the pages that quote callers
+# and contracts, tools/check_docs.py at the names and numbers in the pages, and tools/reference.py
+# at docs/reference/, after tools/check_reference.py has tested it. tools/check_style.py looks for
+# phrases that this project avoids, in the pages and in all else that people read. tools/manual.py
+# compares the man page with docs/PROGRAM.md, tools/pictures.py the pictures of docs/ with the
+# crates, and tools/check_specification.py the program with one that was written only from
+# docs/SPECIFICATION.md. At the end it looks for symbolic links in the repository, which the
+# toolchain refuses.
 #
 # usage: tools/check_pages.sh [PROGRAM]
 #
-# PROGRAM is crates/b2/out/b2 where it is left out, which `rt ci` builds. The scripts are skipped
-# where there is no python3, the last of them where there is no such program, and the links where
-# there is no git repository; a line says so. The last line counts, and the status is 1 where one
-# failed.
+# Without PROGRAM it is crates/b2/out/b2, which `rt ci` builds. The scripts are skipped if there is
+# no python3, the last one if there is no such program, and the links if there is no git repository;
+# a line says so. The last line counts, and the status is 1 if one failed.
 set -u
 tools=$(dirname "$(readlink -f "$0")")
 program=${1:-$(dirname "$tools")/crates/b2/out/b2}

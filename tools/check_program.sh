@@ -1,20 +1,19 @@
 #!/usr/bin/env bash
-# Runs the program b2 as a shell does, and checks what no proof sees of `main`: that it hands on
-# every argument and the three streams, and ends with the status that the run answers. Then it holds
-# each command to the memory that docs/PROGRAM.md gives it, and sees by a count of instructions that
-# `tree` hashes four leaves at once.
+# Runs the program b2 as a shell does, and checks what no proof covers of `main`: that it passes
+# every argument and the three streams on, and ends with the status that `run` returns. Then it runs
+# each command within the memory that docs/REVIEW.md states, and checks by a count of instructions
+# that `tree` hashes four leaves in parallel.
 #
 # usage: tools/check_program.sh [PROGRAM]
 #
-# PROGRAM is crates/b2/out/b2 where it is left out, which `rt ci` builds. Each check that fails is
-# told on standard error. valgrind counts the instructions: where it is absent these checks are
-# skipped, each with a line. The last line is 'N passed, M failed, K skipped', and the status is 1
-# where one failed.
+# Without PROGRAM it is crates/b2/out/b2, which `rt ci` builds. Each check that fails is reported on
+# standard error. valgrind counts the instructions: if it is absent, these checks are skipped, each
+# with a line. The last line is 'N passed, M failed, K skipped', and the status is 1 if one failed.
 set -u
 top=$(dirname "$(dirname "$(readlink -f "$0")")")
 program=$(readlink -f "${1:-$top/crates/b2/out/b2}")
 if [ ! -x "$program" ]; then
-    echo "tools/check_program.sh: no program stands at ${1:-$program}" >&2
+    echo "tools/check_program.sh: there is no program at ${1:-$program}" >&2
     echo "0 passed, 1 failed, 0 skipped"
     exit 1
 fi

@@ -1,13 +1,13 @@
 #!/usr/bin/env bash
-# Tries what crates/blake2/CALLING.md tells another repository to do: makes a repository in a folder
-# of its own by the commands of that page, with the page's callers as the crate app and those of
+# Follows what crates/blake2/CALLING.md says to another repository: makes a separate repository with
+# the commands of that page, with the page's callers as the crate app and those of
 # crates/blake2_tree/CALLING.md as app_tree, and proves every crate in it.
 #
 # usage: tools/check_recipe.sh
 #
-# Work that is kept in crates/*/out is copied along, and what is not there is proved anew. It takes
-# room for that copy (some 2 GB) in the folder for temporary files. The last line is 'N passed, M
-# failed', and the status is 1 where one failed.
+# Work that is kept in crates/*/out is copied along, and what is not there is proved anew. The copy
+# needs about 2 GB in the folder for temporary files. The last line is 'N passed, M failed', and the
+# status is 1 if one failed.
 set -u
 top=$(dirname "$(dirname "$(readlink -f "$0")")")
 if ! command -v rt >/dev/null; then

@@ -1,5 +1,5 @@
 #!/usr/bin/env python3
-"""Tests tools/reference.py on a small repository of two crates, made in a folder of its own.
+"""Tests tools/reference.py on a small repository of two crates, made in a separate folder.
 
 usage: tools/check_reference.py
 """

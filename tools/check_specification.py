@@ -1,10 +1,10 @@
 #!/usr/bin/env python3
-"""Compares `b2` with tools/from_specification.py, which was written from docs/SPECIFICATION.md alone, and the worked
+"""Compares `b2` with tools/from_specification.py, which was written only from docs/SPECIFICATION.md, and the worked
 values of that page with what that program, hashlib and the page say. The examples of README.md and docs/PROGRAM.md
 that run `./b2` are cases too.
 
-Of each command it runs random cases, of one seed: words in random order and case, words that are wrong, missing or too
-many, arguments that are no UTF-8, inputs around every boundary, scripts with wrong lines and bad calls, and an input
+For each command it runs random cases from one seed: arguments in random order and case, arguments that are wrong, missing or too
+many, arguments that are not UTF-8, inputs around every boundary, scripts with wrong lines and bad calls, and an input
 that can't be read. Status and output have to be the same; what `sum` and `tree` print is compared with hashlib too.
 
 usage: tools/check_specification.py [--cases N] [--seed N] [--program PATH]
@@ -138,12 +138,12 @@ CASES = {"sum": sum_case, "steps": sum_case, "script": script_case, "witness": w
 
 
 def unreadable():
-    """Stands for an input that answers an error."""
+    """Represents an input whose reads fail."""
     raise IsADirectoryError
 
 
 def outcome(path, words, message):
-    """The status and the output of the program; None is an input that answers an error."""
+    """The status and the output of the program; None is an input whose reads fail."""
     if message is not None:
         done = subprocess.run([path, *words], input=message, stdout=subprocess.PIPE)
         return done.returncode, done.stdout
@@ -166,7 +166,7 @@ def of_hashlib(words, message):
 
 
 def worked():
-    """What the page works out: where it stands, and whether program, hashlib and page agree."""
+    """The worked examples of the page: where each is, and whether program, hashlib and page agree."""
     with open(PAGE, encoding="utf-8") as file:
         page = " ".join(file.read().split())
     digest = {kind: run([b"sum", kind], lambda: b"abc")[1].decode().strip() for kind in (b"b512", b"s256")}
@@ -221,7 +221,7 @@ def examples():
 
 
 def main():
-    """Runs all cases, and answers the status."""
+    """Runs all cases, and returns the status."""
     parser = Parser(description=__doc__.split("\n\n")[0])
     parser.add_argument("--cases", type=at_least(1), default=300, help="how many runs of each command (300)")
     parser.add_argument("--seed", type=at_least(0), default=7693, help="of the random inputs (7693)")

@@ -1,32 +1,42 @@
 #!/usr/bin/env python3
-"""Finds phrases in the pages and headers that this project writes in another way.
+"""Finds phrases in what people read that this project writes in another way.
 
-FORMS lists each phrase as a regular expression, what to write instead, and a sentence that has it. Code is skipped:
-fenced and indented blocks, inline code, targets of links and, in a header, everything outside comments. So is the
-block quote of the README's headline. EXCEPTIONS names the few places that keep a phrase, with the reason. The pages
-of TO_DO are not checked yet: no page is added to that list.
+FORMS lists each phrase as a regular expression, what to write instead, and a sentence that has it. KINDS says which
+files are checked, and what is prose in each of them:
+
+- pages (*.md): everything except code (fenced and indented blocks, inline code, targets of links) and the headline
+- headers and the types for JavaScript: comments
+- the module for Python in C: comments, docstrings and messages
+- Rust: comments on their own lines
+- Python: docstrings, comments, and strings that are raised, printed or shown as help
+- scripts: the comment at the top, which --help prints, the usage, messages, and names of tests
+- the man page: everything except code
+
+EXCEPTIONS names the few places that keep a phrase, with the reason. TO_DO names the pages that are not checked yet: no
+page is added to that list.
 
 Prints one line for each phrase found, `FILE:LINE: phrase -> what to write instead`, and exits with status 1 if there
-is one. The same holds for a line of prose of more than 120 columns, and for an exception that excuses nothing.
+is one. The same holds for a line of a page that has more than 120 columns, for a cell of a table that has more than 25
+words, and for an exception that excuses nothing.
 
-Without a PAGE it tests itself first: each sentence of FORMS has to be found, in a page and in a header, and
-none in code.
+Without a FILE it tests itself first: each sentence of FORMS has to be found in each kind of file, and none in code.
 
-usage: tools/check_style.py [--all] [PAGE..]
+usage: tools/check_style.py [--all] [FILE..]
 
   --all  checks the pages of TO_DO too
 """
+import ast
+import fnmatch
 import glob
 import os
 import re
 import sys
+import tokenize
 
 from blake2_kinds import TOP, Parser
 
-COLUMNS = 120
+COLUMNS, CELL_WORDS = 120, 25
 MARK = "\N{CURRENCY SIGN}"
-PAGES = ("*.md", "docs/*.md", "*/README.md", "crates/*/*.md", "c/*.md", "tools/*/README.md", "c/include/*.h",
-         "c/libb2/*.h")
 
 # A phrase, what to write instead, and a sentence with the phrase.
 FORMS = (
@@ -82,43 +92,143 @@ FORMS = (
      "the American spelling", "The licence is open."),
 )
 
-# A page, the phrase that it keeps, and why.
+# A file, the phrase that it keeps, and why.
 EXCEPTIONS = (
     ("docs/GLOSSARY.md", "Every list of updates, clones, resets and finalising calls.", "words of the headline"),
+    ("tools/check_b2.sh", "0 of 4 functions checked; the verdict comes last", "what rt prints"),
 )
 
 # Pages that are still to be rewritten.
-TO_DO = (
-    "c/README.md", "c/include/blake2_c.h", "c/include/blake2_threads.h",
-    "crates/blake2/CALLING.md", "crates/blake2_digest/CALLING.md", "crates/blake2_plain/CALLING.md",
-    "crates/blake2_rows/CALLING.md", "crates/blake2_runs/CALLING.md", "crates/blake2_tree/CALLING.md",
-    "crates/blake2_words/CALLING.md", "dist/README.md",
-    "docs/SPECIFICATION.md", "python/README.md", "rust/README.md",
-    "rust-digest/README.md",
-)
+TO_DO = ()
+
+# Files that are not checked, and why.
+NOT_CHECKED = {"tools/plain_names.py": "dist/MANIFEST has a hash of it, comments included",
+               "docs/reference/*.md": "tools/reference.py makes them from the comments of the crates"}
 
 
-def pages():
-    """The pages and headers that are checked, from the top of the repository."""
-    found = {path for pattern in PAGES for path in glob.glob(pattern, root_dir=TOP)}
-    return sorted(path for path in found if not os.path.islink(os.path.join(TOP, path)))
-
-
-def blanked(match):
+def marked(match):
     """The match with a mark for each character that is not a space."""
     return re.sub(r"\S", MARK, match[0])
 
 
-def prose(path, text):
-    """The text with marks instead of code and of the headline, each character at its place."""
-    if path.endswith(".h"):
-        text = re.sub(r"\A.*?(?:/\*|\Z)|\*/.*?(?:/\*|\Z)", blanked, text, flags=re.DOTALL)
-        return re.sub(r"^ \*(?= |$)", "  ", text, flags=re.MULTILINE)
-    text = re.sub(r"^```.*?^```$", blanked, text, flags=re.MULTILINE | re.DOTALL)
-    text = re.sub(r"(?<=\n\n)(?: {4,}\S.*\n)+", blanked, text)
-    text = re.sub(r"^> While the counted bytes(?:.*\n>)*.*$", blanked, text, flags=re.MULTILINE)
-    text = re.sub(r"`[^`]+`", blanked, text)
-    return re.sub(r"\]\([^)]*\)", blanked, text)
+def spaced(match):
+    """A space for each character of the match."""
+    return " " * len(match[0])
+
+
+def only(text, spans):
+    """The text with marks outside these places, which are in order."""
+    parts, at = [], 0
+    for begin, end in spans:
+        parts += [re.sub(r"\S", MARK, text[at:begin]), text[begin:end]]
+        at = end
+    return "".join(parts) + re.sub(r"\S", MARK, text[at:])
+
+
+def found(form, text):
+    """The places of the group of an expression that matched."""
+    return [match.span(match.lastindex) for match in re.finditer(form, text, re.MULTILINE | re.DOTALL)]
+
+
+def without_code(text):
+    """The text with marks instead of code: fenced blocks, inline code, targets of links."""
+    text = re.sub(r"^ *```.*?^ *```$", marked, text, flags=re.MULTILINE | re.DOTALL)
+    text = re.sub(r"`[^`]+`", marked, text)
+    return re.sub(r"\]\([^)]*\)", marked, text)
+
+
+def page(text):
+    """The prose of a page. The headline is left out."""
+    text = re.sub(r"(?<=\n\n)(?: {4,}\S.*\n)+", marked, text)
+    return without_code(re.sub(r"^> While the counted bytes(?:.*\n>)*.*$", marked, text, flags=re.MULTILINE))
+
+
+def comments(text):
+    """The comments of a header or of types for JavaScript."""
+    text = only(text, found(r"/\*+(.*?)\*/", text))
+    return without_code(re.sub(r"^ *\*(?= |$)", spaced, text, flags=re.MULTILINE))
+
+
+def module(text):
+    """The comments of a module for Python in C, and its strings with a space: docstrings and messages."""
+    return without_code(only(text, found(r'/\*(.*?)\*/|"([^"\n]* [^"\n]*)"', text)))
+
+
+def rust(text):
+    """The comments of a Rust file that are on their own lines."""
+    text = re.sub(r"^(?! *//).*$", marked, text, flags=re.MULTILINE)
+    return without_code(re.sub(r"^ *//[/!]?", spaced, text, flags=re.MULTILINE))
+
+
+def shown(tree):
+    """The nodes of a Python program that people see: docstrings, and strings that are raised, printed or help."""
+    for node in ast.walk(tree):
+        if isinstance(node, (ast.Module, ast.ClassDef, ast.FunctionDef)) and ast.get_docstring(node):
+            yield node.body[0].value
+        called = isinstance(node, ast.Call) and getattr(node.func, "attr", getattr(node.func, "id", ""))
+        if isinstance(node, ast.Raise) or called in ("exit", "print", "error", "fail", "add_argument", "Parser"):
+            yield from (inner for inner in ast.walk(node) if isinstance(inner, (ast.Constant, ast.JoinedStr)))
+
+
+def python(text):
+    """The docstrings, comments and messages of a Python program."""
+    lines = [0]
+    for line in text.splitlines(keepends=True):
+        lines.append(lines[-1] + len(line))
+
+    def place(row, column):
+        line = text[lines[row - 1]:lines[row]]
+        return lines[row - 1] + len(line.encode()[:column].decode())
+    spans = {(place(node.lineno, node.col_offset), place(node.end_lineno, node.end_col_offset))
+             for node in shown(ast.parse(text)) if isinstance(node, ast.JoinedStr) or isinstance(node.value, str)}
+    reader = iter(text.splitlines(keepends=True))
+    spans |= {(lines[row - 1] + column, lines[row - 1] + column + len(token.string))
+              for token in tokenize.generate_tokens(lambda: next(reader, "")) if token.type == tokenize.COMMENT
+              for row, column in (token.start,)}
+    outer = [span for span in sorted(spans)
+             if not any(span != other and other[0] <= span[0] and span[1] <= other[1] for other in spans)]
+    text = re.sub(r"^ *(?:>>>|\.\.\.) .*$", marked, only(text, outer), flags=re.MULTILINE)
+    text = re.sub(r"(?<=\n\n)(?: {4,}\S.*  .*\n)+", marked, text)
+    return without_code(re.sub(r"^( *)# ", spaced, re.sub(r"\{[^{}]*\}", marked, text), flags=re.MULTILINE))
+
+
+def script(text):
+    """The comment at the top of a script, its usage, its messages, and the names of its tests."""
+    head = re.match(r"(?:#.*\n)*", text).end()
+    spans = [(0, head)] + [(begin + head, end + head) for begin, end in found(
+        r"^usage\(\) \{\n *cat <<'?END'?\n(.*?)^END$|(?<!\S)(?:echo|printf|fail|skip|check|holds|refuse) (?:-\w+ )?"
+        r"(\"[^\"]*\"|'[^']*')", text[head:])]
+    text = re.sub(r"\$\([^)]*\)|\$\{[^}]*\}|\$\w+", marked, only(text, spans))
+    text = re.sub(r"^#(?:!| {4,}).*", marked, text, flags=re.MULTILINE)
+    return without_code(re.sub(r"^#", spaced, text, flags=re.MULTILINE))
+
+
+def man(text):
+    """The prose of a man page."""
+    text = re.sub(r"^\.EX$.*?^\.EE$|^\.[^\n]*|\\fB.*?\\fR", marked, text, flags=re.MULTILINE | re.DOTALL)
+    return text.replace("\\", " ")
+
+
+# The files of each kind, what is prose in them, and a file of that kind with a sentence in its prose and in its code.
+KINDS = (
+    (("**/*.md",), page, "Some text.\n\n{0}\n", "`{0}`\n\n```text\n{0}\n```\n\nAs:\n\n    {0}\n\n"),
+    (("c/include/**/*.h", "c/libb2/*.h", "js/index.d.ts"), comments, "int f;\n/* A.\n * {0} */\n", "f({0});\n"),
+    (("python/src/*.c", "python/src/*.h"), module, 'int f;\n{{0, "A. {0}"}};\n', "f({0});\n"),
+    (("rust/src/*.rs", "rust-digest/src/*.rs"), rust, "fn f() {{}}\n    /// {0}\n", "f({0});\n/// `{0}`\n"),
+    (("python/vulfsjor/*.py", "python/vulfsjor/*.pyi", "tools/*.py", "bench/*.py"), python,
+     '"""A.\n\n{0}"""\n', 'x = "{0}"\n'),
+    (("b2", "test", "c/*.sh", "*/run_tests.sh", "tools/*.sh"), script,
+     "#!/bin/sh\n# {0}\nset -u\n", "#!/bin/sh\nset -u\nf {0}\n"),
+    (("docs/*.1",), man, ".PP\n{0}\n", ".EX\n{0}\n.EE\n"),
+)
+
+
+def files():
+    """The files that are checked, from the top of the repository, each with what is prose in it."""
+    made = re.compile(r"(?:^|/)(?:out|target|build|node_modules)/")
+    return {path: prose_of for names, prose_of, *_ in KINDS for name in names
+            for path in sorted(glob.glob(name, root_dir=TOP, recursive=True))
+            if not (made.search(path) or any(fnmatch.fnmatch(path, left_out) for left_out in NOT_CHECKED))}
 
 
 def joined(text):
@@ -133,11 +243,11 @@ def joined(text):
     return "".join(" " if place in spaces else text[place] for place in places), places
 
 
-def excused(page, text, match, used):
-    """Whether an exception of this page has the match in its phrase. Adds that exception to those used."""
+def excused(path, text, match, used):
+    """Whether an exception of this file has the match in its phrase. Adds that exception to those used."""
     for exception in EXCEPTIONS:
         name, phrase, _ = exception
-        if name == page and any(at <= match.start() and match.end() <= at + len(phrase)
+        if name == path and any(at <= match.start() and match.end() <= at + len(phrase)
                                 for at in places_of(phrase, text)):
             used.add(exception)
             return True
@@ -149,33 +259,43 @@ def places_of(phrase, text):
     return [match.start() for match in re.finditer(re.escape(phrase), text)]
 
 
-def findings(page, text, used):
-    """The line and what is wrong in it, for each phrase in the text and for each line of prose that is too long."""
-    marked, measured = prose(page, text), False
-    for number, line in enumerate(text.splitlines(), 1):
+def shapes(text, prose):
+    """The line and what is wrong in it, for each line of a page that is too long and each cell that is."""
+    measured = False
+    for number, (line, plain) in enumerate(zip(text.splitlines(), prose.splitlines()), 1):
         measured = line.startswith("<!-- measured by ") or measured and not line.startswith("<!-- end ")
-        is_code = not marked.splitlines()[number - 1].strip(f" {MARK}.")
+        is_code = not plain.strip(f" {MARK}.")
         if len(line) > COLUMNS and not (is_code or measured or line.startswith("|") or "](" in line):
             yield number, f"{len(line)} columns -> at most {COLUMNS}"
-    plain, places = joined(marked)
-    shown = "".join(" " if plain[i] == " " else text[place] for i, place in enumerate(places))
+        for cell in line.strip("|").split(" | ") if line.startswith("|") else ():
+            if len(cell.split()) > CELL_WORDS:
+                yield number, f"a cell of {len(cell.split())} words -> at most {CELL_WORDS}"
+
+
+def findings(path, text, used, prose_of):
+    """The line and what is wrong in it, for each phrase in the prose of a file."""
+    prose = prose_of(text)
+    if prose_of is page:
+        yield from shapes(text, prose)
+    plain, places = joined(prose)
+    original = "".join(" " if plain[i] == " " else text[place] for i, place in enumerate(places))
     for form, instead, _ in FORMS:
         for match in re.finditer(form, plain, re.MULTILINE):
-            if not excused(page, shown, match, used):
+            if not excused(path, original, match, used):
                 yield text.count("\n", 0, places[match.start()]) + 1, f"{match[0]} -> {instead}"
 
 
 def check(names):
-    """Prints what is wrong in these pages, and returns how many lines that is."""
+    """Prints what is wrong in these files, each with what is prose in it, and returns how many lines that is."""
     used, count = set(), 0
-    for page in names:
-        with open(os.path.join(TOP, page), encoding="utf-8") as file:
-            found = sorted(findings(page, file.read(), used))
-        for number, line in found:
-            print(f"{page}:{number}: {line}")
-        if not found and page in TO_DO:
-            print(f"note: {page} passes and can leave TO_DO")
-        count += len(found)
+    for name, prose_of in names.items():
+        with open(os.path.join(TOP, name), encoding="utf-8") as file:
+            wrong = sorted(findings(name, file.read(), used, prose_of))
+        for number, line in wrong:
+            print(f"{name}:{number}: {line}")
+        if not wrong and name in TO_DO:
+            print(f"note: {name} passes and can leave TO_DO")
+        count += len(wrong)
     for exception in EXCEPTIONS:
         if exception[0] in names and exception not in used:
             print(f"{exception[0]}: the exception {exception[1]!r} excuses nothing")
@@ -187,20 +307,19 @@ def self_test():
     """Prints what the checks miss, and returns how many lines that is."""
     missed = []
     for form, _, sentence in FORMS:
-        for page, text in (("page.md", f"Some text.\n\n{sentence}\n"), ("page.md", f"- {sentence.replace(' ', '  ')}"),
-                           ("page.md", sentence.replace(" ", "\n  ")), ("page.h", f"int f;\n/* {sentence} */\n")):
-            found = [line for _, line in findings(page, text, set())]
-            if not any(re.search(form, line.split(" -> ")[0]) for line in found):
+        texts = [(prose_of, good.format(sentence), code.format(sentence)) for _, prose_of, good, code in KINDS]
+        texts += [(page, f"- {sentence.replace(' ', '  ')}", ""), (page, sentence.replace(" ", "\n  "), "")]
+        for prose_of, text, code in texts:
+            wrong = [line for _, line in findings("", text, set(), prose_of)]
+            if not any(re.search(form, line.split(" -> ")[0]) for line in wrong):
                 missed.append(f"not found: {text!r}")
-        for page, text in (("page.md", f"`{sentence}`\n"), ("page.md", f"```text\n{sentence}\n```\n"),
-                           ("page.md", f"As:\n\n    {sentence}\n\n"), ("page.h", f"int f; // {sentence}\n")):
-            missed += [f"found in code: {text!r}, {line}" for _, line in findings(page, text, set())]
+            missed += [f"found in code: {code!r}, {line}" for _, line in findings("", code, set(), prose_of)]
+    for text, line in (("One.\n\nTwo\nthree, for want\nof memory.\n", 4), ("x " * COLUMNS + "\n", 1),
+                       ("\n| a | " + "x " * (CELL_WORDS + 1) + "|\n", 2)):
+        if [number for number, _ in findings("", text, set(), page)] != [line]:
+            missed.append(f"not found in line {line}: {text!r}")
     fine = "It returns the digest, and fails if the key is too long.\nThere is no other error.\n"
-    missed += [f"found in good prose: {line}" for _, line in findings("page.md", fine, set())]
-    if [number for number, _ in findings("page.md", "One.\n\nTwo\nthree, for want\nof memory.\n", set())] != [4]:
-        missed.append("a phrase over two lines is not reported at the first")
-    if len(list(findings("page.md", "x " * COLUMNS + "\n", set()))) != 1:
-        missed.append("a long line is not found")
+    missed += [f"found in good prose: {line}" for _, line in findings("", fine, set(), page)]
     print("\n".join(missed) if missed else f"each of the {len(FORMS)} phrases is found, and none in code")
     return len(missed)
 
@@ -208,12 +327,15 @@ def self_test():
 def main():
     parser = Parser(description=__doc__.split("\n\n")[0])
     parser.add_argument("--all", action="store_true", help="check the pages of TO_DO too")
-    parser.add_argument("pages", nargs="*", metavar="PAGE", help="a page, from the top of the repository")
+    parser.add_argument("files", nargs="*", metavar="FILE", help="a file, from the top of the repository")
     given = parser.parse_args()
-    names = given.pages or [page for page in pages() if given.all or page not in TO_DO]
-    count = (0 if given.pages else self_test()) + check(names)
+    names = {name: prose_of for name, prose_of in files().items()
+             if name in given.files or not given.files and (given.all or name not in TO_DO)}
+    if unknown := set(given.files) - set(names):
+        parser.error("not checked: " + ", ".join(sorted(unknown)))
+    count = (0 if given.files else self_test()) + check(names)
     if not count:
-        print(f"{len(names)} pages have none of the {len(FORMS)} phrases; {len(TO_DO)} are still to be rewritten")
+        print(f"{len(names)} files have none of the {len(FORMS)} phrases; {len(TO_DO)} are still to be rewritten")
     return 1 if count else 0
 
 

@@ -1,7 +1,8 @@
 #!/usr/bin/env bash
-# Checks the script `test`, without testing anything else: in a small repository of its own, whose
-# parts are stand-ins that note their call and print what the file `prints` says. Then it checks what
-# the Makefile would run. The last line is 'N passed, M failed', and the status is 1 if one failed.
+# Checks the script `test`, without testing anything else: in a small separate repository, whose
+# parts are stand-ins that record their call and print what the file `prints` contains. Then it
+# checks what the Makefile would run. The last line is 'N passed, M failed', and the status is 1 if
+# one failed.
 set -u
 top=$(dirname "$(dirname "$(readlink -f "$0")")")
 room=$(mktemp -d)
@@ -66,7 +67,7 @@ holds "it says what it does and how long it takes" says \
 holds "it names each part before it begins" [ ! -e "$room/unnamed" ]
 holds "and how long that takes" says "^== c/run_tests.sh (about [0-9]* minutes)$"
 holds "if it is long" says "^== tools/check_b2.sh$"
-holds "each part's time is told" says "^== c/run_tests.sh took "
+holds "each part's time is printed" says "^== c/run_tests.sh took "
 for part in tools/check_dist.sh tools/check_b2.sh tools/check_test.sh tools/check_texts.py \
     tools/try_tests.sh c/run_tests.sh js/run_tests.sh; do
     holds "it runs $part" calls "^$part <>" 1
@@ -152,7 +153,7 @@ tools/dist.sh <check>
 key_scan/run.sh <>
 END
 holds "then it does what ./test does" [ "$(wc -l <"$room/calls")" -eq 17 ]
-holds "but for unproved tests" calls "^tools/try_tests.sh" 0
+holds "except unproved tests" calls "^tools/try_tests.sh" 0
 echo "tools/dist.sh 5 passed, 4 failed" >"$room/prints"
 run --prove
 holds "a difference fails it" ends 1 "33 passed, 4 failed"

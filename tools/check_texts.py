@@ -1,5 +1,5 @@
 #!/usr/bin/env python3
-"""Looks at the assembly texts of dist/, with no toolchain: each symbol ends in the version and the build, exported
+"""Looks at the assembly files of dist/, with no toolchain: each symbol ends in the version and the build, exported
 functions are hidden, nothing is called that is not there except a few functions of the C library, and on ARM one
 message is compressed without vector registers and several messages with them.
 
@@ -12,7 +12,7 @@ import re
 import sys
 
 TOP = os.path.dirname(os.path.dirname(os.path.abspath(__file__)))
-# The texts, the ends of their names, and what each takes from elsewhere.
+# The files, the ends of their names, and what each calls from elsewhere.
 LIBRARY = {"memcpy", "memmove", "memset"}
 TEXTS = {"x86_64/blake2_c-v2.s": "v2", "x86_64/blake2_c-v3.s": "v3", "aarch64/blake2_c.s": "arm",
          "x86_64/b2-v2.s": "v2", "x86_64/b2-v3.s": "v3", "aarch64/b2.s": "arm"}
@@ -47,7 +47,7 @@ def count_vectors(code):
 
 
 def check_text(name, text, end):
-    """Whether each thing that is said of a text holds, by its words."""
+    """Whether each statement about a file holds, by its words."""
     lines = text.split("\n")
     code = functions(lines)
     exported = [line.split("\t")[2] for line in lines if line.startswith("\t.globl\t")]

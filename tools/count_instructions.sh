@@ -1,19 +1,18 @@
 #!/usr/bin/env bash
-# Counts the instructions that calls of the C library take:
+# Counts the instructions that calls of the C library need:
 #
-#   - comparisons of texts that differ at one place after the other: as many for each place, so that
-#     their time tells nothing of where a tag is wrong;
+#   - comparisons of buffers that differ at one position after the other: the same number for each
+#     position, so that their time does not show where a tag is wrong;
 #   - four leaves of a tree, four messages of BLAKE2b and eight of BLAKE2s, which the build for
-#     x86-64-v3 hashes at once: fewer than one by one, as no digest tells whether they were. The
-#     build for x86-64-v2 gains about 1 in 100 by that, which is no bound, so there these are
-#     skipped.
+#     x86-64-v3 hashes in parallel: fewer than one by one, since no digest shows whether they were.
+#     The build for x86-64-v2 gains only about 1 in 100, so there these are skipped.
 #
 # usage: tools/count_instructions.sh FOLDER
 #
-# FOLDER has an installed library (c/install.sh). A check of a comparison is of texts of one length:
-# it passes where all its counts are the same. valgrind counts them: where it or cc is absent all is
-# skipped, and a line says so. The last line is 'N passed, M failed, K skipped', and the status is 1
-# where one failed.
+# FOLDER has an installed library (c/install.sh). The compared buffers have one length, and the
+# check passes if all its counts are the same. valgrind counts them: if it or cc is absent,
+# everything is skipped, and a line says so. The last line is 'N passed, M failed, K skipped', and
+# the status is 1 if one failed.
 set -u
 if [ $# -ne 1 ] || [ ! -f "$1/lib/libblake2_c.a" ]; then
     echo "usage: tools/count_instructions.sh FOLDER, with an installed library (c/install.sh)" >&2
@@ -156,7 +155,7 @@ done
 case $(build_here) in
     x86-64-v3) check_at_once ;;
     x86-64-v2)
-        echo "skipped: leaves and messages at once (the build for x86-64-v2 gains little)"
+        echo "skipped: leaves and messages in parallel (the build for x86-64-v2 gains little)"
         skipped=$((skipped + 1))
         ;;
     *) fail "the name of the build that runs here" log ;;

@@ -1,7 +1,7 @@
 #!/usr/bin/env python3
-"""Prints the expected values that stand in tables of the tests, under the name that stands beside each.
+"""Prints the expected values that are in tables of the tests, under the name that is next to each.
 
-Digests come from Python's hashlib; words and entries of transcripts from the scalar BLAKE2 beside this
+Digests come from Python's hashlib; words and entries of transcripts from the scalar BLAKE2 next to this
 file, which is compared with hashlib first; and what a transcript is read as from the reader below, which knows nothing of this repository's.
 "The digest of X" is BLAKE2b-256 of X.
 
@@ -133,8 +133,8 @@ def large():
 
 
 def texts():
-    """texts: the digest of what each command prints over texts of 4,090 to 4,100 and of 8,186 to 8,196 bytes:
-    over so many `a`, and for `script` over a line `u 0` of zeros and a line `f 0` of together so many."""
+    """`texts`: the digest of what each command prints over inputs of 4,090 to 4,100 and of 8,186 to 8,196 bytes:
+    over that number of `a`, and for `script` over a line `u 0` of zeros and a line `f 0` with that length together."""
     lengths_of_texts = [*range(4090, 4101), *range(8186, 8197)]
     for kind in ("b512", "s256"):
         family, size = KINDS[kind]
@@ -258,7 +258,7 @@ def nodes():
 
 def trees():
     """trees: the roots of 64 bytes over the beginnings of `abcdefghi`, with leaves of 4 bytes; that of `abc`
-    as one leaf of the greatest length, in 20 bytes; and the digest of the roots of 32 bytes under a salt and
+    as one leaf of the maximum length, in 20 bytes; and the digest of the roots of 32 bytes under a salt and
     a persona, of messages around each number of leaves, for each length of a leaf."""
     for length in (0, 4, 5, 8, 9):
         print(f"  {length}: {tree_root(b'abcdefghi'[:length], 4, 64).hex()}")

@@ -1,5 +1,5 @@
 #!/usr/bin/env python3
-"""The program `b2`, written from docs/SPECIFICATION.md alone: no other page, no source and no other tool of the
+"""The program `b2`, written only from docs/SPECIFICATION.md: no other page, no source and no other tool of the
 repository was used. Section numbers are those of that page. `tools/check_specification.py` compares it with `b2`.
 
 usage: tools/from_specification.py WORDS.. < INPUT
@@ -35,7 +35,7 @@ B = Family(64, 128, 12, (32, 24, 16, 63), 64, 64, 16, 8, 14, (
 S = Family(32, 64, 10, (16, 12, 8, 7), 32, 32, 8, 6, 0, (
     0x6a09e667, 0xbb67ae85, 0x3c6ef372, 0xa54ff53a, 0x510e527f, 0x9b05688c, 0x1f83d9ab, 0x5be0cd19))
 
-# Section 3: a place in a tree and an input, in sequential use where nothing else is said.
+# Section 3: tree parameters and an input, in sequential use unless something else is said.
 Place = namedtuple("Place", "fanout depth leaf_length node_offset node_depth inner_length")
 SEQUENTIAL = Place(1, 1, 0, 0, 0, 0)
 Input = namedtuple("Input", "message key salt persona place last_node",
@@ -172,7 +172,7 @@ KINDS = {"sum": COMMON, "script": COMMON, "steps": COMMON,
 
 
 class Fault(Exception):
-    """A fault of section 10.5, by what stands behind `b2: `."""
+    """An error of section 10.5, by what follows `b2: `."""
 
 
 def hex_bytes(digits):
@@ -190,7 +190,7 @@ def message_bytes(digits):
 
 
 def number_of(digits, most):
-    """A decimal number without a leading zero, of at most so many digits; else None."""
+    """A decimal number without a leading zero, of at most this number of digits; otherwise None."""
     fits = 1 <= len(digits) <= most and all(c in "0123456789" for c in digits)
     return int(digits) if fits and (digits == "0" or digits[0] != "0") else None
 
@@ -241,13 +241,13 @@ def script(family, size, given, data):
 
 
 def fields(family, letter, words, entry=None):
-    """A line of section 10.4: words, and counter, final flag and block of an entry, where there are any."""
+    """A line of section 10.4: words, and counter, final flag and block of an entry, if it has them."""
     told = [letter, *(f"{word:0{family.w // 4}x}" for word in words)]
     return " ".join(told + [str(entry[1]), str(int(entry[2])), entry[0].hex()] if entry else told)
 
 
 def lines(words, source):
-    """The lines that the words ask for; the source is a function that reads the input."""
+    """The lines that the arguments request; the source is a function that reads the input."""
     if not words or words[0] not in KINDS or len(words) < 2 or words[1] not in KINDS[words[0]]:
         raise Fault("wrong words")
     command, (family, size), rest = words[0], KINDS[words[0]][words[1]], words[2:]

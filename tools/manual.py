@@ -25,7 +25,7 @@ def read(*parts):
 
 
 def escaped(text):
-    """The text as it stands in a line of a man page."""
+    """The text, escaped for a line of a man page."""
     return re.sub(r"^([.'])", r"\\&\1", text.replace("\\", "\\e").replace("-", "\\-"))
 
 

@@ -1,4 +1,4 @@
-"""The expected values of all tests: trees by Python's hashlib, and BLAKE2 on plain words. No program.
+"""The expected values of all tests: trees by Python's hashlib, and BLAKE2 on plain words. Not a program.
 
 A test that only needs a digest calls hashlib. The functions here are for what hashlib does not have
 in one call (roots, ranges of leaves) or not at all (steps, a parameter block of any bytes). BLAKE2
@@ -50,7 +50,7 @@ SIGMA = (  # 2.7
     (10, 2, 8, 4, 7, 6, 1, 5, 15, 11, 9, 14, 3, 12, 13, 0),
 )
 
-# The places that the eight mixings of a round take: columns, then diagonals (3.2).
+# The positions on which the eight mixings of a round work: columns, then diagonals (3.2).
 MIXINGS = ((0, 4, 8, 12), (1, 5, 9, 13), (2, 6, 10, 14), (3, 7, 11, 15),
            (0, 5, 10, 15), (1, 6, 11, 12), (2, 7, 8, 13), (3, 4, 9, 14))
 
@@ -95,7 +95,7 @@ def mix(words, v, places, x, y):
 
 
 def compress(family, step):
-    """F: the eight chaining words behind a step (3.2)."""
+    """F: the eight chaining words after a step (3.2)."""
     words = WORDS[family]
     mask = (1 << words.bits) - 1
     m = struct.unpack("<16" + words.code, step.block)
@@ -133,7 +133,7 @@ def blocks(family, key, message):
 
 
 def steps(family, size, message, key=b"", salt=b"", persona=b"", tree=SEQUENTIAL, last_node=False):
-    """The steps that make a digest of so many bytes, and the chaining words behind the last of them (3.3)."""
+    """The steps that make a digest of this size in bytes, and the chaining words after the last of them (3.3)."""
     chain = tuple(iv ^ word for iv, word in zip(WORDS[family].start,
                                                 parameter_words(family, size, key, salt, persona, tree)))
     made = []
@@ -150,14 +150,14 @@ def digest(family, size, message, key=b"", salt=b"", persona=b"", tree=SEQUENTIA
 
 
 def hashlib_tree(tree, last_node):
-    """The same place under the names that hashlib's functions take."""
+    """The same place under the names of the arguments of hashlib's functions."""
     return {"fanout": tree.fanout, "depth": tree.depth, "leaf_size": tree.leaf_length,
             "node_offset": tree.node_offset, "node_depth": tree.node_depth, "inner_size": tree.inner_length,
             "last_node": last_node}
 
 
 def random_tree(source, family):
-    """A place in a tree, each number as large as its field of the parameter block."""
+    """Tree parameters, each number as large as its field of the parameter block."""
     return Tree(source.randrange(256), source.randrange(1, 256), source.randrange(2**32),
                 source.randrange(2**(8 * int(WORDS[family].offset[0]))), source.randrange(256),
                 source.randint(0, FAMILIES[family].key))
@@ -171,7 +171,7 @@ def tree_node(data, leaf_size, digest_size=64, salt=b"", person=b"", **place):
 
 def range_digests(data, leaf_size, first=0, ends=True, **texts):
     """The joined digests of the leaves in these bytes, at least one: leaf `first` and those after it.
-    The last one ends the message, or not. The texts are salt and person."""
+    The last one ends the message, or not. `texts` are salt and person."""
     leaves = [data[start:start + leaf_size] for start in range(0, len(data), leaf_size)] or [b""]
     last = len(leaves) - 1 if ends else None
     return b"".join(tree_node(leaf, leaf_size, node_offset=first + i, last_node=i == last, **texts)
@@ -190,7 +190,7 @@ def tree_root(message, leaf_size, digest_size=64, **texts):
 
 
 def check(source):
-    """Ends the program where a digest differs from hashlib's, over random inputs and places in trees at every
+    """Ends the program if a digest differs from hashlib's, over random inputs and tree parameters at every
     size of digest."""
     for family, numbers in FAMILIES.items():
         for size in range(1, numbers.key + 1):

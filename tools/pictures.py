@@ -106,7 +106,7 @@ def levels(found):
 
 
 def direct(found, name):
-    """The crates that a crate names and that no other crate it names stands on."""
+    """The crates that a crate names and on which no other crate that it names depends."""
     def under(crate):
         return set(found[crate]).union(*map(under, found[crate]))
     return [each for each in found[name] if not any(each in under(other) for other in found[name])]

@@ -1,7 +1,7 @@
 #!/usr/bin/env bash
-# Prints the processor that a build for this machine takes: aarch64 on such a machine; x86-64-v3
-# where /proc/cpuinfo, or the file that is named, tells all that it asks for beyond x86-64-v2 (AVX2
-# among it), and else x86-64-v2.
+# Prints the processor that a build for this machine is for: aarch64 on such a machine; x86-64-v3 if
+# /proc/cpuinfo, or the file that is named, lists all that this level requires beyond x86-64-v2
+# (such as AVX2); otherwise x86-64-v2.
 set -eu
 if [ "$(uname -m)" = aarch64 ]; then
     echo aarch64

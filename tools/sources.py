@@ -107,7 +107,7 @@ def modules(file, path=()):
 
 
 def exported(crate):
-    """The shorter public paths that `pub use` gives to items of these modules, by their own."""
+    """The shorter public paths of items of these modules that `pub use` makes, by their full ones."""
     found = {}
     for module in crate:
         for item in module.items:
