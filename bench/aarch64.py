@@ -1,5 +1,5 @@
 #!/usr/bin/env python3
-"""Counts the instructions that BLAKE2b-512 and BLAKE2s-256 take on a 64-bit ARM processor, next to other libraries.
+"""Counts the instructions that BLAKE2b-512 and BLAKE2s-256 need on a 64-bit ARM processor, next to other libraries.
 
 The table, as Markdown on standard output, has instructions a byte of messages of 64 KiB, of one message and of several
 that are hashed in parallel, and instructions of one call over 64 and over 1,024 bytes. With --write it goes into
@@ -83,7 +83,7 @@ def unpacked(packages):
 
 
 def version_of(package, packages):
-    """The version of a package in this folder, without Debian's own part; None where it is absent."""
+    """The version of a package in this folder, without Debian's own part; None if it is absent."""
     found = glob.glob(os.path.join(packages, package + "_*_arm64.deb"))
     return re.sub("-[^-]*$", "", os.path.basename(found[0]).split("_")[1]) if found else None
 

@@ -60,7 +60,7 @@ def words_for(folder):
 
 
 def crate_in_rust(folder):
-    """The shared library over the crate in rust/; None where cargo is absent."""
+    """The shared library over the crate in rust/; None if cargo is absent."""
     command = ["cargo", "build", "--release", "--offline", "--manifest-path", os.path.join(HERE, "rust", "Cargo.toml"),
                "--target-dir", os.path.join(OUT, "callers")]
     os.environ["BLAKE2_C_LIB"] = os.path.join(folder, "lib")

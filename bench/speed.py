@@ -24,7 +24,7 @@ are those that hashlib.blake2b and hashlib.blake2s of this Python run, called at
 module _blake2, so nothing of Python is counted; "hashlib through Python" is the same digest as a Python
 program gets it, with the turn of its loop. OpenSSL's algorithm is looked up once, and its context is used
 again. blake2_simd stands for the Rust crates blake2b_simd and blake2s_simd, which choose AVX2 at run time
-where the processor has it; libb2 chooses among its functions likewise.
+if the processor has it; libb2 chooses among its functions likewise.
 
 Each digest is first compared with hashlib's. Then the candidates of a column are timed in turns, and the
 best time of each counts. A ratio is the candidate's speed over that of the column's best peer.
@@ -162,7 +162,7 @@ def library_of(cpu):
 
 
 def compiled(name, words):
-    """Compiles C at -O3 to this file of bench/out; None where the compiler or what it needs is absent."""
+    """Compiles C at -O3 to this file of bench/out; None if the compiler or what it needs is absent."""
     path = os.path.join(OUT, name)
     good, _ = outcome(["cc", "-O3", "-o", path] + words)
     return path if good else None
@@ -175,7 +175,7 @@ def shared(name, words):
 
 @functools.cache
 def libb2():
-    """The program and the shared library over libb2; None for each where it is absent."""
+    """The program and the shared library over libb2; None for each if it is absent."""
     source = os.path.join(PEERS, "libb2.c")
     program = compiled("libb2_sum", [source, "-lb2"])
     if program is None:
@@ -186,7 +186,7 @@ def libb2():
 
 @functools.cache
 def blake2_simd():
-    """The program and the shared library over the Rust crates; None for each where they are absent."""
+    """The program and the shared library over the Rust crates; None for each if they are absent."""
     folder = os.path.join(OUT, "simd")
     shutil.copytree(os.path.join(PEERS, "simd"), folder, dirs_exist_ok=True)
     good, _ = outcome(["cargo", "build", "--release", "--offline"] + DEBIAN_CRATES, folder)
@@ -199,7 +199,7 @@ def blake2_simd():
 
 @functools.cache
 def openssl():
-    """The shared library over OpenSSL; None where it is absent."""
+    """The shared library over OpenSSL; None if it is absent."""
     library = shared("openssl.so", [os.path.join(PEERS, "openssl.c"), "-lcrypto"])
     if library is None:
         say("OpenSSL's library is absent (libssl-dev)")
@@ -302,7 +302,7 @@ def addresses_in(path):
 
 
 def functions_of_hashlib():
-    """hashlib's own C functions by their kinds' words; None where this Python does not show them."""
+    """hashlib's own C functions by their kinds' words; None if this Python does not show them."""
     import _blake2
     addresses = addresses_in(_blake2.__file__) if hasattr(_blake2, "__file__") else {}
     if "PyBlake2_blake2b" not in addresses or "PyBlake2_blake2s" not in addresses:

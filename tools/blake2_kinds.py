@@ -20,7 +20,7 @@ class Family:
 
 FAMILIES = {"b": Family(hashlib.blake2b, 128, 64, 16), "s": Family(hashlib.blake2s, 64, 32, 8)}
 
-# The KINDs that more commands than `witness` take: the family's letter, and the bytes of the digest.
+# The KINDs that more commands than `witness` accept: the family's letter, and the bytes of the digest.
 KINDS = {"b128": ("b", 16), "b256": ("b", 32), "b512": ("b", 64), "s128": ("s", 16), "s256": ("s", 32)}
 
 
@@ -28,7 +28,7 @@ class Parser(argparse.ArgumentParser):
     """A parser that reports wrong arguments in one line, with status 2."""
 
     def error(self, message):
-        self.exit(2, f"{self.prog}: {message} (--help says what it takes)\n")
+        self.exit(2, f"{self.prog}: {message} (--help says what it accepts)\n")
 
 
 def at_least(least):

@@ -205,7 +205,7 @@ holds "a folder's name may begin with -" stands "$room/-folder/bin/b2"
 : >"$room/refuse"
 rm -f "$program"
 b2 --install "$folder"
-holds "where it is not built nothing is installed" diff <(echo 'bin/other 600') <(installed)
+holds "if it is not built nothing is installed" diff <(echo 'bin/other 600') <(installed)
 rm -f "$program"
 b2 sum b512
 holds "a refused compilation ends with 1" ends 1
@@ -233,7 +233,7 @@ settle
 b2 --prove
 holds "it does so once" calls 1
 b2 sum
-holds "that program is taken from then on" prints "<sum>inproved"
+holds "that program is used from then on" prints "<sum>inproved"
 holds "nothing was compiled" compiles 0
 for file in dist/MANIFEST c/b2.c; do
     touch -d '+9 seconds' "$repository/$file"
@@ -330,8 +330,8 @@ holds "and goes with the last" stands_not "$repository/crates/middle/out/increme
 rm -f "$program"
 b2 --prove --keep
 rm "$room/slow"
-holds "work is kept where asked" stands "$repository/crates/middle/out/incremental"
-holds "and while the next crates are built, where asked" \
+holds "work is kept if requested" stands "$repository/crates/middle/out/incremental"
+holds "and while the next crates are built, if requested" \
     finds_work "low/out/incremental middle/out/incremental"
 holds "no removal is reported if work is kept" tells_not "removed the checker's work"
 holds "a build with --keep runs nothing" prints ""

@@ -9,7 +9,7 @@
 - CHANGELOG.md: its newest version is that of the headers and packages.
 - The README and all pages: each link leads to a file, and to a heading of it if it names one.
 
-Prints what is wrong, a line each, and ends with status 1 where anything is.
+Prints what is wrong, a line each, and ends with status 1 if anything is.
 
 usage: tools/check_docs.py
 """

@@ -9,7 +9,7 @@ that can't be read. Status and output have to be the same; what `sum` and `tree`
 
 usage: tools/check_specification.py [--cases N] [--seed N] [--program PATH]
 
-Prints each case that differs. The last line is 'N passed, M failed', and the status is 1 where one failed.
+Prints each case that differs. The last line is 'N passed, M failed', and the status is 1 if one failed.
 """
 import hashlib
 import os

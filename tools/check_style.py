@@ -42,10 +42,12 @@ MARK = "\N{CURRENCY SIGN}"
 FORMS = (
     (r"\banswer(?:s|ed|ing)\b", "returns", "It answers None."),
     (r"\b(?:stands?|stood)\b(?! for\b)(?!-)", "is, is in, depends on", "The list stands in a file."),
-    (r"\b(?:only|exactly|except) where\b|\bwhere (?:nothing|none|no|there (?:is|are)|it is to)\b", "if, when",
-     "It fails only where a key is given."),
-    (r"\btakes? (?:no|any|more) (?:memory|locks?|input)\b|\b(?:has|have|had) taken\b", "allocates, absorbs, needs",
-     "It takes no memory."),
+    (r"\b(?:only|exactly|except|but|refused|skipped|[Nn]one(?: for each)?|status (?:is )?[0-9]) where\b|"
+     r"\bwhere (?:nothing|none|one|anything|asked|no|there (?:is|are)|it is|they are)\b|"
+     r"\bwhere (?:a|an|the) \w+ (?:has|differs|ends)\b", "if, when", "It fails only where a key is given."),
+    (r"\btakes? (?:no|any|more) (?:memory|locks?|input)\b|\b(?:has|have|had) taken\b|"
+     r"\btakes? (?:a|the) (?:key|salt|message)\b|\b(?:it|they|functions?|calls?) takes? (?:nothing|a|an|the|these)\b",
+     "accepts, absorbs, needs, allocates", "It takes no memory."),
     (r"\bgives\b(?! up\b)", "returns, produces", "The reader gives bytes."),
     (r"(?<!left)(?<!let)(?<!stand)(?<!us) alone\b", "only", "It is tested alone."),
     (r"(?<![Tt]here )\b(?:is|are|was|were) (?:no|none)\b(?! (?:longer|more|less|larger|different)\b)",

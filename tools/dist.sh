@@ -7,9 +7,9 @@
 #   tools/dist.sh current              compares hashes only, of the files and the sources, with
 #                                      those in dist/MANIFEST
 #
-# `make` and `check` need the toolchain of Rattle, and prove what is not proved yet. What `rt ci`
-# has proved they take as it left it. The same toolchain makes the same bytes every time, wherever
-# the repository is. `current` needs no toolchain and takes under a second.
+# `make` and `check` need the toolchain of Rattle. They use what `rt ci` has proved, and prove the
+# rest. The same toolchain makes the same bytes every time, in any folder. `current` needs no
+# toolchain and less than a second.
 #
 # `check` needs the toolchain that MANIFEST names. With another one, or none, it does what `current`
 # does and says so. Its last line is 'N passed, M failed, K skipped'. The status is 1 if something

@@ -163,8 +163,8 @@ def longest():
 
 
 def reading(family, words, entries):
-    """What a transcript is read as (size, key, salt, persona, message, last node), where it is of a hash which
-    is the whole tree; None where it is of no such input."""
+    """What a transcript is read as (size, key, salt, persona, message, last node), if it is of a hash which
+    is the whole tree; otherwise None."""
     numbers = FAMILIES[family]
     block = struct.pack("<8" + WORDS[family].code, *words)
     size, key_size, texts = block[0], block[1], block[-2 * numbers.salt:]

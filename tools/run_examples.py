@@ -142,7 +142,7 @@ def main():
 
 
 def outcome(runner, place, language, text, wanted):
-    """Runs an example, and says what came of it where that is not what the page says."""
+    """Runs an example, and reports its result if that is not what the page says."""
     if not has_tool(runner, language):
         print(f"skipped: {place}: {language} is not to be run here")
         return "skipped"

@@ -3,7 +3,7 @@
 #
 #   tools/try_tests.sh [CRATE..]
 #
-# Without a CRATE it takes each crate that is there for its tests. The tests in modules named
+# Without a CRATE it runs each crate that exists only for its tests. The tests in modules named
 # `memory` fill the memory, which works only in what `rt ci` builds: they are skipped, each with a
 # line. It needs the toolchain of Rattle; without its command rt all is skipped. The last line is 'N
 # passed, M failed, K skipped', and the status is 1 if something failed.

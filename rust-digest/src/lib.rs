@@ -97,7 +97,7 @@ macro_rules! family {
             type KeySize = $max;
         }
 
-        /// `new_from_slice` takes a key of 1 to that many bytes.
+        /// `new_from_slice` accepts a key of 1 to that number of bytes.
         impl<N> KeyInit for $mac<N>
         where
             N: ArrayLength<u8> + IsLessOrEqual<$max, Output = True> + NonZero,

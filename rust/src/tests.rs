@@ -19,7 +19,7 @@ fn panic_of<R>(call: impl FnOnce() -> R) -> String {
 
 #[test]
 fn layouts_and_version_are_those_of_the_library() {
-    // Safety: these calls take nothing.
+    // Safety: these calls have no arguments.
     unsafe {
         assert_eq!(library::blake2b_state_size(), size_of::<Blake2bState>());
         assert_eq!(library::blake2s_state_size(), size_of::<Blake2sState>());
