@@ -1,9 +1,9 @@
-/* The C of the program b2, which is linked with a text of dist/: its main, and what the standard
- * library of Rattle takes from C beyond the C library. The toolchain says what each function must
- * do (rattle/libc/src/heap.rt, rattle/os/src/c.rt). None of this is proved. tests/program.c tests
- * each function.
+/* The C of the program b2, which is linked with an assembly file of dist/: its main, and what the
+ * standard library of Rattle needs from C beyond the C library. The toolchain says what each
+ * function must do (rattle/libc/src/heap.rt, rattle/os/src/c.rt). None of this is proved.
+ * tests/program.c tests each function.
  *
- * MAIN is the main of the text, as main_0_1_0_v3. */
+ * MAIN is the main of the assembly file, such as main_0_1_0_v3. */
 #include <errno.h>
 #include <stdbool.h>
 #include <stddef.h>

@@ -1,21 +1,21 @@
-/* The functions blake2_c_* of the library, by their own names. The texts of dist/ have the code: on
- * x86-64 twice, as it was built for x86-64-v2 and for x86-64-v3 processors, and on 64-bit ARM once.
- * A call goes to the one that this processor and this system run. None of this is proved: it is
- * what a call passes on its way to the proved code.
+/* The functions blake2_c_* of the library, by their own names. The code is in the assembly of
+ * dist/: on x86-64 twice, for x86-64-v2 and for x86-64-v3 processors, and on 64-bit ARM once. A call
+ * jumps to the build that this processor and this system support. This file is tested, not proved: every
+ * call passes through it on its way to the proved code.
  *
- * On x86-64 the first call looks at the processor and keeps the answer in one byte, which never
- * changes after that: threads that look at the same time write the same value. It needs no
+ * On x86-64 the first call detects the processor and stores the result in one byte, which never
+ * changes after that: threads that detect it at the same time write the same value. It needs no
  * constructor, so calls from another constructor work too, and no lock, no environment variable and
  * no function pointer in memory. A later call reads the byte and jumps: arguments, stack and return
- * address stay as they are, whatever a function takes. Both builds have the same states, so a state
- * may go from one to the other. On a processor below x86-64-v2 the first call prints a line on
- * standard error and aborts.
+ * address stay as they are, whatever the arguments of a function are. Both builds have the same
+ * states, so a state may go from one to the other. On a processor below x86-64-v2 the first call
+ * prints a line on standard error and aborts.
  *
- * CHOOSE_ONE names a build, as v3: then the library holds that one only, and each call jumps to it.
- * CHOOSE_SHOWN is defined for the shared library. Elsewhere the names are hidden, so that a shared
- * library that links the archive does not export them as its own. CHOOSE_TEST is for tests: 2 or 3
- * takes that build, whatever the processor, and 0 the one or the other from call to call, without a
- * rule. So are CHOOSE_PROCESSOR, a header with a processor that is made up, and CHOOSE_FUNCTIONS, a
+ * CHOOSE_ONE names a build, such as v3: then the library contains only that build, and each call
+ * jumps to it. CHOOSE_SHOWN is defined for the shared library. Otherwise the names are hidden, so
+ * that a shared library that links the archive does not export them. Three macros are for tests.
+ * CHOOSE_TEST 2 or 3 selects that build, whatever the processor, and 0 alternates between them
+ * without a rule. CHOOSE_PROCESSOR is a header with a simulated processor, and CHOOSE_FUNCTIONS a
  * header with other functions. */
 #include "blake2_c.h"
 
@@ -32,7 +32,7 @@
 #define VISIBILITY(name) ".hidden " name "\n"
 #endif
 
-/* A function of this name in a section of its own, so that a linker can leave it out. */
+/* A function of this name in a separate section, so that a linker can leave it out. */
 #define FUNCTION(name, visibility, body)                                             \
     __asm__(".pushsection .text." name ",\"ax\",%progbits\n"                         \
             ".globl " name "\n" visibility ".type " name ",%function\n.p2align 4\n" \
@@ -145,8 +145,8 @@ __attribute__((used, visibility("hidden"))) unsigned char blake2_c_find(void) {
 }
 #endif
 
-/* The functions that blake2_c.h declares: c/join.sh holds this list to the header and to the
- * texts. */
+/* The functions that blake2_c.h declares: c/join.sh compares this list with the header and with the
+ * assembly. */
 #ifdef CHOOSE_FUNCTIONS
 #include CHOOSE_FUNCTIONS
 #else

@@ -1,7 +1,7 @@
-/* See include/blake2_threads.h. What the library's functions do is proved, and that the digests of
- * the ranges of any cut, joined, give the root. That this file cuts a message without a gap, puts
- * each digest in its place and waits for its threads is tested (tests/threads.c,
- * tests/thread_faults.c). */
+/* See include/blake2_threads.h. The functions of the library are proved, and so is that the joined
+ * digests of ranges have the root of the message, however it is cut. That this file cuts a message
+ * without a gap, stores each digest where it belongs and waits for its threads is tested
+ * (tests/threads.c, tests/thread_faults.c). */
 #define _GNU_SOURCE
 #include "blake2_threads.h"
 
@@ -40,7 +40,7 @@ typedef struct job {
     uint64_t per_part;      /* leaves of a part; the last part has those that are left */
     uint64_t parts;         /* at least 1 */
     unsigned char *digests; /* of all leaves, 64 bytes each */
-    uint64_t next;          /* the first part that no thread has taken; atomic */
+    uint64_t next;          /* the first part that no thread hashes yet; atomic */
     int error;              /* the first error, or 0; atomic */
 } job;
 
@@ -137,8 +137,8 @@ static unsigned processors(void) {
 }
 
 /* Cuts the range into parts, and returns how many threads are to hash them. A part is about
- * PART_BYTES, in fours of leaves, since four are hashed at once. It has fewer leaves if otherwise
- * threads would get none, or if four do not fit into a buffer. */
+ * PART_BYTES, in fours of leaves, since four are hashed in parallel. It has fewer leaves if
+ * otherwise threads would get none, or if four do not fit into a buffer. */
 static unsigned cut(job *j, unsigned threads) {
     uint64_t worth = j->length / LEAST_BYTES;
 
@@ -154,8 +154,8 @@ static unsigned cut(job *j, unsigned threads) {
     return threads < j->parts ? threads : (unsigned)j->parts;
 }
 
-/* Starts up to count threads, and returns how many: the system may have no more. They take no
- * signals except their own faults, so that a program's handlers run in its own threads. */
+/* Starts up to count threads, and returns how many: the system may have no more. They block all
+ * signals except SIGBUS and SIGSEGV, so that a program's handlers run in its own threads. */
 static unsigned start(pthread_t *threads, unsigned count, job *j) {
     sigset_t blocked, before;
     unsigned started = 0;

@@ -5,7 +5,7 @@ FORMS lists each phrase as a regular expression, what to write instead, and a se
 files are checked, and what is prose in each of them:
 
 - pages (*.md): everything except code (fenced and indented blocks, inline code, targets of links) and the headline
-- headers and the types for JavaScript: comments
+- C headers, sources and examples, and the types for JavaScript: comments
 - the module for Python in C: comments, docstrings and messages
 - Rust: comments on their own lines
 - Python: docstrings, comments, and strings that are raised, printed or shown as help
@@ -146,7 +146,7 @@ def page(text):
 
 
 def comments(text):
-    """The comments of a header or of types for JavaScript."""
+    """The comments of a file in C or of types for JavaScript."""
     text = only(text, found(r"/\*+(.*?)\*/", text))
     return without_code(re.sub(r"^ *\*(?= |$)", spaced, text, flags=re.MULTILINE))
 
@@ -214,7 +214,8 @@ def man(text):
 # The files of each kind, what is prose in them, and a file of that kind with a sentence in its prose and in its code.
 KINDS = (
     (("**/*.md",), page, "Some text.\n\n{0}\n", "`{0}`\n\n```text\n{0}\n```\n\nAs:\n\n    {0}\n\n"),
-    (("c/include/**/*.h", "c/libb2/*.h", "js/index.d.ts"), comments, "int f;\n/* A.\n * {0} */\n", "f({0});\n"),
+    (("c/include/**/*.h", "c/*.c", "c/libb2/*.c", "c/examples/*.c", "js/index.d.ts"), comments,
+     "int f;\n/* A.\n * {0} */\n", "f({0});\n"),
     (("python/src/*.c", "python/src/*.h"), module, 'int f;\n{{0, "A. {0}"}};\n', "f({0});\n"),
     (("rust/src/*.rs", "rust-digest/src/*.rs"), rust, "fn f() {{}}\n    /// {0}\n", "f({0});\n/// `{0}`\n"),
     (("python/vulfsjor/*.py", "python/vulfsjor/*.pyi", "tools/*.py", "bench/*.py"), python,

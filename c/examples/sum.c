@@ -1,14 +1,14 @@
-/* Prints the BLAKE2b-512 digest of each file that is named, or else of standard input, as b2sum
- * does. It reads a file in pieces, and takes the same memory for each length of it.
+/* Prints the BLAKE2b-512 digest of each file that is named, or of standard input if none is, as
+ * b2sum does. It reads files in pieces, in constant memory.
  *
  *   cc -O2 sum.c $(pkg-config --cflags --libs blake2_c-static) -o sum
  *   ./sum FILE..
  *
- * The status is 1 where a file can't be read. */
+ * The status is 1 if a file can't be read. */
 #include <blake2_c.h>
 #include <stdio.h>
 
-/* Writes the digest of what is left of the file. 0, or -1 where it can't be read. */
+/* Writes the digest of the rest of the file. Returns 0, or -1 if it can't be read. */
 static int hash_file(FILE *file, unsigned char digest[VULFSJOR_BLAKE2B_OUTBYTES]) {
     static unsigned char piece[1 << 16];
     vulfsjor_blake2b_state run;
@@ -23,7 +23,7 @@ static int hash_file(FILE *file, unsigned char digest[VULFSJOR_BLAKE2B_OUTBYTES]
     return vulfsjor_blake2b_final(&run, digest, VULFSJOR_BLAKE2B_OUTBYTES);
 }
 
-/* Prints the digest of an open file and its name. 0, or -1 where it can't be read. */
+/* Prints the digest of an open file and its name. Returns 0, or -1 if it can't be read. */
 static int print_digest(FILE *file, const char *name) {
     unsigned char digest[VULFSJOR_BLAKE2B_OUTBYTES];
 

@@ -27,7 +27,7 @@
 #include <sys/stat.h>
 #include <unistd.h>
 
-enum { LEAF = 65536, PIECE = 16 }; /* bytes of a leaf, and leaves that are read at once */
+enum { LEAF = 65536, PIECE = 16 }; /* bytes of a leaf, and leaves that are read together */
 
 static int fail(const char *path, const char *what) {
     fprintf(stderr, "tree_parts: %s: %s\n", path, what);

@@ -10,8 +10,9 @@
 
 #pragma GCC visibility push(hidden)
 
-/* The functions of one family, named x, with words of this type, and a state of so many bytes. Of
- * libb2's counter, whose two words are one number with the low bytes first, 64 bits are in use. */
+/* The functions of one family, named x, with words of this type, and a state of `size` bytes.
+ * libb2's counter has two words, which are one number with the low bytes first; 64 bits are in
+ * use. */
 #define FAMILY(x, word, block, longest, size)                                                      \
     typedef struct __attribute__((packed)) x##_state {                                             \
         word h[8], t[2], f[2];                                                                     \
@@ -21,7 +22,7 @@
     } x##_state;                                                                                   \
     typedef char x##_layout[sizeof(x##_state) == size ? 1 : -1];                                   \
                                                                                                    \
-    /* The run of a state. */                                                                      \
+    /* Makes our state from libb2's. */                                                            \
     static void x##_load(vulfsjor_##x##_state *run, const x##_state *S) {                          \
         memset(run, 0, sizeof *run);                                                               \
         memcpy(run->chain, S->h, sizeof run->chain);                                               \
@@ -32,7 +33,7 @@
         run->last_node = S->last_node;                                                             \
     }                                                                                              \
                                                                                                    \
-    /* Puts the run into the state, but for a refused call of a run that goes on, and wipes it. */ \
+    /* Copies our state back, unless a call failed that leaves it unchanged, and wipes ours. */    \
     static int x##_store(x##_state *S, vulfsjor_##x##_state *run, int status, int goes_on) {       \
         if (!status || !goes_on) {                                                                 \
             memset(S, 0, sizeof *S);                                                               \
