@@ -1,7 +1,7 @@
 /* The functions blake2_c_* of the library, by their own names. The code is in the assembly of
- * dist/: on x86-64 twice, for x86-64-v2 and for x86-64-v3 processors, and on 64-bit ARM once. A call
- * jumps to the build that this processor and this system support. This file is tested, not proved: every
- * call passes through it on its way to the proved code.
+ * dist/: on x86-64 twice, for x86-64-v2 and for x86-64-v3 processors, and on 64-bit ARM once. A
+ * call jumps to the build that this processor and this system support. This file is tested, not
+ * proved: every call passes through it on its way to the proved code.
  *
  * On x86-64 the first call detects the processor and stores the result in one byte, which never
  * changes after that: threads that detect it at the same time write the same value. It needs no

@@ -71,9 +71,9 @@ VULFSJOR_MUST_USE int vulfsjor_tree_root_fd(void *out, size_t outlen, int fd, co
 
 /* Absorbs inlen bytes of input, with the same result as vulfsjor_tree_update, which you may call
  * before and after. Pieces of several MiB are fastest: the caller's thread hashes the end of an
- * open leaf and the last leaf of the input. Fails with EINVAL if the state is null or not ready, if in
- * is null and inlen is not 0, or if the state would have absorbed 2^58 bytes or more. If the call
- * fails, the state is unchanged. */
+ * open leaf and the last leaf of the input. Fails with EINVAL if the state is null or not ready,
+ * if in is null and inlen is not 0, or if the state would have absorbed 2^58 bytes or more. If the
+ * call fails, the state is unchanged. */
 VULFSJOR_MUST_USE int vulfsjor_tree_update_threads(vulfsjor_tree_state *S, const void *in,
                                                    size_t inlen, unsigned threads);
 
