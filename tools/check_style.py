@@ -50,7 +50,7 @@ FORMS = (
      "accepts, absorbs, needs, allocates", "It takes no memory."),
     (r"\bgives\b(?! up\b)", "returns, produces", "The reader gives bytes."),
     (r"(?<!left)(?<!let)(?<!stand)(?<!us) alone\b", "only", "It is tested alone."),
-    (r"(?<![Tt]here )\b(?:is|are|was|were) (?:no|none)\b(?! (?:longer|more|less|larger|different)\b)",
+    (r"(?<![Tt]here )\b(?:is|are|was|were) (?-i:no|none)\b(?! (?:longer|more|less|larger|different)\b)",
      "is not a, is not one of", "A tag is no digest."),
     (r"\bbut for\b|\b(?:[Nn]one|[Ee]very \w+|[Nn]o \w+) but\b", "except", "Every call but wipe keeps it."),
     (r"\bbehind\b", "after, trailing", "The zeros behind a salt are ignored."),
@@ -76,7 +76,7 @@ FORMS = (
     (r"\bfor who\b|\bwho would\b|(?:^|(?<=[.:] ))Who (?:would|wants|runs|changes|uses)\b",
      "for people who .., if you want to ..", "It is for who names content."),
     (r"\bat hand\b|\bbe had\b|\bkin\b", "current, available, related", "The crate is not at hand."),
-    (r"(?:^|(?<=[.:;!?|\N{CURRENCY SIGN}] )|(?<=^- ))Of\b(?! course)", "For X, it ..",
+    (r"(?:^|(?<=[.:;!?|\N{CURRENCY SIGN}] )|(?<=^- ))(?-i:Of)\b(?! course)", "For X, it ..",
      "Of two messages it hashes one."),
     (r"\bgreatest\b", "the largest, the maximum", "The key has the greatest length."),
     (r"\bow(?:es?|ed)\b", "must guarantee", "That is what a caller owes."),
@@ -153,7 +153,8 @@ def comments(text):
 
 def module(text):
     """The comments of a module for Python in C, and its strings with a space: docstrings and messages."""
-    return without_code(only(text, found(r'/\*(.*?)\*/|"([^"\n]* [^"\n]*)"', text)))
+    spans = found(r'/\*(.*?)\*/|"((?:[^"\\\n]|\\.)*)"', text)
+    return without_code(only(text, [span for span in spans if " " in text[slice(*span)]]))
 
 
 def rust(text):
@@ -216,7 +217,7 @@ KINDS = (
     (("**/*.md",), page, "Some text.\n\n{0}\n", "`{0}`\n\n```text\n{0}\n```\n\nAs:\n\n    {0}\n\n"),
     (("c/include/**/*.h", "c/*.c", "c/libb2/*.c", "c/examples/*.c", "js/index.d.ts"), comments,
      "int f;\n/* A.\n * {0} */\n", "f({0});\n"),
-    (("python/src/*.c", "python/src/*.h"), module, 'int f;\n{{0, "A. {0}"}};\n', "f({0});\n"),
+    (("python/src/*.c", "python/src/*.h"), module, 'int f;\n{{"f", g, "A. {0}"}};\n', "f({0});\n"),
     (("rust/src/*.rs", "rust-digest/src/*.rs"), rust, "fn f() {{}}\n    /// {0}\n", "f({0});\n/// `{0}`\n"),
     (("python/vulfsjor/*.py", "python/vulfsjor/*.pyi", "tools/*.py", "bench/*.py"), python,
      '"""A.\n\n{0}"""\n', 'x = "{0}"\n'),
@@ -283,7 +284,7 @@ def findings(path, text, used, prose_of):
     plain, places = joined(prose)
     original = "".join(" " if plain[i] == " " else text[place] for i, place in enumerate(places))
     for form, instead, _ in FORMS:
-        for match in re.finditer(form, plain, re.MULTILINE):
+        for match in re.finditer(form, plain, re.MULTILINE | re.IGNORECASE):
             if not excused(path, original, match, used):
                 yield text.count("\n", 0, places[match.start()]) + 1, f"{match[0]} -> {instead}"
 
@@ -314,9 +315,11 @@ def self_test():
         texts += [(page, f"- {sentence.replace(' ', '  ')}", ""), (page, sentence.replace(" ", "\n  "), "")]
         for prose_of, text, code in texts:
             wrong = [line for _, line in findings("", text, set(), prose_of)]
-            if not any(re.search(form, line.split(" -> ")[0]) for line in wrong):
+            if not any(re.search(form, line.split(" -> ")[0], re.IGNORECASE) for line in wrong):
                 missed.append(f"not found: {text!r}")
             missed += [f"found in code: {code!r}, {line}" for _, line in findings("", code, set(), prose_of)]
+    missed += [f"no file is {name}" for names, *_ in KINDS for name in names
+               if not glob.glob(name, root_dir=TOP, recursive=True)]
     for text, line in (("One.\n\nTwo\nthree, for want\nof memory.\n", 4), ("x " * COLUMNS + "\n", 1),
                        ("\n| a | " + "x " * (CELL_WORDS + 1) + "|\n", 2)):
         if [number for number, _ in findings("", text, set(), page)] != [line]:
