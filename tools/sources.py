@@ -1,4 +1,5 @@
 """Reads items of .rt files, in the layout of `rt fmt`, and definitions of specs/. No program."""
+import functools
 import os
 import re
 from dataclasses import dataclass
@@ -12,6 +13,7 @@ IMPORT = re.compile(r"^ *(?:ghost |unfoldable |pub )*use Rattle\.(\w+)\.specs\.(
 NAME = re.compile(r"[A-Za-z_][\w-]*(?:\.[A-Za-z_][\w-]*)?")
 
 
+@functools.cache
 def read(path):
     """The text of a file of the repository, or an empty one if there is none."""
     if not os.path.exists(os.path.join(TOP, path)):
