@@ -88,7 +88,7 @@ async function answerOf(command, wordsOf, cases) {
   await new Promise((resolve) => server.listen(0, "127.0.0.1", resolve));
   const child = spawn(
     command, wordsOf(folder, `http://127.0.0.1:${server.address().port}/`), { stdio: "ignore" });
-  const timer = setTimeout(() => answered({ fault: "no answer within 180 seconds" }), 180_000);
+  const timer = setTimeout(() => answered({ fault: "no answer within ten minutes" }), 600_000);
   try {
     return await answer;
   } finally {
