@@ -99,6 +99,10 @@ case $(cat "$room/turn" 2>/dev/null) in
         echo "error: no proof of the goal"
         exit 1
         ;;
+    die)
+        echo "Killed"
+        exit 1
+        ;;
     edit) touch ../low/src/lib.rt ;;
 esac
 cp "$room/proved" out/b2
@@ -145,7 +149,8 @@ holds "a first run says what it assembles" tells "b2: assembling ${text#"$reposi
 holds "a first run says that it has built" tells "b2: built $program"
 holds "a first run needs no rt" calls 0
 holds "the compiler is given the text for this processor, and its main" \
-    grep -qE -- "^-O2 -DMAIN=$main -o .* $repository/c/b2.c $text " "$room/compiles"
+    grep -qE -- "^-O2 -DMAIN=$main -o .* $repository/c/b2.c $text -Wl,-z,relro -Wl,-z,now$" \
+    "$room/compiles"
 holds "nothing is left of it" stands_not "$repository/out/begun".*
 settle
 b2 steps
@@ -202,6 +207,21 @@ b2 --install ""
 holds "without a folder the words are the program's" prints "<--install><>incompiled"
 (cd "$room" && b2 --install -folder)
 holds "a folder's name may begin with -" stands "$room/-folder/bin/b2"
+
+# By a link, and on another machine.
+ln -s "$repository/b2" "$room/linked"
+printf in | CC=$room/bin/compiler "$room/linked" sum >"$room/output"
+holds "a link to the script is the script" prints "<sum>incompiled"
+mkdir "$room/arm"
+printf '#!/bin/sh\necho aarch64\n' >"$room/arm/uname"
+chmod +x "$room/arm/uname"
+printf '\t.globl\tmain_0_1_0_arm\n' >"$repository/dist/aarch64/b2.s"
+rm -f "$room/compiles"
+(PATH=$room/arm:$PATH && b2 --build)
+holds "on aarch64 the text is that for it" \
+    grep -qE -- "^-O2 -DMAIN=main_0_1_0_arm .*/dist/aarch64/b2\.s " "$room/compiles"
+holds "and so is the program" stands "$repository/out/b2-aarch64"
+rm -f "$repository/out/b2-aarch64"
 : >"$room/refuse"
 rm -f "$program"
 b2 --install "$folder"
@@ -354,11 +374,15 @@ b2 --prove
 holds "a failed build ends with 1" ends 1
 holds "a failed build prints nothing" prints ""
 holds "a failed build reports the cause" tells "error: no proof of the goal"
+holds "and not what went on" tells_not "rt: chose"
 holds "a failed build names its log" tells "the whole log is $program.log"
 holds "a failed build leaves no program" stands_not "$program"
 holds "a failed build leaves no file" stands_not "$repository/out/begun".*
 holds "a failed build keeps the work of the crate that failed" stands \
     "$repository/crates/b2/out/incremental"
+echo die >"$room/turn"
+b2 --prove
+holds "without a known cause the last lines are told" tells "Killed"
 rm -f "$room/turn" "$room/bin/rt"
 printf in | PATH=/usr/bin:/bin "$repository/b2" --prove >"$room/output" 2>"$room/errors"
 status=$?

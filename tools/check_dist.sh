@@ -191,6 +191,23 @@ printf '//! a comment\n    // another\n' >>"$repository/crates/blake2_plain/src/
 dist current
 holds "nor does a comment on a separate line" ends 0
 sed -i '/^ *\/\//d' "$repository/crates/blake2_plain/src/lib.rt"
+echo "fn more() {}" >"$repository/crates/b2/more.rt"
+dist current
+holds "nor is a file beside src/" ends 0
+mv "$repository/crates/blake2_c/src/lib.rt" "$repository/crates/blake2_c/src/more.rt"
+dist current
+holds "another name of a file is found" ends 1
+mv "$repository/crates/blake2_c/src/more.rt" "$repository/crates/blake2_c/src/lib.rt"
+for file in b2/src/main.rt b2_commands/src/lib.rt blake2_c/src/lib.rt; do
+    echo "fn more() {}" >>"$repository/crates/$file"
+    dist current
+    holds "a change of crates/$file is found" ends 1
+    sed -i '$d' "$repository/crates/$file"
+done
+mv "$repository/tools/aarch64_attributes.csv" "$room/kept"
+dist make
+holds "nothing is made where a source of the text is missing" ends 1
+mv "$room/kept" "$repository/tools/aarch64_attributes.csv"
 for file in tools/plain_names.py tools/aarch64_attributes.csv; do
     echo "# more" >>"$repository/$file"
     dist current
