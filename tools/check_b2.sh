@@ -382,7 +382,7 @@ holds "a failed build keeps the work of the crate that failed" stands \
     "$repository/crates/b2/out/incremental"
 echo die >"$room/turn"
 b2 --prove
-holds "without a known cause the last lines are told" tells "Killed"
+holds "without a known cause the last lines are reported" tells "Killed"
 rm -f "$room/turn" "$room/bin/rt"
 printf in | PATH=/usr/bin:/bin "$repository/b2" --prove >"$room/output" 2>"$room/errors"
 status=$?

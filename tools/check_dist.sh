@@ -193,7 +193,7 @@ holds "nor does a comment on a separate line" ends 0
 sed -i '/^ *\/\//d' "$repository/crates/blake2_plain/src/lib.rt"
 echo "fn more() {}" >"$repository/crates/b2/more.rt"
 dist current
-holds "nor is a file beside src/" ends 0
+holds "nor is a file next to src/" ends 0
 mv "$repository/crates/blake2_c/src/lib.rt" "$repository/crates/blake2_c/src/more.rt"
 dist current
 holds "another name of a file is found" ends 1
