@@ -158,3 +158,22 @@ test("digest and verify set the state to zero", () => {
     assert.ok(state.every((byte) => byte === 0));
   }
 });
+
+test("a memory that could not be wiped is wiped before the next call", () => {
+  const key = new Uint8Array(9).fill(7);
+  blake2b(key);
+  const bytes = engine.memory();
+  const { fill } = Uint8Array.prototype;
+  Uint8Array.prototype.fill = () => { throw new RangeError("no stack is left"); };
+  refused = "blake2b";
+  try {
+    assert.throws(() => blake2b(key, { key }), /no stack is left/);
+  } finally {
+    Uint8Array.prototype.fill = fill;
+    refused = undefined;
+  }
+  assert.ok(bytes.includes(7));
+  blake2b(key);
+  assert.notEqual(engine.memory(), bytes);
+  assert.ok(bytes.every((byte) => byte === 0));
+});
