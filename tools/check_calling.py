@@ -1,9 +1,9 @@
 #!/usr/bin/env python3
 """Compares the pages CALLING.md and the README of the crate blake2 with the sources that they quote.
 
-Each function in a block of Rust has to be in crates/blake2_callers/src, and each contract in a block of text in the file
-of the page's crate that the line before the block names. Spaces may differ. The
-README's functions and `use` lines have to be in crates/blake2_vectors/src/readme.rt, whose tests run them.
+Each function in a block of Rust of CALLING.md has to be in crates/blake2_callers/src, except for
+spaces. The README's functions and `use` lines have to be in crates/blake2_vectors/src/readme.rt,
+whose tests run them.
 
 usage: tools/check_calling.py
 """
@@ -30,7 +30,6 @@ def faults(page):
     """What the page shows and no source has, and how many quotes it has."""
     with open(page, encoding="utf-8") as file:
         text = file.read()
-    crate = os.path.basename(os.path.dirname(page))
     callers = [read(path) for path in glob.glob(os.path.join(TOP, "crates", "blake2_callers", "src", "*.rt"))]
     found, quotes = [], 0
     for block in re.findall(r"^```rust\n(.*?)^```$", text, re.M | re.S):
@@ -38,13 +37,6 @@ def faults(page):
             quotes += 1
             if not any(one_spaced(function) in source for source in callers):
                 found.append(function.splitlines()[0])
-    for name, block in re.findall(r"^`(src/[^`]*)`\n\n```text\n(.*?)^```$", text, re.M | re.S):
-        path = os.path.join(TOP, "crates", crate, name)
-        source = read(path) if os.path.exists(path) else ""
-        for contract in re.split(r"^(?=pub fn |fn )", block, flags=re.M)[1:]:
-            quotes += 1
-            if one_spaced(contract) not in source:
-                found.append(name + ": " + contract.splitlines()[0])
     return found, quotes
 
 
