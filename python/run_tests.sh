@@ -160,7 +160,7 @@ elif check "the package for Python is built by $python" build "$python"; then
             skip "CPython's test_hashlib over the package, in $each" "it has none"
         fi
         if "$full" -c 'import distributed' 2>/dev/null; then
-            check "the Dask example, in $each" timeout 300 "$full" "$here/examples/test_dask.py" "$work/built"
+            check "the Dask example, in $each" timeout 900 "$full" "$here/examples/test_dask.py" "$work/built"
         else
             skip "the Dask example, in $each" "it has no distributed"
         fi

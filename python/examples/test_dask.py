@@ -6,13 +6,20 @@ usage: test_dask.py FOLDER
 The roots are those that tools/oracle.py makes with Python's hashlib. One worker is killed while it
 hashes a range, after it has hashed others. The status is 0 if all is as it should be. It needs Dask
 (Debian's python3-distributed).
+
+Most of the time goes into imports of Dask and into messages between processes. So workers are forked from a
+process that has imported it, the program runs within this one, except once, and what no worker matters for
+runs without a cluster.
 """
+import contextlib
+import io
 import os
 import signal
 import subprocess
 import sys
 import tempfile
 import unittest
+from functools import partial
 from unittest import mock
 
 HERE = os.path.dirname(os.path.abspath(__file__))
@@ -23,6 +30,9 @@ if __name__ == "__main__":  # a worker imports this file too, and has the path f
     FOLDERS = [os.path.abspath(sys.argv.pop()), HERE, os.path.join(TOP, "tools")]
     sys.path[:0] = FOLDERS
     os.environ["PYTHONPATH"] = os.pathsep.join([*FOLDERS, os.environ.get("PYTHONPATH", "")])
+    os.environ["DASK_DISTRIBUTED__WORKER__MULTIPROCESSING_METHOD"] = "forkserver"
+    # On a machine that is busy with other tests a connection may take longer than the 30 s of Dask's default.
+    os.environ["DASK_DISTRIBUTED__COMM__TIMEOUTS__CONNECT"] = "200s"
 
 import dask_root  # noqa: E402
 from distributed import Client, LocalCluster  # noqa: E402
@@ -54,19 +64,19 @@ def killed_once(folder, path, length, leaf_size, first, leaves):
     return noted(folder, path, length, leaf_size, first, leaves)
 
 
-class DaskTest(unittest.TestCase):
-    """dask_root.tree_root and the program, over one cluster of three workers."""
+class Here:
+    """A client that runs each task in this process."""
 
-    @classmethod
-    def setUpClass(cls):
-        cls.cluster = LocalCluster(n_workers=3, threads_per_worker=1, processes=True, dashboard_address=None,
-                                   silence_logs=50)
-        cls.client = Client(cls.cluster)
+    @staticmethod
+    def submit(function, *given, pure):
+        assert not pure
+        return function(*given)
 
-    @classmethod
-    def tearDownClass(cls):
-        cls.client.close()
-        cls.cluster.close()
+    gather = staticmethod(list)
+
+
+class Case(unittest.TestCase):
+    """What both kinds of tests need: a file, and a list of calls."""
 
     def setUp(self):
         held = tempfile.TemporaryDirectory()
@@ -93,6 +103,12 @@ class DaskTest(unittest.TestCase):
         with open(os.path.join(self.folder, "calls"), encoding="ascii") as calls:
             return [tuple(map(int, line.split())) for line in calls]
 
+
+class RootTest(Case):
+    """dask_root.tree_root without a cluster."""
+
+    client = Here()
+
     def test_lengths(self):
         for length in (0, 1, LEAF, LEAF + 1, RANGE - 1, RANGE, RANGE + 1, 3 * RANGE, 5 * RANGE + 4321):
             message = self.write(length)
@@ -105,36 +121,6 @@ class DaskTest(unittest.TestCase):
             root = dask_root.tree_root(self.client, self.path, LEAF, size)
             self.assertEqual(root, tree_root(message, LEAF, 64), size)
         self.assertEqual(dask_root.tree_root(self.client, self.path, 65536), tree_root(message, 65536, 64))
-
-    def test_worker_processes_hash_each_range_once(self):
-        message = self.write(60 * RANGE)
-        self.use(noted)
-        self.assertEqual(dask_root.tree_root(self.client, self.path, LEAF, RANGE), tree_root(message, LEAF, 64))
-        workers, firsts = zip(*self.calls())
-        self.assertEqual(sorted(firsts), list(range(0, 480, 8)))
-        self.assertLessEqual(set(workers), set(self.client.run(os.getpid).values()))
-        self.assertNotIn(os.getpid(), workers)
-        self.assertGreater(len(set(workers)), 1)
-
-    def test_same_path_again_is_hashed_again(self):
-        for _ in range(2):
-            message = self.write(3 * RANGE)
-            self.assertEqual(dask_root.tree_root(self.client, self.path, LEAF, RANGE), tree_root(message, LEAF, 64))
-
-    def test_lost_worker(self):
-        before = set(self.client.run(os.getpid).values())
-        message = self.write(60 * RANGE)
-        self.use(killed_once)
-        self.assertEqual(dask_root.tree_root(self.client, self.path, LEAF, RANGE), tree_root(message, LEAF, 64))
-        self.assertTrue(os.path.exists(os.path.join(self.folder, "killed")))
-        lost = before - set(self.client.run(os.getpid).values())
-        self.assertEqual(len(lost), 1)
-        # What the lost worker had hashed went with it, and others have hashed it again.
-        calls = self.calls()
-        held = [first for worker, first in calls if worker in lost]
-        again = [first for worker, first in calls if worker not in lost]
-        self.assertEqual(len(held), 3)
-        self.assertEqual(sorted(again), list(range(0, 480, 8)))
 
     def test_wrong_answers_are_refused(self):
         self.write(3 * RANGE)
@@ -166,27 +152,83 @@ class DaskTest(unittest.TestCase):
             with open(self.path, "rb", buffering=0) as file:
                 self.assertEqual(dask_root.read_at(file, 900, 50), message[50:950])
 
-    def run_program(self, *words):
-        """Runs the program, and returns its status, output and errors."""
-        done = subprocess.run([sys.executable, SCRIPT, *words], stdin=subprocess.DEVNULL, capture_output=True,
-                              text=True, cwd=self.folder, timeout=120)
-        return done.returncode, done.stdout, done.stderr
+
+class ClusterTest(Case):
+    """dask_root.tree_root and the program, over one cluster of three workers."""
+
+    @classmethod
+    def setUpClass(cls):
+        # Dask's own folder is the same for all clusters, which lock it.
+        space = cls.enterClassContext(tempfile.TemporaryDirectory())
+        cls.cluster = LocalCluster(n_workers=3, threads_per_worker=1, processes=True, dashboard_address=None,
+                                   silence_logs=50, local_directory=space)
+        cls.client = Client(cls.cluster)
+
+    @classmethod
+    def tearDownClass(cls):
+        cls.client.close()
+        cls.cluster.close()
+
+    def test_worker_processes_hash_each_range_once(self):
+        message = self.write(60 * RANGE)
+        self.use(noted)
+        self.assertEqual(dask_root.tree_root(self.client, self.path, LEAF, RANGE), tree_root(message, LEAF, 64))
+        workers, firsts = zip(*self.calls())
+        self.assertEqual(sorted(firsts), list(range(0, 480, 8)))
+        self.assertLessEqual(set(workers), set(self.client.run(os.getpid).values()))
+        self.assertNotIn(os.getpid(), workers)
+        self.assertGreater(len(set(workers)), 1)
+
+    def test_same_path_again_is_hashed_again(self):
+        for _ in range(2):
+            message = self.write(3 * RANGE)
+            self.assertEqual(dask_root.tree_root(self.client, self.path, LEAF, RANGE), tree_root(message, LEAF, 64))
+
+    def test_lost_worker(self):
+        before = set(self.client.run(os.getpid).values())
+        message = self.write(60 * RANGE)
+        self.use(killed_once)
+        self.assertEqual(dask_root.tree_root(self.client, self.path, LEAF, RANGE), tree_root(message, LEAF, 64))
+        self.assertTrue(os.path.exists(os.path.join(self.folder, "killed")))
+        lost = before - set(self.client.run(os.getpid).values())
+        self.assertEqual(len(lost), 1)
+        # What the lost worker had hashed went with it, and others have hashed it again.
+        calls = self.calls()
+        held = [first for worker, first in calls if worker in lost]
+        again = [first for worker, first in calls if worker not in lost]
+        self.assertEqual(len(held), 3)
+        self.assertEqual(sorted(again), list(range(0, 480, 8)))
+
+    def run_main(self, *words):
+        """Runs the program in this process, and returns its status, output and errors."""
+        out, errors, status = io.StringIO(), io.StringIO(), 0
+        with contextlib.chdir(self.folder), contextlib.redirect_stdout(out), contextlib.redirect_stderr(errors), \
+                mock.patch("sys.argv", ["dask_root.py", *words]):
+            try:
+                dask_root.main()
+            except SystemExit as end:  # a text is what Python prints at such an end, whose status is 1
+                status = end.code if isinstance(end.code, int) else print(end.code, file=errors) or 1
+        return status, out.getvalue(), errors.getvalue()
 
     def test_program(self):
         message = self.write(200000)
         line = "{}  message\n"
-        # Dask and its web server may have words for developers on standard error.
-        self.assertEqual(self.run_program("message")[:2], (0, line.format(tree_root(message, 65536, 64).hex())))
+        with mock.patch("dask_root.LocalCluster", partial(LocalCluster, n_workers=1)):
+            # Dask and its web server may have words for developers on standard error.
+            self.assertEqual(self.run_main("message")[:2], (0, line.format(tree_root(message, 65536, 64).hex())))
         address = self.cluster.scheduler_address
-        self.assertEqual(self.run_program("--leaf", "777", "--scheduler", address, "message")[:2],
-                         (0, line.format(tree_root(message, 777, 64).hex())))
-        status, out, errors = self.run_program("--scheduler", address, "absent")
+        self.assertEqual(self.run_main("--leaf", "777", "--scheduler", address, "message"),
+                         (0, line.format(tree_root(message, 777, 64).hex()), ""))
+        status, out, errors = self.run_main("--scheduler", address, "absent")
         self.assertEqual((status, out), (1, ""))
         self.assertRegex(errors, "(?m)^dask_root.py: .*No such file or directory: '.*/absent'$")
         for words in ((), ("--leaf", "0", "message"), ("--leaf", "4294967296", "message"), ("a", "b")):
-            status, out, errors = self.run_program(*words)
+            status, out, errors = self.run_main(*words)
             self.assertEqual((status, out), (2, ""), words)
             self.assertIn("usage: ", errors)
+        done = subprocess.run([sys.executable, SCRIPT], stdin=subprocess.DEVNULL, capture_output=True, text=True)
+        self.assertEqual((done.returncode, done.stdout), (2, ""))
+        self.assertIn("usage: ", done.stderr)
 
 
 if __name__ == "__main__":
