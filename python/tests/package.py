@@ -302,7 +302,11 @@ class Threads(unittest.TestCase):
             hasher = make()
             for call in (lambda: hasher.update(LONG), lambda: make(LONG), lambda: many([LONG])):
                 self.assertGreater(self.turns_during(call), 10)
-        self.assertGreater(self.turns_during(lambda: vulfsjor.tree_root(LONG, 4096)), 10)
+        for call in (lambda: vulfsjor.tree_root(LONG, 4096), lambda: vulfsjor.TreeHasher(4096).update(LONG),
+                     lambda: vulfsjor.TreeHasher(4096).next_leaves(LONG),
+                     lambda: vulfsjor.tree_leaves(LONG, 4096, first=0, ends=True),
+                     lambda: vulfsjor.tree_root_of_leaves(LONG, 4096)):
+            self.assertGreater(self.turns_during(call), 10)
 
     def test_others_wait_for_a_long_update(self):
         """A call of an object meets all of an update that is under way, here in one of ten tries at least: in a try
@@ -326,6 +330,13 @@ class Threads(unittest.TestCase):
         for _, make, _, _, _ in FAMILIES:
             hasher, short = make(), bytes(2047)
             self.assertEqual(self.turns_during(lambda: [hasher.update(short) for _ in range(3000)]), 0)
+
+    def test_2048_bytes_are_long(self):
+        for make in (vulfsjor.blake2b, vulfsjor.blake2s, lambda: vulfsjor.TreeHasher(4096)):
+            hasher, before, end = make(), self.turns, time.monotonic() + 20
+            while self.turns == before and time.monotonic() < end:
+                hasher.update(bytes(2048))
+            self.assertGreater(self.turns, before)
 
 
 class Words(unittest.TestCase):

@@ -93,6 +93,10 @@ class Parameters(Test):
                      lambda threads: vulfsjor.tree_root_file(self.file(DATA), 1 << 14, threads=threads)):
             for threads in (0, 1, 2, 3, 4, 7, 1000, True, type("Index", (), {"__index__": lambda self: 2})()):
                 self.assertEqual(call(threads), ROOT)
+            with mock.patch("os.sched_getaffinity", lambda process: {1, 4, 9}), \
+                    mock.patch.object(_threads, "_start", side_effect=_threads._start) as start:
+                self.assertEqual(call(0), ROOT)
+                self.assertEqual(start.call_args.args[0], 3)
             self.refuses(ValueError, "threads must be 0 or more", call, -1)
             self.refuses(TypeError, "'float' object cannot be interpreted as an integer", call, 1.0)
             self.refuses(TypeError, "'NoneType' object cannot be interpreted as an integer", call, None)
