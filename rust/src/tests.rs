@@ -106,24 +106,25 @@ fn a_tree_that_no_init_has_made_is_refused() {
     );
 }
 
-// A hasher of a tree with leaves of 1 KiB that has absorbed 2^58 - 1,023 bytes, one of which is in the
-// open leaf. The words are those of `closed` and of the root's counter in c/include/blake2_c.h.
-fn tree_near_the_end() -> TreeHasher {
+// A hasher of a tree with leaves of 1 KiB that has absorbed this number of leaves less than 2^58
+// bytes, and one byte more, which is in the open leaf. The words are those of `closed` and of the
+// root's counter in c/include/blake2_c.h.
+fn tree_near_the_end(leaves: u64) -> TreeHasher {
     const CLOSED: usize = 2 * 53;
     const ROOT_COUNTER: usize = 53 + 16;
     let mut hasher = TreeHasher::new(b"", b"", 1 << 10).unwrap();
     hasher.update([7; 1 << 10]).update([7; 1]);
     assert_eq!((hasher.state.0[CLOSED], hasher.count()), (1, 1025));
-    hasher.state.0[CLOSED] = (1 << 48) - 1;
-    hasher.state.0[ROOT_COUNTER] = ((1 << 48) - 1) * 64;
+    hasher.state.0[CLOSED] = (1 << 48) - leaves;
+    hasher.state.0[ROOT_COUNTER] = ((1 << 48) - leaves) * 64;
     hasher.state.0[ROOT_COUNTER + 1] = 0;
-    assert_eq!(hasher.count(), (1 << 58) - 1023);
+    assert_eq!(hasher.count(), (1 << 58) - leaves * 1024 + 1);
     hasher
 }
 
 #[test]
 fn inputs_of_a_tree_end_before_2_to_the_58() {
-    let mut hasher = tree_near_the_end();
+    let mut hasher = tree_near_the_end(1);
     hasher.update([7; 1022]);
     assert_eq!(hasher.count(), (1 << 58) - 1);
     hasher.update(b"");
@@ -143,7 +144,12 @@ mod threads {
 
     #[test]
     fn updates_by_threads_end_before_2_to_the_58() {
-        let mut hasher = tree_near_the_end();
+        // The bytes that the open leaf lacks would fit.
+        let mut hasher = tree_near_the_end(2);
+        let update = || hasher.update_threads([7; 5000], 3).count();
+        assert!(panic_of(update).contains("an input of 2^58 bytes"));
+        assert_eq!(hasher.count(), (1 << 58) - 2047);
+        let mut hasher = tree_near_the_end(1);
         for too_long in [1023, 1024, 5000] {
             let message = vec![7; too_long];
             let update = || hasher.update_threads(&message, 3).count();
@@ -210,6 +216,10 @@ mod threads {
         assert_eq!(parts_of(40 * leaf, leaf, 2), all(&[16, 16, 8]));
         assert_eq!(parts_of(20 * leaf, leaf, 4), all(&[5, 5, 5, 5]));
         assert_eq!(PART_BYTES, 16 * leaf);
+        let share = |first: usize, count: usize| (first, count * 4 * leaf, 64 * count);
+        assert_eq!(parts_of(20 * leaf, 4 * leaf, 2), [share(0, 3), share(3, 2)]);
+        let four = |first: usize| (first, 12 * leaf, 256);
+        assert_eq!(parts_of(36 * leaf, 3 * leaf, 2), [four(0), four(4), four(8)]);
         let long = 12 * leaf;
         let parts = parts_of(9 * long - 5, long, 2);
         let wanted = [(0, 4 * long, 256), (4, 4 * long, 256), (8, long - 5, 64)];
