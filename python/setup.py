@@ -1,7 +1,7 @@
 """Builds the package: a module in C over the proved library. It needs a C compiler.
 
-In the repository the files that c/ and dist/ share with this package are first copied to src/, as far as they differ.
-A source distribution, which has a file PKG-INFO, holds them.
+In the repository the files that c/ and dist/ share with this package are first copied to src/, as
+far as they differ. A source distribution, which has a file PKG-INFO, holds them.
 """
 import pathlib
 import sys
@@ -18,8 +18,8 @@ COPIES = {
     "src/x86_64/blake2_c-v3.s": "../dist/x86_64/blake2_c-v3.s",
 }
 
-# The texts of the library by platform. choose.c has its functions by their own names; on x86-64 a call goes to the build
-# that the processor runs.
+# The texts of the library by platform. choose.c has its functions by their own names; on x86-64 a
+# call goes to the build that the processor runs.
 TEXTS = {
     "linux-x86_64": ["src/x86_64/blake2_c-v2.s", "src/x86_64/blake2_c-v3.s"],
     "linux-aarch64": ["src/aarch64/blake2_c.s"],
@@ -27,7 +27,7 @@ TEXTS = {
 
 
 def refresh_copies():
-    """Makes the copies what the repository has. One that is the same already keeps its time, and is not built again."""
+    """Makes the copies what the repository has. One that is the same already is not written."""
     for copy, source in COPIES.items():
         copy, wanted = pathlib.Path(copy), pathlib.Path(source).read_bytes()
         if not copy.is_file() or copy.read_bytes() != wanted:
@@ -37,12 +37,14 @@ def refresh_copies():
 
 platform = sysconfig.get_platform()
 if platform not in TEXTS or sys.maxsize < 2**32:
-    sys.exit(f"setup.py: vulfsjor is assembly for {' and '.join(TEXTS)}, and has none for {platform}")
+    platforms = " and ".join(TEXTS)
+    sys.exit(f"setup.py: vulfsjor is assembly for {platforms}, and has none for {platform}")
 if not pathlib.Path("PKG-INFO").exists():
     try:
         refresh_copies()
     except OSError as error:
-        sys.exit(f"setup.py: copying what the package shares with c/ and dist/ to python/src failed: {error}")
+        sys.exit("setup.py: copying what the package shares with c/ and dist/ to python/src failed: "
+                 f"{error}")
 
 
 class BuildWithAssembly(build_ext):
@@ -60,7 +62,8 @@ setup(
         ["src/library.c", "src/trees.c", "src/choose.c", *TEXTS[platform]],
         include_dirs=["src"],
         depends=["src/library.h", "src/blake2_c.h"],
-        # Clang warns of each option that means nothing for assembly. LTO loses the assembly of choose.c.
+        # Clang warns of each option that means nothing for assembly. LTO loses the assembly of
+        # choose.c.
         extra_compile_args=["-std=c99", "-Wall", "-Wextra", "-fvisibility=hidden", "-fno-lto",
                             "-Wno-unused-command-line-argument"],
         extra_link_args=["-Wl,--gc-sections", "-Wl,-z,relro,-z,now"],

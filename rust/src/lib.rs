@@ -62,7 +62,9 @@
 //! ```
 //! use vulfsjor::{Params, Tree};
 //!
-//! let place = Tree { fanout: 2, depth: 2, leaf_length: 4096, node_offset: 1, node_depth: 0, inner_length: 64 };
+//! let place = Tree {
+//!     fanout: 2, depth: 2, leaf_length: 4096, node_offset: 1, node_depth: 0, inner_length: 64,
+//! };
 //! let mut leaf = Params::new().tree(place).last_node(true).blake2b()?;
 //! leaf.update(b"the second leaf");
 //! assert_eq!(leaf.finalize().as_bytes().len(), 64);
