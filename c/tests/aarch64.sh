@@ -2,6 +2,7 @@
 # emulated processor.
 . "$tests/languages.sh"
 . "$tests/threads.sh"
+. "$tests/installing.sh"
 arm=aarch64-linux-gnu-gcc
 
 # That compiler in the place of cc. What it links is run by a script of its name.
@@ -66,5 +67,6 @@ test_aarch64() {
     done
     check "parts.c, for aarch64" parts_with 500 -O2
     check "the program c/examples/tree_sum.c, for aarch64" tree_sum_example
+    check "a project with the files by hand, for aarch64" vendored_by_hand
     check "b2 for aarch64" program_for_arm 40
 }

@@ -51,7 +51,7 @@ shared_library_is_right() {
         grep -q BIND_NOW "$work/dynamic" && ! grep NEEDED "$work/dynamic" | grep -v 'libc\.' &&
         grep -q GNU_RELRO "$work/segments" && grep -q 'GNU_STACK .* RW ' "$work/segments" &&
         ! grep -q 'LOAD.*RWE' "$work/segments" || return 1
-    [ "$(nm -D --defined-only "$file" | grep -c '@@BLAKE2_C_0$')" -eq \
+    [ "$(readelf --dyn-syms -W "$file" | grep -c ' FUNC  *GLOBAL .*@@BLAKE2_C_0$')" -eq \
         "$(names_of_header | wc -l)" ] &&
         [ "$(readlink "$shared")" = libblake2_c.so.0 ] &&
         [ "$(readlink "$prefix/lib/libblake2_c.so.0")" = libblake2_c.so.0.1.0 ] &&

@@ -19,6 +19,7 @@
 #include <sched.h>
 #include <stdio.h>
 #include <stdlib.h>
+#include <sys/stat.h>
 #include <unistd.h>
 
 enum { BYTES = 40 << 20, FEW = 100000 };
@@ -122,6 +123,11 @@ WRAP(int32_t, blake2_c_blake2b_update, -1, (vulfsjor_blake2b_state *s, const uin
      (s, i, n))
 WRAP(int32_t, blake2_c_blake2b_final, -1, (vulfsjor_blake2b_state *s, uint8_t *o, size_t n),
      (s, o, n))
+
+WRAP(off_t, lseek, -1, (int f, off_t from, int w), (f, from, w))
+#if __GLIBC_PREREQ(2, 33) /* before that it is not a function */
+WRAP(int, fstat, -1, (int f, struct stat *s), (f, s))
+#endif
 
 /* Those below do more than WRAP, whose line names them for the linker. */
 #undef WRAP
@@ -362,6 +368,10 @@ static void reads_fail(void) {
     take(FEW, 4096, 4);
     each_fails(root_of_file, "pread", ESTALE, ESTALE, 4);
     each_fails(root_of_pipe, "read", ECONNRESET, ECONNRESET, 2);
+    each_fails(root_of_file, "lseek", EOVERFLOW, EOVERFLOW, 2);
+#if __GLIBC_PREREQ(2, 33)
+    each_fails(root_of_file, "fstat", EOVERFLOW, EOVERFLOW, 1);
+#endif
     take(BYTES, 17 << 20, 2);
     wish("pread", 1, EIO);
     expect(root_of_file, EIO);
@@ -432,6 +442,9 @@ static void numbers_of_threads(void) {
     expect_threads(4);
     take(FEW, FEW / 2, 5); /* two leaves */
     expect(root_of_bytes, 0);
+    CHECK(started == 1);
+    take(3001, 1000, 5); /* two leaves after one that is whole, and a byte */
+    expect(root_of_updates, 0);
     CHECK(started == 1);
     take(FEW, 100, 1);
     expect_threads(0);
