@@ -6,9 +6,11 @@ usage: trees.py FOLDER      FOLDER has the package vulfsjor
 import array
 import ctypes
 import errno
+import faulthandler
 import fcntl
 import os
 import pathlib
+import queue
 import random
 import signal
 import subprocess
@@ -33,9 +35,11 @@ TEXTS = dict(salt=b"salt", person=b"a persona of 16b")
 
 
 class Test(unittest.TestCase):
-    """A test with a folder for files."""
+    """A test with a folder for files. One that hangs ends the program and shows where."""
 
     def setUp(self):
+        faulthandler.dump_traceback_later(300, exit=True)
+        self.addCleanup(faulthandler.cancel_dump_traceback_later)
         self.folder = tempfile.TemporaryDirectory()
         self.addCleanup(self.folder.cleanup)
 
@@ -625,7 +629,8 @@ class Stops(Test):
             self.assertEqual([done for _, done in seen], [*range(MIB, 10 * MIB, MIB), len(DATA)])
 
     def test_an_exception_of_the_callback_stops_all(self):
-        for threads in (1, 3):
+        for kind, threads in ((ZeroDivisionError, 1), (ZeroDivisionError, 3),
+                              (KeyboardInterrupt, 1), (KeyboardInterrupt, 3)):
             calls, leaves = [], vulfsjor.tree_leaves
 
             def tree_leaves(*args, **words):
@@ -633,27 +638,82 @@ class Stops(Test):
                 return leaves(*args, **words)
 
             def stop(done):
-                raise ZeroDivisionError("of the callback")
+                raise kind("of the callback")
 
             with mock.patch.object(_threads, "_PART_BYTES", 1 << 16), \
-                    mock.patch.object(_threads._library, "tree_leaves", tree_leaves):
-                with mock.patch.object(_threads.Future, "cancel", autospec=True) as cancel:
-                    self.refuses(ZeroDivisionError, "of the callback", vulfsjor.tree_root_file, self.file(DATA),
-                                 1 << 14, threads=threads, progress=stop)
+                    mock.patch.object(_threads._library, "tree_leaves", tree_leaves), \
+                    mock.patch.object(_threads.Future, "cancel", autospec=True) as cancel:
+                self.refuses(kind, "of the callback", vulfsjor.tree_root_file, self.file(DATA),
+                             1 << 14, threads=threads, progress=stop)
             self.assertEqual(cancel.called, threads == 3)
             self.assertLess(len(calls), 30)
             self.assertEqual(threading.active_count(), 1)
 
-    def interrupted(self, lines):
-        """The output of a program that gets SIGINT once it has printed a line, and the seconds until it ended."""
-        program = f"import sys, time\nsys.path.insert(0, {sys.argv[1]!r})\nimport vulfsjor\n" + lines
-        with subprocess.Popen([sys.executable, "-c", program], stdout=subprocess.PIPE, stderr=subprocess.PIPE,
-                              text=True) as process:
-            process.stdout.readline()
-            time.sleep(0.2)
-            process.send_signal(signal.SIGINT)
-            start = time.monotonic()
-            _, said = process.communicate(timeout=60)
+    def test_calls_that_wait_are_not_made(self):
+        calls, stopped, failures = [], threading.Event(), []
+
+        def call(place):
+            calls.append(place)
+            if place:
+                stopped.wait(5)
+            return b"digest"
+
+        with mock.patch.object(threading, "excepthook", failures.append):
+            results = _threads._in_order(call, 99, 2, stopped)
+            self.assertEqual(next(results), b"digest")
+            results.close()
+        self.assertLessEqual(len(calls), 3)
+        self.assertEqual((stopped.is_set(), failures), (True, []))
+        self.assertEqual(threading.active_count(), 1)
+
+    def test_a_leaf_longer_than_a_call_ends_early(self):
+        reads, events, event, preadv = [], [], threading.Event, os.preadv
+
+        def keep():
+            events.append(event())
+            return events[-1]
+
+        def read(file, views, at):
+            if 4 * MIB <= at < 8 * MIB:
+                reads.append(at)
+                if len(reads) == 1:
+                    events[0].wait(5)
+            return preadv(file, views, at)
+
+        with mock.patch.multiple(_threads, _PART_BYTES=1 << 18, _MOST_BUFFER_BYTES=MIB, Event=keep), \
+                mock.patch.object(os, "preadv", read):
+            self.refuses(KeyboardInterrupt, "", vulfsjor.tree_root_file, self.file(DATA), 4 * MIB,
+                         threads=2, progress=mock.Mock(side_effect=KeyboardInterrupt))
+        self.assertLessEqual(len(reads), 1)
+
+    def test_an_exception_of_a_call_is_its_result(self):
+        for error in (ZeroDivisionError(), KeyboardInterrupt(), SystemExit()):
+            tasks, future = queue.SimpleQueue(), _threads.Future()
+            tasks.put((future, 0))
+            tasks.put(None)
+            call = mock.Mock(side_effect=error)
+            thread = threading.Thread(target=_threads._work, args=(tasks, call), daemon=True)
+            thread.start()
+            thread.join(20)
+            self.assertFalse(thread.is_alive())
+            self.assertIs(future.exception(0), error)
+
+    def run_program(self, lines, is_interrupted=True):
+        """What a program says last, and the seconds until it ended: since SIGINT, which it gets once
+        it has printed a line, if it is interrupted. One that does not end is killed."""
+        program = ("import signal, sys\nsignal.signal(signal.SIGINT, signal.default_int_handler)\n"
+                   f"sys.path.insert(0, {sys.argv[1]!r})\nimport vulfsjor\n" + lines)
+        with subprocess.Popen([sys.executable, "-c", program], stdout=subprocess.PIPE,
+                              stderr=subprocess.PIPE, text=True) as process:
+            try:
+                process.stdout.readline()
+                if is_interrupted:
+                    time.sleep(0.2)
+                    process.send_signal(signal.SIGINT)
+                start = time.monotonic()
+                _, said = process.communicate(timeout=20)
+            finally:
+                process.kill()
         return said.strip().splitlines()[-1:], time.monotonic() - start
 
     def test_interrupts(self):
@@ -665,9 +725,16 @@ class Stops(Test):
                       "import os; print(flush=True); vulfsjor.tree_root_file(os.pipe()[0], 1 << 16)",
                       f"import mmap; f = open({path!r}); m = mmap.mmap(f.fileno(), 0, prot=mmap.PROT_READ)\n"
                       "print(flush=True); vulfsjor.tree_root(m, 1 << 16, threads=2)"):
-            said, seconds = self.interrupted(lines)
+            said, seconds = self.run_program(lines)
             self.assertEqual(said, ["KeyboardInterrupt"], lines)
             self.assertLess(seconds, 5)
+
+    def test_an_exception_of_a_thread_reaches_the_caller(self):
+        lines = ("from unittest import mock\nprint(flush=True)\n"
+                 "with mock.patch('vulfsjor._library.tree_leaves', side_effect=KeyboardInterrupt):\n"
+                 "    vulfsjor.tree_root(bytes(3 << 20), 1 << 16, threads=3)")
+        said, _ = self.run_program(lines, is_interrupted=False)
+        self.assertEqual(said, ["KeyboardInterrupt"])
 
 
 if __name__ == "__main__":
