@@ -9,10 +9,11 @@ script b2; what a block leaves there is the next one's. If a block in `text` fol
 prints; a line that ends with `...` is the beginning of a line.
 
 FOLDER is where c/install.sh has installed the library; without it the script installs it. The module for Python is
-built here. An example whose tool is absent is skipped, and a line says so. The last line is 'N passed, M failed, K
-skipped'.
+built here, and the script ends with an error if that fails. An example whose tool is absent is skipped, and a line
+says so: for Python also cc, setuptools and Python's headers. The last line is 'N passed, M failed, K skipped'.
 """
 import argparse
+import functools
 import os
 import pathlib
 import re
@@ -23,6 +24,10 @@ import tempfile
 
 TOP = pathlib.Path(__file__).resolve().parent.parent
 TOOLS = {"c": "cc", "cpp": "c++", "rust": "cargo", "python": "python3", "js": "node", "sh": "bash"}
+# Succeeds in a Python that the module can be built for.
+BUILDS_MODULES = """import os, setuptools, sys, sysconfig
+header = os.path.join(sysconfig.get_path("include"), "Python.h")
+sys.exit(sys.version_info < (3, 11) or not os.path.exists(header))"""
 
 
 def examples(page):
@@ -105,20 +110,26 @@ def is_as_printed(printed, wanted):
         for line, each in zip(lines, wanted_lines))
 
 
-def has_tool(runner, language):
-    """Whether the example's tool, and for Python the module, is there."""
-    if not shutil.which(TOOLS[language]):
-        return False
-    return language != "python" or not subprocess.run(
-        ["python3", "-c", "import vulfsjor"], env=runner.environment, capture_output=True, check=False).returncode
+def has_tool(language):
+    """Whether the example's tool is there, and for Python what the module is built with."""
+    return bool(shutil.which(TOOLS[language])) and (language != "python" or can_build_module())
+
+
+@functools.cache
+def can_build_module():
+    """Whether there is a C compiler, and a Python with setuptools and its headers."""
+    return bool(shutil.which("cc") and shutil.which("python3")) and not subprocess.run(
+        ["python3", "-c", BUILDS_MODULES], capture_output=True, check=False).returncode
 
 
 def build_module(work):
     """Builds the module for Python in a folder below this one, from a copy of its sources, and returns the folder."""
     for name in ("c", "dist", "python"):
         shutil.copytree(TOP / name, work / name)
-    subprocess.run(["python3", "setup.py", "-q", "build", "--build-lib", str(work / "module")], cwd=work / "python",
-                   capture_output=True, check=False)
+    done = subprocess.run(["python3", "setup.py", "-q", "build", "--build-lib", str(work / "module")],
+                          cwd=work / "python", capture_output=True, text=True, check=False)
+    if done.returncode:
+        sys.exit(f"run_examples.py: building the module for Python failed: {done.stderr.strip()[-2000:]}")
     return work / "module"
 
 
@@ -130,7 +141,8 @@ def main():
     count = {"passed": 0, "failed": 0, "skipped": 0}
     with tempfile.TemporaryDirectory() as work:
         work = pathlib.Path(work)
-        module, library = build_module(work), words.library or work / "installed"
+        module = build_module(work) if can_build_module() else work
+        library = words.library or work / "installed"
         if not words.library:
             subprocess.run([str(TOP / "c/install.sh"), str(library)], check=True, capture_output=True)
         for page in words.pages:
@@ -143,7 +155,7 @@ def main():
 
 def outcome(runner, place, language, text, wanted):
     """Runs an example, and reports its result if that is not what the page says."""
-    if not has_tool(runner, language):
+    if not has_tool(language):
         print(f"skipped: {place}: {language} is not to be run here")
         return "skipped"
     try:
