@@ -1,5 +1,5 @@
-/* BLAKE2b and BLAKE2s for Python, with the interface of hashlib's, by the proved functions of the library
- * blake2_c, whose assembly is linked with this file. */
+/* BLAKE2b and BLAKE2s for Python, with the interface of hashlib's, by the proved functions of the
+ * library blake2_c, whose assembly is linked with this file. */
 #include "library.h"
 
 /* ---- The families */
@@ -17,39 +17,45 @@ typedef struct family {
     int block, out, key, salt, person;
     size_t state;
     uint64_t last_offset;
-    int (*init)(void *run, size_t out, const Py_buffer *key, const Py_buffer *salt, const Py_buffer *person,
-                const vulfsjor_tree *tree);
+    int (*init)(void *run, size_t out, const Py_buffer *key, const Py_buffer *salt,
+                const Py_buffer *person, const vulfsjor_tree *tree);
     int (*set_last_node)(void *run);
     int (*update)(void *run, const void *in, size_t length);
     int (*end)(void *run, uint8_t *out);
     int (*verify)(void *run, const void *tag, size_t length);
     void (*wipe)(void *run);
     size_t (*size_of)(const void *run);
-    int (*many)(uint8_t *out, size_t size, const messages *m, const Py_buffer *key, const Py_buffer *salt,
-                const Py_buffer *person);
+    int (*many)(uint8_t *out, size_t size, const messages *m, const Py_buffer *key,
+                const Py_buffer *salt, const Py_buffer *person);
 } family;
 
-#define FAMILY(f, NAME, offset)                                                                              \
-    static int f##_init(void *S, size_t o, const Py_buffer *k, const Py_buffer *s, const Py_buffer *p,       \
-                        const vulfsjor_tree *t) {                                                            \
-        return vulfsjor_##f##_init_tree(S, o, TEXT(k), TEXT(s), TEXT(p), t);                                 \
-    }                                                                                                        \
-    static int f##_last(void *S) { return vulfsjor_##f##_set_last_node(S, 1); }                              \
-    static int f##_update(void *S, const void *in, size_t n) { return vulfsjor_##f##_update(S, in, n); }     \
-    static int f##_end(void *S, uint8_t *o) { return vulfsjor_##f##_final(S, o, VULFSJOR_##NAME##_OUTBYTES); } \
-    static int f##_verify(void *S, const void *t, size_t n) { return vulfsjor_##f##_verify(S, t, n); }       \
-    static void f##_wipe(void *S) { vulfsjor_##f##_wipe(S); }                                                \
-    static size_t f##_size(const void *S) { return vulfsjor_##f##_digest_size(S); }                          \
-    static int f##_many(uint8_t *out, size_t o, const messages *m, const Py_buffer *k, const Py_buffer *s,   \
-                        const Py_buffer *p) {                                                                \
-        return vulfsjor_##f##_many(out, o, m->texts, (size_t)m->count, TEXT(k), TEXT(s), TEXT(p));           \
-    }                                                                                                        \
-    static const family f = {                                                                                \
-        #f,           "|O$iy*y*y*iiOOiipp:" #f,      VULFSJOR_##NAME##_BLOCKBYTES,    VULFSJOR_##NAME##_OUTBYTES, \
-        VULFSJOR_##NAME##_KEYBYTES, VULFSJOR_##NAME##_SALTBYTES, VULFSJOR_##NAME##_PERSONALBYTES,            \
-        sizeof(vulfsjor_##f##_state), offset,                                                                \
-        f##_init,     f##_last,     f##_update,      f##_end,                                                \
-        f##_verify,   f##_wipe,     f##_size,        f##_many};
+#define FAMILY(f, NAME, offset)                                                                    \
+    static int f##_init(void *S, size_t o, const Py_buffer *k, const Py_buffer *s,                 \
+                        const Py_buffer *p, const vulfsjor_tree *t) {                              \
+        return vulfsjor_##f##_init_tree(S, o, TEXT(k), TEXT(s), TEXT(p), t);                       \
+    }                                                                                              \
+    static int f##_last(void *S) { return vulfsjor_##f##_set_last_node(S, 1); }                    \
+    static int f##_update(void *S, const void *in, size_t n) {                                     \
+        return vulfsjor_##f##_update(S, in, n);                                                    \
+    }                                                                                              \
+    static int f##_end(void *S, uint8_t *o) {                                                      \
+        return vulfsjor_##f##_final(S, o, VULFSJOR_##NAME##_OUTBYTES);                             \
+    }                                                                                              \
+    static int f##_verify(void *S, const void *t, size_t n) {                                      \
+        return vulfsjor_##f##_verify(S, t, n);                                                     \
+    }                                                                                              \
+    static void f##_wipe(void *S) { vulfsjor_##f##_wipe(S); }                                      \
+    static size_t f##_size(const void *S) { return vulfsjor_##f##_digest_size(S); }                \
+    static int f##_many(uint8_t *out, size_t o, const messages *m, const Py_buffer *k,             \
+                        const Py_buffer *s, const Py_buffer *p) {                                  \
+        return vulfsjor_##f##_many(out, o, m->texts, (size_t)m->count, TEXT(k), TEXT(s), TEXT(p)); \
+    }                                                                                              \
+    static const family f = {                                                                      \
+        #f, "|O$iy*y*y*iiOOiipp:" #f,                                                              \
+        VULFSJOR_##NAME##_BLOCKBYTES, VULFSJOR_##NAME##_OUTBYTES, VULFSJOR_##NAME##_KEYBYTES,      \
+        VULFSJOR_##NAME##_SALTBYTES, VULFSJOR_##NAME##_PERSONALBYTES,                              \
+        sizeof(vulfsjor_##f##_state), offset,                                                      \
+        f##_init, f##_last, f##_update, f##_end, f##_verify, f##_wipe, f##_size, f##_many};
 FAMILY(blake2b, BLAKE2B, UINT64_MAX)
 FAMILY(blake2s, BLAKE2S, ((uint64_t)1 << 48) - 1)
 
@@ -166,8 +172,8 @@ static int take(hash *self, PyObject *data) {
     return status;
 }
 
-/* A zeroed object. The types have no subclasses, so this and PyObject_Free are their allocator, called without
- * a search for the slot. */
+/* A zeroed object. The types have no subclasses, so this and PyObject_Free are their allocator,
+ * called without a search for the slot. */
 static hash *empty(PyTypeObject *type, const family *f) {
     hash *self = (hash *)PyType_GenericAlloc(type, 0);
     if (self) self->f = f;
@@ -186,12 +192,13 @@ typedef struct given {
 static int check_given(given *g, const family *f) {
     uint64_t leaf_size;
     if (number_of(g->leaf, &leaf_size) || number_of(g->offset, &g->tree.node_offset) ||
-        check(g->size, 1, f->out, "digest_size", " bytes") || check_text(&g->salt, f->salt, "salt") ||
-        check_text(&g->person, f->person, "person") || check(g->fanout, 0, 255, "fanout", "") ||
-        check(g->depth, 1, 255, "depth", "") || check_most(leaf_size, UINT32_MAX, "leaf_size") ||
+        check(g->size, 1, f->out, "digest_size", " bytes") ||
+        check_text(&g->salt, f->salt, "salt") || check_text(&g->person, f->person, "person") ||
+        check(g->fanout, 0, 255, "fanout", "") || check(g->depth, 1, 255, "depth", "") ||
+        check_most(leaf_size, UINT32_MAX, "leaf_size") ||
         check_most(g->tree.node_offset, f->last_offset, "node_offset") ||
-        check(g->node_depth, 0, 255, "node_depth", "") || check(g->inner, 0, f->out, "inner_size", "") ||
-        check_text(&g->key, f->key, "key"))
+        check(g->node_depth, 0, 255, "node_depth", "") ||
+        check(g->inner, 0, f->out, "inner_size", "") || check_text(&g->key, f->key, "key"))
         return -1;
     g->tree.leaf_length = (uint32_t)leaf_size;
     g->tree.fanout = (uint8_t)g->fanout;
@@ -218,9 +225,10 @@ static PyObject *make(PyTypeObject *type, PyObject *args, PyObject *words, const
     hash *self = NULL;
     if (!words && PyTuple_Size(args) <= 1) { /* nothing but data, which needs no search for words */
         g.data = PyTuple_Size(args) ? PyTuple_GetItem(args, 0) : NULL;
-    } else if (!PyArg_ParseTupleAndKeywords(args, words, f->arguments, names, &g.data, &g.size, &g.key, &g.salt,
-                                            &g.person, &g.fanout, &g.depth, &g.leaf, &g.offset, &g.node_depth,
-                                            &g.inner, &g.last, &g.secure)) {
+    } else if (!PyArg_ParseTupleAndKeywords(args, words, f->arguments, names, &g.data, &g.size,
+                                            &g.key, &g.salt, &g.person, &g.fanout, &g.depth,
+                                            &g.leaf, &g.offset, &g.node_depth, &g.inner, &g.last,
+                                            &g.secure)) {
         return NULL;
     }
     if (!check_given(&g, f)) self = empty(type, f);
@@ -329,13 +337,16 @@ static PyObject *size_of(PyObject *self, void *none) {
 
 static PyMethodDef methods[] = {
     {"copy", copy, METH_NOARGS, "copy($self, /)\n--\n\nReturn a copy of the hash object."},
-    {"digest", digest, METH_NOARGS, "digest($self, /)\n--\n\nReturn the digest value as a bytes object."},
+    {"digest", digest, METH_NOARGS,
+     "digest($self, /)\n--\n\nReturn the digest value as a bytes object."},
     {"hexdigest", hexdigest, METH_NOARGS,
      "hexdigest($self, /)\n--\n\nReturn the digest value as a string of hexadecimal digits."},
     {"update", update, METH_O,
-     "update($self, data, /)\n--\n\nUpdate this hash object's state with the provided bytes-like object."},
+     "update($self, data, /)\n--\n\n"
+     "Update this hash object's state with the provided bytes-like object."},
     {"verify", verify, METH_O,
-     "verify($self, tag, /)\n--\n\nReturn whether the tag is the whole digest of all input so far.\n\n"
+     "verify($self, tag, /)\n--\n\n"
+     "Return whether the tag is the whole digest of all input so far.\n\n"
      "All bytes of a tag of the digest's length are compared, wherever they differ, so use it for\n"
      "message authentication codes."},
     {NULL, NULL, 0, NULL}};
@@ -354,7 +365,8 @@ static void let_go(messages *m) {
     PyMem_Free(m->texts);
 }
 
-/* Takes hold of the objects of a tuple. 0, or -1 with an exception; let_go follows in either case. */
+/* Takes hold of the objects of a tuple. 0, or -1 with an exception. let_go follows in either
+ * case. */
 static int hold(messages *m, PyObject *tuple) {
     Py_ssize_t count = PyTuple_Size(tuple);
     m->count = 0;
@@ -409,10 +421,12 @@ static PyObject *many(PyObject *args, PyObject *words, const family *f, const ch
     static char *names[] = {"", "digest_size", "key", "salt", "person", NULL};
     given g = {.size = f->out};
     PyObject *tuple = NULL, *list = NULL;
-    if (!PyArg_ParseTupleAndKeywords(args, words, arguments, names, &g.data, &g.size, &g.key, &g.salt, &g.person))
+    if (!PyArg_ParseTupleAndKeywords(args, words, arguments, names, &g.data, &g.size, &g.key,
+                                     &g.salt, &g.person))
         return NULL;
-    if (!check(g.size, 1, f->out, "digest_size", " bytes") && !check_text(&g.salt, f->salt, "salt") &&
-        !check_text(&g.person, f->person, "person") && !check_text(&g.key, f->key, "key"))
+    if (!check(g.size, 1, f->out, "digest_size", " bytes") &&
+        !check_text(&g.salt, f->salt, "salt") && !check_text(&g.person, f->person, "person") &&
+        !check_text(&g.key, f->key, "key"))
         tuple = PySequence_Tuple(g.data);
     if (tuple) list = digests_of_tuple(tuple, &g, f);
     Py_XDECREF(tuple);
@@ -434,32 +448,36 @@ static PyObject *many_s(PyObject *module, PyObject *args, PyObject *words) {
 
 /* ---- The module */
 
-#define MANY(f, size, lanes)                                                                                   \
-    #f "_many(messages, /, *, digest_size=" #size ", key=b'', salt=b'', person=b'')\n--\n\n"                   \
-       "Return a list of the digests of the messages, each under these parameters.\n\n"                       \
-       "Messages in a row of the same length are hashed " lanes " in parallel, which is faster\n"             \
+#define MANY(f, size, lanes)                                                                       \
+    #f "_many(messages, /, *, digest_size=" #size ", key=b'', salt=b'', person=b'')\n--\n\n"       \
+       "Return a list of the digests of the messages, each under these parameters.\n\n"            \
+       "Messages in a row of the same length are hashed " lanes " in parallel, which is faster\n"  \
        "on a processor with AVX2."
 static PyMethodDef functions[] = {
     {"blake2b_many", WITH_WORDS(many_b), MANY(blake2b, 64, "four")},
     {"blake2s_many", WITH_WORDS(many_s), MANY(blake2s, 32, "eight")},
     {NULL, NULL, 0, NULL}};
 
-#define DOC(f, size, longest)                                                                                 \
-    #f "(data=b'', /, *, digest_size=" #size ", key=b'', salt=b'', person=b'', fanout=1, depth=1,\n"           \
-       "        leaf_size=0, node_offset=0, node_depth=0, inner_size=0, last_node=False,\n"                   \
-       "        usedforsecurity=True)\n--\n\nReturn a new hash object.\n\n"                                   \
-       "digest_size is 1 to " #size ", a key has up to " #size " bytes, salt and person up to " #longest " each."
-static PyType_Slot slots_b[] = {{Py_tp_new, make_b},        {Py_tp_dealloc, end_of_life},       {Py_tp_methods, methods},
-                                {Py_tp_getset, fields},     {Py_tp_doc, DOC(blake2b, 64, 16)}, {0, NULL}};
-static PyType_Slot slots_s[] = {{Py_tp_new, make_s},        {Py_tp_dealloc, end_of_life},      {Py_tp_methods, methods},
-                                {Py_tp_getset, fields},     {Py_tp_doc, DOC(blake2s, 32, 8)}, {0, NULL}};
+#define DOC(f, size, longest)                                                                      \
+    #f "(data=b'', /, *, digest_size=" #size ", key=b'', salt=b'', person=b'', fanout=1,"          \
+       " depth=1,\n"                                                                               \
+       "        leaf_size=0, node_offset=0, node_depth=0, inner_size=0, last_node=False,\n"        \
+       "        usedforsecurity=True)\n--\n\nReturn a new hash object.\n\n"                        \
+       "digest_size is 1 to " #size ", a key has up to " #size " bytes, salt and person up to "    \
+       #longest " each."
+static PyType_Slot slots_b[] = {
+    {Py_tp_new, make_b},    {Py_tp_dealloc, end_of_life},      {Py_tp_methods, methods},
+    {Py_tp_getset, fields}, {Py_tp_doc, DOC(blake2b, 64, 16)}, {0, NULL}};
+static PyType_Slot slots_s[] = {
+    {Py_tp_new, make_s},    {Py_tp_dealloc, end_of_life},     {Py_tp_methods, methods},
+    {Py_tp_getset, fields}, {Py_tp_doc, DOC(blake2s, 32, 8)}, {0, NULL}};
 /* An object has room for the state of its family only. */
 #define SIZE(f) (int)(offsetof(hash, run) + sizeof(vulfsjor_##f##_state))
 static PyType_Spec spec_b = {"vulfsjor.blake2b", SIZE(blake2b), 0, Py_TPFLAGS_DEFAULT, slots_b};
 static PyType_Spec spec_s = {"vulfsjor.blake2s", SIZE(blake2s), 0, Py_TPFLAGS_DEFAULT, slots_s};
 
-/* The class of both classes, so that no program changes them. (The limited API can't set the flag of immutable
- * types on one that has constants.) */
+/* The class of both classes, so that no program changes them. (The limited API can't set the flag
+ * of immutable types on one that has constants.) */
 static int refuse(PyObject *type, PyObject *name, PyObject *value) {
     (void)type, (void)value;
     PyErr_Format(PyExc_TypeError, "cannot set %R attribute of immutable type", name);
@@ -482,10 +500,11 @@ static int set_number(PyObject *at, const char *prefix, const char *name, long n
 }
 
 static int set_numbers(PyObject *at, const char *prefix, const family *f) {
-    return set_number(at, prefix, "SALT_SIZE", f->salt) || set_number(at, prefix, "PERSON_SIZE", f->person) ||
-                   set_number(at, prefix, "MAX_KEY_SIZE", f->key) || set_number(at, prefix, "MAX_DIGEST_SIZE", f->out)
-               ? -1
-               : 0;
+    int failed = set_number(at, prefix, "SALT_SIZE", f->salt) ||
+                 set_number(at, prefix, "PERSON_SIZE", f->person) ||
+                 set_number(at, prefix, "MAX_KEY_SIZE", f->key) ||
+                 set_number(at, prefix, "MAX_DIGEST_SIZE", f->out);
+    return failed ? -1 : 0;
 }
 
 static int add_family(PyObject *module, PyObject *type_of_types, PyType_Spec *spec, const family *f,
@@ -497,7 +516,8 @@ static int add_family(PyObject *module, PyObject *type_of_types, PyType_Spec *sp
     if (!status) {
         Py_INCREF(type_of_types); /* the class before, `type`, is static, and counts no instances */
         Py_SET_TYPE(type, (PyTypeObject *)type_of_types);
-        status = PyModule_AddObjectRef(module, f->name, type) || set_numbers(module, prefix, f) ? -1 : 0;
+        status =
+            PyModule_AddObjectRef(module, f->name, type) || set_numbers(module, prefix, f) ? -1 : 0;
     }
     Py_DECREF(type);
     return status;
@@ -506,18 +526,21 @@ static int add_family(PyObject *module, PyObject *type_of_types, PyType_Spec *sp
 /* The version of the library that is inside. */
 static int add_version(PyObject *module) {
     uint32_t version = vulfsjor_version();
-    PyObject *text = PyUnicode_FromFormat("%u.%u.%u", version >> 16, version >> 8 & 255, version & 255);
+    PyObject *text =
+        PyUnicode_FromFormat("%u.%u.%u", version >> 16, version >> 8 & 255, version & 255);
     int status = text ? PyModule_AddObjectRef(module, "__version__", text) : -1;
     Py_XDECREF(text);
     return status;
 }
 
-/* A processor that the library does not run on is refused here, where its first call would end the program. */
+/* A processor that the library does not run on is refused here, where its first call would end the
+ * program. */
 static int ask_processor(PyObject *module) {
     (void)module;
 #ifdef __x86_64__
     if (!__builtin_cpu_supports("sse4.2") || !__builtin_cpu_supports("popcnt")) {
-        PyErr_SetString(PyExc_ImportError, "vulfsjor needs a processor of x86-64-v2, with SSE4.2 and POPCNT");
+        PyErr_SetString(PyExc_ImportError,
+                        "vulfsjor needs a processor of x86-64-v2, with SSE4.2 and POPCNT");
         return -1;
     }
 #endif
@@ -526,19 +549,19 @@ static int ask_processor(PyObject *module) {
 
 static int fill(PyObject *module) {
     PyObject *types = PyType_FromSpecWithBases(&spec_of_types, (PyObject *)&PyType_Type);
-    int status;
+    int failed;
     if (!types) return -1;
-    status = add_family(module, types, &spec_b, &blake2b, "BLAKE2B_") ||
-                     add_family(module, types, &spec_s, &blake2s, "BLAKE2S_") || add_version(module) ||
-                     PyModule_AddFunctions(module, tree_functions) || add_tree_types(module)
-                 ? -1
-                 : 0;
+    failed = add_family(module, types, &spec_b, &blake2b, "BLAKE2B_") ||
+             add_family(module, types, &spec_s, &blake2s, "BLAKE2S_") || add_version(module) ||
+             PyModule_AddFunctions(module, tree_functions) || add_tree_types(module);
     Py_DECREF(types);
-    return status;
+    return failed ? -1 : 0;
 }
 
-static PyModuleDef_Slot module_slots[] = {{Py_mod_exec, ask_processor}, {Py_mod_exec, fill}, {0, NULL}};
-static PyModuleDef module = {PyModuleDef_HEAD_INIT, "vulfsjor._library", "The functions of the package vulfsjor, in C.",
-                             0, functions, module_slots, NULL, NULL, NULL};
+static PyModuleDef_Slot module_slots[] = {
+    {Py_mod_exec, ask_processor}, {Py_mod_exec, fill}, {0, NULL}};
+static PyModuleDef module = {
+    PyModuleDef_HEAD_INIT, "vulfsjor._library", "The functions of the package vulfsjor, in C.", 0,
+    functions, module_slots, NULL, NULL, NULL};
 
 PyMODINIT_FUNC PyInit__library(void) { return PyModuleDef_Init(&module); }

@@ -1,5 +1,5 @@
-/* What library.c and trees.c share. Both are C, which no proof covers. They keep to the limited API of
- * Python 3.11, so that one compiled module serves every later version of CPython. */
+/* What library.c and trees.c share. Both are C, which no proof covers. They keep to the limited API
+ * of Python 3.11, so that one compiled module serves every later version of CPython. */
 #ifndef VULFSJOR_LIBRARY_H
 #define VULFSJOR_LIBRARY_H
 
@@ -39,8 +39,8 @@ void release(Py_buffer *text);
 /* Sets the exception and returns NULL. */
 PyObject *refused(PyObject *exception, const char *why);
 
-/* ---- Locks, made when they are first needed. A lock is held while a call works on a state, since an
- * update of many bytes lets other threads run. */
+/* ---- Locks, made when they are first needed. A lock is held while a call works on a state, since
+ * an update of many bytes lets other threads run. */
 
 void take_lock(PyThread_type_lock lock);
 void leave_lock(PyThread_type_lock lock);

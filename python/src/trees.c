@@ -1,5 +1,5 @@
-/* The tree of two levels over BLAKE2b (the BLAKE2 document, section 2.10) for Python: its root in one call,
- * in pieces, and in parts. */
+/* The tree of two levels over BLAKE2b (the BLAKE2 document, section 2.10) for Python: its root in
+ * one call, in pieces, and in parts. */
 #include "library.h"
 
 /* What a tree is made with, and the data of the call. */
@@ -13,7 +13,8 @@ typedef struct given {
 /* Checks the parameters, in the order of hashlib, and fills in the length of the leaves. */
 static int check_given(given *g) {
     uint64_t leaf_size;
-    if (number_of(g->leaf, &leaf_size) || check(g->size, 1, VULFSJOR_BLAKE2B_OUTBYTES, "digest_size", " bytes") ||
+    if (number_of(g->leaf, &leaf_size) ||
+        check(g->size, 1, VULFSJOR_BLAKE2B_OUTBYTES, "digest_size", " bytes") ||
         check_text(&g->salt, VULFSJOR_BLAKE2B_SALTBYTES, "salt") ||
         check_text(&g->person, VULFSJOR_BLAKE2B_PERSONALBYTES, "person") ||
         check_most(leaf_size, UINT32_MAX, "leaf_size"))
@@ -37,7 +38,8 @@ static PyObject *root_of(const given *g) {
     int status;
     if (view_of(g->data, &view)) return NULL;
     Py_BEGIN_ALLOW_THREADS
-    status = vulfsjor_tree_root(out, (size_t)g->size, TEXT(&view), TEXT(&g->salt), TEXT(&g->person), g->leaf_length);
+    status = vulfsjor_tree_root(out, (size_t)g->size, TEXT(&view), TEXT(&g->salt), TEXT(&g->person),
+                                g->leaf_length);
     Py_END_ALLOW_THREADS
     PyBuffer_Release(&view);
     if (status) return refused(PyExc_OverflowError, "2^58 bytes or more");
@@ -49,8 +51,8 @@ static PyObject *tree_root(PyObject *module, PyObject *args, PyObject *words) {
     given g = {.size = VULFSJOR_BLAKE2B_OUTBYTES};
     PyObject *root = NULL;
     (void)module;
-    if (!PyArg_ParseTupleAndKeywords(args, words, "OO|$iy*y*:tree_root", names, &g.data, &g.leaf, &g.size, &g.salt,
-                                     &g.person))
+    if (!PyArg_ParseTupleAndKeywords(args, words, "OO|$iy*y*:tree_root", names, &g.data, &g.leaf,
+                                     &g.size, &g.salt, &g.person))
         return NULL;
     if (!check_given(&g)) root = root_of(&g);
     release_given(&g);
@@ -66,7 +68,8 @@ static PyObject *digests_of(const given *g, const Py_buffer *view, uint64_t firs
     uint8_t *out;
     int status;
     if (!view->len && (first || !ends))
-        return refused(PyExc_ValueError, "data must not be empty, unless it is all of an empty message");
+        return refused(PyExc_ValueError,
+                       "data must not be empty, unless it is all of an empty message");
     if (!ends && (uint64_t)view->len % g->leaf_length)
         return refused(PyExc_ValueError, "data must be whole leaves, unless it ends the message");
     if (count > PY_SSIZE_T_MAX / 64) return PyErr_NoMemory();
@@ -74,8 +77,8 @@ static PyObject *digests_of(const given *g, const Py_buffer *view, uint64_t firs
     if (!digests) return NULL;
     out = (uint8_t *)PyBytes_AsString(digests);
     Py_BEGIN_ALLOW_THREADS
-    status = vulfsjor_tree_leaves(out, (size_t)count * 64, first, ends, TEXT(view), TEXT(&g->salt), TEXT(&g->person),
-                                  g->leaf_length);
+    status = vulfsjor_tree_leaves(out, (size_t)count * 64, first, ends, TEXT(view), TEXT(&g->salt),
+                                  TEXT(&g->person), g->leaf_length);
     Py_END_ALLOW_THREADS
     if (!status) return digests;
     Py_DECREF(digests);
@@ -90,11 +93,12 @@ static PyObject *tree_leaves(PyObject *module, PyObject *args, PyObject *words) 
     uint64_t first_leaf;
     int ends = -1;
     (void)module;
-    if (!PyArg_ParseTupleAndKeywords(args, words, "OO|$Opy*y*:tree_leaves", names, &g.data, &g.leaf, &first, &ends,
-                                     &g.salt, &g.person))
+    if (!PyArg_ParseTupleAndKeywords(args, words, "OO|$Opy*y*:tree_leaves", names, &g.data, &g.leaf,
+                                     &first, &ends, &g.salt, &g.person))
         return NULL;
     if (!first || ends < 0)
-        PyErr_SetString(PyExc_TypeError, "tree_leaves() requires the keyword arguments first and ends");
+        PyErr_SetString(PyExc_TypeError,
+                        "tree_leaves() requires the keyword arguments first and ends");
     else if (!check_given(&g) && !number_of(first, &first_leaf) && !view_of(g.data, &view)) {
         digests = digests_of(&g, &view, first_leaf, ends);
         PyBuffer_Release(&view);
@@ -109,11 +113,14 @@ static PyObject *root_over(const given *g) {
     int status;
     if (view_of(g->data, &view)) return NULL;
     Py_BEGIN_ALLOW_THREADS
-    status = vulfsjor_tree_root_of_leaves(out, (size_t)g->size, vulfsjor_text(view.buf), (size_t)view.len,
-                                          TEXT(&g->salt), TEXT(&g->person), g->leaf_length);
+    status = vulfsjor_tree_root_of_leaves(out, (size_t)g->size, vulfsjor_text(view.buf),
+                                          (size_t)view.len, TEXT(&g->salt), TEXT(&g->person),
+                                          g->leaf_length);
     Py_END_ALLOW_THREADS
     PyBuffer_Release(&view);
-    if (status) return refused(PyExc_ValueError, "digests must have 64 bytes for each leaf, and at least one leaf");
+    if (status)
+        return refused(PyExc_ValueError,
+                       "digests must have 64 bytes for each leaf, and at least one leaf");
     return PyBytes_FromStringAndSize((const char *)out, g->size);
 }
 
@@ -122,8 +129,8 @@ static PyObject *tree_root_of_leaves(PyObject *module, PyObject *args, PyObject 
     given g = {.size = VULFSJOR_BLAKE2B_OUTBYTES};
     PyObject *root = NULL;
     (void)module;
-    if (!PyArg_ParseTupleAndKeywords(args, words, "OO|$iy*y*:tree_root_of_leaves", names, &g.data, &g.leaf, &g.size,
-                                     &g.salt, &g.person))
+    if (!PyArg_ParseTupleAndKeywords(args, words, "OO|$iy*y*:tree_root_of_leaves", names, &g.data,
+                                     &g.leaf, &g.size, &g.salt, &g.person))
         return NULL;
     if (!check_given(&g)) root = root_over(&g);
     release_given(&g);
@@ -135,7 +142,8 @@ static PyObject *tree_leaf_count(PyObject *module, PyObject *args, PyObject *wor
     given g = {.size = VULFSJOR_BLAKE2B_OUTBYTES};
     uint64_t length;
     (void)module;
-    if (!PyArg_ParseTupleAndKeywords(args, words, "OO:tree_leaf_count", names, &g.data, &g.leaf)) return NULL;
+    if (!PyArg_ParseTupleAndKeywords(args, words, "OO:tree_leaf_count", names, &g.data, &g.leaf))
+        return NULL;
     if (number_of(g.data, &length) || check_given(&g)) return NULL;
     return PyLong_FromUnsignedLongLong(vulfsjor_tree_leaf_count(length, g.leaf_length));
 }
@@ -173,11 +181,13 @@ static void end_of_plain(PyObject *object) {
 static PyType_Slot plain_slots[] = {
     {Py_bf_getbuffer, plain_buffer}, {Py_tp_dealloc, end_of_plain}, {0, NULL}};
 static PyType_Spec plain_spec = {"vulfsjor._PlainBytes", sizeof(plain), 0,
-                                 Py_TPFLAGS_DEFAULT | Py_TPFLAGS_DISALLOW_INSTANTIATION, plain_slots};
+                                 Py_TPFLAGS_DEFAULT | Py_TPFLAGS_DISALLOW_INSTANTIATION,
+                                 plain_slots};
 
 PyMethodDef tree_functions[] = {
     {"plain_bytes", make_plain, METH_O,
-     "plain_bytes($module, data, /)\n--\n\nReturn an object whose buffer has the bytes of the data, without format."},
+     "plain_bytes($module, data, /)\n--\n\n"
+     "Return an object whose buffer has the bytes of the data, without format."},
     {"tree_leaf_count", WITH_WORDS(tree_leaf_count),
      "tree_leaf_count(length, leaf_size)\n--\n\n"
      "Return the number of leaves of a message of length bytes, which is at least one."},
@@ -222,11 +232,13 @@ static PyObject *make(PyTypeObject *type, PyObject *args, PyObject *words) {
     static char *names[] = {"leaf_size", "digest_size", "salt", "person", NULL};
     given g = {.size = VULFSJOR_BLAKE2B_OUTBYTES};
     tree *self = NULL;
-    if (!PyArg_ParseTupleAndKeywords(args, words, "O|$iy*y*:TreeHasher", names, &g.leaf, &g.size, &g.salt, &g.person))
+    if (!PyArg_ParseTupleAndKeywords(args, words, "O|$iy*y*:TreeHasher", names, &g.leaf, &g.size,
+                                     &g.salt, &g.person))
         return NULL;
     if (!check_given(&g) && (self = empty(type))) {
         self->leaf_size = g.leaf_length;
-        vulfsjor_tree_init(&self->run, (size_t)g.size, TEXT(&g.salt), TEXT(&g.person), g.leaf_length);
+        vulfsjor_tree_init(&self->run, (size_t)g.size, TEXT(&g.salt), TEXT(&g.person),
+                           g.leaf_length);
     }
     release_given(&g);
     return (PyObject *)self;
@@ -280,25 +292,30 @@ static int is_at_boundary(const vulfsjor_tree_state *run) {
     return vulfsjor_tree_count(run) % vulfsjor_tree_leaf_length(run) == 0;
 }
 
-static PyObject *not_at_boundary(void) { return refused(PyExc_ValueError, "the hasher is not at a leaf boundary"); }
+static PyObject *not_at_boundary(void) {
+    return refused(PyExc_ValueError, "the hasher is not at a leaf boundary");
+}
 
 /* Why the leaves are refused that were given by their digests. */
 static PyObject *refuse_leaves(tree *self, const Py_buffer *digests, const Py_buffer *view) {
     vulfsjor_tree_state copied;
     int at_boundary;
-    if (digests->len % 64) return refused(PyExc_ValueError, "digests must have 64 bytes for each leaf");
+    if (digests->len % 64)
+        return refused(PyExc_ValueError, "digests must have 64 bytes for each leaf");
     if (digests->len && !view->len)
         return refused(PyExc_ValueError, "data must follow the digests, at least one byte of it");
     copy_state(self, &copied);
     at_boundary = is_at_boundary(&copied);
     vulfsjor_tree_wipe(&copied);
-    return at_boundary || !digests->len ? refused(PyExc_OverflowError, "2^58 bytes or more") : not_at_boundary();
+    return at_boundary || !digests->len ? refused(PyExc_OverflowError, "2^58 bytes or more")
+                                        : not_at_boundary();
 }
 
 static PyObject *update_leaves(PyObject *object, PyObject *args) {
     PyObject *given_digests, *data, *done = NULL;
     Py_buffer digests, view;
-    if (!PyArg_ParseTuple(args, "OO:update_leaves", &given_digests, &data) || view_of(given_digests, &digests))
+    if (!PyArg_ParseTuple(args, "OO:update_leaves", &given_digests, &data) ||
+        view_of(given_digests, &digests))
         return NULL;
     if (!view_of(data, &view)) {
         if (absorb((tree *)object, &digests, &view)) refuse_leaves((tree *)object, &digests, &view);
@@ -311,7 +328,8 @@ static PyObject *update_leaves(PyObject *object, PyObject *args) {
 
 /* The digests of leaves that follow those of this state, which is a copy. */
 static PyObject *hash_next(const vulfsjor_tree_state *run, uint64_t skip, const Py_buffer *view) {
-    uint64_t leaf_length = vulfsjor_tree_leaf_length(run), count = (uint64_t)view->len / leaf_length;
+    uint64_t leaf_length = vulfsjor_tree_leaf_length(run);
+    uint64_t count = (uint64_t)view->len / leaf_length;
     PyObject *digests;
     uint8_t *out;
     int status;
@@ -346,7 +364,8 @@ static PyObject *next_leaves(PyObject *object, PyObject *args, PyObject *words) 
     return digests;
 }
 
-/* Takes over the state of another hasher, if this one still has this count: an update by threads worked on a copy. */
+/* Takes over the state of another hasher, if this one still has this count: an update by threads
+ * worked on a copy. */
 static PyObject *replace(PyObject *object, PyObject *args) {
     tree *self = (tree *)object, *other;
     unsigned long long count;
@@ -356,7 +375,8 @@ static PyObject *replace(PyObject *object, PyObject *args) {
     is_same = vulfsjor_tree_count(&self->run) == count;
     if (is_same) self->run = other->run;
     leave_lock(self->lock);
-    if (!is_same) return refused(PyExc_RuntimeError, "another thread has updated the hasher meanwhile");
+    if (!is_same)
+        return refused(PyExc_RuntimeError, "another thread has updated the hasher meanwhile");
     Py_RETURN_NONE;
 }
 
@@ -408,7 +428,8 @@ static PyObject *count(PyObject *self, void *none) {
 }
 
 static PyMethodDef methods[] = {
-    {"_replace", replace, METH_VARARGS, "_replace($self, other, count, /)\n--\n\nTake over the state of a copy."},
+    {"_replace", replace, METH_VARARGS,
+     "_replace($self, other, count, /)\n--\n\nTake over the state of a copy."},
     {"next_leaves", WITH_WORDS(next_leaves),
      "next_leaves($self, data, /, skip=0)\n--\n\n"
      "Return the digests of whole leaves that follow all data so far, 64 bytes each, as bytes.\n\n"
@@ -422,19 +443,22 @@ static PyMethodDef methods[] = {
      "The digests are those of next_leaves from skip 0 on, in order. At least one byte of data\n"
      "must follow them, since the last leaf of a message cannot be given by its digest."},
     {"copy", copy, METH_NOARGS, "copy($self, /)\n--\n\nReturn a copy of the hasher."},
-    {"digest", digest, METH_NOARGS, "digest($self, /)\n--\n\nReturn the root of all data so far, as bytes."},
+    {"digest", digest, METH_NOARGS,
+     "digest($self, /)\n--\n\nReturn the root of all data so far, as bytes."},
     {"hexdigest", hexdigest, METH_NOARGS,
-     "hexdigest($self, /)\n--\n\nReturn the root of all data so far, as a string of hexadecimal digits."},
+     "hexdigest($self, /)\n--\n\n"
+     "Return the root of all data so far, as a string of hexadecimal digits."},
     {"update", update, METH_O,
      "update($self, data, /)\n--\n\nAbsorb the data after all earlier data.\n\n"
      "Pieces of many leaves are fastest, since whole leaves that more data follows are hashed\n"
      "four at a time."},
     {NULL, NULL, 0, NULL}};
 
-static PyGetSetDef fields[] = {{"count", count, NULL, "The number of bytes of all data so far.", NULL},
-                               {"digest_size", digest_size, NULL, "The number of bytes of the root.", NULL},
-                               {"leaf_size", leaf_size, NULL, "The number of bytes of a leaf.", NULL},
-                               {NULL, NULL, NULL, NULL, NULL}};
+static PyGetSetDef fields[] = {
+    {"count", count, NULL, "The number of bytes of all data so far.", NULL},
+    {"digest_size", digest_size, NULL, "The number of bytes of the root.", NULL},
+    {"leaf_size", leaf_size, NULL, "The number of bytes of a leaf.", NULL},
+    {NULL, NULL, NULL, NULL, NULL}};
 
 static PyType_Slot slots[] = {
     {Py_tp_new, make},
@@ -444,7 +468,8 @@ static PyType_Slot slots[] = {
     {Py_tp_doc, "TreeHasher(leaf_size, *, digest_size=64, salt=b'', person=b'')\n--\n\n"
                 "The tree of tree_root over data that comes in pieces."},
     {0, NULL}};
-static PyType_Spec spec = {"vulfsjor.TreeHasher", sizeof(tree), 0, Py_TPFLAGS_DEFAULT | Py_TPFLAGS_BASETYPE, slots};
+static PyType_Spec spec = {"vulfsjor.TreeHasher", sizeof(tree), 0,
+                           Py_TPFLAGS_DEFAULT | Py_TPFLAGS_BASETYPE, slots};
 
 static int add_type(PyObject *module, PyType_Spec *spec, const char *name) {
     PyObject *type = PyType_FromModuleAndSpec(module, spec, NULL);
@@ -454,5 +479,7 @@ static int add_type(PyObject *module, PyType_Spec *spec, const char *name) {
 }
 
 int add_tree_types(PyObject *module) {
-    return add_type(module, &spec, "TreeHasher") || add_type(module, &plain_spec, "_PlainBytes") ? -1 : 0;
+    int failed =
+        add_type(module, &spec, "TreeHasher") || add_type(module, &plain_spec, "_PlainBytes");
+    return failed ? -1 : 0;
 }
