@@ -64,7 +64,8 @@ is_refreshed() {
 
 # Without the repository, or where no file may be written, the script says so.
 refuse_to_copy() {
-    local error="^setup.py: copying what the package shares with c/ and dist/ to python/src failed: "
+    local error="^setup.py: copying what the package shares with c/ and dist/ to python/src"
+    error="$error failed: "
     copy_repository alone && rm -r ../c && ! "$1" setup.py build 2>../said &&
         grep -q "$error.*No such file or directory: '../c/include/blake2_c.h'$" ../said &&
         cp -r "$top/c" .. && mkdir src/choose.c && ! "$1" setup.py build 2>../said && grep -q "$error.*src/choose.c" ../said

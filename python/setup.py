@@ -43,8 +43,8 @@ if not pathlib.Path("PKG-INFO").exists():
     try:
         refresh_copies()
     except OSError as error:
-        sys.exit("setup.py: copying what the package shares with c/ and dist/ to python/src failed: "
-                 f"{error}")
+        sys.exit("setup.py: copying what the package shares with c/ and dist/ to python/src "
+                 f"failed: {error}")
 
 
 class BuildWithAssembly(build_ext):

@@ -3,21 +3,21 @@
 
 usage: dask_root.py [--leaf BYTES] [--scheduler ADDRESS] FILE
 
-FILE is a path that every worker can open, on a file system that all of them share. BYTES is the leaf
-length, 65,536 without the option. Without ADDRESS a cluster with one worker process for each
+FILE is a path that every worker can open, on a file system that all of them share. BYTES is the
+leaf length, 65,536 without the option. Without ADDRESS a cluster with one worker process for each
 processor is started on this machine.
 
 A worker reads its ranges itself and returns 64 bytes for each leaf. The root is that of
 vulfsjor.tree_root and of `b2 tree b512 BYTES`, whatever the number of workers and the size of the
 ranges. If a worker is lost, Dask repeats its ranges on another one.
 
-What is proved: the digests of all ranges, joined in order, give the root of the file. What is not: that
-each range was hashed, once, and that a worker hashed the bytes that it was told to. Digests of leaves
-carry no key, so whoever can answer in place of a worker can choose what the root is of. Use the
-cluster's TLS to know the workers. A worker that has a secret key from somewhere else (not from the
-scheduler) can also return a tag of its answer, such as blake2b(digests, key=key, salt=range number,
-person=b"ranges"), which the client compares by `verify`. This shows that a holder of the key has
-answered, and nothing about which bytes it has read.
+What is proved: the digests of all ranges, joined in order, give the root of the file. What is not:
+that each range was hashed, once, and that a worker hashed the bytes that it was told to. Digests of
+leaves carry no key, so whoever can answer in place of a worker can choose what the root is of. Use
+the cluster's TLS to know the workers. A worker that has a secret key from somewhere else (not from
+the scheduler) can also return a tag of its answer, such as blake2b(digests, key=key, salt=range
+number, person=b"ranges"), which the client compares by `verify`. This shows that a holder of the
+key has answered, and nothing about which bytes it has read.
 """
 import argparse
 import contextlib
@@ -43,7 +43,8 @@ def read_at(file, length, start):
 
 
 def hash_range(path, length, leaf_size, first, leaves):
-    """The digests of this many leaves, from leaf `first` on, of a file of this length. Runs on a worker."""
+    """The digests of this many leaves, from leaf `first` on, of a file of this length. Runs on a
+    worker."""
     start = first * leaf_size
     end = min(start + leaves * leaf_size, length)
     with open(path, "rb", buffering=0) as file:
@@ -60,8 +61,10 @@ def tree_root(client, path, leaf_size, range_bytes=RANGE_BYTES):
     leaves = max(1, -(-length // leaf_size))
     part = max(4, range_bytes // leaf_size // 4 * 4)  # four leaves are hashed at once
     ranges = [(first, min(part, leaves - first)) for first in range(0, leaves, part)]
-    # pure=False: the file may have changed since an earlier call, whose answers Dask would take again.
-    tasks = [client.submit(hash_range, path, length, leaf_size, *each, pure=False) for each in ranges]
+    # pure=False: the file may have changed since an earlier call, whose answers Dask would take
+    # again.
+    tasks = [client.submit(hash_range, path, length, leaf_size, *each, pure=False)
+             for each in ranges]
     answers = client.gather(tasks)
     for (first, count), answer in zip(ranges, answers):
         if len(answer) != 64 * count:
@@ -80,7 +83,8 @@ def main():
         parser.error("a leaf has 1 to 4294967295 bytes")
     path = os.path.abspath(given.file)
     with contextlib.ExitStack() as stack:
-        scheduler = given.scheduler or stack.enter_context(LocalCluster(threads_per_worker=1, dashboard_address=None))
+        scheduler = given.scheduler or stack.enter_context(
+            LocalCluster(threads_per_worker=1, dashboard_address=None))
         try:
             root = tree_root(stack.enter_context(Client(scheduler)), path, given.leaf)
         except OSError as error:

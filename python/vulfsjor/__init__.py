@@ -39,6 +39,6 @@ from vulfsjor._library import (
 from vulfsjor._threads import TreeHasher, tree_root, tree_root_file
 
 __all__ = [
-    "TreeHasher", "blake2b", "blake2b_many", "blake2s", "blake2s_many", "tree_leaf_count", "tree_leaves", "tree_root",
-    "tree_root_file", "tree_root_of_leaves",
+    "TreeHasher", "blake2b", "blake2b_many", "blake2s", "blake2s_many", "tree_leaf_count",
+    "tree_leaves", "tree_root", "tree_root_file", "tree_root_of_leaves",
 ]

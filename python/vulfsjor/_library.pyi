@@ -1,8 +1,8 @@
 from collections.abc import Iterable
 from typing import ClassVar, SupportsIndex, final
 
-# An object with bytes: bytes, bytearray, memoryview and others. Type checkers know this module in stubs; no program
-# imports it.
+# An object with bytes: bytes, bytearray, memoryview and others. Type checkers know this module in
+# stubs; no program imports it.
 from typing_extensions import Buffer as _Bytes
 
 __version__: str

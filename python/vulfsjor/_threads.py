@@ -1,5 +1,8 @@
-"""The root of a tree with several threads: of data in memory, and of a file. Each call of the library is proved. That
-this module hashes all leaves and joins their digests in order is tested."""
+"""The root of a tree with several threads: of data in memory, and of a file.
+
+Each call of the library is proved. That this module hashes all leaves and joins their digests in
+order is tested.
+"""
 import errno
 import io
 import operator
@@ -23,21 +26,25 @@ if TYPE_CHECKING:
 _LEAST_BYTES = 1 << 20
 # A thread hashes about this number of bytes by one call, which runs without the GIL.
 _PART_BYTES = 4 << 20
-# The most bytes that a thread hashes by one call, of data in memory and of a file, which it reads into a buffer.
+# The most bytes that a thread hashes by one call, of data in memory and of a file, which it reads
+# into a buffer.
 _MOST_BYTES = 1 << 28
 _MOST_BUFFER_BYTES = 1 << 24
 
 
 def _thread_count(threads: SupportsIndex) -> int:
-    """The number of threads that a caller requests: 0 is all processors that this process may run on."""
+    """The number of threads that a caller requests: 0 is all processors that this process may
+    run on."""
     count = operator.index(threads)
     if count < 0:
         raise ValueError("threads must be 0 or more")
     return count or len(os.sched_getaffinity(0))
 
 
-def _work(tasks: "SimpleQueue[tuple[Future[bytes], int] | None]", call: Callable[[int], bytes]) -> None:
-    """What a thread does: it sets the result of each task to that of the call, until a task is None."""
+def _work(tasks: "SimpleQueue[tuple[Future[bytes], int] | None]",
+          call: Callable[[int], bytes]) -> None:
+    """What a thread does: it sets the result of each task to that of the call, until a task is
+    None."""
     while (task := tasks.get()) is not None:
         future, place = task
         if future.set_running_or_notify_cancel():
@@ -60,10 +67,12 @@ def _start(threads: int, run: Callable[[], None]) -> list[Thread]:
     return started
 
 
-def _in_order(call: Callable[[int], bytes], count: int, threads: int, stopped: Event) -> Generator[bytes, None, None]:
-    """Yields call(0), call(1) and so on, of this number of calls, made by threads. At most 2 * threads calls are
-    ahead of the caller. If no thread starts, the caller's makes the calls. When the generator is closed it sets
-    `stopped`, which ends a call early, and waits for the threads."""
+def _in_order(call: Callable[[int], bytes], count: int, threads: int,
+              stopped: Event) -> Generator[bytes, None, None]:
+    """Yields call(0), call(1) and so on, of this number of calls, made by threads. At most
+    2 * threads calls are ahead of the caller. If no thread starts, the caller's makes the calls.
+    When the generator is closed it sets `stopped`, which ends a call early, and waits for the
+    threads."""
     tasks: SimpleQueue[tuple[Future[bytes], int] | None] = SimpleQueue()
     workers = _start(threads, partial(_work, tasks, call))
     waiting: deque[Future[bytes]] = deque()
@@ -91,28 +100,32 @@ def _in_order(call: Callable[[int], bytes], count: int, threads: int, stopped: E
 class _Tree:
     """The parameters of a tree. The constructor raises what _library.tree_root does."""
 
-    def __init__(self, leaf_size: int, digest_size: SupportsIndex, salt: "Buffer", person: "Buffer"):
+    def __init__(self, leaf_size: int, digest_size: SupportsIndex, salt: "Buffer",
+                 person: "Buffer"):
         _library.tree_root(b"", leaf_size, digest_size=digest_size, salt=salt, person=person)
         self.leaf_size, self.digest_size = leaf_size, digest_size
         self.shared: dict[str, Any] = dict(salt=bytes(salt), person=bytes(person))
 
     def node(self, **place: Any) -> _library.blake2b:
         """The hash of a node of the tree."""
-        return _library.blake2b(fanout=0, depth=2, leaf_size=self.leaf_size, inner_size=64, **place, **self.shared)
+        return _library.blake2b(fanout=0, depth=2, leaf_size=self.leaf_size, inner_size=64,
+                                **place, **self.shared)
 
     def part(self, length: int, threads: int, most: int) -> int:
-        """How many leaves a thread hashes by one call: fours, or a share of them, or one if more are too long."""
+        """How many leaves a thread hashes by one call: fours, or a share of them, or one if more
+        are too long."""
         leaves = _library.tree_leaf_count(length, self.leaf_size)
         part = min(max(4, _PART_BYTES // self.leaf_size // 4 * 4), -(-leaves // threads))
         return part if part * self.leaf_size <= most else 1
 
-    def digests(self, read: Callable[[int, int], "Buffer"], length: int, part: int, stopped: Event, most: int,
-                place: int) -> bytes:
+    def digests(self, read: Callable[[int, int], "Buffer"], length: int, part: int, stopped: Event,
+                most: int, place: int) -> bytes:
         """The digests of part `place` of a message, whose bytes `read` returns."""
         first, start = place * part, place * part * self.leaf_size
         end = min(start + part * self.leaf_size, length)
         if end - start <= most:
-            return _library.tree_leaves(read(start, end), self.leaf_size, first=first, ends=end == length, **self.shared)
+            return _library.tree_leaves(read(start, end), self.leaf_size, first=first,
+                                        ends=end == length, **self.shared)
         leaf = self.node(node_offset=first, last_node=end == length)
         for piece in range(start, end, _PART_BYTES):
             if stopped.is_set():
@@ -135,8 +148,8 @@ class _Tree:
         return root.digest()
 
 
-def tree_root(data: "Buffer", /, leaf_size: int, *, digest_size: SupportsIndex = 64, salt: "Buffer" = b"",
-              person: "Buffer" = b"", threads: SupportsIndex = 1) -> bytes:
+def tree_root(data: "Buffer", /, leaf_size: int, *, digest_size: SupportsIndex = 64,
+              salt: "Buffer" = b"", person: "Buffer" = b"", threads: SupportsIndex = 1) -> bytes:
     """Return the root of the data in a tree of two levels over BLAKE2b, as bytes.
 
     The data is cut into leaves of leaf_size bytes, and the root hashes their digests of 64
@@ -151,14 +164,18 @@ def tree_root(data: "Buffer", /, leaf_size: int, *, digest_size: SupportsIndex =
     view = None if threads == 1 else memoryview(_library.plain_bytes(data))
     threads = 1 if view is None else min(threads, len(view) // _LEAST_BYTES)
     if view is None or threads <= 1:
-        return _library.tree_root(data, leaf_size, digest_size=digest_size, salt=salt, person=person)
+        return _library.tree_root(data, leaf_size, digest_size=digest_size, salt=salt,
+                                  person=person)
     tree = _Tree(leaf_size, digest_size, salt, person)
     whole = view
     return tree.root(lambda start, end: whole[start:end], len(whole), threads, _MOST_BYTES)
 
 
 class TreeHasher(_library.TreeHasher):
-    """The tree of tree_root over data in pieces: TreeHasher(leaf_size, *, digest_size=64, salt=b'', person=b'')."""
+    """The tree of tree_root over data in pieces.
+
+    TreeHasher(leaf_size, *, digest_size=64, salt=b'', person=b'')
+    """
 
     __slots__ = ()
 
@@ -188,17 +205,19 @@ class TreeHasher(_library.TreeHasher):
 
         def call(place: int) -> bytes:
             start = head + place * part * self.leaf_size
-            return fresh.next_leaves(whole[start:min(start + part * self.leaf_size, end)], place * part)
+            leaves = whole[start:min(start + part * self.leaf_size, end)]
+            return fresh.next_leaves(leaves, place * part)
 
-        leaves = -(-(end - head) // (part * self.leaf_size))
-        with closing(_in_order(call, leaves, threads, Event())) as all_digests:
+        parts = -(-(end - head) // (part * self.leaf_size))
+        with closing(_in_order(call, parts, threads, Event())) as all_digests:
             fresh.update_leaves(b"".join(all_digests), view[end:])
         self._replace(fresh, count)
         return None
 
 
 class _File:
-    """A file that is open for reading. A regular one is read at separate positions: that of its descriptor stays."""
+    """A file that is open for reading. A regular one is read at separate positions: that of its
+    descriptor stays."""
 
     def __init__(self, file: io.FileIO, path: "FileDescriptorOrPath"):
         self.file, self.path, self.held = file.fileno(), path, local()
@@ -207,12 +226,13 @@ class _File:
         self.length = about.st_size if self.is_regular else 0
 
     def fill(self, view: memoryview, start: int) -> int:
-        """Reads into the whole view, from the start if the file is a regular one, and returns the number of bytes, which is
-        less only at the end of the file."""
+        """Reads into the whole view, from the start if the file is a regular one, and returns the
+        number of bytes, which is less only at the end of the file."""
         done = 0
         while done < len(view):
             rest = [view[done:]]
-            count = os.preadv(self.file, rest, start + done) if self.is_regular else os.readv(self.file, rest)
+            count = (os.preadv(self.file, rest, start + done) if self.is_regular
+                     else os.readv(self.file, rest))
             if not count:
                 break
             done += count
@@ -228,8 +248,10 @@ class _File:
         return view
 
 
-def _root_in_order(file: _File, hasher: _library.TreeHasher, progress: Callable[[int], object] | None) -> bytes:
-    """The root of a file, read by this thread from its beginning to its end, whatever length it reports."""
+def _root_in_order(file: _File, hasher: _library.TreeHasher,
+                   progress: Callable[[int], object] | None) -> bytes:
+    """The root of a file, read by this thread from its beginning to its end, whatever length it
+    reports."""
     buffer = memoryview(bytearray(min(max(_PART_BYTES, 8 * hasher.leaf_size), _MOST_BUFFER_BYTES)))
     done = 0
     while count := file.fill(buffer, done):
@@ -244,8 +266,9 @@ def _root_in_order(file: _File, hasher: _library.TreeHasher, progress: Callable[
     return hasher.digest()
 
 
-def tree_root_file(path: "FileDescriptorOrPath", /, leaf_size: int, *, digest_size: SupportsIndex = 64,
-                   salt: "Buffer" = b"", person: "Buffer" = b"", threads: SupportsIndex = 0,
+def tree_root_file(path: "FileDescriptorOrPath", /, leaf_size: int, *,
+                   digest_size: SupportsIndex = 64, salt: "Buffer" = b"", person: "Buffer" = b"",
+                   threads: SupportsIndex = 0,
                    progress: Callable[[int], object] | None = None) -> bytes:
     """Return the root of a file: tree_root of its bytes, which are never all in memory.
 
