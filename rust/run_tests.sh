@@ -120,6 +120,26 @@ other_processors() {
         ! qemu-x86_64 -cpu core2duo "$work/built" >"$work/said" 2>&1 && grep -q "below x86-64-v2" "$work/said"
 }
 
+# The level that the crate finds on a processor of qemu.
+has_level() {
+    CARGO_TARGET_X86_64_UNKNOWN_LINUX_GNU_RUNNER="qemu-x86_64 -cpu $2" VULFSJOR_LEVEL=$1 \
+        cargo_here test -q --lib the_level_is
+}
+
+# Each feature that a level requires is looked at. The functions for AVX2 of the C library need BMI1
+# and do not ask for it, so they are turned off.
+levels() {
+    local feature
+    has_level 3 Haswell && has_level 2 Nehalem && has_level 1 core2duo || return 1
+    for feature in sse3 ssse3 cx16 sse4.1 sse4.2 popcnt lahf-lm; do
+        has_level 1 "Haswell,-$feature" || return 1
+    done
+    for feature in fma movbe xsave avx f16c avx2 bmi2 abm; do
+        has_level 2 "Haswell,-$feature" || return 1
+    done
+    GLIBC_TUNABLES=glibc.cpu.hwcaps=-AVX2 has_level 2 Haswell,-bmi1
+}
+
 # The crate's package has what it needs and nothing else, and is built without a registry.
 build_package() {
     CARGO_HOME=$work/home cargo_here package --allow-dirty && tar -C "$work" -xzf "$CARGO_TARGET_DIR"/package/*.crate &&
@@ -228,8 +248,9 @@ elif check "the crate vulfsjor" cargo_here test; then
         check "only one build if the target has AVX2" one_build_for_v3
         if has qemu-x86_64; then
             check "the choice on other processors" other_processors
+            check "the level of a processor without a feature" levels
         else
-            skip "the choice on other processors" "no qemu-x86_64"
+            skip "the choice and the level on other processors" "no qemu-x86_64"
         fi
     fi
     if [ -n "$for_c" ]; then

@@ -256,15 +256,22 @@ mod choice {
     use crate::processor::{level, level_here};
     use std::is_x86_feature_detected as has;
 
+    // Or the level that rust/run_tests.sh sets for a processor that qemu emulates.
     #[test]
     fn the_level_is_that_of_the_standard_library() {
         let v2 =
             has!("sse3") && has!("ssse3") && has!("sse4.2") && has!("popcnt") && has!("cmpxchg16b");
         let bits = has!("bmi1") && has!("bmi2") && has!("lzcnt");
         let v3 = v2 && bits && has!("avx2") && has!("f16c") && has!("fma");
-        assert_eq!(level_here(), if v3 { 3 } else { 2 });
-        library::need_a_build();
-        assert_eq!(level(), level_here());
+        let wanted = match std::env::var("VULFSJOR_LEVEL") {
+            Ok(level) => level.parse().unwrap(),
+            Err(_) => 2 + u8::from(v3),
+        };
+        assert_eq!(level_here(), wanted);
+        if wanted > 1 {
+            library::need_a_build();
+            assert_eq!(level(), wanted);
+        }
     }
 
     #[test]
