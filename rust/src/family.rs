@@ -1,4 +1,4 @@
-use core::{fmt, mem};
+use core::fmt;
 
 use crate::digest::Digest;
 use crate::library::{self, Blake2bState, Blake2sState, Text};
@@ -177,7 +177,6 @@ macro_rules! family {
                 // Safety: the output has this length, and does not overlap the state.
                 let status = unsafe { library::$end(&mut self.state, digest.bytes.as_mut_ptr(), 64) };
                 assert_eq!(status, 0, "a state that new has made");
-                mem::forget(self); // the call has wiped it
                 digest
             }
 
