@@ -120,10 +120,11 @@ other_processors() {
         grep -q "^ImportError: vulfsjor needs a processor of x86-64-v2" "$work/said"
 }
 
-# The instructions of a comparison do not depend on the place where a tag differs.
+# The instructions of a comparison do not depend on the place where a tag differs. The arguments have
+# the same length, since that decides where the stack begins.
 count_verify() {
     local place count first=
-    for place in 0 31 63; do
+    for place in 00 31 63; do
         count=$(PYTHONHASHSEED=0 PYTHONMALLOC=malloc valgrind --tool=callgrind --callgrind-out-file=/dev/null \
             --toggle-collect=verify "$1" "$here/tests/verify_at.py" "$work/built" "$place" 2>&1 |
             sed -n 's/.*Collected : //p')
