@@ -39,9 +39,11 @@ check() {
     fi
 }
 
-# Builds from a copy of the sources, so that nothing is left beside them, and without a warning of the compiler.
+# Builds from a copy of the sources, so that nothing is left beside them, and without a warning of
+# the compiler.
 build() {
-    copy_repository source && cd "$work/source/python" && CFLAGS=-Werror "$1" setup.py build --build-lib "$work/built"
+    copy_repository source && cd "$work/source/python" &&
+        CFLAGS=-Werror "$1" setup.py build --build-lib "$work/built"
 }
 
 # The part of the repository that the package is built from, as a clone has it.
@@ -51,11 +53,14 @@ copy_repository() {
 }
 copies=(src/{blake2_c.h,choose.c,aarch64/blake2_c.s,x86_64/blake2_c-v2.s,x86_64/blake2_c-v3.s})
 
-# Old copies of the files of c/ and dist/ are never used, and those that are right are not written again.
+# Old copies of the files of c/ and dist/ are never used, and those that are right are not written
+# again.
 refresh_copies() {
-    copy_repository fresh && "$1" setup.py --version && is_refreshed && touch -d 2001-01-01 "${copies[@]}" &&
-        "$1" setup.py --version && [ -z "$(find "${copies[@]}" -newermt 2001-01-02)" ] &&
-        for file in "${copies[@]}"; do echo "old" >>"$file"; done && "$1" setup.py --version && is_refreshed
+    copy_repository fresh && "$1" setup.py --version && is_refreshed &&
+        touch -d 2001-01-01 "${copies[@]}" && "$1" setup.py --version &&
+        [ -z "$(find "${copies[@]}" -newermt 2001-01-02)" ] &&
+        for file in "${copies[@]}"; do echo "old" >>"$file"; done &&
+        "$1" setup.py --version && is_refreshed
 }
 is_refreshed() {
     cmp src/blake2_c.h ../c/include/blake2_c.h && cmp src/choose.c ../c/choose.c &&
@@ -68,20 +73,26 @@ refuse_to_copy() {
     error="$error failed: "
     copy_repository alone && rm -r ../c && ! "$1" setup.py build 2>../said &&
         grep -q "$error.*No such file or directory: '../c/include/blake2_c.h'$" ../said &&
-        cp -r "$top/c" .. && mkdir src/choose.c && ! "$1" setup.py build 2>../said && grep -q "$error.*src/choose.c" ../said
+        cp -r "$top/c" .. && mkdir src/choose.c && ! "$1" setup.py build 2>../said &&
+        grep -q "$error.*src/choose.c" ../said
 }
 
-# A source distribution has what it needs and nothing else. It takes its own copies, whatever is beside it.
+# A source distribution has what it needs and nothing else. It takes its own copies, whatever is
+# beside it.
 build_sources() {
     copy_repository tree && "$1" setup.py sdist --dist-dir "$work/sources" && cd .. &&
         tar -xzf "$work"/sources/vulfsjor-0.1.0.tar.gz && cd vulfsjor-0.1.0 &&
-        diff <(find . -type f ! -path './*.egg-info/*' | LC_ALL=C sort) <(cd "$here" && printf './%s\n' PKG-INFO setup.cfg \
-            MANIFEST.in README.md pyproject.toml setup.py src/{library.c,library.h,trees.c} "${copies[@]}" tests/*.py \
-            vulfsjor/{*.py,*.pyi,py.typed} | LC_ALL=C sort) &&
-        echo "/* its own */" >>src/choose.c && "$1" setup.py --version && grep -q "its own" src/choose.c
+        diff <(find . -type f ! -path './*.egg-info/*' | LC_ALL=C sort) \
+            <(cd "$here" && printf './%s\n' PKG-INFO setup.cfg MANIFEST.in README.md \
+                pyproject.toml setup.py src/{library.c,library.h,trees.c} "${copies[@]}" \
+                tests/*.py vulfsjor/{*.py,*.pyi,py.typed} | LC_ALL=C sort) &&
+        echo "/* its own */" >>src/choose.c && "$1" setup.py --version &&
+        grep -q "its own" src/choose.c
 }
 
-pip_offline() { "$1" -m pip --disable-pip-version-check "$2" --no-index --no-deps --no-build-isolation "${@:3}"; }
+pip_offline() {
+    "$1" -m pip --disable-pip-version-check "$2" --no-index --no-deps --no-build-isolation "${@:3}"
+}
 
 # A wheel from the source distribution alone, installed in a folder.
 build_wheel() {
@@ -98,10 +109,12 @@ is_installed() {
 
 # As the page prints it, in a new clone.
 install_folder() {
-    copy_repository clone && cd .. && pip_offline "$1" install --target "$work/by_pip" ./python && is_installed by_pip
+    copy_repository clone && cd .. &&
+        pip_offline "$1" install --target "$work/by_pip" ./python && is_installed by_pip
 }
 
-# Of the library that the module holds, no name is seen outside, and glibc need not be newer than 2.17.
+# Of the library that the module holds, no name is seen outside, and glibc need not be newer than
+# 2.17.
 look_at_names() {
     [ "$(nm -D --defined-only "$1" | awk '{print $3}')" = PyInit__library ] &&
         [ -z "$(objdump -T "$1" | sed -n 's/.*(GLIBC_2\.\([0-9]*\).*/\1/p' | awk '$1 > 17')" ]
@@ -109,24 +122,28 @@ look_at_names() {
 
 # For another platform the script says what it has.
 refuse_other_platform() {
-    cd "$work/source/python" && ! _PYTHON_HOST_PLATFORM=linux-s390x "$1" setup.py build >"$work/said" 2>&1 &&
-        grep -q "assembly for linux-x86_64 and linux-aarch64, and has none for linux-s390x" "$work/said"
+    local error="assembly for linux-x86_64 and linux-aarch64, and has none for linux-s390x"
+    cd "$work/source/python" &&
+        ! _PYTHON_HOST_PLATFORM=linux-s390x "$1" setup.py build >"$work/said" 2>&1 &&
+        grep -q "$error" "$work/said"
 }
 
 # The processors that qemu emulates: SSE4.2, which takes the other build, and none.
 other_processors() {
     qemu-x86_64 -cpu Nehalem "$1" "$here/tests/compare.py" "$work/built" 200 &&
-        ! qemu-x86_64 -cpu core2duo "$1" "$here/tests/compare.py" "$work/built" 1 >"$work/said" 2>&1 &&
+        ! qemu-x86_64 -cpu core2duo "$1" "$here/tests/compare.py" "$work/built" 1 \
+            >"$work/said" 2>&1 &&
         grep -q "^ImportError: vulfsjor needs a processor of x86-64-v2" "$work/said"
 }
 
-# The instructions of a comparison do not depend on the place where a tag differs. The arguments have
-# the same length, since that decides where the stack begins.
+# The instructions of a comparison do not depend on the place where a tag differs. The arguments
+# have the same length, since that decides where the stack begins.
 count_verify() {
     local place count first=
     for place in 00 31 63; do
-        count=$(PYTHONHASHSEED=0 PYTHONMALLOC=malloc valgrind --tool=callgrind --callgrind-out-file=/dev/null \
-            --toggle-collect=verify "$1" "$here/tests/verify_at.py" "$work/built" "$place" 2>&1 |
+        count=$(PYTHONHASHSEED=0 PYTHONMALLOC=malloc valgrind --tool=callgrind \
+            --callgrind-out-file=/dev/null --toggle-collect=verify \
+            "$1" "$here/tests/verify_at.py" "$work/built" "$place" 2>&1 |
             sed -n 's/.*Collected : //p')
         [ "${count:-0}" -gt 1000 ] && [ "$count" = "${first:=$count}" ] || return 1
     done
@@ -135,7 +152,8 @@ count_verify() {
 python=
 for candidate in ${PYTHONS:-python3 /usr/bin/python3}; do
     "$candidate" -c 'import sys, setuptools, sysconfig, os
-sys.exit(sys.version_info < (3, 11) or not os.path.exists(os.path.join(sysconfig.get_path("include"), "Python.h")))' \
+header = os.path.join(sysconfig.get_path("include"), "Python.h")
+sys.exit(sys.version_info < (3, 11) or not os.path.exists(header))' \
         2>/dev/null && python=${python:-$candidate}
 done
 if [ -z "$python" ]; then
@@ -143,26 +161,32 @@ if [ -z "$python" ]; then
 elif ! command -v cc >/dev/null; then
     skip "the package for Python" "no C compiler cc"
 elif check "the package for Python is built by $python" build "$python"; then
-    check "no name of the library is seen outside the module" look_at_names "$work/built/vulfsjor/_library.abi3.so"
+    check "no name of the library is seen outside the module" \
+        look_at_names "$work/built/vulfsjor/_library.abi3.so"
     check "setup.py says what it has for another platform" refuse_other_platform "$python"
     check "setup.py copies the files of c/ and dist/ anew" refresh_copies "$python"
     check "setup.py says what it can't copy" refuse_to_copy "$python"
     check "a source distribution has its own copies" build_sources "$python"
-    tested=
+    tested='' tests=$here/tests
     for each in ${PYTHONS:-python3 /usr/bin/python3}; do
-        full=$("$each" -c 'import sys; print(sys.version_info >= (3, 11) and sys.executable)' 2>/dev/null)
+        full=$("$each" -c 'import sys
+print(sys.version_info >= (3, 11) and sys.executable)' 2>/dev/null)
         case "${full:-False} $tested " in False*) continue ;; *" $full "*) continue ;; esac
         tested="$tested $full"
-        check "the package next to hashlib, in $each" "$full" "$here/tests/compare.py" "$work/built" 20000
-        check "tests of only the package, in $each" "$full" "$here/tests/package.py" "$work/built"
-        check "trees in parts, by threads and of files, in $each" "$full" "$here/tests/trees.py" "$work/built"
+        check "the package next to hashlib, in $each" \
+            "$full" "$tests/compare.py" "$work/built" 20000
+        check "tests of only the package, in $each" "$full" "$tests/package.py" "$work/built"
+        check "trees in parts, by threads and of files, in $each" \
+            "$full" "$tests/trees.py" "$work/built"
         if "$full" -c 'import test.test_hashlib' 2>/dev/null; then
-            check "CPython's test_hashlib over the package, in $each" "$full" "$here/tests/cpython.py" "$work/built"
+            check "CPython's test_hashlib over the package, in $each" \
+                "$full" "$tests/cpython.py" "$work/built"
         else
             skip "CPython's test_hashlib over the package, in $each" "it has none"
         fi
         if "$full" -c 'import distributed' 2>/dev/null; then
-            check "the Dask example, in $each" timeout 900 "$full" "$here/examples/test_dask.py" "$work/built"
+            check "the Dask example, in $each" \
+                timeout 900 "$full" "$here/examples/test_dask.py" "$work/built"
         else
             skip "the Dask example, in $each" "it has no distributed"
         fi
@@ -187,7 +211,8 @@ elif check "the package for Python is built by $python" build "$python"; then
     elif check "the wheel is built by $wheel" build_wheel "$wheel"; then
         check "the wheel next to hashlib" "$wheel" "$here/tests/compare.py" "$work/installed" 1000
         check "pip installs the folder" install_folder "$wheel" &&
-            check "the package by pip next to hashlib" "$wheel" "$here/tests/compare.py" "$work/by_pip" 1000
+            check "the package by pip next to hashlib" \
+                "$wheel" "$here/tests/compare.py" "$work/by_pip" 1000
     fi
 fi
 echo "$passed passed, $failed failed, $skipped skipped"

@@ -1,11 +1,12 @@
-//! The hashers and MACs of the crate `vulfsjor` under the traits of the crate `digest` 0.10, for generic code
-//! that requires a `Digest`, a `Mac` or a `VariableOutput`. Names, key lengths and results are those of the crate
-//! `blake2` 0.10, except that an empty key is refused. This code is not proved; it calls `vulfsjor`, which calls
-//! the proved functions. A value is wiped when it is dropped.
+//! The hashers and MACs of the crate `vulfsjor` under the traits of the crate `digest` 0.10, for
+//! generic code that requires a `Digest`, a `Mac` or a `VariableOutput`. Names, key lengths and
+//! results are those of the crate `blake2` 0.10, except that an empty key is refused. This code is
+//! not proved; it calls `vulfsjor`, which calls the proved functions. A value is wiped when it is
+//! dropped.
 //!
-//! `hmac::SimpleHmac`, `hkdf::SimpleHkdf` and `pbkdf2` accept these hash functions. `hmac::Hmac` does not: it
-//! requires one that compresses each block as soon as the block is full. BLAKE2 needs no HMAC construction: use
-//! [`Blake2bMac`].
+//! `hmac::SimpleHmac`, `hkdf::SimpleHkdf` and `pbkdf2` accept these hash functions. `hmac::Hmac`
+//! does not: it requires one that compresses each block as soon as the block is full. BLAKE2 needs
+//! no HMAC construction: use [`Blake2bMac`].
 //!
 //! It is a separate crate, so that `vulfsjor` builds without a registry.
 //!
@@ -39,7 +40,8 @@ use vulfsjor::Params;
 
 macro_rules! family {
     ($name:literal, $hasher:ident, $mac:ident, $var:ident, $max:ty, $block:ty, $build:ident) => {
-        #[doc = concat!("The hash function ", $name, " with digests of `N` bytes, a number of `typenum` from 1 to `", stringify!($max), "`.")]
+        #[doc = concat!("The hash function ", $name, " with digests of `N` bytes, a number of")]
+        #[doc = concat!("`typenum` from 1 to `", stringify!($max), "`.")]
         #[derive(Clone)]
         pub struct $hasher<N>(vulfsjor::$hasher, PhantomData<N>);
 
@@ -52,9 +54,12 @@ macro_rules! family {
                 made.map(|hasher| $hasher(hasher, PhantomData)).map_err(|_| InvalidLength)
             }
 
-            /// Returns a hasher with a salt and a persona. The error is `InvalidLength`, exactly if one of
-            /// them is longer than the family accepts.
-            pub fn new_with_salt_and_personal(salt: &[u8], persona: &[u8]) -> Result<Self, InvalidLength> {
+            /// Returns a hasher with a salt and a persona. The error is `InvalidLength`, exactly if
+            /// one of them is longer than the family accepts.
+            pub fn new_with_salt_and_personal(
+                salt: &[u8],
+                persona: &[u8],
+            ) -> Result<Self, InvalidLength> {
                 Self::with(Params::new().salt(salt).persona(persona))
             }
         }
@@ -84,10 +89,16 @@ macro_rules! family {
         where
             N: ArrayLength<u8> + IsLessOrEqual<$max, Output = True> + NonZero,
         {
-            /// Returns a MAC with a key of at least 1 byte, a salt and a persona. The error is `InvalidLength`,
-            /// exactly if the key is empty or a length is more than the family accepts.
-            pub fn new_with_salt_and_personal(key: &[u8], salt: &[u8], persona: &[u8]) -> Result<Self, InvalidLength> {
-                let params = Params::new().output_size(N::USIZE).key(key).salt(salt).persona(persona);
+            /// Returns a MAC with a key of at least 1 byte, a salt and a persona. The error is
+            /// `InvalidLength`, exactly if the key is empty or a length is more than the family
+            /// accepts.
+            pub fn new_with_salt_and_personal(
+                key: &[u8],
+                salt: &[u8],
+                persona: &[u8],
+            ) -> Result<Self, InvalidLength> {
+                let params = Params::new().output_size(N::USIZE).key(key);
+                let params = params.salt(salt).persona(persona);
                 let made = vulfsjor::$mac::with_params(&params);
                 made.map(|mac| $mac(mac, PhantomData)).map_err(|_| InvalidLength)
             }

@@ -11,9 +11,10 @@ const PART: usize = 16;
 // What both families have, on top of the states and the functions of `library`.
 macro_rules! family {
     (
-        $family:literal, $at_once:literal, $hasher:ident, $mac:ident, $make:ident, $state:ident, $max:literal, $one_call:ident,
-        $many:ident, $init_node:ident, $update:ident, $end:ident, $verify:ident, $set_last_node:ident, $reset:ident,
-        $wipe:ident, $digest_size:ident, $count:ident
+        $family:literal, $at_once:literal, $hasher:ident, $mac:ident, $make:ident, $state:ident,
+        $max:literal, $one_call:ident, $many:ident, $init_node:ident, $update:ident, $end:ident,
+        $verify:ident, $set_last_node:ident, $reset:ident, $wipe:ident, $digest_size:ident,
+        $count:ident
     ) => {
         #[doc = concat!("A hash by ", $family, " in progress. It is wiped when it is dropped.")]
         #[derive(Clone)]
@@ -22,7 +23,8 @@ macro_rules! family {
         }
 
         impl $hasher {
-            #[doc = concat!("Returns a hasher with digests of ", stringify!($max), " bytes and no key.")]
+            #[doc = concat!("Returns a hasher with digests of ", stringify!($max), " bytes and")]
+            /// no key.
             pub fn new() -> Self {
                 Self::with_params(&Params::new()).expect("lengths of the family")
             }
@@ -95,8 +97,13 @@ macro_rules! family {
             #[doc = concat!("use vulfsjor::{Params, ", stringify!($hasher), "};")]
             ///
             /// let mut digests = [[0; 32]; 3];
-            #[doc = concat!(stringify!($hasher), "::digest_many(&Params::new(), &[b\"one\", b\"two\", b\"six\"], &mut digests)?;")]
-            #[doc = concat!("let mut hasher = Params::new().output_size(32).", stringify!($make), "()?;")]
+            /// let messages = [b"one", b"two", b"six"];
+            #[doc = concat!(
+                stringify!($hasher),
+                "::digest_many(&Params::new(), &messages, &mut digests)?;"
+            )]
+            /// let params = Params::new().output_size(32);
+            #[doc = concat!("let mut hasher = params.", stringify!($make), "()?;")]
             /// hasher.update(b"six");
             /// assert_eq!(hasher.finalize(), digests[2]);
             /// # Ok::<(), vulfsjor::InvalidLength>(())
@@ -121,7 +128,7 @@ macro_rules! family {
                     return Self::with_params(&params.output_size(N)).map(|_| ());
                 }
                 let mut parts = messages.chunks(PART).zip(digests.chunks_mut(PART));
-                parts.try_for_each(|(messages, digests)| Self::digest_part(params, messages, digests))
+                parts.try_for_each(|(part, digests)| Self::digest_part(params, part, digests))
             }
 
             // The same for at most PART messages.
@@ -165,7 +172,8 @@ macro_rules! family {
                 let input = input.as_ref();
                 // Safety: the pointer comes from a slice of this length, which the state cannot
                 // overlap.
-                let status = unsafe { library::$update(&mut self.state, input.as_ptr(), input.len()) };
+                let status =
+                    unsafe { library::$update(&mut self.state, input.as_ptr(), input.len()) };
                 assert_eq!(status, 0, "an input of 2^64 bytes");
                 self
             }
@@ -175,7 +183,8 @@ macro_rules! family {
                 // Safety: the state has initialized bytes.
                 let mut digest = Digest::zeros(unsafe { library::$digest_size(&self.state) });
                 // Safety: the output has this length, and does not overlap the state.
-                let status = unsafe { library::$end(&mut self.state, digest.bytes.as_mut_ptr(), 64) };
+                let status =
+                    unsafe { library::$end(&mut self.state, digest.bytes.as_mut_ptr(), 64) };
                 assert_eq!(status, 0, "a state that new has made");
                 digest
             }
@@ -224,8 +233,8 @@ macro_rules! family {
 
         of_stream!($hasher);
 
-        #[doc = concat!("A message authentication code by ", $family, " in progress. It is wiped when it")]
-        /// is dropped.
+        #[doc = concat!("A message authentication code by ", $family, " in progress. It is wiped")]
+        /// when it is dropped.
         ///
         /// Compare tags with `verify`. The project's README, "Use it safely", has the rules for
         /// keys, tags and personas.
@@ -237,7 +246,8 @@ macro_rules! family {
             ///
             /// # Errors
             ///
-            #[doc = concat!("[`InvalidLength`] exactly if the key does not have 1 to ", stringify!($max), " bytes.")]
+            /// [`InvalidLength`] exactly if the key does not have
+            #[doc = concat!("1 to ", stringify!($max), " bytes.")]
             pub fn new(key: &[u8]) -> Result<Self, InvalidLength> {
                 Self::with_params(&Params::new().key(key))
             }
@@ -259,7 +269,8 @@ macro_rules! family {
             ///
             /// # Errors
             ///
-            #[doc = concat!("[`InvalidLength`] exactly if the key does not have 1 to ", stringify!($max), " bytes.")]
+            /// [`InvalidLength`] exactly if the key does not have
+            #[doc = concat!("1 to ", stringify!($max), " bytes.")]
             pub fn tag(key: &[u8], message: impl AsRef<[u8]>) -> Result<Digest, InvalidLength> {
                 if key.is_empty() {
                     return Err(InvalidLength);
@@ -297,7 +308,8 @@ macro_rules! family {
             pub fn verify(mut self, tag: &[u8]) -> Result<(), MacError> {
                 // Safety: the pointer comes from a slice of this length, which the state cannot
                 // overlap.
-                let status = unsafe { library::$verify(&mut self.0.state, tag.as_ptr(), tag.len()) };
+                let status =
+                    unsafe { library::$verify(&mut self.0.state, tag.as_ptr(), tag.len()) };
                 if status == 0 { Ok(()) } else { Err(MacError) }
             }
 

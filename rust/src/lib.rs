@@ -122,8 +122,8 @@
     target_endian = "little",
 )))]
 compile_error!(
-    "vulfsjor is assembly for Linux on x86-64 and on little-endian 64-bit ARM, and has none for this \
-     target"
+    "vulfsjor is assembly for Linux on x86-64 and on little-endian 64-bit ARM, and has none for \
+     this target"
 );
 
 #[cfg(any(feature = "std", test))]

@@ -93,7 +93,10 @@ macro_rules! text_symbol {
 macro_rules! build {
     (
         $build:ident, $file:literal, ($($option:ident),+),
-        $($(#[$attribute:meta])* fn $name:ident($($argument:ident: $type:ty),* $(,)?) $(-> $answer:ty)?;)+
+        $(
+            $(#[$attribute:meta])*
+            fn $name:ident($($argument:ident: $type:ty),* $(,)?) $(-> $answer:ty)?;
+        )+
     ) => {
         pub(crate) mod $build {
             use super::*;
@@ -131,7 +134,10 @@ macro_rules! build {
 // same states. These functions are not `#[inline]`: a program that links a Rust `dylib` with this
 // crate would inline them into its own objects, and the hidden names are not visible there.
 macro_rules! calls {
-    ($($(#[$attribute:meta])* fn $name:ident($($argument:ident: $type:ty),* $(,)?) $(-> $answer:ty)?;)+) => {
+    ($(
+        $(#[$attribute:meta])*
+        fn $name:ident($($argument:ident: $type:ty),* $(,)?) $(-> $answer:ty)?;
+    )+) => {
         $(
             $(#[$attribute])*
             #[allow(clippy::too_many_arguments)] // those of the header

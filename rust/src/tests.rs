@@ -39,8 +39,8 @@ macro_rules! family {
             use super::*;
 
             // A hasher that has compressed this number of blocks less than 2^64 bytes.
-            // c/include/blake2_c.h names the word of the counter and the next, the number of pending
-            // bytes.
+            // c/include/blake2_c.h names the word of the counter and the next, the number of
+            // pending bytes.
             fn near_the_end(hasher: $hasher, blocks: u64) -> $hasher {
                 let mut hasher = hasher;
                 hasher.state.0[$counter] = 0u64.wrapping_sub($block * blocks);
@@ -56,7 +56,8 @@ macro_rules! family {
                 assert!(panic_of(|| none().finalize()).contains("a state that new has made"));
                 assert!(panic_of(|| none().finalize_reset()).contains("a state that new has made"));
                 assert!(panic_of(|| none().reset()).contains("a state that new has made"));
-                assert!(panic_of(|| none().set_last_node(true)).contains("a state that new has made"));
+                let panic = panic_of(|| none().set_last_node(true));
+                assert!(panic.contains("a state that new has made"));
             }
 
             #[test]
@@ -66,19 +67,23 @@ macro_rules! family {
                 assert_eq!(hasher.count(), u64::MAX);
                 let before = hasher.clone().finalize();
                 hasher.update(b"");
-                assert!(panic_of(|| hasher.update(b"x").count()).contains("an input of 2^64 bytes"));
+                let panic = panic_of(|| hasher.update(b"x").count());
+                assert!(panic.contains("an input of 2^64 bytes"));
                 assert_eq!(hasher.count(), u64::MAX);
-                assert!(hasher.finalize() == before && before != $hasher::digest([7; 2 * $block - 1]));
+                assert_eq!(hasher.finalize(), before);
+                assert_ne!(before, $hasher::digest([7; 2 * $block - 1]));
             }
 
             #[test]
             fn a_key_counts_to_the_end_and_not_to_the_input() {
-                let hasher = $hasher::with_params(&Params::new().key(b"key").output_size(1)).unwrap();
+                let params = Params::new().key(b"key").output_size(1);
+                let hasher = $hasher::with_params(&params).unwrap();
                 assert_eq!(hasher.count(), 0);
                 let mut hasher = near_the_end(hasher, 1);
                 hasher.update([7; $block - 1]);
                 assert_eq!(hasher.count(), u64::MAX - $block);
-                assert!(panic_of(|| hasher.update(b"x").count()).contains("an input of 2^64 bytes"));
+                let panic = panic_of(|| hasher.update(b"x").count());
+                assert!(panic.contains("an input of 2^64 bytes"));
             }
         }
     };

@@ -1,11 +1,13 @@
 #!/usr/bin/env python3
-"""Writes cases that c/tests/cases.py leaves out, with the digests that Python's hashlib gives: cases.py b|s
+"""Writes cases that c/tests/cases.py leaves out, with the digests that Python's hashlib gives:
+cases.py b|s
 
-Lines `h SIZE KEY SALT PERSONA MESSAGE DIGEST` as that script writes them: every size with a key and without, and
-every length of a key. A line `m SIZE KEY SALT PERSONA MESSAGES DIGESTS` has several messages, separated by
-commas, and their joined digests. A line `l LEAF FIRST ENDS SALT PERSONA BYTES DIGESTS SIZE ROOT` has a range of
-the leaves of a tree, their joined digests, and the root over those. A line `y LEAF LENGTH SALT PERSONA SIZE ROOT`
-has the root of the message whose bytes are their places modulo 251.
+Lines `h SIZE KEY SALT PERSONA MESSAGE DIGEST` as that script writes them: every size with a key and
+without, and every length of a key. A line `m SIZE KEY SALT PERSONA MESSAGES DIGESTS` has several
+messages, separated by commas, and their joined digests. A line
+`l LEAF FIRST ENDS SALT PERSONA BYTES DIGESTS SIZE ROOT` has a range of the leaves of a tree, their
+joined digests, and the root over those. A line `y LEAF LENGTH SALT PERSONA SIZE ROOT` has the root
+of the message whose bytes are their places modulo 251.
 """
 import hashlib
 import os
@@ -71,9 +73,10 @@ def tree_cases():
                 range_case(leaf, first, True, count * leaf)
         range_case(leaf, 0, True, 0)
     range_case(2**32 - 1, 7, True, 300)
-    for leaf, length in ((1 << 10, 3 << 20), (1 << 12, (5 << 20) + 1), (1 << 14, (2 << 20) - 1), (1 << 16, 9 << 18),
-                         (1 << 18, 9 << 18), (1 << 20, (6 << 20) + 7), (3 << 20, 4 << 20), (1000, 1 << 20),
-                         (1 << 16, 1 << 18), (1 << 16, 5), (1 << 16, 0), (2**32 - 1, 1 << 20)):
+    for leaf, length in ((1 << 10, 3 << 20), (1 << 12, (5 << 20) + 1), (1 << 14, (2 << 20) - 1),
+                         (1 << 16, 9 << 18), (1 << 18, 9 << 18), (1 << 20, (6 << 20) + 7),
+                         (3 << 20, 4 << 20), (1000, 1 << 20), (1 << 16, 1 << 18), (1 << 16, 5),
+                         (1 << 16, 0), (2**32 - 1, 1 << 20)):
         long_case(leaf, length)
 
 
@@ -90,4 +93,5 @@ for size in (1, 20, MAX):
             many_case(size, b"", b"", b"", [length] * count)
         salt, person = RANDOM.randbytes(MAX // 4), RANDOM.randbytes(RANDOM.randint(0, MAX // 4))
         many_case(size, RANDOM.randbytes(RANDOM.randint(1, MAX)), salt, person, [100] * count)
-        many_case(size, RANDOM.randbytes(MAX), b"", person, [RANDOM.choice([0, 1, 200]) for _ in range(count)])
+        key, lengths = RANDOM.randbytes(MAX), [RANDOM.choice([0, 1, 200]) for _ in range(count)]
+        many_case(size, key, b"", person, lengths)

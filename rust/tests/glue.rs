@@ -41,7 +41,10 @@ fn written<W: Write>(mut to: W, message: &[u8], piece: usize) -> W {
 }
 
 macro_rules! family {
-    ($test:ident, $hasher:ident, $mac:ident, $make:ident, $max:literal, $small:literal, $bits:literal) => {
+    (
+        $test:ident, $hasher:ident, $mac:ident, $make:ident, $max:literal, $small:literal,
+        $bits:literal
+    ) => {
         mod $test {
             use super::*;
 
@@ -60,7 +63,8 @@ macro_rules! family {
                 let long = [1; 99];
                 for length in 0..=70 {
                     let text = &long[..length];
-                    assert_eq!(is_refused(Params::new().output_size(length)), length == 0 || length > $max);
+                    let is_no_size = length == 0 || length > $max;
+                    assert_eq!(is_refused(Params::new().output_size(length)), is_no_size);
                     assert_eq!(is_refused(Params::new().key(text)), length > $max);
                     assert_eq!(is_refused(Params::new().salt(text)), length > $small);
                     assert_eq!(is_refused(Params::new().persona(text)), length > $small);
@@ -98,10 +102,15 @@ macro_rules! family {
             }
 
             // What is refused of several messages, with digests that stay as they were.
-            fn is_refused_many<const N: usize>(params: Params, messages: &[&[u8]], count: usize) -> bool {
+            fn is_refused_many<const N: usize>(
+                params: Params,
+                messages: &[&[u8]],
+                count: usize,
+            ) -> bool {
                 let mut digests = vec![[7; N]; count];
                 let answer = $hasher::digest_many(&params, messages, &mut digests);
-                assert!(answer.is_ok() || (answer == Err(InvalidLength) && digests == vec![[7; N]; count]));
+                let is_as_before = digests == vec![[7; N]; count];
+                assert!(answer.is_ok() || (answer == Err(InvalidLength) && is_as_before));
                 answer.is_err()
             }
 
@@ -123,7 +132,8 @@ macro_rules! family {
                     assert!(is_refused_many::<1>(new().tree(tree), messages, count));
                     assert!(is_refused_many::<1>(new().key(&long), messages, count));
                     assert!(is_refused_many::<1>(new().salt(&long[..$small + 1]), messages, count));
-                    assert!(is_refused_many::<1>(new().persona(&long[..$small + 1]), messages, count));
+                    let persona = &long[..$small + 1];
+                    assert!(is_refused_many::<1>(new().persona(persona), messages, count));
                 }
             }
 
@@ -179,7 +189,8 @@ macro_rules! family {
                 let hasher = || Params::new().key(&key).$make().unwrap();
                 let [before, after] = bytes_around_drop(hasher());
                 assert!(holds(&before, &key) && after.iter().all(|byte| *byte == 0));
-                let [before, after] = bytes_around_drop(written($hasher::new(), b"a secret message", 5));
+                let hasher_of_text = written($hasher::new(), b"a secret message", 5);
+                let [before, after] = bytes_around_drop(hasher_of_text);
                 assert!(holds(&before, b"a secret message") && after.iter().all(|byte| *byte == 0));
                 let [_, after] = bytes_around_drop(hasher().clone());
                 assert!(after.iter().all(|byte| *byte == 0));
@@ -187,10 +198,12 @@ macro_rules! family {
 
             #[test]
             fn no_text_shows_a_key() {
-                let params = Params::new().key(b"secret").salt(b"salt").output_size(9).last_node(true);
-                let shown = "Params { output_size: Some(9), key_length: 6, salt: [115, 97, 108, 116], persona: [], \
-                     tree: Tree { fanout: 1, depth: 1, leaf_length: 0, node_offset: 0, node_depth: 0, \
-                     inner_length: 0 }, last_node: true }";
+                let params = Params::new().key(b"secret").salt(b"salt");
+                let params = params.output_size(9).last_node(true);
+                let shown = "Params { output_size: Some(9), key_length: 6, \
+                     salt: [115, 97, 108, 116], persona: [], \
+                     tree: Tree { fanout: 1, depth: 1, leaf_length: 0, node_offset: 0, \
+                     node_depth: 0, inner_length: 0 }, last_node: true }";
                 assert_eq!(format!("{params:?}"), shown);
                 let hasher = params.$make().unwrap();
                 assert_eq!(format!("{hasher:?}"), concat!(stringify!($hasher), " { .. }"));
@@ -240,7 +253,8 @@ macro_rules! family {
                 assert_eq!(format!("{digest:>6}"), format!("  {small}"));
                 assert_eq!(format!("{digest:.3}"), small[..3]);
                 let long = $hasher::digest(b"abc");
-                let digits: String = long.as_bytes().iter().map(|byte| format!("{byte:02x}")).collect();
+                let digits = long.as_bytes().iter().map(|byte| format!("{byte:02x}"));
+                let digits: String = digits.collect();
                 assert_eq!(long.to_string(), digits);
                 assert_eq!(format!("{long:X}"), digits.to_uppercase());
             }

@@ -1,5 +1,7 @@
 #!/usr/bin/env python3
-"""Prints the root of each file in a tree with leaves of 64 KiB, as hashlib computes it: roots.py FILE.."""
+"""Prints the root of each file in a tree with leaves of 64 KiB, as hashlib computes it:
+roots.py FILE..
+"""
 import os
 import sys
 
