@@ -446,8 +446,12 @@ static void signals_while_hashing(void) {
 /* Is canceled, which shows at the end of the calls. */
 static void *cancel_myself(void *given) {
     int file = *(int *)given, wrong = 0;
+    vulfsjor_tree_state state;
 
     pthread_cancel(pthread_self());
+    wrong |= vulfsjor_tree_init(&state, 64, 0, 0, 0, 0, 65536);
+    wrong |= vulfsjor_tree_update_threads(&state, message, 1 << 20, 4);
+    wrong |= vulfsjor_tree_final(&state, root, 64) | memcmp(root, wanted, 64);
     wrong |= vulfsjor_tree_root_threads(root, 64, message, 1 << 20, 0, 0, 0, 0, 65536, 4);
     wrong |= memcmp(root, wanted, 64);
     wrong |= vulfsjor_tree_root_fd(root, 64, file, 0, 0, 0, 0, 65536, 4) | memcmp(root, wanted, 64);
