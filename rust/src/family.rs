@@ -1,4 +1,4 @@
-use core::fmt;
+use core::{fmt, mem};
 
 use crate::digest::Digest;
 use crate::library::{self, Blake2bState, Blake2sState, Text};
@@ -186,6 +186,7 @@ macro_rules! family {
                 let status =
                     unsafe { library::$end(&mut self.state, digest.bytes.as_mut_ptr(), 64) };
                 assert_eq!(status, 0, "a state that new has made");
+                mem::forget(self); // the call has wiped it
                 digest
             }
 

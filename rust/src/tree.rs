@@ -1,4 +1,4 @@
-use core::fmt;
+use core::{fmt, mem};
 
 use crate::digest::Digest;
 use crate::library::{self, TreeState};
@@ -195,6 +195,7 @@ impl TreeHasher {
         // Safety: the output has this length, and does not overlap the state.
         let status = unsafe { library::tree_final(&mut self.state, root.bytes.as_mut_ptr(), 64) };
         assert_eq!(status, 0, "a state that new has made");
+        mem::forget(self); // the call has wiped it
         root
     }
 
