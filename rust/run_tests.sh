@@ -199,13 +199,15 @@ beside_c() {
 
 # A shared library of Rust holds the crate, and a program calls it through that.
 through_a_dylib() {
+    local folder
+    folder=$(rustc --print target-libdir)
     mkdir -p "$work/middle/src" && echo 'pub use vulfsjor;' >"$work/middle/src/lib.rs" &&
         printf '%s[lib]\ncrate-type = ["dylib"]\n[dependencies]\nvulfsjor = { path = "%s" }\n' \
             "${package_of_program/program/middle}" "$top" >"$work/middle/Cargo.toml" &&
         write_program "$work/outer" "let mut hasher = middle::vulfsjor::Blake2b::new();
             println!(\"{}\", hasher.update(b\"abc\").finalize_reset());" &&
         sed -i "s#^.dependencies.#&\nmiddle = { path = \"../middle\" }#" "$work/outer/Cargo.toml" &&
-        LD_LIBRARY_PATH=$CARGO_TARGET_DIR/release:$(rustc --print target-libdir) \
+        LD_LIBRARY_PATH=$CARGO_TARGET_DIR/release:$folder:${LD_LIBRARY_PATH-} \
             RUSTFLAGS=-Cprefer-dynamic gives_abc "$work/outer" release
 }
 

@@ -1,5 +1,6 @@
-//! Prints the root of `vulfsjor::tree_root` of each file, in leaves of 64 KiB, as rayon's threads hash
-//! it. They are those of the current pool, here the global one; `RAYON_NUM_THREADS` sets how many.
+//! Prints the root of `vulfsjor::tree_root` of each file, in leaves of 64 KiB, as rayon's threads
+//! hash it. They are those of the current pool, here the global one; `RAYON_NUM_THREADS` sets how
+//! many.
 //!
 //!     cargo run --release -- FILE..
 use rayon::prelude::*;
