@@ -1,5 +1,6 @@
 #!/usr/bin/env python3
-"""Tests dask_root.py over a cluster of worker processes on this machine, with the package in a folder.
+"""Tests dask_root.py over a cluster of worker processes on this machine, with the package in a
+folder.
 
 usage: test_dask.py FOLDER
 
@@ -7,9 +8,9 @@ The roots are those that tools/oracle.py makes with Python's hashlib. One worker
 hashes a range, after it has hashed others. The status is 0 if all is as it should be. It needs Dask
 (Debian's python3-distributed).
 
-Most of the time goes into imports of Dask and into messages between processes. So workers are forked from a
-process that has imported it, the program runs within this one, except once, and what no worker matters for
-runs without a cluster.
+Most of the time goes into imports of Dask and into messages between processes. So workers are
+forked from a process that has imported it, the program runs within this one, except once, and what
+no worker matters for runs without a cluster.
 """
 import contextlib
 import io
@@ -31,7 +32,8 @@ if __name__ == "__main__":  # a worker imports this file too, and has the path f
     sys.path[:0] = FOLDERS
     os.environ["PYTHONPATH"] = os.pathsep.join([*FOLDERS, os.environ.get("PYTHONPATH", "")])
     os.environ["DASK_DISTRIBUTED__WORKER__MULTIPROCESSING_METHOD"] = "forkserver"
-    # On a machine that is busy with other tests a connection may take longer than the 30 s of Dask's default.
+    # On a machine that is busy with other tests a connection may take longer than the 30 s of
+    # Dask's default.
     os.environ["DASK_DISTRIBUTED__COMM__TIMEOUTS__CONNECT"] = "200s"
 
 import dask_root  # noqa: E402
@@ -110,7 +112,8 @@ class RootTest(Case):
     client = Here()
 
     def test_lengths(self):
-        for length in (0, 1, LEAF, LEAF + 1, RANGE - 1, RANGE, RANGE + 1, 3 * RANGE, 5 * RANGE + 4321):
+        for length in (0, 1, LEAF, LEAF + 1, RANGE - 1, RANGE, RANGE + 1, 3 * RANGE,
+                       5 * RANGE + 4321):
             message = self.write(length)
             root = dask_root.tree_root(self.client, self.path, LEAF, RANGE)
             self.assertEqual(root, tree_root(message, LEAF, 64), length)
@@ -120,7 +123,8 @@ class RootTest(Case):
         for size in (1, LEAF, 5 * LEAF, 13 * LEAF, 1 << 40):
             root = dask_root.tree_root(self.client, self.path, LEAF, size)
             self.assertEqual(root, tree_root(message, LEAF, 64), size)
-        self.assertEqual(dask_root.tree_root(self.client, self.path, 65536), tree_root(message, 65536, 64))
+        found = dask_root.tree_root(self.client, self.path, 65536)
+        self.assertEqual(found, tree_root(message, 65536, 64))
 
     def test_wrong_answers_are_refused(self):
         self.write(3 * RANGE)
@@ -160,7 +164,8 @@ class ClusterTest(Case):
     def setUpClass(cls):
         # Dask's own folder is the same for all clusters, which lock it.
         space = cls.enterClassContext(tempfile.TemporaryDirectory())
-        cls.cluster = LocalCluster(n_workers=3, threads_per_worker=1, processes=True, dashboard_address=None,
+        cls.cluster = LocalCluster(n_workers=3, threads_per_worker=1, processes=True,
+                                   dashboard_address=None,
                                    silence_logs=50, local_directory=space)
         cls.client = Client(cls.cluster)
 
@@ -172,7 +177,8 @@ class ClusterTest(Case):
     def test_worker_processes_hash_each_range_once(self):
         message = self.write(60 * RANGE)
         self.use(noted)
-        self.assertEqual(dask_root.tree_root(self.client, self.path, LEAF, RANGE), tree_root(message, LEAF, 64))
+        found = dask_root.tree_root(self.client, self.path, LEAF, RANGE)
+        self.assertEqual(found, tree_root(message, LEAF, 64))
         workers, firsts = zip(*self.calls())
         self.assertEqual(sorted(firsts), list(range(0, 480, 8)))
         self.assertLessEqual(set(workers), set(self.client.run(os.getpid).values()))
@@ -182,13 +188,15 @@ class ClusterTest(Case):
     def test_same_path_again_is_hashed_again(self):
         for _ in range(2):
             message = self.write(3 * RANGE)
-            self.assertEqual(dask_root.tree_root(self.client, self.path, LEAF, RANGE), tree_root(message, LEAF, 64))
+            found = dask_root.tree_root(self.client, self.path, LEAF, RANGE)
+            self.assertEqual(found, tree_root(message, LEAF, 64))
 
     def test_lost_worker(self):
         before = set(self.client.run(os.getpid).values())
         message = self.write(60 * RANGE)
         self.use(killed_once)
-        self.assertEqual(dask_root.tree_root(self.client, self.path, LEAF, RANGE), tree_root(message, LEAF, 64))
+        found = dask_root.tree_root(self.client, self.path, LEAF, RANGE)
+        self.assertEqual(found, tree_root(message, LEAF, 64))
         self.assertTrue(os.path.exists(os.path.join(self.folder, "killed")))
         lost = before - set(self.client.run(os.getpid).values())
         self.assertEqual(len(lost), 1)
@@ -202,12 +210,16 @@ class ClusterTest(Case):
     def run_main(self, *words):
         """Runs the program in this process, and returns its status, output and errors."""
         out, errors, status = io.StringIO(), io.StringIO(), 0
-        with contextlib.chdir(self.folder), contextlib.redirect_stdout(out), contextlib.redirect_stderr(errors), \
+        with contextlib.chdir(self.folder), contextlib.redirect_stdout(out), \
+                contextlib.redirect_stderr(errors), \
                 mock.patch("sys.argv", ["dask_root.py", *words]):
             try:
                 dask_root.main()
-            except SystemExit as end:  # a text is what Python prints at such an end, whose status is 1
-                status = end.code if isinstance(end.code, int) else print(end.code, file=errors) or 1
+            except SystemExit as end:
+                status = end.code
+                if not isinstance(status, int):  # a text, which Python prints, and the status is 1
+                    print(status, file=errors)
+                    status = 1
         return status, out.getvalue(), errors.getvalue()
 
     def test_program(self):
@@ -215,18 +227,21 @@ class ClusterTest(Case):
         line = "{}  message\n"
         with mock.patch("dask_root.LocalCluster", partial(LocalCluster, n_workers=1)):
             # Dask and its web server may have words for developers on standard error.
-            self.assertEqual(self.run_main("message")[:2], (0, line.format(tree_root(message, 65536, 64).hex())))
+            wanted = line.format(tree_root(message, 65536, 64).hex())
+            self.assertEqual(self.run_main("message")[:2], (0, wanted))
         address = self.cluster.scheduler_address
         self.assertEqual(self.run_main("--leaf", "777", "--scheduler", address, "message"),
                          (0, line.format(tree_root(message, 777, 64).hex()), ""))
         status, out, errors = self.run_main("--scheduler", address, "absent")
         self.assertEqual((status, out), (1, ""))
         self.assertRegex(errors, "(?m)^dask_root.py: .*No such file or directory: '.*/absent'$")
-        for words in ((), ("--leaf", "0", "message"), ("--leaf", "4294967296", "message"), ("a", "b")):
+        for words in ((), ("--leaf", "0", "message"), ("--leaf", "4294967296", "message"),
+                      ("a", "b")):
             status, out, errors = self.run_main(*words)
             self.assertEqual((status, out), (2, ""), words)
             self.assertIn("usage: ", errors)
-        done = subprocess.run([sys.executable, SCRIPT], stdin=subprocess.DEVNULL, capture_output=True, text=True)
+        done = subprocess.run([sys.executable, SCRIPT], stdin=subprocess.DEVNULL,
+                              capture_output=True, text=True)
         self.assertEqual((done.returncode, done.stdout), (2, ""))
         self.assertIn("usage: ", done.stderr)
 
