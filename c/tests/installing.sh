@@ -128,14 +128,49 @@ vendored_by_cmake() {
 cmake_minimum_required(VERSION 3.13)
 project(program LANGUAGES C)
 set(CMAKE_INTERPROCEDURAL_OPTIMIZATION ON)
+set(CMAKE_C_FLAGS -fno-pie)
+set(CMAKE_C_STANDARD 90)
+set(CMAKE_C_EXTENSIONS OFF)
 add_subdirectory("$here" blake2_c)
+set(CMAKE_C_FLAGS)
+set(CMAKE_C_STANDARD)
 add_executable(program program.c)
 target_link_libraries(program PRIVATE vulfsjor::blake2_c)
+add_library(shared SHARED program.c)
+target_link_libraries(shared PRIVATE vulfsjor::blake2_c)
 END
     cmake -S "$folder" -B "$folder/build" -DCMAKE_BUILD_TYPE=Release &&
         cmake --build "$folder/build" &&
         "$folder/build/program"
 }
+
+# Has CMake choose the code for a system and a processor, and prints the names of its files.
+# Nothing is compiled.
+choose_by_cmake() {
+    local build
+    build=$(mktemp -d "$work/chosen.XXXX") &&
+        cmake -S "$here" -B "$build" -DCMAKE_SYSTEM_NAME="$1" -DCMAKE_SYSTEM_PROCESSOR="$2" \
+            -DCMAKE_TRY_COMPILE_TARGET_TYPE=STATIC_LIBRARY "${@:3}" >"$work/configured" 2>&1 ||
+        { cat "$work/configured" && return 1; }
+    grep -rhoE 'dist/[a-z0-9_]+/blake2_c[v0-9-]*\.s' "$build" | LC_ALL=C sort -u
+}
+
+# What CMake chooses by each name of a processor, and where it has nothing to choose.
+chosen_by_cmake() {
+    local name refusal="blake2_c has no code for"
+    for name in x86_64 AMD64 amd64; do
+        choose_by_cmake Linux $name | diff <(printf 'dist/x86_64/blake2_c-v%s.s\n' 2 3) - ||
+            return 1
+    done
+    for name in aarch64 arm64; do
+        choose_by_cmake Linux $name | diff <(echo dist/aarch64/blake2_c.s) - || return 1
+    done
+    refuses 1 "$refusal FreeBSD on x86_64" choose_by_cmake FreeBSD x86_64 &&
+        refuses 1 "$refusal Linux on aarch64_be" choose_by_cmake Linux aarch64_be || return 1
+    ! is_x86 ||
+        refuses 1 "$refusal Linux on x86_64" choose_by_cmake Linux x86_64 -DCMAKE_C_FLAGS=-m32
+}
+
 write_program() {
     printf '%s\n' '#include <blake2_c.h>' 'int main(void) { unsigned char out[64];' \
         'return vulfsjor_blake2b(out, 64, 0, 0, 0, 0) || out[0] != 0x78 || out[63] != 0xce; }' >"$1"
@@ -213,8 +248,9 @@ test_installing() {
     check "a project with the files by hand" vendored_by_hand
     if has cmake; then
         check "a project with the files by CMake" vendored_by_cmake
+        check "what CMake chooses by the processor" chosen_by_cmake
     else
-        skip "a project with the files by CMake" "no cmake"
+        skip "a project with the files by CMake, and what that chooses" "no cmake"
     fi
     if is_x86; then
         check "one build alone" one_build
