@@ -33,8 +33,7 @@ names_are_one() {
 # One function more in the header, or one less in a text, is refused before anything is made.
 join_refuses_a_difference() {
     local copy=$work/copy
-    mkdir -p "$copy" && cp -R "$here/choose.c" "$here/join.sh" "$here/include" "$here/libb2" \
-        "$copy" &&
+    mkdir -p "$copy" && cp -R "$here"/{choose.c,threads.c,join.sh,include,libb2} "$copy" &&
         echo 'void blake2_c_forgotten(void);' >>"$copy/include/blake2_c.h" || return 1
     ! "$copy/join.sh" "$work/refused" "${both[@]}" 2>"$work/said" &&
         grep -q '^< blake2_c_forgotten$' "$work/said" &&
