@@ -50,8 +50,8 @@ static int read_at(int file, unsigned char *to, size_t length, uint64_t from) {
     for (size_t done = 0; done < length;) {
         ssize_t n = pread(file, to + done, length - done, (off_t)(from + done));
         if (n == 0) errno = EIO; /* the file is shorter than it was */
-        if (n == 0 || (n < 0 && errno != EINTR)) return -1;
-        if (n > 0) done += (size_t)n;
+        if (n <= 0) return -1;
+        done += (size_t)n;
     }
     return 0;
 }

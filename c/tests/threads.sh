@@ -143,8 +143,14 @@ tree_parts_example() {
     refuses_with 1 "$parts" leaves file_3000000 46 1 && refuses_with 1 "$parts" leaves absent 0 1 &&
         refuses_with 1 "$parts" leaves /dev/null 0 1 &&
         refuses_with 1 "$parts" root absent </dev/null &&
+        refuses_with 1 "$parts" root file_3000000 <folder &&
+        grep -q 'standard input: Is a directory' "$work/said" &&
         ! "$parts" leaves file_3000000 0 1 2>"$work/said" >/dev/full &&
         ! "$parts" root file_3000000 <all >/dev/full || return 1
+    # a file with fewer bytes than it says
+    name=/sys/kernel/mm/transparent_hugepage/enabled
+    [ ! -r $name ] || { refuses_with 1 "$parts" leaves $name 0 1 &&
+        grep -q 'Input/output error' "$work/said"; } || return 1
     for name in -1 x '' 1x 9223372036854775808; do
         refuses_with 2 "$parts" leaves file_1 "$name" 1 &&
             refuses_with 2 "$parts" leaves file_1 0 "$name" || return 1
