@@ -142,7 +142,7 @@ ln "$room/part" "$room/bin/rt"
 run --prove
 holds "--prove counts all" ends 0 "30 passed, 0 failed"
 holds "it says what it does and how long it takes" says \
-    "^test: proving every crate, comparing dist/ .* hour"
+    "^test: proving every crate, comparing dist/ .* minutes on a new machine"
 holds "it names each part before it begins, too" [ ! -e "$room/unnamed" ]
 holds "and how long proofs take" says "^== rt ci (about [0-9]* minutes)$"
 holds "and to compare dist/" says "^== tools/dist.sh check (about [0-9]* minutes)$"
