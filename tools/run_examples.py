@@ -50,8 +50,9 @@ class Runner:
 
     def __init__(self, folder, library, module):
         self.folder = folder
+        self.library = library
         self.environment = dict(os.environ, LC_ALL="C.UTF-8", CARGO_NET_OFFLINE="true",
-                                PKG_CONFIG_PATH=str(library / "lib/pkgconfig"), PYTHONPATH=str(module))
+                                PYTHONPATH=str(module))
         (folder / "data.bin").write_bytes(bytes(i % 251 for i in range(100_000)))
 
     def call(self, *words, at=None):
@@ -65,9 +66,10 @@ class Runner:
     def compiled(self, compiler, name, text, *words):
         """Runs a program in C or C++."""
         (self.folder / name).write_text(text)
-        libraries = self.call("pkg-config", "--cflags", "--libs", "blake2_c-static", "blake2_c-threads").split() \
-            if "blake2_threads.h" in text else self.call("pkg-config", "--cflags", "--libs", "blake2_c-static").split()
-        self.call(compiler, *words, "-O1", "-Wall", "-Wextra", "-Werror", name, *libraries, "-o", "example")
+        threads = [self.library / "lib/libblake2_c-threads.a"] if "blake2_threads.h" in text else []
+        self.call(compiler, *words, "-O1", "-Wall", "-Wextra", "-Werror", name,
+                  f"-I{self.library / 'include'}", *threads, self.library / "lib/libblake2_c.a", "-pthread",
+                  "-o", "example")
         return self.call("./example")
 
     def run_c(self, text):
