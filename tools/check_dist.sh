@@ -27,6 +27,7 @@ case \$1 in
     doc) echo "$kit/page" ;;
     version) cat "$kit/version" ;;
     check)
+        [ ! -e "$room/refuse_check" ] || { echo "not proved below"; exit 1; }
         echo "check \$(basename "\$PWD")" >>"$room/calls"
         for crate in blake2_plain b2_commands; do
             mkdir -p ../\$crate/out/rlib
@@ -75,7 +76,7 @@ printf '%s\n' "	.globl	f" '	.section	".text.c::g::<=64>","ax"' \
     '	callq	memcpy@PLT' '	.section	.text.f,"ax"' 'f:' '	callq	"c::g::<=64>"' '	.size	f, .-f' \
     "	.ascii	\"$line .L::f\"" >"$2"
 END
-printf '#!/bin/bash\ncp "${@: -1}" "$6"\n' >"$kit/bin/rattle-link"
+printf '#!/bin/bash\necho "$@" >>"%s/link"\ncp "${@: -1}" "$6"\n' "$room" >"$kit/bin/rattle-link"
 chmod +x "$room/bin/rt" "$kit"/bin/* "$kit/toolchain/bin/clang"
 
 # The repository.
@@ -109,6 +110,8 @@ dist make
 holds "make ends with 0" ends 0
 holds "make proves both" diff <(printf 'check %s\n' blake2_c b2) "$room/calls"
 holds "each file is made" [ "$(made | wc -l)" -eq 8 ]
+holds "by LLVM" [ "$(grep -c -- '--backend llvm' "$room/rattle")" -eq 7 ]
+holds "the module is linked for 64 bits" grep -q '^--target wasm64-unknown-unknown ' "$room/link"
 holds "a file is that of its crate and processor" \
     grep -qF '"blake2_c for x86_64-unknown-linux-gnu, x86-64-v3, .L::f"' "$text"
 holds "aarch64 is for each" grep -qF 'b2 for aarch64-unknown-linux-gnu, generic,' \
@@ -120,6 +123,8 @@ holds "on aarch64 clang gets the attributes, when it prints and when it compiles
     wants "--target=aarch64.* -mllvm -forceattrs-csv-path=$repository/tools/aarch64_attr.*\.csv" 4
 holds "the module has SIMD" wants "--target=wasm64.* -c .*-msimd128$" 1
 holds "nothing else has" wants "-msimd128" 2
+holds "texts have no comments and no tables of addresses" \
+    wants "-fno-addrsig -fno-verbose-asm$" 6
 holds "names are plain, have the version and the build, and are hidden" diff - \
     <(sed '1d;$d' "$text") <<'END'
 	.globl	f_1_2_3_v3
@@ -228,7 +233,7 @@ dist current
 holds "a change below is found" ends 1
 dist check
 holds "by check too, though the code is the same" last "8 passed, 1 failed, 0 skipped"
-for name in version toolchain/bin/clang; do
+for name in version bin/rattle-link toolchain/bin/{clang,ld.lld}; do
     echo "# 2" >>"$kit/$name"
     dist check
     holds "so with another $name" last "1 passed, 1 failed, 7 skipped"
@@ -251,6 +256,34 @@ dist make
 holds "a refused build ends with 1" ends 1
 holds "and is shown" says "not proved"
 holds "MANIFEST stays" grep -qx '# kit: kit 1' "$repository/dist/MANIFEST"
+rm "$room/refuse"
+: >"$room/refuse_check"
+dist make
+holds "a refused library ends with 1" ends 1
+holds "and is shown too" says "not proved below"
+
+# What plain_names.py makes of these lines.
+rename() {
+    printf '%s\n' "$@" | "$repository/tools/plain_names.py" _1_v3 >"$room/shown" 2>&1
+    status=$?
+}
+rename '	.globl	f' '	callq	free' '	callq	af' '	callq	x.L1' '	jmp	.L1' '	.ascii	"c::f"' \
+    '	.asciz	"c::f"' '	.ident	"c::f"' '	.file	"c::f"'
+holds "data and the names of others stay" diff "$room/shown" - <<'END'
+	.globl	f_1_v3
+	.hidden	f_1_v3
+	callq	free
+	callq	af
+	callq	x.L1
+	jmp	.L1_v3_1
+	.ascii	"c::f"
+	.asciz	"c::f"
+	.ident	"c::f"
+	.file	"c::f"
+END
+rename '"a::b":' '"a:: b":'
+holds "two names that would be one are refused" ends 1
+holds "and that is said" says "plain_names.py: two names would be one"
 dist --help
 holds "help ends with 0" ends 0
 holds "help says what each command does" says "tools/dist.sh current"
