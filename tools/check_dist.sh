@@ -123,7 +123,7 @@ holds "on aarch64 clang gets the attributes, when it prints and when it compiles
     wants "--target=aarch64.* -mllvm -forceattrs-csv-path=$repository/tools/aarch64_attr.*\.csv" 4
 holds "the module has SIMD" wants "--target=wasm64.* -c .*-msimd128$" 1
 holds "nothing else has" wants "-msimd128" 2
-holds "texts have no comments and no tables of addresses" \
+holds "the assembly has no comments and no tables of addresses" \
     wants "-fno-addrsig -fno-verbose-asm$" 6
 holds "names are plain, have the version and the build, and are hidden" diff - \
     <(sed '1d;$d' "$text") <<'END'
