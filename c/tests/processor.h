@@ -1,5 +1,5 @@
-/* A processor that is made up, in the place of <cpuid.h>, for choose.c of this folder. It answers
- * as the compiler's functions do: 0 for a leaf that the processor doesn't have. */
+/* A made-up processor, used instead of <cpuid.h> with choose.c of this folder. It returns 0 for a
+ * leaf that the processor does not have, as the functions of the compiler do. */
 #include <stdint.h>
 
 static struct made_up {
