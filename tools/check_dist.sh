@@ -233,7 +233,7 @@ dist current
 holds "a change below is found" ends 1
 dist check
 holds "by check too, though the code is the same" last "8 passed, 1 failed, 0 skipped"
-for name in version bin/rattle-link toolchain/bin/{clang,ld.lld}; do
+for name in bin/rattle bin/rattle-link toolchain/bin/{clang,ld.lld}; do
     echo "# 2" >>"$kit/$name"
     dist check
     holds "so with another $name" last "1 passed, 1 failed, 7 skipped"
@@ -242,9 +242,13 @@ done
 sed -i '$d' "$repository/crates/blake2_plain/src/lib.rt"
 echo "kit 2" >"$kit/version"
 dist check
-holds "another kit compares hashes" last "2 passed, 0 failed, 7 skipped"
-holds "and says so" says \
+holds "another kit with the same tools compares all" last "9 passed, 0 failed, 0 skipped"
+echo "# 2" >>"$kit/toolchain/bin/clang"
+dist check
+holds "other tools compare hashes" last "2 passed, 0 failed, 7 skipped"
+holds "and say so" says \
     "skipped: whether dist/ is what the proofs build: it was made with another toolchain, kit 1"
+sed -i '$d' "$kit/toolchain/bin/clang"
 mv "$room/bin/rt" "$room/rt"
 PATH=/usr/bin:/bin dist check
 holds "no kit does so too" last "2 passed, 0 failed, 7 skipped"

@@ -11,9 +11,9 @@
 # rest. The same toolchain makes the same bytes every time, in any folder. `current` needs no
 # toolchain and less than a second.
 #
-# `check` needs the toolchain that MANIFEST names. With another one, or none, it does what `current`
-# does and says so. Its last line is 'N passed, M failed, K skipped'. The status is 1 if something
-# failed.
+# `check` needs the tools whose hash MANIFEST has, of the kit that it names or of another. With other
+# tools, or none, it does what `current` does and says so. Its last line is 'N passed, M failed, K
+# skipped'. The status is 1 if something failed.
 set -euo pipefail
 top=$(dirname "$(dirname "$(readlink -f "$0")")")
 manifest=$top/dist/MANIFEST
@@ -54,7 +54,7 @@ is_whole() {
         (cd "$top/dist" && sha256sum --quiet --strict -c MANIFEST) >&2
 }
 is_current() { [ "$(said sources)" = "$(sources)" ]; }
-is_same_kit() { [ "$(said kit)" = "$(rt version)" ] && [ "$(said tools)" = "$(hash_of_tools)" ]; }
+has_same_tools() { [ "$(said tools)" = "$(hash_of_tools)" ]; }
 
 # ---- building
 
@@ -138,7 +138,7 @@ check() {
     source "$top/tools/checks.sh"
     holds "the files of dist/ are those that MANIFEST names" is_whole
     holds "dist/ was made from these sources (tools/dist.sh make)" is_current
-    if ! command -v rt >/dev/null || ! is_same_kit; then
+    if ! command -v rt >/dev/null || ! has_same_tools; then
         echo "skipped: whether dist/ is what the proofs build:" \
             "it was made with another toolchain, $(said kit)"
         skipped=${#files[@]}
