@@ -125,7 +125,7 @@ class Page:
 
 def source(path):
     """The line that leads to a file of the sources."""
-    return [f"Source: [{re.split('/src/|/specs/', path)[1]}](../../{path})"]
+    return [f"Source: [`{re.split('/src/|/specs/', path)[1]}`](../../{path})"]
 
 
 def paths(modules_of):
