@@ -1,22 +1,22 @@
--- Several states side by side, one a lane: row k holds word k of each of them.
+-- Several states side by side, one in each lane: row k has word k of each of them.
 use Rattle.std.specs.Prelude.{ℕ, ◌+◌, List, [], ◌∷◌, map, slice_index}
 
--- the words of the state in lane j
+-- The words of the state in lane j.
 abbrev pub in_lane : ℕ → List (List ℕ) → List ℕ
 in_lane j rows = map (λ (row : List ℕ). slice_index row j) rows
 
--- a row of eight lanes, lane j of which is f j
+-- The row of eight lanes whose lane j is f j.
 abbrev pub eight_lanes : (ℕ → ℕ) → List ℕ
 eight_lanes f = f 0 ∷ f 1 ∷ f 2 ∷ f 3 ∷ f 4 ∷ f 5 ∷ f 6 ∷ f 7 ∷ []
 
--- the columns of four rows of four lanes
+-- The columns of four rows of four lanes.
 abbrev pub columns_of_four : List ℕ → List ℕ → List ℕ → List ℕ → List (List ℕ)
 columns_of_four a b c d =
     let column : ℕ → List ℕ = λ k.
     slice_index a k ∷ slice_index b k ∷ slice_index c k ∷ slice_index d k ∷ [] in
     column 0 ∷ column 1 ∷ column 2 ∷ column 3 ∷ []
 
--- those of four rows of eight lanes, column k with column k + 4 behind it
+-- The columns of four rows of eight lanes, in four lists: column k, followed by column k + 4.
 abbrev pub columns_within : List ℕ → List ℕ → List ℕ → List ℕ → List (List ℕ)
 columns_within a b c d =
     let column : ℕ → List ℕ → List ℕ = λ k rest.

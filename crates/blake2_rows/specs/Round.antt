@@ -1,23 +1,23 @@
--- The mixing function G and a round of the compression, on a list of sixteen words. Section
--- numbers are those of RFC 7693.
+-- The mixing function G and a round of the compression, on a list of sixteen words. Section numbers
+-- are those of RFC 7693.
 use Rattle.std.specs.Prelude.{ℕ, ◌+◌, ◌%◌, ◌^◌, ◌<◌, List, bit_xor, set, slice_index}
 use Rattle.std.specs.Int.{rotate_right}
 use mir.Val.{bits}
 use Rattle.blake2_rows.specs.Family.{Family, word, rotations}
 
--- every element is a word of the family
+-- Every element is a word of the family, below 2^w (2.1).
 abbrev pub AreWords : Family → List ℕ → Type 0
 AreWords f xs = (i : ℕ) → slice_index xs i < 2 ^ bits (word f)
 
--- v[a] := (v[a] + v[b] + x) mod 2^w
+-- v after v[a] := (v[a] + v[b] + x) mod 2^w (3.1).
 abbrev pub plus : Family → List ℕ → ℕ → ℕ → ℕ → List ℕ
 plus f v a b x = set v a ((slice_index v a + slice_index v b + x) % 2 ^ bits (word f))
 
--- v[d] := (v[d] ^ v[a]) >>> r
+-- v after v[d] := (v[d] ^ v[a]) >>> r (3.1).
 abbrev pub rotate : Family → List ℕ → ℕ → ℕ → ℕ → List ℕ
 rotate f v d a r = set v d (rotate_right (word f) (bit_xor (slice_index v d) (slice_index v a)) r)
 
--- G: the words at places a, b, c and d of v mixed with the words x and y (3.1)
+-- G: v after its words at indices a, b, c and d are mixed with the words x and y (3.1).
 unfoldable pub mix : Family → List ℕ → ℕ → ℕ → ℕ → ℕ → ℕ → ℕ → List ℕ
 mix f v a b c d x y =
     let v1 = plus f v a b x in
@@ -29,7 +29,7 @@ mix f v a b c d x y =
     let v7 = plus f v6 c d 0 in
     rotate f v7 b c (slice_index (rotations f) 3)
 
--- a round on v with the block's words m and a row s of numbers below 16 (3.2)
+-- v after a round, with the words m of the block and a row s of numbers below 16 (3.2).
 unfoldable pub round : Family → List ℕ → List ℕ → List ℕ → List ℕ
 round f v m s =
     let at = λ (j : ℕ). slice_index m (slice_index s j) in
