@@ -10,23 +10,23 @@ use Rattle.blake2_words.specs.Hash.{Flags, Input, compress, input_data}
 use Rattle.blake2_words.specs.Inputs.{Accepts}
 use Rattle.blake2_words.specs.Views.{given_flags, input_of}
 
--- what stands behind each of several references
+-- The bytes that each of several references points to.
 abbrev pub texts : List (Bor (List ℕ)) → List (List ℕ)
 texts = map (λ b. b.now)
 
--- the blocks behind each of several references
+-- The blocks that each of several references points to.
 abbrev pub block_lists : List (Bor (List (List ℕ))) → List (List (List ℕ))
 block_lists = map (λ b. b.now)
 
--- the chaining words after n of these blocks, all under the same flags: with the first of them
--- `counter` bytes are counted, and a block's more with each that follows
+-- The chaining words after the first n of these blocks, all under the same flags. With the first
+-- block `counter` bytes are counted, and with each later one a block's bytes more.
 unfoldable pub after_blocks : Family → List ℕ → List (List ℕ) → ℕ → Flags → ℕ → List ℕ
 after_blocks f h blocks counter flags zero = h
 after_blocks f h blocks counter flags (suc i) =
     compress f (after_blocks f h blocks counter flags i) (slice_index_or blocks i [])
     (counter + i * block_bytes f) flags
 
--- what a list of inputs has at the places where it has none
+-- The default for an index that a list of inputs does not have.
 abbrev pub no_input : GivenInput.Input
 no_input =
     let nothing : Bor (List ℕ) = record { ref_ptr = (0, 0); now = [] } in
@@ -47,15 +47,16 @@ no_input =
       message = nothing;
     }
 
--- input j of several
+-- Input j of several.
 abbrev pub input_at : List GivenInput.Input → ℕ → Input
 input_at inputs j = input_of (slice_index_or inputs j no_input)
 
--- the flags of message j, of several that each have their own
+-- The flags of message j, if each of several messages has its own.
 abbrev pub flags_at : List GivenFlags.Flags → ℕ → Flags
 flags_at flags j = given_flags (slice_index_or flags j (record { last = false; last_node = false }))
 
--- n inputs that are hashed at once: each is accepted, and of each as many bytes are counted
+-- n inputs can be hashed in parallel: each is accepted, and all have the same number of counted
+-- bytes.
 pub record AcceptsAtOnce (f : Family) (n : ℕ) (inputs : List GivenInput.Input) : Type 0 where
   pub accepted : (j : ℕ) → j < n → Accepts f (input_at inputs j)
   pub same_count : (j : ℕ) → j < n → length (input_data f (input_at inputs j))

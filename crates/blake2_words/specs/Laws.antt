@@ -1,9 +1,10 @@
--- What holds of all digests.
+-- What holds for all digests.
 use Rattle.std.specs.Prelude.{◌≡◌, ℕ, ◌+◌, ◌≤◌, ◌++◌, length, replicate}
 use Rattle.blake2_rows.specs.Family.{Family, salt_bytes}
 use Rattle.blake2_words.specs.Hash.{Input, digest}
 
--- zeros after a salt or a persona, within its bytes, leave each digest as it is
+-- The law that zeros after a salt or a personalization, within its length in the parameter block,
+-- change no digest (the BLAKE2 document, 2.8).
 abbrev pub ZerosLeaveDigests : Family → Type 0
 ZerosLeaveDigests f = (size : ℕ) (a : Input) (m n : ℕ)
     → length a.salt + m ≤ salt_bytes f → length a.persona + n ≤ salt_bytes f

@@ -1,4 +1,4 @@
--- What shows that words and entries are the transcript of an input, and what they tell of it.
+-- What shows that words and entries are the transcript of an input, and what they say of it.
 -- Section numbers are those of RFC 7693.
 use Rattle.std.specs.Prelude.{◌≡◌, ℕ, zero, suc, ◌+◌, ◌-◌, ◌*◌, ◌^◌, ◌<◌, ◌≤◌, List, length, take}
 use Rattle.std.specs.Prelude.{drop, slice_index, slice_index_or, Option, Some, None, IsTrue}
@@ -11,8 +11,8 @@ use Rattle.blake2_words.specs.Run.{no_entry}
 
 -- ---- the parameters
 
--- the tree parameters that a parameter block names, at the places of its fields (the BLAKE2
--- document, 2.8)
+-- The tree parameters in a parameter block, at the offsets of its fields (the BLAKE2 document,
+-- 2.8).
 abbrev pub tree_in : Family → List ℕ → Tree
 tree_in f block =
     let o = offset_bytes f in record {
@@ -24,7 +24,8 @@ tree_in f block =
       inner_length = slice_index block (8 + o + 1);
     }
 
--- all parameters that a parameter block names, whatever its reserved bytes hold
+-- All parameters in a parameter block, whatever its reserved bytes are (2.5; the BLAKE2 document,
+-- 2.8).
 abbrev pub parameters_in : Family → List ℕ → Parameters
 parameters_in f block =
     let s = salt_bytes f in
@@ -38,68 +39,71 @@ parameters_in f block =
 
 -- ---- the entries of a run
 
--- the last entry
+-- The last entry.
 abbrev pub last_entry : List Entry → Entry
 last_entry entries = slice_index_or entries (length entries - 1) no_entry
 
--- the counted bytes, as it tells
+-- The number of counted bytes, which is the counter of the last entry.
 abbrev pub told_count : List Entry → ℕ
 told_count entries = (last_entry entries).counter
 
--- the entry is one that others follow, at place i
+-- The entry at index i is one that others follow: its counter is (i+1)·bb, and its flags are off.
 pub record IsInner (f : Family) (i : ℕ) (e : Entry) : Type 0 where
   pub counter : e.counter ≡ (i + 1) * block_bytes f
   pub flags : e.flags ≡ inner
 
--- each entry is such a one
+-- Every entry is one that others follow.
 abbrev pub AreInner : Family → List Entry → Type 0
 AreInner f entries = (i : ℕ) → i < length entries → IsInner f i (slice_index_or entries i no_entry)
 
--- the entry is the last, after so many others
+-- The entry is the last of a run, after `before` others.
 pub record EndsRun (f : Family) (before : ℕ) (e : Entry) : Type 0 where
   pub number : before + 1 ≡ block_count f e.counter
   pub last : IsTrue e.flags.last
 
--- xs is zero from place n on
+-- The list xs is zero from index n on.
 abbrev pub IsZeroFrom : ℕ → List ℕ → Type 0
 IsZeroFrom n xs = (i : ℕ) → n ≤ i → slice_index xs i ≡ 0
 
--- the entries are those of a run over some data
+-- The entries are those of a run over some data (3.3).
 pub record IsRun (f : Family) (entries : List Entry) : Type 0 where
   pub number : length entries ≡ block_count f (told_count entries)
   pub below : (i : ℕ) → i + 1 < length entries → IsInner f i (slice_index_or entries i no_entry)
   pub last : IsTrue (last_entry entries).flags.last
   pub zeros : IsZeroFrom (told_count entries) (joined entries)
 
--- the data begins with the block of a key of n bytes
+-- The data begins with the block of a key of n bytes: a whole block is counted, and it is zero
+-- after n bytes (3.3).
 pub record HasKey (f : Family) (n : ℕ) (entries : List Entry) : Type 0 where
   pub counted : block_bytes f ≤ told_count entries
   pub zeros : (i : ℕ) → n ≤ i → i < block_bytes f → slice_index (joined entries) i ≡ 0
 
 -- ---- words and entries together
 
--- they are the transcript of some input with these parameters
+-- The words and the entries are the transcript of some input with these parameters: the parameters
+-- fit and have these words, the entries are those of a run, and a key has its block.
 pub record IsReadable (f : Family) (p : Parameters) (ws : List ℕ) (es : List Entry) : Type 0 where
   pub fits : Fits f p
   pub words_are : ws ≡ parameter_words f p
   pub run : IsRun f es
   pub key : 0 < p.key_size → HasKey f p.key_size es
 
--- the data
+-- The data of the entries: the counted bytes of their blocks.
 abbrev pub told_data : List Entry → List ℕ
 told_data entries = take (told_count entries) (joined entries)
 
--- the key of n bytes at the beginning of the data z
+-- The key of n bytes at the beginning of the data z, or none if n is 0.
 abbrev pub told_key : ℕ → List ℕ → Option (List ℕ)
 told_key zero z = None
 told_key (suc n) z = Some (take (suc n) z)
 
--- the message behind a key of n bytes
+-- The message in the data z: the bytes after the block of a key of n bytes, or all if n is 0.
 abbrev pub told_message : Family → ℕ → List ℕ → List ℕ
 told_message f zero z = z
 told_message f (suc n) z = drop (block_bytes f) z
 
--- the input, salt and persona with their zeros
+-- The input that the parameters and the entries describe. Its salt and personalization are padded
+-- with zeros.
 abbrev pub told_input : Family → Parameters → List Entry → Input
 told_input f p entries = record {
   salt = padded (salt_bytes f) p.salt;
@@ -112,16 +116,16 @@ told_input f p entries = record {
 
 -- ---- what the types of the code promise
 
--- a block has B bytes
+-- The block of an entry consists of bb bytes.
 pub record IsWhole (f : Family) (e : Entry) : Type 0 where
   pub length_is : length e.block ≡ block_bytes f
   pub bytes : AreBytes e.block
 
--- each block has
+-- The block of every entry consists of bb bytes.
 abbrev pub AreWhole : Family → List Entry → Type 0
 AreWhole f entries = (i : ℕ) → i < length entries → IsWhole f (slice_index_or entries i no_entry)
 
--- blocks are whole, and the last counter has 64 bits
+-- The blocks are whole, and the last counter is below 2^64.
 pub record AreTyped (f : Family) (entries : List Entry) : Type 0 where
   pub whole : AreWhole f entries
   pub counter : told_count entries < 2 ^ 64

@@ -1,5 +1,5 @@
--- The transcript of a run: its parameter words, and its steps without their chaining words.
--- Section numbers are those of RFC 7693.
+-- The transcript of a run: its parameter words, and its steps without their chaining words. Section
+-- numbers are those of RFC 7693.
 use Rattle.std.specs.Prelude.{◌≡◌, ℕ, ◌+◌, ◌-◌, ◌*◌, ◌<◌, ◌≤◌, List, length, map, slice_index_or}
 use Rattle.std.specs.List.{concat}
 use Rattle.blake2_rows.specs.Family.{Family, block_bytes, output_bytes}
@@ -7,28 +7,28 @@ use Rattle.blake2_words.specs.Hash.{Flags, inner, Input, input_flags, input_para
 use Rattle.blake2_words.specs.Hash.{padded, block_count, parameter_words, Step}
 use Rattle.blake2_words.specs.Inputs.{Accepts, Same}
 
--- what one compression is given, but for its chaining words (3.2)
+-- One compression by the arguments of F, except for the chaining words (3.2).
 pub record Entry : Type 0 where
   pub block : List ℕ
   pub counter : ℕ
   pub flags : Flags
 
--- the entry of a step
+-- The entry of a step.
 abbrev pub entry : Step → Entry
 entry s = record { block = s.block; counter = s.counter; flags = s.flags }
 
--- the step of an entry, at the chaining words h
+-- The step of an entry, with the chaining words h.
 abbrev pub step_at : List ℕ → Entry → Step
 step_at h e = record { chain = h; block = e.block; counter = e.counter; flags = e.flags }
 
--- the bytes of the blocks, one after the other
+-- The bytes of the blocks, in order.
 abbrev pub joined : List Entry → List ℕ
 joined entries = concat (map (λ (e : Entry). e.block) entries)
 
--- words and entries are those of the input at this output size, place by place and without F
--- (3.3): the parameter words; an entry for each block; before the last, counters (i+1)·B and no
--- flag; at the last, the counted length and the input's flags; and blocks that joined are the data
--- and then zeros
+-- The words and the entries are the transcript of the input for a digest of this length, index by
+-- index and without F (3.3). The words are the parameter words, and there is an entry for each
+-- block. Before the last entry the counters are (i+1)·bb and the flags are off. The last entry has
+-- the counted length and the input's flags. The blocks, joined, are the data followed by zeros.
 pub record IsTranscript (f : Family) (words : List ℕ) (entries : List Entry) (size : ℕ) (a : Input)
     : Type 0 where
   pub parameters : words ≡ parameter_words f (input_parameters size a)
@@ -43,24 +43,26 @@ pub record IsTranscript (f : Family) (words : List ℕ) (entries : List Entry) (
 
 -- ---- what a transcript is read as
 
--- words and entries are the transcript of this accepted input, at this output size
+-- The words and the entries are the transcript of this accepted input, for a digest of this length.
 pub record Reads (f : Family) (words : List ℕ) (entries : List Entry) (size : ℕ) (a : Input)
     : Type 0 where
   pub fits : size ≤ output_bytes f
   pub accepted : Accepts f a
   pub is : IsTranscript f words entries size a
 
--- they are the transcript of some accepted input, at some output size
+-- The words and the entries are the transcript of some accepted input, for some digest length.
 abbrev pub IsOfSomeInput : Family → List ℕ → List Entry → Type 0
 IsOfSomeInput f words entries = (size : ℕ) × (a : Input) × Reads f words entries size a
 
--- they are the transcript of this input at this size, and of no other input or size
+-- The words and the entries are the transcript of this input for this digest length, and of no
+-- other length or input, except for zeros at the end of the salt or the personalization.
 pub record ReadsOnly (f : Family) (words : List ℕ) (entries : List Entry) (size : ℕ) (a : Input)
     : Type 0 where
   pub reads : Reads f words entries size a
   pub only : (other : ℕ) (b : Input) → Reads f words entries other b → (size ≡ other) × Same f a b
 
--- the law: a transcript is of one size and, but for zeros behind salt and persona, of one input
+-- The law that a transcript determines the digest length and the input, except for zeros at the end
+-- of the salt or the personalization.
 abbrev pub TranscriptsDetermine : Family → Type 0
 TranscriptsDetermine f = (words : List ℕ) (entries : List Entry) (size other : ℕ) (a b : Input)
     → Reads f words entries size a → Reads f words entries other b → (size ≡ other) × Same f a b

@@ -1,4 +1,4 @@
--- How the values of the modules params, words and steps are seen as those of the definitions.
+-- How the values of the modules `params`, `words` and `steps` are seen as those of the definitions.
 use Rattle.std.specs.Prelude.{ℕ, List, map, Option, Some, None}
 use Rattle.std.specs.Global.{Vec}
 use Rattle.std.specs.Borrow.{Bor}
@@ -13,7 +13,7 @@ use Rattle.blake2_words.specs.declared.steps.Reading as GivenReading
 use Rattle.blake2_words.specs.Hash.{flags, Flags, Input, Parameters, Step, Tree}
 use Rattle.blake2_words.specs.Transcript.{Entry}
 
--- a place in a tree
+-- The tree parameters that a value of the code holds.
 abbrev pub tree_of : GivenTree.Tree → Tree
 tree_of t = record {
   fanout = t.fanout;
@@ -24,7 +24,7 @@ tree_of t = record {
   inner_length = t.inner_length;
 }
 
--- what a parameter block names
+-- The parameters that a value of the code holds.
 abbrev pub given_parameters : GivenParameters.Parameters → Parameters
 given_parameters p = record {
   size = p.output_size;
@@ -34,16 +34,16 @@ given_parameters p = record {
   tree = tree_of p.tree;
 }
 
--- the flags of a compression
+-- The flags that a value of the code holds.
 abbrev pub given_flags : GivenFlags.Flags → Flags
 given_flags f = flags f.last f.last_node
 
--- the bytes behind a key, if there is one
+-- The bytes that a key refers to, if there is a key.
 abbrev pub key_of : Option (Bor (List ℕ)) → Option (List ℕ)
 key_of None = None
 key_of (Some key) = Some key.now
 
--- an input
+-- The input that a value of the code holds.
 abbrev pub input_of : GivenInput.Input → Input
 input_of a = record {
   salt = a.salt.now;
@@ -54,7 +54,7 @@ input_of a = record {
   message = a.message.now;
 }
 
--- an entry
+-- The entry that a value of the code holds.
 abbrev pub entry_of : {B : ℕ} → GivenEntry.Entry B → Entry
 entry_of e = record {
   block = e.block;
@@ -62,7 +62,7 @@ entry_of e = record {
   flags = flags e.last e.last_node;
 }
 
--- a step
+-- The step that a value of the code holds.
 abbrev pub step_of : {B : ℕ} → GivenStep.Step ℕ B → Step
 step_of s = record {
   chain = s.chain;
@@ -71,16 +71,16 @@ step_of s = record {
   flags = flags s.last s.last_node;
 }
 
--- the entries of a transcript
+-- The entries of a transcript.
 abbrev pub entries_of : {B : ℕ} → GivenTranscript.Transcript ℕ B → List Entry
 entries_of t = map entry_of t.entries.items
 
--- the bytes of a key, if there is one
+-- The bytes that a key holds, if there is a key.
 abbrev pub items_of : Option (Vec ℕ) → Option (List ℕ)
 items_of None = None
 items_of (Some v) = Some v.items
 
--- what a reading says of the input
+-- The input that a reading describes.
 abbrev pub reading_of : {S : ℕ} → GivenReading.Reading S → Input
 reading_of r = record {
   salt = r.salt;
