@@ -1,11 +1,12 @@
--- What every block core owes: blocks in turn are their join, and each is counted.
+-- What every block core must guarantee: it absorbs two lists of blocks as it absorbs both joined,
+-- and it counts each block.
 use Rattle.std.proofs.Common.{◌≡◌, ℕ, ◌+◌, ◌*◌, List, [], ◌++◌, length, refl, arith, length-append}
 use Rattle.blake2_rows.specs.Family.{Family, block_bytes}
 use Rattle.blake2_words.specs.Hash.{chain}
 use Rattle.blake2_words.proofs.Streaming.{chain-append}
 use Rattle.blake2.specs.Cores.{CoreState, absorbed}
 
--- two lists in turn are their join
+-- A core absorbs two lists in turn as it absorbs both joined.
 pub absorbed-append : (f : Family) (core : CoreState) (xs ys : List (List ℕ))
     → absorbed f core (xs ++ ys) ≡ absorbed f (absorbed f core xs) ys
 unfolding absorbed
@@ -21,14 +22,14 @@ absorbed-append f core xs ys =
     rw number (omega arith) in
     λ i. record core { h = words i; count = bytes i }
 
--- no blocks change nothing
+-- A core is unchanged by no blocks.
 pub absorbed-nil : (f : Family) (core : CoreState) → absorbed f core [] ≡ core
 unfolding absorbed chain
 absorbed-nil f core =
     let none : core.count + block_bytes f * 0 ≡ core.count = omega arith in
     λ i. record core { count = none i }
 
--- the count grows by the bytes of each block
+-- The count grows by the bytes of each block.
 pub count-absorbed : (f : Family) (core : CoreState) (xs : List (List ℕ))
     → (absorbed f core xs).count ≡ core.count + block_bytes f * length xs
 unfolding absorbed

@@ -9,35 +9,40 @@ use Rattle.blake2.specs.declared.macs.blake2s.Blake2sMac.{Blake2sMac}
 use Rattle.blake2.specs.Contexts.{blake2b_context_state, blake2s_context_state}
 use Rattle.blake2.specs.States.{State, meaning_by, unflagged}
 
--- the state of a hasher of BLAKE2b, which holds a context and starts with nothing pending
+-- The state of a BLAKE2b hasher, which holds a context and has an empty start block.
 abbrev pub blake2b_state : {n : ℕ} → Blake2b n → State
 blake2b_state s = blake2b_context_state [] s.context
 
--- the state of a hasher of BLAKE2s
+-- The state of a BLAKE2s hasher, which holds a context and has an empty start block.
 abbrev pub blake2s_state : {n : ℕ} → Blake2s n → State
 blake2s_state s = blake2s_context_state [] s.context
 
--- the digests of n bytes that a hasher of BLAKE2b will give, and the bytes that it counts
+-- The meaning of a BLAKE2b hasher: the digests of n bytes that it will return, and the bytes that
+-- it counts.
 abbrev pub blake2b_meaning : (n : ℕ) → Meaning (Blake2b n)
 blake2b_meaning n = meaning_by blake2b n blake2b_state
 
--- the same of a hasher of BLAKE2s
+-- The meaning of a BLAKE2s hasher: the digests of n bytes that it will return, and the bytes that
+-- it counts.
 abbrev pub blake2s_meaning : (n : ℕ) → Meaning (Blake2s n)
 blake2s_meaning n = meaning_by blake2s n blake2s_state
 
--- the state of a MAC of BLAKE2b, which holds the block of its key too: a start leaves it pending
+-- The state of a BLAKE2b MAC, which also holds the block of its key. A start leaves that block
+-- pending.
 abbrev pub blake2b_mac_state : {n : ℕ} → Blake2bMac n → State
 blake2b_mac_state s = blake2b_context_state s.start_block s.context
 
--- the state of a MAC of BLAKE2s
+-- The state of a BLAKE2s MAC, which also holds the block of its key. A start leaves that block
+-- pending.
 abbrev pub blake2s_mac_state : {n : ℕ} → Blake2sMac n → State
 blake2s_mac_state s = blake2s_context_state s.start_block s.context
 
--- the outputs of n bytes that a MAC of BLAKE2b will give, and the bytes that it counts: no call
--- sets the last-node flag of a MAC, which is off
+-- The meaning of a BLAKE2b MAC: the outputs of n bytes that it will return, and the bytes that it
+-- counts. No call sets the last-node flag of a MAC, so the flag is off.
 abbrev pub blake2b_mac_meaning : (n : ℕ) → Meaning (Blake2bMac n)
 blake2b_mac_meaning n = unflagged (meaning_by blake2b n blake2b_mac_state)
 
--- the same of a MAC of BLAKE2s
+-- The meaning of a BLAKE2s MAC: the outputs of n bytes that it will return, and the bytes that it
+-- counts. No call sets the last-node flag of a MAC, so the flag is off.
 abbrev pub blake2s_mac_meaning : (n : ℕ) → Meaning (Blake2sMac n)
 blake2s_mac_meaning n = unflagged (meaning_by blake2s n blake2s_mac_state)

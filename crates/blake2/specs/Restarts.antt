@@ -1,4 +1,4 @@
--- A reset keeps its promise: the digests are those from the start.
+-- A reset satisfies its contract: the digests are those from the start.
 use Rattle.std.specs.Prelude.{◌≡◌, ℕ, Bool, List, length, refl}
 use Rattle.std.proofs.Common.{ap, ◌∙◌, zero-add}
 use Rattle.blake2_rows.specs.Family.{Family}
@@ -16,7 +16,7 @@ started-restarted : (f : Family) (n : ℕ) (s : State) (flag : Bool) (y : List �
 unfolding started
 started-restarted f n s flag y = refl
 
--- a reset keeps its promise
+-- A reset of the state that a value holds satisfies the contract of a reset.
 pub StartedAgain_by : {S : Type 0} (f : Family) (n : ℕ) (state_of : S → State) (old new : S)
     → IsRestarted state_of old new → StartedAgain (meaning_by f n state_of) old new
 StartedAgain_by f n state_of old new e = record {
@@ -28,7 +28,7 @@ StartedAgain_by f n state_of old new e = record {
   start_count = ap start_count e;
 }
 
--- so does that of a type whose flag is always off
+-- The contract of a reset also holds for a type whose last-node flag is always off.
 pub StartedAgain_unflagged : {S : Type 0} (m : Meaning S) (old new : S) → StartedAgain m old new
     → StartedAgain (unflagged m) old new
 StartedAgain_unflagged m old new again = record {
