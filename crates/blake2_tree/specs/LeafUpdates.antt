@@ -1,33 +1,33 @@
--- An open tree that takes whole leaves by their joined digests, which others have hashed.
+-- An open tree that absorbs whole leaves by their joined digests, which were computed elsewhere.
 use Rattle.std.specs.Prelude.{◌≡◌, ℕ, ◌+◌, ◌*◌, ◌/◌, ◌%◌, ◌^◌, ◌<◌, ◌⊎◌, false, List, [], ◌++◌, length}
 use Rattle.blake2_tree.specs.OpenTrees.{OpenTree, Took, count}
 use Rattle.blake2_tree.specs.Ranges.{IsRange, AreWhole, range_digests}
 
--- what the tree has taken is whole leaves, or nothing
+-- The tree has absorbed whole leaves, or nothing.
 abbrev pub IsAtBoundary : OpenTree → Type 0
 IsAtBoundary t = count t % t.shared.leaf_length ≡ 0
 
--- the place of the leaf that comes next in a tree at a boundary
+-- The index of the leaf that comes next, in a tree at a boundary.
 abbrev pub next_leaf : OpenTree → ℕ
 next_leaf t = count t / t.shared.leaf_length
 
--- n bytes are whole leaves, the first of them `skip` leaves behind the one that comes next in a tree
--- at a boundary
+-- The tree is at a boundary, and n bytes are whole leaves, the first of them `skip` leaves after
+-- the one that comes next.
 pub record AreNextLeaves (t : OpenTree) (skip n : ℕ) : Type 0 where
   pub at_boundary : IsAtBoundary t
   pub range : IsRange t.shared.leaf_length (next_leaf t + skip) false n
 
--- the tree accepts n bytes behind so many bytes of digests: there are no digests, or these are
--- whole ones at a boundary with something behind them, so that none is that of the last leaf; and
--- the message stays below 2^58 bytes
+-- The tree accepts n bytes after `digests` bytes of digests: there are no digests, or there are
+-- whole ones, at a boundary and with bytes after them, so that none is that of the last leaf. The
+-- message stays below 2^58 bytes.
 pub record AcceptsLeaves (t : OpenTree) (digests n : ℕ) : Type 0 where
   pub whole : digests % 64 ≡ 0
   pub at_boundary : (digests ≡ 0) ⊎ IsAtBoundary t
   pub followed : (digests ≡ 0) ⊎ (0 < n)
   pub fits : count t + digests / 64 * t.shared.leaf_length + n < 2 ^ 58
 
--- the new tree is the old one once it has taken whole leaves, the next ones, of which these are the
--- digests, and then the rest
+-- The new tree is the old one after it absorbs whole leaves, the next ones, by these digests, and
+-- then the rest.
 pub record TookLeaves (old : OpenTree) (digests rest : List ℕ) (new : OpenTree) : Type 0 where
   pub shared : new.shared ≡ old.shared
   pub none : digests ≡ [] → Took old rest new

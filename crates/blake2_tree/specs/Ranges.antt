@@ -1,5 +1,5 @@
--- A range of a message's leaves, hashed by itself: the digests that it gives. The digests of the
--- ranges into which a message is cut, joined in order, are those of all its leaves.
+-- A range of a message's leaves that is hashed separately, and its digests. If a message is cut
+-- into ranges, their digests, joined in order, are those of all its leaves.
 use Rattle.std.specs.Prelude.{◌≡◌, ℕ, ◌+◌, ◌*◌, ◌/◌, ◌%◌, ◌^◌, ◌<◌, ◌≤◌, ◌⊎◌, nat_eq, Bool, true, false}
 use Rattle.std.specs.Prelude.{◌&&◌, List, [], ◌∷◌, ◌++◌, length, take, drop}
 use Rattle.std.specs.List.{All, flat_map, range_with_len, concat}
@@ -10,21 +10,22 @@ use Rattle.blake2_tree.specs.TreeRoot.{tree_root}
 
 -- ---- a range
 
--- n bytes are leaves of a message of fewer than 2^58 bytes, the first of them at place `first`, and
--- the last of them its last or not: whole leaves, but for the message's last, which may be shorter.
--- No bytes are the one leaf of a message of no bytes, and else no range
+-- n bytes are leaves of a message of fewer than 2^58 bytes. The first of them has the index
+-- `first`, and `ends` says whether the last of them is the message's last. The leaves are whole,
+-- except that the message's last may be shorter. No bytes are the one leaf of an empty message, and
+-- are otherwise not a range.
 pub record IsRange (size first : ℕ) (ends : Bool) (n : ℕ) : Type 0 where
   pub some : (0 < n) ⊎ ((ends ≡ true) × (first ≡ 0))
   pub whole : (ends ≡ true) ⊎ (n % size ≡ 0)
   pub fits : first * size + n < 2 ^ 58
 
--- leaf i of a range, as a node of the whole tree
+-- Leaf i of a range, as a node of the whole tree.
 abbrev pub range_leaf : TreeParameters → ℕ → Bool → List ℕ → ℕ → Input
 range_leaf p first ends bytes i =
     node p (first + i) 0 (ends && nat_eq (i + 1) (leaf_count p.leaf_length (length bytes)))
     (leaf p.leaf_length bytes i)
 
--- the digests of its leaves, 64 bytes each, joined in order
+-- The digests of the leaves of a range, 64 bytes each, joined in order.
 unfoldable pub range_digests : TreeParameters → ℕ → Bool → List ℕ → List ℕ
 range_digests p first ends bytes =
     flat_map (λ i. digest blake2b 64 (range_leaf p first ends bytes i))
@@ -32,55 +33,56 @@ range_digests p first ends bytes =
 
 -- ---- a message that is cut into ranges
 
--- the bytes are whole leaves, one at least
+-- The bytes are whole leaves, at least one.
 pub record AreWhole (size : ℕ) (bytes : List ℕ) : Type 0 where
   pub some : 0 < length bytes
   pub whole : length bytes % size ≡ 0
 
--- a cut of a message at borders of its leaves: texts of whole leaves, and behind them the last one,
--- which has bytes unless it is the only one
+-- A message is cut at boundaries of its leaves: into parts of whole leaves, followed by the last
+-- part, which is not empty unless it is the only one.
 pub record IsCut (size : ℕ) (front : List (List ℕ)) (last : List ℕ) : Type 0 where
   pub whole : All (AreWhole size) front
   pub some : (0 < length last) ⊎ (front ≡ [])
 
--- the digests of these ranges, joined, where each begins at the place at which the one before it
--- ends, and the last ends the message
+-- The digests of the ranges of a cut, joined. Each range begins at the index at which the one
+-- before it ends, and the last one ends the message.
 abbrev pub cut_digests : TreeParameters → ℕ → List (List ℕ) → List ℕ → List ℕ
 cut_digests p first [] last = range_digests p first true last
 cut_digests p first (x ∷ front) last =
     range_digests p first false x ++ cut_digests p (first + length x / p.leaf_length) front last
 
--- ---- a range in the place of another
+-- ---- a range that replaces another
 
--- n bytes from leaf `first` on come in the place of those of a message of `old` bytes, which has
--- that leaf. They end the new message where they reach the end of the old one or go beyond it, and
--- else bytes of the old one stand behind them
+-- n bytes from leaf `first` on replace those of a message of `old` bytes, which has that leaf. They
+-- end the new message if they reach or pass the end of the old one. Otherwise bytes of the old one
+-- follow them.
 pub record TakesPlace (size old first : ℕ) (ends : Bool) (n : ℕ) : Type 0 where
   pub begins : (first ≡ 0) ⊎ (first * size < old)
   pub at_end : (ends ≡ true) → old ≤ first * size + n
   pub before_end : (ends ≡ false) → first * size + n < old
 
--- a text with these in the place of what stands there from place `at` on
+-- The list `text`, with the elements from offset `at` on replaced by those of `new`.
 abbrev pub with_part : ℕ → List ℕ → List ℕ → List ℕ
 with_part at new text = take at text ++ (new ++ drop (at + length new) text)
 
--- ---- what is promised of ranges
+-- ---- the contracts of ranges
 
--- the digests of a range are those of its leaves in each message that has its bytes there
+-- The digests of a range are those of its leaves in every message that has the bytes of the range
+-- there.
 abbrev pub ArePartOfAll : TreeParameters → ℕ → Bool → List ℕ → List ℕ → Type 0
 ArePartOfAll p first ends bytes digests = (message : List ℕ)
     → TakesPlace p.leaf_length (length message) first ends (length bytes)
     → take (length bytes) (drop (first * p.leaf_length) message) ≡ bytes
     → digests ≡ take (length digests) (drop (64 * first) (leaf_digests p message))
 
--- where the digests are those of the ranges of a cut, this is the root of the message
+-- If the digests are those of the ranges of a cut, this is the root of the message.
 abbrev pub IsRootOfCuts : ℕ → TreeParameters → List ℕ → List ℕ → Type 0
 IsRootOfCuts size p digests root = (front : List (List ℕ)) (last : List ℕ)
     → IsCut p.leaf_length front last → digests ≡ cut_digests p 0 front last
     → root ≡ tree_root size p (concat front ++ last)
 
--- where the digests are those of an old message's leaves, with those of a range in the place of its
--- leaves, this is the root of the message that has the range there
+-- If the digests are those of an old message's leaves, with those of a range instead of the leaves
+-- that it replaces, this is the root of the message that has the range there.
 abbrev pub IsRootOfChanges : ℕ → TreeParameters → List ℕ → List ℕ → Type 0
 IsRootOfChanges size p digests root = (old new : List ℕ) (first : ℕ) (ends : Bool)
     → IsRange p.leaf_length first ends (length new)

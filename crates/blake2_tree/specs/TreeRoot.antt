@@ -1,38 +1,38 @@
 -- The tree of two levels over BLAKE2b, in the tree parameters of the BLAKE2 document (2.8 and
 -- 2.10). A message is cut into leaves of one length, the last of which may be shorter. Each leaf is
--- hashed, and the root is the hash of the leaves' digests. Which values the parameters have is this
--- project's own choice.
+-- hashed, and the root is the hash of the leaves' digests. The values of the tree parameters are
+-- this project's own choice.
 use Rattle.std.specs.Prelude.{ℕ, ◌+◌, nat_eq, Bool, true, List, length, None}
 use Rattle.std.specs.List.{flat_map, range_with_len}
 use Rattle.blake2_rows.specs.Family.{blake2b}
 use Rattle.blake2_words.specs.Hash.{Tree, Input, digest}
 use Rattle.blake2_words.specs.Pieces.{piece_count, piece}
 
--- what the nodes of a tree share: salt, persona, and the bytes of a leaf
+-- What the nodes of a tree share: the salt, the personalization, and the length of a leaf in bytes.
 pub record TreeParameters : Type 0 where
   pub salt : List ℕ
   pub persona : List ℕ
   pub leaf_length : ℕ
 
--- a record of them
+-- The record of a salt, a personalization and a leaf length.
 abbrev pub tree_parameters : List ℕ → List ℕ → ℕ → TreeParameters
 tree_parameters salt persona leaf_length =
     record { salt = salt; persona = persona; leaf_length = leaf_length }
 
 -- ---- the leaves of a message
 
--- how many leaves n bytes make, ceil(n / size) and at least one
+-- The number of leaves in n bytes: ceil(n / size), and at least one.
 abbrev pub leaf_count : ℕ → ℕ → ℕ
 leaf_count = piece_count
 
--- leaf i: bytes i·size to (i+1)·size of the message, or as many as there are
+-- Leaf i: bytes i·size to (i+1)·size of the message, or up to its end.
 abbrev pub leaf : ℕ → List ℕ → ℕ → List ℕ
 leaf = piece
 
 -- ---- the nodes
 
--- the place of a node: fanout 0 is without a limit, there are two levels, and the digests of inner
--- nodes have 64 bytes
+-- The tree parameters of a node (the BLAKE2 document, 2.8 and 2.10): the fanout 0 is unlimited,
+-- there are two levels, and the digests of inner nodes have 64 bytes.
 abbrev pub place : ℕ → ℕ → ℕ → Tree
 place leaf_length offset depth = record {
   fanout = 0;
@@ -43,7 +43,8 @@ place leaf_length offset depth = record {
   inner_length = 64;
 }
 
--- the node at this offset and depth, with its last-node flag and its bytes; it has no key
+-- The input of the node at this offset and depth, with its last-node flag and its bytes. It has no
+-- key.
 abbrev pub node : TreeParameters → ℕ → ℕ → Bool → List ℕ → Input
 node p offset depth last bytes = record {
   salt = p.salt;
@@ -54,26 +55,27 @@ node p offset depth last bytes = record {
   message = bytes;
 }
 
--- leaf i of a message: depth 0, and the flag at the last leaf alone
+-- Leaf i of a message as an input: its depth is 0, and only the last leaf has the last-node flag.
 abbrev pub leaf_input : TreeParameters → List ℕ → ℕ → Input
 leaf_input p message i =
     node p i 0 (nat_eq (i + 1) (leaf_count p.leaf_length (length message)))
     (leaf p.leaf_length message i)
 
--- the leaves' digests of 64 bytes, joined in order
+-- The digests of the leaves of a message, 64 bytes each, joined in order.
 unfoldable pub leaf_digests : TreeParameters → List ℕ → List ℕ
 leaf_digests p message =
     flat_map (λ i. digest blake2b 64 (leaf_input p message i))
     (range_with_len 0 (leaf_count p.leaf_length (length message)))
 
--- the root over these digests: depth 1, offset 0, the flag on
+-- The root over these digests as an input: its depth is 1, its offset is 0, and its last-node flag
+-- is on.
 abbrev pub root_over : TreeParameters → List ℕ → Input
 root_over p digests = node p 0 1 true digests
 
--- the root of a message, over its leaves' digests
+-- The root of a message as an input, over the digests of its leaves.
 abbrev pub root_input : TreeParameters → List ℕ → Input
 root_input p message = root_over p (leaf_digests p message)
 
--- the digest of the tree: that of the root, in `size` bytes
+-- The digest of the tree: that of its root, in `size` bytes.
 unfoldable pub tree_root : ℕ → TreeParameters → List ℕ → List ℕ
 tree_root size p message = digest blake2b size (root_input p message)

@@ -284,9 +284,9 @@ impl<const N: usize> TreeHasher<N> {
     }
 }
 
-/// The root of a message, as [`TreeHasher`] gives it: `N` bytes, at most 64. Salt and persona have
-/// at most 16 bytes each, a leaf has `leaf_length` bytes, 1 to 2^32 - 1, and the message fewer than
-/// 2^58. The call allocates nothing, and hashes whole leaves by fours, the last four too.
+/// The root of a message, as [`TreeHasher`] returns it: `N` bytes, at most 64. Salt and persona
+/// have at most 16 bytes each, a leaf has `leaf_length` bytes, 1 to 2^32 - 1, and the message fewer
+/// than 2^58. The call allocates nothing, and hashes whole leaves by fours, the last four too.
 pub fn tree_root<const N: usize>(
     salt: &[u8],
     persona: &[u8],
