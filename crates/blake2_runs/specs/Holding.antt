@@ -1,4 +1,4 @@
--- How states stand for slots, and what one call does to them.
+-- How states represent slots, and what one call does to them.
 use Rattle.std.specs.Prelude.{◌≡◌, ⊤, ℕ, Bool, List, [], ◌∷◌, ◌++◌, ◌⊎◌, Option, Some, None}
 use Rattle.std.specs.Prelude.{Result, Ok, Err}
 use Rattle.blake2_digest.specs.States.{Meaning}
@@ -8,7 +8,8 @@ use Rattle.blake2_runs.specs.declared.calls.Call.{Call}
 use Rattle.blake2_runs.specs.declared.calls.ReplayFault.{ReplayFault}
 use Rattle.blake2_runs.specs.declared.calls.ReplayFault.TheVariants.{Memory}
 
--- the state h is that of a slot that has taken this, where the first slot began as `first`
+-- The state h represents a slot that has absorbed this, if `first` is the first slot's initial
+-- state.
 pub record StandsFor {S : Type 0} (m : Meaning S) (first : S) (taken : Taken) (h : S) : Type 0 where
   pub future : (flag : Bool) (y : List ℕ)
       → m.future h flag y ≡ digest_under m first flag (and_more taken y)
@@ -17,22 +18,22 @@ pub record StandsFor {S : Type 0} (m : Meaning S) (first : S) (taken : Taken) (h
   pub count : m.count h ≡ count_of m first taken
   pub start_count : m.start_count h ≡ m.start_count first
 
--- a slot has its state, and one that has ended has none
+-- A slot has a state that represents it, and a slot that has ended has none.
 abbrev pub SlotHolds : {S : Type 0} → Meaning S → S → Option Taken → Option S → Type 0
 SlotHolds m first None None = ⊤
 SlotHolds m first None (Some h) = ⊥
 SlotHolds m first (Some taken) None = ⊥
 SlotHolds m first (Some taken) (Some h) = StandsFor m first taken h
 
--- so have all slots, in their order
+-- Every slot has its state, in order.
 abbrev pub AllHold : {S : Type 0} → Meaning S → S → Slots → List (Option S) → Type 0
 AllHold m first [] [] = ⊤
 AllHold m first [] (h ∷ hs) = ⊥
 AllHold m first (slot ∷ slots) [] = ⊥
 AllHold m first (slot ∷ slots) (h ∷ hs) = SlotHolds m first slot h × AllHold m first slots hs
 
--- a call was played as the definition says: the states stand for the slots that it leaves, and its
--- digests came behind the earlier ones
+-- A call was played as the definition says: the states represent the slots that it leaves, and its
+-- digests were appended to the earlier ones.
 pub record HasPlayed {S : Type 0} (m : Meaning S) (first : S) (played : Result Outcome ReplayFault)
     (earlier : List (List ℕ)) (states : List (Option S)) (digests : List (List ℕ)) : Type 0 where
   pub outcome : Outcome
@@ -40,7 +41,8 @@ pub record HasPlayed {S : Type 0} (m : Meaning S) (first : S) (played : Result O
   pub held : AllHold m first outcome.slots states
   pub digests_are : digests ≡ earlier ++ outcome.digests
 
--- a call was played as the definition says, or gave its fault, or wanted memory
+-- A call was played as the definition says, or returned the error of the definition, or ran out of
+-- memory.
 abbrev pub PlaysOrFails : {S : Type 0} → Meaning S → S → Result Outcome ReplayFault → List (List ℕ)
     → List (Option S) → List (List ℕ) → Result (Unit {0}) ReplayFault → Type 0
 PlaysOrFails m first played earlier states digests (Ok _) =
@@ -48,7 +50,7 @@ PlaysOrFails m first played earlier states digests (Ok _) =
 PlaysOrFails m first played earlier states digests (Err fault) =
     (fault ≡ Memory) ⊎ (played ≡ Err fault)
 
--- what a call at place i does to any states that stand for slots
+-- What the call at index i does to any states that represent slots.
 abbrev pub PlaysCall : {S : Type 0} → Meaning S → ℕ → Call → List (Option S) → List (List ℕ)
     → List (Option S) → List (List ℕ) → Result (Unit {0}) ReplayFault → Type 0
 PlaysCall {S} m i call before earlier states digests result =
