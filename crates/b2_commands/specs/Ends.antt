@@ -1,4 +1,4 @@
--- How a task ends, and the printing of what comes of the input.
+-- How a task ends, and what it prints of its input.
 use Rattle.std.specs.Prelude.{◌≡◌, ◌≢◌, ◌↔◌, ℕ, ◌+◌, ◌<◌, ◌≤◌, ◌^◌, ⊤, Bool, List, length, Option}
 use Rattle.std.specs.Prelude.{Result, Ok, Err, IfErr, IfSome, IsErrOf, IsOkAnd, IsTrue, OnOk}
 use Rattle.std.specs.List.{flat_map}
@@ -12,9 +12,9 @@ use Rattle.b2_commands.specs.Words.{Task}
 use Rattle.b2_commands.specs.Tasks.{IsDone}
 use Rattle.b2_commands.specs.Faults.{IsDue}
 
--- how a task ends over what a source had left: the fault of a device comes exactly where it failed,
--- the task is done, or its fault is due; and no fault but that of a write comes once anything is
--- printed
+-- How a task ends on what a source had left. The error of a device is returned exactly if the
+-- device failed. Otherwise the task is done, or the error is due. After anything is printed, only a
+-- write error is returned.
 pub record EndsTask (task : Task) (result : Result (Unit {0}) Fault) (left : Option (List ℕ))
     (read_failed write_failed : Bool) (old new : Option (List ℕ)) : Type 0 where
   pub read : IsErrOf result ReadFailed ↔ IsTrue read_failed
@@ -23,8 +23,8 @@ pub record EndsTask (task : Task) (result : Result (Unit {0}) Fault) (left : Opt
   pub cause : IfErr result (λ fault. IsDue fault task left read_failed)
   pub unprinted : IfErr result (λ fault. fault ≢ WriteFailed → Keeps old new)
 
--- the text of what a source had left is printed, or a fault comes before anything is or at a write.
--- The bytes are counted from a start
+-- The output that `text` makes of what a source had left is printed, or an error is returned before
+-- anything is printed or at a write. The bytes are counted from `start`.
 abbrev pub EndsBy : (List ℕ → List ℕ) → ℕ → Result (Unit {0}) Fault → Option (List ℕ)
     → Option (List ℕ) → Option (List ℕ) → Type 0
 EndsBy text start (Ok _) left old new =
@@ -37,14 +37,14 @@ EndsBy text start (Err NoMemory) left old new = Keeps old new
 EndsBy text start (Err WriteFailed) left old new = ⊤
 EndsBy text start (Err fault) left old new = ⊥
 
--- what a source had left has this fault, and nothing is printed
+-- The script that a source had left has this error, and nothing is printed.
 abbrev pub RefusesText : (List ℕ → Result (List (List ℕ)) Fault) → Fault → Option (List ℕ)
     → Option (List ℕ) → Option (List ℕ) → Type 0
 RefusesText digests fault left old new =
     IfSome left (λ text. digests text ≡ Err fault) × Keeps old new
 
--- the digests of what a source had left are printed, a line each, or it has a fault, or one comes
--- before anything is printed or at a write
+-- The digests of the script that a source had left are printed, one on each line, or the script has
+-- an error, or an error is returned before anything is printed or at a write.
 abbrev pub EndsByDigests : (List ℕ → Result (List (List ℕ)) Fault) → Result (Unit {0}) Fault
     → Option (List ℕ) → Option (List ℕ) → Option (List ℕ) → Type 0
 EndsByDigests digests (Ok _) left old new =

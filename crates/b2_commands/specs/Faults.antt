@@ -1,4 +1,4 @@
--- The faults of the program: their statuses, texts and causes.
+-- The errors of the program: their statuses, messages and causes.
 use Rattle.std.specs.Prelude.{◌≡◌, ◌≢◌, ◌<◌, ◌⊎◌, ◌∷◌, ◌++◌, ℕ, Bool, false, List, [], length}
 use Rattle.std.specs.Prelude.{codes, decimal, Option, Some, None, IfSome, IsOkAnd, IsTrue}
 use Rattle.std.specs.Io.KnownBytes.{Appends}
@@ -13,14 +13,14 @@ use Rattle.blake2_runs.specs.declared.engine.stream.StreamFault.TheVariants.{Too
 use Rattle.b2_commands.specs.Words.{Task, task_of, IsReadingFault}
 use Rattle.b2_commands.specs.Tasks.{IsRefusedTask, IsTooLongFor, IsFaultOfScript, TakesMemory}
 
--- the fault of the program where a stream that is hashed has one
+-- The error of the program for an error of a stream that is hashed.
 abbrev pub fault_of_stream : StreamFault → Fault
 fault_of_stream Read = ReadFailed
 fault_of_stream StreamTooLong = TooLong
 fault_of_stream Write = WriteFailed
 
--- the status that a fault ends with: 2 for the words and the input, 1 for the devices and the
--- memory
+-- The status that the program exits with after an error: 2 for the arguments and the input, 1 for
+-- the devices and the memory.
 abbrev pub status_of : Fault → ℕ
 status_of WrongWords = 2
 status_of WrongHex = 2
@@ -33,7 +33,7 @@ status_of ReadFailed = 1
 status_of NoMemory = 1
 status_of WriteFailed = 1
 
--- what a fault says
+-- The message of an error.
 abbrev pub fault_text : Fault → List ℕ
 fault_text WrongWords = codes "wrong words"
 fault_text WrongHex = codes "wrong hex"
@@ -46,30 +46,31 @@ fault_text ReadFailed = codes "read failed"
 fault_text NoMemory = codes "no memory"
 fault_text WriteFailed = []
 
--- the line of a script, from 1, that a fault names
+-- The line of a script that an error names, counted from 1.
 abbrev pub line_number : Fault → Option ℕ
 line_number (WrongLine number) = Some number
 line_number (NoSuchSlot number) = Some number
 line_number (LineTooLong number) = Some number
 line_number fault = None
 
--- the place that it names, before its text
+-- The line that an error names, as printed before the message.
 abbrev pub place_text : Option ℕ → List ℕ
 place_text None = []
 place_text (Some number) = codes "line " ++ decimal number ++ codes ": "
 
--- the line that a fault prints, with its newline (10); a failed output takes none
+-- The line that the program prints for an error, with its newline (10). Nothing is printed for a
+-- write error.
 abbrev pub fault_line : Fault → List ℕ
 fault_line WriteFailed = []
 fault_line fault = codes "b2: " ++ place_text (line_number fault) ++ fault_text fault ++ 10 ∷ []
 
--- a fault in the script of a task that is not refused
+-- The task is not refused, and its script has this error.
 abbrev pub IsScriptFault : Fault → Task → Option (List ℕ) → Type 0
 IsScriptFault fault task left = (¬ IsRefusedTask task) × IfSome left (IsFaultOfScript fault task)
 
--- the cause of a fault, once the words are read: what they ask for, then what the source had left,
--- and whether a read has failed. Lengths are looked at first, and the input is read once they are
--- right
+-- The cause of an error, once the arguments are read: the task that they name, what the source had
+-- left, and whether a read has failed. Lengths are checked first, and the input is read only if
+-- they are right.
 abbrev pub IsDue : Fault → Task → Option (List ℕ) → Bool → Type 0
 IsDue WrongLength task left failed = IsRefusedTask task
 IsDue (WrongLine number) task left failed = IsScriptFault (WrongLine number) task left
@@ -81,8 +82,8 @@ IsDue NoMemory task left failed = (¬ IsRefusedTask task) × TakesMemory task ×
 IsDue WriteFailed task left failed = ¬ IsRefusedTask task
 IsDue fault task left failed = ⊥
 
--- the cause of a fault of the words, of which nothing is read: the first wrong one, or memory was
--- refused for the bytes of HEX, in a word behind a command and its KIND
+-- The cause of an error in the arguments, after which nothing is read: the first wrong argument, or
+-- memory was refused for the bytes of HEX, in an argument after a command and its KIND.
 pub record IsFaultOfWords (fault : Fault) (words : List (List ℕ)) (left rest : Option (List ℕ))
     (failed : Bool) : Type 0 where
   pub reading : IsReadingFault fault (task_of words)
@@ -90,13 +91,13 @@ pub record IsFaultOfWords (fault : Fault) (words : List (List ℕ)) (left rest :
   pub unread : rest ≡ left
   pub unfailed : failed ≡ false
 
--- the cause of a fault: it is one of the words, or due for the task that they ask for
+-- The cause of an error: the error is one of the arguments, or is due for the task that they name.
 abbrev pub IsCause : Fault → List (List ℕ) → Option (List ℕ) → Option (List ℕ) → Bool → Type 0
 IsCause fault words left rest failed =
     IsFaultOfWords fault words left rest failed
     ⊎ IsOkAnd (task_of words) (λ task. IsDue fault task left failed)
 
--- a fault with its cause gave the status, and a sink took its line
+-- An error with its cause has this status, and the sink accepted its line.
 pub record IsTold (words : List (List ℕ)) (left rest : Option (List ℕ)) (failed : Bool) (status : ℕ)
     (old new : Option (List ℕ)) : Type 0 where
   pub fault : Fault

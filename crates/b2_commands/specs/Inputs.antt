@@ -2,12 +2,12 @@
 use Rattle.std.specs.Prelude.{List, ℕ, ⊤, Option, Some, None}
 use Rattle.blake2.specs.Hash.{AreBytes, Input}
 
--- a key, where there is one, has bytes
+-- A key, if there is one, consists of bytes.
 abbrev pub IsKeyOfBytes : Option (List ℕ) → Type 0
 IsKeyOfBytes None = ⊤
 IsKeyOfBytes (Some key) = AreBytes key
 
--- the parts of an input are bytes, as their types say
+-- The parts of an input consist of bytes, as their types say.
 pub record IsOfBytes (a : Input) : Type 0 where
   pub salt : AreBytes a.salt
   pub persona : AreBytes a.persona

@@ -11,19 +11,19 @@ use Rattle.b2_commands.specs.declared.words.Kind.{Kind as KindNamed}
 use Rattle.b2_commands.specs.declared.words.Kind.TheVariants.{Blake2b, Blake2s}
 use Rattle.b2_commands.specs.Words.{Kind, blake2b_of, blake2s_of}
 
--- a kind of BLAKE2b
+-- The kind of BLAKE2b that the program has read.
 abbrev pub blake2b_value : Blake2bKind → Kind
 blake2b_value B128 = blake2b_of 16
 blake2b_value B256 = blake2b_of 32
 blake2b_value B512 = blake2b_of 64
 
--- a kind of either family
+-- The kind of either family that the program has read.
 abbrev pub kind_value : KindNamed → Kind
 kind_value (Blake2b kind) = blake2b_value kind
 kind_value (Blake2s S128) = blake2s_of 16
 kind_value (Blake2s S256) = blake2s_of 32
 
--- a family
+-- The family that the program has read.
 abbrev pub family_value : FamilyNamed → Family
 family_value FamilyB = blake2b
 family_value FamilyS = blake2s

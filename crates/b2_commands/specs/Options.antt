@@ -5,11 +5,11 @@ use Rattle.std.specs.declared.alloc.Global.{Global}
 use Rattle.b2_commands.specs.declared.words.Options.{Options}
 use Rattle.b2_commands.specs.Words.{Given}
 
--- the bytes that an option has, where it is given
+-- The bytes of an option, if it is given.
 abbrev pub bytes_given : Option (Vec ℕ Global) → Option (List ℕ)
 bytes_given option = option_map (λ v. v.items) option
 
--- what the options give
+-- The bytes of the options that are given.
 abbrev pub given_of : Options → Given
 given_of options = record {
   key = bytes_given options.key;

@@ -11,26 +11,26 @@ use Rattle.b2_commands.specs.Options.{given_of}
 use Rattle.b2_commands.specs.Words.{Given, Kind, Task}
 use Rattle.b2_commands.specs.Words.Task.{to_sum, to_script, to_steps, to_witness, to_tree}
 
--- the task that prints an output
+-- The task that prints an output.
 abbrev pub output_task : Output → Kind → Given → Task
 output_task Digest kind given = to_sum kind given
 output_task Digests kind given = to_script kind given
 output_task Transcript kind given = to_steps kind given
 
--- the digests by which messages are compared
+-- The kind of digests by which messages are compared.
 abbrev pub compared_value : Compared → Kind
 compared_value compared = record { family = family_value compared.family; bytes = compared.bytes }
 
--- the task of a comparison
+-- The task of a comparison.
 abbrev pub comparison_task : Comparison → Task
 comparison_task comparison =
     to_witness (compared_value comparison.by) comparison.a.items comparison.b.items
 
--- the task of a root
+-- The task of a root.
 abbrev pub root_task : Root → Task
 root_task root = to_tree (blake2b_value root.kind) root.leaf_length (given_of root.options)
 
--- the task that the program has read
+-- The task that the program has read.
 abbrev pub task_value : TaskRead → Task
 task_value (Hash output kind options) = output_task output (kind_value kind) (given_of options)
 task_value (Compare comparison) = comparison_task comparison

@@ -12,7 +12,7 @@ use Rattle.blake2_runs.specs.declared.calls.ReplayFault.{ReplayFault}
 use Rattle.blake2_runs.specs.declared.calls.ReplayFault.TheVariants.{NoSuchSlot as NoSuchSlotAt}
 use Rattle.blake2_runs.specs.declared.calls.ReplayFault.TheVariants.{TooLong as TooLongAt, Memory}
 
--- the call that the program has read
+-- The call that the program has read.
 abbrev pub call_value : ScriptCall → Call
 call_value (script.Update slot bytes) = Update slot (slice_of bytes.items)
 call_value (script.Clone slot) = Clone slot
@@ -20,7 +20,7 @@ call_value (script.Reset slot) = Reset slot
 call_value (script.Finalize slot) = Finalize slot
 call_value (script.FinalizeReset slot) = FinalizeReset slot
 
--- a call whose bytes lie nowhere, as those of a definition
+-- A call whose bytes have no address, such as those of a definition.
 abbrev pub unplaced : Call → Call
 unplaced (Update slot bytes) = Update slot (slice_of bytes.now)
 unplaced (Clone slot) = Clone slot
@@ -28,13 +28,13 @@ unplaced (Reset slot) = Reset slot
 unplaced (Finalize slot) = Finalize slot
 unplaced (FinalizeReset slot) = FinalizeReset slot
 
--- a fault that comes of reading a script is the one expected, or memory was refused
+-- An error in reading a script is the expected one, or memory was refused.
 abbrev pub IsLineFault : {A : Type 0} → Fault → Result A Fault → Type 0
 IsLineFault (WrongLine number) expected = expected ≡ Err (WrongLine number)
 IsLineFault NoMemory expected = ⊤
 IsLineFault fault expected = ⊥
 
--- the number of the line in which a bad call stands fits a usize
+-- The number of the line that has a bad call fits a `usize`.
 abbrev pub IsPlaced : ReplayFault → Type 0
 IsPlaced (NoSuchSlotAt i) = i + 1 < 2 ^ 64
 IsPlaced (TooLongAt i) = i + 1 < 2 ^ 64

@@ -1,4 +1,4 @@
--- What a script says, and the digests that it answers. 10 is a newline and 32 a space.
+-- What a script says, and the digests that it returns. 10 is a newline and 32 a space.
 use Rattle.std.specs.Prelude.{ℕ, ◌+◌, ◌==◌, if◌then◌else◌, List, [], ◌∷◌, codes, Option, Some, None}
 use Rattle.std.specs.Prelude.{is_some, ok_or, position, Result, Ok, Err}
 use Rattle.std.specs.Borrow.{Bor}
@@ -19,51 +19,51 @@ use Rattle.b2_commands.specs.declared.fault.Fault.TheVariants.{NoMemory}
 use Rattle.b2_commands.specs.Numbers.{number_value}
 use Rattle.b2_commands.specs.Words.{and_then, message_value}
 
--- the line in the part behind the last newline: an empty part is no line
+-- The line in the part after the last newline. An empty part is not a line.
 abbrev pub last_line : List ℕ → List (List ℕ)
 last_line [] = []
 last_line (b ∷ part) = (b ∷ part) ∷ []
 
--- the lines in the parts between newlines
+-- The lines in the parts between newlines.
 abbrev pub lines_of_parts : List (List ℕ) → List (List ℕ)
 lines_of_parts [] = []
 lines_of_parts (part ∷ []) = last_line part
 lines_of_parts (part ∷ next ∷ parts) = part ∷ lines_of_parts (next ∷ parts)
 
--- the lines of a text, without their newlines, which the last line may lack
+-- The lines of a script, without their newlines, which the last line may lack.
 abbrev pub lines_of : List ℕ → List (List ℕ)
 lines_of text = lines_of_parts (slice_split (λ b. b == 10) text)
 
--- what stands before the first such byte, and what stands after it
+-- The bytes before the first byte equal to `byte` and those after it, if there is such a byte.
 abbrev pub cut_at : ℕ → List ℕ → Option (List ℕ × List ℕ)
 cut_at byte text =
     if is_some (position (λ b. b == byte) text)
     then Some (before_first (λ b. b == byte) text, after_first (λ b. b == byte) text)
     else None
 
--- the slot that a field names: 1 to 9 decimal digits without a leading zero
+-- The slot that a field names: 1 to 9 decimal digits with no leading zero.
 abbrev pub slot_value : List ℕ → Option ℕ
 slot_value digits = number_value 9 digits
 
--- bytes as a slice. What calls answer does not depend on where it lies
+-- The bytes as a slice. What calls return does not depend on its address.
 abbrev pub slice_of : List ℕ → Bor (List ℕ)
 slice_of bytes = record { ref_ptr = (0, 0); now = bytes }
 
--- the update of a slot by the bytes of HEX, where HEX is one
+-- The update of a slot with the bytes of HEX, if HEX is right.
 abbrev pub update_with : ℕ → Result (List ℕ) Fault → Option Call
 update_with slot (Ok bytes) = Some (Update slot (slice_of bytes))
 update_with slot (Err fault) = None
 
--- the update of the fields SLOT and HEX
+-- The update with the fields SLOT and HEX.
 abbrev pub update_call : List ℕ → List ℕ → Option Call
 update_call slot digits =
     option_and_then (λ k. update_with k (message_value digits)) (slot_value slot)
 
--- the update that the fields behind its name say
+-- The update with the fields after its name.
 abbrev pub update_fields : List ℕ → Option Call
 update_fields fields = option_and_then (λ parts. update_call parts.0 parts.1) (cut_at 32 fields)
 
--- the call of this name with the fields behind it
+-- The call with this name and the fields after it.
 abbrev pub named_call : List ℕ → List ℕ → Option Call
 named_call name fields =
     if bytes_eq name (codes "u")
@@ -74,35 +74,35 @@ named_call name fields =
     else if bytes_eq name (codes "d") then option_map FinalizeReset (slot_value fields)
     else None
 
--- the call of a line: its name, SLOT, and HEX of an update, with one space between them; none,
--- where the line is wrong
+-- The call of a line: its name, SLOT, and HEX of an update, with one space between them. A wrong
+-- line has no call.
 abbrev pub call_of : List ℕ → Option Call
 call_of line = option_and_then (λ parts. named_call parts.0 parts.1) (cut_at 32 line)
 
--- the call of the line of this number
+-- The call of the line with this number, or the error of a wrong line.
 abbrev pub call_at : ℕ → List ℕ → Result Call Fault
 call_at number line = ok_or (call_of line) (WrongLine number)
 
--- the calls of lines, the first of which has this number
+-- The calls of lines, the first of which has this number.
 abbrev pub calls_from : ℕ → List (List ℕ) → Result (List Call) Fault
 calls_from number [] = Ok []
 calls_from number (line ∷ lines) =
     and_then (call_at number line)
     (λ call. and_then (calls_from (number + 1) lines) (λ calls. Ok (call ∷ calls)))
 
--- the calls of a script; the first wrong line is a fault
+-- The calls of a script, or the error of its first wrong line.
 abbrev pub script_calls : List ℕ → Result (List Call) Fault
 script_calls text = calls_from 1 (lines_of text)
 
--- the fault of the program where a list of calls has one: the call at place i, from 0, stands in
--- line i + 1
+-- The error of the program for an error of a list of calls: the call at index i, from 0, is in line
+-- i + 1.
 abbrev pub fault_of_calls : ReplayFault → Fault
 fault_of_calls (NoSuchSlotAt i) = NoSuchSlot (i + 1)
 fault_of_calls (TooLongAt i) = LineTooLong (i + 1)
 fault_of_calls Memory = NoMemory
 
--- the digests that a script answers on a hasher that was just made, whose digest of y is `digest y`
--- and which begins with n counted bytes; all lines are read before the first call
+-- The digests that a script returns on a hasher that has just been initialized, whose digest of y
+-- is `digest y` and which begins with n counted bytes. All lines are read before the first call.
 abbrev pub script_digests : (List ℕ → List ℕ) → ℕ → List ℕ → Result (List (List ℕ)) Fault
 script_digests digest n text =
     and_then (script_calls text)

@@ -1,4 +1,4 @@
--- What the tasks of the program take and print.
+-- What the tasks of the program accept and print.
 use Rattle.std.specs.Prelude.{◌≡◌, ℕ, ◌+◌, ◌<◌, ◌≤◌, ◌^◌, ◌⊎◌, ⊤, Bool, List, [], length, Option}
 use Rattle.std.specs.Prelude.{unwrap_or, IfSome, Result, Err, IsOkAnd}
 use Rattle.std.specs.List.{flat_map}
@@ -16,38 +16,40 @@ use Rattle.b2_commands.specs.Lines.{transcript_lines}
 use Rattle.b2_commands.specs.Scripts.{script_digests}
 use Rattle.b2_commands.specs.Witnesses.{PrintsWitness}
 
--- a key, a salt or a persona that is given has a length that the family does not take
+-- A key, a salt or a personalization is given that has a length that the family does not accept.
 abbrev pub IsRefusedBy : Family → Given → Type 0
 IsRefusedBy f given = IsRefused f given.key (unwrap_or given.salt []) (unwrap_or given.persona [])
 
--- a salt or a persona that is given has more bytes than a tree takes
+-- A salt or a personalization is given that is longer than 16 bytes, the maximum of a tree.
 abbrev pub IsRefusedByTree : Given → Type 0
 IsRefusedByTree given =
     (16 < length (unwrap_or given.salt [])) ⊎ (16 < length (unwrap_or given.persona []))
 
--- the root of n bytes with the salt and the persona that are given, as a function of the message
+-- The root of n bytes with the salt and the personalization that are given, as a function of the
+-- message.
 abbrev pub root_with : ℕ → ℕ → Given → List ℕ → List ℕ
 root_with n leaf_length given message =
     tree_root n
     (tree_parameters (unwrap_or given.salt []) (unwrap_or given.persona []) leaf_length) message
 
--- BLAKE2 of n bytes with the salt, the persona and the key that are given, as a function of the
--- last-node flag and the message
+-- The BLAKE2 digest of n bytes with the salt, the personalization and the key that are given, as a
+-- function of the last-node flag and the message.
 abbrev pub node_digest_with : Family → ℕ → Given → Bool → List ℕ → List ℕ
 node_digest_with f n given =
     node_digest_of f n (unwrap_or given.salt []) (unwrap_or given.persona []) given.key sequential
 
--- the same as a function of the message alone
+-- The BLAKE2 digest of n bytes with the salt, the personalization and the key that are given, as a
+-- function of the message.
 abbrev pub digest_with : Family → ℕ → Given → List ℕ → List ℕ
 digest_with f n given message =
     digest_of f n (unwrap_or given.salt []) (unwrap_or given.persona []) given.key message
 
--- the input with the salt, the persona and the key that are given
+-- The input with the salt, the personalization and the key that are given.
 abbrev pub input_with : Given → List ℕ → Input
 input_with given message =
     input_of_parts (unwrap_or given.salt []) (unwrap_or given.persona []) given.key message
 
--- a task has a key, a salt or a persona of a length that is not taken
+-- A key, a salt or a personalization of the task has a length that is not accepted.
 abbrev pub IsRefusedTask : Task → Type 0
 IsRefusedTask (to_sum kind given) = IsRefusedBy kind.family given
 IsRefusedTask (to_script kind given) = IsRefusedBy kind.family given
@@ -55,12 +57,12 @@ IsRefusedTask (to_steps kind given) = IsRefusedBy kind.family given
 IsRefusedTask (to_witness kind a b) = ⊥
 IsRefusedTask (to_tree kind leaf_length given) = IsRefusedByTree given
 
--- the bytes of an input, with those of a key's block, would be 2^64 or more
+-- The bytes of an input, with those of a key's block, are 2^64 or above.
 abbrev pub IsTooLongBy : Family → Given → List ℕ → Type 0
 IsTooLongBy f given input = 2 ^ 64 ≤ key_count f given.key + length input
 
--- so they would be for a task. A script counts the bytes of each slot, `witness` reads no input,
--- and a tree takes fewer than 2^58 bytes
+-- The input is too long for a task. A script counts the bytes of each slot, `witness` reads no
+-- input, and a tree accepts fewer than 2^58 bytes.
 abbrev pub IsTooLongFor : Task → List ℕ → Type 0
 IsTooLongFor (to_sum kind given) input = IsTooLongBy kind.family given input
 IsTooLongFor (to_script kind given) input = ⊥
@@ -68,26 +70,27 @@ IsTooLongFor (to_steps kind given) input = IsTooLongBy kind.family given input
 IsTooLongFor (to_witness kind a b) input = ⊥
 IsTooLongFor (to_tree kind leaf_length given) input = 2 ^ 58 ≤ length input
 
--- a task takes memory once its words are read: `script` and `steps` hold the input, and `tree` a
--- piece of it; `sum` passes it on in pieces of a fixed length, and `witness` needs none
+-- The task allocates memory after its arguments are read. `script` and `steps` hold the input, and
+-- `tree` holds a piece of it. `sum` passes the input on in pieces of a fixed length, and `witness`
+-- needs no memory.
 abbrev pub TakesMemory : Task → Type 0
 TakesMemory (to_script kind given) = ⊤
 TakesMemory (to_steps kind given) = ⊤
 TakesMemory (to_tree kind leaf_length given) = ⊤
 TakesMemory task = ⊥
 
--- the digests that a script answers with what is given
+-- The digests that a script returns with the options that are given.
 abbrev pub script_answer : Family → ℕ → Given → List ℕ → Result (List (List ℕ)) Fault
 script_answer f n given script =
     script_digests (digest_with f n given) (key_count f given.key) script
 
--- a script has this fault
+-- The script of a task has this error.
 abbrev pub IsFaultOfScript : Fault → Task → List ℕ → Type 0
 IsFaultOfScript fault (to_script kind given) input =
     script_answer kind.family kind.bytes given input ≡ Err fault
 IsFaultOfScript fault task input = ⊥
 
--- a sink took the output of a task over what a source had left; `witness` reads no input
+-- The sink accepted the output of a task on what a source had left. `witness` reads no input.
 abbrev pub Outputs : Task → Option (List ℕ) → Option (List ℕ) → Option (List ℕ) → Type 0
 Outputs (to_sum kind given) left old new =
     IfSome left (λ input. Appends old new
@@ -105,8 +108,8 @@ Outputs (to_tree kind leaf_length given) left old new =
     IfSome left (λ input. Appends old new
     (line_of (root_with kind.bytes leaf_length given input)))
 
--- a task was done: it is not refused, the input that a source had left is not too long for it, and
--- a sink took the whole output
+-- The task is done: it is not refused, the input that a source had left is not too long for it, and
+-- the sink accepted the whole output.
 pub record IsDone (task : Task) (left old new : Option (List ℕ)) : Type 0 where
   pub not_refused : ¬ IsRefusedTask task
   pub fits : IfSome left (λ input. ¬ IsTooLongFor task input)

@@ -6,13 +6,14 @@ use Rattle.blake2.specs.Hash.{Input, Step}
 use Rattle.blake2.specs.Witness.{Collide, IsWitness}
 use Rattle.b2_commands.specs.Lines.{step_line}
 
--- the lines of a step of each input, which make a witness
+-- The lines of two steps are printed, one step of each input, and the steps are a witness.
 abbrev pub PrintsPair : Family → ℕ → Input → Input → Option (List ℕ) → Option (List ℕ) → Type 0
 PrintsPair f n a b old new =
     (x : Step) × (y : Step) × IsWitness f a b n x y
     × Appends old new (step_line f x ++ step_line f y)
 
--- a witness where the inputs differ and their digests of n bytes are equal, and else `none`
+-- A witness is printed if the inputs differ and their digests of n bytes are equal, and otherwise
+-- `none`.
 abbrev pub PrintsWitness : Family → ℕ → Input → Input → Option (List ℕ) → Option (List ℕ) → Type 0
 PrintsWitness f n a b old new =
     (Collide f n a b × PrintsPair f n a b old new)

@@ -1,5 +1,5 @@
--- What the words of the command line ask for. They are looked at from left to right, and the first
--- fault is the answer.
+-- The tasks that the arguments of the command line name. The arguments are checked from left to
+-- right, and the first error is returned.
 use Rattle.std.specs.Prelude.{◌≡◌, ⊤, ℕ, ◌^◌, ◌==◌, ◌&&◌, ◌||◌, nat_lt, Bool, true, false}
 use Rattle.std.specs.Prelude.{if◌then◌else◌, List, [], ◌∷◌, codes, Option}
 use Rattle.std.specs.Prelude.{Some, None, is_some, position, Result, Ok, Err}
@@ -12,32 +12,32 @@ use Rattle.b2_commands.specs.Numbers.{number_value}
 use Rattle.b2_commands.specs.declared.fault.Fault.{Fault}
 use Rattle.b2_commands.specs.declared.fault.Fault.TheVariants.{WrongWords, WrongHex, NoMemory}
 
--- the second step, where the first has a value
+-- The result of the second step, if the first has a value, or the error of the first.
 abbrev pub and_then : {A B : Type 0} → Result A Fault → (A → Result B Fault) → Result B Fault
 and_then (Ok value) next = next value
 and_then (Err fault) next = Err fault
 
--- a fault that comes of reading words is the one expected, or memory was refused
+-- An error in reading the arguments is the expected one, or memory was refused.
 abbrev pub IsReadingFault : {A : Type 0} → Fault → Result A Fault → Type 0
 IsReadingFault WrongWords expected = expected ≡ Err WrongWords
 IsReadingFault WrongHex expected = expected ≡ Err WrongHex
 IsReadingFault NoMemory expected = ⊤
 IsReadingFault fault expected = ⊥
 
--- a hash function of a family, whose digests have so many bytes
+-- A hash function of a family, with the length of its digests in bytes.
 pub record Kind : Type 0 where
   pub family : Family
   pub bytes : ℕ
 
--- the kind of BLAKE2b whose digests have n bytes
+-- The kind of BLAKE2b whose digests have n bytes.
 abbrev pub blake2b_of : ℕ → Kind
 blake2b_of n = record { family = blake2b; bytes = n }
 
--- the kind of BLAKE2s whose digests have n bytes
+-- The kind of BLAKE2s whose digests have n bytes.
 abbrev pub blake2s_of : ℕ → Kind
 blake2s_of n = record { family = blake2s; bytes = n }
 
--- the kind that a word names
+-- The kind that an argument names.
 abbrev pub kind_of : List ℕ → Result Kind Fault
 kind_of word =
     if bytes_eq word (codes "b128") then Ok (blake2b_of 16)
@@ -47,16 +47,16 @@ kind_of word =
     else if bytes_eq word (codes "s256") then Ok (blake2s_of 32)
     else Err WrongWords
 
--- whether a family is BLAKE2b
+-- Whether a family is BLAKE2b.
 abbrev pub is_blake2b : Family → Bool
 is_blake2b blake2b = true
 is_blake2b blake2s = false
 
--- the bytes of HEX: an even number of hexadecimal digits of either case, perhaps none
+-- The bytes of HEX: an even number of hexadecimal digits of either case, possibly none.
 abbrev pub hex_value : List ℕ → Result (List ℕ) Fault
 hex_value digits = result_map_both (λ bytes. bytes) (λ _. WrongHex) (decode_of digits)
 
--- the kind of digests that `witness` compares, which a word names
+-- The kind of digests that `witness` compares, as an argument names it.
 abbrev pub compared_kind_of : List ℕ → Result Kind Fault
 compared_kind_of word =
     if bytes_eq word (codes "b0") then Ok (blake2b_of 0)
@@ -65,48 +65,49 @@ compared_kind_of word =
     else if bytes_eq word (codes "s8") then Ok (blake2s_of 1)
     else kind_of word
 
--- a kind of BLAKE2b, of which alone there are trees
+-- The kind, if it is one of BLAKE2b. Only BLAKE2b has trees.
 abbrev pub tree_kind : Kind → Result Kind Fault
 tree_kind kind = if is_blake2b kind.family then Ok kind else Err WrongWords
 
--- the kind of root that `tree` prints, which a word names
+-- The kind of root that `tree` prints, as an argument names it.
 abbrev pub tree_kind_of : List ℕ → Result Kind Fault
 tree_kind_of word = and_then (kind_of word) tree_kind
 
--- a number of bytes that a leaf can have
+-- The number as the length of a leaf, if it is 1 to 2^32 - 1.
 abbrev pub some_leaf : Option ℕ → Result ℕ Fault
 some_leaf None = Err WrongWords
 some_leaf (Some n) = if nat_lt 0 n && nat_lt n (2 ^ 32) then Ok n else Err WrongWords
 
--- the bytes of a leaf that the word LEAF names: 1 to 2^32 - 1 in decimal digits without a leading
--- zero
+-- The length of a leaf in bytes, as the argument LEAF names it: 1 to 2^32 - 1, in decimal digits
+-- with no leading zero.
 abbrev pub leaf_value : List ℕ → Result ℕ Fault
 leaf_value digits = some_leaf (number_value 10 digits)
 
--- the bytes of HEX as a message: two or more hexadecimal digits, an even number, or `-` for none
+-- The bytes of HEX as a message: an even number of hexadecimal digits, at least two, or `-` for no
+-- bytes.
 abbrev pub message_value : List ℕ → Result (List ℕ) Fault
 message_value word =
     if bytes_eq word (codes "-") then Ok []
     else if bytes_eq word [] then Err WrongHex
     else hex_value word
 
--- the bytes of `key=HEX`, `salt=HEX` and `persona=HEX`, where they are given
+-- The bytes of `key=HEX`, `salt=HEX` and `persona=HEX`, if they are given.
 pub record Given : Type 0 where
   pub key : Option (List ℕ)
   pub salt : Option (List ℕ)
   pub persona : Option (List ℕ)
 
--- none is given
+-- No option is given.
 abbrev pub nothing_given : Given
 nothing_given = record { key = None; salt = None; persona = None }
 
--- the bytes of HEX, as a value that was not given before
+-- The bytes of HEX, for an option that was not given before.
 abbrev pub first_value : Option (List ℕ) → List ℕ → Result (List ℕ) Fault
 first_value None digits = hex_value digits
 first_value (Some bytes) digits = Err WrongWords
 
--- what is given with one word NAME=HEX more: its name is looked at first, and its HEX next (61 is
--- `=`). `key` is a name where a key is taken
+-- The options with one more argument NAME=HEX, whose name is checked before HEX (61 is `=`). `key`
+-- is a name only if a key is accepted.
 abbrev pub with_word : Bool → Given → List ℕ → Result Given Fault
 with_word takes_key given word =
     let name = before_first (λ b. b == 61) word in
@@ -121,13 +122,13 @@ with_word takes_key given word =
     else Err WrongWords
     ) else Err WrongWords
 
--- what is given with all of the words more
+-- The options with all of these arguments.
 abbrev pub with_words : Bool → Given → List (List ℕ) → Result Given Fault
 with_words takes_key given [] = Ok given
 with_words takes_key given (word ∷ words) =
     and_then (with_word takes_key given word) (λ more. with_words takes_key more words)
 
--- what a command line asks for
+-- The task that a command line names.
 pub data Task : Type 0 where
   -- `sum KIND [key=HEX] [salt=HEX] [persona=HEX]`
   to_sum : Kind → Given → Task
@@ -140,46 +141,47 @@ pub data Task : Type 0 where
   -- `tree KIND LEAF [salt=HEX] [persona=HEX]`
   to_tree : Kind → ℕ → Given → Task
 
--- the task of the words behind a command's name, KIND and what is given
+-- The task of the arguments after a command's name: KIND and the options.
 abbrev pub given_task : (Kind → Given → Task) → List (List ℕ) → Result Task Fault
 given_task to [] = Err WrongWords
 given_task to (kind ∷ words) =
     and_then (kind_of kind)
     (λ k. and_then (with_words true nothing_given words) (λ given. Ok (to k given)))
 
--- the task of the words behind KIND and both messages of `witness`: there are none
+-- The task of the arguments after KIND and both messages of `witness`. No argument is allowed
+-- there.
 abbrev pub rest_task : Kind → List ℕ → List ℕ → List (List ℕ) → Result Task Fault
 rest_task kind a b [] = Ok (to_witness kind a b)
 rest_task kind a b (word ∷ words) = Err WrongWords
 
--- the task of the words behind KIND and the first message of `witness`
+-- The task of the arguments after KIND and the first message of `witness`.
 abbrev pub second_task : Kind → List ℕ → List (List ℕ) → Result Task Fault
 second_task kind a [] = Err WrongWords
 second_task kind a (word ∷ words) = and_then (message_value word) (λ b. rest_task kind a b words)
 
--- the task of the words behind KIND of `witness`
+-- The task of the arguments after KIND of `witness`.
 abbrev pub first_task : Kind → List (List ℕ) → Result Task Fault
 first_task kind [] = Err WrongWords
 first_task kind (word ∷ words) = and_then (message_value word) (λ a. second_task kind a words)
 
--- the task of the words behind `witness`
+-- The task of the arguments after `witness`.
 abbrev pub witness_task : List (List ℕ) → Result Task Fault
 witness_task [] = Err WrongWords
 witness_task (word ∷ words) = and_then (compared_kind_of word) (λ kind. first_task kind words)
 
--- the task of the words behind KIND of `tree`
+-- The task of the arguments after KIND of `tree`.
 abbrev pub leaf_task : Kind → List (List ℕ) → Result Task Fault
 leaf_task kind [] = Err WrongWords
 leaf_task kind (leaf ∷ words) =
     and_then (leaf_value leaf)
     (λ n. and_then (with_words false nothing_given words) (λ given. Ok (to_tree kind n given)))
 
--- the task of the words behind `tree`
+-- The task of the arguments after `tree`.
 abbrev pub tree_task : List (List ℕ) → Result Task Fault
 tree_task [] = Err WrongWords
 tree_task (word ∷ words) = and_then (tree_kind_of word) (λ kind. leaf_task kind words)
 
--- the task of a command line
+-- The task of a command line.
 abbrev pub task_of : List (List ℕ) → Result Task Fault
 task_of [] = Err WrongWords
 task_of (command ∷ words) =
