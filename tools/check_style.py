@@ -104,8 +104,7 @@ EXCEPTIONS = (
 TO_DO = ()
 
 # Files that are not checked, and why.
-NOT_CHECKED = {"tools/plain_names.py": "dist/MANIFEST has a hash of it, comments included",
-               "docs/reference/*.md": "tools/reference.py makes them from the comments of the crates"}
+NOT_CHECKED = {"tools/plain_names.py": "dist/MANIFEST has a hash of it, comments included"}
 
 
 def marked(match):
@@ -161,6 +160,12 @@ def rust(text):
     """The comments of a Rust file that are on their own lines."""
     text = re.sub(r"^(?! *//).*$", marked, text, flags=re.MULTILINE)
     return without_code(re.sub(r"^ *//[/!]?", spaced, text, flags=re.MULTILINE))
+
+
+def antt(text):
+    """The comments of a file of definitions or proofs, which are on their own lines."""
+    text = re.sub(r"^(?! *--(?: |$)).*$", marked, text, flags=re.MULTILINE)
+    return without_code(re.sub(r"^ *--", spaced, text, flags=re.MULTILINE))
 
 
 def shown(tree):
@@ -219,6 +224,7 @@ KINDS = (
      "int f;\n/* A.\n * {0} */\n", "f({0});\n"),
     (("python/src/*.c", "python/src/*.h"), module, 'int f;\n{{"f", g, "A. {0}"}};\n', "f({0});\n"),
     (("rust/src/*.rs", "rust-digest/src/*.rs"), rust, "fn f() {{}}\n    /// {0}\n", "f({0});\n/// `{0}`\n"),
+    (("crates/*/specs/*.antt",), antt, "f : A\n-- {0}\nf = b\n", "f = \"{0}\"\n-- `{0}`\n"),
     (("python/vulfsjor/*.py", "python/vulfsjor/*.pyi", "tools/*.py", "bench/*.py"), python,
      '"""A.\n\n{0}"""\n', 'x = "{0}"\n'),
     (("b2", "test", "c/*.sh", "*/run_tests.sh", "tools/*.sh"), script,
