@@ -224,7 +224,7 @@ KINDS = (
      "int f;\n/* A.\n * {0} */\n", "f({0});\n"),
     (("python/src/*.c", "python/src/*.h"), module, 'int f;\n{{"f", g, "A. {0}"}};\n', "f({0});\n"),
     (("rust/src/*.rs", "rust-digest/src/*.rs"), rust, "fn f() {{}}\n    /// {0}\n", "f({0});\n/// `{0}`\n"),
-    (("crates/*/specs/*.antt",), antt, "f : A\n-- {0}\nf = b\n", "f = \"{0}\"\n-- `{0}`\n"),
+    (("crates/*/specs/*.antt", "crates/*/proofs/**/*.antt"), antt, "f : A\n-- {0}\nf = b\n", "f = \"{0}\"\n-- `{0}`\n"),
     (("python/vulfsjor/*.py", "python/vulfsjor/*.pyi", "tools/*.py", "bench/*.py"), python,
      '"""A.\n\n{0}"""\n', 'x = "{0}"\n'),
     (("b2", "test", "c/*.sh", "*/run_tests.sh", "tools/*.sh"), script,

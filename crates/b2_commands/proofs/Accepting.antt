@@ -1,5 +1,4 @@
--- Which inputs are accepted, in terms of what the options of a MAC refuse and of how much is
--- counted.
+-- Which inputs are accepted, by what the options of a MAC refuse and how much is counted.
 use Rattle.std.proofs.Common.{◌≡◌, ℕ, ◌+◌, ◌-◌, ◌<◌, ◌≤◌, ◌^◌, List, [], ◌++◌, length, replicate}
 use Rattle.std.proofs.Common.{Option, None, Some, inl, inr, refl, arith, length-append, lit<, subst}
 use Rattle.std.proofs.Common.{sym, IfSome}
@@ -13,12 +12,12 @@ use Rattle.blake2.specs.Keys.{key_count, IsRefused, IsRefusedKey}
 use Rattle.blake2.specs.States.{input}
 use Rattle.b2_commands.specs.Inputs.{IsKeyOfBytes, IsOfBytes}
 
--- a key that fits has room in a block
+-- A key that fits has room in a block.
 key_in_block : (f : Family) (n : ℕ) → n ≤ key_bytes f → n ≤ block_bytes f
 key_in_block blake2b n h = omega arith
 key_in_block blake2s n h = omega arith
 
--- a key that is padded to n bytes counts these and the message
+-- A key that is padded to n bytes counts for n bytes, with the message after it.
 padded_counts : (n : ℕ) (key message : List ℕ) → length key ≤ n
     → length (padded n key ++ message) ≡ n + length message
 unfolding padded
@@ -31,7 +30,7 @@ padded_counts n key message h =
       length-replicate {A = ℕ} (n - length key) 0,
     )
 
--- the data of a key that fits counts the key's block and the message
+-- The data of a key that fits has the key's block and the message.
 counted : (f : Family) (key : Option (List ℕ)) (message : List ℕ) → KeyFits f key
     → length (key_block f key ++ message) ≡ key_count f key + length message
 unfolding key_block
@@ -39,7 +38,7 @@ counted f None message fits = omega arith
 counted f (Some key) message fits = padded_counts (block_bytes f) key message
     (key_in_block f (length key) fits.1)
 
--- a key that fits is not refused
+-- A key that fits is not refused.
 fits_or_refused : (f : Family) (key : Option (List ℕ)) → IsKeyOfBytes key
     → KeyFits f key ⊎ IsRefusedKey f key
 fits_or_refused f None bytes = inl tt
@@ -57,7 +56,7 @@ not_refused_key f None fits refused = refused
 not_refused_key f (Some key) fits (inl empty) = omega (arith, fits.0, empty)
 not_refused_key f (Some key) fits (inr long) = omega (arith, fits.1, long)
 
--- an accepted input has no key, salt or persona that a MAC refuses
+-- An accepted input has no key, salt or personalization that a MAC refuses.
 pub not_refused : (f : Family) (a b : Input) → a ≡ b → Accepts f a
     → IsRefused f b.key b.salt b.persona → ⊥
 not_refused f a b same accepts = go (subst (Accepts f) same accepts)
@@ -67,7 +66,7 @@ not_refused f a b same accepts = go (subst (Accepts f) same accepts)
     go accepted (inr (inl salt)) = omega (arith, accepted.salt_fits, salt)
     go accepted (inr (inr persona)) = omega (arith, accepted.persona_fits, persona)
 
--- a hash which is the whole tree has its place in it
+-- The tree parameters of a sequential hash are admitted.
 sequential_admitted : (f : Family) (a : Input) → a.tree ≡ sequential → AdmitsTree f a.tree
 sequential_admitted f a whole = subst (AdmitsTree f) (sym whole) (go f)
   where
@@ -91,7 +90,7 @@ sequential_admitted f a whole = subst (AdmitsTree f) (sym whole) (go f)
       inner_length = omega arith;
     }
 
--- an input of bytes is refused for its lengths, or counts too much, or is accepted
+-- An input of bytes is refused for its lengths, counts too much, or is accepted.
 refused_or_counts : (f : Family) (a : Input) → IsOfBytes a → a.tree ≡ sequential
     → IsRefused f a.key a.salt a.persona ⊎ ((2 ^ 64 ≤ key_count f a.key
     + length a.message) ⊎ Accepts f a)
@@ -119,14 +118,14 @@ refused_or_counts f a bytes whole =
       ]
     ]
 
--- a key's block alone does not count too much
+-- The block of a key without a message does not count too much.
 not_alone : (f : Family) (key : Option (List ℕ)) (n : ℕ) → n ≡ 0 → 2 ^ 64 ≤ key_count f key + n → ⊥
 not_alone blake2b None n empty long = omega (arith, empty, long)
 not_alone blake2s None n empty long = omega (arith, empty, long)
 not_alone blake2b (Some key) n empty long = omega (arith, empty, long)
 not_alone blake2s (Some key) n empty long = omega (arith, empty, long)
 
--- an input of no message that is not accepted has a key, a salt or a persona that a MAC refuses
+-- If an input of no message is not accepted, a MAC refuses its key, salt or personalization.
 pub refused_without_message : (f : Family) (a b : Input) → a ≡ b → IsOfBytes a → b.tree ≡ sequential
     → length b.message ≡ 0 → (Accepts f a → ⊥) → IsRefused f b.key b.salt b.persona
 refused_without_message f a b same bytes whole empty not =
@@ -137,7 +136,7 @@ refused_without_message f a b same bytes whole empty not =
       | inr (inr accepted) ↦ absurd (not (subst (Accepts f) (sym same) accepted))
     ]
 
--- an input that is not accepted, though its lengths are, counts 2^64 bytes or more
+-- An input that is not accepted, although its lengths are, counts 2^64 bytes or more.
 pub too_long : (f : Family) (a b : Input) → a ≡ b → IsOfBytes a → b.tree ≡ sequential
     → (IsRefused f b.key b.salt b.persona → ⊥) → (Accepts f a → ⊥)
     → 2 ^ 64 ≤ key_count f b.key + length b.message
@@ -148,14 +147,14 @@ too_long f a b same bytes whole allowed not =
       | inr (inr accepted) ↦ absurd (not (subst (Accepts f) (sym same) accepted))
     ]
 
--- what is counted of a message is counted of all that a source had left, where the message is that
+-- What is counted of a message is counted of all that a source had left, if the message is that.
 pub counts_all : (left : Option (List ℕ)) (message : List ℕ) (n : ℕ)
     → IfSome left (λ all. message ≡ all)
     → 2 ^ 64 ≤ n + length message → IfSome left (λ all. 2 ^ 64 ≤ n + length all)
 counts_all None message n is long = tt
 counts_all (Some all) message n is long = subst (λ (m : List ℕ). 2 ^ 64 ≤ n + length m) is long
 
--- an unkeyed message without salt and persona is accepted
+-- A message without a key, salt and personalization is accepted.
 pub unkeyed_accepted : (f : Family) (a : Input) (message : List ℕ) → a ≡ input [] [] None message
     → AreBytes message → length message < 2 ^ 64 → Accepts f a
 unkeyed_accepted f a message is bytes short =

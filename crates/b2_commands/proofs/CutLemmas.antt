@@ -1,4 +1,4 @@
--- Texts that are cut at a byte, and scripts that are cut into lines.
+-- Lists that are cut at a byte, and scripts that are cut into lines.
 use Rattle.std.proofs.Common.{◌≡◌, ℕ, ◌+◌, ◌<◌, ◌≤◌, ◌==◌, Bool, true, false, not, nat_lt, List, []}
 use Rattle.std.proofs.Common.{◌∷◌, length, take, drop, Option, Some, None, Bor, inl, inr, refl, ap}
 use Rattle.std.proofs.Common.{◌∙◌, arith}
@@ -10,7 +10,7 @@ use Rattle.std.specs.List.{after_first, before_first, onto_first, position_or_le
 use Rattle.std.specs.Option.{option_map, unwrap_or}
 use Rattle.b2_commands.specs.Scripts.{cut_at, lines_of, lines_of_parts}
 
--- a text with the byte at this place first is cut there
+-- A list in which the byte is first at this index is cut there.
 pub cut_found : (byte : ℕ) (text : List ℕ) (i : ℕ) → position_or_len (λ (b : ℕ). b == byte) text ≡ i
     → i < length text
     → cut_at byte text ≡ Some (take i text, drop (i + 1) text)
@@ -18,7 +18,7 @@ cut_found byte text i found below =
     let test : nat_lt i (length text) ≡ true = lt-ltb i (length text) below in
     rw (found, test) refl
 
--- a text without the byte is not cut
+-- A list without the byte is not cut.
 pub cut_none : (byte : ℕ) (text : List ℕ) → position_or_len (λ (b : ℕ). b == byte) text
     ≡ length text → cut_at byte text ≡ None
 cut_none byte text none =
@@ -26,7 +26,7 @@ cut_none byte text none =
     le-ltb (length text) (length text) (omega arith) in
     rw (none, test) refl
 
--- a list of which no element passes is its one part
+-- A list is its only part if none of its elements passes the test.
 one_part : {X : Type 0} (p : X → Bool) (xs : List X) → length xs ≤ position_or_len p xs
     → slice_split p xs ≡ xs ∷ []
 one_part p [] h = refl
@@ -40,19 +40,19 @@ one_part p (x ∷ xs) h = go (p x) refl (λ rest. one_part p xs rest)
         let rest : length (x ∷ xs) ≤ 1 + position_or_len p xs = rw fails at h in
         slice_split-cons_no p x xs fails ∙ ap (onto_first x) (again (omega (arith, rest)))
 
--- a part before another is a line
+-- A part before another is a line.
 line_before : (part : List ℕ) (parts : List (List ℕ)) → 0 < length parts
     → lines_of_parts (part ∷ parts) ≡ part ∷ lines_of_parts parts
 line_before part [] some = absurd (omega (arith, some))
 line_before part (next ∷ parts) some = refl
 
--- a last part that is not empty is a line
+-- A last part that is not empty is a line.
 line_last : (part : List ℕ) → 0 < length part → lines_of_parts (part ∷ []) ≡ part ∷ []
 line_last [] some = absurd (omega (arith, some))
 line_last (b ∷ part) some = refl
 
--- the first line of a text that is not empty is what stands before the first newline, and the other
--- lines are those of the rest
+-- The first line of a script that is not empty is what comes before the first newline. The other
+-- lines are those of the rest.
 first_line : (text : List ℕ) (cut : Option (List ℕ × List ℕ)) → cut ≡ cut_at 10 text
     → 0 < length text
     → lines_of text ≡ (unwrap_or cut (text, [])).0 ∷ lines_of (unwrap_or cut (text, [])).1
@@ -79,7 +79,7 @@ first_line text cut is some =
           (one_part (λ (b : ℕ). b == 10) text past) ∙ line_last text some)
     ]
 
--- the same of slices
+-- The same holds for slices.
 pub first_line_of : (text : List ℕ) (cut : Option (Bor (List ℕ) × Bor (List ℕ)))
     (whole parts : Bor (List ℕ) × Bor (List ℕ)) → 0 < length text
     → option_map (λ (x : Bor (List ℕ) × Bor (List ℕ)). (x.0.now, x.1.now)) cut ≡ cut_at 10 text

@@ -1,4 +1,4 @@
--- A buffer that is filled from its front, and what a hasher takes of it.
+-- A buffer that is filled from its front, and what a hasher absorbs of it.
 use Rattle.std.proofs.Common.{◌≡◌, ℕ, ◌+◌, ◌-◌, ◌≤◌, List}
 use Rattle.std.proofs.Common.{◌++◌, length, take, refl, sym}
 use Rattle.std.proofs.Common.{ap, ◌∙◌, arith, append_assoc}
@@ -10,7 +10,7 @@ use Rattle.blake2_tree.specs.declared.hasher.TreeHasher.{TreeHasher}
 use Rattle.blake2_tree.specs.TreeHashers.{future, Took}
 use borrow.Rule.Slice.PartMut.{put_mid}
 
--- n bytes are written behind the first i
+-- n bytes are written after the first i.
 pub take-more : (a ys : List ℕ) (i n : ℕ) → i ≤ length a → length ys ≡ length a - i → n ≤ length ys
     → take (i + n) (put_mid i (length a - i) a ys) ≡ take i a ++ take n ys
 take-more a ys i n within long few =
@@ -22,7 +22,7 @@ take-more a ys i n within long few =
     ∙ ap (take (i + n)) whole
     ∙ ap (λ (m : ℕ). take (m + n) (take i a ++ ys)) (sym front) ∙ take-append-add (take i a) ys n
 
--- ---- taking
+-- ---- absorbing
 
 pub Took-trans : {n : ℕ} (a b c : TreeHasher n) (x y : List ℕ) → Took a x b → Took b y c
     → Took a (x ++ y) c

@@ -14,7 +14,7 @@ use Rattle.b2_commands.specs.Scripts.{script_digests}
 use Rattle.b2_commands.specs.Tasks.{digest_with, IsRefusedBy}
 use Rattle.b2_commands.specs.Ends.{EndsTask, EndsBy, EndsByDigests}
 
--- nothing is not refused
+-- If no option is given, none is refused.
 pub nothing_taken : (f : Family) → IsRefusedBy f nothing_given → ⊥
 nothing_taken blake2b refused = grind arith
 nothing_taken blake2s refused = grind arith

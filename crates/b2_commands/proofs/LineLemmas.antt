@@ -6,19 +6,19 @@ use Rattle.b2_commands.specs.declared.fault.Fault.{Fault}
 use Rattle.b2_commands.specs.Scripts.{call_at, calls_from}
 use Rattle.b2_commands.specs.Words.{and_then}
 
--- calls, and then those of later lines
+-- Calls, followed by those of later lines.
 abbrev pub behind : List Call → Result (List Call) Fault → Result (List Call) Fault
 behind calls (Ok later) = Ok (calls ++ later)
 behind calls (Err fault) = Err fault
 
--- one call more stands behind the earlier ones
+-- One more call follows the earlier ones.
 one_more : (calls : List Call) (call : Call) (later : Result (List Call) Fault)
     → behind calls (and_then later (λ more. Ok (call ∷ more))) ≡ behind (calls ++ call ∷ []) later
 one_more calls call (Ok more) = ap Ok (sym (append_assoc calls (call ∷ []) more))
 one_more calls call (Err fault) = refl
 
--- the next line has a call: the calls of all lines are the earlier ones with it, and then those of
--- the later lines
+-- The next line has a call: the calls of all lines are the earlier ones, that call, and those of
+-- the later lines.
 pub read_on : (all : Result (List Call) Fault) (calls : List Call) (call : Call) (number : ℕ)
     (line : List ℕ) (lines rest : List (List ℕ)) → all ≡ behind calls (calls_from number rest)
     → rest ≡ line ∷ lines

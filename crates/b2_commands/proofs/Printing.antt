@@ -10,7 +10,7 @@ use Rattle.b2_commands.specs.declared.fault.Fault.{Fault}
 use Rattle.b2_commands.specs.Lines.{step_line}
 use Rattle.b2_commands.specs.Witnesses.{PrintsWitness}
 
--- the lines of two steps that make a witness, one after the other
+-- The lines of two steps that are a witness, one after the other.
 pub pair_printed : (f : Family) (n : ℕ) (a b : Input) (x y : Step) (old mid new : Option (List ℕ))
     (r : Result (Unit {0}) Fault)
     → Collide f n a b → IsWitness f a b n x y → Appends old mid (step_line f x)

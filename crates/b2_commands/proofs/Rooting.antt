@@ -1,4 +1,4 @@
--- The root that is printed of what a source gave.
+-- The root that is printed of what a source returned.
 use Rattle.std.proofs.Common.{◌≡◌, ℕ, ◌<◌, ◌^◌, List, [], ◌++◌, length, Option, Some, None, Result}
 use Rattle.std.proofs.Common.{Ok, Err, IfSome, subst, ap, ◌∙◌, append-nil, arith}
 use Rattle.std.specs.Prelude.{OnOk}
@@ -8,7 +8,8 @@ use Rattle.blake2_tree.specs.declared.hasher.TreeHasher.{TreeHasher}
 use Rattle.blake2_tree.specs.TreeHashers.{count, future, Took}
 use Rattle.b2_commands.specs.declared.fault.Fault.{Fault}
 
--- a printed line is that of the root of all that a source had left, where the hasher took all of it
+-- A printed line is that of the root of all that a source had left, if the hasher absorbed all of
+-- it.
 pub printed_root : {n : ℕ} (root_of : List ℕ → List ℕ) (made taken : TreeHasher n) (root : List ℕ)
     (result : Result (Unit {0}) Fault) (left old new : Option (List ℕ))
     → ((y : List ℕ) → future made y ≡ root_of y) → count made ≡ 0

@@ -1,4 +1,4 @@
--- What a script answers, in terms of the calls that the program has read.
+-- What a script returns, by the calls that the program has read.
 use Rattle.std.proofs.Common.{◌≡◌, ℕ, ◌+◌, List, [], ◌∷◌, map, Option, Some, None, Result, Ok, Err}
 use Rattle.std.proofs.Common.{◌⊎◌, inl, inr, IfSome, refl, ap, ◌∙◌}
 use Rattle.std.specs.Prelude.{IsOkUnless, OnOk}
@@ -18,7 +18,7 @@ use Rattle.b2_commands.specs.Ends.{EndsByDigests}
 use Rattle.b2_commands.specs.Reading.{unplaced}
 use Rattle.b2_commands.specs.Scripts.{fault_of_calls, script_calls, script_digests}
 
--- a call does the same wherever its bytes lie
+-- A call does the same whatever the address of its bytes.
 call_unplaced : (digest : List ℕ → List ℕ) (n : ℕ) (slots : Slots) (i : ℕ) (call : Call)
     → play_call (fresh_meaning digest n) tt slots i (unplaced call)
     ≡ play_call (fresh_meaning digest n) tt slots i call
@@ -28,13 +28,13 @@ call_unplaced digest n slots i (Reset k) = refl
 call_unplaced digest n slots i (Finalize k) = refl
 call_unplaced digest n slots i (FinalizeReset k) = refl
 
--- what a call leaves goes on in the same way
+-- What follows what a call leaves is the same too.
 goes_on : (played : Result Outcome ReplayFault) (f g : Slots → Result (List (List ℕ)) ReplayFault)
     → ((slots : Slots) → f slots ≡ g slots) → followed_by played f ≡ followed_by played g
 goes_on (Ok left) f g same = ap (after left.digests) (same left.slots)
 goes_on (Err fault) f g same = refl
 
--- and so do the calls of a list
+-- So are the calls of a list.
 calls_unplaced : (digest : List ℕ → List ℕ) (n : ℕ) (calls : List Call) (slots : Slots) (i : ℕ)
     → play_from (fresh_meaning digest n) tt (map unplaced calls) slots i
     ≡ play_from (fresh_meaning digest n) tt calls slots i
@@ -46,7 +46,7 @@ calls_unplaced digest n (call ∷ calls) slots i =
     ∙ goes_on (play_call (fresh_meaning digest n) tt slots i call) _ _
     (λ next. calls_unplaced digest n calls next (i + 1))
 
--- the digests of a script are those of the calls that were read
+-- The digests of a script are those of the calls that were read.
 pub answered : (digest : List ℕ → List ℕ) (n : ℕ) (text : List ℕ) (read calls : List Call)
     (digests : List (List ℕ)) → script_calls text ≡ Ok read → map unplaced calls ≡ read
     → play_fresh digest n calls ≡ Ok digests
@@ -56,7 +56,7 @@ answered digest n text read calls digests is same plays =
     rw (← same) (calls_unplaced digest n calls _ 0 ∙ plays) in
     rw (is, played) refl
 
--- and so is its fault
+-- The error of a script is that of the calls that were read.
 pub refused : (digest : List ℕ → List ℕ) (n : ℕ) (text : List ℕ) (read calls : List Call)
     (fault : ReplayFault) → script_calls text ≡ Ok read → map unplaced calls ≡ read
     → play_fresh digest n calls ≡ Err fault
@@ -66,7 +66,7 @@ refused digest n text read calls fault is same plays =
     rw (← same) (calls_unplaced digest n calls _ 0 ∙ plays) in
     rw (is, played) refl
 
--- the digests of what a source had left are printed
+-- The digests of what a source had left are printed.
 pub printed : (answer : List ℕ → Result (List (List ℕ)) Fault) (text : List ℕ)
     (digests : List (List ℕ)) (result : Result (Unit {0}) Fault) (left old new : Option (List ℕ))
     → IfSome left (λ all. text ≡ all) → answer text ≡ Ok digests
@@ -78,14 +78,14 @@ printed answer text digests (Ok _) (Some all) old new whole is fault lines =
     rw answers lines
 printed answer text digests (Err other) left old new whole is fault lines = rw fault tt
 
--- a fault of the text is one of what a source had left
+-- An error of the script is one of what a source had left.
 of_all : (answer : List ℕ → Result (List (List ℕ)) Fault) (text : List ℕ) (left : Option (List ℕ))
     (fault : Fault) → IfSome left (λ all. text ≡ all) → answer text ≡ Err fault
     → IfSome left (λ all. answer all ≡ Err fault)
 of_all answer text None fault whole is = tt
 of_all answer text (Some all) fault whole is = rw (← whole) is
 
--- a list of calls with a fault is a script with that fault
+-- A list of calls with an error is a script with that error.
 pub stopped : (digest : List ℕ → List ℕ) (n : ℕ) (text : List ℕ) (read calls : List Call)
     (fault : ReplayFault) (left old new : Option (List ℕ)) → IfSome left (λ all. text ≡ all)
     → script_calls text ≡ Ok read → map unplaced calls ≡ read

@@ -1,4 +1,4 @@
--- The options of a list of words, a word at a time.
+-- The options of a list of arguments, one argument at a time.
 use Rattle.std.proofs.Common.{◌≡◌, ℕ, ◌+◌, ◌<◌, Bool, List, [], ◌∷◌, ◌++◌, length, take, drop, map}
 use Rattle.std.proofs.Common.{get_or, refl, sym, ap, ◌∙◌, Global, Ok, Err}
 use Rattle.std.proofs.lemmas.List.{take_more, take-append-drop, map-append}
@@ -12,7 +12,7 @@ use Rattle.b2_commands.specs.declared.fault.Fault.TheVariants.{ReadFailed, NoMem
 use Rattle.b2_commands.specs.Words.{and_then, Given, nothing_given, with_word, with_words}
 use Rattle.b2_commands.specs.Words.{IsReadingFault}
 
--- the first words, and then the others
+-- The first arguments, and then the others.
 with_words-append : (key : Bool) (given : Given) (xs ys : List (List ℕ))
     → with_words key given (xs ++ ys) ≡ and_then (with_words key given xs)
     (λ more. with_words key more ys)
@@ -28,13 +28,13 @@ with_words-append key given (x ∷ xs) ys = go (with_word key given x)
     go (Ok more) again = again more
     go (Err fault) again = refl
 
--- one word is the word
+-- A list of one argument is read as that argument.
 with_words-one : (key : Bool) (r : Result Given Fault)
     → and_then r (λ more. with_words key more []) ≡ r
 with_words-one key (Ok more) = refl
 with_words-one key (Err fault) = refl
 
--- the word at i comes after what the words before it gave
+-- The argument at i comes after what those before it were read as.
 pub record ComesAfter (key : Bool) (words : List (String Global)) (i : ℕ) (word : String Global)
     (text : List ℕ) (given : Given) : Type 0 where
   pub below : i < length words
@@ -52,7 +52,7 @@ texts-more key words i word text given at =
     (sym at.is_word)
     ∙ ap (λ (t : List ℕ). map string_bytes (take i words) ++ (t ∷ [])) (sym at.is_text)
 
--- the words up to one give what it gives after those before it
+-- The arguments up to one are read as that one is after those before it.
 pub with_words-more : (key : Bool) (words : List (String Global)) (i : ℕ) (word : String Global)
     (text : List ℕ) (given : Given) → ComesAfter key words i word text given
     → with_words key nothing_given (map string_bytes (take (i + 1) words))
@@ -64,7 +64,7 @@ with_words-more key words i word text given at =
     with_words key more (text ∷ []))) at.before
     ∙ with_words-one key (with_word key given text)
 
--- a fault of one word is the fault of all
+-- An error in one argument is the error of all.
 pub with_words-fault : (key : Bool) (words : List (String Global)) (i : ℕ) (word : String Global)
     (text : List ℕ) (given : Given) (fault : Fault) → ComesAfter key words i word text given
     → with_word key given text ≡ Err fault → with_words key nothing_given (map string_bytes words)
@@ -80,7 +80,7 @@ with_words-fault key words i word text given fault at is_fault =
     with_words key more (map string_bytes rest)))
     (with_words-more key words i word text given at ∙ is_fault)
 
--- a fault that comes of one reading comes of another, where the other has the fault of the first
+-- An error of one reading is an error of another, if the other has the error of the first.
 pub IsReadingFault-along : {A B : Type 0} (fault : Fault) (x : Result A Fault) (y : Result B Fault)
     → (x ≡ Err fault → y ≡ Err fault) → IsReadingFault fault x → IsReadingFault fault y
 IsReadingFault-along WrongWords x y along h = along h

@@ -1,4 +1,4 @@
--- What a core becomes by one block more, and by the last.
+-- What a core becomes by one more block, and by the last.
 use Rattle.std.proofs.Common.{◌≡◌, ℕ, ◌+◌, ◌*◌, ◌<◌, List, [], ◌∷◌, length, take, get_or, sym, ap}
 use Rattle.std.proofs.Common.{◌∙◌, arith}
 use Rattle.std.proofs.lemmas.List.{take_more}
@@ -7,7 +7,7 @@ use Rattle.blake2_words.specs.Hash.{Flags, inner, final, padded, compress, chain
 use Rattle.blake2.specs.Cores.{CoreState, absorbed, completed}
 use Rattle.blake2.specs.CoreLaws.{absorbed-append}
 
--- one block that is not the last
+-- One block that is not the last.
 pub absorbed-one : (f : Family) (core : CoreState) (block h : List ℕ)
     → h ≡ compress f core.h block (core.count + block_bytes f) inner
     → record core { h = h; count = core.count + block_bytes f } ≡ absorbed f core (block ∷ [])
@@ -18,7 +18,7 @@ absorbed-one f core block h e =
     let words = e ∙ ap (λ (t : ℕ). compress f core.h block t inner) counter in
     λ i. record core { h = words i; count = counted i }
 
--- one block more of a list
+-- One more block of a list.
 pub absorbed-next : (f : Family) (first core next : CoreState) (blocks : List (List ℕ)) (i : ℕ)
     → i < length blocks
     → core ≡ absorbed f first (take i blocks) → next ≡ absorbed f core (get_or blocks i [] ∷ [])
@@ -28,7 +28,7 @@ absorbed-next f first core next blocks i fits before one =
     ∙ sym (absorbed-append f first (take i blocks) (get_or blocks i [] ∷ []))
     ∙ ap (absorbed f first) (sym (take_more blocks i [] fits))
 
--- p, padded to a block, as the last block
+-- The bytes p, padded to a block, as the last block.
 pub completed-by : (f : Family) (core : CoreState) (p : List ℕ) (n : ℕ) (block h : List ℕ)
     (flags : Flags) → n ≡ length p → block ≡ padded (block_bytes f) p
     → flags ≡ final core.last_node → h ≡ compress f core.h block (core.count + n) flags

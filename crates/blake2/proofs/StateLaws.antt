@@ -1,4 +1,4 @@
--- The promises of constructors, updates, resets and finalising calls, from the states that they
+-- The contracts of constructors, updates, resets and finalizations, from the states that they
 -- leave.
 use Rattle.std.proofs.Common.{◌≡◌, ℕ, ◌+◌, ◌-◌, ◌*◌, ◌^◌, ◌<◌, ◌≤◌, List, [], ◌++◌, length, take}
 use Rattle.std.proofs.Common.{Bool, Option, Some, None, refl, sym, ap, ◌∙◌, arith, zero-add}
@@ -17,7 +17,7 @@ use Rattle.blake2.specs.States.{unflagged, fresh, node_set, node_digest_of}
 use Rattle.blake2.specs.CoreLaws.{count-absorbed}
 use Rattle.blake2.proofs.Streaming.{tail_handed}
 
--- a state once it has taken x: the core has taken what the buffer hands on
+-- A state after it absorbs x: the core has absorbed what the buffer passes on.
 abbrev pub updated : Family → State → List ℕ → State
 updated f s x = record s {
   core = absorbed f s.core (handed_on (block_bytes f) (s.pending ++ x));
@@ -58,7 +58,7 @@ count-updated f s x =
       length-append s.pending x,
     )
 
--- an update keeps its promise
+-- An update satisfies its contract.
 pub Updated_by : {S : Type 0} (f : Family) (n : ℕ) (state_of : S → State) (old : S) (x : List ℕ)
     (new : S)
     → state_of new ≡ updated f (state_of old) x → Updated (meaning_by f n state_of) old x new
@@ -71,9 +71,9 @@ Updated_by f n state_of old x new e = record {
   start_count = ap start_count e;
 }
 
--- ---- one block is left for the finalising call
+-- ---- one block is left for the finalization
 
--- all blocks of the counted bytes but one are compressed
+-- All blocks of the counted bytes except one are compressed.
 abbrev pub IsLazy : Family → State → Type 0
 IsLazy f s = s.core.count ≡ block_bytes f * (block_count f (count s) - 1)
 
@@ -101,7 +101,7 @@ IsLazy-updated blake2s s x h =
       length-handed_on 64 (s.pending ++ x),
     )
 
--- what holds of every hasher and MAC holds after an update
+-- What holds for every hasher and MAC holds after an update.
 pub kept-updated : (f : Family) (s new : State) (x : List ℕ) → new ≡ updated f s x → IsLazy f s
     → count s + length x < 2 ^ 64
     → (length new.pending ≤ block_bytes f) × (count new < 2 ^ 64) × IsLazy f new
@@ -124,7 +124,7 @@ started-fresh : (f : Family) (n : ℕ) (salt persona : List ℕ) (key : Option (
 unfolding started digest
 started-fresh f n salt persona key tree flag y = refl
 
--- a constructor keeps its promise: the digests are BLAKE2
+-- A constructor satisfies its contract: the digests are BLAKE2.
 pub Fresh_by : {S : Type 0} (f : Family) (n : ℕ) (state_of : S → State) (salt persona : List ℕ)
     (key : Option (List ℕ)) (tree : Tree) (counted : ℕ) (new : S)
     → length (key_block f key) ≡ counted → state_of new
@@ -152,7 +152,7 @@ started-node_set : (f : Family) (n : ℕ) (s : State) (on flag : Bool) (y : List
 unfolding started
 started-node_set f n s on flag y = refl
 
--- setting the flag keeps its promise
+-- Setting the flag satisfies its contract.
 pub NodeSet_by : {S : Type 0} (f : Family) (n : ℕ) (state_of : S → State) (old : S) (on : Bool)
     (new : S)
     → state_of new ≡ node_set (state_of old) on → NodeSet (meaning_by f n state_of) old on new
@@ -165,7 +165,7 @@ NodeSet_by f n state_of old on new e = record {
   start_count = ap start_count e;
 }
 
--- where it is always off, a constructor and an update keep their promises too
+-- If the flag is always off, a constructor and an update satisfy their contracts too.
 pub Fresh_unflagged : {S : Type 0} (m : Meaning S) (digest : Bool → List ℕ → List ℕ) (counted : ℕ)
     (new : S) → Fresh m digest counted new → Fresh (unflagged m) digest counted new
 Fresh_unflagged m digest counted new made = record {
@@ -178,7 +178,7 @@ Fresh_unflagged m digest counted new made = record {
 
 -- ---- keys
 
--- no key counts for nothing, and a key for a block
+-- No key counts for nothing, and a key counts for a block.
 pub length-key_block_none : (f : Family) → length (key_block f None) ≡ 0
 unfolding key_block
 length-key_block_none f = refl
@@ -193,13 +193,13 @@ unfolding key_block
 length-key_block_some f key fits = length-padded (block_bytes f) key
     (omega (arith, key_fits_block f))
 
--- ---- finalising calls
+-- ---- finalizations
 
 one_block : (f : Family) (n : ℕ) → n ≤ block_bytes f → block_count f n ≡ 1
 one_block blake2b n fits = omega arith
 one_block blake2s n fits = omega arith
 
--- the pending bytes alone are the last block
+-- The pending bytes are the whole last block.
 pub last_chain-pending : (f : Family) (core : CoreState) (p : List ℕ) → length p ≤ block_bytes f
     → tail f core.h core.count (p ++ []) (final core.last_node) ≡ last_output f core p
 unfolding last_chain cut chain
@@ -208,7 +208,7 @@ last_chain-pending f core p fits =
     let whole : take (block_bytes f) p ≡ p = take_all (block_bytes f) p fits in
     rw (append-nil p, one, whole) refl
 
--- a finalising call keeps its promise
+-- A finalization satisfies its contract.
 pub future-nothing : (f : Family) (n : ℕ) (s : State) → length s.pending ≤ block_bytes f
     → take n (last_output f s.core s.pending) ≡ future f n s s.core.last_node []
 unfolding future

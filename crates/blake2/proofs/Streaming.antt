@@ -1,4 +1,4 @@
--- What an update moves from the pending bytes to the chaining words changes no digest.
+-- The bytes that an update moves from the pending bytes to the chaining words change no digest.
 use Rattle.std.proofs.Common.{◌≡◌, ℕ, zero, suc, ◌+◌, ◌-◌, ◌*◌, ◌<◌, ◌≤◌, ◌⊎◌, inl, inr, List, ◌++◌}
 use Rattle.std.proofs.Common.{length, take, drop, refl, sym, ap, arith, append-nil, length-append}
 use Rattle.std.proofs.Common.{length-drop}
@@ -12,11 +12,11 @@ use Rattle.blake2_digest.proofs.Cutting.{length-handed_on}
 use Rattle.blake2.specs.Cores.{CoreState, absorbed}
 use Rattle.blake2.specs.States.{tail}
 
--- how many blocks of y are handed on
+-- The number of blocks of y that are passed on.
 abbrev pub handed_count : Family → List ℕ → ℕ
 handed_count f y = block_count f (length y) - 1
 
--- chunks that a text fills are its blocks
+-- The chunks that a list fills are its blocks.
 first_chunks-cut : (f : Family) (k : ℕ) (y : List ℕ) → k * block_bytes f ≤ length y
     → first_chunks (block_bytes f) k y ≡ cut f k y
 unfolding cut padded
@@ -29,12 +29,12 @@ first_chunks-cut f (suc k) y h =
     first_chunks-cut f k (drop b y) (omega (arith, length-drop b y)) in
     rw (full, append-nil (take b y), rest) refl
 
--- what is handed on is there
+-- The blocks that are passed on are within y.
 handed_fits : (f : Family) (y : List ℕ) → handed_count f y * block_bytes f ≤ length y
 handed_fits blake2b y = omega arith
 handed_fits blake2s y = omega arith
 
--- the blocks that are handed on are the first of those that the text is cut into
+-- The blocks that are passed on are the first of those that the list is cut into.
 handed_on-cut : (f : Family) (y : List ℕ) → handed_on (block_bytes f) y ≡ cut f (handed_count f y) y
 unfolding handed_on
 handed_on-cut f y = first_chunks-cut f (handed_count f y) y (handed_fits f y)
@@ -43,7 +43,7 @@ zero_or_positive : (n : ℕ) → (n ≡ 0) ⊎ (0 < n)
 zero_or_positive zero = inl refl
 zero_or_positive (suc n) = inr (omega arith)
 
--- where something is handed on, something is held back
+-- If something is passed on, something is held back.
 handed_less : (f : Family) (y : List ℕ) → 0 < handed_count f y
     → handed_count f y * block_bytes f < length y
 handed_less blake2b y h = omega arith
@@ -57,7 +57,7 @@ held_some f y = elim (zero_or_positive (handed_count f y)) [
   | inr h ↦ inr (omega (arith, length-drop (handed_count f y * block_bytes f) y, handed_less f y h))
 ]
 
--- with the first k blocks of y compressed and the rest pending, the tail is as before
+-- With the first k blocks of y compressed and the rest pending, the tail is as before.
 tail_cut : (f : Family) (flags : Flags) (h : List ℕ) (c k : ℕ) (y z : List ℕ)
     → k * block_bytes f ≤ length y
     → (k ≡ 0) ⊎ (0 < length (drop (k * block_bytes f) y))
@@ -74,7 +74,7 @@ tail_cut f flags h c k y z whole some =
     let from = last_chain_from f flags h c k (y ++ z) (omega (arith, length-append y z)) more in
     sym (ap (bytes_of f) (rw (same, rest) at from))
 
--- with the blocks that the buffer hands on compressed and the rest pending, the tail is as before
+-- With the blocks that the buffer passes on compressed and the rest pending, the tail is as before.
 pub tail_handed : (f : Family) (flags : Flags) (core : CoreState) (y z : List ℕ)
     → tail f (absorbed f core (handed_on (block_bytes f) y)).h
     (absorbed f core (handed_on (block_bytes f) y)).count (held_back (block_bytes f) y ++ z) flags

@@ -1,4 +1,4 @@
--- Digests that are written one behind the other.
+-- Digests that are written one after the other.
 use Rattle.std.proofs.Common.{◌≡◌, ℕ, zero, suc, ◌+◌, ◌-◌, ◌≤◌, List, [], ◌∷◌, ◌++◌, length, map}
 use Rattle.std.proofs.Common.{take, drop, slice_index_or, refl, sym, ap, ap₂, ◌∙◌, append-nil}
 use Rattle.std.proofs.Common.{append_assoc, length-append, arith}
@@ -9,24 +9,24 @@ use Rattle.std.proofs.lemmas.List.{take_at, drop_at, drop-drop, length-drop}
 use borrow.Rule.Slice.PartMut.{put_mid}
 use Rattle.blake2_rows.proofs.Lanes.{lanes}
 
--- what a list maps to, one behind the other
+-- What a list maps to, one after the other.
 flat_is : {X : Type 0} (g : X → List ℕ) (xs : List X) → flat_map g xs ≡ concat (map g xs)
 flat_is g [] = refl
 flat_is g (x ∷ xs) = ap (λ l. g x ++ l) (flat_is g xs)
 
--- two lists that map to the same
+-- Two lists that map to the same.
 pub same_flat : {X Y : Type 0} (g : X → List ℕ) (h : Y → List ℕ) (xs : List X) (ys : List Y)
     → map g xs ≡ map h ys → flat_map g xs ≡ flat_map h ys
 same_flat g h xs ys e = flat_is g xs ∙ ap concat e ∙ sym (flat_is h ys)
 
--- the first n items of a list, each mapped
+-- The first n items of a list, each mapped.
 pub firsts : {X : Type 0} (n : ℕ) (g : X → List ℕ) (d : X) (xs : List X) → n ≤ length xs
     → lanes n (λ j. g (slice_index_or xs j d)) ≡ map g (take n xs)
 firsts zero g d xs h = refl
 firsts (suc n) g d [] h = absurd (omega arith)
 firsts (suc n) g d (x ∷ xs) h = λ i. g x ∷ firsts n g d xs (omega arith) i
 
--- the first items, and then the next
+-- The first items, and then the next.
 pub flat_more : {X : Type 0} (g : X → List ℕ) (n m : ℕ) (xs : List X)
     → flat_map g (take (n + m) xs) ≡ flat_map g (take n xs) ++ flat_map g (take m (drop n xs))
 flat_more g n m xs =
@@ -35,7 +35,7 @@ flat_more g n m xs =
     ∙ ap₂ (λ a b. a ++ b) (take-take n (n + m) xs (omega arith)) (drop-take n m xs) in
     ap (flat_map g) split ∙ flat_map-append g (take n xs) (take m (drop n xs))
 
--- what is written behind the first a bytes, where these are known and the rest is as it was
+-- What is written after the first a bytes, if these are known and the rest is as it was.
 pub put_more : (a m : ℕ) (was xs ys front more : List ℕ) → a ≤ length was
     → length xs ≡ length was → xs ≡ front ++ drop a was
     → ys ≡ more ++ drop m (take (length xs - a) (drop a xs))

@@ -6,14 +6,14 @@ use Rattle.std.proofs.lemmas.List.Prefix.{front_from_reads}
 use Rattle.std.proofs.lemmas.Grind.{common_steps}
 use lib.Bits.{or_zero_l, xor_zero_l, xor_zero_r, xor_self, xor_assoc}
 
--- numbers whose bits differ nowhere are equal
+-- Numbers whose bits differ nowhere are equal.
 equal_bits : (x y : ℕ) → bit_xor x y ≡ 0 → x ≡ y
 equal_bits x y e =
     sym (xor_zero_r x) ∙ ap (bit_xor x) (sym (xor_self y)) ∙ sym (xor_assoc x y y)
     ∙ ap (λ z. bit_xor z y) e ∙ xor_zero_l y
 
--- the bits in which two numbers differ, beside others: there are none exactly where there are no
--- others and the two are equal
+-- The bits in which two numbers differ, added to others: there are none exactly if there are no
+-- others and the two are equal.
 pub none_differ : (d x y : ℕ) → (bit_or d (bit_xor x y) ≡ 0) ↔ ((d ≡ 0) × (x ≡ y))
 none_differ d x y = (
   λ h. (
@@ -23,7 +23,7 @@ none_differ d x y = (
   λ h. ap (λ z. bit_or z (bit_xor x y)) h.0 ∙ or_zero_l _ ∙ ap (bit_xor x) (sym h.1) ∙ xor_self x,
 )
 
--- lists of one length are equal where all their numbers are
+-- Lists of one length are equal if all their numbers are.
 pub equal_by_reads : (xs ys : List ℕ) → length xs ≡ length ys
     → ((k : ℕ) → k < length ys → get_or xs k 0 ≡ get_or ys k 0) → xs ≡ ys
 equal_by_reads xs ys e h = let s = front_from_reads 0 xs ys (omega arith) h in

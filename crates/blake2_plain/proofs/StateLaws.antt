@@ -1,4 +1,4 @@
--- The promises of plain states, from the fields that a call leaves.
+-- The contracts of plain states, from the fields that a call leaves.
 use Rattle.std.proofs.Common.{◌≡◌, ℕ, ◌+◌, ◌≤◌, ◌==◌, Bool, true, false, List, [], ◌∷◌, ◌++◌}
 use Rattle.std.proofs.Common.{length, slice_index, Option, Some, None, sym, ap, ◌∙◌, rules}
 use Rattle.blake2_rows.specs.Family.{Family, block_bytes}
@@ -15,9 +15,9 @@ use Rattle.blake2_plain.specs.Arguments.{given_key, given_count}
 use Rattle.blake2_plain.specs.Blocks.{block_start, block_digest}
 use Rattle.blake2_plain.specs.States.{meaning_sized}
 
--- ---- promises of states that hold their size
+-- ---- contracts of states that hold the length of their digests
 
--- an update keeps its promise
+-- An update satisfies its contract.
 pub Updated_sized : {S : Type 0} (f : Family) (size_of : S → ℕ) (state_of : S → State) (old : S)
     (x : List ℕ) (new : S)
     → size_of new ≡ size_of old → state_of new ≡ updated f (state_of old) x
@@ -31,7 +31,7 @@ Updated_sized f size_of state_of old x new size e =
       start_count = u.start_count;
     }
 
--- a constructor keeps its promise
+-- A constructor satisfies its contract.
 pub Fresh_sized : {S : Type 0} (f : Family) (size_of : S → ℕ) (state_of : S → State) (n : ℕ)
     (salt persona : List ℕ) (key : Option (List ℕ)) (tree : Tree) (counted : ℕ) (new : S)
     → length (key_block f key) ≡ counted → size_of new ≡ n
@@ -47,7 +47,7 @@ Fresh_sized f size_of state_of n salt persona key tree counted new counts size e
       start_count = u.start_count;
     }
 
--- a reset keeps its promise
+-- A reset satisfies its contract.
 pub StartedAgain_sized : {S : Type 0} (f : Family) (size_of : S → ℕ) (state_of : S → State)
     (old new : S)
     → size_of new ≡ size_of old → state_of new ≡ restarted (state_of old)
@@ -61,7 +61,7 @@ StartedAgain_sized f size_of state_of old new size e =
       start_count = u.start_count;
     }
 
--- setting the last-node flag keeps its promise
+-- Setting the last-node flag satisfies its contract.
 pub NodeSet_sized : {S : Type 0} (f : Family) (size_of : S → ℕ) (state_of : S → State) (old : S)
     (on : Bool) (new : S)
     → size_of new ≡ size_of old → state_of new ≡ node_set (state_of old) on
@@ -77,7 +77,7 @@ NodeSet_sized f size_of state_of old on new size e =
 
 -- ---- the fields
 
--- a state that has taken nothing, from the words of a core
+-- A state that has absorbed nothing, from the words of a core.
 pub state-made : (f : Family) (parameters : Parameters) (key : Option (List ℕ)) (core : CoreState)
     (words pending start_block : List ℕ) → core ≡ core_made f parameters
     → words ≡ core.start → pending ≡ key_block f key → start_block ≡ key_block f key
@@ -94,7 +94,7 @@ state-made f parameters key core words pending start_block made starts pends beg
       start_block = begins i;
     }
 
--- an input that the pending block has room for
+-- An input that the pending block has room for.
 pub state-kept : (f : Family) (s : State) (x pending : List ℕ)
     → length (s.pending ++ x) ≤ block_bytes f → pending ≡ s.pending ++ x
     → record { core = s.core; pending = pending; start_block = s.start_block } ≡ updated f s x
@@ -106,7 +106,7 @@ state-kept f s x pending room e =
     e ∙ sym (held_all (block_bytes f) (s.pending ++ x) (block_positive f) room) in
     λ i. record { core = none i; pending = all i; start_block = s.start_block }
 
--- any input, from the words of the core that took it
+-- Any input, from the words of the core that absorbed it.
 pub state-absorbed : (f : Family) (s : State) (x : List ℕ) (begun core : CoreState) (h : List ℕ)
     (c : ℕ) (pending : List ℕ) → begun ≡ s.core
     → core ≡ absorbed f begun (handed_on (block_bytes f) (s.pending ++ x))
@@ -140,7 +140,7 @@ state-absorbed f s x begun core h c pending begins taken pends words counted =
 
 -- ---- runs from a block
 
--- the state of a parameter block's words
+-- The state of a parameter block's words.
 abbrev from_words : List ℕ → State
 from_words words = record {
   core = record {
@@ -167,7 +167,7 @@ unfolding started
 started-from_words f block words flag y e = ap
     (λ (w : List ℕ). started f (slice_index block 0) (from_words w) flag y) e
 
--- a constructor from a parameter block keeps its promise
+-- A constructor from a parameter block satisfies its contract.
 pub Fresh_block : {S : Type 0} (f : Family) (size_of : S → ℕ) (state_of : S → State)
     (block words : List ℕ) (new : S) → size_of new ≡ slice_index block 0
     → state_of new ≡ from_words words → words ≡ block_start f block
@@ -184,7 +184,7 @@ Fresh_block f size_of state_of block words new size e starts = record {
 
 -- ---- keys
 
--- no bytes are no key
+-- An empty list is not a key.
 pub Fresh-given_none : {S : Type 0} (m : Meaning S) (f : Family) (n : ℕ) (salt persona key : List ℕ)
     (tree : Tree) (s : S) → (length key == 0) ≡ true
     → Fresh m (node_digest_of f n salt persona None tree) 0 s
@@ -192,7 +192,7 @@ pub Fresh-given_none : {S : Type 0} (m : Meaning S) (f : Family) (n : ℕ) (salt
 Fresh-given_none m f n salt persona [] tree s e h = h
 Fresh-given_none m f n salt persona (x ∷ xs) tree s e h = absurd (search rules)
 
--- some are one
+-- A list that is not empty is a key.
 pub Fresh-given_some : {S : Type 0} (m : Meaning S) (f : Family) (n : ℕ) (salt persona key : List ℕ)
     (tree : Tree) (s : S) → (length key == 0) ≡ false
     → Fresh m (node_digest_of f n salt persona (Some key) tree) (block_bytes f) s

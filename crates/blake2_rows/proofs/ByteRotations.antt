@@ -1,5 +1,5 @@
--- The third rotation of G is by whole bytes. So it is a choice of the bytes of a row, and it and a
--- move of the lanes are one such choice.
+-- The third rotation of G is by whole bytes. So it is a choice of the bytes of a row, and so is the
+-- rotation followed by a move of the lanes.
 use Rattle.std.proofs.Common.{◌≡◌, ℕ, suc, ◌+◌, ◌*◌, ◌/◌, ◌%◌, ◌^◌, ◌<◌, List, [], ◌∷◌, ◌++◌}
 use Rattle.std.proofs.Common.{length, get_or, slice_index, map, refl, sym, ap, ◌∙◌, arith, lit<}
 use Rattle.std.proofs.Common.{zero, pow_pos}
@@ -14,13 +14,13 @@ use Rattle.blake2_rows.proofs.Bytes.{lanes_written}
 use Rattle.blake2_rows.proofs.Rotations.{rotate_right-sum}
 use Rattle.blake2_rows.proofs.Words.{cells, cells-drop, rotate_right-lt}
 
--- the bytes of a word x after that rotation, low byte first
+-- The bytes of a word x after that rotation, in little-endian order.
 abbrev rotated_bytes : Family → ℕ → List ℕ
 rotated_bytes blake2b x = byte_at 2 x ∷ byte_at 3 x ∷ byte_at 4 x ∷ byte_at 5 x ∷ byte_at 6 x
     ∷ byte_at 7 x ∷ byte_at 0 x ∷ byte_at 1 x ∷ []
 rotated_bytes blake2s x = byte_at 1 x ∷ byte_at 2 x ∷ byte_at 3 x ∷ byte_at 0 x ∷ []
 
--- they make the word rotated
+-- These bytes make the rotated word.
 word_rotated : (f : Family) (x : ℕ) → x < 2 ^ bits (word f)
     → number_l 256 (rotated_bytes f x) ≡ rotate_right (word f) x (slice_index (rotations f) 2)
 word_rotated blake2b x fits = omega arith ∙ sym
@@ -28,22 +28,22 @@ word_rotated blake2b x fits = omega arith ∙ sym
 word_rotated blake2s x fits = omega arith ∙ sym
     (rotate_right-sum blake2s x 8 (lit< tt) (lit< tt) fits)
 
--- a word rotated so
+-- A word after that rotation.
 abbrev pub word_after : Family → ℕ → ℕ
 word_after f x = rotate_right (word f) x (slice_index (rotations f) 2)
 
--- the bytes of several words, each rotated
+-- The bytes of several words, each rotated.
 abbrev row_bytes : Family → List ℕ → List ℕ
 row_bytes f xs = flat_map (rotated_bytes f) xs
 
--- bytes that begin with those of a word
+-- Bytes that begin with those of a word.
 word_first : (f : Family) (x : ℕ) (ys : List ℕ)
     → number_l 256 (rotated_bytes f x ++ ys) ≡ number_l 256 (rotated_bytes f x)
     + 2 ^ bits (word f) * number_l 256 ys
 word_first blake2b x ys = omega arith
 word_first blake2s x ys = omega arith
 
--- a number whose last digit is x, and its other digits
+-- A number whose last digit is x, and its other digits.
 last_digit : (f : Family) (x y : ℕ) → x < 2 ^ bits (word f)
     → (x + 2 ^ bits (word f) * y) % 2 ^ bits (word f) ≡ x
 last_digit blake2b x y low = omega arith
@@ -54,7 +54,7 @@ other_digits : (f : Family) (x y : ℕ) → x < 2 ^ bits (word f)
 other_digits blake2b x y low = omega arith
 other_digits blake2s x y low = omega arith
 
--- read as lanes, they are the words rotated
+-- Read as lanes, these bytes are the rotated words.
 row_rotated : (f : Family) (xs : List ℕ) → AreWords f xs
     → digits_l (2 ^ bits (word f)) (length xs) (number_l 256 (row_bytes f xs))
     ≡ map (word_after f) xs
@@ -71,7 +71,7 @@ row_rotated f (x ∷ xs) words =
     ∙ ap (digits_l q (length xs)) (other_digits f (word_after f x) y low)
     ∙ row_rotated f xs (λ k. words (suc k))) i
 
--- the lanes of a vector xs whose bytes were chosen so that they are those of ys, rotated
+-- The lanes of a vector xs whose bytes are chosen to be those of ys, rotated.
 chosen_rotated : (f : Family) (n m : ℕ) (xs ys at : List ℕ) → n ≡ word_bytes f * length xs
     → m ≡ length ys → AreWords f xs → AreWords f ys
     → pick_l 0 (lane_bytes f xs ++ lane_bytes f xs) at ≡ row_bytes f ys
@@ -85,22 +85,22 @@ chosen_rotated f n m xs ys at size long words chosen picked =
     ∙ ap (λ (zs : List ℕ). digits_l q m (number_l 256 zs)) picked
     ∙ ap (λ (k : ℕ). digits_l q k (number_l 256 (row_bytes f ys))) long ∙ row_rotated f ys chosen
 
--- ---- the lanes moved too
+-- ---- the lanes also moved
 
--- where the bytes of lanes 2, 3, 0 and 1 stand in a row of four
+-- The indices of the bytes of lanes 2, 3, 0 and 1 in a row of four.
 abbrev pub places : Family → List ℕ
 places blake2b =
     18 ∷ 19 ∷ 20 ∷ 21 ∷ 22 ∷ 23 ∷ 16 ∷ 17 ∷ 26 ∷ 27 ∷ 28 ∷ 29 ∷ 30 ∷ 31 ∷ 24 ∷ 25 ∷
     2 ∷ 3 ∷ 4 ∷ 5 ∷ 6 ∷ 7 ∷ 0 ∷ 1 ∷ 10 ∷ 11 ∷ 12 ∷ 13 ∷ 14 ∷ 15 ∷ 8 ∷ 9 ∷ []
 places blake2s = 9 ∷ 10 ∷ 11 ∷ 8 ∷ 13 ∷ 14 ∷ 15 ∷ 12 ∷ 1 ∷ 2 ∷ 3 ∷ 0 ∷ 5 ∷ 6 ∷ 7 ∷ 4 ∷ []
 
--- the bytes at these places
+-- The bytes at these indices.
 picked : (f : Family) (a b c d : ℕ) → let bytes = lane_bytes f (a ∷ b ∷ c ∷ d ∷ []) in
     pick_l 0 (bytes ++ bytes) (places f) ≡ row_bytes f (c ∷ d ∷ a ∷ b ∷ [])
 picked blake2b a b c d = refl
 picked blake2s a b c d = refl
 
--- four words
+-- Four words.
 four_words : (f : Family) (a b c d : ℕ) → a < 2 ^ bits (word f) → b < 2 ^ bits (word f)
     → c < 2 ^ bits (word f) → d < 2 ^ bits (word f) → AreWords f (a ∷ b ∷ c ∷ d ∷ [])
 four_words f a b c d la lb lc ld zero = la
@@ -109,7 +109,7 @@ four_words f a b c d la lb lc ld (suc (suc zero)) = lc
 four_words f a b c d la lb lc ld (suc (suc (suc zero))) = ld
 four_words f a b c d la lb lc ld (suc (suc (suc (suc i)))) = pow_pos (bits (word f))
 
--- the lanes of a vector whose bytes were chosen so: rotated, and moved two places
+-- The lanes of a vector whose bytes are chosen in this way: rotated, and moved by two lanes.
 pub bytes_rotated : (f : Family) (n : ℕ) (xs : List ℕ) → n ≡ word_bytes f * 4 → length xs ≡ 4
     → AreWords f xs
     → let bytes = digits_l 256 n (number_l (2 ^ bits (word f)) xs) in
@@ -124,14 +124,14 @@ bytes_rotated f n xs size long words =
     (ap (λ (ys : List ℕ). pick_l 0 (lane_bytes f ys ++ lane_bytes f ys) (places f)) listed
     ∙ picked f (at 0) (at 1) (at 2) (at 3))
 
--- ---- the lanes in place, in a row of 32 bytes
+-- ---- lanes that are not moved, in a row of 32 bytes
 
--- how many words such a row has
+-- The number of words in such a row.
 abbrev pub wide : Family → ℕ
 wide blake2b = 4
 wide blake2s = 8
 
--- where the bytes of its lanes stand
+-- The indices of the bytes of its lanes.
 abbrev pub kept : Family → List ℕ
 kept blake2b =
     2 ∷ 3 ∷ 4 ∷ 5 ∷ 6 ∷ 7 ∷ 0 ∷ 1 ∷ 10 ∷ 11 ∷ 12 ∷ 13 ∷ 14 ∷ 15 ∷ 8 ∷ 9 ∷
@@ -140,13 +140,13 @@ kept blake2s =
     1 ∷ 2 ∷ 3 ∷ 0 ∷ 5 ∷ 6 ∷ 7 ∷ 4 ∷ 9 ∷ 10 ∷ 11 ∷ 8 ∷ 13 ∷ 14 ∷ 15 ∷ 12 ∷
     17 ∷ 18 ∷ 19 ∷ 16 ∷ 21 ∷ 22 ∷ 23 ∷ 20 ∷ 25 ∷ 26 ∷ 27 ∷ 24 ∷ 29 ∷ 30 ∷ 31 ∷ 28 ∷ []
 
--- the bytes at these places
+-- The bytes at these indices.
 picked_kept : (f : Family) (xs : List ℕ) → let bytes = lane_bytes f (cells xs 0 (wide f)) in
     pick_l 0 (bytes ++ bytes) (kept f) ≡ row_bytes f (cells xs 0 (wide f))
 picked_kept blake2b xs = refl
 picked_kept blake2s xs = refl
 
--- the lanes of a vector whose bytes were chosen so: rotated
+-- The lanes of a vector whose bytes are chosen in this way: rotated.
 pub lanes_rotated : (f : Family) (xs : List ℕ) → length xs ≡ wide f → AreWords f xs
     → let bytes = digits_l 256 32 (number_l (2 ^ bits (word f)) xs) in
     digits_l (2 ^ bits (word f)) (wide f) (number_l 256 (pick_l 0 (bytes ++ bytes) (kept f)))

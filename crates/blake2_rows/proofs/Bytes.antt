@@ -1,4 +1,4 @@
--- Bytes read as lanes, and lanes written as bytes: vectors do both by digits of one number.
+-- Bytes read as lanes, and lanes written as bytes. Vectors do both by the digits of one number.
 use Rattle.std.proofs.Common.{◌≡◌, ℕ, zero, suc, ◌+◌, ◌*◌, ◌/◌, ◌%◌, ◌^◌, ◌<◌, ◌≤◌, List, [], ◌∷◌}
 use Rattle.std.proofs.Common.{◌++◌, length, get_or, drop, refl, sym, ap, ◌∙◌, arith, Fits, w8, lit<}
 use Rattle.std.proofs.Math.Nat.{add-mul-mod_self_left, add-mul-div_left, div-div-eq-div-mul}
@@ -13,14 +13,14 @@ use Rattle.blake2_rows.specs.Family.{Family, word, word_bytes, blake2b, blake2s}
 use Rattle.blake2_rows.specs.Round.{AreWords}
 use Rattle.blake2_rows.specs.Rows.{four, word_at, lane_bytes}
 
--- a word has as many values as its bytes have together
+-- A word has the same number of values as its bytes have together.
 pub words_counted : (f : Family) → 2 ^ bits (word f) ≡ 256 ^ word_bytes f
 words_counted blake2b = refl
 words_counted blake2s = refl
 
 -- ---- from bytes to lanes
 
--- the number of the digits from place i on
+-- The number of the digits from index i on.
 number_l-drop : (p : ℕ) (xs : List ℕ) (i : ℕ)
     → number_l p (drop i xs) ≡ get_or xs i 0 + p * number_l p (drop (suc i) xs)
 number_l-drop p [] zero = omega arith
@@ -28,7 +28,7 @@ number_l-drop p [] (suc i) = omega arith
 number_l-drop p (x ∷ xs) zero = refl
 number_l-drop p (x ∷ xs) (suc i) = number_l-drop p xs i
 
--- the bytes of a word as digits, the least first, are that word in little-endian order
+-- The bytes of a word as digits, the least first, are that word in little-endian order.
 number_l-word : (f : Family) (xs : List ℕ) → length xs ≡ word_bytes f
     → number_l 256 xs ≡ from_le_bytes (word f) xs
 number_l-word blake2b xs long =
@@ -40,7 +40,7 @@ number_l-word blake2s xs long =
     let at = number_l-drop 256 xs in
     omega (arith, at 0, at 1, at 2, at 3, rest)
 
--- the lanes of a vector that was loaded from the bytes of four words
+-- The lanes of a vector that was loaded from the bytes of four words.
 pub lanes_read : (f : Family) (n : ℕ) (xs : List ℕ) → n ≡ 4 * word_bytes f → length xs ≡ n
     → ((i : ℕ) → Fits w8 (get_or xs i 0))
     → digits_l (2 ^ bits (word f)) 4 (number_l 256 (chunk 0 n xs)) ≡ four (λ j. word_at f xs j)
@@ -61,12 +61,12 @@ lanes_read f n xs size long fits =
 
 -- ---- from lanes to bytes
 
--- byte i of a number, also where it is the lowest
+-- Byte i of a number, also if it is the lowest.
 byte_at_digit : (i n : ℕ) → byte_at i n ≡ n / 256 ^ i % 256
 byte_at_digit zero n = ap (λ m. m % 256) (sym (div-one n))
 byte_at_digit (suc i) n = refl
 
--- bytes from place i on are the digits of what is left of the number there
+-- The bytes from index i on are the digits of what is left of the number there.
 bytes_are_digits : (k i n : ℕ) → bytes_low_first i k n ≡ digits_l 256 k (n / 256 ^ i)
 bytes_are_digits zero i n = refl
 bytes_are_digits (suc k) i n =
@@ -74,7 +74,7 @@ bytes_are_digits (suc k) i n =
     ap (λ p. n / p) (pow-suc 256 i) ∙ sym (div-div-eq-div-mul n (256 ^ i) 256) in
     λ t. byte_at_digit i n t ∷ (bytes_are_digits k (suc i) n ∙ ap (digits_l 256 k) next) t
 
--- k + n digits of a number below q ^ k with others above it
+-- The k + n digits of a number below q ^ k with others above it.
 digits_l-add : (q k n x y : ℕ) → 0 < q → x < q ^ k
     → digits_l q (k + n) (x + q ^ k * y) ≡ digits_l q k x ++ digits_l q n y
 digits_l-add q zero n x y some low =
@@ -92,12 +92,12 @@ digits_l-add q (suc k) n x y some low =
     rw more (λ i. first i ∷ (ap (digits_l q (k + n)) rest
     ∙ digits_l-add q k n (x / q) y some below) i)
 
--- the bytes of a word are its digits
+-- The bytes of a word are its digits.
 word_digits : (f : Family) (n : ℕ) → digits_l 256 (word_bytes f) n ≡ to_le_bytes (word f) n
 word_digits blake2b n = ap (digits_l 256 8) (sym (div-one n)) ∙ sym (bytes_are_digits 8 0 n)
 word_digits blake2s n = ap (digits_l 256 4) (sym (div-one n)) ∙ sym (bytes_are_digits 4 0 n)
 
--- the bytes that a vector of words writes are those of its lanes
+-- The bytes that a vector of words writes are those of its lanes.
 pub lanes_written : (f : Family) (n : ℕ) (xs : List ℕ) → n ≡ word_bytes f * length xs
     → AreWords f xs
     → digits_l 256 n (number_l (2 ^ bits (word f)) xs) ≡ lane_bytes f xs

@@ -1,4 +1,4 @@
--- G reads and writes four places of a list alone: it is G on the list of the four words there.
+-- G reads and writes only four words of a list: it is G on the list of those four words.
 use Rattle.std.proofs.Common.{◌≡◌, ℕ, ◌+◌, ◌%◌, ◌^◌, ◌<◌, List, [], ◌∷◌, length, get_or, set}
 use Rattle.std.proofs.Common.{bit_xor, slice_index, sym, ap, ◌∙◌, arith}
 use Rattle.std.proofs.lemmas.List.{length-map, length-set, map-set, get_or-map, set-get_or}
@@ -10,18 +10,18 @@ use Rattle.blake2_rows.specs.Round.{plus, rotate, mix}
 use Rattle.blake2_rows.specs.Lanes.{in_lane}
 use Rattle.blake2_rows.proofs.Assignments.{set-set}
 
--- four places of v, in their order
+-- Four indices of v, in order.
 record Places (v : List ℕ) (a b c d : ℕ) : Type 0 where
   ab : a < b
   bc : b < c
   cd : c < d
   fits : d < length v
 
--- v with p, q, r and s there
+-- The list v with p, q, r and s at these indices.
 abbrev pub written : List ℕ → ℕ → ℕ → ℕ → ℕ → ℕ → ℕ → ℕ → ℕ → List ℕ
 written v a b c d p q r s = set (set (set (set v a p) b q) c r) d s
 
--- what stands at each place
+-- The word at each of these indices.
 at_a : (v : List ℕ) (a b c d p q r s : ℕ) → Places v a b c d
     → slice_index (written v a b c d p q r s) a ≡ p
 at_a v a b c d p q r s h =
@@ -47,7 +47,7 @@ at_d : (v : List ℕ) (a b c d p q r s : ℕ) → Places v a b c d
 at_d v a b c d p q r s h = get_or-set_same (set (set (set v a p) b q) c r) d s 0
     (omega (arith, length-set {A = ℕ}))
 
--- a word made of those at a and b, written at a; and so on
+-- A word made of those at a and b, written at a, and so on.
 write_a : (v : List ℕ) (a b c d p q r s : ℕ) (g : ℕ → ℕ → ℕ) → Places v a b c d
     → set (written v a b c d p q r s) a (g (slice_index (written v a b c d p q r s) a)
     (slice_index (written v a b c d p q r s) b)) ≡ written v a b c d (g p q) q r s
@@ -89,7 +89,7 @@ write_d v a b c d p q r s g h =
     (at_a v a b c d p q r s h i)))
     ∙ set-set (set (set (set v a p) b q) c r) d s (g s p)
 
--- four words over themselves
+-- Four words written over themselves.
 rewritten : (v : List ℕ) (a b c d : ℕ) → Places v a b c d
     → v ≡ written v a b c d (slice_index v a) (slice_index v b) (slice_index v c) (slice_index v d)
 rewritten v a b c d h =
@@ -98,7 +98,7 @@ rewritten v a b c d h =
     ∙ ap (λ l. set (set l c (slice_index v c)) d (slice_index v d)) (set-get_or v b 0)
     ∙ ap (λ l. set l d (slice_index v d)) (set-get_or v c 0) ∙ set-get_or v d 0)
 
--- G at four places of v is G on the four words that stand there, written back
+-- G at four indices of v is G on the four words there, written back.
 pub mix_at : (f : Family) (v : List ℕ) (a b c d x y p q r s : ℕ)
     → (a < b) × (b < c) × (c < d) × (d < length v)
     → p ∷ q ∷ r ∷ s ∷ [] ≡ mix f (slice_index v a ∷ slice_index v b ∷ slice_index v c
@@ -139,7 +139,7 @@ mix_at f v a b c d x y p q r s order e =
     (λ i. written v a b c d (slice_index (e i) 0) (slice_index (e i) 1) (slice_index (e i) 2)
     (slice_index (e i) 3)) ∙ sym e8
 
--- the same in one lane of several rows, four of which are written
+-- The same in one lane of several rows, four of which are written.
 pub mix_in_lane : (f : Family) (v : List (List ℕ)) (a b c d : ℕ) (da db dc dd p q r s : List ℕ)
     (j x y : ℕ) → (a < b) × (b < c) × (c < d) × (d < length v)
     → in_lane j (p ∷ q ∷ r ∷ s ∷ []) ≡ mix f (in_lane j (get_or v a da ∷ get_or v b db

@@ -4,14 +4,15 @@ use Rattle.blake2_rows.specs.Family.{Family}
 use Rattle.blake2_rows.specs.Round.{mix, round}
 use Rattle.blake2_rows.specs.Rows.{sixteen, columns, shuffled_rows}
 
--- the words of m whose places stand at places i, j, k and l of s
+-- The words of m whose indices are at i, j, k and l of s.
 abbrev pub picked : List ℕ → List ℕ → ℕ → ℕ → ℕ → ℕ → List ℕ
 picked m s i j k l =
     slice_index m (slice_index s i) ∷ slice_index m (slice_index s j)
     ∷ slice_index m (slice_index s k) ∷ slice_index m (slice_index s l) ∷ []
 
--- the columns are mixed, then the diagonals, which rows 0, 2 and 3 moved to the left by 3, 1 and 2
--- lanes make columns; the diagonal of place 3 stands first there, so its words are picked first
+-- The columns are mixed, and then the diagonals, which become columns when rows 0, 2 and 3 are
+-- moved to the left by 3, 1 and 2 lanes. The diagonal of column 3 comes first there, so its words
+-- are picked first.
 pub round_by_rows : (f : Family) (v : List (List ℕ)) (m s : List ℕ)
     → shuffled_rows 1 0 3 2 (columns f (shuffled_rows 3 0 1 2 (columns f (sixteen v) (picked m s 0 2
     4 6) (picked m s 1 3 5 7))) (picked m s 14 8 10 12) (picked m s 15 9 11 13))

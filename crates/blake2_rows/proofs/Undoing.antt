@@ -1,5 +1,4 @@
--- G can be undone, and so can a round; and a round takes different lists of words to different
--- ones.
+-- G can be undone, and so can a round. A round maps different lists of words to different lists.
 use Rattle.std.proofs.Common.{◌≡◌, ℕ, ◌^◌, ◌<◌, List, length, slice_index, sym, ap, ◌∙◌}
 use Rattle.std.proofs.Common.{arith, lit<}
 use mir.Val.{bits}
@@ -10,7 +9,7 @@ use Rattle.blake2_rows.proofs.Assignments.{single_plus_step, less_step, rotate_s
 
 -- ---- G
 
--- two steps, undone the last first
+-- Two steps are undone, the last first.
 in_turn : (f : Family) {u v w : List ℕ} {g h : List ℕ → List ℕ} → Undoes f u v g → Undoes f v w h
     → Undoes f u w (λ z. g (h z))
 in_turn f {g = g} s t = record {
@@ -19,7 +18,7 @@ in_turn f {g = g} s t = record {
   undone = ap g t.undone ∙ s.undone;
 }
 
--- the eight assignments of G undone, the last first
+-- v after the eight assignments of G are undone, the last first.
 unfoldable pub unmix : Family → List ℕ → ℕ → ℕ → ℕ → ℕ → ℕ → ℕ → List ℕ
 unmix f v a b c d x y =
     let v7 = unrotate f v b c (slice_index (rotations f) 3) in
@@ -31,7 +30,7 @@ unmix f v a b c d x y =
     let v1 = unrotate f v2 d a (slice_index (rotations f) 0) in
     minus f v1 a b x
 
--- G is undone by `unmix`
+-- G is undone by `unmix`.
 mix_step : (f : Family) (v : List ℕ) (a b c d x y : ℕ) → AreWords f v → x < 2 ^ bits (word f)
     → y < 2 ^ bits (word f)
     → a < b → b < c → c < d → d < length v → Undoes f v (mix f v a b c d x y)
@@ -60,7 +59,7 @@ mix_step f v a b c d x y words lx ly ab bc cd fits =
     (omega arith) in
     in_turn f t4 (in_turn f s5 (in_turn f s6 (in_turn f s7 s8)))
 
--- `unmix` is undone by G
+-- `unmix` is undone by G.
 unmix_step : (f : Family) (v : List ℕ) (a b c d x y : ℕ) → AreWords f v → x < 2 ^ bits (word f)
     → y < 2 ^ bits (word f)
     → a < b → b < c → c < d → d < length v → Undoes f v (unmix f v a b c d x y)
@@ -90,7 +89,7 @@ unmix_step f v a b c d x y words lx ly ab bc cd fits =
     (omega arith) in
     in_turn f t4 (in_turn f s3 (in_turn f s2 (in_turn f s1 s0)))
 
--- what G undone leaves, G takes to the words that were given
+-- G maps the words that undoing G leaves to the words that were given.
 pub mix-unmix : (f : Family) (v : List ℕ) (a b c d x y : ℕ) → AreWords f v → x < 2 ^ bits (word f)
     → y < 2 ^ bits (word f)
     → a < b → b < c → c < d → d < length v → mix f (unmix f v a b c d x y) a b c d x y ≡ v
@@ -99,7 +98,7 @@ mix-unmix f v a b c d x y words lx ly ab bc cd fits =
 
 -- ---- the round
 
--- the eight mixings of a round undone, the last first
+-- v after the eight mixings of a round are undone, the last first.
 unfoldable unround : Family → List ℕ → List ℕ → List ℕ → List ℕ
 unround f m s v =
     let at = λ (j : ℕ). slice_index m (slice_index s j) in
@@ -112,7 +111,7 @@ unround f m s v =
     let v1 = unmix f v2 1 5 9 13 (at 2) (at 3) in
     unmix f v1 0 4 8 12 (at 0) (at 1)
 
--- a mixing of a round, with the words of m at places i and j of s
+-- A mixing of a round, with the words of m at the indices that are at i and j of s.
 drawn_step : (f : Family) (v m s : List ℕ) (a b c d i j : ℕ) → AreWords f v → AreWords f m → a < b
     → b < c → c < d → d < 16 → length v ≡ 16
     → Undoes f v
@@ -121,7 +120,7 @@ drawn_step : (f : Family) (v m s : List ℕ) (a b c d i j : ℕ) → AreWords f 
 drawn_step f v m s a b c d i j words from_m ab bc cd low long =
     mix_step f v a b c d _ _ words (from_m _) (from_m _) ab bc cd (omega arith)
 
--- a round is undone by `unround`
+-- A round is undone by `unround`.
 round_step : (f : Family) (v m s : List ℕ) → AreWords f v → AreWords f m → length v ≡ 16
     → Undoes f v (round f v m s) (unround f m s)
 unfolding round unround
@@ -151,7 +150,7 @@ round_step f v m s words from_m long =
     in_turn f s7 (drawn_step f v7 m s 3 4 9 14 14 15 s7.words from_m (lit< tt) (lit< tt) (lit< tt)
     (lit< tt) (s7.long ∙ long))
 
--- for given m and s, a round takes different lists of sixteen words to different lists
+-- For given m and s, a round maps different lists of sixteen words to different lists.
 pub round_injective : (f : Family) (u v m s : List ℕ) → AreWords f u → AreWords f v → AreWords f m
     → length u ≡ 16 → length v ≡ 16
     → round f u m s ≡ round f v m s → u ≡ v

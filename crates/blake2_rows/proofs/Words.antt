@@ -1,4 +1,4 @@
--- The definitions take a list of words to one that is as long.
+-- The definitions map a list of words to one of the same length.
 use Rattle.std.proofs.Common.{◌≡◌, ℕ, zero, suc, ◌+◌, ◌-◌, ◌%◌, ◌^◌, ◌<◌, inl, inr, List, [], ◌∷◌}
 use Rattle.std.proofs.Common.{length, get_or, drop, set, refl, sym, arith, pow_pos, mod-lt}
 use Rattle.std.proofs.lemmas.List.{length-set, get_or-set_same, get_or-set_other, set_past}
@@ -10,7 +10,7 @@ use mir.Val.{bits}
 use Rattle.blake2_rows.specs.Family.{Family, word}
 use Rattle.blake2_rows.specs.Round.{AreWords, plus, rotate, mix, round}
 
--- a list stays one of words where a word is written over another
+-- A list of words is still one after a word is written over another.
 pub AreWords-set : (f : Family) (v : List ℕ) (i x : ℕ) → AreWords f v → x < 2 ^ bits (word f)
     → AreWords f (set v i x)
 AreWords-set f v i x a lt k = elim (cases_lt i (length v)) [
@@ -21,46 +21,46 @@ AreWords-set f v i x a lt k = elim (cases_lt i (length v)) [
   ]
 ]
 
--- a word rotated to the right is a word
+-- A word rotated to the right is a word.
 pub rotate_right-lt : (f : Family) (n r : ℕ) → n < 2 ^ bits (word f)
     → rotate_right (word f) n r < 2 ^ bits (word f)
 rotate_right-lt f n r lt = or_lt (bits (word f)) _ _ (omega (arith, shr_le n (r % bits (word f))))
     (mod-lt _ (pow_pos (bits (word f))))
 
--- a word rotated to the left is a word
+-- A word rotated to the left is a word.
 pub rotate_left-lt : (f : Family) (n r : ℕ) → n < 2 ^ bits (word f)
     → rotate_left (word f) n r < 2 ^ bits (word f)
 rotate_left-lt f n r lt = or_lt (bits (word f)) _ _ (mod-lt _ (pow_pos (bits (word f))))
     (omega (arith, shr_le n ((bits (word f) - r % bits (word f)) % bits (word f))))
 
--- G keeps the length
+-- G keeps the length.
 pub length-mix : (f : Family) (v : List ℕ) (a b c d x y : ℕ)
     → length (mix f v a b c d x y) ≡ length v
 unfolding mix
 length-mix f v a b c d x y = simp length-set
 
--- a sum modulo 2^w is a word
+-- A sum modulo 2^w is a word.
 pub AreWords-plus : (f : Family) (v : List ℕ) (a b x : ℕ) → AreWords f v
     → AreWords f (plus f v a b x)
 AreWords-plus f v a b x h = AreWords-set f v a _ h (mod-lt _ (pow_pos (bits (word f))))
 
--- an exclusive or of words, rotated, is a word
+-- An exclusive or of words, rotated, is a word.
 pub AreWords-rotate : (f : Family) (v : List ℕ) (d a r : ℕ) → AreWords f v
     → AreWords f (rotate f v d a r)
 AreWords-rotate f v d a r h = AreWords-set f v d _ h
     (rotate_right-lt f _ r (xor_lt (bits (word f)) _ _ (h d) (h a)))
 
--- a round keeps the length
+-- A round keeps the length.
 pub length-round : (f : Family) (v m s : List ℕ) → length (round f v m s) ≡ length v
 unfolding round
 length-round f v m s = simp length-mix
 
--- n elements of l, from place i on
+-- n elements of l, from index i on.
 abbrev pub cells : List ℕ → ℕ → ℕ → List ℕ
 cells l i zero = []
 cells l i (suc n) = get_or l i 0 ∷ cells l (suc i) n
 
--- the cells to the end are what is left of the list
+-- The elements up to the end are what is left of the list.
 pub cells-drop : (l : List ℕ) (i n : ℕ) → length l ≡ i + n → cells l i n ≡ drop i l
 cells-drop l i zero long = sym (drop_all i l (omega arith))
 cells-drop l i (suc n) long =

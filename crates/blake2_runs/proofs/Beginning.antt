@@ -14,14 +14,14 @@ use Rattle.blake2_runs.specs.Play.{and_more, slot_digest, count_of, leaves}
 use Rattle.blake2_runs.specs.Play.{play_call, followed_by, after, play, play_from, fresh_meaning}
 use Rattle.blake2_runs.specs.Play.{play_fresh}
 
--- what is done to a slot may be told in another way
+-- What is done to a slot may be expressed in another way.
 at_slot_same : (i : ℕ) (slot : Option Taken) (f g : Taken → Result Outcome ReplayFault)
     → ((taken : Taken) → f taken ≡ g taken)
     → at_slot i slot f ≡ at_slot i slot g
 at_slot_same i None f g e = refl
 at_slot_same i (Some taken) f g e = e taken
 
--- and so may what comes of the slots
+-- What follows from the slots may be expressed in another way.
 and_then_same : (r : Result Outcome ReplayFault) (f g : Slots → Result (List (List ℕ)) ReplayFault)
     → ((next : Slots) → f next ≡ g next)
     → followed_by r f ≡ followed_by r g
@@ -30,21 +30,21 @@ and_then_same (Err fault) f g e = refl
 
 module _ {S : Type 0} (m : Meaning S) (first : S) (digest : Bool → List ℕ → List ℕ) (n : ℕ)
     (start : AtStart m digest n first) where
-  -- what is said of a state at its start, under the flag of this one
+  -- The meaning of a state at its start, under the flag of this one.
   abbrev made : Meaning (Unit {0})
   made = fresh_meaning (digest (m.last_node first)) n
 
-  -- each slot has the digest of what it has taken, whatever its mark
+  -- Each slot has the digest of what it has absorbed, whatever its mark.
   digest_same : (taken : Taken) → slot_digest m first taken ≡ slot_digest made tt taken
   digest_same (since_beginning x) = start.future (m.last_node first) x
   digest_same (since_reset x) = start.started (m.last_node first) x
 
-  -- and counts from n
+  -- Each slot counts from n.
   count_same : (taken : Taken) → count_of m first taken ≡ count_of made tt taken
   count_same (since_beginning x) = ap (λ (k : ℕ). k + length x) start.count
   count_same (since_reset x) = ap (λ (k : ℕ). k + length x) start.start_count
 
-  -- one call
+  -- One call.
   call_same : (slots : Slots) (i : ℕ) (call : Call)
       → play_call m first slots i call ≡ play_call made tt slots i call
   call_same slots i (Update k x) =
@@ -62,7 +62,7 @@ module _ {S : Type 0} (m : Meaning S) (first : S) (digest : Bool → List ℕ �
       ap (λ (d : List ℕ). leaves (set slots k (Some (since_reset []))) (d ∷ []))
       (digest_same taken))
 
-  -- a list of calls
+  -- A list of calls from an index on.
   play_from_same : (calls : List Call) (slots : Slots) (i : ℕ)
       → play_from m first calls slots i ≡ play_from made tt calls slots i
   play_from_same [] slots i = refl
@@ -72,12 +72,12 @@ module _ {S : Type 0} (m : Meaning S) (first : S) (digest : Bool → List ℕ �
       ∙ and_then_same (play_call made tt slots i call) _ _
       (λ next. play_from_same calls next (i + 1))
 
-  -- on a state at its start
+  -- A list of calls on a state at its start.
   pub play_at_start : (calls : List Call)
       → play m first calls ≡ play_fresh (digest (m.last_node first)) n calls
   play_at_start calls = play_from_same calls (Some (since_beginning []) ∷ []) 0
 
--- a state that was just made is at its start
+-- A state that has just been initialized is at its start.
 at_start : {S : Type 0} (m : Meaning S) (first : S) (digest : Bool → List ℕ → List ℕ) (n : ℕ)
     → Fresh m digest n first → AtStart m digest n first
 at_start m first digest n fresh = record {
@@ -87,7 +87,7 @@ at_start m first digest n fresh = record {
   start_count = fresh.start_count;
 }
 
--- and its flag is off
+-- A list of calls on a state that has just been initialized, whose flag is off.
 pub play_same : {S : Type 0} (m : Meaning S) (first : S) (digest : Bool → List ℕ → List ℕ) (n : ℕ)
     (fresh : Fresh m digest n first) (calls : List Call)
     → play m first calls ≡ play_fresh (digest false) n calls

@@ -1,4 +1,4 @@
--- The slot that a call names is absent, has ended, or has a state that stands for it.
+-- The slot that a call names is absent, has ended, or has a state that represents it.
 use Rattle.std.proofs.Common.{◌≡◌, ℕ, ◌<◌, ◌≤◌, List, length, get_or, Option, Some, None, Err}
 use Rattle.std.proofs.Common.{refl, sym, ap, subst}
 use Rattle.blake2_digest.specs.States.{Meaning}
@@ -9,7 +9,7 @@ use Rattle.blake2_runs.specs.Holding.{StandsFor, SlotHolds, AllHold}
 use Rattle.blake2_runs.proofs.SlotPlaces.{slot_at, slot_beyond}
 
 module _ {S : Type 0} (m : Meaning S) (first : S) where
-  -- a call whose slot is absent
+  -- A call whose slot is absent.
   pub absent : (slots : Slots) (states : List (Option S)) (i k : ℕ) (call : Call)
       → AllHold m first slots states → k ≡ slot_of call → length states ≤ k
       → play_call m first slots i call ≡ Err (NoSuchSlot i)
@@ -17,7 +17,7 @@ module _ {S : Type 0} (m : Meaning S) (first : S) where
       let play = λ (slot : Option Taken). at_slot i slot (play_live m first slots i call) in
       rw (← named) (ap play (slot_beyond m first slots states k all beyond))
 
-  -- what is known of a call whose slot has a place among the states: o is found there
+  -- What is known of a call whose slot has an index among the states: o is found there.
   pub record Found (slots : Slots) (states : List (Option S)) (k : ℕ) (call : Call)
       (o : Option S) : Type 0 where
     pub all : AllHold m first slots states
@@ -25,19 +25,19 @@ module _ {S : Type 0} (m : Meaning S) (first : S) where
     pub within : k < length states
     pub at_place : o ≡ get_or states k o
 
-  -- so o stands for the slot
+  -- So o represents the slot.
   found_holds : (slots : Slots) (states : List (Option S)) (k : ℕ) (call : Call) (o : Option S)
       → Found slots states k call o → SlotHolds m first (get_or slots k None) o
   found_holds slots states k call o f =
       subst (λ (p : Option S). SlotHolds m first (get_or slots k None) p) (sym f.at_place)
       (slot_at m first slots states k o f.all f.within)
 
-  -- a slot with no state has ended
+  -- A slot with no state has ended.
   none_of : (slot : Option Taken) → SlotHolds m first slot None → slot ≡ None
   none_of None holds = refl
   none_of (Some taken) holds = absurd holds
 
-  -- a call whose slot has ended
+  -- A call whose slot has ended.
   pub ended : (slots : Slots) (states : List (Option S)) (i k : ℕ) (call : Call) (o : Option S)
       → Found slots states k call o → o ≡ None → play_call m first slots i call ≡ Err (NoSuchSlot i)
   ended slots states i k call o f none =
@@ -46,13 +46,13 @@ module _ {S : Type 0} (m : Meaning S) (first : S) where
       (found_holds slots states k call o f) in
       rw (← f.named) (ap play (none_of (get_or slots k None) holds))
 
-  -- a slot with a state has taken something that the state stands for
+  -- A slot with a state has absorbed something that the state represents.
   some_of : (slot : Option Taken) (h : S) → SlotHolds m first slot (Some h)
       → (taken : Taken) × (slot ≡ Some taken) × StandsFor m first taken h
   some_of None h holds = absurd holds
   some_of (Some taken) h holds = (taken, refl, holds)
 
-  -- what is known of a call whose slot is there, with the state h at place k
+  -- What is known of a call whose slot is present, with the state h at index k.
   pub record Live (slots : Slots) (states : List (Option S)) (i k : ℕ) (call : Call)
       (h : S) : Type 0 where
     pub all : AllHold m first slots states
@@ -61,7 +61,7 @@ module _ {S : Type 0} (m : Meaning S) (first : S) where
     pub plays : play_call m first slots i call ≡ play_live m first slots i call taken
     pub stands : StandsFor m first taken h
 
-  -- a call is such a one where a state is found
+  -- A call has a slot that is present if a state is found.
   pub live : (slots : Slots) (states : List (Option S)) (i k : ℕ) (call : Call) (o : Option S)
       (h : S)
       → Found slots states k call o → o ≡ Some h → Live slots states i k call h

@@ -1,4 +1,4 @@
--- What a call leaves whose slot has a state: states that stand for the slots again.
+-- What a call leaves if its slot has a state: states that represent the slots again.
 use Rattle.std.proofs.Common.{◌≡◌, ℕ, ◌+◌, ◌-◌, ◌^◌, ◌<◌, ◌≤◌, List, [], ◌∷◌, ◌++◌, length}
 use Rattle.std.proofs.Common.{Option, Some, None, Result, Ok, Err, OnOk, IsOkUnless, inl, refl, sym}
 use Rattle.std.proofs.Common.{ap, ◌∙◌, arith}
@@ -19,16 +19,16 @@ use Rattle.blake2_runs.proofs.CallsOnSlots.{Live}
 use Rattle.blake2_runs.proofs.SlotPlaces.{AllHold-set, AllHold-push}
 use Rattle.blake2_runs.proofs.Standing.{StandsFor-updated, StandsFor-reset, digest_stands}
 
--- what a call on a live slot leaves, by its kind
+-- What a call on a live slot leaves, by its kind.
 module _ {S : Type 0} {m : Meaning S} {first : S} {slots : Slots} {states : List
     (Option S)} {i k : ℕ} {call : Call} {h : S}
     (live : Live m first slots states i k call h) where
-  -- the call is played on what its slot has taken
+  -- The call is played on what its slot has absorbed.
   plays_as : (kind : Call) → call ≡ kind
       → play_call m first slots i call ≡ play_live m first slots i kind live.taken
   plays_as kind is = live.plays ∙ ap (λ (c : Call). play_live m first slots i c live.taken) is
 
-  -- the state gave way to another, and digests came behind the earlier ones
+  -- The state was replaced by another, and digests were appended to the earlier ones.
   gave_way : (kind : Call) (slot : Option Taken) (new : Option S)
       (xs earlier digests : List (List ℕ))
       → call ≡ kind → SlotHolds m first slot new
@@ -44,11 +44,11 @@ module _ {S : Type 0} {m : Meaning S} {first : S} {slots : Slots} {states : List
         digests_are = added;
       }
 
-  -- the bytes that the slot has counted are those that the state has
+  -- The bytes that the slot has counted are those that the state has.
   counted : (n : ℕ) → n ≡ m.count h → count_of m first live.taken ≡ n
   counted n e = sym live.stands.count ∙ sym e
 
-  -- an update of a state that has counted n bytes, where it fits
+  -- An update of a state that has counted n bytes, if it fits.
   pub updated : (j n : ℕ) (x : Bor (List ℕ)) (new : S) (earlier : List (List ℕ))
       → call ≡ Update j x → n ≡ m.count h → length x.now ≤ 2 ^ 64 - 1 - n → n < 2 ^ 64
       → Updated m h x.now new
@@ -61,7 +61,7 @@ module _ {S : Type 0} {m : Meaning S} {first : S} {slots : Slots} {states : List
       (rw (lt-ltb (count_of m first live.taken + length x.now) (2 ^ 64) fits) refl)
       (sym (append-nil earlier))
 
-  -- and where it does not
+  -- An update of a state that has counted n bytes, if it does not fit.
   pub too_long : (j n : ℕ) (x : Bor (List ℕ)) → call ≡ Update j x → n ≡ m.count h
       → 2 ^ 64 - 1 - n < length x.now → play_call m first slots i call ≡ Err (TooLong i)
   too_long j n x is e beyond =
@@ -70,7 +70,7 @@ module _ {S : Type 0} {m : Meaning S} {first : S} {slots : Slots} {states : List
       plays_as (Update j x) is
       ∙ rw (le-ltb (count_of m first live.taken + length x.now) (2 ^ 64) too_far) refl
 
-  -- a copy became the next slot
+  -- A copy became the next slot.
   pub copied : (j : ℕ) (earlier : List (List ℕ)) → call ≡ Clone j
       → HasPlayed m first (play_call m first slots i call) earlier (states ++ Some h ∷ []) earlier
   copied j earlier is = record {
@@ -80,21 +80,21 @@ module _ {S : Type 0} {m : Meaning S} {first : S} {slots : Slots} {states : List
     digests_are = sym (append-nil earlier);
   }
 
-  -- the state was reset
+  -- The state was reset.
   pub reset : (j : ℕ) (new : S) (earlier : List (List ℕ)) → call ≡ Reset j → StartedAgain m h new
       → HasPlayed m first (play_call m first slots i call) earlier (set states k (Some new)) earlier
   reset j new earlier is again =
       gave_way (Reset j) (Some (since_reset [])) (Some new) [] earlier earlier is
       (StandsFor-reset m first live.taken h new live.stands again) refl (sym (append-nil earlier))
 
-  -- a digest of the state that comes behind the earlier ones is that of its slot
+  -- A digest of the state that is appended to the earlier ones is that of its slot.
   digest_added : (d : List ℕ) (earlier digests : List (List ℕ)) → d ≡ digest_now m h
       → digests ≡ earlier ++ d ∷ [] → digests ≡ earlier ++ slot_digest m first live.taken ∷ []
   digest_added d earlier digests e added =
       let same = e ∙ digest_stands m first live.taken h live.stands in
       added ∙ ap (λ (x : List ℕ). earlier ++ x ∷ []) same
 
-  -- the state answered its digest, and is gone
+  -- The state returned its digest, and is gone.
   pub finalized : (j : ℕ) (d : List ℕ) (earlier digests : List (List ℕ)) → call ≡ Finalize j
       → d ≡ digest_now m h → digests ≡ earlier ++ d ∷ []
       → HasPlayed m first (play_call m first slots i call) earlier (set states k None) digests
@@ -102,7 +102,7 @@ module _ {S : Type 0} {m : Meaning S} {first : S} {slots : Slots} {states : List
       gave_way (Finalize j) None None _ earlier digests is tt refl
       (digest_added d earlier digests e added)
 
-  -- the state answered its digest, and was reset
+  -- The state returned its digest, and was reset.
   pub finalized_reset : (j : ℕ) (new : S) (d : List ℕ) (earlier digests : List (List ℕ))
       → call ≡ FinalizeReset j → StartedAgain m h new → d ≡ digest_now m h
       → digests ≡ earlier ++ d ∷ []
@@ -112,7 +112,7 @@ module _ {S : Type 0} {m : Meaning S} {first : S} {slots : Slots} {states : List
       (StandsFor-reset m first live.taken h new live.stands again) refl
       (digest_added d earlier digests e added)
 
--- a call whose last step is a push, which wants memory or does P
+-- A call whose last step is a push, which runs out of memory or does P.
 pub answers_by_push : {S : Type 0} {m : Meaning S} {first : S} {played : Result Outcome ReplayFault}
     {earlier digests : List (List ℕ)} {states : List (Option S)}
     (pushed : Result (Unit {0}) ReplayFault) (P : Type 0)

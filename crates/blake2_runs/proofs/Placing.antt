@@ -1,4 +1,4 @@
--- The place that a fault names is that of the first bad call.
+-- The index that an error names is that of the first bad call.
 use Rattle.std.proofs.Common.{◌≡◌, ℕ, suc, ◌+◌, ◌^◌, ◌<◌, List, [], ◌∷◌, length, take, Bool, true}
 use Rattle.std.proofs.Common.{false, Option, Some, None, Result, Ok}
 use Rattle.std.proofs.Common.{Err, IsOk, IsErr, if◌then◌else◌, nat_lt, get_or, add-one, ◌⊎◌, inl}
@@ -13,23 +13,23 @@ use Rattle.blake2_runs.specs.Play.{Taken, since_beginning, Slots, Outcome, count
 use Rattle.blake2_runs.specs.Play.{at_slot, play_live, play_call, followed_by}
 use Rattle.blake2_runs.specs.Play.{after, play_from, play, IsFirstBad, NamesFirstBad}
 
--- what a list of calls answers: its digests, or the fault of its first bad call
+-- What a list of calls returns: its digests, or the error of its first bad call.
 abbrev pub Played : Type 0
 Played = Result (List (List ℕ)) ReplayFault
 
--- a fault of the call at place i
+-- An error of the call at index i.
 abbrev IsAt : ℕ → ReplayFault → Type 0
 IsAt i (NoSuchSlot j) = j ≡ i
 IsAt i (TooLong j) = j ≡ i
 IsAt i Memory = ⊥
 
--- an update's fault names its place
+-- The error of an update names its index.
 if_fault : (b : Bool) (i : ℕ) (left : Outcome) (fault : ReplayFault)
     → if b then Ok left else Err (TooLong i) ≡ Err fault → IsAt i fault
 if_fault true i left fault e = cc
 if_fault false i left fault e = let same : TooLong i ≡ fault = cc in subst (IsAt i) same refl
 
--- a fault of a call names its place, where it does so on each slot that is there
+-- The error of a call names its index, if it does so on each slot that is present.
 at_fault : (i : ℕ) (slot : Option Taken) (f : Taken → Result Outcome ReplayFault)
     (fault : ReplayFault)
     → ((taken : Taken) → f taken ≡ Err fault → IsAt i fault) → at_slot i slot f ≡ Err fault
@@ -37,24 +37,24 @@ at_fault : (i : ℕ) (slot : Option Taken) (f : Taken → Result Outcome ReplayF
 at_fault i None f fault h e = let same : NoSuchSlot i ≡ fault = cc in subst (IsAt i) same refl
 at_fault i (Some taken) f fault h e = h taken e
 
--- a fault behind earlier digests is the fault
+-- An error after earlier digests is the error.
 fault_after : (earlier : List (List ℕ)) (p : Played) (fault : ReplayFault)
     → after earlier p ≡ Err fault → p ≡ Err fault
 fault_after earlier (Ok later) fault e = cc
 fault_after earlier (Err other) fault e = e
 
--- digests behind earlier digests are digests
+-- Digests after earlier digests are digests.
 ok_after : (earlier : List (List ℕ)) (p : Played) → IsOk p → IsOk (after earlier p)
 ok_after earlier (Ok later) good = refl
 ok_after earlier (Err fault) good = cc
 
--- and what is refused behind them is refused
+-- What is refused after earlier digests is refused.
 err_after : (earlier : List (List ℕ)) (p : Played) → IsErr p → IsErr (after earlier p)
 err_after earlier (Ok later) bad = cc
 err_after earlier (Err fault) bad = refl
 
 module _ {S : Type 0} (m : Meaning S) (first : S) where
-  -- a fault of a call whose slot is there names its place
+  -- The error of a call whose slot is present names its index.
   live_fault : (slots : Slots) (i : ℕ) (call : Call) (taken : Taken) (fault : ReplayFault)
       → play_live m first slots i call taken ≡ Err fault → IsAt i fault
   live_fault slots i (Update k x) taken fault e =
@@ -64,14 +64,14 @@ module _ {S : Type 0} (m : Meaning S) (first : S) where
   live_fault slots i (Finalize k) taken fault e = cc
   live_fault slots i (FinalizeReset k) taken fault e = cc
 
-  -- a bad call's fault names its place
+  -- The error of a bad call names its index.
   call_fault : (slots : Slots) (i : ℕ) (call : Call) (fault : ReplayFault)
       → play_call m first slots i call ≡ Err fault → IsAt i fault
   call_fault slots i call fault e =
       at_fault i (get_or slots (slot_of call) None) (play_live m first slots i call) fault
       (λ taken. live_fault slots i call taken fault) e
 
-  -- n calls from place i on answer digests, and one more does not
+  -- n calls from index i on return digests, and one more does not.
   record StopsAfter (calls : List Call) (slots : Slots) (i : ℕ) (fault : ReplayFault) : Type 0 where
     count : ℕ
     within : count < length calls
@@ -79,7 +79,7 @@ module _ {S : Type 0} (m : Meaning S) (first : S) where
     bad : IsErr (play_from m first (take (suc count) calls) slots i)
     place : IsAt (i + count) fault
 
-  -- the first call is bad
+  -- The first call is bad.
   stops_here : (call : Call) (calls : List Call) (slots : Slots) (i : ℕ) (fault : ReplayFault)
       → play_call m first slots i call ≡ Err fault
       → StopsAfter (call ∷ calls) slots i fault
@@ -92,7 +92,7 @@ module _ {S : Type 0} (m : Meaning S) (first : S) where
         subst (λ (j : ℕ). IsAt j fault) here (call_fault slots i call fault is);
   }
 
-  -- the first call goes on, and a later one is bad
+  -- The first call goes on, and a later one is bad.
   stops_later : (call : Call) (calls : List Call) (slots : Slots) (i : ℕ) (fault : ReplayFault)
       (left : Outcome)
       → play_call m first slots i call ≡ Ok left → StopsAfter calls left.slots (i + 1) fault
@@ -106,7 +106,7 @@ module _ {S : Type 0} (m : Meaning S) (first : S) where
         subst (λ (j : ℕ). IsAt j fault) there rest.place;
   }
 
-  -- so the list stops, whatever its first call does
+  -- So the list stops, whatever its first call does.
   stops_by : (call : Call) (calls : List Call) (slots : Slots) (i : ℕ) (fault : ReplayFault)
       (r : Result Outcome ReplayFault)
       → play_call m first slots i call ≡ r
@@ -120,7 +120,7 @@ module _ {S : Type 0} (m : Meaning S) (first : S) where
       stops_later call calls slots i fault left is (later left.slots
       (fault_after left.digests _ fault e))
 
-  -- a list that answers a fault stops at some call, and the fault names the place of that one
+  -- A list that returns an error stops at some call, and the error names the index of that call.
   stops : (calls : List Call) (slots : Slots) (i : ℕ) (fault : ReplayFault)
       → play_from m first calls slots i ≡ Err fault
       → StopsAfter calls slots i fault
@@ -129,7 +129,7 @@ module _ {S : Type 0} (m : Meaning S) (first : S) where
       stops_by call calls slots i fault (play_call m first slots i call) refl
       (λ next. stops calls next (i + 1) fault) e
 
-  -- n calls from the first on are those before place n
+  -- n calls from the first on are those before index n.
   first_bad : (calls : List Call) (j n : ℕ) → j ≡ 0 + n → n < length calls
       → IsOk (play m first (take n calls))
       → IsErr (play m first (take (suc n) calls)) → IsFirstBad m first calls j
@@ -137,7 +137,7 @@ module _ {S : Type 0} (m : Meaning S) (first : S) where
       let same : j ≡ n = omega arith in
       record { within = rw same within; before = rw same before; bad = rw (same, add-one) bad }
 
-  -- the place that a fault names is where the list stops
+  -- The list stops at the index that an error names.
   placed : (calls : List Call) (fault : ReplayFault)
       → StopsAfter calls (Some (since_beginning []) ∷ []) 0 fault
       → NamesFirstBad m first calls fault
@@ -145,7 +145,7 @@ module _ {S : Type 0} (m : Meaning S) (first : S) where
   placed calls (TooLong j) s = first_bad calls j s.count s.place s.within s.before s.bad
   placed calls Memory s = tt
 
-  -- a fault that is not want of memory names the place of the first bad call
+  -- An error other than being out of memory names the index of the first bad call.
   pub names_first_bad : (calls : List Call) (fault : ReplayFault)
       → (fault ≡ Memory) ⊎ (play m first calls ≡ Err fault)
       → NamesFirstBad m first calls fault

@@ -12,25 +12,25 @@ use Rattle.blake2_runs.specs.Play.{Slots, Outcome, play_call, play_from, play, f
 use Rattle.blake2_runs.specs.Holding.{AllHold}
 use Rattle.blake2_runs.proofs.Placing.{Played}
 
--- digests that come in two parts
+-- Digests in two parts.
 after-after : (xs ys : List (List ℕ)) (p : Played) → after (xs ++ ys) p ≡ after xs (after ys p)
 after-after xs ys (Ok zs) = ap Ok (append_assoc xs ys zs)
 after-after xs ys (Err fault) = refl
 
--- no earlier digests
+-- No earlier digests.
 pub after_none : (p : Played) → p ≡ after [] p
 after_none (Ok xs) = refl
 after_none (Err fault) = refl
 
--- a fault that is not want of memory would be that of a list of calls that answers digests
+-- An error other than being out of memory would be that of a list of calls that returns digests.
 pub memory_alone : (p : Played) (fault : ReplayFault) → (fault ≡ Memory) ⊎ (p ≡ Err fault) → IsOk p
     → fault ≡ Memory
 memory_alone p fault (inl e) good = e
 memory_alone (Ok xs) fault (inr e) good = cc
 memory_alone (Err other) fault (inr e) good = cc
 
--- before the call at place i: the states stand for slots from which the calls that are left answer
--- the rest of the digests
+-- Before the call at index i, the states represent slots from which the calls that are left return
+-- the rest of the digests.
 pub record Underway {S : Type 0} (m : Meaning S) (first : S) (calls : List Call)
     (states : List (Option S))
     (digests : List (List ℕ)) (i : ℕ) : Type 0 where
@@ -39,7 +39,7 @@ pub record Underway {S : Type 0} (m : Meaning S) (first : S) (calls : List Call)
   pub rest : play m first calls ≡ after digests (play_from m first (drop i calls) slots i)
 
 module _ {S : Type 0} (m : Meaning S) (first : S) where
-  -- the list from the call at place i on: that call, and then the later ones
+  -- The list from the call at index i on: that call, and then the later ones.
   play_at : (call : Call) (calls : List Call) (slots : Slots) (i : ℕ) → i < length calls
       → play_from m first (drop i calls) slots i
       ≡ followed_by (play_call m first slots i (get_or calls i call))
@@ -49,7 +49,7 @@ module _ {S : Type 0} (m : Meaning S) (first : S) where
       rw add-one (drop-cons calls i call h) in
       ap (λ (cs : List Call). play_from m first cs slots i) e
 
-  -- the call at place i went on
+  -- The call at index i went on.
   pub play_on : (call : Call) (calls : List Call) (slots : Slots) (left : Outcome)
       (earlier digests : List (List ℕ)) (i : ℕ)
       (p : Played) → i < length calls → p ≡ after earlier (play_from m first (drop i calls) slots i)
@@ -63,7 +63,7 @@ module _ {S : Type 0} (m : Meaning S) (first : S) where
       ∙ sym (after-after earlier left.digests (later left.slots))
       ∙ ap (λ (ds : List (List ℕ)). after ds (later left.slots)) (sym added)
 
-  -- the call at place i was refused
+  -- The call at index i was refused.
   pub play_stops : (call : Call) (calls : List Call) (slots : Slots) (earlier : List (List ℕ))
       (i : ℕ) (p : Played)
       (fault : ReplayFault) → i < length calls → p ≡ after earlier
@@ -76,7 +76,7 @@ module _ {S : Type 0} (m : Meaning S) (first : S) where
       inr (e ∙ ap (after earlier) (play_at call calls slots i h
       ∙ ap (λ (r : Result Outcome ReplayFault). followed_by r later) bad))
 
-  -- all calls went on
+  -- All calls went on.
   pub play_ends : (calls : List Call) (slots : Slots) (digests : List (List ℕ)) (i : ℕ) (p : Played)
       → length calls ≤ i
       → p ≡ after digests (play_from m first (drop i calls) slots i) → p ≡ Ok digests

@@ -1,4 +1,4 @@
--- States and slots stand for each other place by place.
+-- States represent slots, index by index.
 use Rattle.std.proofs.Common.{◌≡◌, ℕ, zero, suc, ◌<◌, ◌≤◌, List, [], ◌∷◌, ◌++◌, length, get_or}
 use Rattle.std.proofs.Common.{Option, Some, None, refl, sym, ap, ◌∙◌, arith}
 use Rattle.std.proofs.Math.ListN.{set}
@@ -7,13 +7,13 @@ use Rattle.blake2_digest.specs.States.{Meaning}
 use Rattle.blake2_runs.specs.Play.{Taken, Slots}
 use Rattle.blake2_runs.specs.Holding.{SlotHolds, AllHold}
 
--- the state at a place, put back there, leaves the states as they were
+-- The state at an index, put back there, leaves the states as they were.
 pub put_back : {S : Type 0} (states : List (Option S)) (k : ℕ) (o : Option S) (h : S)
     → o ≡ get_or states k o → o ≡ Some h → set states k (Some h) ≡ states
 put_back states k o h found some = ap (set states k) (sym some ∙ found) ∙ set-get_or states k o
 
 module _ {S : Type 0} (m : Meaning S) (first : S) where
-  -- each state stands for the slot at its place
+  -- Each state represents the slot at its index.
   pub slot_at : (slots : Slots) (states : List (Option S)) (k : ℕ) (d : Option S)
       → AllHold m first slots states → k < length states
       → SlotHolds m first (get_or slots k None) (get_or states k d)
@@ -23,7 +23,7 @@ module _ {S : Type 0} (m : Meaning S) (first : S) where
   slot_at (slot ∷ slots) (h ∷ hs) zero d all _ = all.0
   slot_at (slot ∷ slots) (h ∷ hs) (suc k) d all le = slot_at slots hs k d all.1 (omega arith)
 
-  -- there is no slot behind the last state
+  -- There is no slot after the last state.
   pub slot_beyond : (slots : Slots) (states : List (Option S)) (k : ℕ)
       → AllHold m first slots states → length states ≤ k
       → get_or slots k None ≡ None
@@ -33,7 +33,7 @@ module _ {S : Type 0} (m : Meaning S) (first : S) where
   slot_beyond (slot ∷ slots) (h ∷ hs) zero all le = absurd (omega arith)
   slot_beyond (slot ∷ slots) (h ∷ hs) (suc k) all le = slot_beyond slots hs k all.1 (omega arith)
 
-  -- a slot and its state may be replaced together
+  -- A slot and its state may be replaced together.
   pub AllHold-set : (slots : Slots) (states : List (Option S)) (k : ℕ) (slot : Option Taken)
       (h : Option S)
       → AllHold m first slots states → SlotHolds m first slot h
@@ -45,7 +45,7 @@ module _ {S : Type 0} (m : Meaning S) (first : S) where
   AllHold-set (q ∷ slots) (g ∷ hs) (suc k) slot h all one =
       (all.0, AllHold-set slots hs k slot h all.1 one)
 
-  -- and may come behind the others together
+  -- A slot and its state may be appended together.
   pub AllHold-push : (slots : Slots) (states : List (Option S)) (slot : Option Taken) (h : Option S)
       → AllHold m first slots states
       → SlotHolds m first slot h

@@ -1,4 +1,4 @@
--- A state goes on standing for its slot, whatever it takes, and has the slot's digest.
+-- A state continues to represent its slot, whatever it absorbs, and has the slot's digest.
 use Rattle.std.proofs.Common.{◌≡◌, ℕ, Bool, List, [], ◌++◌, refl, sym, ap, ◌∙◌, arith}
 use Rattle.std.proofs.Common.{length-append, append_assoc}
 use Rattle.std.proofs.lemmas.List.{append-nil}
@@ -8,7 +8,7 @@ use Rattle.blake2_runs.specs.Play.{digest_under, slot_digest}
 use Rattle.blake2_runs.specs.Holding.{StandsFor}
 
 module _ {S : Type 0} (m : Meaning S) (first : S) where
-  -- the first state stands for a slot that has taken nothing
+  -- The first state represents a slot that has absorbed nothing.
   pub StandsFor-first : StandsFor m first (since_beginning []) first
   StandsFor-first = record {
     future = λ flag y. refl;
@@ -18,7 +18,7 @@ module _ {S : Type 0} (m : Meaning S) (first : S) where
     start_count = refl;
   }
 
-  -- a state that takes x stands for a slot that takes x
+  -- A state that absorbs x represents a slot that absorbs x.
   pub StandsFor-updated : (taken : Taken) (h n : S) (x : List ℕ) → StandsFor m first taken h
       → Updated m h x n → StandsFor m first (and_more taken x) n
   StandsFor-updated (since_beginning b) h n x stands u = record {
@@ -38,7 +38,7 @@ module _ {S : Type 0} (m : Meaning S) (first : S) where
     start_count = u.start_count ∙ stands.start_count;
   }
 
-  -- a state that was reset stands for a slot that was reset
+  -- A state that was reset represents a slot that was reset.
   pub StandsFor-reset : (taken : Taken) (h n : S) → StandsFor m first taken h → StartedAgain m h n
       → StandsFor m first (since_reset []) n
   StandsFor-reset taken h n stands again = record {
@@ -49,13 +49,13 @@ module _ {S : Type 0} (m : Meaning S) (first : S) where
     start_count = again.start_count ∙ stands.start_count;
   }
 
-  -- a slot that takes nothing has the digest that it had
+  -- A slot that absorbs nothing has the digest that it had.
   digest-nothing : (flag : Bool) (taken : Taken)
       → digest_under m first flag (and_more taken []) ≡ digest_under m first flag taken
   digest-nothing flag (since_beginning b) = ap (m.future first flag) (append-nil b)
   digest-nothing flag (since_reset b) = ap (m.started first flag) (append-nil b)
 
-  -- the digest of a state is that of its slot
+  -- The digest of a state is that of its slot.
   pub digest_stands : (taken : Taken) (h : S) → StandsFor m first taken h
       → digest_now m h ≡ slot_digest m first taken
   digest_stands taken h stands =

@@ -1,11 +1,11 @@
--- What follows when one more piece passes from a source to a hasher, or from a text to a sink.
+-- What follows when one more piece passes from a source to a hasher, or from a buffer to a sink.
 use Rattle.std.proofs.Common.{◌≡◌, ℕ, zero, suc, Bool, true, false, ◌||◌, ◌&&◌, ◌==◌, List, ◌++◌}
 use Rattle.std.proofs.Common.{refl, sym, ap, ◌∙◌}
 use Rattle.std.proofs.Common.{arith, append_assoc, length-append}
 use Rattle.std.proofs.Math.Dec.{eqb-suc-zero}
 use Rattle.blake2_digest.specs.States.{Meaning, Updated}
 
--- two inputs in turn are their join
+-- Absorbing two inputs in turn is absorbing both joined.
 pub Updated-trans : {S : Type 0} (m : Meaning S) (old mid new : S) (x y : List ℕ)
     → Updated m old x mid → Updated m mid y new → Updated m old (x ++ y) new
 Updated-trans m old mid new x y p q = record {
@@ -17,7 +17,7 @@ Updated-trans m old mid new x y p q = record {
   start_count = q.start_count ∙ p.start_count;
 }
 
--- a sink that took some bytes has not failed
+-- A sink that accepted some bytes has not failed.
 pub unfailed-more : (old new some : Bool) (n : ℕ) → old ≡ false → (n ≡ 0 → ⊥)
     → new ≡ (old || (n == 0 && some)) → new ≡ false
 unfailed-more true new some n is_old moves is_new = cc

@@ -1,4 +1,4 @@
--- Four whole leaves at once: with more behind them, or the last of a message.
+-- Four whole leaves in parallel: with more after them, or the last of a message.
 use Rattle.blake2_tree.specs.Nodes.{node_digest, four_digests}
 use Rattle.blake2_words.proofs.Pieces.{piece-zero, piece-more}
 use Rattle.std.proofs.Common.{◌≡◌, ℕ, ◌+◌, ◌-◌, ◌*◌, ◌<◌, ◌≤◌, Bool}
@@ -13,7 +13,7 @@ use Rattle.blake2_tree.specs.Ranges.{range_digests}
 use Rattle.blake2_tree.proofs.Leaves.{range_digests-short, range_digests-long}
 use Rattle.blake2_tree.proofs.Lists.{concat-four}
 
--- where more than a leaf is left: its digest, and those of the rest
+-- If more than a leaf is left: its digest, and those of the rest.
 range_digests-step : (s : TreeParameters) (p : ℕ) (ends : Bool) (x z : List ℕ) (i : ℕ)
     → 0 < s.leaf_length
     → s.leaf_length < length z → leaf s.leaf_length z 0 ≡ leaf s.leaf_length x i
@@ -25,7 +25,7 @@ range_digests-step s p ends x z i some long is =
     ++ range_digests s (p + 1) ends (drop s.leaf_length z))
     (sym (piece-zero s.leaf_length z) ∙ is)
 
--- where more than three are left: their digests, and those of the rest
+-- If more than three leaves are left: their digests, and those of the rest.
 range_digests-three : (s : TreeParameters) (p : ℕ) (ends : Bool) (x : List ℕ)
     → 0 < s.leaf_length → 3 * s.leaf_length < length x
     → range_digests s p ends x ≡ node_digest 64 s p 0 false (leaf s.leaf_length x 0)
@@ -53,7 +53,7 @@ range_digests-three s p ends x some long =
     ∙ ap (λ rest. d p 0 ++ rest) (e1 ∙ ap (λ rest. d (p + 1) 1 ++ rest) e2)
     ∙ (λ k. d p 0 ++ (d (p + 1) 1 ++ (d (p2 k) 2 ++ range_digests s (p3 k) ends (rest k))))
 
--- where more than four are left: their digests, and those of the rest
+-- If more than four leaves are left: their digests, and those of the rest.
 pub range_digests-four : (s : TreeParameters) (p : ℕ) (ends : Bool) (x : List ℕ)
     → 0 < s.leaf_length → 4 * s.leaf_length < length x
     → range_digests s p ends x ≡ concat (four_digests s p false x)
@@ -74,7 +74,7 @@ range_digests-four s p ends x some long =
     ∙ sym (concat-four (d p 0) (d (p + 1) 1) (d (p + 2) 2) (d (p + 3) 3)
     (range_digests s (p + 4) ends (drop (4 * l) x)))
 
--- where just four are left: their digests, the fourth of which is the message's last or not
+-- If exactly four leaves are left: their digests, the fourth of which is the message's last or not.
 pub range_digests-last_four : (s : TreeParameters) (p : ℕ) (ends : Bool) (x : List ℕ)
     → 0 < s.leaf_length → length x ≡ 4 * s.leaf_length
     → range_digests s p ends x ≡ concat (four_digests s p ends x)
@@ -93,7 +93,7 @@ range_digests-last_four s p ends x some whole =
     (d (p + 3) 3 ends) [])
     ∙ append-nil (concat (four_digests s p ends x))
 
--- they do not read what follows them
+-- The digests of four leaves do not depend on what follows them.
 leaf-append : (size i : ℕ) (x y : List ℕ) → i * size + size ≤ length x
     → leaf size (x ++ y) i ≡ leaf size x i
 leaf-append size i x y within =

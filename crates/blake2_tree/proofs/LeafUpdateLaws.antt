@@ -1,4 +1,4 @@
--- A tree that takes whole leaves by their digests, from call to call.
+-- A tree that absorbs whole leaves by their digests, from call to call.
 use Rattle.std.proofs.Common.{◌≡◌, ℕ, ◌+◌, ◌*◌, ◌/◌, ◌<◌, false, List, ◌++◌, length, sym, ap}
 use Rattle.std.proofs.Common.{◌∙◌, arith, append_assoc, length-append}
 use Rattle.std.proofs.Math.Nat.{mod-add-div'}
@@ -7,7 +7,7 @@ use Rattle.blake2_tree.specs.LeafUpdates.{next_leaf, TookLeaves}
 use Rattle.blake2_tree.specs.Ranges.{AreWhole, range_digests}
 use Rattle.blake2_tree.proofs.RangeLaws.{length-range_digests, leaf_count-is}
 
--- the digests of whole leaves are as many as the leaves
+-- Whole leaves and their digests have the same number.
 length-given : (old : OpenTree) (first : ℕ) (x : List ℕ) → 0 < old.shared.leaf_length
     → AreWhole old.shared.leaf_length x
     → length (range_digests old.shared first false x) / 64 * old.shared.leaf_length ≡ length x
@@ -20,7 +20,7 @@ length-given old first x some whole =
     let leaves : length (range_digests old.shared first false x) / 64 ≡ q = omega (arith, many) in
     ap (λ n. n * l) leaves ∙ omega (arith, mod-add-div' (length x) l, whole.whole)
 
--- without digests
+-- Without digests the tree absorbs only the input.
 pub TookLeaves-none : (old new : OpenTree) (digests input : List ℕ) → 0 < old.shared.leaf_length
     → length digests ≡ 0 → Took old input new → TookLeaves old digests input new
 TookLeaves-none old new digests input some nothing took =
@@ -41,7 +41,7 @@ TookLeaves-none old new digests input some nothing took =
       count = omega (arith, took.count, no_leaves);
     }
 
--- the tree closes a full leaf, takes the digests, and then the input
+-- The tree closes a full leaf, and absorbs the digests and then the input.
 pub TookLeaves-given : (old begun given new : OpenTree) (digests input : List ℕ)
     → 0 < old.shared.leaf_length → 0 < length digests → 0 < length input
     → ((y : List ℕ) → 0 < length y → future begun y ≡ future old y)

@@ -13,16 +13,16 @@ use Rattle.blake2_tree.specs.TreeRoot.{TreeParameters, leaf_count, leaf, node, l
 use Rattle.blake2_tree.specs.Ranges.{range_digests}
 use Rattle.blake2_tree.proofs.Lists.{flat_map-range_more}
 
--- ---- how many there are
+-- ---- the number of leaves
 
--- a message of at most a leaf's bytes is one leaf
+-- A message of at most a leaf's bytes is one leaf.
 pub leaf_count-short : (size n : ℕ) → 0 < size → n ≤ size → leaf_count size n ≡ 1
 leaf_count-short size n some short =
     let below : (n + (size - 1)) / size < 2 = (div-lt_iff_lt-mul {k = size} {x = n
     + (size - 1)} {y = 2} some).1 (omega arith) in
     omega (arith, below)
 
--- a leaf in front of a message that is not empty is one leaf more
+-- A leaf before a message that is not empty is one more leaf.
 pub leaf_count-more : (size n : ℕ) → 0 < size → 0 < n
     → leaf_count size (size + n) ≡ suc (leaf_count size n)
 leaf_count-more size n some more =
@@ -35,12 +35,12 @@ leaf_count-more size n some more =
 
 -- ---- their digests
 
--- leaf i of a range of `count` leaves, the first of them at place `first`
+-- Leaf i of a range of `count` leaves, the first of which has the index `first`.
 abbrev nth_leaf : TreeParameters → ℕ → Bool → ℕ → List ℕ → ℕ → Input
 nth_leaf s first ends count bytes i =
     node s (first + i) 0 (ends && nat_eq (i + 1) count) (leaf s.leaf_length bytes i)
 
--- the digests of all of them
+-- The digests of all leaves of a range.
 digests_of : TreeParameters → ℕ → Bool → ℕ → List ℕ → List ℕ
 digests_of s first ends count bytes = flat_map (λ i.
     digest blake2b 64 (nth_leaf s first ends count bytes i)) (range_with_len 0 count)
@@ -57,7 +57,7 @@ nat_eq-more i n = elim (cases_eq (i + 1) n) [
   | inr ne ↦ ne_eqb (i + 1 + 1) (suc n) (λ e. ne (omega arith)) ∙ sym (ne_eqb (i + 1) n ne)
 ]
 
--- the leaf behind the next one is the next one of the rest
+-- The leaf after the next one is the next one of the rest.
 nth_leaf-more : (s : TreeParameters) (first : ℕ) (ends : Bool) (count : ℕ) (bytes : List ℕ) (i : ℕ)
     → nth_leaf s first ends (suc count) bytes (i + 1)
     ≡ nth_leaf s (first + 1) ends count (drop s.leaf_length bytes) i
@@ -71,7 +71,7 @@ nth_leaf-more s first ends count bytes i =
       nat_eq-more i count,
     ) refl
 
--- the first digest, and those of the rest
+-- The first digest, and those of the rest.
 digests_of-more : (s : TreeParameters) (first : ℕ) (ends : Bool) (count : ℕ) (bytes : List ℕ)
     → digests_of s first ends (suc count) bytes ≡ digest blake2b 64
     (nth_leaf s first ends (suc count) bytes 0) ++ digests_of s (first + 1) ends count
@@ -97,7 +97,7 @@ digests_of-one s first ends bytes short =
       and-true ends,
     ) refl
 
--- of a range of at most a leaf: its digest, the message's last leaf or not
+-- The digests of a range of at most a leaf: that of the leaf, which is the message's last or not.
 pub range_digests-short : (s : TreeParameters) (first : ℕ) (ends : Bool) (bytes : List ℕ)
     → 0 < s.leaf_length → length bytes ≤ s.leaf_length
     → range_digests s first ends bytes ≡ digest blake2b 64 (node s first 0 ends bytes)
@@ -107,7 +107,7 @@ range_digests-short s first ends bytes some short =
     (leaf_count-short s.leaf_length (length bytes) some short)
     ∙ digests_of-one s first ends bytes short
 
--- the first of several is not the last
+-- The first of several leaves is not the last.
 nth_leaf-first : (s : TreeParameters) (first : ℕ) (ends : Bool) (count : ℕ) (bytes : List ℕ)
     → 0 < count
     → nth_leaf s first ends (suc count) bytes 0 ≡ node s first 0 false (take s.leaf_length bytes)
@@ -117,7 +117,8 @@ nth_leaf-first s first ends count bytes more =
     let flag : nat_eq 1 (suc count) ≡ false = ne_eqb 1 (suc count) (λ e. absurd (omega arith)) in
     rw (at, start, flag, and-false ends) refl
 
--- of a longer one: the digest of its first leaf, which is not the last, and those of the rest
+-- The digests of a longer range: that of its first leaf, which is not the last, and those of the
+-- rest.
 pub range_digests-long : (s : TreeParameters) (first : ℕ) (ends : Bool) (bytes : List ℕ)
     → 0 < s.leaf_length → s.leaf_length < length bytes
     → range_digests s first ends bytes
@@ -141,7 +142,7 @@ range_digests-long s first ends bytes some long =
     (node s first 0 false (take s.leaf_length bytes)) ++ digests)
     (sym (range_digests-digests_of s (first + 1) ends rest))
 
--- the leaves of a whole message are those from place 0 on
+-- The leaves of a whole message are those from index 0 on.
 pub range_digests-first : (s : TreeParameters) (message : List ℕ)
     → range_digests s 0 true message ≡ leaf_digests s message
 unfolding range_digests leaf_digests

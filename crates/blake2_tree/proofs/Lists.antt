@@ -1,4 +1,4 @@
--- Lists that are joined: over a range of numbers, and lists of texts.
+-- Lists that are joined: over a range of numbers, and lists of lists of bytes.
 use Rattle.std.proofs.Common.{◌≡◌, ℕ, zero, suc, ◌+◌, ◌*◌, ◌<◌, List, [], ◌∷◌, ◌++◌}
 use Rattle.std.proofs.Common.{length, take, drop, refl, sym, ap, ◌∙◌, arith}
 use Rattle.std.proofs.Common.{append-nil, append_assoc, length-append}
@@ -7,7 +7,7 @@ use Rattle.std.specs.List.{flat_map, range_with_len, concat}
 
 -- ---- lists over a range, joined
 
--- one more
+-- One more number.
 pub flat_map-range_push : {A : Type 0} (f : ℕ → List A) (a n : ℕ)
     → flat_map f (range_with_len a (suc n)) ≡ flat_map f (range_with_len a n) ++ f (a + n)
 flat_map-range_push f a zero = append-nil (f a) ∙ (let at : a ≡ a + 0 = omega arith in ap f at)
@@ -17,7 +17,7 @@ flat_map-range_push f a (suc n) =
     ∙ sym (append_assoc (f a) (flat_map f (range_with_len (a + 1) n)) (f (a + 1 + n)))
     ∙ ap (λ i. (f a ++ flat_map f (range_with_len (a + 1) n)) ++ f i) at
 
--- how long they are
+-- The length of the joined lists.
 pub length-flat_map-range : {A : Type 0} (f : ℕ → List A) (k : ℕ) → ((i : ℕ) → length (f i) ≡ k)
     → (a n : ℕ) → length (flat_map f (range_with_len a n)) ≡ n * k
 length-flat_map-range f k len a zero = omega arith
@@ -29,7 +29,7 @@ length-flat_map-range f k len a (suc n) =
       length-flat_map-range f k len (a + 1) n,
     )
 
--- where the joined lists are equal, so is each
+-- If the joined lists are equal, so is each list.
 pub flat_map-range_same : {A : Type 0} (f g : ℕ → List A) (k : ℕ) → ((i : ℕ) → length (f i) ≡ k)
     → ((i : ℕ) → length (g i) ≡ k) → (a n i : ℕ) → i < n
     → flat_map f (range_with_len a n) ≡ flat_map g (range_with_len a n) → f (a + i) ≡ g (a + i)
@@ -42,15 +42,15 @@ flat_map-range_same f g k len_f len_g a (suc n) (suc i) below same =
     rw at (flat_map-range_same f g k len_f len_g (a + 1) n i (omega arith)
     (sym (drop_at (f a) _ k (len_f a)) ∙ ap (drop k) same ∙ drop_at (g a) _ k (len_g a)))
 
--- a list over a range, begun one later
+-- A list over a range that begins one later.
 pub flat_map-range_more : {A : Type 0} (f g : ℕ → List A) → ((i : ℕ) → f (i + 1) ≡ g i) → (a n : ℕ)
     → flat_map f (range_with_len (a + 1) n) ≡ flat_map g (range_with_len a n)
 flat_map-range_more f g e a zero = refl
 flat_map-range_more f g e a (suc n) = rw (e a, flat_map-range_more f g e (a + 1) n) refl
 
--- ---- texts, joined
+-- ---- lists of bytes, joined
 
--- four of them
+-- Four lists.
 pub concat-four : (a b c d rest : List ℕ) → concat (a ∷ b ∷ c ∷ d ∷ []) ++ rest
     ≡ a ++ (b ++ (c ++ (d ++ rest)))
 concat-four a b c d rest = simp (append_assoc, append-nil)

@@ -18,9 +18,9 @@ use Rattle.blake2_tree.specs.TreeWitnesses.{RootsCollide}
 use Rattle.blake2_tree.proofs.Lists.{flat_map-range_push, length-flat_map-range}
 use Rattle.blake2_tree.proofs.Lists.{flat_map-range_same}
 
--- ---- what BLAKE2b takes
+-- ---- what BLAKE2b accepts
 
--- salt and persona are such as it takes
+-- What the nodes share is within the limits of BLAKE2b.
 pub record AreTaken (s : TreeParameters) : Type 0 where
   pub salt_fits : length s.salt ≤ 16
   pub persona_fits : length s.persona ≤ 16
@@ -28,7 +28,7 @@ pub record AreTaken (s : TreeParameters) : Type 0 where
   pub persona_is : AreBytes s.persona
   pub leaf_length : s.leaf_length < 2 ^ 32
 
--- it takes each node
+-- BLAKE2b accepts each node.
 pub Accepts-node : (s : TreeParameters) (offset depth : ℕ) (last : Bool) (bytes : List ℕ)
     → AreTaken s → offset < 2 ^ 64 → depth < 256
     → length bytes < 2 ^ 64 → AreBytes bytes → Accepts blake2b (node s offset depth last bytes)
@@ -55,11 +55,11 @@ Accepts-node s offset depth last bytes taken offset_fits depth_fits counted byte
 
 -- ---- the digests of the leaves
 
--- the digest of leaf i
+-- The digest of leaf i.
 abbrev pub leaf_digest : TreeParameters → List ℕ → ℕ → List ℕ
 leaf_digest s message i = digest blake2b 64 (leaf_input s message i)
 
--- those of the first n leaves, joined
+-- The digests of the first n leaves, joined.
 abbrev pub digests_before : TreeParameters → List ℕ → ℕ → List ℕ
 digests_before s message n = flat_map (leaf_digest s message) (range_with_len 0 n)
 
@@ -87,7 +87,7 @@ length-leaf_digests s message =
     ∙ length-flat_map-range (leaf_digest s message) 64 (length-leaf_digest s message) 0
     (leaf_count s.leaf_length (length message))
 
--- messages whose leaves have the same digests have equally many leaves
+-- Messages whose leaves have the same digests have the same number of leaves.
 pub leaf_count-same : (s : TreeParameters) (a b : List ℕ) → leaf_digests s a ≡ leaf_digests s b
     → leaf_count s.leaf_length (length a) ≡ leaf_count s.leaf_length (length b)
 leaf_count-same s a b same =
@@ -95,7 +95,7 @@ leaf_count-same s a b same =
     (leaf_count s.leaf_length (length b))
     (sym (length-leaf_digests s a) ∙ ap length same ∙ length-leaf_digests s b)
 
--- and each leaf of the one has the digest of the other's
+-- Each leaf of one message has the digest of the other's.
 pub leaf_digest-same : (s : TreeParameters) (a b : List ℕ) (i : ℕ)
     → leaf_digests s a ≡ leaf_digests s b → i < leaf_count s.leaf_length (length a)
     → leaf_digest s a i ≡ leaf_digest s b i
@@ -110,7 +110,7 @@ leaf_digest-same s a b i same below =
 
 -- ---- hashing a node
 
--- a hasher that was just made, with its flag set, once it has taken the node's bytes
+-- A hasher that has just been initialized, with its flag set, after it absorbs the node's bytes.
 pub digest_now-hashed : {n : ℕ} (of : Bool → List ℕ → List ℕ) (made flagged taken : Blake2b n)
     (on : Bool) (x : List ℕ) → Fresh (blake2b_meaning n) of 0 made
     → NodeSet (blake2b_meaning n) made on flagged → Updated (blake2b_meaning n) flagged x taken
@@ -123,7 +123,7 @@ digest_now-hashed {n} of made flagged taken on x fresh set updated =
 
 -- ---- two messages with one root
 
--- where the digests of the leaves differ, the roots are what collides
+-- If the digests of the leaves differ, the roots collide.
 pub RootsCollide-root : (size : ℕ) (s : TreeParameters) (a b : List ℕ)
     → leaf_digests s a ≢ leaf_digests s b
     → Collide blake2b size (root_input s a) (root_input s b) ↔ RootsCollide size s a b
@@ -133,7 +133,7 @@ RootsCollide-root size s a b differ = (
   (λ c. record { different = λ same. differ same.message; digests = c.roots }),
 )
 
--- where they are equal, the first leaves that differ collide
+-- If the digests of the leaves are equal, the first leaves that differ collide.
 pub Collide-leaf : (s : TreeParameters) (a b : List ℕ) (i : ℕ) → leaf_digests s a ≡ leaf_digests s b
     → IsFirstDifference s.leaf_length a b i
     → Collide blake2b 64 (leaf_input s a i) (leaf_input s b i)
@@ -142,7 +142,7 @@ Collide-leaf s a b i same first = record {
   digests = leaf_digest-same s a b i same first.within;
 }
 
--- and so do the roots
+-- If the digests of the leaves are equal, so are the roots.
 pub RootsCollide-leaf : (size : ℕ) (s : TreeParameters) (a b : List ℕ) (i : ℕ)
     → leaf_digests s a ≡ leaf_digests s b → IsFirstDifference s.leaf_length a b i
     → RootsCollide size s a b

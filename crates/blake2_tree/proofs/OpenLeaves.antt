@@ -1,4 +1,4 @@
--- The digests that more bytes add to an open leaf and behind it.
+-- The digests that more bytes add to an open leaf and after it.
 use Rattle.std.proofs.Common.{◌≡◌, ℕ, ◌+◌, ◌-◌, ◌<◌, ◌≤◌, inl, inr, Bool, true}
 use Rattle.std.proofs.Common.{false, List, [], ◌++◌, length, take, drop, refl, sym, ap, ◌∙◌}
 use Rattle.std.proofs.Common.{arith, length-append}
@@ -11,7 +11,7 @@ use Rattle.blake2_tree.specs.Ranges.{range_digests}
 use Rattle.blake2_tree.specs.OpenTrees.{digests_to_come}
 use Rattle.blake2_tree.proofs.Leaves.{range_digests-short, range_digests-long}
 
--- the digests that y adds to an open leaf that has taken nothing are those of the leaves of y
+-- The digests that y adds to an open leaf that has absorbed nothing are those of the leaves of y.
 pub digests_to_come-begun : (s : TreeParameters) (first : ℕ) (y : List ℕ) → 0 < s.leaf_length
     → digests_to_come s (λ last z. digest blake2b 64 (node s first 0 last z)) s.leaf_length
     (first + 1) y ≡ range_digests s first true y
@@ -23,7 +23,7 @@ digests_to_come-begun s first y some = elim (cases_lt s.leaf_length (length y)) 
       (sym (range_digests-long s first true y some long))
 ]
 
--- the open leaf takes the beginning x of what comes
+-- The open leaf absorbs the beginning x of what comes.
 pub digests_to_come-took : (s : TreeParameters) (before after : Bool → List ℕ → List ℕ)
     (room next : ℕ) (x y : List ℕ) → length x ≤ room
     → ((last : Bool) (z : List ℕ) → after last z ≡ before last (x ++ z))
@@ -51,13 +51,13 @@ digests_to_come-took s before after room next x y fits took =
           ) refl
     ]
 
--- where nothing comes the open leaf is the last
+-- If nothing comes, the open leaf is the last.
 pub digests_to_come-nothing : (s : TreeParameters) (open_leaf : Bool → List ℕ → List ℕ)
     (room next : ℕ) → digests_to_come s open_leaf room next [] ≡ open_leaf true []
 unfolding digests_to_come
 digests_to_come-nothing s open_leaf room next = rw (le-leb 0 room (omega arith)) refl
 
--- a full leaf is not the last, where something comes
+-- A full leaf is not the last, if something comes.
 pub digests_to_come-full : (s : TreeParameters) (open_leaf : Bool → List ℕ → List ℕ) (next : ℕ)
     (y : List ℕ) → 0 < length y
     → digests_to_come s open_leaf 0 next y ≡ open_leaf false [] ++ range_digests s next true y

@@ -1,10 +1,10 @@
--- How long the best piece of a message is.
+-- The length of the best piece of a message.
 use Rattle.std.proofs.Common.{◌≡◌, ℕ, ◌+◌, ◌*◌, ◌<◌, ◌≤◌, ◌⊎◌, max, inl, inr, ap, ◌∙◌, arith}
 use Rattle.std.proofs.lemmas.Bool.{cases_lt}
 use Rattle.std.proofs.Math.Nat.{mul-le-mul_left}
 
--- where y leaves fit its usual length, and q fours of them, and it has these fours, four at least:
--- it is neither short nor long
+-- Let y leaves fit the usual length, with q fours in them. A piece of q fours, at least four, and
+-- one more leaf is neither short nor long.
 pub piece-usual : (leaf y q fours : ℕ) → leaf * y ≤ 65536 → 65536 < leaf * (y + 1) → 4 * q ≤ y
     → y < 4 * q + 4 → fours ≡ max q 4
     → (16384 < leaf * (4 * fours + 1))
@@ -27,7 +27,8 @@ piece-usual leaf y q fours below above fit rest is = elim (cases_lt 3 q) [
       (omega (arith, whole, most, above), inr (omega (arith, whole)))
 ]
 
--- where m leaves fit the longest one, and fewer than four more fit than it has
+-- If at most m leaves fit the maximum length, and m is at most 4r + 4, then four more leaves after
+-- a piece of r fours and one leaf do not fit.
 pub piece-longest : (leaf m r : ℕ) → 16777216 < leaf * (m + 1) → m ≤ 4 * r + 4
     → 16777216 < leaf * (4 * r + 1) + 4 * leaf
 piece-longest leaf m r above few =

@@ -1,4 +1,4 @@
--- Ranges of a message's leaves: their digests joined are those of all leaves.
+-- Ranges of a message's leaves: their digests, joined, are those of all leaves.
 use Rattle.std.proofs.Common.{◌≡◌, ℕ, zero, suc, ◌+◌, ◌-◌, ◌*◌, ◌/◌, ◌<◌, ◌≤◌, ◌⊎◌, inl, inr}
 use Rattle.std.proofs.Common.{Bool, true, false, List, [], ◌∷◌, ◌++◌, length, take, drop, refl}
 use Rattle.std.proofs.Common.{sym, ap, ◌∙◌, arith, append-nil, append_assoc, length-append}
@@ -21,7 +21,7 @@ use Rattle.blake2_tree.proofs.Leaves.{range_digests-short, range_digests-long, r
 use Rattle.blake2_tree.proofs.Leaves.{leaf_count-short, leaf_count-more}
 use Rattle.blake2_tree.proofs.Lists.{length-flat_map-range}
 
--- ---- how long they are
+-- ---- their lengths
 
 pub length-range_digests : (s : TreeParameters) (first : ℕ) (ends : Bool) (bytes : List ℕ)
     → length (range_digests s first ends bytes) ≡ leaf_count s.leaf_length (length bytes) * 64
@@ -33,7 +33,7 @@ length-range_digests s first ends bytes =
 
 -- ---- two ranges
 
--- whole leaves, and more behind them
+-- Whole leaves, and more after them.
 range_digests-whole : (s : TreeParameters) (first k : ℕ) (ends : Bool) (x y : List ℕ)
     → 0 < s.leaf_length → length x ≡ suc k * s.leaf_length → 0 < length y
     → range_digests s first ends (x ++ y)
@@ -65,7 +65,7 @@ range_digests-whole s first (suc k) ends x y some whole more =
     ∙ ap (λ r. r ++ range_digests s (first + suc (suc k)) ends y)
     (sym (range_digests-long s first false x some (omega arith)))
 
--- how many whole leaves these bytes are
+-- The number of whole leaves in these bytes.
 whole-count : (size n q : ℕ) → q * size ≡ n → 0 < n → (k : ℕ) × (q ≡ suc k)
 whole-count size n zero whole some = absurd (omega arith)
 whole-count size n (suc k) whole some = (k, refl)
@@ -101,7 +101,7 @@ cut_digests-more s first (x ∷ front) last some whole more =
     (whole 0 [] (omega arith)) (omega (arith, length-append (concat front) last)))
     ∙ ap (range_digests s first true) (sym (append_assoc x (concat front) last))
 
--- the digests of the ranges of a cut are those of the message's leaves
+-- The digests of the ranges of a cut are those of the message's leaves.
 pub cut_digests-all : (s : TreeParameters) (front : List (List ℕ)) (last : List ℕ)
     → 0 < s.leaf_length → IsCut s.leaf_length front last
     → cut_digests s 0 front last ≡ leaf_digests s (concat front ++ last)
@@ -113,9 +113,9 @@ cut_digests-all s front last some cut =
     ]
     ∙ range_digests-first s (concat front ++ last)
 
--- ---- a range of a message, or in the place of one
+-- ---- a range of a message, or one that replaces another
 
--- how many leaves so many whole ones are
+-- The number of leaves in whole ones.
 leaf_count-whole : (size k : ℕ) → 0 < size → leaf_count size (suc k * size) ≡ suc k
 leaf_count-whole size zero some = leaf_count-short size (suc 0 * size) some (omega arith)
 leaf_count-whole size (suc k) some =
@@ -124,7 +124,7 @@ leaf_count-whole size (suc k) some =
     ∙ leaf_count-more size (suc k * size) some (omega arith)
     ∙ ap suc (leaf_count-whole size k some)
 
--- more bytes are no fewer leaves
+-- More bytes do not have fewer leaves.
 leaf_count-le : (size m n : ℕ) → 0 < size → m ≤ n → leaf_count size m ≤ leaf_count size n
 leaf_count-le size m n some le =
     let low : (m + (size - 1)) / size * size ≤ n + (size - 1) = omega arith in
@@ -132,7 +132,7 @@ leaf_count-le size m n some le =
     (le-div_iff_mul-le {k = size} {x = (m + (size - 1)) / size} {y = n + (size - 1)} some).1 low in
     omega (arith, h)
 
--- the digests of the leaves before place `first`
+-- The digests of the leaves before index `first`.
 digests_in_front : TreeParameters → ℕ → List ℕ → List ℕ
 digests_in_front s zero before = []
 digests_in_front s (suc k) before = range_digests s 0 false before
@@ -148,7 +148,7 @@ length-digests_in_front s (suc k) before some whole =
     ∙ ap (λ n. n * 64) (leaf_count-whole s.leaf_length k some)
     ∙ (omega arith)
 
--- the digests of all leaves, those before place `first` and those from there on
+-- The digests of all leaves: those before index `first`, and those from there on.
 leaf_digests-begun : (s : TreeParameters) (first : ℕ) (before rest : List ℕ) → 0 < s.leaf_length
     → length before ≡ first * s.leaf_length → (first ≡ 0) ⊎ (0 < length rest)
     → leaf_digests s (before ++ rest)
@@ -165,7 +165,7 @@ leaf_digests-begun s (suc k) before rest some whole begins =
     ∙ range_digests-whole s 0 k true before rest some whole more
     ∙ ap (λ p. range_digests s 0 false before ++ range_digests s p true rest) at
 
--- what stands behind the new digests
+-- What comes after the new digests.
 digests_behind : (s : TreeParameters) (first : ℕ) (ends : Bool) (old new after : List ℕ)
     → 0 < s.leaf_length → IsRange s.leaf_length first ends (length new)
     → ((ends ≡ true) → length old ≤ length new) → ((ends ≡ false) → length new < length old)
@@ -218,7 +218,7 @@ digests_behind s first false old new after some is_range at_end before_end is_af
     (sym (ap (drop (length d)) before
     ∙ drop_at (range_digests s first false mid) (range_digests s next true after) (length d) same))
 
--- the digests of a range come in the place of those of the leaves whose place it takes
+-- The digests of a range replace those of the leaves that it replaces.
 pub leaf_digests-placed : (s : TreeParameters) (first : ℕ) (ends : Bool) (old new : List ℕ)
     → 0 < s.leaf_length → IsRange s.leaf_length first ends (length new)
     → TakesPlace s.leaf_length (length old) first ends (length new)
@@ -265,7 +265,7 @@ leaf_digests-placed s first ends old new some is_range placed =
     (sym (drop-drop n at old)))
     ∙ sym (λ i. head i ++ (d ++ tail i))
 
--- ---- what is promised
+-- ---- contracts
 
 leaf_count-least : (size first n : ℕ) → 0 < size → first * size ≤ n → first ≤ leaf_count size n
 leaf_count-least size first n some within =
@@ -321,7 +321,7 @@ is_root_of_changes size s digests some old new first ends is_range placed are =
     ap (λ d. digest blake2b size (root_over s d))
     (are ∙ sym (leaf_digests-placed s first ends old new some is_range placed))
 
--- how many leaves whole ones are
+-- The number of leaves in whole ones.
 pub leaf_count-is : (size : ℕ) (x : List ℕ) → 0 < size → AreWhole size x
     → leaf_count size (length x) ≡ length x / size
 leaf_count-is size x some whole =

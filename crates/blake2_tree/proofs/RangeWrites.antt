@@ -1,4 +1,4 @@
--- Digests of a range that are written one behind the other: k leaves more, which are m bytes.
+-- Digests of a range that are written one after the other: k more leaves, which are m bytes.
 use Rattle.std.proofs.Common.{◌≡◌, ℕ, zero, suc, ◌+◌, ◌-◌, ◌*◌, ◌^◌, ◌<◌, ◌≤◌, Bool, List, ◌++◌}
 use Rattle.std.proofs.Common.{length, take, drop, sym, ap, ◌∙◌, arith, append_assoc, append-nil}
 use Rattle.std.proofs.Common.{length-append, length-drop}
@@ -18,7 +18,7 @@ leaf_count-before size (suc k) n some more =
     ap (leaf_count size) order ∙ leaf_count-more size (k * size + n) some (omega arith)
     ∙ ap suc (leaf_count-before size k n some more) ∙ (omega arith)
 
--- there is room for the digests of the rest
+-- There is room for the digests of the rest.
 pub room-left : (size k m done : ℕ) (out new rest : List ℕ) → 0 < size → m ≡ k * size
     → m < length rest → length new ≡ length out
     → length out ≡ 64 * done + 64 * leaf_count size (length rest)
@@ -32,14 +32,14 @@ room-left size k m done out new rest some whole more same room =
     ap (leaf_count size) split ∙ leaf_count-before size k n some (omega arith) in
     omega (arith, count)
 
--- they are that many bytes further on
+-- The offset of the rest is that many bytes further on.
 pub place-left : (size k m done n : ℕ) (rest : List ℕ) → m ≡ k * size → m < length rest
     → done * size + length rest ≡ n
     → (done + k) * size + length (take (length rest - m) (drop m rest)) ≡ n
 place-left size k m done n rest whole more place =
     omega (arith, ap length (take_rest rest m), length-drop m rest)
 
--- what is written, and what is to come
+-- What is written, and what is to come.
 pub written-more : (s : TreeParameters) (first done k m : ℕ) (ends : Bool)
     (out new rest d all : List ℕ) → 64 * done + length d ≤ length out → length d ≡ 64 * k
     → new ≡ with_part (64 * done) d out
@@ -63,21 +63,21 @@ written-more s first done k m ends out new rest d all fits size is next before =
     ∙ ap (λ r. front ++ r) (sym next)
     ∙ before
 
--- all is written
+-- All is written.
 pub written-all : (at : ℕ) (out new d all : List ℕ) → length out ≡ at + length d
     → new ≡ with_part at d out → take at out ++ d ≡ all → new ≡ all
 written-all at out new d all size is before =
     is ∙ ap (λ r. take at out ++ (d ++ r)) (drop_all (at + length d) out (omega arith))
     ∙ ap (λ r. take at out ++ r) (append-nil d) ∙ before
 
--- the rest is more leaves than those
+-- The rest has more leaves than those.
 pub room-many : (size k n : ℕ) → 0 < size → k * size < n → k < leaf_count size n
 room-many size k n some more =
     let rest : ℕ = n - k * size in
     let split : n ≡ k * size + rest = omega arith in
     omega (arith, ap (leaf_count size) split, leaf_count-before size k rest some (omega arith))
 
--- its place is one that a node may have
+-- The index of the rest is one that a node may have.
 pub place-fits : (size first done rest n : ℕ) → 0 < size → done * size + rest ≡ n
     → first * size + n < 2 ^ 58 → first + done + 3 < 2 ^ 64
 place-fits size first done rest n some place fits =

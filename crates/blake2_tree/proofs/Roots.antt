@@ -1,4 +1,4 @@
--- The root that a tree will give, from call to call.
+-- The root that a tree will return, from call to call.
 use Rattle.std.proofs.Common.{◌≡◌, ℕ, ◌+◌, ◌-◌, ◌*◌, ◌/◌, ◌<◌, ◌≤◌, Bool, true, false, List, []}
 use Rattle.std.proofs.Common.{◌++◌, length, take, drop, refl, sym, ap, ◌∙◌, arith}
 use Rattle.std.proofs.Common.{append-nil, append_assoc, length-append, length-drop}
@@ -18,13 +18,13 @@ use Rattle.blake2_tree.proofs.FourLeaves.{four_digests-append}
 use Rattle.blake2_tree.proofs.OpenLeaves.{digests_to_come-begun, digests_to_come-took}
 use Rattle.blake2_tree.proofs.OpenLeaves.{digests_to_come-nothing, digests_to_come-full}
 
--- a node that was just made is a leaf that was just opened
+-- A node that has just been initialized is a leaf that has just been opened.
 IsOpened-fresh : {S : Type 0} (leaves : Meaning S) (s : TreeParameters) (place : ℕ) (leaf : S)
     → Fresh leaves (node_digest 64 s place 0) 0 leaf → IsOpened leaves s place leaf
 IsOpened-fresh leaves s place leaf fresh =
     record { digests = fresh.future; empty = fresh.count }
 
--- what comes to a leaf that has just been opened are the leaves from its place on
+-- What comes to a leaf that has just been opened is the leaves from its index on.
 digests_to_come-opened : {S : Type 0} (leaves : Meaning S) (s : TreeParameters) (place : ℕ)
     (leaf : S) (y : List ℕ) → 0 < s.leaf_length → IsOpened leaves s place leaf
     → digests_to_come s (leaves.future leaf) (s.leaf_length - leaves.count leaf) (place + 1) y
@@ -36,7 +36,7 @@ digests_to_come-opened leaves s place leaf y some opened =
     (λ i last z. opened.digests last z i)
     ∙ digests_to_come-begun s place y some
 
--- a tree that was just begun gives the root of what comes
+-- A tree that has just been initialized returns the root of what comes.
 pub future-made : {R S : Type 0} (roots : Meaning R) (leaves : Meaning S) (s : TreeParameters)
     (n : ℕ) (root : R) (leaf : S) (y : List ℕ) → 0 < s.leaf_length
     → Fresh leaves (node_digest 64 s 0 0) 0 leaf → Fresh roots (node_digest n s 0 1) 0 root
@@ -49,7 +49,7 @@ future-made roots leaves s n root leaf y some is_leaf is_root =
     (digests_to_come-opened leaves s 0 leaf y some (IsOpened-fresh leaves s 0 leaf is_leaf)
     ∙ range_digests-first s y)
 
--- the open leaf takes the beginning of what comes, under whichever flag of its own
+-- The open leaf absorbs the beginning of what comes, under either value of its flag.
 pub future-took : {R S : Type 0} (roots : Meaning R) (leaves : Meaning S) (s : TreeParameters)
     (closed : ℕ) (root : R) (old new : S) (x y : List ℕ)
     → ((last : Bool) (z : List ℕ) → leaves.future new last z ≡ leaves.future old last (x ++ z))
@@ -66,7 +66,7 @@ future-took roots leaves s closed root old new x y took counted fits =
     ∙ digests_to_come-took s (leaves.future old) (leaves.future new)
     (s.leaf_length - leaves.count old) (closed + 1) x y fits took)
 
--- an update of the open leaf is one of the tree
+-- An update of the open leaf is one of the tree.
 pub Took-updated : {R S : Type 0} (roots : Meaning R) (leaves : Meaning S) (s : TreeParameters)
     (closed : ℕ) (root : R) (old new : S) (x : List ℕ)
     → Updated leaves old x new → length x ≤ s.leaf_length - leaves.count old
@@ -78,7 +78,7 @@ Took-updated roots leaves s closed root old new x updated fits = record {
   count = omega (arith, updated.count);
 }
 
--- a full leaf is closed and the next one is opened, where something comes
+-- A full leaf is closed and the next one is opened, if something comes.
 pub future-closed : {R S : Type 0} (roots : Meaning R) (leaves : Meaning S) (s : TreeParameters)
     (closed : ℕ) (old new : R) (full opened : S) (y : List ℕ)
     → 0 < s.leaf_length → s.leaf_length - leaves.count full ≡ 0 → leaves.last_node full ≡ false
@@ -98,7 +98,7 @@ future-closed roots leaves s closed old new full opened y some no_room inner upd
     (sym (ap (λ (room : ℕ). digests_to_come s (leaves.future full) room next y) no_room
     ∙ digests_to_come-full s (leaves.future full) next y more))
 
--- the open leaf takes the front of the input, which fills it, and is closed, where more follows
+-- The open leaf absorbs the beginning of the input, which fills it, and is closed, if more follows.
 pub WentOn-closed : {R S : Type 0} (roots : Meaning R) (leaves : Meaning S) (s : TreeParameters)
     (closed : ℕ) (old : R) (leaf full : S) (new : OpenTree) (room : ℕ) (x head rest : List ℕ)
     → 0 < s.leaf_length → leaves.count leaf ≤ s.leaf_length
@@ -126,7 +126,7 @@ WentOn-closed roots leaves s closed old leaf full new room x head rest some with
       fewer = omega (arith, empty);
     }
 
--- the open leaf, which is empty, and three more are closed, and the next one is opened
+-- The open leaf, which is empty, and three more are closed, and the next one is opened.
 pub WentOn-four : {R S : Type 0} (roots : Meaning R) (leaves : Meaning S) (s : TreeParameters)
     (closed : ℕ) (old new : R) (leaf opened : S) (x bytes rest : List ℕ)
     (digests : List (List ℕ)) → 0 < s.leaf_length → 4 * s.leaf_length < length x
@@ -160,8 +160,8 @@ WentOn-four roots leaves s closed old new leaf opened x bytes rest digests some 
       fewer = omega (arith, fresh.count, is_leaf.empty);
     }
 
--- the open leaf, which is empty, and others after it are closed by their digests, and the next one
--- is opened, where something comes
+-- The open leaf, which is empty, and others after it are closed by their digests, and the next one
+-- is opened, if something comes.
 pub future-given : {R S : Type 0} (roots : Meaning R) (leaves : Meaning S) (s : TreeParameters)
     (closed k : ℕ) (old new : R) (leaf opened : S) (digests x y : List ℕ) → 0 < s.leaf_length
     → IsOpened leaves s closed leaf → AreWhole s.leaf_length x
@@ -186,7 +186,7 @@ future-given roots leaves s closed k old new leaf opened digests x y some is_lea
     ∙ sym (range_digests-cut s closed true x y some whole more)
     ∙ sym (digests_to_come-opened leaves s closed leaf (x ++ y) some is_leaf))
 
--- the open leaf is the last, and the root takes its digest
+-- The open leaf is the last, and the root absorbs its digest.
 pub future-finished : {R S : Type 0} (roots : Meaning R) (leaves : Meaning S) (s : TreeParameters)
     (closed : ℕ) (root taken last : R) (leaf last_leaf : S)
     → NodeSet leaves leaf true last_leaf → Updated roots root (digest_now leaves last_leaf) taken
@@ -204,7 +204,7 @@ future-finished roots leaves s closed root taken last leaf last_leaf leaf_set up
     ∙ sym (digests_to_come-nothing s (leaves.future leaf) (s.leaf_length - leaves.count leaf)
     (closed + 1)))
 
--- the open leaf, which is empty, and three more are the last, and the root takes their digests
+-- The open leaf, which is empty, and three more are the last, and the root absorbs their digests.
 pub future-last_four : {R S : Type 0} (roots : Meaning R) (leaves : Meaning S)
     (s : TreeParameters) (closed : ℕ) (root taken last : R) (leaf : S) (x bytes : List ℕ)
     (digests : List (List ℕ)) → 0 < s.leaf_length → length x ≡ 4 * s.leaf_length
@@ -222,7 +222,7 @@ future-last_four roots leaves s closed root taken last leaf x bytes digests some
     ∙ sym (range_digests-last_four s closed true x some whole)
     ∙ sym (digests_to_come-opened leaves s closed leaf x some is_leaf))
 
--- a leaf that was opened and took nothing is still as it was opened
+-- A leaf that was opened and has absorbed nothing is still as it was opened.
 pub IsOpened-updated : {S : Type 0} (leaves : Meaning S) (s : TreeParameters) (place : ℕ)
     (old new : S) (x : List ℕ) → (leaves.count old ≡ 0 → IsOpened leaves s place old)
     → Updated leaves old x new → leaves.count new ≡ 0 → IsOpened leaves s place new

@@ -1,4 +1,4 @@
--- An exclusive or, the words of bytes and padding keep different lists apart.
+-- An exclusive or, the words of bytes, and padding map different lists to different lists.
 use Rattle.std.proofs.Common.{◌≡◌, ℕ, zero, suc, ◌+◌, ◌-◌, ◌*◌, List, [], ◌∷◌, ◌++◌, length, take}
 use Rattle.std.proofs.Common.{drop, replicate, bit_xor, refl, sym, ap, ◌∙◌, arith, get_or}
 use Rattle.std.proofs.Common.{length-drop}
@@ -16,14 +16,14 @@ use Rattle.blake2_words.proofs.ByteSizes.{AreBytes-take, AreBytes-drop}
 
 -- ---- xor
 
--- xor with one number keeps numbers apart
+-- Numbers that are equal after an xor with one number are equal.
 xor_cancel : (a x y : ℕ) → bit_xor a x ≡ bit_xor a y → x ≡ y
 xor_cancel a x y h = sym (undone x) ∙ ap (bit_xor a) h ∙ undone y
   where
     undone : (z : ℕ) → bit_xor a (bit_xor a z) ≡ z
     undone z = sym (xor_assoc a a z) ∙ ap (λ (n : ℕ). bit_xor n z) (xor_self a) ∙ xor_zero_l z
 
--- and with one list of words keeps lists of words apart
+-- Lists of words that are equal after an xor with one list of words are equal.
 pub xor_words_cancel : (vs xs ys : List ℕ) → length xs ≡ length vs → length ys ≡ length vs
     → xor_words vs xs ≡ xor_words vs ys → xs ≡ ys
 unfolding xor_words
@@ -41,13 +41,13 @@ xor_words_cancel (v ∷ vs) (x ∷ xs) (y ∷ ys) a b h =
 
 -- ---- words
 
--- a word's bytes are those that it was read from
+-- The bytes of a word are those that it was read from.
 le_word : (f : Family) (xs : List ℕ) → length xs ≡ word_bytes f → AreBytes xs
     → to_le_bytes (word f) (from_le_bytes (word f) xs) ≡ xs
 le_word blake2b xs l a = le_bytes_8 xs _ l a refl
 le_word blake2s xs l a = le_bytes_4 xs _ l a refl
 
--- and the bytes of words are those
+-- The bytes of words are those that they were read from.
 pub bytes_of-words_of : (f : Family) (n : ℕ) (xs : List ℕ) → length xs ≡ n * word_bytes f
     → AreBytes xs → bytes_of f (words_of f n xs) ≡ xs
 unfolding words_of bytes_of
@@ -62,7 +62,7 @@ bytes_of-words_of f (suc n) xs l a =
     bytes_of-words_of f n (drop k xs) (omega (arith, length-drop k xs)) (AreBytes-drop k xs a) in
     (λ i. front i ++ back i) ∙ take-append-drop k xs
 
--- so the words of a parameter block tell it
+-- The words of a parameter block determine the block.
 pub bytes_of-parameter_words : (f : Family) (p : Parameters) → AreParameters f p
     → bytes_of f (parameter_words f p) ≡ parameter_block f p
 unfolding parameter_words
@@ -72,7 +72,7 @@ bytes_of-parameter_words f p h =
 
 -- ---- padding
 
--- lists of one length with zeros behind them are equal only if the lists are
+-- Lists of one length with trailing zeros are equal only if the lists are.
 pub padded_cancel : (n : ℕ) (xs ys : List ℕ) → length xs ≡ length ys → padded n xs ≡ padded n ys
     → xs ≡ ys
 unfolding padded

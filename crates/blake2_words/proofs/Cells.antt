@@ -1,4 +1,4 @@
--- Words of bytes, by their places.
+-- Words of bytes, by their indices.
 use Rattle.std.proofs.Common.{◌≡◌, ℕ, zero, suc, ◌+◌, ◌*◌, ◌<◌, List, get_or, take, drop, refl}
 use Rattle.std.proofs.Common.{arith}
 use Rattle.std.proofs.lemmas.List.{drop-drop}
@@ -6,7 +6,7 @@ use Rattle.std.specs.Int.{from_le_bytes}
 use Rattle.blake2_rows.specs.Family.{Family, word, word_bytes}
 use Rattle.blake2_words.specs.Hash.{words_of}
 
--- word k of a list of bytes
+-- Word k of a list of bytes.
 pub words_of-at : (f : Family) (n k : ℕ) (xs : List ℕ) → k < n
     → get_or (words_of f n xs) k 0 ≡ from_le_bytes (word f)
     (take (word_bytes f) (drop (word_bytes f * k) xs))

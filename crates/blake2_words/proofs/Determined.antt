@@ -1,4 +1,4 @@
--- What parameter words, blocks and counters tell of their input.
+-- What parameter words, blocks and counters determine of their input.
 use Rattle.std.proofs.Common.{◌≡◌, ℕ, ◌*◌, ◌≤◌, List, [], ◌++◌, length, refl, sym, ap}
 use Rattle.std.proofs.Common.{◌∙◌, arith, Option, Some, None}
 use Rattle.blake2_rows.specs.Family.{Family, block_bytes, key_bytes, output_bytes}
@@ -12,7 +12,7 @@ use Rattle.blake2_words.proofs.Cancelled.{padded_cancel}
 use Rattle.blake2_words.proofs.JoinedBlocks.{append_parts}
 use Rattle.blake2_words.proofs.ParametersTold.{parameter_words_cancel}
 
--- a key's length and the data determine key and message
+-- The length of a key and the data determine the key and the message.
 same_key : (f : Family) (k k' : Option (List ℕ)) (m m' : List ℕ) → KeyFits f k → KeyFits f k'
     → key_size k ≡ key_size k'
     → key_block f k ++ m ≡ key_block f k' ++ m' → (k ≡ k') × (m ≡ m')
@@ -28,12 +28,12 @@ same_key f (Some k) (Some k') m m' p q e h =
     let keys : k ≡ k' = padded_cancel b k k' e parts.0 in
     (ap (λ (x : List ℕ). Some x) keys, parts.1)
 
--- a key that fits is not longer than the longest
+-- A key that fits is not longer than the longest.
 key_size-le : (f : Family) (k : Option (List ℕ)) → KeyFits f k → key_size k ≤ key_bytes f
 key_size-le f None p = omega arith
 key_size-le f (Some k) p = omega arith
 
--- the parameters of an accepted input fit
+-- The parameters of an accepted input fit.
 pub accepted-fits : (f : Family) (size : ℕ) (a : Input) → Accepts f a → size ≤ output_bytes f
     → Fits f (input_parameters size a)
 accepted-fits f size a p h = record {
@@ -44,7 +44,7 @@ accepted-fits f size a p h = record {
   tree = p.tree;
 }
 
--- and their texts are bytes
+-- The salt and the personalization of an accepted input are bytes.
 pub accepted-parameters : (f : Family) (size : ℕ) (a : Input) → Accepts f a → size ≤ output_bytes f
     → AreParameters f (input_parameters size a)
 accepted-parameters f size a p h = record {
@@ -53,7 +53,7 @@ accepted-parameters f size a p h = record {
   persona_are = p.persona_bytes;
 }
 
--- parameter words, data and last-node flag determine the input
+-- The parameter words, the data and the last-node flag determine the input.
 pub determined : (f : Family) (size size' : ℕ) (a b : Input) → Accepts f a → Accepts f b
     → size ≤ output_bytes f → size' ≤ output_bytes f
     → parameter_words f (input_parameters size a) ≡ parameter_words f (input_parameters size' b)
@@ -74,7 +74,7 @@ determined f size size' a b p q h h' words joined nodes =
       },
     )
 
--- THE LAW: a transcript determines its size and input
+-- The law: a transcript determines its digest length and its input.
 pub transcripts_determine : (f : Family) → TranscriptsDetermine f
 transcripts_determine f words entries size other a b r s =
     let none : Entry = record { block = []; counter = 0; flags = inner } in

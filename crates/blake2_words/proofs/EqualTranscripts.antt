@@ -1,28 +1,28 @@
--- What `==` tells of two transcripts of the code.
+-- What `==` means for two transcripts of the code.
 use Rattle.std.proofs.Common.{◌≡◌, ℕ, List, Bool, true, false, ◌&&◌, ◌↔◌, IsTrue, nat_eq, refl}
 use Rattle.std.proofs.Common.{rules}
 use lib.Pointwise.{pointwise, pointwise_decides, bytes_decides}
 use mathlib.Core.Bool.{beq}
 use Rattle.blake2_words.specs.declared.steps.Entry as GivenEntry
 
--- the test of two entries
+-- Whether two entries pass the test of equality.
 abbrev pub equal_entry : {B : ℕ} → GivenEntry.Entry B → GivenEntry.Entry B → Bool
 equal_entry x y = pointwise nat_eq x.block y.block
     && (nat_eq x.counter y.counter && (beq x.last y.last && beq x.last_node y.last_node))
 
--- it tells whether they are equal
+-- The test of two entries returns whether they are equal.
 entry_decides : {B : ℕ} (x y : GivenEntry.Entry B)
     → (equal_entry x y ≡ true → x ≡ y) × (x ≡ y → equal_entry x y ≡ true)
 entry_decides x y = search rules
 
--- two tests together tell two facts
+-- Two tests together decide two facts.
 both : (p q : Bool) (P Q : Type 0) → (p ≡ true → P) × (P → p ≡ true)
     → (q ≡ true → Q) × (Q → q ≡ true) → IsTrue (p && q) ↔ (P × Q)
 both true true P Q f g = (λ t. (f.0 refl, g.0 refl), λ w. refl)
 both true false P Q f g = (λ t. absurd cc, λ w. g.1 w.1)
 both false q P Q f g = (λ t. absurd cc, λ w. f.1 w.0)
 
--- the test of words and entries tells whether both are equal
+-- The test of words and entries returns whether both are equal.
 pub transcript_decides : {B : ℕ} (u v : List ℕ) (xs ys : List (GivenEntry.Entry B)) (r : Bool)
     → r ≡ (pointwise nat_eq u v && pointwise equal_entry xs ys)
     → IsTrue r ↔ ((u ≡ v) × (xs ≡ ys))

@@ -1,4 +1,4 @@
--- Two runs walked from the front, where the last pair that differs is kept.
+-- Two runs compared from the front. The last pair that differs is kept.
 use Rattle.std.proofs.Common.{◌≡◌, ◌≢◌, ℕ, ◌+◌, ◌-◌, ◌<◌, ◌≤◌, inl, inr, List, length, sym, ap}
 use Rattle.std.proofs.Common.{subst, ◌∙◌, arith, get_or}
 use Rattle.std.proofs.lemmas.Bool.{cases_lt}
@@ -16,9 +16,9 @@ use Rattle.blake2_words.proofs.Streaming.{block_count-pos}
 use Rattle.blake2_words.proofs.Runs.{length-steps, get_or-steps, output-step}
 use Rattle.blake2_words.proofs.Pairs.{witness_at, same_from_pairs, last_counter, chain_zero}
 
--- ---- what the walk keeps
+-- ---- what the comparison keeps
 
--- among the first n steps of xs and ys, x and y are the last pair that differs
+-- x and y are the last pair that differs among the first n steps of xs and ys.
 pub record KeptPair (xs ys : List Step) (n : ℕ) (x y : Step) : Type 0 where
   pub place : ℕ
   pub within : place < n
@@ -27,21 +27,21 @@ pub record KeptPair (xs ys : List Step) (n : ℕ) (x y : Step) : Type 0 where
   pub differ : x ≢ y
   pub after : (i : ℕ) (d : Step) → place < i → i < n → get_or xs i d ≡ get_or ys i d
 
--- the first n steps are equal in pairs
+-- The first n steps are equal in pairs.
 abbrev pub NoPair : List Step → List Step → ℕ → Type 0
 NoPair xs ys n = (i : ℕ) (d : Step) → i < n → get_or xs i d ≡ get_or ys i d
 
--- two steps of the code
+-- Two steps of the code.
 abbrev pub Pair : ℕ → Type 0
 Pair B = GivenStep.Step ℕ B × GivenStep.Step ℕ B
 
--- what a walk over the first n steps of both runs has kept
+-- What a comparison of the first n steps of both runs has kept.
 abbrev pub Kept : {B : ℕ} → Family → ℕ → Input → Input → ℕ → Option (Pair B) → Type 0
 Kept f size a b n kept =
     MatchOption kept (NoPair (steps f size a) (steps f size b) n)
     (λ w. KeptPair (steps f size a) (steps f size b) n (step_of w.0) (step_of w.1))
 
--- a pair that differs is kept
+-- A pair that differs is kept.
 kept_differs : (xs ys : List Step) (i : ℕ) (x y : Step) → ((d : Step) → x ≡ get_or xs i d)
     → ((d : Step) → y ≡ get_or ys i d) → x ≢ y → KeptPair xs ys (i + 1) x y
 kept_differs xs ys i x y of_a of_b differ = record {
@@ -53,7 +53,7 @@ kept_differs xs ys i x y of_a of_b differ = record {
   after = λ k d past h. absurd (omega arith);
 }
 
--- what holds of equal pairs below i holds of the pair i too, where it is equal
+-- What holds for equal pairs below i holds for the pair i too, if it is equal.
 still_equal : (xs ys : List Step) (i : ℕ) (P : ℕ → Type 0)
     → ((k : ℕ) (d : Step) → P k → k < i → get_or xs k d ≡ get_or ys k d)
     → ((d : Step) → get_or xs i d ≡ get_or ys i d)
@@ -64,7 +64,7 @@ still_equal xs ys i P below here k d p h = elim (cases_lt k i) [
       (here d))
 ]
 
--- an equal pair leaves the kept one
+-- An equal pair leaves the pair that was kept.
 kept_same : (xs ys : List Step) (i : ℕ) (x y : Step) → ((d : Step) → get_or xs i d ≡ get_or ys i d)
     → KeptPair xs ys i x y → KeptPair xs ys (i + 1) x y
 kept_same xs ys i x y here k = record {
@@ -77,38 +77,38 @@ kept_same xs ys i x y here k = record {
       (λ n e p l. k.after n e p l) here m d past h;
 }
 
--- and where none was kept, still none is
+-- If none was kept, an equal pair leaves none.
 none_same : (xs ys : List Step) (i : ℕ) → ((d : Step) → get_or xs i d ≡ get_or ys i d)
     → NoPair xs ys i → NoPair xs ys (i + 1)
 none_same xs ys i here all k d h = still_equal xs ys i (λ (n : ℕ). Unit {0})
     (λ n e p l. all n e l) here k d tt h
 
--- ---- the walk's step
+-- ---- a step of the comparison
 
--- a run's first chaining words
+-- A run's first chaining words.
 pub first_chain : (f : Family) (size : ℕ) (a : Input) (h : List ℕ) → h ≡ input_start f size a
     → h ≡ (run_step f size a 0).chain
 first_chain f size a h e = e ∙ sym (chain_zero f _ 0 _)
 
--- the step of a run's entry, at the chaining words that the run has there, is the run's
+-- The step of a run's entry, with the chaining words that the run has there, is the run's step.
 pub step_at-chain : (f : Family) (size : ℕ) (a : Input) (h : List ℕ) (i : ℕ) (e : Entry)
     → h ≡ (run_step f size a i).chain → e ≡ entry (run_step f size a i)
     → step_at h e ≡ run_step f size a i
 step_at-chain f size a h i e chained is = λ k. step_at (chained k) (is k)
 
--- what F gives of it are the next ones
+-- The result of F for this step is the next chaining words.
 pub next_chain : (f : Family) (size : ℕ) (a : Input) (i : ℕ) (h : List ℕ) (s : Step)
     → s ≡ run_step f size a i → h ≡ output f s
     → i + 1 < step_count f a → h ≡ (run_step f size a (i + 1)).chain
 next_chain f size a i h s is e lt = e ∙ ap (output f) is
     ∙ output-step f (input_start f size a) (input_data f a) (input_flags a) i lt
 
--- it stands in the list of steps
+-- This step is in the list of steps.
 in_steps : (f : Family) (size : ℕ) (a : Input) (i : ℕ) (s d : Step) → s ≡ run_step f size a i
     → i < step_count f a → s ≡ get_or (steps f size a) i d
 in_steps f size a i s d is lt = is ∙ sym (get_or-steps f size a i d lt)
 
--- one more pair, which is kept if it differs
+-- One more pair, which is kept if it differs.
 pub walk_differs : {B : ℕ} (f : Family) (size : ℕ) (a b : Input) (i : ℕ) (w : Pair B) (x y : Step)
     → step_of w.0 ≡ x → step_of w.1 ≡ y → x ≡ run_step f size a i → y ≡ run_step f size b i
     → i < step_count f a → i < step_count f b → x ≢ y → Kept f size a b (i + 1) (Some w)
@@ -118,7 +118,7 @@ walk_differs f size a b i w x y is_x is_y of_a of_b in_a in_b differ =
     (λ d. in_steps f size b i (step_of w.1) d (is_y ∙ of_b) in_b)
     (λ e. differ (sym is_x ∙ e ∙ is_y))
 
--- equal steps of both runs are equal in their lists
+-- Equal steps of both runs are equal in their lists.
 same_in_steps : (f : Family) (size : ℕ) (a b : Input) (i : ℕ) (x y d : Step)
     → x ≡ run_step f size a i → y ≡ run_step f size b i
     → i < step_count f a → i < step_count f b → x ≡ y
@@ -126,7 +126,7 @@ same_in_steps : (f : Family) (size : ℕ) (a b : Input) (i : ℕ) (x y d : Step)
 same_in_steps f size a b i x y d of_a of_b in_a in_b same =
     sym (in_steps f size a i x d of_a in_a) ∙ same ∙ in_steps f size b i y d of_b in_b
 
--- and else changes nothing
+-- One more pair that does not differ changes nothing.
 pub walk_same : {B : ℕ} (f : Family) (size : ℕ) (a b : Input) (i : ℕ) (x y : Step)
     (kept : Option (Pair B)) → x ≡ run_step f size a i → y ≡ run_step f size b i
     → i < step_count f a → i < step_count f b → x ≡ y → Kept f size a b i kept
@@ -138,9 +138,9 @@ walk_same f size a b i x y (Some w) of_a of_b in_a in_b same k =
     kept_same (steps f size a) (steps f size b) i (step_of w.0) (step_of w.1)
     (λ d. same_in_steps f size a b i x y d of_a of_b in_a in_b same) k
 
--- ---- where the walk ends
+-- ---- the end of the comparison
 
--- if no pair differs, the inputs are the same
+-- If no pair differs, the inputs are the same.
 front_same : (f : Family) (size : ℕ) (a b : Input) → Accepts f a → Accepts f b
     → size ≤ output_bytes f → step_count f a ≡ step_count f b
     → NoPair (steps f size a) (steps f size b) (step_count f a) → Same f a b
@@ -153,7 +153,7 @@ front_same f size a b p q h numbers all =
     all (length (steps f size a) - 1 - j) d (omega arith)
     ∙ ap (λ (k : ℕ). get_or (steps f size b) k d) e)
 
--- the kept pair is a witness
+-- The kept pair is a witness.
 front_witness : (f : Family) (size : ℕ) (a b : Input) (x y : Step)
     → digest f size a ≡ digest f size b → step_count f a ≡ step_count f b
     → KeptPair (steps f size a) (steps f size b) (step_count f a) x y → IsWitness f a b size x y
@@ -176,7 +176,7 @@ front_witness f size a b x y digests numbers k =
           k.differ digests,
     )
 
--- THE LAW: of two inputs that collide, with as many steps, the walk keeps a witness
+-- The law: if two inputs collide and have the same number of steps, the comparison keeps a witness.
 pub walk_witness : {B : ℕ} (f : Family) (size : ℕ) (a b : Input) (n : ℕ) (kept : Option (Pair B))
     → Accepts f a → Accepts f b → size ≤ output_bytes f
     → Collide f size a b → step_count f a ≡ step_count f b → n ≡ step_count f a
@@ -190,7 +190,7 @@ walk_witness f size a b n (Some w) p q h c numbers end k =
     (subst (λ (m : ℕ). KeptPair (steps f size a) (steps f size b) m (step_of w.0)
     (step_of w.1)) end k)
 
--- THE LAW: last steps that differ are a witness, where the digests are equal
+-- The law: last steps that differ are a witness, if the digests are equal.
 pub last_witness : (f : Family) (size : ℕ) (a b : Input) (x y : Step)
     → digest f size a ≡ digest f size b → x ≢ y
     → x ≡ last_step f size a → y ≡ last_step f size b → IsWitness f a b size x y
@@ -213,7 +213,7 @@ last_witness f size a b x y digests differ xa yb =
           differ digests,
     )
 
--- where they are equal, so are the numbers of steps, by their counters
+-- If the last steps are equal, so are the numbers of steps, by their counters.
 pub same_number : (f : Family) (size : ℕ) (a b : Input) (x y : Step) → x ≡ y
     → x ≡ last_step f size a → y ≡ last_step f size b → step_count f a ≡ step_count f b
 same_number f size a b x y e xa yb =

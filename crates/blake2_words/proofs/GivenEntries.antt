@@ -12,19 +12,19 @@ use Rattle.blake2_words.specs.Reader.{EndsRun, IsRun, IsZeroFrom, HasKey}
 use Rattle.blake2_words.proofs.RunEntries.{joined-snoc, run_from, run_inner, run_zeros, has_key}
 use Rattle.blake2_words.proofs.RunEntries.{key_zeros, key_told, message_told}
 
--- an entry at place i
+-- The entry at index i.
 pub entry_of-at : {B : ℕ} (es : List (GivenEntry.Entry B)) (i : ℕ) (e : GivenEntry.Entry B)
     → i < length es → e ≡ get_or es i e
     → get_or (map entry_of es) i no_entry ≡ entry_of e
 entry_of-at es i e h at = get_or-map entry_of es i e no_entry h ∙ ap entry_of (sym at)
 
--- one more entry
+-- One more entry.
 entries_of-snoc : {B : ℕ} (es xs : List (GivenEntry.Entry B)) (e : GivenEntry.Entry B)
     → es ≡ xs ++ e ∷ []
     → map entry_of es ≡ map entry_of xs ++ entry_of e ∷ []
 entries_of-snoc es xs e split = ap (map entry_of) split ∙ map-append entry_of xs (e ∷ [])
 
--- the bytes of the first blocks, where one more is known
+-- The bytes of the first blocks, if one more is known.
 pub given_joined : {B : ℕ} (es : List (GivenEntry.Entry B)) (i : ℕ) (e : GivenEntry.Entry B)
     → i < length es → e ≡ get_or es i e
     → joined (map entry_of (take (i + 1) es)) ≡ joined (map entry_of (take i es)) ++ e.block
@@ -34,7 +34,7 @@ given_joined es i e h at =
     ap joined (entries_of-snoc (take (i + 1) es) (take i es) e more)
     ∙ joined-snoc (map entry_of (take i es)) (entry_of e)
 
--- a run from its last entry and those before
+-- A run, from its last entry and those before.
 pub given_run : {B : ℕ} (f : Family) (b : ℕ) (es xs : List (GivenEntry.Entry B))
     (e : GivenEntry.Entry B) → block_bytes f ≡ b → es ≡ xs ++ e ∷ []
     → AreWhole f (map entry_of xs) → EndsRun f (length xs) (entry_of e)
@@ -49,14 +49,14 @@ given_run f b es xs e family split whole ends inners zeros =
     (subst (λ (n : ℕ). EndsRun f n (entry_of e)) count ends) inners
     (subst (λ (n : ℕ). IsZeroFrom n e.block) rest zeros))
 
--- in a run others follow each entry before the last
+-- In a run, others follow each entry before the last.
 pub given_inner : {B : ℕ} (f : Family) (es xs : List (GivenEntry.Entry B)) (e : GivenEntry.Entry B)
     → es ≡ xs ++ e ∷ []
     → IsRun f (map entry_of es) → AreInner f (map entry_of xs)
 given_inner f es xs e split run = run_inner f (map entry_of xs) (entry_of e)
     (subst (IsRun f) (entries_of-snoc es xs e split) run)
 
--- and the last one's block is zero past the counted bytes
+-- The block of the last entry of a run is zero after the counted bytes.
 pub given_zeros : {B : ℕ} (f : Family) (b : ℕ) (es xs : List (GivenEntry.Entry B))
     (e : GivenEntry.Entry B) → block_bytes f ≡ b → es ≡ xs ++ e ∷ []
     → AreWhole f (map entry_of xs) → IsRun f (map entry_of es)
@@ -68,7 +68,7 @@ given_zeros f b es xs e family split whole run =
     subst (λ (n : ℕ). IsZeroFrom n e.block) rest (run_zeros f (map entry_of xs) (entry_of e) whole
     (subst (IsRun f) (entries_of-snoc es xs e split) run))
 
--- the counted bytes, as the last entry tells
+-- The number of counted bytes is the counter of the last entry.
 pub given_count : {B : ℕ} (es : List (GivenEntry.Entry B)) (e : GivenEntry.Entry B) → 0 < length es
     → e ≡ get_or es (length es - 1) e
     → told_count (map entry_of es) ≡ e.counter
@@ -78,12 +78,12 @@ given_count es e some at =
     ap (λ (n : ℕ). (get_or (map entry_of es) n no_entry).counter) count
     ∙ ap (λ (x : Entry). x.counter) (entry_of-at es (length es - 1) e (omega arith) at)
 
--- a run has entries
+-- A run has entries.
 pub given_some : {B : ℕ} (f : Family) (es : List (GivenEntry.Entry B)) → IsRun f (map entry_of es)
     → 0 < length es
 given_some f es run = omega (arith, run.number, length-map es entry_of)
 
--- the first block has B bytes
+-- The first block has bb bytes.
 pub given_first : {B : ℕ} (f : Family) (es : List (GivenEntry.Entry B)) (e : GivenEntry.Entry B)
     → AreWhole f (map entry_of es) → 0 < length es
     → e ≡ get_or es 0 e → length e.block ≡ block_bytes f
@@ -91,7 +91,7 @@ given_first f es e whole some at =
     sym (ap (λ (x : Entry). length x.block) (entry_of-at es 0 e some at))
     ∙ (whole 0 (omega (arith, length-map es entry_of))).length_is
 
--- the first block is that of a key where it is zero behind the key
+-- The first block is that of a key if it is zero after the key.
 pub given_has_key : {B : ℕ} (f : Family) (n : ℕ) (es : List (GivenEntry.Entry B))
     (e : GivenEntry.Entry B) → 0 < length es → e ≡ get_or es 0 e
     → length e.block ≡ block_bytes f → block_bytes f ≤ told_count (map entry_of es)
@@ -102,7 +102,7 @@ given_has_key f n (x ∷ es) e some at whole counted zeros =
     (sym at) ∙ whole) counted
     (subst (λ (y : GivenEntry.Entry _). IsZeroFrom n y.block) at zeros)
 
--- and only there
+-- The first block is that of a key only if it is zero after the key.
 pub given_key_zeros : {B : ℕ} (f : Family) (n : ℕ) (es : List (GivenEntry.Entry B))
     (e : GivenEntry.Entry B) → 0 < length es → e ≡ get_or es 0 e
     → length e.block ≡ block_bytes f → HasKey f n (map entry_of es) → IsZeroFrom n e.block
@@ -112,7 +112,7 @@ given_key_zeros f n (x ∷ es) e some at whole key =
     (key_zeros f n (entry_of x) (map entry_of es)
     (ap (λ (y : GivenEntry.Entry _). length y.block) (sym at) ∙ whole) key)
 
--- the key that the data begins with
+-- The key that the data begins with.
 pub given_told_key : {B : ℕ} (n c : ℕ) (es : List (GivenEntry.Entry B)) (e : GivenEntry.Entry B)
     → 0 < length es → e ≡ get_or es 0 e
     → 0 < n → n ≤ length e.block → n ≤ c → told_key n (take c (joined (map entry_of es)))
@@ -123,7 +123,7 @@ given_told_key n c (x ∷ es) e some at given short within =
     (sym at)
     ∙ key_told n c e.block (joined (map entry_of es)) given short within
 
--- the message behind it
+-- The message after the key.
 pub given_told_message : {B : ℕ} (f : Family) (n c : ℕ) (es : List (GivenEntry.Entry B))
     (e : GivenEntry.Entry B) → 0 < length es → e ≡ get_or es 0 e
     → 0 < n → length e.block ≡ block_bytes f → block_bytes f ≤ c

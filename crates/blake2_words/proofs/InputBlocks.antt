@@ -11,7 +11,7 @@ use Rattle.blake2_words.proofs.ParameterSizes.{key_bytes_fit}
 use Rattle.blake2_words.proofs.ByteSizes.{length-padded}
 use Rattle.blake2_words.proofs.Padding.{padded-whole}
 
--- block i of the first n is the bytes from place i * B on
+-- Block i of the first n is the bytes from offset i * bb on.
 pub cut-at : (f : Family) (n : ℕ) (z : List ℕ) (i : ℕ) → i < n
     → slice_index_or (cut f n z) i [] ≡ padded (block_bytes f)
     (take (block_bytes f) (drop (i * block_bytes f) z))
@@ -26,17 +26,17 @@ cut-at f (suc n) z (suc i) h =
     cut-at f n (drop b z) i (omega arith) ∙ ap (λ (l : List ℕ). padded b (take b l))
     (drop-drop (i * b) b z ∙ ap (λ (k : ℕ). drop k z) (sym more))
 
--- each block begins within the data
+-- Each block begins within the data.
 pub block_within : (f : Family) (m i : ℕ) → i < block_count f m → i * block_bytes f ≤ m
 block_within blake2b m i h = omega arith
 block_within blake2s m i h = omega arith
 
--- a key's block has B bytes
+-- The block of a key has bb bytes.
 length-given : (f : Family) (k : List ℕ) → KeyFits f (Some k)
     → length (padded (block_bytes f) k) ≡ block_bytes f
 length-given f k fits = length-padded (block_bytes f) k (omega (arith, key_bytes_fit f))
 
--- the counted length with a key that fits
+-- The counted length with a key that fits.
 pub keyed_length : (f : Family) (k m : List ℕ) → length k ≤ key_bytes f
     → length (data_bytes f (Some k) m) ≡ block_bytes f + length m
 unfolding key_block
@@ -45,13 +45,13 @@ keyed_length f k m fits =
     length-padded (block_bytes f) k (omega (arith, key_bytes_fit f)) in
     length-append (padded (block_bytes f) k) m ∙ ap (λ (n : ℕ). n + length m) whole
 
--- the counted length without a key
+-- The counted length without a key.
 pub counted_none : (f : Family) (key : Option (List ℕ)) (m : List ℕ) → key ≡ None
     → length m ≡ length (data_bytes f key m)
 unfolding key_block
 counted_none f key m e = ap (λ (k : Option (List ℕ)). length (data_bytes f k m)) (sym e)
 
--- and with one
+-- The counted length with a key.
 pub counted_some : (f : Family) (key : Option (List ℕ)) (k m : List ℕ) → key ≡ Some k
     → KeyFits f key → block_bytes f + length m ≡ length (data_bytes f key m)
 unfolding key_block
@@ -61,7 +61,7 @@ counted_some f key k m e fits =
     ∙ length-append (padded (block_bytes f) k) m ∙ ap (λ (n : ℕ). n + length m)
     (length-given f k here))
 
--- block i without a key
+-- Block i without a key.
 pub block_none : (f : Family) (key : Option (List ℕ)) (m : List ℕ) (i : ℕ) → key ≡ None
     → i < block_count f (length (data_bytes f key m))
     → padded (block_bytes f) (take (block_bytes f) (drop (i * block_bytes f) m))
@@ -73,7 +73,7 @@ block_none f key m i e h =
     (λ (l : List ℕ). padded (block_bytes f) (take (block_bytes f)
     (drop (i * block_bytes f) l))) z)
 
--- the first block with a key is the key's
+-- The first block with a key is the key's.
 pub block_first : (f : Family) (key : Option (List ℕ)) (k m : List ℕ) (i : ℕ) → key ≡ Some k
     → KeyFits f key → i ≡ 0 → i < block_count f (length (data_bytes f key m))
     → padded (block_bytes f) k ≡ slice_index_or (blocks f (data_bytes f key m)) i []
@@ -90,7 +90,7 @@ block_first f key k m i e fits at h =
     ∙ ap (λ (n : ℕ). padded b (take b (drop n (padded b k ++ m)))) none
     ∙ ap (padded b) (take_at (padded b k) m b lk) ∙ padded-whole b (padded b k) lk)
 
--- a place past the first block, in bytes
+-- An offset after the first block, in bytes.
 later : (f : Family) (i : ℕ) → 0 < i → i * block_bytes f ≡ block_bytes f + (i - 1) * block_bytes f
 later f i some =
     let one : i ≡ suc (i - 1) = omega arith in
@@ -98,7 +98,7 @@ later f i some =
     omega arith in
     ap (λ (n : ℕ). n * block_bytes f) one ∙ more
 
--- the later blocks with a key are the message's
+-- The later blocks with a key are the message's.
 pub block_later : (f : Family) (key : Option (List ℕ)) (k m : List ℕ) (i : ℕ) → key ≡ Some k
     → KeyFits f key → 0 < i → i < block_count f (length (data_bytes f key m))
     → padded (block_bytes f) (take (block_bytes f) (drop ((i - 1) * block_bytes f) m))
@@ -116,7 +116,7 @@ block_later f key k m i e fits some h =
     ∙ ap (λ (l : List ℕ). padded b (take b l)) (sym (drop-drop ((i - 1) * b) b (padded b k ++ m))
     ∙ ap (drop ((i - 1) * b)) (drop_at (padded b k) m b lk)))
 
--- and each begins within the message
+-- Each of these blocks begins within the message.
 pub later_within : (f : Family) (key : Option (List ℕ)) (k m : List ℕ) (i : ℕ) → key ≡ Some k
     → KeyFits f key → 0 < i → i < block_count f (length (data_bytes f key m))
     → (i - 1) * block_bytes f ≤ length m

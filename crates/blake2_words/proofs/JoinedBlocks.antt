@@ -1,4 +1,4 @@
--- The blocks of the data, joined, are the data and zeros behind it.
+-- The blocks of the data, joined, are the data followed by zeros.
 use Rattle.std.proofs.Common.{◌≡◌, ℕ, zero, suc, ◌+◌, ◌-◌, ◌*◌, ◌≤◌, inl, inr, List, [], ◌∷◌, ◌++◌}
 use Rattle.std.proofs.Common.{length, take, drop, replicate, refl, sym, ap, ◌∙◌, arith}
 use Rattle.std.proofs.Common.{length-drop}
@@ -9,7 +9,7 @@ use Rattle.std.specs.List.{concat}
 use Rattle.blake2_rows.specs.Family.{Family, blake2b, blake2s, block_bytes}
 use Rattle.blake2_words.specs.Hash.{padded, cut, block_count}
 
--- two joined lists are equal only if their parts are, where the first parts have one length
+-- Two joined lists are equal only if their parts are, if the first parts have one length.
 pub append_parts : (n : ℕ) (a b c d : List ℕ) → length a ≡ n → length c ≡ n → a ++ b ≡ c ++ d
     → (a ≡ c) × (b ≡ d)
 append_parts n a b c d la lc h = (
@@ -17,7 +17,7 @@ append_parts n a b c d la lc h = (
   sym (drop_at a b n la) ∙ ap (drop n) h ∙ drop_at c d n lc,
 )
 
--- a first block that the data does not fill, and zeros up to n bytes behind it
+-- A first block that the data does not fill, with zeros up to n bytes after it.
 short_block : (b n : ℕ) (z : List ℕ) → length z ≤ b
     → padded b (take b z) ++ padded n (drop b z) ≡ padded (b + n) z
 unfolding padded
@@ -33,7 +33,7 @@ short_block b n z short =
       count,
     ) refl
 
--- a first block that it fills
+-- A first block that the data fills.
 full_block : (b n : ℕ) (z : List ℕ) → b ≤ length z
     → padded b (take b z) ++ padded n (drop b z) ≡ padded (b + n) z
 unfolding padded
@@ -49,14 +49,14 @@ full_block b n z whole =
       take-append-drop b z,
     ) refl
 
--- no bytes with no zeros behind them
+-- No bytes, with no zeros after them.
 padded_nothing : (n : ℕ) → n ≡ 0 → [] ≡ padded n []
 unfolding padded
 padded_nothing n none =
     let zeros : 0 ≡ n - 0 = omega arith in
     ap (λ (k : ℕ). replicate k 0) zeros
 
--- the blocks joined are the data, padded
+-- The blocks, joined, are the data padded with zeros.
 pub concat-cut : (f : Family) (n : ℕ) (z : List ℕ) → length z ≤ n * block_bytes f
     → concat (cut f n z) ≡ padded (n * block_bytes f) z
 unfolding cut
@@ -74,7 +74,7 @@ concat-cut f (suc n) z h =
     ] in
     ap (λ (k : List ℕ). padded b (take b z) ++ k) rest ∙ joined ∙ ap (λ (k : ℕ). padded k z) more
 
--- the blocks hold all counted bytes
+-- The blocks hold all counted bytes.
 pub block_count-fits : (f : Family) (m : ℕ) → m ≤ block_count f m * block_bytes f
 block_count-fits blake2b m = omega arith
 block_count-fits blake2s m = omega arith

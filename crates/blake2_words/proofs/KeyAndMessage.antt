@@ -12,7 +12,7 @@ use Rattle.blake2_words.proofs.ParameterSizes.{key_bytes_fit}
 use Rattle.blake2_words.proofs.ByteSizes.{length-padded, AreBytes-take, AreBytes-drop}
 use Rattle.blake2_words.proofs.Padding.{padded-past, padded-before}
 
--- key and message make the data that they were read from
+-- A key and a message make the data that they were read from.
 pub key_data : (f : Family) (n : ℕ) (z : List ℕ) → n ≤ key_bytes f
     → (0 < n → block_bytes f ≤ length z)
     → (0 < n → (i : ℕ) → n ≤ i → i < block_bytes f → get_or z i 0 ≡ 0)
@@ -39,12 +39,12 @@ key_data f (suc k) z fits counted zeros =
     ]) in
     (λ i. front i ++ drop b z) ∙ take-append-drop b z
 
--- the length of a key that is read
+-- The length of a key that is read.
 pub told_key-size : (n : ℕ) (z : List ℕ) → n ≤ length z → key_size (told_key n z) ≡ n
 told_key-size zero z h = refl
 told_key-size (suc n) z h = length-take-le (suc n) z h
 
--- it fits
+-- A key that is read fits.
 pub told_key-fits : (f : Family) (n : ℕ) (z : List ℕ) → AreBytes z → n ≤ length z → n ≤ key_bytes f
     → KeyFits f (told_key n z)
 told_key-fits f zero z are h fits = tt
@@ -52,7 +52,7 @@ told_key-fits f (suc n) z are h fits =
     let l : length (take (suc n) z) ≡ suc n = length-take-le (suc n) z h in
     (omega arith, omega arith, AreBytes-take (suc n) z are)
 
--- a message that is read has bytes
+-- A message that is read has bytes.
 pub told_message-bytes : (f : Family) (n : ℕ) (z : List ℕ) → AreBytes z
     → AreBytes (told_message f n z)
 told_message-bytes f zero z are = are

@@ -17,7 +17,7 @@ use Rattle.blake2_words.proofs.Padding.{padded-whole}
 use Rattle.blake2_words.proofs.InputBlocks.{cut-at}
 use Rattle.blake2_words.proofs.Runs.{whole_blocks}
 
--- chunk i of the first k
+-- Chunk i of the first k.
 first_chunks-at : (b k i : ℕ) (y : List ℕ) → i < k
     → slice_index_or (first_chunks b k y) i [] ≡ take b (drop (i * b) y)
 first_chunks-at b zero i y h = absurd (omega arith)
@@ -29,17 +29,17 @@ first_chunks-at b (suc k) (suc i) y h =
     first_chunks-at b k i (drop b y) (omega arith)
     ∙ ap (take b) (drop-drop (i * b) b y ∙ ap (λ (n : ℕ). drop n y) (sym more))
 
--- bytes that hold a chunk more than i hold chunk i
+-- Bytes that hold a chunk more than i hold chunk i.
 chunk_below : (f : Family) (m i : ℕ) → (i + 1) * block_bytes f ≤ m → i < m / block_bytes f
 chunk_below blake2b m i h = omega arith
 chunk_below blake2s m i h = omega arith
 
--- all blocks but the first and the last are among the chunks
+-- All blocks except the first and the last are among the chunks.
 chunks_enough : (f : Family) (m : ℕ) → block_count f m ≤ (m - block_bytes f) / block_bytes f + 2
 chunks_enough blake2b m = omega arith
 chunks_enough blake2s m = omega arith
 
--- without a key the rest is the message's
+-- Without a key the rest is the message after its first block.
 pub rest_none : (f : Family) (b : ℕ) → block_bytes f ≡ b → (key : Option (List ℕ)) (m : List ℕ)
     → key ≡ None → drop (min (length m) b) m ≡ drop b (data_bytes f key m)
 unfolding key_block
@@ -57,7 +57,7 @@ rest_none f b e key m none =
           ap (λ n. drop n m) some
     ]
 
--- with a key it is the whole message
+-- With a key the rest is the whole message.
 pub rest_some : (f : Family) (b : ℕ) → block_bytes f ≡ b → (key : Option (List ℕ)) (k m : List ℕ)
     → key ≡ Some k → KeyFits f key → m ≡ drop b (data_bytes f key m)
 unfolding key_block
@@ -68,7 +68,7 @@ rest_some f b e key k m some fits =
     sym (ap (λ (x : Option (List ℕ)). drop b (data_bytes f x m)) some
     ∙ drop_at (padded (block_bytes f) k) m b first)
 
--- chunk i of the rest is block i + 1
+-- Chunk i of the rest is block i + 1.
 pub later_block : (f : Family) (b : ℕ) → block_bytes f ≡ b → (a : Input) (rest : List ℕ)
     → rest ≡ drop b (input_data f a) → (i : ℕ) → i + 2 < step_count f a
     → slice_index_or (first_chunks b (length rest / b) rest) i []
@@ -97,7 +97,7 @@ later_block f b e = subst
         ∙ sym (cut-at f (step_count f a) z (i + 1) (omega arith)
         ∙ padded-whole b (take b (drop ((i + 1) * b) z)) full)
 
--- there are chunks for all blocks but the first and the last
+-- There are chunks for all blocks except the first and the last.
 pub later_enough : (f : Family) (b : ℕ) → block_bytes f ≡ b → (a : Input) (rest : List ℕ)
     → rest ≡ drop b (input_data f a) → step_count f a ≤ length rest / b + 2
 later_enough f b e = subst (λ (b : ℕ). (a : Input) (rest : List ℕ) → rest ≡ drop b (input_data f a)

@@ -10,7 +10,7 @@ use Rattle.blake2_rows.proofs.Words.{cells-drop}
 use Rattle.blake2_words.proofs.Cells.{words_of-at}
 use Rattle.blake2_words.proofs.ByteSizes.{length-words_of}
 
--- a part of a part
+-- A part of a part.
 part-part : (a i n m : ℕ) (xs : List ℕ) → i + n ≤ m
     → take n (drop i (take m (drop a xs))) ≡ take n (drop (a + i) xs)
 part-part a i n m xs fits =
@@ -19,11 +19,11 @@ part-part a i n m xs fits =
     ∙ ap (take n) (drop-take i (m - i) (drop a xs))
     ∙ take-take n (m - i) (drop i (drop a xs)) (omega arith) ∙ ap (take n) (drop-drop i a xs)
 
--- the bytes of four words, after those of q times four
+-- The bytes of four words, after those of q times four.
 abbrev quarter : Family → ℕ → List ℕ → List ℕ
 quarter f q xs = take (4 * word_bytes f) (drop (4 * word_bytes f * q) xs)
 
--- word j of them
+-- Word j of these four.
 quarter_word : (f : Family) (n q j : ℕ) (xs : List ℕ) → 4 * q + 4 ≤ n → j < 4
     → word_at f (quarter f q xs) j ≡ get_or (words_of f n xs) (4 * q + j) 0
 quarter_word f n q j xs lq lj =
@@ -38,21 +38,21 @@ quarter_word f n q j xs lq lj =
     within blake2b = omega arith
     within blake2s = omega arith
 
--- all four
+-- All of these four words.
 quarter_words : (f : Family) (n q : ℕ) (xs : List ℕ) → 4 * q + 4 ≤ n
     → four (word_at f (quarter f q xs)) ≡ four (λ j. get_or (words_of f n xs) (4 * q + j) 0)
 quarter_words f n q xs lt = λ i.
     quarter_word f n q 0 xs lt (omega arith) i ∷ quarter_word f n q 1 xs lt (omega arith) i ∷
     quarter_word f n q 2 xs lt (omega arith) i ∷ quarter_word f n q 3 xs lt (omega arith) i ∷ []
 
--- eight words are read so
+-- Eight words are read in this way.
 pub eight_read : (f : Family) (xs : List ℕ) → four (word_at f (quarter f 0 xs))
     ++ four (word_at f (quarter f 1 xs)) ≡ words_of f 8 xs
 eight_read f xs =
     (λ i. quarter_words f 8 0 xs (omega arith) i ++ quarter_words f 8 1 xs (omega arith) i)
     ∙ cells-drop (words_of f 8 xs) 0 8 (length-words_of f 8 xs)
 
--- and sixteen
+-- Sixteen words are read in this way.
 pub sixteen_read : (f : Family) (xs : List ℕ)
     → four (word_at f (quarter f 0 xs)) ++ four (word_at f (quarter f 1 xs))
     ++ four (word_at f (quarter f 2 xs)) ++ four (word_at f (quarter f 3 xs)) ≡ words_of f 16 xs

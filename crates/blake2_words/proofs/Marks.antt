@@ -2,6 +2,6 @@
 use Rattle.std.specs.Prelude.{ℕ, ◌≡◌, bit_xor}
 use Rattle.std.specs.Int.Bits.{xor_zero_r}
 
--- a word that nothing is xored into
+-- A word that nothing is xored into.
 pub xor_nothing : (n : ℕ) → bit_xor n 0 ≡ n
 xor_nothing n = xor_zero_r n

@@ -9,7 +9,7 @@ use Rattle.std.specs.Int.{from_le_bytes, w32, w64}
 use Rattle.blake2_words.specs.Hash.{padded}
 use Rattle.blake2_words.proofs.ByteSizes.{length-padded}
 
--- past the list there are zeros
+-- The elements after the list are zeros.
 pub padded-past : (n : ℕ) (z : List ℕ) (i : ℕ) → length z ≤ i → get_or (padded n z) i 0 ≡ 0
 unfolding padded
 padded-past n z i h = get_or-append_right z (replicate (n - length z) 0) (length z) i 0 refl h
@@ -20,20 +20,20 @@ padded-past n z i h = get_or-append_right z (replicate (n - length z) 0) (length
     zero_at (suc m) zero = refl
     zero_at (suc m) (suc k) = zero_at m k
 
--- before them there is the list
+-- The elements before the zeros are those of the list.
 pub padded-before : (n : ℕ) (z : List ℕ) (i : ℕ) → i < length z
     → get_or (padded n z) i 0 ≡ get_or z i 0
 unfolding padded
 padded-before n z i h = get_or_append_left z (replicate (n - length z) 0) 0 i h
 
--- a list that is long enough gets no zeros
+-- A list that is long enough is not padded.
 pub padded-whole : (n : ℕ) (xs : List ℕ) → length xs ≡ n → padded n xs ≡ xs
 unfolding padded
 padded-whole n xs h =
     let none : n - length xs ≡ 0 = omega arith in
     ap (λ (k : ℕ). xs ++ replicate k 0) none ∙ append-nil xs
 
--- a list that is zero from place k on
+-- A list that is zero from index k on.
 pub zeros_after : (xs : List ℕ) (k : ℕ) → k ≤ length xs → ((i : ℕ) → k ≤ i → get_or xs i 0 ≡ 0)
     → xs ≡ padded (length xs) (take k xs)
 zeros_after xs k h zeros =
@@ -46,7 +46,7 @@ zeros_after xs k h zeros =
       | inr past ↦ zeros i past ∙ sym (padded-past (length xs) (take k xs) i (omega arith))
     ])
 
--- zeros behind bytes leave each of them, and what they are read as
+-- Trailing zeros leave each of the bytes, and what the bytes are read as.
 padded-at : (n : ℕ) (z : List ℕ) (i : ℕ) → get_or (padded n z) i 0 ≡ get_or z i 0
 padded-at n z i = elim (cases_lt i (length z)) [
   | inl below ↦ padded-before n z i below

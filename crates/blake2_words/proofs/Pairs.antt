@@ -1,5 +1,5 @@
--- Two runs walked from their ends: the first pair that differs is a witness, and if none does the
--- inputs are the same.
+-- Two runs compared from their ends: the first pair that differs is a witness, and if no pair
+-- differs, the inputs are the same.
 use Rattle.std.proofs.Common.{Bool, eq-eqb, ◌≡◌, ◌≢◌, ℕ, ◌+◌, ◌-◌, ◌*◌, ◌<◌, ◌≤◌, inl, inr, List}
 use Rattle.std.proofs.Common.{[], length, take, refl, sym, ap, ◌∙◌, arith, get_or}
 use Rattle.std.proofs.lemmas.List.{same_lists, get_or_default}
@@ -21,19 +21,19 @@ use Rattle.blake2_words.proofs.Cancelled.{padded_cancel}
 use Rattle.blake2_words.proofs.ParametersTold.{start_cancel}
 use Rattle.blake2_words.proofs.Determined.{determined}
 
--- the step at distance j from the end
+-- The step at distance j from the end.
 from_end_is : (f : Family) (size : ℕ) (a : Input) (j : ℕ) (d : Step) → j < step_count f a
     → from_end (steps f size a) j d ≡ run_step f size a (step_count f a - 1 - j)
 from_end_is f size a j d h =
     ap (λ (n : ℕ). get_or (steps f size a) (n - 1 - j) d) (length-steps f size a)
     ∙ get_or-steps f size a (step_count f a - 1 - j) d (omega arith)
 
--- the chaining words before the first block
+-- The chaining words before the first block.
 pub chain_zero : (f : Family) (h : List ℕ) (c : ℕ) (d : List (List ℕ)) → chain f h c d 0 ≡ h
 unfolding chain
 chain_zero f h c d = refl
 
--- the last step's flags are the input's
+-- The last step's flags are the input's.
 last_flags : (f : Family) (size : ℕ) (a : Input)
     → (run_step f size a (step_count f a - 1)).flags ≡ input_flags a
 last_flags f size a =
@@ -41,7 +41,7 @@ last_flags f size a =
     let all : n - 1 + 1 ≡ n = omega (arith, block_count-pos f (length (input_data f a))) in
     ap (λ (b : Bool). if b then input_flags a else inner) (eq-eqb _ _ all)
 
--- equal steps at every place come from the same input
+-- Steps that are equal at every index come from the same input.
 pub same_steps : (f : Family) (size : ℕ) (a b : Input) → Accepts f a → Accepts f b
     → size ≤ output_bytes f
     → length (input_data f a) ≡ length (input_data f b)
@@ -73,7 +73,7 @@ same_steps f size a b p q h counted each =
     (input_parameters size b) starts) joined
     (ap (λ (g : Flags). g.last_node) flags)).1
 
--- the last step's counter is the counted length
+-- The last step's counter is the counted length.
 pub last_counter : (f : Family) (size : ℕ) (a : Input)
     → (run_step f size a (step_count f a - 1)).counter ≡ length (input_data f a)
 last_counter f size a =
@@ -81,8 +81,8 @@ last_counter f size a =
     let all : n - 1 + 1 ≡ n = omega (arith, block_count-pos f (length (input_data f a))) in
     rw all (min-eq_right (block_count-fits f (length (input_data f a))))
 
--- THE LAW: if all pairs from the ends are equal, as far as the shorter run goes, the inputs are the
--- same
+-- The law: if all pairs from the ends are equal, up to the length of the shorter run, the inputs
+-- are the same.
 pub same_from_pairs : (f : Family) (size : ℕ) (a b : Input) → Accepts f a → Accepts f b
     → size ≤ output_bytes f
     → ((j : ℕ) (d : Step) → j < length (steps f size a) → j < length (steps f size b)
@@ -115,7 +115,7 @@ same_from_pairs f size a b p q h each =
     ap (run_step f size a) (sym left) ∙ pair (na - 1 - i) (omega arith) (omega arith)
     ∙ ap (run_step f size b) right)
 
--- the outputs at distance j from the ends, where all nearer pairs are equal
+-- The outputs at distance j from the ends, if all nearer pairs are equal.
 outputs_agree : (f : Family) (size : ℕ) (a b : Input) (j : ℕ) → j < step_count f a
     → j < step_count f b → 0 < j
     → run_step f size a (step_count f a - 1 - (j - 1))
@@ -133,21 +133,21 @@ outputs_agree f size a b j ja jb some nearer =
     ∙ sym (output-step f (input_start f size b) (input_data f b) (input_flags b) (nb - 1 - j)
     (omega arith))
 
--- the digest is of the last step's output
+-- The digest is of the last step's output.
 pub last_output : (f : Family) (size : ℕ) (a : Input)
     → take size (bytes_of f (output f (run_step f size a (step_count f a - 1)))) ≡ digest f size a
 unfolding digest
 last_output f size a = ap (λ (h : List ℕ). take size (bytes_of f h))
     (output-step_last f (input_start f size a) (input_data f a) (input_flags a))
 
--- whatever names that step
+-- The digest is that of the output of any step that equals the last.
 pub digest_after : (f : Family) (size : ℕ) (a : Input) (s : Step)
     → s ≡ run_step f size a (step_count f a - 1)
     → take size (bytes_of f (output f s)) ≡ digest f size a
 digest_after f size a s e =
     ap (λ (s : Step). take size (bytes_of f (output f s))) e ∙ last_output f size a
 
--- THE LAW: the first pair from the ends that differs is a witness, where the digests are equal
+-- The law: the first pair from the ends that differs is a witness, if the digests are equal.
 pub witness_at : (f : Family) (size : ℕ) (a b : Input) (j : ℕ) (x y : Step)
     → j < length (steps f size a) → j < length (steps f size b)
     → ((d : Step) → x ≡ from_end (steps f size a) j d)

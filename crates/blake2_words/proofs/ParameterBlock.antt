@@ -13,7 +13,7 @@ use Rattle.blake2_words.proofs.Padding.{padded-whole}
 use Rattle.blake2_words.proofs.ParameterTexts.{padded-append_zeros}
 use Rattle.blake2_words.proofs.ByteSizes.{length-padded}
 
--- k bytes written at place i, over zeros that stand behind the first i bytes
+-- The list after k bytes are written at index i, over zeros that come after the first i bytes.
 written : (n i k : ℕ) (w y : List ℕ) → length w ≡ i → length y ≡ k → i + k ≤ n
     → put_mid i k (padded n w) y ≡ padded n (w ++ y)
 unfolding padded
@@ -25,7 +25,7 @@ written n i k w y at long fits =
     (drop-replicate k (n - length w) 0 ∙ ap (λ (m : ℕ). replicate m 0) left)
     ∙ sym (append_assoc w y (replicate (n - length (w ++ y)) 0))
 
--- a text written so, where the next field begins s bytes later
+-- A list that is written in this way, if the next field begins s bytes later.
 text_written : (n i k s : ℕ) (w x : List ℕ) → length w ≡ i → length x ≡ k → k ≤ s → i + s ≤ n
     → put_mid i k (padded n w) x ≡ padded n (w ++ padded s x)
 unfolding padded
@@ -35,7 +35,7 @@ text_written n i k s w x at long fits room =
     ∙ sym (padded-append_zeros n (w ++ x) (s - length x) (omega (arith, length-append w x)))
     ∙ ap (padded n) (append_assoc w x zeros)
 
--- the fields of a block, of these lengths, one after another
+-- The fields of a block, of these lengths, one after the other.
 fields_written : (n o r s : ℕ) (a b c d salt persona : List ℕ) → length a ≡ 4 → length b ≡ 4
     → length c ≡ o → length d ≡ 2 → length salt ≤ s → length persona ≤ s → 8 + o + 2 + r + s + s ≡ n
     → put_mid (8 + o + 2 + r + s) (8 + o + 2 + r + s + length persona - (8 + o + 2 + r + s))
@@ -83,7 +83,7 @@ fields_written n o r s a b c d salt persona la lb lc ld fits_salt fits_persona t
     ∙ padded-whole n (salted ++ padded s persona)
     (omega (arith, length-append salted (padded s persona)))
 
--- the block, of fields of these lengths
+-- The block, of fields of these lengths.
 pub block_written : (f : Family) (n o r s : ℕ) (p : Parameters) → offset_bytes f ≡ o → o ≤ 8
     → reserved_bytes f ≡ r → salt_bytes f ≡ s → 8 + o + 2 + r + s + s ≡ n → Fits f p
     → put_mid (8 + o + 2 + r + s) (8 + o + 2 + r + s + length p.persona - (8 + o + 2 + r + s))

@@ -1,4 +1,4 @@
--- How long the parameter block and the words made of it are, and that the block is of bytes.
+-- The lengths of the parameter block and of the words made of it. The block consists of bytes.
 use Rattle.std.proofs.Common.{◌≡◌, ℕ, zero, suc, ◌*◌, ◌/◌, ◌^◌, ◌<◌, ◌≤◌, List, [], ◌∷◌}
 use Rattle.std.proofs.Common.{length, take, sym, ◌∙◌, arith, length-append, mod-lt}
 use Rattle.std.specs.Int.{to_le_bytes, bytes_low_first, w32, w64}
@@ -11,31 +11,31 @@ use Rattle.blake2_words.proofs.WordSizes.{length-xor_words, length-iv}
 use Rattle.blake2_words.proofs.ByteSizes.{length-words_of, AreBytes-take, AreBytes-zeros}
 use Rattle.blake2_words.proofs.ByteSizes.{length-padded, AreBytes-padded}
 
--- the digits of a number in base 256 are bytes
+-- The digits of a number in base 256 are bytes.
 pub AreBytes-low : (i n x : ℕ) → AreBytes (bytes_low_first i n x)
 AreBytes-low i zero x k = omega arith
 AreBytes-low zero (suc n) x zero = omega arith
 AreBytes-low (suc i) (suc n) x zero = mod-lt (x / 256 ^ suc i) (omega arith)
 AreBytes-low i (suc n) x (suc k) = AreBytes-low (suc i) n x k
 
--- a byte before bytes
+-- A byte before bytes makes bytes.
 AreBytes-cons : (x : ℕ) (xs : List ℕ) → x < 256 → AreBytes xs → AreBytes (x ∷ xs)
 AreBytes-cons x xs lt a zero = lt
 AreBytes-cons x xs lt a (suc i) = a i
 
--- the parameters fit, and their texts are bytes
+-- The parameters fit, and their salt and personalization are bytes.
 pub record AreParameters (f : Family) (p : Parameters) : Type 0 where
   pub fits : Fits f p
   pub salt_are : AreBytes p.salt
   pub persona_are : AreBytes p.persona
 
--- a key is shorter than a block, and it and an output have fewer bytes than a byte can tell
+-- A key is shorter than a block, and the lengths of a key and an output fit a byte.
 pub key_bytes_fit : (f : Family) → (key_bytes f ≤ block_bytes f) × (key_bytes f < 256)
     × (output_bytes f < 256)
 key_bytes_fit blake2b = (omega arith, omega arith, omega arith)
 key_bytes_fit blake2s = (omega arith, omega arith, omega arith)
 
--- the parameter block is made of bytes
+-- The parameter block consists of bytes.
 pub AreBytes-parameter_block : (f : Family) (p : Parameters) → AreParameters f p
     → AreBytes (parameter_block f p)
 unfolding parameter_block
@@ -72,7 +72,7 @@ AreBytes-parameter_block f p h =
       persona,
     ) depth 12
 
--- the parameter block fills eight words
+-- The parameter block fills eight words.
 pub length-parameter_block : (f : Family) (p : Parameters) → Fits f p
     → length (parameter_block f p) ≡ 8 * word_bytes f
 unfolding parameter_block
@@ -91,12 +91,12 @@ length-parameter_block blake2s p h =
       length-padded 8 p.persona h.persona,
     )
 
--- the parameter words are eight words, and so are the start words
+-- The parameter words are eight words, and so are the start words.
 pub length-parameter_words : (f : Family) (p : Parameters) → length (parameter_words f p) ≡ 8
 unfolding parameter_words
 length-parameter_words f p = length-words_of f 8 _
 
--- the start words are eight
+-- The start words are eight.
 pub length-start : (f : Family) (p : Parameters) → length (start f p) ≡ 8
 unfolding start
 length-start f p = length-xor_words (iv f) _ (length-iv f ∙ sym (length-parameter_words f p))

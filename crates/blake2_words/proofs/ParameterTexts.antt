@@ -1,4 +1,4 @@
--- Zeros after a salt or a persona change nothing.
+-- Zeros after a salt or a personalization change nothing.
 use Rattle.std.proofs.Common.{◌≡◌, ℕ, ◌+◌, ◌-◌, ◌≤◌, List, ◌++◌, length, take, replicate, refl, ap}
 use Rattle.std.proofs.Common.{◌∙◌, arith, length-append}
 use Rattle.std.proofs.lemmas.List.{append_assoc, length-replicate, replicate-append-replicate}
@@ -8,7 +8,7 @@ use Rattle.blake2_words.specs.Hash.{words_of, bytes_of, xor_words, last_chain, I
 use Rattle.blake2_words.specs.Hash.{input_flags, input_parameters, digest}
 use Rattle.blake2_words.specs.Laws.{ZerosLeaveDigests}
 
--- zeros after a text, within n bytes, are padding
+-- Zeros after a list, within n bytes, are padding.
 pub padded-append_zeros : (n : ℕ) (x : List ℕ) (m : ℕ) → length x + m ≤ n
     → padded n (x ++ replicate m 0) ≡ padded n x
 unfolding padded
@@ -21,7 +21,7 @@ padded-append_zeros n x m fits =
     ∙ ap (λ (z : List ℕ). x ++ z) (replicate-append-replicate m (n - length (x ++ zeros)) 0
     ∙ ap (λ (k : ℕ). replicate k 0) left)
 
--- salt and persona go into the parameter block padded
+-- Salt and personalization are in the parameter block with their padding.
 pub parameter_block-texts : (f : Family) (p : Parameters) (salt persona : List ℕ)
     → padded (salt_bytes f) salt ≡ padded (salt_bytes f) p.salt
     → padded (salt_bytes f) persona ≡ padded (salt_bytes f) p.persona
@@ -29,7 +29,7 @@ pub parameter_block-texts : (f : Family) (p : Parameters) (salt persona : List �
 unfolding parameter_block
 parameter_block-texts f p salt persona salts personas = rw (salts, personas) refl
 
--- and into the digest only so
+-- The digest depends on them only with their padding.
 digest-texts : (f : Family) (size : ℕ) (a : Input) (salt persona : List ℕ)
     → padded (salt_bytes f) salt ≡ padded (salt_bytes f) a.salt
     → padded (salt_bytes f) persona ≡ padded (salt_bytes f) a.persona
@@ -40,7 +40,7 @@ digest-texts f size a salt persona salts personas =
     block)) 0 (input_data f a) (input_flags a))))
     (parameter_block-texts f (input_parameters size a) salt persona salts personas)
 
--- THE LAW: zeros after salt and persona change no digest
+-- The law: zeros after the salt and the personalization change no digest.
 pub zeros_leave_digests : (f : Family) → ZerosLeaveDigests f
 zeros_leave_digests f size a m n fits_salt fits_persona =
     digest-texts f size a _ _ (padded-append_zeros (salt_bytes f) a.salt m fits_salt)

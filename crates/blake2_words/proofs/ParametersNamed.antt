@@ -1,4 +1,4 @@
--- The bytes of parameter words name the parameters that they were made of.
+-- The bytes of parameter words contain the parameters that they were made of.
 use Rattle.std.proofs.Common.{◌≡◌, ℕ, ◌+◌, ◌^◌, ◌<◌, List, ◌++◌, length, take, drop, sym, ap}
 use Rattle.std.proofs.Common.{subst, ◌∙◌, arith}
 use Rattle.std.proofs.lemmas.List.{take_at, drop_at}
@@ -16,14 +16,14 @@ use Rattle.blake2_words.proofs.Cancelled.{bytes_of-parameter_words}
 use Rattle.blake2_words.proofs.ParameterTexts.{parameter_block-texts}
 use Rattle.blake2_words.proofs.Padding.{padded-whole}
 
--- parameters with zeros up to S bytes behind salt and persona
+-- The parameters with salt and personalization padded with zeros to full length.
 abbrev pub whole : Family → Parameters → Parameters
 whole f p = record p {
   salt = padded (salt_bytes f) p.salt;
   persona = padded (salt_bytes f) p.persona;
 }
 
--- they fit where the parameters do
+-- The padded parameters fit if the parameters do.
 pub whole-fits : (f : Family) (p : Parameters) → Fits f p → Fits f (whole f p)
 whole-fits f p h = record {
   size = h.size;
@@ -33,7 +33,7 @@ whole-fits f p h = record {
   tree = h.tree;
 }
 
--- and have the same words
+-- The padded parameters have the same words.
 pub whole-words : (f : Family) (p : Parameters) → Fits f p
     → parameter_words f (whole f p) ≡ parameter_words f p
 unfolding parameter_words
@@ -42,11 +42,11 @@ whole-words f p h =
     (padded-whole (salt_bytes f) _ (length-padded (salt_bytes f) p.salt h.salt))
     (padded-whole (salt_bytes f) _ (length-padded (salt_bytes f) p.persona h.persona)))
 
--- six bytes of a number that has no more tell it
+-- Six bytes determine a number of at most six bytes.
 six_bytes : (n : ℕ) → n < 2 ^ 48 → from_le_bytes w64 (take 6 (to_le_bytes w64 n)) ≡ n
 six_bytes n h = omega (arith, h)
 
--- a parameter block names them
+-- A parameter block contains the padded parameters.
 parameters_in-block : (f : Family) (p : Parameters) → Fits f p
     → parameters_in f (parameter_block f p) ≡ whole f p
 unfolding parameter_block
@@ -81,13 +81,13 @@ parameters_in-block blake2s p h =
       tree = record p.tree { leaf_length = leaf i; node_offset = offset i };
     }
 
--- THE LAW: so the bytes of parameter words name the parameters, with those zeros
+-- The law: the bytes of parameter words contain the parameters, padded with zeros.
 pub parameters_in-words : (f : Family) (p : Parameters) → AreParameters f p
     → parameters_in f (bytes_of f (parameter_words f p)) ≡ whole f p
 parameters_in-words f p h = ap (parameters_in f) (bytes_of-parameter_words f p h)
     ∙ parameters_in-block f p h.fits
 
--- the texts that bytes of words name are bytes
+-- The salt and the personalization that the bytes of words contain are bytes.
 pub named_texts : (f : Family) (p : Parameters) (words : List ℕ)
     → p ≡ parameters_in f (bytes_of f words) → AreBytes p.salt × AreBytes p.persona
 named_texts f p words named =

@@ -1,4 +1,4 @@
--- Parameter words tell the parameters.
+-- Parameter words determine the parameters.
 use Rattle.std.proofs.Common.{◌≡◌, ℕ, ◌^◌, ◌<◌, List, ◌++◌, take, drop, sym, ap, ◌∙◌}
 use Rattle.std.proofs.Common.{arith, get_or}
 use Rattle.std.specs.Int.{to_le_bytes, w32, w64}
@@ -11,7 +11,7 @@ use Rattle.blake2_words.proofs.WordSizes.{length-iv}
 use Rattle.blake2_words.proofs.Cancelled.{xor_words_cancel, bytes_of-parameter_words}
 use Rattle.blake2_words.proofs.JoinedBlocks.{append_parts}
 
--- two parameter blocks name the same
+-- Two parameter blocks have the same parameters.
 pub record SameParameters (f : Family) (p q : Parameters) : Type 0 where
   pub sizes : p.size ≡ q.size
   pub keys : p.key_size ≡ q.key_size
@@ -19,7 +19,7 @@ pub record SameParameters (f : Family) (p q : Parameters) : Type 0 where
   pub personas : padded (salt_bytes f) p.persona ≡ padded (salt_bytes f) q.persona
   pub trees : p.tree ≡ q.tree
 
--- four, six and eight bytes tell a number of as many
+-- Four, six and eight bytes determine a number of four, six and eight bytes.
 same_4 : (m n : ℕ) → m < 2 ^ 32 → n < 2 ^ 32
     → ((i : ℕ) → get_or (to_le_bytes w32 m) i 0 ≡ get_or (to_le_bytes w32 n) i 0) → m ≡ n
 same_4 m n hm hn e = omega (arith, e 0, e 1, e 2, e 3)
@@ -33,12 +33,12 @@ same_8 : (m n : ℕ) → m < 2 ^ 64 → n < 2 ^ 64
     → ((i : ℕ) → get_or (to_le_bytes w64 m) i 0 ≡ get_or (to_le_bytes w64 n) i 0) → m ≡ n
 same_8 m n hm hn e = omega (arith, e 0, e 1, e 2, e 3, e 4, e 5, e 6, e 7)
 
--- equal lists have equal parts
+-- Equal lists have equal parts.
 part : (k n : ℕ) (xs ys : List ℕ) → xs ≡ ys
     → (i : ℕ) → get_or (take n (drop k xs)) i 0 ≡ get_or (take n (drop k ys)) i 0
 part k n xs ys h i = ap (λ (l : List ℕ). get_or (take n (drop k l)) i 0) h
 
--- equal parameter blocks do
+-- Equal parameter blocks have the same parameters.
 parameter_block_cancel : (f : Family) (p q : Parameters) → Fits f p → Fits f q
     → parameter_block f p ≡ parameter_block f q → SameParameters f p q
 unfolding parameter_block
@@ -93,14 +93,14 @@ parameter_block_cancel blake2s p q hp hq h =
       };
     }
 
--- and so do equal parameter words
+-- Equal parameter words have the same parameters.
 pub parameter_words_cancel : (f : Family) (p q : Parameters) → AreParameters f p → AreParameters f q
     → parameter_words f p ≡ parameter_words f q → SameParameters f p q
 parameter_words_cancel f p q hp hq h =
     parameter_block_cancel f p q hp.fits hq.fits (sym (bytes_of-parameter_words f p hp)
     ∙ ap (bytes_of f) h ∙ bytes_of-parameter_words f q hq)
 
--- equal start words come from equal parameter words
+-- Equal start words come from equal parameter words.
 pub start_cancel : (f : Family) (p q : Parameters) → start f p ≡ start f q
     → parameter_words f p ≡ parameter_words f q
 unfolding start

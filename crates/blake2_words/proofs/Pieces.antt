@@ -1,4 +1,4 @@
--- The pieces of one length into which a text is cut determine it.
+-- The pieces of one length into which a message is cut determine it.
 use Rattle.std.proofs.Common.{◌≡◌, ℕ, zero, suc, ◌+◌, ◌-◌, ◌*◌, ◌/◌, ◌<◌, ◌≤◌, max, List, [], ◌++◌}
 use Rattle.std.proofs.Common.{length, take, drop, slice_index_or, refl, sym, ap, ◌∙◌, arith}
 use Rattle.std.proofs.Common.{length-drop, drop-drop}
@@ -7,18 +7,18 @@ use Rattle.std.proofs.lemmas.List.FromFn.{length-map-range_with_len, get_or-map-
 use Rattle.std.proofs.Math.Nat.{lt-div-mul-add, mul-le-mul_right}
 use Rattle.blake2_words.specs.Pieces.{piece_count, piece, pieces, PiecesDetermine, NoPairDiffers}
 
--- piece 0 is the beginning
+-- Piece 0 is the beginning.
 pub piece-zero : (size : ℕ) (text : List ℕ) → piece size text 0 ≡ take size text
 piece-zero size text = let start : 0 * size ≡ 0 = omega arith in rw start refl
 
--- piece i + 1 is piece i of what follows the beginning
+-- Piece i + 1 is piece i of what follows the beginning.
 pub piece-more : (size : ℕ) (text : List ℕ) (i : ℕ)
     → piece size text (i + 1) ≡ piece size (drop size text) i
 piece-more size text i =
     let start : (i + 1) * size ≡ size + i * size = omega arith in
     rw (start, ← drop-drop (i * size) size text) refl
 
--- two texts within `count` pieces, none of which differ, are equal
+-- Two messages within `count` pieces are equal if no two pieces differ.
 texts-equal : (size count : ℕ) (x y : List ℕ) → length x ≤ count * size → length y ≤ count * size
     → ((i : ℕ) → i < count → piece size x i ≡ piece size y i) → x ≡ y
 texts-equal size zero x y short_x short_y same =
@@ -32,7 +32,7 @@ texts-equal size (suc count) x y short_x short_y same =
     (λ i below. sym (piece-more size x i) ∙ same (i + 1) (omega arith) ∙ piece-more size y i) in
     sym (take-append-drop size x) ∙ (λ i. first i ++ rest i) ∙ take-append-drop size y
 
--- a text has no more bytes than its pieces
+-- A message does not have more bytes than its pieces.
 pub piece_count-covers : (size n : ℕ) → 0 < size → n ≤ piece_count size n * size
 piece_count-covers size n some =
     let q : ℕ = (n + (size - 1)) / size in
@@ -40,7 +40,7 @@ piece_count-covers size n some =
     lt-div-mul-add {a = n + (size - 1)} {b = size} some in
     omega (arith, above, mul-le-mul_right {m = q} {n = max 1 q} size (omega arith))
 
--- texts of equally many pieces, none of which differ, are equal
+-- Messages with the same number of pieces are equal if no two pieces differ.
 texts-equal_by_pieces : (size : ℕ) (x y : List ℕ) → 0 < size
     → piece_count size (length x) ≡ piece_count size (length y)
     → ((i : ℕ) → i < piece_count size (length x) → piece size x i ≡ piece size y i) → x ≡ y
@@ -52,20 +52,20 @@ texts-equal_by_pieces size x y some number same =
 
 -- ---- the list of the pieces
 
--- how many there are
+-- The number of pieces.
 pub length-pieces : (size : ℕ) (text : List ℕ)
     → length (pieces size text) ≡ piece_count size (length text)
 length-pieces size text =
     length-map-range_with_len (piece size text) 0 (piece_count size (length text))
 
--- piece i stands at place i
+-- Piece i is at index i.
 pub pieces-at : (size : ℕ) (text : List ℕ) (i : ℕ) → i < piece_count size (length text)
     → slice_index_or (pieces size text) i [] ≡ piece size text i
 pieces-at size text i below =
     get_or-map-range_with_len (piece size text) 0 (piece_count size (length text)) i i [] below
     (omega arith)
 
--- the two laws
+-- The two laws.
 pub pieces_determine : PiecesDetermine
 pieces_determine size x y some same =
     let number : piece_count size (length x) ≡ piece_count size (length y) =

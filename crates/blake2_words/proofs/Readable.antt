@@ -1,4 +1,4 @@
--- Words and entries are the transcript of some input exactly where the reader's tests hold.
+-- Words and entries are the transcript of some input exactly if the reader's tests hold.
 use Rattle.std.proofs.Common.{Bool, ◌≡◌, ℕ, ◌-◌, ◌*◌, ◌<◌, ◌≤◌, inl, inr, List, length, take, sym}
 use Rattle.std.proofs.Common.{ap, subst, ◌∙◌, arith, get_or, length-append, Option, Some, None}
 use Rattle.std.proofs.lemmas.List.{get_or-take, get_or_append_left, length-take-le, get_or_default}
@@ -24,7 +24,7 @@ use Rattle.blake2_words.proofs.ParametersNamed.{parameters_in-words, named_texts
 use Rattle.blake2_words.proofs.KeyAndMessage.{key_data, told_key-size, told_key-fits}
 use Rattle.blake2_words.proofs.KeyAndMessage.{told_message-bytes}
 
--- THE LAW: where the tests hold, the words and entries are the transcript of what is read
+-- The law: if the tests hold, the words and entries are the transcript of what is read.
 readable_reads : (f : Family) (p : Parameters) (words : List ℕ) (entries : List Entry)
     → p ≡ parameters_in f (bytes_of f words) → AreTyped f entries → IsReadable f p words entries
     → Reads f words entries p.size (told_input f p entries)
@@ -89,9 +89,9 @@ readable_reads f p words entries named typed test =
       };
     }
 
--- ---- and the other way
+-- ---- the other direction
 
--- the data with a key begins with the key, and zeros up to a block
+-- The data with a key begins with the key, padded with zeros to a block.
 keyed_data : (f : Family) (key : Option (List ℕ)) (m : List ℕ) → KeyFits f key → 0 < key_size key
     → (block_bytes f ≤ length (data_bytes f key m))
     × ((i : ℕ) → key_size key ≤ i → i < block_bytes f → get_or (data_bytes f key m) i 0 ≡ 0)
@@ -104,8 +104,8 @@ keyed_data f (Some k) m fits some =
       λ i past below. get_or_append_left (padded b k) m 0 i (omega arith) ∙ padded-past b k i past,
     )
 
--- THE LAW: the transcript of an accepted input passes the tests, under the parameters that its
--- words name
+-- The law: the transcript of an accepted input passes the tests, with the parameters that its words
+-- have.
 reads_readable : (f : Family) (words : List ℕ) (entries : List Entry) (size : ℕ) (a : Input)
     → Reads f words entries size a
     → IsReadable f (parameters_in f (bytes_of f words)) words entries
@@ -143,14 +143,14 @@ reads_readable f words entries size a r =
     } in
     subst (λ (q : Parameters). IsReadable f q words entries) (sym named) test
 
--- THE LAW: where the tests hold some input has this transcript
+-- The law: if the tests hold, some input has this transcript.
 pub some_input : (f : Family) (p : Parameters) (words : List ℕ) (entries : List Entry)
     → p ≡ parameters_in f (bytes_of f words)
     → AreTyped f entries → IsReadable f p words entries → IsOfSomeInput f words entries
 some_input f p words entries named typed test =
     (p.size, told_input f p entries, readable_reads f p words entries named typed test)
 
--- and only there
+-- If some input has this transcript, the tests hold.
 pub input_readable : (f : Family) (p : Parameters) (words : List ℕ) (entries : List Entry)
     → p ≡ parameters_in f (bytes_of f words)
     → IsOfSomeInput f words entries → IsReadable f p words entries
@@ -158,7 +158,7 @@ input_readable f p words entries named (size, a, r) =
     subst (λ (q : Parameters). IsReadable f q words entries) (sym named)
     (reads_readable f words entries size a r)
 
--- THE LAW: what is read is an input of this transcript, and no other is
+-- The law: what is read is an input of this transcript, and no other input is.
 pub reads_told : (f : Family) (p : Parameters) (words : List ℕ) (entries : List Entry) (size : ℕ)
     (x : Input) → p ≡ parameters_in f (bytes_of f words)
     → AreTyped f entries → IsReadable f p words entries → size ≡ p.size → x ≡ told_input f p entries

@@ -12,7 +12,7 @@ use Rattle.blake2_words.specs.Hash.{bytes_of}
 use Rattle.blake2_rows.proofs.Words.{cells, cells-drop}
 use Rattle.blake2_words.proofs.RunSizes.{length-bytes_of}
 
--- two texts of n bytes, one written before the other into 2n zeros
+-- Two lists of n bytes, one written before the other into 2n zeros.
 halves_written : (n : ℕ) (x y : List ℕ) → length x ≡ n → length y ≡ n
     → put_mid n n (x ++ replicate n 0) y ≡ x ++ y
 halves_written n x y lx ly =
@@ -22,7 +22,7 @@ halves_written n x y lx ly =
     (omega (arith, length-replicate {A = ℕ} n 0)) in
     (λ i. take_at x zeros n lx i ++ (y ++ end i)) ∙ ap (λ (z : List ℕ). x ++ z) (append-nil y)
 
--- the second half of them
+-- The second half has n bytes after the first is written.
 half_length : (n : ℕ) (x : List ℕ) → length x ≡ n
     → length (take n (drop n (x ++ replicate n 0))) ≡ n
 half_length n x lx =
@@ -31,14 +31,14 @@ half_length n x lx =
     ap (λ (z : List ℕ). length (take n z)) (drop_at x zeros n lx)
     ∙ length-take-le n zeros (omega arith)
 
--- a row of as many bytes as four words have
+-- A row with the number of bytes that four words have.
 four_lanes : (f : Family) (row : List ℕ) → length (lane_bytes f row) ≡ 4 * word_bytes f
     → length row ≡ 4
 unfolding bytes_of
 four_lanes blake2b row e = omega (arith, length-bytes_of blake2b row)
 four_lanes blake2s row e = omega (arith, length-bytes_of blake2s row)
 
--- the bytes of two rows are those of their eight words
+-- The bytes of two rows are those of their eight words.
 pub rows_written : (f : Family) (h : List (List ℕ)) (d e x y : List ℕ) → length h ≡ 2
     → x ≡ lane_bytes f (get_or h 0 d) → y ≡ lane_bytes f (get_or h 1 e)
     → length x ≡ 4 * word_bytes f → length y ≡ length

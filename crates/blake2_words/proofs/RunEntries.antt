@@ -1,4 +1,4 @@
--- Lists of entries, of which a run is made: the bytes of their blocks, and a run's last entry.
+-- Lists of entries, which make a run: the bytes of their blocks, and a run's last entry.
 use Rattle.std.proofs.Common.{◌≡◌, ℕ, zero, suc, ◌+◌, ◌-◌, ◌*◌, ◌<◌, ◌≤◌, inl, inr, List, [], ◌∷◌}
 use Rattle.std.proofs.Common.{◌++◌, length, map, take, drop, refl, sym, ap, subst, ◌∙◌, arith}
 use Rattle.std.proofs.Common.{get_or, length-append, length-drop, EachIndex, Some}
@@ -21,18 +21,18 @@ use Rattle.blake2_words.proofs.InputBlocks.{block_within}
 
 -- ---- the bytes of blocks joined
 
--- entries behind others
+-- Entries after others.
 pub joined-append : (xs ys : List Entry) → joined (xs ++ ys) ≡ joined xs ++ joined ys
 joined-append xs ys =
     let block : Entry → List ℕ = λ (e : Entry). e.block in
     ap concat (map-append block xs ys) ∙ concat-append (map block xs) (map block ys)
 
--- one more entry
+-- One more entry.
 pub joined-snoc : (xs : List Entry) (e : Entry) → joined (xs ++ e ∷ []) ≡ joined xs ++ e.block
 joined-snoc xs e = joined-append xs (e ∷ []) ∙ ap (λ (l : List ℕ). joined xs ++ l)
     (append-nil e.block)
 
--- blocks of B bytes make so many bytes
+-- The number of bytes in blocks of bb bytes.
 pub joined-length : (f : Family) (es : List Entry) → AreWhole f es
     → length (joined es) ≡ length es * block_bytes f
 joined-length f [] whole = omega arith
@@ -44,15 +44,15 @@ joined-length f (e ∷ es) whole =
     omega arith in
     length-append e.block (joined es) ∙ omega arith
 
--- bytes they are
+-- Blocks of bytes, joined, are bytes.
 pub joined-bytes : (f : Family) (es : List Entry) → AreWhole f es → AreBytes (joined es)
 joined-bytes f [] whole = λ i. omega arith
 joined-bytes f (e ∷ es) whole = AreBytes-append e.block (joined es) (whole 0 (omega arith)).bytes
     (joined-bytes f es (λ i h. whole (suc i) (omega arith)))
 
--- ---- a list with one more entry behind it
+-- ---- a list with one more entry at its end
 
--- that entry is its last
+-- The last entry of such a list is that entry.
 pub last_entry-snoc : (xs : List Entry) (e : Entry) → last_entry (xs ++ e ∷ []) ≡ e
 last_entry-snoc xs e =
     let at : length (xs ++ e ∷ []) - 1 ≡ length xs = omega (arith, length-append xs (e ∷ [])) in
@@ -63,7 +63,7 @@ last_entry-snoc xs e =
 
 -- ---- a run from its last entry and those before
 
--- a run's last entry ends it
+-- A run's last entry ends it.
 pub run_ends : (f : Family) (xs : List Entry) (e : Entry) → IsRun f (xs ++ e ∷ [])
     → EndsRun f (length xs) e
 run_ends f xs e run =
@@ -74,13 +74,13 @@ run_ends f xs e run =
       last = sym (ap (λ (x : Entry). x.flags.last) at) ∙ run.last;
     }
 
--- others follow those before it
+-- Others follow those before the last entry.
 pub run_inner : (f : Family) (xs : List Entry) (e : Entry) → IsRun f (xs ++ e ∷ []) → AreInner f xs
 run_inner f xs e run i h =
     subst (IsInner f i) (get_or_append_left xs (e ∷ []) no_entry i h)
     (run.below i (omega (arith, length-append xs (e ∷ []))))
 
--- its block is zero past the counted bytes
+-- The block of the last entry is zero after the counted bytes.
 pub run_zeros : (f : Family) (xs : List Entry) (e : Entry) → AreWhole f xs → IsRun f (xs ++ e ∷ [])
     → IsZeroFrom (e.counter - length xs * block_bytes f) e.block
 run_zeros f xs e whole run j past =
@@ -95,7 +95,7 @@ run_zeros f xs e whole run j past =
     ∙ ap (λ (k : ℕ). get_or e.block k 0) at)
     ∙ run.zeros (n + j) (omega arith)
 
--- and these three make a run
+-- These three facts make a run.
 pub run_from : (f : Family) (xs : List Entry) (e : Entry) → AreWhole f xs → EndsRun f (length xs) e
     → AreInner f xs
     → IsZeroFrom (e.counter - length xs * block_bytes f) e.block → IsRun f (xs ++ e ∷ [])
@@ -117,7 +117,7 @@ run_from f xs e whole end inners zeros =
 
 -- ---- zeros at the end of a block
 
--- a list is zero from place n on where the rest of it is zero
+-- A list is zero from index n on if the rest of it is zero.
 pub zero_rest : (xs : List ℕ) (n : ℕ) → n ≤ length xs
     → EachIndex (drop n xs) (λ i. get_or (drop n xs) i 0 ≡ 0) → IsZeroFrom n xs
 zero_rest xs n fits each i past = elim (cases_lt i (length xs)) [
@@ -128,20 +128,20 @@ zero_rest xs n fits each i past = elim (cases_lt i (length xs)) [
       ∙ each (i - n) (omega (arith, length-drop n xs)))
 ]
 
--- and the other way
+-- The rest of a list is zero if the list is zero from index n on.
 pub rest_zero : (xs : List ℕ) (n : ℕ) → IsZeroFrom n xs
     → EachIndex (drop n xs) (λ i. get_or (drop n xs) i 0 ≡ 0)
 rest_zero xs n zeros i h = get_or-drop n xs i 0 ∙ zeros (n + i) (omega arith)
 
 -- ---- the block of a key at the beginning
 
--- the first bytes are those of the first block
+-- The first bytes are those of the first block.
 pub joined-first : (f : Family) (e : Entry) (es : List Entry) (i : ℕ)
     → length e.block ≡ block_bytes f → i < block_bytes f
     → get_or (joined (e ∷ es)) i 0 ≡ get_or e.block i 0
 joined-first f e es i whole lt = get_or_append_left e.block (joined es) 0 i (omega arith)
 
--- the first block is that of a key where it is zero behind the key
+-- The first block is that of a key if it is zero after the key.
 pub has_key : (f : Family) (n : ℕ) (e : Entry) (es : List Entry) → length e.block ≡ block_bytes f
     → block_bytes f ≤ told_count (e ∷ es)
     → IsZeroFrom n e.block → HasKey f n (e ∷ es)
@@ -150,7 +150,7 @@ has_key f n e es whole counted zeros = record {
   zeros = λ i past below. joined-first f e es i whole below ∙ zeros i past;
 }
 
--- and only there
+-- The first block is that of a key only if it is zero after the key.
 pub key_zeros : (f : Family) (n : ℕ) (e : Entry) (es : List Entry) → length e.block ≡ block_bytes f
     → HasKey f n (e ∷ es) → IsZeroFrom n e.block
 key_zeros f n e es whole key i past = elim (cases_lt i (block_bytes f)) [
@@ -160,7 +160,7 @@ key_zeros f n e es whole key i past = elim (cases_lt i (block_bytes f)) [
 
 -- ---- the beginning of lists
 
--- the beginning of a list, where one more part is known
+-- The beginning of a list, if one more part is known.
 pub take-append : (n : ℕ) (xs ys : List ℕ) → take n (xs ++ ys)
     ≡ take n xs ++ take (n - length (take n xs)) ys
 take-append n xs ys = elim (cases_lt n (length xs)) [
@@ -177,7 +177,7 @@ take-append n xs ys = elim (cases_lt n (length xs)) [
 
 -- ---- key and message at the beginning of the data
 
--- a key stands at the beginning of the first block
+-- A key is at the beginning of the first block.
 pub key_told : (n c : ℕ) (block rest : List ℕ) → 0 < n → n ≤ length block → n ≤ c
     → told_key n (take c (block ++ rest)) ≡ Some (take n block)
 key_told zero c block rest some short within = absurd (omega arith)
@@ -185,7 +185,7 @@ key_told (suc k) c block rest some short within =
     ap (λ (l : List ℕ). Some l) (take-take (suc k) c (block ++ rest) within
     ∙ take-append-le (suc k) block rest short)
 
--- the message stands behind it
+-- The message comes after the key.
 pub message_told : (f : Family) (n c : ℕ) (block rest : List ℕ) → 0 < n
     → length block ≡ block_bytes f → block_bytes f ≤ c
     → told_message f n (take c (block ++ rest)) ≡ take (c - block_bytes f) rest

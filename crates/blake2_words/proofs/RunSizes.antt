@@ -1,4 +1,4 @@
--- How long the chaining words of a run and its digest are, and that the bytes of words are bytes.
+-- The lengths of the chaining words of a run and of its digest. The bytes of words are bytes.
 use Rattle.std.proofs.Common.{◌≡◌, ℕ, zero, suc, ◌+◌, ◌*◌, ◌≤◌, List, [], ◌∷◌}
 use Rattle.std.proofs.Common.{length, refl, ap, ◌∙◌, arith, length-append}
 use Rattle.std.proofs.lemmas.List.{length-take-le}
@@ -15,25 +15,25 @@ use Rattle.blake2_words.proofs.ParameterSizes.{AreBytes-low, length-start}
 
 -- ---- the run
 
--- the chaining words are eight
+-- The chaining words are eight.
 pub length-chain : (f : Family) (h : List ℕ) (c : ℕ) (d : List (List ℕ)) (i : ℕ) → length h ≡ 8
     → length (chain f h c d i) ≡ 8
 unfolding chain
 length-chain f h c d zero e = e
 length-chain f h c d (suc i) e = length-compress f _ _ _ inner (length-chain f h c d i e)
 
--- and so are the last ones
+-- The last chaining words are eight.
 pub length-last_chain : (f : Family) (h : List ℕ) (c : ℕ) (z : List ℕ) (flags : Flags)
     → length h ≡ 8 → length (last_chain f h c z flags) ≡ 8
 unfolding last_chain
 length-last_chain f h c z flags e = length-compress f _ _ _ flags (length-chain f h c _ _ e)
 
--- the bytes of a word
+-- The number of bytes in a word.
 length-le_bytes : (f : Family) (x : ℕ) → length (to_le_bytes (word f) x) ≡ word_bytes f
 length-le_bytes blake2b x = refl
 length-le_bytes blake2s x = refl
 
--- the bytes of a list of words
+-- The number of bytes in a list of words.
 pub length-bytes_of : (f : Family) (ws : List ℕ) → length (bytes_of f ws) ≡ length ws * word_bytes f
 unfolding bytes_of
 length-bytes_of f [] = omega arith
@@ -43,7 +43,7 @@ length-bytes_of f (x ∷ ws) =
     rw more (length-append (to_le_bytes (word f) x) (flat_map (to_le_bytes (word f)) ws)
     ∙ rw (length-le_bytes f x, length-bytes_of f ws) refl)
 
--- a digest has its size
+-- The length of a digest is its size.
 pub length-digest : (f : Family) (size : ℕ) (a : Input) → size ≤ output_bytes f
     → length (digest f size a) ≡ size
 unfolding digest
@@ -64,12 +64,12 @@ length-digest f size a fits =
 
 -- ---- the bytes of words
 
--- the bytes of a word are bytes
+-- The bytes of a word are bytes.
 AreBytes-le_bytes : (f : Family) (x : ℕ) → AreBytes (to_le_bytes (word f) x)
 AreBytes-le_bytes blake2b x = AreBytes-low 0 8 x
 AreBytes-le_bytes blake2s x = AreBytes-low 0 4 x
 
--- the bytes of words are bytes
+-- The bytes of words are bytes.
 pub AreBytes-bytes_of : (f : Family) (ws : List ℕ) → AreBytes (bytes_of f ws)
 unfolding bytes_of
 AreBytes-bytes_of f [] = λ i. omega arith

@@ -1,5 +1,5 @@
--- The list of steps agrees with the digest: each step begins the next, and the last gives the
--- digest.
+-- The list of steps agrees with the digest: the result of each step begins the next, and that of
+-- the last has the digest.
 use Rattle.std.proofs.Common.{◌≡◌, ℕ, suc, ◌+◌, ◌-◌, ◌*◌, ◌<◌, ◌≤◌, true, false, List, length, min}
 use Rattle.std.proofs.Common.{refl, sym, ap, arith, get_or, eq-eqb}
 use Rattle.std.proofs.lemmas.List.FromFn.{get_or-map-range_with_len, length-map-range_with_len}
@@ -12,7 +12,7 @@ use Rattle.blake2_words.specs.Hash.{chain, blocks, block_count, Step, output, st
 use Rattle.blake2_words.proofs.Streaming.{block_count-pos}
 use Rattle.blake2_words.proofs.JoinedBlocks.{block_count-fits}
 
--- there is a step for each block
+-- The number of steps is that of the blocks.
 pub length-steps : (f : Family) (size : ℕ) (a : Input)
     → length (steps f size a) ≡ block_count f (length (input_data f a))
 unfolding steps
@@ -20,7 +20,7 @@ length-steps f size a = length-map-range_with_len
     (step f (input_start f size a) (input_data f a) (input_flags a)) 0
     (block_count f (length (input_data f a)))
 
--- step i of the list
+-- Step i of the list of steps.
 pub get_or-steps : (f : Family) (size : ℕ) (a : Input) (i : ℕ) (d : Step)
     → i < block_count f (length (input_data f a))
     → get_or (steps f size a) i d ≡ step f (input_start f size a) (input_data f a) (input_flags a) i
@@ -29,12 +29,12 @@ get_or-steps f size a i d h =
     get_or-map-range_with_len (step f (input_start f size a) (input_data f a) (input_flags a)) 0
     (block_count f (length (input_data f a))) i i d h (omega arith)
 
--- the blocks before the last are whole
+-- The blocks before the last are whole.
 pub whole_blocks : (f : Family) (m i : ℕ) → i + 1 < block_count f m → (i + 1) * block_bytes f ≤ m
 whole_blocks blake2b m i h = omega arith
 whole_blocks blake2s m i h = omega arith
 
--- each step but the last begins the next
+-- The result of each step except the last begins the next.
 pub output-step : (f : Family) (h z : List ℕ) (flags : Flags) (i : ℕ)
     → i + 1 < block_count f (length z) → output f (step f h z flags i)
     ≡ (step f h z flags (i + 1)).chain
@@ -47,7 +47,7 @@ output-step f h z flags i lt =
     let next : i + 1 ≡ suc i = omega arith in
     rw (whole, not_last) (sym (ap (chain f h 0 (blocks f z)) next))
 
--- the last step's output is the last h
+-- The last step's output is the last h.
 pub output-step_last : (f : Family) (h z : List ℕ) (flags : Flags)
     → output f (step f h z flags (block_count f (length z) - 1)) ≡ last_chain f h 0 z flags
 unfolding last_chain

@@ -3,14 +3,14 @@ use Rattle.std.proofs.Common.{◌≡◌, refl}
 use Rattle.blake2_rows.specs.Family.{blake2b, blake2s, iv, sigma}
 use Rattle.blake2_words.specs.declared.consts.TheConstants.{BLAKE2B_IV, BLAKE2S_IV, SIGMA}
 
--- IV of BLAKE2b
+-- The IV of BLAKE2b.
 pub iv_b : BLAKE2B_IV ≡ iv blake2b
 iv_b = refl
 
--- IV of BLAKE2s
+-- The IV of BLAKE2s.
 pub iv_s : BLAKE2S_IV ≡ iv blake2s
 iv_s = refl
 
--- SIGMA
+-- The rows of SIGMA.
 pub sigma_rows : SIGMA ≡ sigma
 sigma_rows = refl

@@ -16,7 +16,7 @@ use Rattle.blake2_words.proofs.JoinedBlocks.{concat-cut, block_count-fits}
 
 -- ---- the run's entries are a transcript
 
--- entry i of a run is that of its step i
+-- Entry i of a run is that of its step i.
 pub entry-at : (f : Family) (size : ℕ) (a : Input) (i : ℕ) (d : Entry) → i < length (steps f size a)
     → get_or (map entry (steps f size a)) i d ≡ entry
     (step f (input_start f size a) (input_data f a) (input_flags a) i)
@@ -25,7 +25,7 @@ entry-at f size a i d h =
     get_or-map entry (steps f size a) i none d h ∙ ap entry
     (get_or-steps f size a i none (omega (arith, length-steps f size a)))
 
--- THE LAW: parameter words and entries of a run are the transcript of its input
+-- The law: the parameter words and the entries of a run are the transcript of its input.
 pub steps_transcript : (f : Family) (size : ℕ) (a : Input)
     → IsTranscript f (parameter_words f (input_parameters size a))
     (map entry (steps f size a)) size a
@@ -72,7 +72,7 @@ steps_transcript f size a =
           ∙ ap (λ (k : ℕ). padded (k * block_bytes f) z) (sym le);
     }
 
--- words and entries that are those of a run are a transcript
+-- Words and entries that are those of a run are a transcript.
 pub transcript_from : (f : Family) (size : ℕ) (a : Input) (words : List ℕ) (es : List Entry)
     (p : Parameters) → p ≡ input_parameters size a
     → words ≡ parameter_words f p → es ≡ map entry (steps f size a) → IsTranscript f words es size a

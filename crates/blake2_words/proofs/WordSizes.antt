@@ -1,4 +1,4 @@
--- How long the lists of words are that F works on and gives.
+-- The lengths of the lists of words that F works on and returns.
 use Rattle.std.proofs.Common.{◌≡◌, ℕ, zero, suc, ◌-◌, ◌/◌, ◌%◌, ◌^◌}
 use Rattle.std.proofs.Common.{List, [], ◌∷◌, length, take, drop, refl, sym, ap, ◌∙◌, arith}
 use Rattle.std.proofs.Common.{length-append, length-drop}
@@ -12,7 +12,7 @@ use Rattle.blake2_words.specs.Hash.{compress}
 
 -- ---- the rounds
 
--- the rounds keep the length
+-- The rounds keep the length.
 length-after_rounds : (f : Family) (v m : List ℕ) (n : ℕ) → length (after_rounds f v m n) ≡ length v
 unfolding after_rounds
 length-after_rounds f v m zero = refl
@@ -20,7 +20,7 @@ length-after_rounds f v m (suc n) = length-round f _ m _ ∙ length-after_rounds
 
 -- ---- lists of words
 
--- of lists of one length, the length of their exclusive or
+-- The length of the exclusive or of lists of one length.
 pub length-xor_words : (xs ys : List ℕ) → length xs ≡ length ys
     → length (xor_words xs ys) ≡ length xs
 unfolding xor_words
@@ -29,14 +29,14 @@ length-xor_words [] (y ∷ ys) h = refl
 length-xor_words (x ∷ xs) [] h = sym h
 length-xor_words (x ∷ xs) (y ∷ ys) h = ap suc (length-xor_words xs ys (omega arith))
 
--- IV is eight words long
+-- IV is eight words long.
 pub length-iv : (f : Family) → length (iv f) ≡ 8
 length-iv blake2b = refl
 length-iv blake2s = refl
 
 -- ---- F
 
--- F works on sixteen numbers
+-- F works on sixteen numbers.
 length-before_rounds : (f : Family) (h : List ℕ) (t : ℕ) (flags : Flags) → length h ≡ 8
     → length (before_rounds f h t flags) ≡ 16
 unfolding before_rounds
@@ -48,7 +48,7 @@ length-before_rounds f h t flags e =
     let long : length (iv f) ≡ 8 = length-iv f in
     omega (arith, length-append h (xor_words (iv f) marks), length-xor_words (iv f) marks long)
 
--- F gives eight words
+-- F returns eight words.
 pub length-compress : (f : Family) (h b : List ℕ) (t : ℕ) (flags : Flags) → length h ≡ 8
     → length (compress f h b t flags) ≡ 8
 unfolding compress

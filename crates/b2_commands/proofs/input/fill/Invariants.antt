@@ -2,7 +2,7 @@ use Rattle.std.proofs.Common.{◌≡◌, ◌-◌, ◌≤◌, false, length, take
 use Rattle.std.specs.Io.KnownBytes.{Consumes}
 use Rattle.b2_commands.proofs.input.fill.Given as goal
 
--- the front of the buffer has what the source gave
+-- The front of the buffer has what the source returned.
 abbrev pub invariant-filling : goal.invariant-filling
 invariant-filling g l = record {
   unfailed : g.S.Source.failed l.source ≡ false;

@@ -3,7 +3,7 @@ use Rattle.std.specs.Io.KnownBytes.{Consumes}
 use Rattle.blake2_tree.specs.TreeHashers.{count, Took}
 use Rattle.b2_commands.proofs.tree.absorb.Given as goal
 
--- the hasher has taken what the source gave
+-- The hasher has absorbed what the source returned.
 abbrev pub invariant-pieces : goal.invariant-pieces
 invariant-pieces g l = record {
   unfailed : g.S.Source.failed l.source ≡ false;

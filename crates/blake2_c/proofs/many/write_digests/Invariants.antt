@@ -2,7 +2,7 @@ use Rattle.std.proofs.Common.{◌≡◌, ◌*◌, ◌++◌, length, take, drop}
 use Rattle.std.specs.List.{flat_map}
 use Rattle.blake2_c.proofs.many.write_digests.Given as goal
 
--- the digests before place i are written, and what stands behind them is as it was
+-- The digests before index i are written, and what follows them is as it was.
 abbrev pub invariant-loop-i : goal.invariant-loop-i
 invariant-loop-i g l = record {
   long : length l.out ≡ length l.fn.out;

@@ -5,7 +5,7 @@ use Rattle.blake2.specs.States.{digest_of}
 use Rattle.blake2_callers.specs.Pieces.{one_message}
 use Rattle.blake2_callers.proofs.hashes.digest_of_pieces.Given as goal
 
--- the hasher has taken the pieces before this one, and its last-node flag is off
+-- The hasher has absorbed the pieces before this one, and its last-node flag is off.
 abbrev pub invariant-loop-piece : goal.invariant-loop-piece
 invariant-loop-piece l = record {
   future : (y : List ℕ) → (blake2s_meaning 32).future l.hasher false y

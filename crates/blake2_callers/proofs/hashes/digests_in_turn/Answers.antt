@@ -5,8 +5,8 @@ use Rattle.blake2.specs.Restarts.{StartedAgain_by}
 use Rattle.blake2.specs.States.{digest_of}
 use Rattle.blake2_callers.proofs.hashes.digests_in_turn.Goals as goal
 
--- the reset starts again: its digests are those of the hasher as it was made, whose flag is off
--- still
+-- After the reset, the digests are those of the hasher as it was initialized, whose flag is still
+-- off.
 pub returns-clause-second : goal.returns-clause-second
 returns-clause-second c =
     let second : List ℕ = c.args.second.now in

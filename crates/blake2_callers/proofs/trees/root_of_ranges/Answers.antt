@@ -8,7 +8,7 @@ use Rattle.blake2_tree.specs.Ranges.{range_digests, cut_digests, IsCut}
 use Rattle.blake2_tree.proofs.RangeLaws.{leaf_count-is, length-range_digests}
 use Rattle.blake2_callers.proofs.trees.root_of_ranges.Goals as goal
 
--- the end of a text is written over
+-- The end of a list is overwritten.
 put_mid-end : (at : ℕ) (a b d : List ℕ) → length a ≡ at → length b ≡ length d
     → put_mid at (length (a ++ d) - at) (a ++ d) b ≡ a ++ b
 put_mid-end at a b d size same =

@@ -26,7 +26,7 @@ returns-then-input-room-clause-pending g c =
     omega (arith, length-append p c.args.input.now, lp) in
     c.put_behind.ensures.placed ∙ sym (held_all g.row.B _ c.requires.nonzero short)
 
--- behind the input the block is zero, as it was
+-- After the input the block is zero, as it was.
 pub returns-then-input-room-clause-rest : goal.returns-then-input-room-clause-rest
 returns-then-input-room-clause-rest g c = λ zero.
     let pos : ℕ = c.args.pos in

@@ -9,7 +9,7 @@ use Rattle.blake2_tree.specs.Ranges.{IsRootOfCuts, IsRootOfChanges}
 use Rattle.blake2_tree.proofs.RangeLaws.{is_root_of_cuts, is_root_of_changes}
 use Rattle.blake2_plain.proofs.tree.write_root_of_leaves.Goals as goal
 
--- what is written is the root over these digests
+-- The root over these digests is written.
 pub returns-clause-root : goal.returns-clause-root
 returns-clause-root c =
     let n : ℕ = length c.args.out.now in

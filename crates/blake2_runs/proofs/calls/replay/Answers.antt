@@ -50,7 +50,7 @@ returns-clause-at_start g c = λ digest n start.
     ∙ play_ends m c.args.first c.args.calls.now now.slots c.calls.digests.items c.calls.place _
     (omega arith) now.rest
 
--- the call that was refused wanted memory, or is the first bad one
+-- The call that was refused ran out of memory, or is the first bad one.
 stopped : (g : Over) (c : In_err-replay_call g)
     → (c.in_err-replay_call.field-0.0 ≡ Memory)
     ⊎ (play g.H.Update.meaning c.args.first c.args.calls.now ≡ Err c.in_err-replay_call.field-0.0)

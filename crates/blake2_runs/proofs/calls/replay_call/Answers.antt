@@ -10,7 +10,7 @@ use Rattle.blake2_runs.proofs.calls.replay_call.Given.{Over}
 use Rattle.blake2_runs.proofs.calls.replay_call.Goals as goal
 use Rattle.blake2_runs.proofs.calls.replay_call.Goals.{In-Some, In-Some-held}
 
--- what stands at the place of the call's slot
+-- What is at the index of the call's slot.
 found : (g : Over) (c : In-Some g) (first : g.row.H.Denot) (slots : Slots)
     → AllHold g.H.Update.meaning first slots c.args.states.now.items
     → Found g.H.Update.meaning first slots c.args.states.now.items c.slot.result c.args.call.now
@@ -22,7 +22,7 @@ found g c first slots all = record {
   at_place = c.in-Some.ensures.value;
 }
 
--- the call's slot is there
+-- The call's slot is present.
 there : (g : Over) (c : In-Some-held g) (first : g.row.H.Denot) (slots : Slots)
     → AllHold g.H.Update.meaning first slots c.args.states.now.items
     → Live g.H.Update.meaning first slots c.args.states.now.items c.args.place c.slot.result
@@ -32,7 +32,7 @@ there g c first slots all =
     c.args.call.now _ c.in-Some-held.state
     (found g (goal.at.In-Some-held g c).In-Some first slots all) c.in-Some-held.is
 
--- and its state is back at its place
+-- The state of the call's slot is back at its index.
 kept : (g : Over) (c : In-Some-held g) → set c.args.states.now.items c.slot.result
     (Some c.in-Some-held.state) ≡ c.args.states.now.items
 kept g c =

@@ -2,7 +2,7 @@ use Rattle.std.proofs.Common.{◌≡◌, ◌≤◌, ◌⊎◌, ℕ, ◌+◌, ◌
 use Rattle.blake2_tree.proofs.PieceLengths.{piece-usual, piece-longest}
 use Rattle.blake2_tree.proofs.limits.best_piece_length.Goals as goal
 
--- four fours at least, or the fours that fit
+-- A piece of the fours that fit, at least four, and one more leaf is neither short nor long.
 usual : (leaf fours : ℕ) → 0 < leaf → fours ≡ max (65536 / leaf / 4) 4
     → (16384 < leaf * (4 * fours + 1))
     × ((leaf * (4 * fours + 1) ≤ 65536 + leaf) ⊎ (leaf * (4 * fours + 1) ≤ 17 * leaf))

@@ -4,7 +4,7 @@ use Rattle.std.proofs.Math.Nat.{div-eq_of_lt-le}
 use Rattle.std.proofs.lemmas.Grind.{div_ceil_times}
 use Rattle.blake2_tree.proofs.ranges.leaf_count.Goals as goal
 
--- a quotient that is rounded up
+-- A quotient that is rounded up.
 div_ceil-is : (a b : ℕ) → 0 < b → div_ceil a b ≡ (a + (b - 1)) / b
 div_ceil-is a b some =
     let k : ℕ = div_ceil a b in

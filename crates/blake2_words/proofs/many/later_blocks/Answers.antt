@@ -11,7 +11,7 @@ use Rattle.blake2_words.proofs.many.later_blocks.Given.{Over}
 use Rattle.blake2_words.proofs.many.later_blocks.Goals.{in-None, in-Some}
 use Rattle.blake2_words.proofs.many.later_blocks.Goals as goal
 
--- what the chunks are of
+-- The bytes that the chunks are of.
 rest_is : (g : Over) (c : goal.After-blocks-1 g)
     → c.match-input.rest.now ≡ drop g.row.B (input_data g.f (input_of c.args.input.now))
 rest_is g c =
@@ -27,7 +27,7 @@ rest_is g c =
           (ap key_of w.in-Some.is) accepted.key_fits
     ]
 
--- how many there are
+-- The number of chunks.
 enough : (g : Over) (c : goal.After-blocks-1 g) → c.args.count ≤ length c.as_chunks.result.0.now
 enough g c =
     let family : block_bytes g.f ≡ g.row.B = assumption c in

@@ -9,7 +9,7 @@ use Rattle.b2_commands.specs.Faults.{fault_text}
 use Rattle.b2_commands.proofs.fault.Fault.line.Goals as goal
 use Rattle.b2_commands.proofs.fault.Fault.line.Goals.{in-Some, in_default}
 
--- what a fault says is short
+-- The message of an error is short.
 short : (fault : Fault) → length (fault_text fault) ≤ 12
 short WrongWords = omega arith
 short WrongHex = omega arith

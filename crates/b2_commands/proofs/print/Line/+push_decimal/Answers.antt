@@ -4,7 +4,7 @@ use Rattle.std.proofs.lemmas.Fmt.{decimal_digit, decimal_step, decimal_nonempty}
 use Rattle.b2_commands.proofs.print.Line.+push_decimal.Goals as goal
 use Rattle.b2_commands.proofs.print.Line.+push_decimal.Goals.{then-n-ge10, else-n-ge10}
 
--- a number of several digits has one more than its tenth
+-- A number of several digits has one more digit than its tenth.
 longer : (n : ℕ) → n < 2 ^ 64 → 10 ≤ n → length (decimal n) ≡ length (decimal (n / 10)) + 1
 longer n below ten = ap length (decimal_step n ten below)
     ∙ length-append (decimal (n / 10)) ((48 + n % 10) ∷ [])
@@ -31,7 +31,7 @@ push-requires t c =
       | else-n-ge10 w ↦ rw w.self-is (omega (arith, c.requires, decimal_nonempty c.args.n below))
     ]
 
--- the last digit completes the number
+-- The last digit completes the number.
 completed : (old line new : List ℕ) (n : ℕ) → n < 2 ^ 64 → 10 ≤ n → line ≡ old ++ decimal (n / 10)
     → new ≡ line ++ (48 + n % 10) ∷ [] → new ≡ old ++ decimal n
 completed old line new n below ten front last =

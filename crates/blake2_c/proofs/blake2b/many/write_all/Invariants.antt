@@ -3,7 +3,7 @@ use Rattle.blake2.specs.Family.{blake2b}
 use Rattle.blake2_c.specs.Many.{digests_of}
 use Rattle.blake2_c.proofs.blake2b.many.write_all.Given as goal
 
--- the digests of the first messages are written, and what stands behind them is as it was
+-- The digests of the first messages are written, and what follows them is as it was.
 abbrev pub invariant-loop-done : goal.invariant-loop-done
 invariant-loop-done l = record {
   within : l.done ≤ length l.messages;

@@ -3,7 +3,7 @@ use Rattle.std.proofs.Common.{ap, ◌∙◌, arith}
 use Rattle.std.proofs.lemmas.List.{length-take-le, take-append-drop, replicate-append-replicate}
 use Rattle.blake2_digest.proofs.buffer.LazyBuffer.reset.Goals as goal
 
--- where the first n bytes of a block are zero, and the rest is, the whole block is
+-- If the first n bytes of a block are zero, and the rest is, the whole block is zero.
 all_zero : (n size : ℕ) (block p : List ℕ) → n ≤ size → length block ≡ size → take n block ≡ p
     → p ≡ replicate (length p) 0
     → drop n block ≡ replicate (size - n) 0 → block ≡ replicate (size - 0) 0

@@ -8,7 +8,7 @@ use Rattle.blake2_tree.specs.OpenTrees.{open_tree, future}
 use Rattle.blake2_tree.proofs.Roots.{future-made}
 use Rattle.blake2_plain.proofs.tree.TreeState.begun.Goals as goal
 
--- the fields keep salt and persona
+-- The fields keep the salt and the personalization.
 kept : (salt persona a b : List ℕ) (l m : ℕ) → a ≡ padded 16 salt → b ≡ padded 16 persona → l ≡ m
     → tree_parameters (take (length salt) a) (take (length persona) b) l
     ≡ tree_parameters salt persona m

@@ -2,7 +2,7 @@ use Rattle.std.proofs.Common.{◌≡◌, ◌+◌, ℕ, List, ◌++◌, length}
 use Rattle.blake2_plain.specs.TreeStates.{IsReady, IsBegun, parameters, future, count}
 use Rattle.blake2_plain.proofs.tree.TreeState.take_leaves.Given as goal
 
--- the open leaf has taken nothing, and what is left of the input is still to come
+-- The open leaf has absorbed nothing, and what is left of the input is still to come.
 abbrev pub invariant-loop-self : goal.invariant-loop-self
 invariant-loop-self l = record {
   ready : IsReady l.self;
@@ -13,6 +13,6 @@ invariant-loop-self l = record {
   count : count l.self + length l.rest ≡ count l.fn.self + length l.input;
 }
 
--- the bytes that are left
+-- The bytes that are left.
 abbrev pub decreases-loop-self : goal.decreases-loop-self
 decreases-loop-self l = length l.rest

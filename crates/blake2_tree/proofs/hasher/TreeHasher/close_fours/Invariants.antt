@@ -3,7 +3,7 @@ use Rattle.blake2.specs.Hashers.{blake2b_meaning}
 use Rattle.blake2_tree.specs.TreeHashers.{future, count}
 use Rattle.blake2_tree.proofs.hasher.TreeHasher.close_fours.Given as goal
 
--- the open leaf is empty, and what is left of the input is still to come
+-- The open leaf is empty, and what is left of the input is still to come.
 abbrev pub invariant-loop-rest : goal.invariant-loop-rest
 invariant-loop-rest g l = record {
   future : (y : List ℕ) → future l.self (l.rest ++ y) ≡ future l.fn.self (l.input ++ y);
@@ -11,6 +11,6 @@ invariant-loop-rest g l = record {
   empty : (blake2b_meaning 64).count l.self.leaf ≡ 0;
 }
 
--- the bytes that are left
+-- The bytes that are left.
 abbrev pub decreases-loop-rest : goal.decreases-loop-rest
 decreases-loop-rest g l = length l.rest

@@ -4,7 +4,7 @@ use Rattle.blake2_tree.specs.Nodes.{shared_parameters}
 use Rattle.blake2_tree.specs.TreeHashers.{future, count}
 use Rattle.blake2_tree.proofs.hasher.TreeHasher.update.Given as goal
 
--- what is left of the input is still to come
+-- What is left of the input is still to come.
 abbrev pub invariant-loop-rest : goal.invariant-loop-rest
 invariant-loop-rest g l = record {
   shared : shared_parameters l.self.nodes ≡ shared_parameters l.fn.self.nodes;
@@ -12,6 +12,6 @@ invariant-loop-rest g l = record {
   count : count l.self + length l.rest ≡ count l.fn.self + length l.input;
 }
 
--- the bytes that are not in closed leaves
+-- The bytes that are not in closed leaves.
 abbrev pub decreases-loop-rest : goal.decreases-loop-rest
 decreases-loop-rest g l = (blake2b_meaning 64).count l.self.leaf + length l.rest

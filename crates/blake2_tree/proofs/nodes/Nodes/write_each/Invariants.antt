@@ -4,7 +4,7 @@ use Rattle.blake2_tree.specs.Ranges.{range_digests}
 use Rattle.blake2_tree.specs.Nodes.{shared_parameters}
 use Rattle.blake2_tree.proofs.nodes.Nodes.write_each.Given as goal
 
--- the digests of the leaves so far are written, and there is room for those of the rest
+-- The digests of the leaves so far are written, and there is room for those of the rest.
 abbrev pub invariant-loop-rest : goal.invariant-loop-rest
 invariant-loop-rest l = record {
   room : length l.out ≡ 64 * l.done + 64 * leaf_count l.self.leaf_length (length l.rest);

@@ -3,7 +3,7 @@ use Rattle.blake2_words.specs.Pieces.{piece_count, pieces}
 use Rattle.blake2_words.proofs.Pieces.{length-pieces, pieces-at, pieces_determine, no_pair_differs}
 use Rattle.blake2_words.proofs.laws.pieces.first_difference.Goals as goal
 
--- no pair differs, so the pieces are the same, and they determine the texts
+-- No pair differs, so the pieces are the same, and they determine the messages.
 pub returns : goal.returns
 returns c =
     let size = c.args.size in

@@ -6,7 +6,7 @@ use Rattle.blake2_words.specs.Lanes.{block_lists}
 use Rattle.blake2_words.proofs.Lanes.{block_in_list, blocks_at, none_after, one_more_after}
 use Rattle.blake2_words.proofs.many.blake2b.compress_blocks.Goals as goal
 
--- what a list of references has at the places where it has none
+-- The default for an index that a list of references does not have.
 abbrev none : Bor (List (List ℕ))
 none = record { ref_ptr = (0, 0); now = [] }
 

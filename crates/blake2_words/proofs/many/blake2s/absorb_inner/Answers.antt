@@ -12,7 +12,7 @@ use Rattle.blake2_words.proofs.Lanes.{no_block, block_more, inner_at, later_afte
 use Rattle.blake2_words.proofs.Streaming.{block_count-pos}
 use Rattle.blake2_words.proofs.many.blake2s.absorb_inner.Goals as goal
 
--- the blocks of input k from the second on
+-- The blocks of input k from the second on.
 abbrev later_of : List GivenInput.Input → ℕ → ℕ → List (List ℕ) → Type 0
 later_of inputs n k = AreLater blake2s (input_at inputs k) n
 
