@@ -7,7 +7,8 @@ files are checked, and what is prose in each of them:
 - pages (*.md): everything except code (fenced and indented blocks, inline code, targets of links) and the headline
 - C headers, sources and examples, and the types for JavaScript: comments
 - the module for Python in C: comments, docstrings and messages
-- Rust: comments on their own lines
+- Rust and Rattle: comments on their own lines
+- definitions and proofs (*.antt): comments
 - Python: docstrings, comments, and strings that are raised, printed or shown as help
 - scripts: the comment at the top, which --help prints, the usage, messages, and names of tests
 - the man page: everything except code
@@ -223,8 +224,10 @@ KINDS = (
     (("c/include/**/*.h", "c/*.c", "c/libb2/*.c", "c/examples/*.c", "js/index.d.ts"), comments,
      "int f;\n/* A.\n * {0} */\n", "f({0});\n"),
     (("python/src/*.c", "python/src/*.h"), module, 'int f;\n{{"f", g, "A. {0}"}};\n', "f({0});\n"),
-    (("rust/src/*.rs", "rust-digest/src/*.rs"), rust, "fn f() {{}}\n    /// {0}\n", "f({0});\n/// `{0}`\n"),
-    (("crates/*/specs/*.antt", "crates/*/proofs/**/*.antt"), antt, "f : A\n-- {0}\nf = b\n", "f = \"{0}\"\n-- `{0}`\n"),
+    (("rust/src/*.rs", "rust-digest/src/*.rs", "crates/*/src/**/*.rt"), rust,
+     "fn f() {{}}\n    /// {0}\n", "f({0});\n/// `{0}`\n"),
+    (("crates/*/specs/*.antt", "crates/*/proofs/**/*.antt"), antt,
+     "f : A\n  -- A.\n  -- {0}\nf = b\n", "f = {0}\n-- `{0}`\n"),
     (("python/vulfsjor/*.py", "python/vulfsjor/*.pyi", "tools/*.py", "bench/*.py"), python,
      '"""A.\n\n{0}"""\n', 'x = "{0}"\n'),
     (("b2", "test", "c/*.sh", "*/run_tests.sh", "tools/*.sh"), script,

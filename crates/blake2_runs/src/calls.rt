@@ -51,7 +51,7 @@ pub enum ReplayFault {
     Memory,
 }
 
-// Puts an item behind the others.
+// Appends an item to the others.
 fn push<T: Drop>(items: &mut Vec<T>, item: T) -> Result<(), ReplayFault>
     ensures pushed { OnOk result (items.new.items ≡ items.old.items ++ item ∷ []) }
     ensures refused { IsOkUnless result ReplayFault.Memory }
