@@ -30,8 +30,8 @@
  * argument.
  *
  * Memory and threads: no function allocates or frees memory, takes a lock, or keeps a pointer after
- * it returns. Threads may call at the same time. One state may be used by only one thread at a
- * time.
+ * it returns. Threads may call at the same time, each with its own states. Several threads may use
+ * one state at the same time only in functions that accept a pointer to const.
  *
  * Secrets: final and verify wipe the state. A call that is passed a key, or that compresses the
  * key's block (the first update, or a final or verify of an empty message), overwrites its part of

@@ -27,8 +27,8 @@
  * is repeated.
  *
  * A call allocates 64 bytes for each leaf, except with one thread in memory and for files that one
- * thread reads to the end. For a file each thread also allocates a buffer: 1 MiB or four leaves,
- * whichever is more, and at most 16 MiB.
+ * thread reads to the end. For a file each thread also allocates a buffer: up to 1 MiB or four
+ * leaves, whichever is more, and at most 16 MiB.
  *
  * The threads that a call starts block all signals except SIGBUS and SIGSEGV. A call is not a
  * cancellation point. Several threads may call at the same time, as long as none writes to the
@@ -51,11 +51,11 @@ VULFSJOR_MUST_USE int vulfsjor_tree_root_threads(void *out, size_t outlen, const
 
 /* Writes the root of the file with this path to out: outlen bytes, 1 to 64.
  *
- * A regular file of at least 256 KiB is read by several threads. Its length is the one that it had
- * when the call began: bytes appended meanwhile are not hashed, and the call fails with EIO if the
- * file became shorter. Bytes that are changed meanwhile are hashed as they were or as they are. Any
- * other file (a pipe, a device, a short file, a file of /proc) is read to its end by the caller's
- * thread. A directory fails with EISDIR. */
+ * A regular file of at least 256 KiB is read by all threads of the call. Its length is the one that
+ * it had when the call began: bytes appended meanwhile are not hashed, and the call fails with EIO
+ * if the file became shorter. Bytes that are changed meanwhile are hashed as they were or as they
+ * are. Any other file (a pipe, a device, a short file, a file of /proc) is read to its end by the
+ * caller's thread. A directory fails with EISDIR. */
 VULFSJOR_MUST_USE int vulfsjor_tree_root_file(void *out, size_t outlen, const char *path,
                                               const void *salt, size_t saltlen,
                                               const void *personal, size_t personallen,
