@@ -16,7 +16,7 @@ macro_rules! family {
         $verify:ident, $set_last_node:ident, $reset:ident, $wipe:ident, $digest_size:ident,
         $count:ident
     ) => {
-        #[doc = concat!("A hash by ", $family, " in progress. It is wiped when it is dropped.")]
+        #[doc = concat!("A ", $family, " hash in progress. It is wiped when it is dropped.")]
         #[derive(Clone)]
         pub struct $hasher {
             pub(crate) state: $state,
@@ -33,7 +33,8 @@ macro_rules! family {
             ///
             /// # Errors
             ///
-            /// [`InvalidLength`] exactly if a length or a tree parameter is beyond the family's.
+            /// [`InvalidLength`] exactly if a length or a tree parameter is out of the family's
+            /// range.
             pub fn with_params(params: &Params<'_>) -> Result<Self, InvalidLength> {
                 let Params { output_size, key, salt, persona, tree, last_node } = *params;
                 library::need_a_build();
@@ -111,8 +112,8 @@ macro_rules! family {
             ///
             /// # Errors
             ///
-            /// [`InvalidLength`] exactly if a length is beyond the family's, the parameters have
-            /// another size than `N` (they need not have one), tree parameters or the last-node
+            /// [`InvalidLength`] exactly if a length is out of the family's range, the parameters
+            /// set another size than `N` (they need not set one), tree parameters or the last-node
             /// flag, or there are more or fewer digests than messages. No digest is then written.
             pub fn digest_many<const N: usize>(
                 params: &Params<'_>,
@@ -166,8 +167,8 @@ macro_rules! family {
             ///
             /// # Panics
             ///
-            /// If all input since the start, with the block of a key, has 2^64 bytes or more. The
-            /// hasher is then as before.
+            /// If the input since the last reset, with the block of a key, would have 2^64 bytes or
+            /// more. The hasher is then unchanged.
             pub fn update(&mut self, input: impl AsRef<[u8]>) -> &mut Self {
                 let input = input.as_ref();
                 // Safety: the pointer comes from a slice of this length, which the state cannot
@@ -178,7 +179,7 @@ macro_rules! family {
                 self
             }
 
-            /// Returns the digest of all input.
+            /// Returns the digest of all input since the last reset.
             pub fn finalize(mut self) -> Digest {
                 // Safety: the state has initialized bytes.
                 let mut digest = Digest::zeros(unsafe { library::$digest_size(&self.state) });
@@ -197,7 +198,7 @@ macro_rules! family {
                 digest
             }
 
-            /// Forgets all input. The parameters and the last-node flag stay.
+            /// Discards all input. The parameters and the last-node flag stay.
             pub fn reset(&mut self) {
                 // Safety: the state has initialized bytes.
                 let status = unsafe { library::$reset(&mut self.state) };
@@ -212,7 +213,7 @@ macro_rules! family {
                 assert_eq!(status, 0, "a state that new has made");
             }
 
-            /// Returns the number of bytes of all input since the start, without the key.
+            /// Returns the number of bytes of input since the last reset, without the key.
             pub fn count(&self) -> u64 {
                 // Safety: the state has initialized bytes.
                 unsafe { library::$count(&self.state) }
@@ -234,11 +235,11 @@ macro_rules! family {
 
         of_stream!($hasher);
 
-        #[doc = concat!("A message authentication code by ", $family, " in progress. It is wiped")]
+        #[doc = concat!("A ", $family, " message authentication code in progress. It is wiped")]
         /// when it is dropped.
         ///
         /// Compare tags with `verify`. The project's README, "Use it safely", has the rules for
-        /// keys, tags and personas.
+        /// keys, tags and personalization.
         #[derive(Clone)]
         pub struct $mac($hasher);
 
@@ -257,8 +258,8 @@ macro_rules! family {
             ///
             /// # Errors
             ///
-            /// [`InvalidLength`] exactly if there is no key, or a length or a tree parameter is
-            /// beyond the family's.
+            /// [`InvalidLength`] exactly if there is no key, or a length or a tree parameter is out
+            /// of the family's range.
             pub fn with_params(params: &Params<'_>) -> Result<Self, InvalidLength> {
                 if params.key.is_empty() {
                     return Err(InvalidLength);
@@ -283,14 +284,14 @@ macro_rules! family {
             ///
             /// # Panics
             ///
-            /// If all input since the start, with the block of the key, has 2^64 bytes or more.
-            /// The MAC is then as before.
+            /// If the input since the last reset, with the block of the key, would have 2^64 bytes
+            /// or more. The MAC is then unchanged.
             pub fn update(&mut self, input: impl AsRef<[u8]>) -> &mut Self {
                 self.0.update(input);
                 self
             }
 
-            /// Returns the tag of all input.
+            /// Returns the tag of all input since the last reset.
             pub fn finalize(self) -> Digest {
                 self.0.finalize()
             }
@@ -314,12 +315,12 @@ macro_rules! family {
                 if status == 0 { Ok(()) } else { Err(MacError) }
             }
 
-            /// Forgets all input. The key and the other parameters stay.
+            /// Discards all input. The key and the other parameters stay.
             pub fn reset(&mut self) {
                 self.0.reset();
             }
 
-            /// Returns the number of bytes of all input since the start, without the key.
+            /// Returns the number of bytes of input since the last reset, without the key.
             pub fn count(&self) -> u64 {
                 self.0.count()
             }

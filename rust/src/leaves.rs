@@ -13,8 +13,8 @@ pub fn tree_leaf_count(message_length: u64, leaf_length: u32) -> u64 {
 /// bytes each and in order.
 ///
 /// `bytes` is leaf `first`, counted from 0, and the leaves after it. If the range `ends` the
-/// message, its last leaf may be shorter; otherwise all its leaves are whole. Take `ends` from the
-/// length of the message: a wrong value produces a wrong root, and no error.
+/// message, its last leaf may be shorter; otherwise all its leaves are whole. Compute `ends` from
+/// the length of the message: a wrong value produces a wrong root, and no error.
 ///
 /// The digests of the ranges of a message, joined in the order of the leaves, are what
 /// [`tree_root_of_leaves`] accepts, however the message was cut. So ranges can be hashed in any
@@ -70,13 +70,14 @@ pub fn tree_leaves(
     InvalidLength::unless_zero(status)
 }
 
-/// Returns the root over the joined digests of all leaves of a message, in this number of bytes, 1
-/// to 64. It is [`tree_root_with_output_size`](crate::tree_root_with_output_size) of the message.
+/// Returns the root over the joined digests of all leaves of a message. `bytes` is the length of
+/// the root, 1 to 64. It is [`tree_root_with_output_size`](crate::tree_root_with_output_size) of
+/// the message.
 ///
 /// # Errors
 ///
 /// [`InvalidLength`] exactly if `leaf_length` is 0, the salt or the persona has more than 16
-/// bytes, the size is another, or `digests` is empty or not a multiple of 64 bytes.
+/// bytes, `bytes` is not 1 to 64, or `digests` is empty or not a multiple of 64 bytes.
 pub fn tree_root_of_leaves(
     bytes: usize,
     digests: &[u8],

@@ -17,7 +17,7 @@
 //! assert!(Blake2b::digest(b"abc").to_string().starts_with("ba80a53f981c4d0d"));
 //! ```
 //!
-//! Another size, a key, a salt and a persona:
+//! Another digest length, a salt and a personalization (`persona`):
 //!
 //! ```
 //! use vulfsjor::Params;
@@ -85,7 +85,7 @@
 //!
 //! [`tree_root_threads`] computes the same root on all processors, and
 //! [`TreeHasher::update_threads`] does so in pieces. [`tree_leaves`] and [`tree_root_of_leaves`]
-//! compute it in parts, in any threads or processes or on any machines.
+//! compute it in parts, on any threads, processes or machines.
 //!
 //! A stream, through [`std::io::Write`]:
 //!
@@ -98,8 +98,8 @@
 //!
 //! # Safe use
 //!
-//! The project's README, "Use it safely", has the rules for keys, tags, personas and passwords. In
-//! this crate:
+//! The project's README, "Use it safely", has the rules for keys, tags, personalization and
+//! passwords. In this crate:
 //!
 //! - Compare tags with `verify` of a MAC or with `==` of a [`Digest`]. Both compare all bytes.
 //! - A hasher is wiped when it is dropped, and its `Debug` shows no byte of it. Calls that accept a

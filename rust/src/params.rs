@@ -50,7 +50,8 @@ impl Default for Tree {
 /// The parameters of a hash: digest length, key, salt, persona, tree parameters and last-node flag.
 ///
 /// The default is the longest digest, and none of the others. Lengths are checked when a hasher is
-/// made, not here. `Debug` shows the length of the key, and no byte of it.
+/// made, not here. The persona is what the BLAKE2 document calls personalization. `Debug` shows the
+/// length of the key, and no byte of it.
 #[derive(Clone, Copy)]
 pub struct Params<'a> {
     pub(crate) output_size: Option<usize>,
@@ -114,7 +115,7 @@ impl<'a> Params<'a> {
     ///
     /// # Errors
     ///
-    /// [`InvalidLength`] exactly if a length or a tree parameter is beyond BLAKE2b's.
+    /// [`InvalidLength`] exactly if a length or a tree parameter is out of BLAKE2b's range.
     pub fn blake2b(&self) -> Result<Blake2b, InvalidLength> {
         Blake2b::with_params(self)
     }
@@ -123,7 +124,7 @@ impl<'a> Params<'a> {
     ///
     /// # Errors
     ///
-    /// [`InvalidLength`] exactly if a length or a tree parameter is beyond BLAKE2s's.
+    /// [`InvalidLength`] exactly if a length or a tree parameter is out of BLAKE2s's range.
     pub fn blake2s(&self) -> Result<Blake2s, InvalidLength> {
         Blake2s::with_params(self)
     }

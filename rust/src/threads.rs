@@ -54,10 +54,10 @@ pub(crate) fn hash_parts(
 /// Returns the root of [`tree_root_with_output_size`](crate::tree_root_with_output_size), computed
 /// by several threads.
 ///
-/// `threads` is the number of threads that hash, the caller's among them; 0 is all that
-/// [`std::thread::available_parallelism`] reports. Fewer are started if the message is short (less
+/// `threads` is the number of threads that hash, the caller's among them; 0 is the number that
+/// [`std::thread::available_parallelism`] returns. Fewer are started if the message is short (less
 /// than 256 KiB for each), if it has fewer leaves, or if the system refuses to start them. The
-/// root is the same for each number. The call allocates 64 bytes for each leaf, and the threads
+/// root is the same for any number. The call allocates 64 bytes for each leaf, and the threads
 /// end before it returns.
 ///
 /// ```
@@ -99,13 +99,13 @@ pub fn tree_root_threads(
 impl TreeHasher {
     /// Absorbs the input as [`update`](Self::update) does, by several threads.
     ///
-    /// `threads` is as in [`tree_root_threads`]. The whole leaves of the input that others follow
-    /// are hashed by threads; only the caller's thread hashes the bytes before and after them. So
+    /// `threads` is as in [`tree_root_threads`]. Threads hash the whole leaves of the input that
+    /// more input follows; only the caller's thread hashes the bytes before and after them. So
     /// inputs of many leaves are fastest. The call allocates 64 bytes for each whole leaf.
     ///
     /// # Panics
     ///
-    /// If the input, with all earlier input, has 2^58 bytes or more. The hasher is then as before.
+    /// If the input, with all earlier input, has 2^58 bytes or more. The hasher is then unchanged.
     pub fn update_threads(&mut self, input: impl AsRef<[u8]>, threads: usize) -> &mut Self {
         let input = input.as_ref();
         let leaf_length = self.leaf_length() as usize;

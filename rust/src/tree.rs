@@ -113,7 +113,7 @@ impl TreeHasher {
     ///
     /// # Panics
     ///
-    /// If the input, with all earlier input, has 2^58 bytes or more. The hasher is then as before.
+    /// If the input, with all earlier input, has 2^58 bytes or more. The hasher is then unchanged.
     pub fn update(&mut self, input: impl AsRef<[u8]>) -> &mut Self {
         let input = input.as_ref();
         // Safety: the pointer comes from a slice of this length, which the state cannot overlap.
@@ -125,10 +125,10 @@ impl TreeHasher {
     /// Writes the digests of whole leaves of this tree to `digests`, 64 bytes each and in order.
     ///
     /// The hasher must be at a leaf boundary: its [`count`](Self::count) is a multiple of the
-    /// [leaf length](Self::leaf_length). The first leaf of `leaves` is the one that `skip` leaves
-    /// separate from the next leaf of the hasher. The hasher stays as it is, so threads may hash
-    /// different leaves by one hasher at the same time. None of the leaves is the last of the
-    /// message. [`update_leaves`](Self::update_leaves) then absorbs the digests.
+    /// [leaf length](Self::leaf_length). The first leaf of `leaves` is `skip` leaves after the
+    /// next leaf of the hasher. The hasher is unchanged, so threads may hash different leaves with
+    /// one hasher at the same time. None of the leaves is the last of the message.
+    /// [`update_leaves`](Self::update_leaves) then absorbs the digests.
     ///
     /// # Errors
     ///
@@ -168,7 +168,7 @@ impl TreeHasher {
     ///
     /// [`InvalidLength`] exactly if the length of `digests` is not a multiple of 64, if there are
     /// digests but the hasher is not at a leaf boundary or the input is empty, or if all input
-    /// would have 2^58 bytes or more. The hasher is then as before.
+    /// would have 2^58 bytes or more. The hasher is then unchanged.
     pub fn update_leaves(
         &mut self,
         digests: &[u8],
