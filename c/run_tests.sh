@@ -21,14 +21,11 @@
 # test passed.
 set -u
 here=$(dirname "$(readlink -f "$0")")
-top=$(dirname "$here")
+source "$here/../tools/checks.sh"
 tests=$here/tests
-work=$(mktemp -d)
-trap 'rm -rf "$work"' EXIT
 prefix=$work/prefix
 dist=$top/dist
 cases=$work/cases
-passed=0 failed=0 skipped=0
 cpu=() chosen=(languages choosing installing libb2 threads program secrets aarch64 wrappers)
 
 refuse() {
@@ -52,34 +49,6 @@ while [ $# -gt 0 ]; do
     esac
 done
 
-has() { command -v "$1" >/dev/null 2>&1; }
-
-skip() {
-    echo "skipped: $1 ($2)"
-    skipped=$((skipped + 1))
-}
-
-# Runs the command as a test of this name, and shows what it printed where it failed.
-check() {
-    local name=$1
-    shift
-    if ("$@") >"$work/log" 2>&1; then
-        echo "passed: $name"
-        passed=$((passed + 1))
-    else
-        echo "FAILED: $name"
-        tail -n 40 "$work/log" | sed 's/^/    /'
-        failed=$((failed + 1))
-        return 1
-    fi
-}
-
-finish() {
-    echo "$passed passed, $failed failed, $skipped skipped"
-    [ "$failed" -eq 0 ]
-    exit
-}
-
 include=$prefix/include
 libb2=$include/blake2_c-libb2
 archive=$prefix/lib/libblake2_c.a
@@ -87,6 +56,10 @@ shared=$prefix/lib/libblake2_c.so
 warnings=(-Wall -Wextra -Wpedantic -Werror)
 empty=$work/empty.c
 echo 'int main(void) { return 0; }' >"$empty"
+
+# The level of the processor here, if it is an x86-64.
+level=$("$top/tools/processor.sh")
+level=${level#x86-64-v}
 
 # Whether the library here is for x86-64, and whether it holds both builds, and so chooses.
 is_x86() { [[ $(cc -dumpmachine) == x86_64-* ]]; }
@@ -126,30 +99,16 @@ fi
 
 # ---- the parts
 
-# Runs a part in a folder of its own, and leaves what it counted there.
+# Runs a part in a separate folder. Its last line has its counts.
 run_part() {
     work=$work/$1
     passed=0 failed=0 skipped=0
     mkdir "$work" && . "$tests/$1.sh" || return
     "test_$1"
-    echo "$passed $failed $skipped" >"$work/counts"
-}
-
-# Shows what a part printed, and adds its counts. One that ended before it had counted fails.
-show_part() {
-    local counted=(0 1 0)
-    cat "$work/$1.shown"
-    if [ -s "$work/$1/counts" ]; then
-        read -ra counted <"$work/$1/counts"
-    else
-        echo "FAILED: the part $1 did not count its tests"
-    fi
-    passed=$((passed + counted[0]))
-    failed=$((failed + counted[1]))
-    skipped=$((skipped + counted[2]))
+    finish
 }
 
 for part in "${chosen[@]}"; do run_part "$part" >"$work/$part.shown" 2>&1 & done
 wait
-for part in "${chosen[@]}"; do show_part "$part"; done
+for part in "${chosen[@]}"; do run_script cat "$work/$part.shown"; done
 finish

@@ -8,23 +8,21 @@
 # failed.
 set -u
 cd "$(dirname "$(readlink -f "$0")")" || exit 1
-if ! node -e 'process.exit(process.getBuiltinModule ? 0 : 1)' 2>/dev/null; then
-    echo "skipped: the package for JavaScript (no node 20.16 or later)"
-    echo "0 passed, 0 failed, 1 skipped"
-    exit 0
-fi
+source ../tools/checks.sh
+node -e 'process.exit(process.getBuiltinModule ? 0 : 1)' 2>/dev/null || {
+    skip "the package for JavaScript" "no node 20.16 or later"
+    finish
+}
 [ $# -gt 0 ] || set -- tests/*.test.mjs
-log=$(mktemp)
-trap 'rm -f "$log"' EXIT
+log=$work/log
 node --test --test-reporter=tap "$@" >"$log"
 status=$?
 sed -nE 's/^ok [0-9]+ - (.*) # SKIP (.*)$/skipped: \1 (\2)/p; t
     s/^ok [0-9]+ - /passed: /p; s/^not ok [0-9]+ - /FAILED: /p' "$log"
 # the lines between a failed test's and the next test's say why it failed
 awk '/^ *not ok /{ shows = 1 } /^ *(ok |# )/{ shows = 0 } shows { print "    " $0 }' "$log"
-passed=$(grep -cE '^ok [0-9]+ - ' "$log")
 failed=$(grep -cE '^not ok [0-9]+ - ' "$log")
 skipped=$(grep -cE '^ok [0-9]+ - .* # SKIP' "$log")
-[ "$status" -eq 0 ] || [ "$failed" -gt 0 ] || failed=1
-echo "$((passed - skipped)) passed, $failed failed, $skipped skipped"
-[ "$failed" -eq 0 ]
+passed=$(($(grep -cE '^ok [0-9]+ - ' "$log") - skipped))
+[ "$status" -eq 0 ] || [ "$failed" -gt 0 ] || fail "node --test"
+finish

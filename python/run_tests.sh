@@ -9,35 +9,12 @@
 # skipped, and a line says so. The last line counts, and the status is 0 if every test passed.
 set -u
 here=$(dirname "$(readlink -f "$0")")
-top=$(dirname "$here")
+source "$here/../tools/checks.sh"
 if [ $# -ne 0 ]; then
     echo "usage: python/run_tests.sh" >&2
     exit 2
 fi
 export PYTHONDONTWRITEBYTECODE=1
-work=$(mktemp -d)
-trap 'rm -rf "$work"' EXIT
-passed=0 failed=0 skipped=0
-
-skip() {
-    echo "skipped: $1 ($2)"
-    skipped=$((skipped + 1))
-}
-
-# Runs the command as a test of this name, and shows what it printed where it failed.
-check() {
-    local name=$1
-    shift
-    if "$@" >"$work/log" 2>&1; then
-        echo "passed: $name"
-        passed=$((passed + 1))
-    else
-        echo "FAILED: $name"
-        sed 's/^/    /' "$work/log"
-        failed=$((failed + 1))
-        return 1
-    fi
-}
 
 # Builds from a copy of the sources, so that nothing is left beside them, and without a warning of
 # the compiler.
@@ -81,7 +58,7 @@ refuse_to_copy() {
 # beside it.
 build_sources() {
     copy_repository tree && "$1" setup.py sdist --dist-dir "$work/sources" && cd .. &&
-        tar -xzf "$work"/sources/vulfsjor-0.1.0.tar.gz && cd vulfsjor-0.1.0 &&
+        tar -xzf "$work"/sources/vulfsjor-$(version).tar.gz && cd vulfsjor-$(version) &&
         diff <(find . -type f ! -path './*.egg-info/*' | LC_ALL=C sort) \
             <(cd "$here" && printf './%s\n' PKG-INFO setup.cfg MANIFEST.in README.md \
                 pyproject.toml setup.py src/{library.c,library.h,trees.c} "${copies[@]}" \
@@ -96,8 +73,8 @@ pip_offline() {
 
 # A wheel from the source distribution alone, installed in a folder.
 build_wheel() {
-    cd "$work" && pip_offline "$1" wheel --wheel-dir "$work" sources/vulfsjor-0.1.0.tar.gz &&
-        [ "$(echo vulfsjor-*.whl)" = "vulfsjor-0.1.0-cp311-abi3-linux_$(uname -m).whl" ] &&
+    cd "$work" && pip_offline "$1" wheel --wheel-dir "$work" sources/vulfsjor-$(version).tar.gz &&
+        [ "$(echo vulfsjor-*.whl)" = "vulfsjor-$(version)-cp311-abi3-linux_$(uname -m).whl" ] &&
         pip_offline "$1" install --target "$work/installed" vulfsjor-*.whl && is_installed installed
 }
 is_installed() {
@@ -158,7 +135,7 @@ sys.exit(sys.version_info < (3, 11) or not os.path.exists(header))' \
 done
 if [ -z "$python" ]; then
     skip "the package for Python" "no python3 of 3.11 or later with setuptools and its headers"
-elif ! command -v cc >/dev/null; then
+elif ! has cc; then
     skip "the package for Python" "no C compiler cc"
 elif check "the package for Python is built by $python" build "$python"; then
     check "no name of the library is seen outside the module" \
@@ -192,12 +169,12 @@ print(sys.version_info >= (3, 11) and sys.executable)' 2>/dev/null)
         fi
     done
     first=$("$python" -c 'import sys; print(sys.executable)')
-    if [ "$(uname -m)" = x86_64 ] && command -v qemu-x86_64 >/dev/null; then
+    if [ "$(uname -m)" = x86_64 ] && has qemu-x86_64; then
         check "the package on other processors" other_processors "$first"
     else
         skip "the package on other processors" "no qemu-x86_64, or no x86-64"
     fi
-    if command -v valgrind >/dev/null; then
+    if has valgrind; then
         check "verify takes equal time" count_verify "$(set -- $tested; echo "$1")"
     else
         skip "verify takes equal time" "no valgrind"
@@ -215,5 +192,4 @@ print(sys.version_info >= (3, 11) and sys.executable)' 2>/dev/null)
                 "$wheel" "$here/tests/compare.py" "$work/by_pip" 1000
     fi
 fi
-echo "$passed passed, $failed failed, $skipped skipped"
-[ "$failed" -eq 0 ]
+finish

@@ -9,41 +9,16 @@
 # A test whose tool is missing is skipped, and a line says so. The last line counts, and the status
 # is 0 if no test failed.
 set -u
-top=$(dirname "$(dirname "$(readlink -f "$0")")")
+source "$(dirname "$(readlink -f "$0")")/../tools/checks.sh"
 if [ $# -gt 1 ] || { [ $# -eq 1 ] && ! [ -e "$1/lib/libblake2_c.a" ]; }; then
     echo "usage: rust/run_tests.sh [FOLDER], where c/install.sh has put the library" >&2
     exit 2
 fi
 for_c=${1:+$(readlink -f "$1")/lib}
-work=$(mktemp -d)
-trap 'rm -rf "$work"' EXIT
 CARGO_TARGET_DIR=$work/target
 export CARGO_TARGET_DIR
 debian=/usr/share/cargo/registry
 arm=aarch64-unknown-linux-gnu
-passed=0 failed=0 skipped=0
-
-has() { command -v "$1" >/dev/null 2>&1; }
-
-skip() {
-    echo "skipped: $1 ($2)"
-    skipped=$((skipped + 1))
-}
-
-# Runs the command as a test of this name, and shows what it printed where it failed.
-check() {
-    local name=$1
-    shift
-    if "$@" >"$work/log" 2>&1; then
-        echo "passed: $name"
-        passed=$((passed + 1))
-    else
-        echo "FAILED: $name"
-        sed 's/^/    /' "$work/log"
-        failed=$((failed + 1))
-        return 1
-    fi
-}
 
 cargo_here() { cargo "$1" --offline --manifest-path "$top/Cargo.toml" "${@:2}"; }
 
@@ -108,8 +83,7 @@ gives_abc() {
 }
 
 # The functions of a build in the program that was built last.
-version=$(sed -n 's/^version = "\(.*\)"/\1/p' "$top/Cargo.toml")
-held() { nm "$work/built" | sed -n "s/.* [tT] blake2_c_\(.*\)_${version//./_}_$1\$/\1/p"; }
+held() { nm "$work/built" | sed -n "s/.* [tT] blake2_c_\(.*\)_$(version _)_$1\$/\1/p"; }
 
 # A program takes of the assembly what it calls, in each profile.
 only_what_is_called() {
@@ -180,11 +154,11 @@ two_versions() {
     local same='assert!(b::Blake2b::digest(b"abc") == *a::Blake2b::digest(b"abc").as_bytes());'
     mkdir "$other" && cp -r "$top"/{Cargo.toml,rust,dist} "$other/" &&
         sed -i 's/^version = .*/version = "99.8.7"/' "$other/Cargo.toml" &&
-        sed -i "s/${version//./_}_/99_8_7_/g" "$other"/dist/*/blake2_c*.s &&
+        sed -i "s/$(version _)_/99_8_7_/g" "$other"/dist/*/blake2_c*.s &&
         write_program "$work/two" "$print_abc $same" "$top" "$other" || return 1
     for profile in dev release thin fat; do gives_abc "$work/two" $profile || return 1; done
     [ "$(nm "$work/built" | grep -c ' t blake2_c_blake2b_99_8_7_')" = "$(nm "$work/built" |
-        grep -c " t blake2_c_blake2b_${version//./_}_")" ]
+        grep -c " t blake2_c_blake2b_$(version _)_")" ]
 }
 
 # Both builds of the library for C in the same program.
@@ -320,5 +294,4 @@ elif check "the crate vulfsjor" cargo_here test; then
         check "the program rust/examples/rayon" rayon_example
     fi
 fi
-echo "$passed passed, $failed failed, $skipped skipped"
-[ "$failed" -eq 0 ]
+finish

@@ -3,32 +3,27 @@
 # the command rt, the prover and clang. Without python3, which tools/dist.sh needs, it is skipped,
 # and a line says so. The last line is 'N passed, M failed', and the status is 1 if one failed.
 set -u
-if ! command -v python3 >/dev/null; then
-    echo "skipped: the script that makes dist/ (no python3)"
-    echo "0 passed, 0 failed, 1 skipped"
-    exit
-fi
-top=$(dirname "$(dirname "$(readlink -f "$0")")")
-room=$(mktemp -d)
-trap 'rm -rf "$room"' EXIT
-source "$top/tools/checks.sh"
-
-show() { sed 's/^/  shown: /' "$room/shown"; }
+source "$(dirname "$(readlink -f "$0")")/checks.sh"
+shown=("$work/shown")
+has python3 || {
+    skip "the script that makes dist/" "no python3"
+    finish
+}
 
 # The kit. Its prover notes its words, and runs clang as the real one does, which writes code that
 # holds its words.
-kit=$room/kit
-mkdir -p "$kit"/{bin,rlibs} "$kit"/toolchain/{bin,lib} "$room/bin"
+kit=$work/kit
+mkdir -p "$kit"/{bin,rlibs} "$kit"/toolchain/{bin,lib} "$work/bin"
 echo "kit 1" >"$kit/version"
 touch "$kit/toolchain/bin/ld.lld"
-cat >"$room/bin/rt" <<END
+cat >"$work/bin/rt" <<END
 #!/usr/bin/env bash
 case \$1 in
     doc) echo "$kit/page" ;;
     version) cat "$kit/version" ;;
     check)
-        [ ! -e "$room/refuse_check" ] || { echo "not proved below"; exit 1; }
-        echo "check \$(basename "\$PWD")" >>"$room/calls"
+        [ ! -e "$work/refuse_check" ] || { echo "not proved below"; exit 1; }
+        echo "check \$(basename "\$PWD")" >>"$work/calls"
         for crate in blake2_plain b2_commands; do
             mkdir -p ../\$crate/out/rlib
             touch ../\$crate/out/rlib/stamp
@@ -38,8 +33,8 @@ esac
 END
 cat >"$kit/bin/rattle" <<END
 #!/usr/bin/env bash
-echo "\$@" >>"$room/rattle"
-[ ! -e "$room/refuse" ] || { echo "not proved"; exit 1; }
+echo "\$@" >>"$work/rattle"
+[ ! -e "$work/refuse" ] || { echo "not proved"; exit 1; }
 while [ \$# -gt 0 ]; do
     case \$1 in
         --crate-name) crate=\$2 ;;
@@ -50,19 +45,19 @@ while [ \$# -gt 0 ]; do
     esac
     shift
 done
-cd "\$(mktemp -d "$room/run.XXXX")" &&
+cd "\$(mktemp -d "$work/run.XXXX")" &&
     echo "\$crate for \$target, \$cpu, \$(cat "../turn" 2>/dev/null)" >module.bc &&
     env -i "\$clang" "--target=\$target" -x ir module.bc -o printed.ll -S -emit-llvm &&
     env -i "\$clang" "--target=\$target" -c -x ir module.bc -o module.o && cp module.o "\$to"
 END
 cat >"$kit/toolchain/bin/clang" <<END
 #!/bin/bash
-room=$room
+work=$work
 END
 cat >>"$kit/toolchain/bin/clang" <<'END'
 end=${*: -1} words=" $* "
-echo "$*" >>"$room/clang"
-[ ! -e "$room/loud" ] || echo "Function in CSV file at line 1 does not exist."
+echo "$*" >>"$work/clang"
+[ ! -e "$work/loud" ] || echo "Function in CSV file at line 1 does not exist."
 case $words in
     *" -c "*".s "*) grep -qF "$(cat module.bc)" "$3" && cp module.bc module.o; exit ;;
     *" -c "*) cp module.bc module.o; exit ;;
@@ -76,8 +71,8 @@ printf '%s\n' "	.globl	f" '	.section	".text.c::g::<=64>","ax"' \
     '	callq	memcpy@PLT' '	.section	.text.f,"ax"' 'f:' '	callq	"c::g::<=64>"' '	.size	f, .-f' \
     "	.ascii	\"$line .L::f\"" >"$2"
 END
-printf '#!/bin/bash\necho "$@" >>"%s/link"\ncp "${@: -1}" "$6"\n' "$room" >"$kit/bin/rattle-link"
-chmod +x "$room/bin/rt" "$kit"/bin/* "$kit/toolchain/bin/clang"
+printf '#!/bin/bash\necho "$@" >>"%s/link"\ncp "${@: -1}" "$6"\n' "$work" >"$kit/bin/rattle-link"
+chmod +x "$work/bin/rt" "$kit"/bin/* "$kit/toolchain/bin/clang"
 
 # The repository.
 make_repository() {
@@ -93,39 +88,39 @@ make_repository() {
     done
     mv "$1/crates/b2/src/lib.rt" "$1/crates/b2/src/main.rt"
 }
-repository=$room/a\ repository
+repository=$work/a\ repository
 make_repository "$repository"
 
 dist() {
-    PATH=$room/bin:$PATH "$repository/tools/dist.sh" "$@" >"$room/shown" 2>&1
+    PATH=$work/bin:$PATH "$repository/tools/dist.sh" "$@" >"$work/shown" 2>&1
     status=$?
 }
 ends() { [ "$status" -eq "$1" ]; }
-last() { [ "$(tail -n 1 "$room/shown")" = "$1" ]; }
-says() { grep -qF -- "$1" "$room/shown"; }
+last() { [ "$(tail -n 1 "$work/shown")" = "$1" ]; }
+says() { grep -qF -- "$1" "$work/shown"; }
 text=$repository/dist/x86_64/blake2_c-v3.s
 made() { (cd "$repository/dist" && find . -type f -exec sha256sum {} + | LC_ALL=C sort); }
 
 dist make
-holds "make ends with 0" ends 0
-holds "make proves both" diff <(printf 'check %s\n' blake2_c b2) "$room/calls"
-holds "each file is made" [ "$(made | wc -l)" -eq 8 ]
-holds "by LLVM" [ "$(grep -c -- '--backend llvm' "$room/rattle")" -eq 7 ]
-holds "the module is linked for 64 bits" grep -q '^--target wasm64-unknown-unknown ' "$room/link"
-holds "a file is that of its crate and processor" \
+check "make ends with 0" ends 0
+check "make proves both" diff <(printf 'check %s\n' blake2_c b2) "$work/calls"
+check "each file is made" [ "$(made | wc -l)" -eq 8 ]
+check "by LLVM" [ "$(grep -c -- '--backend llvm' "$work/rattle")" -eq 7 ]
+check "the module is linked for 64 bits" grep -q '^--target wasm64-unknown-unknown ' "$work/link"
+check "a file is that of its crate and processor" \
     grep -qF '"blake2_c for x86_64-unknown-linux-gnu, x86-64-v3, .L::f"' "$text"
-holds "aarch64 is for each" grep -qF 'b2 for aarch64-unknown-linux-gnu, generic,' \
+check "aarch64 is for each" grep -qF 'b2 for aarch64-unknown-linux-gnu, generic,' \
     "$repository/dist/aarch64/b2.s"
-holds "the module is linked" \
+check "the module is linked" \
     grep -qx 'blake2_c for wasm64-unknown-unknown, lime1, ' "$repository/dist/wasm/blake2_c.wasm"
-wants() { [ "$(grep -c -- "$1" "$room/clang")" -eq "$2" ]; }
-holds "on aarch64 clang gets the attributes, when it prints and when it compiles" \
+wants() { [ "$(grep -c -- "$1" "$work/clang")" -eq "$2" ]; }
+check "on aarch64 clang gets the attributes, when it prints and when it compiles" \
     wants "--target=aarch64.* -mllvm -forceattrs-csv-path=$repository/tools/aarch64_attr.*\.csv" 4
-holds "the module has SIMD" wants "--target=wasm64.* -c .*-msimd128$" 1
-holds "nothing else has" wants "-msimd128" 2
-holds "the assembly has no comments and no tables of addresses" \
+check "the module has SIMD" wants "--target=wasm64.* -c .*-msimd128$" 1
+check "nothing else has" wants "-msimd128" 2
+check "the assembly has no comments and no tables of addresses" \
     wants "-fno-addrsig -fno-verbose-asm$" 6
-holds "names are plain, have the version and the build, and are hidden" diff - \
+check "names are plain, have the version and the build, and are hidden" diff - \
     <(sed '1d;$d' "$text") <<'END'
 	.globl	f_1_2_3_v3
 	.hidden	f_1_2_3_v3
@@ -139,141 +134,141 @@ f_1_2_3_v3:
 	callq	c..g..64_1_2_3_v3
 	.size	f_1_2_3_v3, .-f_1_2_3_v3
 END
-holds "the kit's library is the kit's" \
-    grep -q -- "--crate-name b2 src/main.rt .*--extern hex=$kit/rlibs/hex.rlib" "$room/rattle"
+check "the kit's library is the kit's" \
+    grep -q -- "--crate-name b2 src/main.rt .*--extern hex=$kit/rlibs/hex.rlib" "$work/rattle"
 dist current
-holds "it is current" ends 0
-made >"$room/made"
+check "it is current" ends 0
+made >"$work/made"
 dist check
-holds "and what the sources compile to" last "9 passed, 0 failed, 0 skipped"
-holds "that ends with 0" ends 0
-rm "$room/calls"
+check "and what the sources compile to" last "9 passed, 0 failed, 0 skipped"
+check "that ends with 0" ends 0
+rm "$work/calls"
 rm "$repository"/crates/*/out/rlib/stamp
 dist check
-holds "what rt ci has left is not proved again" [ ! -e "$room/calls" ]
-holds "and all is compared" last "9 passed, 0 failed, 0 skipped"
+check "what rt ci has left is not proved again" [ ! -e "$work/calls" ]
+check "and all is compared" last "9 passed, 0 failed, 0 skipped"
 touch -d '+9 seconds' "$repository/crates/blake2_plain/src/lib.rt"
 dist check
-holds "except if it is older than a source" diff <(printf 'check %s\n' blake2_c b2) "$room/calls"
+check "except if it is older than a source" diff <(printf 'check %s\n' blake2_c b2) "$work/calls"
 touch "$repository/crates/blake2_plain/src/lib.rt"
-rm -r "$room/calls" "$repository"/crates/*/out
+rm -r "$work/calls" "$repository"/crates/*/out
 mkdir -p "$repository"/crates/{blake2_plain,b2_commands}/out/rlib
 touch "$repository/crates/b2_commands/out/rlib/stamp"
 dist check
-holds "and if rt check has left a stamp" diff <(echo check b2) "$room/calls"
-dist make "$room/some" x86_64/b2-v2.s
-holds "one file in another folder" diff <(cd "$room/some" && find . -type f) \
+check "and if rt check has left a stamp" diff <(echo check b2) "$work/calls"
+dist make "$work/some" x86_64/b2-v2.s
+check "one file in another folder" diff <(cd "$work/some" && find . -type f) \
     <(echo ./x86_64/b2-v2.s)
-holds "it is the same" cmp "$room/some/x86_64/b2-v2.s" "$repository/dist/x86_64/b2-v2.s"
-(repository=$room/elsewhere && make_repository "$repository" && dist make &&
-    made >"$room/made elsewhere")
-holds "another place makes the same" diff "$room/made" "$room/made elsewhere"
+check "it is the same" cmp "$work/some/x86_64/b2-v2.s" "$repository/dist/x86_64/b2-v2.s"
+(repository=$work/elsewhere && make_repository "$repository" && dist make &&
+    made >"$work/made elsewhere")
+check "another place makes the same" diff "$work/made" "$work/made elsewhere"
 
-: >"$room/loud"
+: >"$work/loud"
 dist make
-holds "a line of clang's fails the build" ends 1
-holds "and is shown" says "Function in CSV file at line 1 does not exist."
-rm "$room/loud"
-echo other >"$room/turn"
+check "a line of clang's fails the build" ends 1
+check "and is shown" says "Function in CSV file at line 1 does not exist."
+rm "$work/loud"
+echo other >"$work/turn"
 dist check
-holds "other code is found" last "2 passed, 7 failed, 0 skipped"
-holds "that ends with 1" ends 1
-holds "it is named" says "FAILED: x86_64/b2-v3.s is what the proofs build"
-rm "$room/turn"
+check "other code is found" last "2 passed, 7 failed, 0 skipped"
+check "that ends with 1" ends 1
+check "it is named" says "FAILED: x86_64/b2-v3.s is what the proofs build"
+rm "$work/turn"
 for file in aarch64/b2.s wasm/blake2_c.wasm; do
-    cp "$repository/dist/$file" "$room/kept"
+    cp "$repository/dist/$file" "$work/kept"
     echo >>"$repository/dist/$file"
     dist current
-    holds "an edit of $file is found" ends 1
+    check "an edit of $file is found" ends 1
     dist check
-    holds "by check, twice" last "7 passed, 2 failed, 0 skipped"
-    mv "$room/kept" "$repository/dist/$file"
+    check "by check, twice" last "7 passed, 2 failed, 0 skipped"
+    mv "$work/kept" "$repository/dist/$file"
 done
-cp "$repository/dist/MANIFEST" "$room/kept"
+cp "$repository/dist/MANIFEST" "$work/kept"
 sed -i 's|^.\(.*  aarch64/b2\.s\)$|\1|' "$repository/dist/MANIFEST"
 dist current
-holds "a hash that is too short is found" ends 1
-mv "$room/kept" "$repository/dist/MANIFEST"
+check "a hash that is too short is found" ends 1
+mv "$work/kept" "$repository/dist/MANIFEST"
 echo "fn more() {}" >>"$repository/crates/beside/src/lib.rt"
 dist current
-holds "a change of another crate changes nothing" ends 0
+check "a change of another crate changes nothing" ends 0
 printf '//! a comment\n    // another\n' >>"$repository/crates/blake2_plain/src/lib.rt"
 dist current
-holds "nor does a comment on a separate line" ends 0
+check "nor does a comment on a separate line" ends 0
 sed -i '/^ *\/\//d' "$repository/crates/blake2_plain/src/lib.rt"
 echo "fn more() {}" >"$repository/crates/b2/more.rt"
 dist current
-holds "nor is a file next to src/" ends 0
+check "nor is a file next to src/" ends 0
 mv "$repository/crates/blake2_c/src/lib.rt" "$repository/crates/blake2_c/src/more.rt"
 dist current
-holds "another name of a file is found" ends 1
+check "another name of a file is found" ends 1
 mv "$repository/crates/blake2_c/src/more.rt" "$repository/crates/blake2_c/src/lib.rt"
 for file in b2/src/main.rt b2_commands/src/lib.rt blake2_c/src/lib.rt; do
     echo "fn more() {}" >>"$repository/crates/$file"
     dist current
-    holds "a change of crates/$file is found" ends 1
+    check "a change of crates/$file is found" ends 1
     sed -i '$d' "$repository/crates/$file"
 done
-mv "$repository/tools/aarch64_attributes.csv" "$room/kept"
+mv "$repository/tools/aarch64_attributes.csv" "$work/kept"
 dist make
-holds "nothing is made where a source of the text is missing" ends 1
-mv "$room/kept" "$repository/tools/aarch64_attributes.csv"
+check "nothing is made where a source of the text is missing" ends 1
+mv "$work/kept" "$repository/tools/aarch64_attributes.csv"
 for file in tools/plain_names.py tools/aarch64_attributes.csv; do
     echo "# more" >>"$repository/$file"
     dist current
-    holds "a change of $file is found" ends 1
+    check "a change of $file is found" ends 1
     sed -i '$d' "$repository/$file"
 done
 sed -i 's/1\.2\.3/1.2.4/' "$repository/CHANGELOG.md"
 dist current
-holds "another version is found" ends 1
+check "another version is found" ends 1
 sed -i 's/1\.2\.4/1.2.3/' "$repository/CHANGELOG.md"
 echo "fn more() {} // a comment" >>"$repository/crates/blake2_plain/src/lib.rt"
 dist current
-holds "a change below is found" ends 1
+check "a change below is found" ends 1
 dist check
-holds "by check too, though the code is the same" last "8 passed, 1 failed, 0 skipped"
+check "by check too, though the code is the same" last "8 passed, 1 failed, 0 skipped"
 for name in bin/rattle bin/rattle-link toolchain/bin/{clang,ld.lld}; do
     echo "# 2" >>"$kit/$name"
     dist check
-    holds "so with another $name" last "1 passed, 1 failed, 7 skipped"
+    check "so with another $name" last "1 passed, 1 failed, 7 skipped"
     sed -i '$d' "$kit/$name"
 done
 sed -i '$d' "$repository/crates/blake2_plain/src/lib.rt"
 echo "kit 2" >"$kit/version"
 dist check
-holds "another kit with the same tools compares all" last "9 passed, 0 failed, 0 skipped"
+check "another kit with the same tools compares all" last "9 passed, 0 failed, 0 skipped"
 echo "# 2" >>"$kit/toolchain/bin/clang"
 dist check
-holds "other tools compare hashes" last "2 passed, 0 failed, 7 skipped"
-holds "and say so" says \
-    "skipped: whether dist/ is what the proofs build: it was made with another toolchain, kit 1"
+check "other tools compare hashes" last "2 passed, 0 failed, 7 skipped"
+check "and say so" says "skipped: whether x86_64/b2-v3.s is what the proofs build (it was made \
+with another toolchain, kit 1)"
 sed -i '$d' "$kit/toolchain/bin/clang"
-mv "$room/bin/rt" "$room/rt"
+mv "$work/bin/rt" "$work/rt"
 PATH=/usr/bin:/bin dist check
-holds "no kit does so too" last "2 passed, 0 failed, 7 skipped"
+check "no kit does so too" last "2 passed, 0 failed, 7 skipped"
 PATH=/usr/bin:/bin dist make
-holds "make needs rt" says "dist.sh: the toolchain's command rt is not on the PATH"
-mv "$room/rt" "$room/bin/rt"
-: >"$room/refuse"
+check "make needs rt" says "dist.sh: the toolchain's command rt is not on the PATH"
+mv "$work/rt" "$work/bin/rt"
+: >"$work/refuse"
 dist make
-holds "a refused build ends with 1" ends 1
-holds "and is shown" says "not proved"
-holds "MANIFEST stays" grep -qx '# kit: kit 1' "$repository/dist/MANIFEST"
-rm "$room/refuse"
-: >"$room/refuse_check"
+check "a refused build ends with 1" ends 1
+check "and is shown" says "not proved"
+check "MANIFEST stays" grep -qx '# kit: kit 1' "$repository/dist/MANIFEST"
+rm "$work/refuse"
+: >"$work/refuse_check"
 dist make
-holds "a refused library ends with 1" ends 1
-holds "and is shown too" says "not proved below"
+check "a refused library ends with 1" ends 1
+check "and is shown too" says "not proved below"
 
 # What plain_names.py makes of these lines.
 rename() {
-    printf '%s\n' "$@" | "$repository/tools/plain_names.py" _1_v3 >"$room/shown" 2>&1
+    printf '%s\n' "$@" | "$repository/tools/plain_names.py" _1_v3 >"$work/shown" 2>&1
     status=$?
 }
 rename '	.globl	f' '	callq	free' '	callq	af' '	callq	x.L1' '	jmp	.L1' '	.ascii	"c::f"' \
     '	.asciz	"c::f"' '	.ident	"c::f"' '	.file	"c::f"'
-holds "data and the names of others stay" diff "$room/shown" - <<'END'
+check "data and the names of others stay" diff "$work/shown" - <<'END'
 	.globl	f_1_v3
 	.hidden	f_1_v3
 	callq	free
@@ -286,15 +281,15 @@ holds "data and the names of others stay" diff "$room/shown" - <<'END'
 	.file	"c::f"
 END
 rename '"a::b":' '"a:: b":'
-holds "two names that would be one are refused" ends 1
-holds "and that is said" says "plain_names.py: two names would be one"
+check "two names that would be one are refused" ends 1
+check "and that is said" says "plain_names.py: two names would be one"
 dist --help
-holds "help ends with 0" ends 0
-holds "help says what each command does" says "tools/dist.sh current"
-for words in "" "make a" "check a" "what" "make $room/some x86_64/b2-v4.s"; do
+check "help ends with 0" ends 0
+check "help says what each command does" says "tools/dist.sh current"
+for words in "" "make a" "check a" "what" "make $work/some x86_64/b2-v4.s"; do
     # shellcheck disable=SC2086
     dist $words
-    holds "the words '$words' are refused" ends 1
+    check "the words '$words' are refused" ends 1
 done
 
-counts
+finish

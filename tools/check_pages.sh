@@ -14,37 +14,28 @@
 # no python3, the last one if there is no such program, and the links if there is no git repository;
 # a line says so. The last line counts, and the status is 1 if one failed.
 set -u
-tools=$(dirname "$(readlink -f "$0")")
-program=${1:-$(dirname "$tools")/crates/b2/out/b2}
-passed=0 failed=0 skipped=0
+source "$(dirname "$(readlink -f "$0")")/checks.sh"
+program=${1:-$top/crates/b2/out/b2}
+
+# The toolchain refuses symbolic links.
+has_no_link() { ! git -C "$top" ls-files --stage | grep '^120000 '; }
+
 for script in check_calling.py check_docs.py check_style.py manual.py pictures.py \
     check_reference.py reference.py check_specification.py; do
     given=()
     [[ $script != @(manual|pictures|reference).py ]] || given=(--check)
     [ "$script" != check_specification.py ] || given=(--program "$program")
     if [ "$script" = check_specification.py ] && [ ! -x "$program" ]; then
-        echo "skipped: tools/$script (no program at $program)"
-        skipped=$((skipped + 1))
-    elif ! command -v python3 >/dev/null; then
-        echo "skipped: tools/$script (no python3)"
-        skipped=$((skipped + 1))
-    elif python3 "$tools/$script" "${given[@]}"; then
-        echo "passed: tools/$script"
-        passed=$((passed + 1))
+        skip "tools/$script" "no program at $program"
+    elif ! has python3; then
+        skip "tools/$script" "no python3"
     else
-        echo "FAILED: tools/$script"
-        failed=$((failed + 1))
+        check "tools/$script" python3 "$top/tools/$script" "${given[@]}"
     fi
 done
-if ! files=$(git -C "$tools/.." ls-files --stage 2>&1); then
-    echo "skipped: no symbolic link is in the repository (no git repository)"
-    skipped=$((skipped + 1))
-elif grep '^120000 ' <<<"$files" >&2; then
-    echo "FAILED: no symbolic link is in the repository (the toolchain refuses those above)"
-    failed=$((failed + 1))
+if git -C "$top" ls-files >/dev/null 2>&1; then
+    check "no symbolic link is in the repository" has_no_link
 else
-    echo "passed: no symbolic link is in the repository"
-    passed=$((passed + 1))
+    skip "no symbolic link is in the repository" "no git repository"
 fi
-echo "$passed passed, $failed failed, $skipped skipped"
-[ "$failed" -eq 0 ]
+finish

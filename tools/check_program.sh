@@ -6,46 +6,28 @@
 #
 # usage: tools/check_program.sh [PROGRAM]
 #
-# Without PROGRAM it is crates/b2/out/b2, which `rt ci` builds. Each check that fails is reported on
-# standard error. valgrind counts the instructions: if it is absent, these checks are skipped, each
-# with a line. The last line is 'N passed, M failed, K skipped', and the status is 1 if one failed.
+# Without PROGRAM it is crates/b2/out/b2, which `rt ci` builds. valgrind counts the instructions: if
+# it is absent, these checks are skipped, each with a line. The last line is 'N passed, M failed, K
+# skipped', and the status is 1 if one failed.
 set -u
-top=$(dirname "$(dirname "$(readlink -f "$0")")")
+source "$(dirname "$(readlink -f "$0")")/checks.sh"
 program=$(readlink -f "${1:-$top/crates/b2/out/b2}")
-if [ ! -x "$program" ]; then
-    echo "tools/check_program.sh: there is no program at ${1:-$program}" >&2
-    echo "0 passed, 1 failed, 0 skipped"
-    exit 1
-fi
-room=$(mktemp -d)
-trap 'rm -rf "$room"' EXIT
-passed=0
-failed=0
-skipped=0
+[ -x "$program" ] || {
+    fail "there is a program at ${1:-$program}"
+    finish
+}
 
 # Counts a check of this name: the status, the output and the errors that the run left, against
 # those that are wanted. Standard error stays empty in every run.
 count() {
-    local name=$1 status=$2 wanted_status=$3
-    if [ "$status" = "$wanted_status" ] && cmp -s "$room/output" "$room/wanted" &&
-        [ ! -s "$room/errors" ]; then
-        passed=$((passed + 1))
+    local name
+    name=$(cat -v <<<"$1")
+    if [ "$2" = "$3" ] && cmp -s "$work/output" "$work/wanted" && [ ! -s "$work/errors" ]; then
+        pass "$name"
         return
     fi
-    failed=$((failed + 1))
-    {
-        echo "FAILED: $name"
-        echo "  status $status, wanted $wanted_status"
-        echo "  output: $(head -c 300 "$room/output")"
-        echo "  wanted: $(head -c 300 "$room/wanted")"
-        [ -s "$room/errors" ] && echo "  errors: $(head -c 300 "$room/errors")"
-    } | cat -v >&2
-}
-
-# Counts a check of this name that failed before it had a run.
-fail() {
-    failed=$((failed + 1))
-    echo "FAILED: $1" >&2
+    head -c 300 "$work"/{output,wanted,errors} | cat -v >"$work/log"
+    fail "$name: status $2, wanted $3" "$work/log"
 }
 
 # Checks a run over an input, which may hold escapes as printf takes them: wants STATUS and the line
@@ -54,8 +36,8 @@ fail() {
 over() {
     local input=$1 wanted_status=$2 line=$3 status
     shift 3
-    printf '%b' "${line:+$line\n}" >"$room/wanted"
-    printf '%b' "$input" | "$program" "$@" >"$room/output" 2>"$room/errors"
+    printf '%b' "${line:+$line\n}" >"$work/wanted"
+    printf '%b' "$input" | "$program" "$@" >"$work/output" 2>"$work/errors"
     status=$?
     count "b2 $* (over ${input:0:40})" "$status" "$wanted_status"
 }
@@ -69,7 +51,7 @@ says() {
 # Checks that a run, whose status and output are told, ended with this status and printed this line,
 # or nothing where LINE is empty. usage: ended NAME STATUS WANTED LINE
 ended() {
-    printf '%b' "${4:+$4\n}" >"$room/wanted"
+    printf '%b' "${4:+$4\n}" >"$work/wanted"
     count "$1" "$2" "$3"
 }
 
@@ -162,28 +144,28 @@ over "$(printf 'c 0\\n%.0s' {1..11})d 12\n" 2 "b2: line 12: no such slot" script
 
 # An input that answers an error: a closed one, and a directory.
 for command in sum script steps; do
-    "$program" "$command" b512 <&- >"$room/output" 2>"$room/errors"
+    "$program" "$command" b512 <&- >"$work/output" 2>"$work/errors"
     ended "b2 $command b512, its input closed" "$?" 1 "b2: read failed"
-    "$program" "$command" s256 key=01 <"$room" >"$room/output" 2>"$room/errors"
+    "$program" "$command" s256 key=01 <"$work" >"$work/output" 2>"$work/errors"
     ended "b2 $command s256 key=01, its input a directory" "$?" 1 "b2: read failed"
 done
-"$program" tree b512 4 <&- >"$room/output" 2>"$room/errors"
+"$program" tree b512 4 <&- >"$work/output" 2>"$work/errors"
 ended "b2 tree b512 4, its input closed" "$?" 1 "b2: read failed"
 # `witness` and wrong words read no input.
-"$program" witness b512 61 62 <&- >"$room/output" 2>"$room/errors"
+"$program" witness b512 61 62 <&- >"$work/output" 2>"$work/errors"
 ended "b2 witness b512 61 62, its input closed" "$?" 0 none
-"$program" sum b512 foo <&- >"$room/output" 2>"$room/errors"
+"$program" sum b512 foo <&- >"$work/output" 2>"$work/errors"
 ended "b2 sum b512 foo, its input closed" "$?" 2 "b2: wrong words"
 
 # An output that takes nothing: a full one, and a closed one. Nothing more is printed.
-: >"$room/output"
+: >"$work/output"
 for given in "sum b512" "script b512" "steps s256" "tree b512 4" "witness b512 61 62" "sum" "add"; \
     do
     # shellcheck disable=SC2086
-    printf 'f 0\n' | "$program" $given >/dev/full 2>"$room/errors"
+    printf 'f 0\n' | "$program" $given >/dev/full 2>"$work/errors"
     ended "b2 $given, its output full" "$?" 1 ""
     # shellcheck disable=SC2086
-    printf 'f 0\n' | "$program" $given >&- 2>"$room/errors"
+    printf 'f 0\n' | "$program" $given >&- 2>"$work/errors"
     ended "b2 $given, its output closed" "$?" 1 ""
 done
 
@@ -191,9 +173,9 @@ done
 says 1 "b2: no memory" $'\xff'
 says 1 "b2: no memory" sum b512 $'key=\xc3('
 says 1 "b2: no memory" sum b512 key=01 salt=02 persona=03 5 6 7 8 $'\xed\xa0\x80'
-"$program" $'\x80' >/dev/full 2>"$room/errors" </dev/null
+"$program" $'\x80' >/dev/full 2>"$work/errors" </dev/null
 status=$?
-: >"$room/output"
+: >"$work/output"
 ended "b2 of no text, its output full" "$status" 1 ""
 
 # ---- Memory, by limits of address space.
@@ -203,14 +185,14 @@ ended "b2 of no text, its output full" "$status" 1 ""
 run_in() {
     local kib=$1
     shift
-    sh -c 'ulimit -v "$0" && exec "$@"' "$kib" "$program" "$@" <"$room/input" >"$room/output" \
-        2>"$room/errors"
+    sh -c 'ulimit -v "$0" && exec "$@"' "$kib" "$program" "$@" <"$work/input" >"$work/output" \
+        2>"$work/errors"
 }
 
 # Whether these words, which are wrong ones, are told in so many KiB.
 is_told_in() {
     run_in "$@"
-    [ $? -eq 2 ] && [ "$(cat "$room/output")" = "b2: wrong words" ]
+    [ $? -eq 2 ] && [ "$(cat "$work/output")" = "b2: wrong words" ]
 }
 
 # The fewest KiB in which the program tells that these words are wrong, for which it keeps its
@@ -232,7 +214,7 @@ ends_in() {
     shift 2
     run_in $((least + kib)) "$@"
     status=$?
-    count "b2 $1 $2${3:+ ${3:0:20}} (in $kib KiB, over $(stat -c %s "$room/input") bytes)" \
+    count "b2 $1 $2${3:+ ${3:0:20}} (in $kib KiB, over $(stat -c %s "$work/input") bytes)" \
         "$status" "$wanted_status"
 }
 
@@ -240,7 +222,7 @@ ends_in() {
 # usage: has_room KIB LINE WORDS..
 has_room() {
     local kib=$1
-    [ "$2" = - ] || echo "$2" >"$room/wanted"
+    [ "$2" = - ] || echo "$2" >"$work/wanted"
     shift 2
     ends_in "$kib" 0 "$@"
 }
@@ -250,14 +232,14 @@ has_room() {
 lacks_room() {
     local kib=$1
     shift
-    echo "b2: no memory" >"$room/wanted"
+    echo "b2: no memory" >"$work/wanted"
     ends_in "$kib" 1 "$@"
 }
 
 # Makes the file `input` of so many zeros.
 take_zeros() {
-    : >"$room/input"
-    truncate -s "$1" "$room/input"
+    : >"$work/input"
+    truncate -s "$1" "$work/input"
 }
 
 # A fixed amount for `sum`. For `tree` a piece of about 64 KiB, or of 17 leaves where these are
@@ -286,11 +268,11 @@ transcript_of_zeros() {
 # doubles as it grows: so one byte more than a power of two may take twice as much.
 check_memory_of_steps() {
     take_zeros $((4 << 20))
-    transcript_of_zeros $((4 << 20)) >"$room/wanted"
+    transcript_of_zeros $((4 << 20)) >"$work/wanted"
     has_room $((10 << 10)) - steps b512
     lacks_room $((4 << 10)) steps b512
     take_zeros $(((4 << 20) + 128))
-    transcript_of_zeros $(((4 << 20) + 128)) >"$room/wanted"
+    transcript_of_zeros $(((4 << 20) + 128)) >"$work/wanted"
     has_room $((14 << 10)) - steps b512
 }
 
@@ -298,18 +280,18 @@ check_memory_of_steps() {
 # bytes, 96 bytes for each call, 64 more for a digest, and 352 for a state, with a key 480.
 check_memory_of_scripts() {
     local calls=65535
-    yes "u 0 $(printf '%04090d' 0)" | head -n 1024 | sed '$s/.*/f 0/' >"$room/input"
+    yes "u 0 $(printf '%04090d' 0)" | head -n 1024 | sed '$s/.*/f 0/' >"$work/input"
     has_room $((7 << 10)) "$zeros_1023" script b512
     lacks_room $((4 << 10)) script b512
-    : >"$room/wanted"
-    yes "r 0" | head -n $calls >"$room/input"
+    : >"$work/wanted"
+    yes "r 0" | head -n $calls >"$work/input"
     has_room $((6 << 10)) - script b512
-    yes "c 0" | head -n $calls >"$room/input"
+    yes "c 0" | head -n $calls >"$work/input"
     has_room $((28 << 10)) - script b512
     has_room $((36 << 10)) - script b512 "key=$long_key"
     lacks_room $((2 << 10)) script b512
-    yes "$nothing" | head -n $calls >"$room/wanted"
-    yes "d 0" | head -n $calls >"$room/input"
+    yes "$nothing" | head -n $calls >"$work/wanted"
+    yes "d 0" | head -n $calls >"$work/input"
     has_room $((10 << 10)) - script b512
 }
 
@@ -321,7 +303,7 @@ check_memory_of_witness() {
     if least=$(least_for add b512 "$message" "$message"); then
         has_room 512 none witness b512 "$message" "${message%0}1"
     else
-        fail "b2 tells in 64 MiB that long words are wrong"
+        fail "b2 reports in 64 MiB that long words are wrong"
     fi
 }
 
@@ -348,7 +330,7 @@ if least=$(least_for add b512); then
     check_memory_of_steps
     check_memory_of_scripts
 else
-    fail "b2 tells in 64 MiB that its words are wrong"
+    fail "b2 reports in 64 MiB that its words are wrong"
 fi
 check_memory_of_witness
 
@@ -360,7 +342,7 @@ share_at_once() {
     awk '/^fn=/ { is_one = /^fn=blake2_words(::|[.][.])many/ }
         /^calls=/ { getline; next }
         /^[0-9]/ { all += $2; if (is_one) at_once += $2 }
-        END { print all ? int(100 * at_once / all) : 0 }' "$room/instructions"
+        END { print all ? int(100 * at_once / all) : 0 }' "$work/instructions"
 }
 
 # Checks a run of `tree` over so many zeros, of whose instructions LEAST in 100 are to be those that
@@ -368,19 +350,18 @@ share_at_once() {
 hashes_at_once() {
     local least=$1 leaf=$4 \
         name="b2 tree b512 $4, of whose instructions $1 in 100 hash leaves at once" share status
-    if ! command -v valgrind >/dev/null; then
-        echo "skipped: $name (no valgrind)"
-        skipped=$((skipped + 1))
+    has valgrind || {
+        skip "$name" "no valgrind"
         return
-    fi
+    }
     take_zeros "$2"
-    rm -f "$room/instructions"
+    rm -f "$work/instructions"
     valgrind --tool=callgrind --compress-strings=no --compress-pos=no \
-        --callgrind-out-file="$room/instructions" --log-file="$room/log" "$program" tree b512 \
-        "$leaf" <"$room/input" >"$room/output" 2>"$room/errors"
+        --callgrind-out-file="$work/instructions" --log-file="$work/log" "$program" tree b512 \
+        "$leaf" <"$work/input" >"$work/output" 2>"$work/errors"
     status=$?
     share=0
-    [ ! -s "$room/instructions" ] || share=$(share_at_once)
+    [ ! -s "$work/instructions" ] || share=$(share_at_once)
     if [ "$share" -lt "$least" ]; then
         fail "$name: $share"
     else
@@ -399,5 +380,4 @@ hashes_at_once 75 $((320 * 4096 + 1)) "$root_4k" 4096
 hashes_at_once 75 $((34 * 65536 + 1)) "$root_64k_35" 65536
 hashes_at_once 75 $(((26 << 20) + 1)) "$root_1m_27" 1048576
 
-echo "$passed passed, $failed failed, $skipped skipped"
-[ "$failed" -eq 0 ]
+finish

@@ -9,17 +9,14 @@
 # needs about 2 GB in the folder for temporary files. The last line is 'N passed, M failed', and the
 # status is 1 if one failed.
 set -u
-top=$(dirname "$(dirname "$(readlink -f "$0")")")
-if ! command -v rt >/dev/null; then
-    echo "tools/check_recipe.sh: the toolchain's command rt is not on the PATH" >&2
-    echo "0 passed, 1 failed"
-    exit 1
-fi
-room=$(mktemp -d)
-trap 'rm -rf "$room"' EXIT
-ln -s "$top" "$room/vulfsjor"
-mkdir "$room/other"
-cd "$room/other" || exit 1
+source "$(dirname "$(readlink -f "$0")")/checks.sh"
+has rt || {
+    fail "the steps of CALLING.md: the toolchain's command rt is not on the PATH"
+    finish
+}
+ln -s "$top" "$work/vulfsjor"
+mkdir "$work/other"
+cd "$work/other" || exit 1
 git init -q .
 
 # The blocks of a page in this language, each ended by a line of three hyphens.
@@ -45,10 +42,9 @@ callers() {
         file != "" { print > file }'
 }
 
-source "$top/tools/checks.sh"
 blocks blake2 sh | grep -v '^---$' >../recipe.sh
-holds "the commands of the page" bash -eu ../recipe.sh
+check "the commands of the page" bash -eu ../recipe.sh
 callers app blake2
 callers app_tree blake2_tree
-holds "rt all check" rt all check
-counts
+check "rt all check" rt all check
+finish

@@ -4,120 +4,154 @@
 # checks what the Makefile would run. The last line is 'N passed, M failed', and the status is 1 if
 # one failed.
 set -u
-top=$(dirname "$(dirname "$(readlink -f "$0")")")
-room=$(mktemp -d)
-trap 'rm -rf "$room"' EXIT
-source "$top/tools/checks.sh"
-
-show() { sed 's/^/  output: /' "$room/output" && sed 's/^/  errors: /' "$room/errors"; }
+source "$(dirname "$(readlink -f "$0")")/checks.sh"
+shown=("$work/output" "$work/errors")
 
 # The repository, and the commands that are on the PATH.
-repository=$room/a\ repository
-mkdir -p "$repository"/{tools/key_scan,c,js,dist/x86_64,dist/aarch64,crates/b2/out} "$room/bin"
+repository=$work/a\ repository
+mkdir -p "$repository"/{tools/key_scan,c,js,dist/x86_64,dist/aarch64,crates/b2/out} "$work/bin"
 cp "$top/test" "$repository/"
+cp "$top/tools/checks.sh" "$repository/tools/"
 for text in x86_64/b2-v2.s x86_64/b2-v3.s aarch64/b2.s; do
     printf '\t.globl\tmain_%s\n' "${text##*[-/]}" >"$repository/dist/$text"
 done
-cat >"$room/part" <<END
+cat >"$work/part" <<END
 #!/usr/bin/env bash
 name=\$(basename "\$(dirname "\$(readlink -f "\$0")")")/\$(basename "\$0")
-echo "\$name \$(printf '<%s>' "\$@")" | sed "s|</.*/\\(b2[^>]*\\)>|<\\1>|" >>"$room/calls"
-grep -q "^== .*\${name#bin/}\( \|\$\)" "$room/errors" || echo "\$name" >>"$room/unnamed"
-[ "\$*" != current ] || { [ ! -e "$room/stale" ]; exit; }
+echo "\$name \$(printf '<%s>' "\$@")" | sed "s|</.*/\\(b2[^>]*\\)>|<\\1>|" >>"$work/calls"
+grep -q "^== .*\${name#bin/}\( \|\$\)" "$work/errors" || echo "\$name" >>"$work/unnamed"
+[ "\$*" != current ] || { [ ! -e "$work/stale" ]; exit; }
 while read -r part line; do
     [ "\$part" = "\$name" ] || continue
     [ "\$line" != dies ] || kill -9 \$\$
     echo "\${line//;/\$'\n'}"
     said=yes
-done <"$room/prints"
+done <"$work/prints"
 [ "\${said-}" = yes ] || echo "2 passed, 0 failed"
-! grep -q "^\$name status" "$room/statuses"
+! grep -q "^\$name status" "$work/statuses"
 END
-chmod +x "$room/part"
+chmod +x "$work/part"
 for part in tools/{dist,check_{dist,b2,test,program,pages},try_tests}.sh \
     tools/{check_texts,run_examples}.py tools/key_scan/run.sh c/run_tests.sh js/run_tests.sh; do
-    ln "$room/part" "$repository/$part"
+    ln "$work/part" "$repository/$part"
 done
 printf '#!/bin/sh\necho x86-64-v3\n' >"$repository/tools/processor.sh"
-cat >"$room/bin/compiler" <<END
+cat >"$work/bin/compiler" <<END
 #!/bin/sh
-echo "cc \$*" | sed "s|-o [^ ]*/|-o |" >>"$room/calls"
+echo "cc \$*" | sed "s|-o [^ ]*/|-o |" >>"$work/calls"
 while [ "\$1" != -o ]; do shift; done
 cp /bin/true "\$2"
 END
-chmod +x "$repository/tools/processor.sh" "$room/bin/compiler"
-ln -s /bin/true "$room/bin/python3"
+chmod +x "$repository/tools/processor.sh" "$work/bin/compiler"
+ln -s /bin/true "$work/bin/python3"
 
 run() {
-    rm -f "$room/calls"
-    PATH=$room/bin:/usr/bin:/bin CC=$room/bin/compiler "$repository/test" "$@" >"$room/output" \
-        2>"$room/errors"
+    rm -f "$work/calls"
+    PATH=$work/bin:/usr/bin:/bin CC=$work/bin/compiler "$repository/test" "$@" >"$work/output" \
+        2>"$work/errors"
     status=$?
 }
-ends() { [ "$status" -eq "$1" ] && [ "$(tail -n 1 "$room/output")" = "$2" ]; }
-calls() { [ "$(grep -c -- "$1" "$room/calls")" -eq "$2" ]; }
-says() { grep -q -- "$1" "$room/errors"; }
-: >"$room/prints"
-: >"$room/statuses"
+ends() { [ "$status" -eq "$1" ] && [ "$(tail -n 1 "$work/output")" = "$2" ]; }
+calls() { [ "$(grep -c -- "$1" "$work/calls")" -eq "$2" ]; }
+says() { grep -q -- "$1" "$work/errors"; }
+: >"$work/prints"
+: >"$work/statuses"
 
 run
-holds "all parts are counted" ends 0 "24 passed, 0 failed"
-holds "it says what it does and how long it takes" says \
+check "all parts are counted" ends 0 "24 passed, 0 failed"
+check "it says what it does and how long it takes" says \
     "^test: testing the code in dist/, without a proof .* minutes"
-holds "it names each part before it begins" [ ! -e "$room/unnamed" ]
-holds "and how long that takes" says "^== c/run_tests.sh (about [0-9]* minutes)$"
-holds "if it is long" says "^== tools/check_b2.sh$"
-holds "each part's time is printed" says "^== c/run_tests.sh took "
+check "it names each part before it begins" [ ! -e "$work/unnamed" ]
+check "and how long that takes" says "^== c/run_tests.sh (about [0-9]* minutes)$"
+check "if it is long" says "^== tools/check_b2.sh$"
+check "each part's time is printed" says "^== c/run_tests.sh took "
 for part in tools/check_dist.sh tools/check_b2.sh tools/check_test.sh tools/check_texts.py \
     tools/try_tests.sh c/run_tests.sh js/run_tests.sh; do
-    holds "it runs $part" calls "^$part <>" 1
+    check "it runs $part" calls "^$part <>" 1
 done
-holds "dist/ is looked at" calls "^tools/dist.sh <current>" 1
-holds "the programs of dist/ are run" calls "^tools/check_program.sh <b2\(-v2\)\?>" 2
-holds "which the compiler makes" calls \
+check "dist/ is looked at" calls "^tools/dist.sh <current>" 1
+check "the programs of dist/ are run" calls "^tools/check_program.sh <b2\(-v2\)\?>" 2
+check "which the compiler makes" calls \
     "^cc -O2 -DMAIN=main_v[23].s -o b2\(-v2\)\? c/b2.c dist/x86_64/b2-v[23].s$" 2
-holds "the examples are run" calls "^tools/run_examples.py <README.md><docs/TUTORIAL.md>" 1
-holds "the pages are given the program" calls "^tools/check_pages.sh <b2>" 1
-holds "nothing is proved" calls "^bin/rt" 0
-holds "nothing else is called" [ "$(wc -l <"$room/calls")" -eq 14 ]
-holds "no test was skipped, and no line says so" [ "$(grep -c skipped "$room/output")" -eq 0 ]
+check "the examples are run" calls "^tools/run_examples.py <README.md><docs/TUTORIAL.md>" 1
+check "the pages are given the program" calls "^tools/check_pages.sh <b2>" 1
+check "nothing is proved" calls "^bin/rt" 0
+check "nothing else is called" [ "$(wc -l <"$work/calls")" -eq 14 ]
+check "no test was skipped, and no line says so" \
+    [ "$(grep -c 'were skipped\|^skipped' "$work/output")" -eq 0 ]
 
 line="skipped: Rust (no cargo);skipped: ARM (no qemu);7 passed, 1 failed, 2 skipped"
-echo "c/run_tests.sh $line" >"$room/prints"
+echo "c/run_tests.sh $line" >"$work/prints"
 run
-holds "a failure is counted" ends 1 "29 passed, 1 failed"
-holds "what was skipped is listed last" diff - <(tail -n 4 "$room/output") <<'END'
+check "a failure is counted" ends 1 "29 passed, 1 failed"
+check "what was skipped is listed last" diff - <(tail -n 4 "$work/output") <<'END'
 == 2 tests were skipped:
 skipped: Rust (no cargo)
 skipped: ARM (no qemu)
 29 passed, 1 failed
 END
-echo "tools/check_pages.sh no counts" >"$room/prints"
+echo "tools/check_pages.sh no counts" >"$work/prints"
 run
-holds "a part without counts fails" ends 1 "22 passed, 1 failed"
-echo "tools/check_pages.sh dies" >"$room/prints"
+check "a part without counts fails" ends 1 "22 passed, 1 failed"
+echo "tools/check_pages.sh dies" >"$work/prints"
 run
-holds "so does one that is killed" ends 1 "22 passed, 1 failed"
-: >"$room/prints"
-echo "js/run_tests.sh status" >"$room/statuses"
+check "so does one that is killed" ends 1 "22 passed, 1 failed"
+: >"$work/prints"
+echo "js/run_tests.sh status" >"$work/statuses"
 run
-holds "and one whose status is 1" ends 1 "24 passed, 1 failed"
-: >"$room/statuses"
-: >"$room/stale"
+check "and one whose status is 1" ends 1 "24 passed, 1 failed"
+: >"$work/statuses"
+: >"$work/stale"
 run
-holds "and a dist/ of other sources" ends 1 "23 passed, 1 failed"
-rm "$room/stale"
+check "and a dist/ of other sources" ends 1 "23 passed, 1 failed"
+rm "$work/stale"
+
+# What the scripts share: a test that passes, fails, is skipped, and the counts of other scripts.
+shared() {
+    (source "$top/tools/checks.sh" && "$@") >"$work/output" 2>"$work/errors"
+    status=$?
+}
+some_checks() {
+    shown=("$work/more")
+    check "two words" true
+    check "it fails" sh -c 'echo why; echo more >&2; exit 3'
+    check "a variable of a check stays in it" eval 'passed=9'
+    skip "another" "no tool"
+    finish
+}
+all_counts() {
+    local line
+    for line in "0 3 passed, 0 failed" "1 4 passed, 2 failed, 5 skipped" "1 10 passed, 0 failed" \
+        "0 100 passed" "0 1 passed, 0 failed, "; do
+        printf 'a line\n%s\n' "${line#* }" >"$work/counted"
+        add_counts "${line%% *}" "$work/counted"
+    done
+    finish
+}
+shared some_checks
+check "a failed test ends a script with 1" ends 1 "2 passed, 1 failed, 1 skipped"
+check "each test has a line" diff <(grep '^[a-zA-Z]*: ' "$work/output") - <<'END'
+passed: two words
+FAILED: it fails
+passed: a variable of a check stays in it
+skipped: another (no tool)
+END
+check "and a failed one what it printed" [ "$(grep -c '^    \(why\|more\)$' "$work/output")" -eq 2 ]
+shared finish
+check "without one the status is 0" ends 0 "0 passed, 0 failed, 0 skipped"
+shared all_counts
+check "counts of scripts are added, and those without fail" ends 1 "17 passed, 5 failed, 5 skipped"
 
 # Where there is nothing but the commands of any system.
-mkdir "$room/few"
+mkdir "$work/few"
 for name in awk basename bash cat cp dirname flock grep mktemp readlink rm sed tail wc; do
-    ln -s "$(command -v "$name")" "$room/few/"
+    ln -s "$(command -v "$name")" "$work/few/"
 done
-rm -f "$room/calls"
-PATH=$room/few CC=none "$repository/test" >"$room/output" 2>"$room/errors"
+rm -f "$work/calls"
+PATH=$work/few CC=none "$repository/test" >"$work/output" 2>"$work/errors"
 status=$?
-holds "without a compiler and python3 the rest is tested" ends 0 "15 passed, 0 failed"
-holds "that are these parts" diff - <(sed 's/ .*//' "$room/calls" | LC_ALL=C sort) <<'END'
+check "without a compiler and python3 the rest is tested" ends 0 "15 passed, 0 failed"
+check "that are these parts" diff - <(sed 's/ .*//' "$work/calls" | LC_ALL=C sort) <<'END'
 c/run_tests.sh
 js/run_tests.sh
 tools/check_b2.sh
@@ -127,7 +161,7 @@ tools/check_test.sh
 tools/dist.sh
 tools/try_tests.sh
 END
-holds "and what was skipped is listed" diff - <(tail -n 5 "$room/output" | LC_ALL=C sort) <<'END'
+check "and what was skipped is listed" diff - <(tail -n 5 "$work/output" | LC_ALL=C sort) <<'END'
 15 passed, 0 failed
 == 3 tests were skipped:
 skipped: the code in dist/, and the pages (no python3)
@@ -136,37 +170,37 @@ skipped: the program in dist/ (no C compiler)
 END
 
 run --prove
-holds "--prove needs rt" ends 1 "0 passed, 1 failed"
-holds "and says so" says "test: the toolchain's command rt is not on the PATH"
-ln "$room/part" "$room/bin/rt"
+check "--prove needs rt" ends 1 "0 passed, 1 failed"
+check "and says so" says "test: the toolchain's command rt is not on the PATH"
+ln "$work/part" "$work/bin/rt"
 run --prove
-holds "--prove counts all" ends 0 "30 passed, 0 failed"
-holds "it says what it does and how long it takes" says \
+check "--prove counts all" ends 0 "30 passed, 0 failed"
+check "it says what it does and how long it takes" says \
     "^test: proving every crate, comparing dist/ .* minutes on a new machine"
-holds "it names each part before it begins, too" [ ! -e "$room/unnamed" ]
-holds "and how long proofs take" says "^== rt ci (about [0-9]* minutes)$"
-holds "and to compare dist/" says "^== tools/dist.sh check (about [0-9]* minutes)$"
-holds "it proves first, then compares" diff - <(head -n 4 "$room/calls") <<'END'
+check "it names each part before it begins, too" [ ! -e "$work/unnamed" ]
+check "and how long proofs take" says "^== rt ci (about [0-9]* minutes)$"
+check "and to compare dist/" says "^== tools/dist.sh check (about [0-9]* minutes)$"
+check "it proves first, then compares" diff - <(head -n 4 "$work/calls") <<'END'
 bin/rt <ci>
 tools/check_program.sh <crates/b2/out/b2>
 tools/dist.sh <check>
 key_scan/run.sh <>
 END
-holds "then it does what ./test does" [ "$(wc -l <"$room/calls")" -eq 17 ]
-holds "except unproved tests" calls "^tools/try_tests.sh" 0
-echo "tools/dist.sh 5 passed, 4 failed" >"$room/prints"
+check "then it does what ./test does" [ "$(wc -l <"$work/calls")" -eq 17 ]
+check "except unproved tests" calls "^tools/try_tests.sh" 0
+echo "tools/dist.sh 5 passed, 4 failed" >"$work/prints"
 run --prove
-holds "a difference fails it" ends 1 "33 passed, 4 failed"
+check "a difference fails it" ends 1 "33 passed, 4 failed"
 for words in "--quick" "--prove --help" "x"; do
     # shellcheck disable=SC2086
     run $words
-    holds "the words '$words' are refused" ends 2 "0 passed, 1 failed"
-    holds "and nothing is run" [ ! -e "$room/calls" ]
+    check "the words '$words' are refused" ends 2 "0 passed, 1 failed"
+    check "and nothing is run" [ ! -e "$work/calls" ]
 done
 run --help
-holds "help ends with 0" [ "$status" -eq 0 ]
-holds "it is printed" grep -q "^  ./test --prove " "$room/output"
-holds "and runs nothing" [ ! -e "$room/calls" ]
+check "help ends with 0" [ "$status" -eq 0 ]
+check "it is printed" grep -q "^  ./test --prove " "$work/output"
+check "and runs nothing" [ ! -e "$work/calls" ]
 
 # The Makefile, of which nothing is run.
 if command -v make >/dev/null; then
@@ -175,7 +209,7 @@ if command -v make >/dev/null; then
             make -ns --no-print-directory -C "$top" "$name"
         done
     }
-    holds "make's names run these" diff - <(made) <<'END'
+    check "make's names run these" diff - <(made) <<'END'
 ./test
 ./test --prove
 tools/dist.sh make
@@ -186,10 +220,10 @@ tools/pictures.py
 tools/check_pages.sh
 END
     for script in $(made | cut -d ' ' -f 1 | sort -u); do
-        holds "$script is there" [ -x "$top/$script" ]
+        check "$script is there" [ -x "$top/$script" ]
     done
-    make -s --no-print-directory -C "$top" >"$room/output" 2>"$room/errors"
-    holds "make alone lists them" diff <(grep -o '^make [a-z]*' "$room/output") - <<'END'
+    make -s --no-print-directory -C "$top" >"$work/output" 2>"$work/errors"
+    check "make without a name lists them" diff <(grep -o '^make [a-z]*' "$work/output") - <<'END'
 make help
 make test
 make prove
@@ -198,7 +232,7 @@ make bench
 make docs
 END
 else
-    echo "skipped: the Makefile (no make)"
+    skip "the Makefile" "no make"
 fi
 
-counts
+finish

@@ -1,25 +1,72 @@
-# What scripts of checks share; a script reads it by `source`. A script that shows what failed
-# defines `show`, which prints to standard error what the command left.
-passed=0
-failed=0
+# What the scripts of tests share; a script reads it by `source`. It sets `top` to the folder of the
+# repository and `work` to one for temporary files, which is removed at the end, and counts tests.
+top=$(dirname "$(dirname "$(readlink -f "${BASH_SOURCE[0]}")")")
+work=$(mktemp -d)
+trap 'rm -rf "$work"' EXIT
+passed=0 failed=0 skipped=0
 
-show() { :; }
+# The files that show, besides what a failed test printed, why it failed.
+shown=()
 
-# Counts a check of this name: the command's status is 0.
-holds() {
-    local name=$1
-    shift
-    if "$@"; then
-        passed=$((passed + 1))
+has() { command -v "$1" >/dev/null 2>&1; }
+
+pass() {
+    echo "passed: $1"
+    passed=$((passed + 1))
+}
+
+# Counts a failed test of this name, and shows the end of these files.
+fail() {
+    echo "FAILED: $1"
+    [ $# -eq 1 ] || tail -n 40 "${@:2}" 2>&1 | sed 's/^/    /'
+    failed=$((failed + 1))
+}
+
+# Counts a test that can't be made here: NAME WHY.
+skip() {
+    echo "skipped: $1 ($2)"
+    skipped=$((skipped + 1))
+}
+
+# Runs the command in a subshell, as a test of this name.
+check() {
+    if ("${@:2}") >"$work/log" 2>&1; then
+        pass "$1"
     else
-        failed=$((failed + 1))
-        echo "FAILED: $name" >&2
-        show >&2
+        fail "$1" "$work/log" "${shown[@]}"
+        return 1
     fi
 }
 
-# Prints the counts, and answers whether no check failed.
-counts() {
-    echo "$passed passed, $failed failed"
-    [ "$failed" -eq 0 ]
+# Adds the counts of a script that ended with this status and left its output in a file: STATUS
+# FILE. A script that fails says so in both ways, and one without counts has failed.
+add_counts() {
+    local line
+    line=$(tail -n 1 "$2")
+    if [[ $line =~ ^([0-9]+)\ passed,\ ([0-9]+)\ failed(,\ ([0-9]+)\ skipped)?$ ]]; then
+        passed=$((passed + BASH_REMATCH[1]))
+        failed=$((failed + BASH_REMATCH[2]))
+        skipped=$((skipped + ${BASH_REMATCH[4]:-0}))
+        [ "$1" -eq 0 ] || [ "${BASH_REMATCH[2]}" -ne 0 ] || fail "status $1"
+    else
+        fail "no counts: $line"
+    fi
 }
+
+# Runs a script of tests, shows what it printed except its counts, and adds these.
+run_script() {
+    local status
+    "$@" >"$work/script" 2>&1
+    status=$?
+    sed '/^[0-9]* passed, [0-9]* failed/d' "$work/script"
+    add_counts $status "$work/script"
+}
+
+# Prints the counts and ends the script, with status 1 if a test failed.
+finish() {
+    echo "$passed passed, $failed failed, $skipped skipped"
+    exit $((failed > 0))
+}
+
+# The version, which is at the top of CHANGELOG.md, with this instead of its dots.
+version() { sed -nE '/^## [0-9.]+/{s/^## ([0-9.]+).*/\1/p;q}' "$top/CHANGELOG.md" | tr . "${1:-.}"; }

@@ -19,50 +19,29 @@ if [ $# -ne 1 ] || [ ! -f "$1/lib/libblake2_c.a" ]; then
     exit 2
 fi
 folder=$(readlink -f "$1")
-here=$(dirname "$(readlink -f "$0")")
-room=$(mktemp -d)
-trap 'rm -rf "$room"' EXIT
-passed=0 failed=0 skipped=0
-
-finish() {
-    echo "$passed passed, $failed failed, $skipped skipped"
-    [ "$failed" -eq 0 ]
-    exit
-}
-
-pass() {
-    echo "passed: $1"
-    passed=$((passed + 1))
-}
-
-# Says what failed, with what the last run said where the second word is 'log'.
-fail() {
-    echo "FAILED: $1"
-    [ "${2-}" != log ] || sed 's/^/    /' "$room/log"
-    failed=$((failed + 1))
-}
+source "$(dirname "$(readlink -f "$0")")/checks.sh"
 
 # Runs the program's function of this name, and writes the count of each call, one in a line.
 counts() {
     local function=$1 size=$2
-    rm -f "$room"/count "$room"/count.*
+    rm -f "$work"/count "$work"/count.*
     valgrind --tool=callgrind --toggle-collect="$function" --dump-after="$function" \
-        --callgrind-out-file="$room/count" "$room/calls" "$function" "$size" >"$room/log" 2>&1 ||
+        --callgrind-out-file="$work/count" "$work/calls" "$function" "$size" >"$work/log" 2>&1 ||
         return 1
-    find "$room" -name 'count.*' -exec sed -n 's/^totals: //p' {} +
+    find "$work" -name 'count.*' -exec sed -n 's/^totals: //p' {} +
 }
 
 # Checks that all calls take as many instructions, and that there are two for each place.
 check_same() {
     local function=$1 length=$2 name=$3
-    if ! counts "$function" "$length" >"$room/counts"; then
-        fail "$name" log
-    elif [ "$(wc -l <"$room/counts")" -ne $((2 * length)) ] ||
-        [ "$(sort -u "$room/counts" | wc -l)" -ne 1 ]; then
-        sort -n "$room/counts" | sed -n '1p;$p' | tr '\n' ' ' >"$room/log"
-        fail "$name: $(wc -l <"$room/counts") calls, of this and this many instructions" log
+    if ! counts "$function" "$length" >"$work/counts"; then
+        fail "$name" "$work/log"
+    elif [ "$(wc -l <"$work/counts")" -ne $((2 * length)) ] ||
+        [ "$(sort -u "$work/counts" | wc -l)" -ne 1 ]; then
+        sort -n "$work/counts" | sed -n '1p;$p' | tr '\n' ' ' >"$work/log"
+        fail "$name: $(wc -l <"$work/counts") calls, of this and this many instructions" "$work/log"
     else
-        pass "$name: $(head -n 1 "$room/counts") instructions with the call, wherever they differ"
+        pass "$name: $(head -n 1 "$work/counts") instructions with the call, wherever they differ"
     fi
 }
 
@@ -76,7 +55,7 @@ count_of() {
 check_bytes() {
     local function=$1 length=$2 most=$3 name=$4 count
     if ! count=$(count_of "$function" "$length"); then
-        fail "$name" log
+        fail "$name" "$work/log"
     elif [ $((100 * count)) -gt $((most * length)) ]; then
         fail "$name: $count instructions, more than $most for 100 bytes"
     else
@@ -88,7 +67,7 @@ check_bytes() {
 check_share() {
     local function=$1 other=$2 count=$3 most=$4 name=$5 at_once in_turn
     if ! at_once=$(count_of "$function" "$count") || ! in_turn=$(count_of "$other" "$count"); then
-        fail "$name" log
+        fail "$name" "$work/log"
     elif [ $((100 * at_once)) -gt $((most * in_turn)) ]; then
         fail "$name: $at_once instructions, and $in_turn one by one: more than $most of 100"
     else
@@ -99,8 +78,8 @@ check_share() {
 # The build that runs here, by the name of its function in a count. Where the library holds one
 # build alone, its line for pkg-config says which.
 build_here() {
-    counts hash_many_blake2b 1 >"$room/counts" || return 1
-    case $(find "$room" -name 'count.*' -exec grep -ho 'blake2_c_blake2b_many_[0-9_]*_v[23]' {} + |
+    counts hash_many_blake2b 1 >"$work/counts" || return 1
+    case $(find "$work" -name 'count.*' -exec grep -ho 'blake2_c_blake2b_many_[0-9_]*_v[23]' {} + |
         sort -u) in
         *_v2) echo x86-64-v2 ;;
         *_v3) echo x86-64-v3 ;;
@@ -132,17 +111,13 @@ check_at_once() {
 }
 
 for tool in cc valgrind; do
-    if ! command -v "$tool" >/dev/null; then
-        echo "skipped: the counts of instructions (no $tool)"
-        skipped=1
+    has "$tool" || {
+        skip "the counts of instructions" "no $tool"
         finish
-    fi
+    }
 done
-if ! cc -O0 -I"$folder/include" -o "$room/calls" "$here/count_instructions.c" \
-    "$folder/lib/libblake2_c.a" -Wl,-z,now >"$room/log" 2>&1; then
-    fail "the build of tools/count_instructions.c" log
-    finish
-fi
+check "the build of tools/count_instructions.c" cc -O0 -I"$folder/include" -o "$work/calls" \
+    "$top/tools/count_instructions.c" "$folder/lib/libblake2_c.a" -Wl,-z,now || finish
 for length in 1 8 15 16 17 31 32 33 63 64 65 200; do
     check_same compare_is_same "$length" "blake2_c_is_same of $length bytes"
 done
@@ -155,9 +130,8 @@ done
 case $(build_here) in
     x86-64-v3) check_at_once ;;
     x86-64-v2)
-        echo "skipped: leaves and messages in parallel (the build for x86-64-v2 gains little)"
-        skipped=$((skipped + 1))
+        skip "leaves and messages in parallel" "the build for x86-64-v2 gains little"
         ;;
-    *) fail "the name of the build that runs here" log ;;
+    *) fail "the name of the build that runs here" "$work/log" ;;
 esac
 finish

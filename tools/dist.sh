@@ -15,21 +15,18 @@
 # tools, or none, it does what `current` does and says so. Its last line is 'N passed, M failed, K
 # skipped'. The status is 1 if something failed.
 set -euo pipefail
-top=$(dirname "$(dirname "$(readlink -f "$0")")")
+source "$(dirname "$(readlink -f "$0")")/checks.sh"
 manifest=$top/dist/MANIFEST
 files=(aarch64/b2.s aarch64/blake2_c.s wasm/blake2_c.wasm
     x86_64/b2-v2.s x86_64/b2-v3.s x86_64/blake2_c-v2.s x86_64/blake2_c-v3.s)
 source "$top/tools/kit.sh"
 
-fail() {
+stop() {
     echo "dist.sh: $1" >&2
     exit 1
 }
 
 usage() { sed -n '2,/^set /{/^set /d;s/^#\{0,1\} \{0,1\}//;p}' "$0"; }
-
-# The version, which is at the top of CHANGELOG.md, with _ for the dots.
-version() { sed -nE '/^## [0-9.]+/{s/^## ([0-9.]+).*/\1/;s/\./_/g;p;q}' "$top/CHANGELOG.md"; }
 
 # A hash of all that decides what is compiled except the toolchain. A line that is a comment decides
 # nothing.
@@ -42,7 +39,7 @@ sources() {
             echo "== $file"
             sed '/^[[:space:]]*\/\//d' "$file"
         done
-        version
+        version _
         cat tools/plain_names.py tools/aarch64_attributes.csv
     } | sha256sum | cut -d ' ' -f 1
 }
@@ -75,7 +72,7 @@ build() {
             more=(-mllvm "-forceattrs-csv-path=$top/tools/aarch64_attributes.csv")
             ;;
         wasm/*.wasm) target=wasm64-unknown-unknown cpu=lime1 more=(-msimd128) ;;
-        *) fail "there is no file $file in dist/" ;;
+        *) stop "there is no file $file in dist/" ;;
     esac
     [ "$crate" != b2 ] || kind=()
     echo "dist.sh: building $file" >&2
@@ -86,7 +83,7 @@ build() {
         --target "$target" --cpu "$cpu" --toolchain "$room/toolchain" -o "$room/built" \
         >"$room/log" 2>&1 || {
         cat "$room/log" >&2
-        fail "$file was not built"
+        stop "$file was not built"
     }
     if [ "${file##*.}" = wasm ]; then
         link_module "$room/built" "$to" 2>>"$room/log"
@@ -94,7 +91,7 @@ build() {
         {
             echo "/* Made by tools/dist.sh from the proved crate $crate." \
                 "dist/README.md says how. */"
-            "$top/tools/plain_names.py" "_$(version)_$end" <"$room/toolchain/module.s"
+            "$top/tools/plain_names.py" "_$(version _)_$end" <"$room/toolchain/module.s"
         } >"$to"
     fi
 }
@@ -106,7 +103,7 @@ make() {
     for crate in blake2_c b2; do
         [[ " $*" == */"$crate"[-.]* ]] || continue
         mkdir "$work/$crate"
-        prove_libraries "$crate" "$work/log" || fail "the crates below $crate are not proved"
+        prove_libraries "$crate" "$work/log" || stop "the crates below $crate are not proved"
     done
     for crate in blake2_c b2; do
         for file; do
@@ -133,23 +130,22 @@ write_manifest() {
 
 # ---- checking
 
-check() {
-    local file skipped=0 passed failed
-    source "$top/tools/checks.sh"
-    holds "the files of dist/ are those that MANIFEST names" is_whole
-    holds "dist/ was made from these sources (tools/dist.sh make)" is_current
-    if ! command -v rt >/dev/null || ! has_same_tools; then
-        echo "skipped: whether dist/ is what the proofs build:" \
-            "it was made with another toolchain, $(said kit)"
-        skipped=${#files[@]}
-    else
-        "$0" make "$work/dist" "${files[@]}" || fail "nothing was compared"
+compare_all() {
+    local file
+    check "the files of dist/ are those that MANIFEST names" is_whole || :
+    check "dist/ was made from these sources (tools/dist.sh make)" is_current || :
+    if ! has rt || ! has_same_tools; then
         for file in "${files[@]}"; do
-            holds "$file is what the proofs build" cmp "$top/dist/$file" "$work/dist/$file"
+            skip "whether $file is what the proofs build" \
+                "it was made with another toolchain, $(said kit)"
+        done
+    else
+        "$0" make "$work/dist" "${files[@]}" || stop "nothing was compared"
+        for file in "${files[@]}"; do
+            check "$file is what the proofs build" cmp "$top/dist/$file" "$work/dist/$file" || :
         done
     fi
-    echo "$passed passed, $failed failed, $skipped skipped"
-    [ "$failed" -eq 0 ]
+    finish
 }
 
 case ${1-},$# in
@@ -159,15 +155,10 @@ case ${1-},$# in
         exit
         ;;
     check,1 | make,1 | make,[3-9]) ;;
-    *) fail "usage: tools/dist.sh make|check|current, or tools/dist.sh --help" ;;
+    *) stop "usage: tools/dist.sh make|check|current, or tools/dist.sh --help" ;;
 esac
-work=$(mktemp -d)
-trap 'rm -rf "$work"' EXIT
-if [ "$1" = check ]; then
-    check
-    exit
-fi
-command -v rt >/dev/null || fail "the toolchain's command rt is not on the PATH"
+[ "$1" != check ] || compare_all
+has rt || stop "the toolchain's command rt is not on the PATH"
 if [ $# -gt 1 ]; then
     make "$(realpath -m "$2")" "${@:3}"
 else

@@ -9,7 +9,7 @@ if [ "$(uname -m)" = aarch64 ]; then
 fi
 info=${1:-/proc/cpuinfo}
 cpu=x86-64-v3
-for flag in avx avx2 bmi1 bmi2 f16c fma abm movbe; do
+for flag in avx avx2 bmi1 bmi2 f16c fma abm movbe xsave; do
     grep -qsw "$flag" "$info" || cpu=x86-64-v2
 done
 echo "$cpu"

@@ -8,45 +8,29 @@
 # line. It needs the toolchain of Rattle; without its command rt all is skipped. The last line is 'N
 # passed, M failed, K skipped', and the status is 1 if something failed.
 set -u
-top=$(dirname "$(dirname "$(readlink -f "$0")")")
-passed=0 failed=0 skipped=0
+source "$(dirname "$(readlink -f "$0")")/checks.sh"
 [ $# -gt 0 ] || set -- blake2_tests blake2_vectors b2_tests
-
-finish() {
-    echo "$passed passed, $failed failed, $skipped skipped"
-    [ "$failed" -eq 0 ]
-    exit
-}
-
-if ! command -v rt >/dev/null; then
-    echo "skipped: the tests in Rattle (no rt)"
-    skipped=1
+has rt || {
+    skip "the tests in Rattle" "no rt"
     finish
-fi
-log=$(mktemp)
-trap 'rm -f "$log"' EXIT
+}
+log=$work/log
 for crate; do
     (cd "$top/crates/$crate" && rt try --test --seconds 900) >"$log" 2>&1
     count=$((passed + failed + skipped))
     while read -r name result; do
         case $result,$name in
             ok,*) passed=$((passed + 1)) ;;
-            *::memory::*)
-                echo "skipped: $crate, $name (it fills the memory)"
-                skipped=$((skipped + 1))
-                ;;
+            *::memory::*) skip "$crate, $name" "it fills the memory" ;;
             *)
-                echo "FAILED: $crate, $name"
-                grep -a -A 12 "^test $name \.\.\. FAILED" "$log" | sed '1d;/^test /d;s/^/    /'
-                failed=$((failed + 1))
+                grep -a -A 12 "^test $name \.\.\. FAILED" "$log" | sed '1d;/^test /d' >"$work/why"
+                fail "$crate, $name" "$work/why"
                 ;;
         esac
     done < <(sed -nE 's/^test ([a-z0-9_:]+) \.\.\. (ok|FAILED).*$/\1 \2/p' "$log")
     count=$((passed + failed + skipped - count))
     if [ "$count" -eq 0 ] || [ "tests: $count" != "$(grep -a '^tests: ' "$log")" ]; then
-        echo "FAILED: $crate: $count tests ended"
-        tail -n 20 "$log" | sed 's/^/    /'
-        failed=$((failed + 1))
+        fail "$crate: $count tests ended" "$log"
     fi
 done
 finish

@@ -18,10 +18,7 @@ names_of_object() {
 
 # Names that an archive has for itself: those of the builds, which have the version in them, and
 # those of choose.c.
-without_own() { sed "/_$(version_with _)_[a-z0-9]*\$/d;/^blake2_c_\(ask\|find\|level\)\$/d"; }
-version_with() {
-    sed -n 's/^#define VULFSJOR_VERSION "\(.*\)"$/\1/p' "$include/blake2_c.h" | tr . "$1"
-}
+without_own() { sed "/_$(version _)_[a-z0-9]*\$/d;/^blake2_c_\(ask\|find\|level\)\$/d"; }
 
 # Header, archive and shared library have the same functions, and show nothing else.
 names_are_one() {
@@ -43,7 +40,8 @@ join_refuses_a_difference() {
 # The shared library: its name, the version of its functions, what it needs, and that no page of it
 # is written and run.
 shared_library_is_right() {
-    local file=$prefix/lib/libblake2_c.so.0.1.0
+    local file
+    file=$prefix/lib/libblake2_c.so.$(version)
     readelf -dW "$file" >"$work/dynamic" && readelf -lW "$file" >"$work/segments" || return 1
     cat "$work/dynamic"
     grep -q 'SONAME.*\[libblake2_c\.so\.0\]' "$work/dynamic" && ! grep -q TEXTREL "$work/dynamic" &&
@@ -53,7 +51,7 @@ shared_library_is_right() {
     [ "$(readelf --dyn-syms -W "$file" | grep -c ' FUNC  *GLOBAL .*@@BLAKE2_C_0$')" -eq \
         "$(names_of_header | wc -l)" ] &&
         [ "$(readlink "$shared")" = libblake2_c.so.0 ] &&
-        [ "$(readlink "$prefix/lib/libblake2_c.so.0")" = libblake2_c.so.0.1.0 ] &&
+        [ "$(readlink "$prefix/lib/libblake2_c.so.0")" = "libblake2_c.so.$(version)" ] &&
         ! nm -D --undefined-only "$file" |
         grep -vE ' (w|U) (_ITM_|__cxa_finalize|__gmon|abort|write|mem(cpy|move|set))'
 }
@@ -63,7 +61,7 @@ shared_library_is_right() {
 texts_stand_together() {
     local text count=0 objects=()
     for text; do
-        sed "s/$(version_with _)/7_8_9/g" "$text" >"$work/other.s" &&
+        sed "s/$(version _)/7_8_9/g" "$text" >"$work/other.s" &&
             cc -c "$text" -o "$work/text_$count.o" &&
             cc -c "$work/other.s" -o "$work/other_$count.o" &&
             cat "$text" "$work/other.s" >>"$work/all.s" || return 1
@@ -144,15 +142,6 @@ chooses_level() {
         lines=$(sed -n '3,$p' "$work/said")
         [ -z "$lines" ] || [ "$lines" = "$wanted" ]
     fi
-}
-
-# The level of the processor at hand, as the system tells it.
-level_of_system() {
-    local flag level=3
-    for flag in avx avx2 bmi1 bmi2 f16c fma abm movbe xsave; do
-        grep -qsw "$flag" /proc/cpuinfo || level=2
-    done
-    echo $level
 }
 
 # The example of the README, linked statically, on an emulated processor: its digest, or an end with
@@ -243,7 +232,7 @@ runs_cross() {
 
 test_builds() {
     local build family builds=2
-    if [ "$(level_of_system)" = 3 ]; then
+    if [ "$level" = 3 ]; then
         builds="2 3 0"
     else
         skip "the build for x86-64-v3" "the processor is no such"
@@ -327,7 +316,7 @@ test_choosing() {
         skip "the library joined by clang" "no clang"
     fi
     check "choose.c" compile_choose choose -O2 $(compiler_knows) &&
-        check "the choice on this processor" chooses_level "$(level_of_system)" env
+        check "the choice on this processor" chooses_level "$level" env
     test_builds
     test_emulated
     test_cost

@@ -8,7 +8,7 @@ files_below() { (cd "$1" && find . -type f -o -type l | sed 's/^\.\///' | LC_ALL
 # The files of an installation, with this in the place of lib/.
 wanted_files() {
     printf '%s\n' include/blake2_c-libb2/blake2.h include/blake2_c.h "$1libblake2_c.a" \
-        "$1libblake2_c.so" "$1libblake2_c.so.0" "$1libblake2_c.so.0.1.0" "$1libblake2_c-libb2.a" \
+        "$1libblake2_c.so" "$1libblake2_c.so.0" "$1libblake2_c.so.$(version)" "$1libblake2_c-libb2.a" \
         "$1pkgconfig/blake2_c.pc" "$1pkgconfig/blake2_c-static.pc" "$1blake2_c-libb2/libb2.a" \
         "$1blake2_c-libb2/pkgconfig/libb2.pc" "$1libblake2_c-threads.a" \
         "$1pkgconfig/blake2_c-threads.pc" include/blake2_threads.h |
@@ -51,11 +51,8 @@ words_work() {
         program_by_words "$lib/pkgconfig" blake2_c-static /nowhere &&
         program_by_words "$lib/blake2_c-libb2/pkgconfig" libb2 /nowhere &&
         program_with_threads "$lib/pkgconfig" "$lib" &&
-        [ "$(PKG_CONFIG_PATH=$lib/pkgconfig pkg-config --modversion blake2_c)" = \
-            "$(version_of_header)" ]
+        [ "$(PKG_CONFIG_PATH=$lib/pkgconfig pkg-config --modversion blake2_c)" = "$(version)" ]
 }
-
-version_of_header() { sed -n 's/^#define VULFSJOR_VERSION "\(.*\)"$/\1/p' "$include/blake2_c.h"; }
 
 # A folder with a space; then moved as a whole; then uninstalled, where other files stay.
 folder_with_a_space() {

@@ -157,21 +157,6 @@ test_keys() {
     done
 }
 
-# A wrong tag takes as many instructions wherever it differs; leaves and messages are hashed at
-# once.
-test_counts() {
-    local line
-    if ! has valgrind; then
-        skip "counts of instructions" "no valgrind"
-        return
-    fi
-    check "counts of instructions" "$top/tools/count_instructions.sh" "$prefix"
-    while read -r line; do
-        line=${line%)}
-        skip "${line%% (*}" "${line#* (}"
-    done < <(sed -n 's/^skipped: //p' "$work/log")
-}
-
 test_examples() {
     check "the example in C of c/README.md" c_example cc blake2_c-static c
     check "the example in C with the shared library" c_example cc blake2_c c
@@ -199,7 +184,9 @@ test_languages() {
     test_keys
     if has python3; then
         for family in b s; do test_family $family; done
-        test_counts
+        # A wrong tag takes as many instructions wherever it differs; leaves and messages are hashed
+        # at once.
+        run_script "$top/tools/count_instructions.sh" "$prefix"
         test_examples
     else
         skip "the known answers and the examples" "no python3"

@@ -19,8 +19,7 @@ test_secrets() {
         skip "branches and addresses by secrets" "no valgrind with its headers, or no python3"
         return
     fi
-    ! chooses || builds="2 3"
-    ! chooses || grep -qw avx2 /proc/cpuinfo || builds=2
+    ! chooses || builds=$(seq -s " " 2 "$level")
     # Of the cases each seventeenth: memcheck is slow.
     mkdir "$work/cases"
     for family in b s; do

@@ -13,7 +13,7 @@
 # 'N passed, M failed, K skipped', and the status is 1 where one failed.
 set -u
 here=$(dirname "$(readlink -f "$0")")
-top=$(dirname "$(dirname "$here")")
+source "$here/../checks.sh"
 cpu=$("$top/tools/processor.sh")
 while [ $# -gt 0 ]; do
     case $1 in
@@ -23,67 +23,46 @@ while [ $# -gt 0 ]; do
 done
 if ! [[ $cpu =~ ^x86-64-v[23]$ ]]; then
     echo "usage: tools/key_scan/run.sh [--cpu x86-64-v2|x86-64-v3]" >&2
-    echo "0 passed, 1 failed, 0 skipped"
+    echo "0 passed, 1 failed"
     exit 2
 fi
-passed=0 failed=0 skipped=0
-
-finish() {
-    echo "$passed passed, $failed failed, $skipped skipped"
-    [ "$failed" -eq 0 ]
-    exit
-}
-
-# Says that this failed, and shows what was printed.
-fail() {
-    echo "FAILED: $1"
-    tail -n 40 "$room/log" | sed 's/^/    /'
-    failed=$((failed + 1))
-}
-
 for tool in rt cc python3; do
-    if ! command -v "$tool" >/dev/null; then
-        echo "skipped: copies of a secret on the stack after calls in Rattle (no $tool)"
-        skipped=1
+    has "$tool" || {
+        skip "copies of a secret on the stack after calls in Rattle" "no $tool"
         finish
-    fi
+    }
 done
-room=$(mktemp -d)
-trap 'rm -rf "$room"' EXIT
-
 source "$top/tools/kit.sh"
 
 # Builds the calls over what is proved. Crates that are not proved yet are proved first.
 build() {
     local kit
     kit=$(kit_folder)
-    prove_libraries blake2_plain "$room/proofs" && mkdir -p "$room/src" &&
-        cp "$here/keyed.txt" "$room/src/lib.rt" &&
-        build_crate "$room" keyed blake2 "$room" --crate-type staticlib --cpu "$cpu" \
-            --toolchain "$kit/toolchain" -o "$room/keyed.a"
+    prove_libraries blake2_plain "$work/proofs" && mkdir -p "$work/src" &&
+        cp "$here/keyed.txt" "$work/src/lib.rt" &&
+        build_crate "$work" keyed blake2 "$work" --crate-type staticlib --cpu "$cpu" \
+            --toolchain "$kit/toolchain" -o "$work/keyed.a"
 }
 
 # Builds and runs the search after a message of so many bytes. Without -z now the loader's first
 # look-up of a name saves vector registers on the stack.
 scan() {
-    python3 "$here/secret_values.py" "$1" >"$room/secrets.h" &&
+    python3 "$here/secret_values.py" "$1" >"$work/secrets.h" &&
         cc -O1 -Wall -Wextra -Werror -march="$cpu" -fno-omit-frame-pointer -mno-red-zone \
-            -Wl,-z,now -I"$room" -o "$room/scan" "$here/scan.c" "$room/keyed.a" && "$room/scan"
+            -Wl,-z,now -I"$work" -o "$work/scan" "$here/scan.c" "$work/keyed.a" && "$work/scan"
 }
 
-if ! (build) >"$room/log" 2>&1; then
-    fail "the build of tools/key_scan/keyed.txt for $cpu"
-    finish
-fi
+check "the build of tools/key_scan/keyed.txt for $cpu" build || finish
 for length in 0 64 1000; do
-    scan "$length" >"$room/log" 2>&1
+    scan "$length" >"$work/log" 2>&1
     status=$?
-    sed "s/^passed: \|^FAILED: /&$cpu, /" "$room/log"
-    count=$(grep -c '^FAILED: ' "$room/log")
-    passed=$((passed + $(grep -c '^passed: ' "$room/log")))
+    sed "s/^passed: \|^FAILED: /&$cpu, /" "$work/log"
+    count=$(grep -c '^FAILED: ' "$work/log")
+    passed=$((passed + $(grep -c '^passed: ' "$work/log")))
     failed=$((failed + count))
-    if [ "$count" -eq 0 ] && { [ "$status" -ne 0 ] || [ "$(wc -l <"$room/log")" -ne 12 ]; }; then
-        fail "the search after a message of $length bytes ends with $status, not with 12 lines"
+    if [ "$count" -eq 0 ] && { [ "$status" -ne 0 ] || [ "$(wc -l <"$work/log")" -ne 12 ]; }; then
+        fail "the search after a message of $length bytes ends with $status, not with 12 lines" \
+            "$work/log"
     fi
 done
 finish

@@ -11,15 +11,12 @@
 # The last line counts, and the status is 0 where no test failed.
 set -u
 here=$(dirname "$(readlink -f "$0")")
-c=$(dirname "$(dirname "$here")")
+source "$here/../../../tools/checks.sh"
 if [ $# -gt 1 ]; then
     echo "usage: c/tests/outsiders/outsiders.sh [CASES]" >&2
     exit 2
 fi
 cases=${1:-20000}
-work=$(mktemp -d)
-trap 'rm -rf "$work"' EXIT
-passed=0 failed=0 skipped=0
 
 # The words of the compiler for a library: by pkg-config, or as its pages have them.
 words_of() {
@@ -30,30 +27,25 @@ compare() {
     local name=$1 header=$2 build
     shift 2
     if ! echo "#include <$header>" | cc -fsyntax-only "$@" -x c - 2>"$work/log"; then
-        echo "skipped: $name (no $header)"
-        skipped=$((skipped + 1))
+        skip "$name" "no $header"
         return
     fi
     for build in x86-64-v2 x86-64-v3 chosen; do
-        if cc -std=gnu99 -O2 -Wall -Wextra -Werror -I"$c/include" "$here/$name.c" \
-            "$work/$build/libblake2_c.a" "$@" -o "$work/$name" >"$work/log" 2>&1 &&
-            "$work/$name" "$cases" >"$work/log"; then
-            echo "passed: $name on $build, $(tail -n 1 "$work/log")"
-            passed=$((passed + 1))
-        else
-            echo "FAILED: $name on $build"
-            sed 's/^/    /' "$work/log"
-            failed=$((failed + 1))
-        fi
+        check "$name on $build, $cases cases" run_calls "$name" "$build" "$@"
     done
 }
 
-texts=("$(dirname "$c")"/dist/x86_64/blake2_c-v[23].s)
-"$c/join.sh" "$work/x86-64-v2" "${texts[0]}" && "$c/join.sh" "$work/x86-64-v3" "${texts[1]}" &&
-    "$c/join.sh" "$work/chosen" "${texts[@]}" || exit 2
+run_calls() {
+    cc -std=gnu99 -O2 -Wall -Wextra -Werror -I"$top/c/include" "$here/$1.c" \
+        "$work/$2/libblake2_c.a" "${@:3}" -o "$work/$1" && "$work/$1" "$cases"
+}
+
+texts=("$top"/dist/x86_64/blake2_c-v[23].s)
+join=$top/c/join.sh
+"$join" "$work/x86-64-v2" "${texts[0]}" && "$join" "$work/x86-64-v3" "${texts[1]}" &&
+    "$join" "$work/chosen" "${texts[@]}" || exit 2
 compare libsodium sodium.h $(words_of libsodium -lsodium)
 compare libgcrypt gcrypt.h $(words_of libgcrypt -lgcrypt)
 compare botan botan/ffi.h $(words_of botan-2 "-I/usr/include/botan-2 -lbotan-2")
 compare openssl openssl/core_names.h $(words_of libcrypto -lcrypto)
-echo "$passed passed, $failed failed, $skipped skipped"
-[ "$failed" -eq 0 ]
+finish
