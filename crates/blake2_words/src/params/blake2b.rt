@@ -13,10 +13,6 @@ use crate::consts::BLAKE2B_IV;
 use crate::words::blake2b::{to_rows, to_words, xor_rows};
 use blake2_rows::rows::u64x4;
 
-// The largest node offset that has room in its 8 bytes: that of the type, so none is refused for
-// it.
-const LAST_OFFSET: u64 = u64::MAX;
-
 /// Returns whether BLAKE2b accepts these tree parameters: at least one level and an inner node's
 /// digest of at most 64 bytes (the BLAKE2 document, 2.8 and 2.10).
 pub fn admits_tree(tree: &Tree) -> bool
@@ -24,7 +20,7 @@ pub fn admits_tree(tree: &Tree) -> bool
 {
     // A copy, whose type bounds the numbers that are not looked at.
     let place = *tree;
-    place.depth >= 1 && place.inner_length <= 64 && place.node_offset <= LAST_OFFSET
+    place.depth >= 1 && place.inner_length <= 64
 }
 
 /// Returns whether BLAKE2b accepts these parameters: a digest and a key of at most 64 bytes, a
