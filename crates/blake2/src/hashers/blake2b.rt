@@ -44,17 +44,6 @@ impl<const N: usize> Blake2b<N> {
             context: Blake2bContext::new(core, LazyBuffer::default()),
         }
     }
-
-    // A hasher with this persona that has absorbed nothing, of a hash that is the whole tree.
-    fn with_persona(persona: &[u8]) -> Self
-        requires supported { N ≤ 64 }
-        requires persona { length persona.now ≤ 16 }
-        ensures { Fresh (blake2b_meaning N)
-            (node_digest_of blake2b N [] persona.now None sequential) 0 result }
-    {
-        let tree = Tree::sequential();
-        Self::new_with_tree(&[], persona, &tree)
-    }
 }
 
 impl<const N: usize> BlockSizeUser for Blake2b<N> {
@@ -142,7 +131,7 @@ impl<const N: usize> CustomizedInit for Blake2b<N> {
         ensures { Fresh (blake2b_meaning N)
             (node_digest_of blake2b N [] customization.now None sequential) 0 result }
     {
-        Self::with_persona(customization)
+        Self::new_with_tree(&[], customization, &Tree::sequential())
     }
 }
 
@@ -159,7 +148,7 @@ impl<const N: usize> Digest<N> for Blake2b<N> {
         ensures { Fresh (blake2b_meaning N)
             (node_digest_of blake2b N [] [] None sequential) 0 result }
     {
-        Self::with_persona(&[])
+        Self::new_with_tree(&[], &[], &Tree::sequential())
     }
 }
 

@@ -44,17 +44,6 @@ impl<const N: usize> Blake2s<N> {
             context: Blake2sContext::new(core, LazyBuffer::default()),
         }
     }
-
-    // A hasher with this persona that has absorbed nothing, of a hash that is the whole tree.
-    fn with_persona(persona: &[u8]) -> Self
-        requires supported { N ≤ 32 }
-        requires persona { length persona.now ≤ 8 }
-        ensures { Fresh (blake2s_meaning N)
-            (node_digest_of blake2s N [] persona.now None sequential) 0 result }
-    {
-        let tree = Tree::sequential();
-        Self::new_with_tree(&[], persona, &tree)
-    }
 }
 
 impl<const N: usize> BlockSizeUser for Blake2s<N> {
@@ -142,7 +131,7 @@ impl<const N: usize> CustomizedInit for Blake2s<N> {
         ensures { Fresh (blake2s_meaning N)
             (node_digest_of blake2s N [] customization.now None sequential) 0 result }
     {
-        Self::with_persona(customization)
+        Self::new_with_tree(&[], customization, &Tree::sequential())
     }
 }
 
@@ -159,7 +148,7 @@ impl<const N: usize> Digest<N> for Blake2s<N> {
         ensures { Fresh (blake2s_meaning N)
             (node_digest_of blake2s N [] [] None sequential) 0 result }
     {
-        Self::with_persona(&[])
+        Self::new_with_tree(&[], &[], &Tree::sequential())
     }
 }
 
