@@ -20,7 +20,6 @@ import subprocess
 import sys
 import tempfile
 import unittest
-from functools import partial
 from unittest import mock
 
 HERE = os.path.dirname(os.path.abspath(__file__))
@@ -64,6 +63,11 @@ def killed_once(folder, path, length, leaf_size, first, leaves):
         except FileExistsError:
             pass
     return noted(folder, path, length, leaf_size, first, leaves)
+
+
+def too_long(_folder, path, length, *given):
+    """hash_range of a file that has a byte fewer than the client has seen."""
+    return hash_range(path, length + 1, *given)
 
 
 class Here:
@@ -126,15 +130,51 @@ class RootTest(Case):
         found = dask_root.tree_root(self.client, self.path, 65536)
         self.assertEqual(found, tree_root(message, 65536, 64))
 
+    def test_leaves_of_ranges(self):
+        asked = []
+
+        def stand_in(_path, _length, _leaf_size, first, leaves):
+            asked.append((first, leaves))
+            return bytes(64 * leaves)
+
+        def ask(length, *given):
+            asked.clear()
+            self.write(0)
+            os.truncate(self.path, length)
+            dask_root.tree_root(self.client, self.path, *given)
+            return asked
+
+        dask_root.hash_range = stand_in
+        # Fours of leaves, at least one four.
+        for size, part in ((1, 4), (5 * LEAF, 4), (8 * LEAF - 1, 4), (8 * LEAF, 8),
+                           (13 * LEAF, 12), (31 * LEAF, 28), (1 << 40, 31)):
+            self.assertEqual(ask(30 * LEAF + 1, LEAF, size),
+                             [(first, min(part, 31 - first)) for first in range(0, 31, part)])
+        # Of 64 MiB if no size is given.
+        self.assertEqual(ask((64 << 20) + 1, 65536), [(0, 1024), (1024, 1)])
+
+    def test_symbolic_link(self):
+        message = self.write(3 * RANGE)
+        link = self.path + ".link"
+        os.symlink(self.path, link)
+        root = dask_root.tree_root(self.client, link, LEAF, RANGE)
+        self.assertEqual(root, tree_root(message, LEAF, 64))
+
     def test_wrong_answers_are_refused(self):
         self.write(3 * RANGE)
-        for cut in (-64, -1, 0):
-            dask_root.hash_range = lambda *given: (hash_range(*given) + bytes(64))[:cut or None]
-            if cut == -64:
-                dask_root.tree_root(self.client, self.path, LEAF, RANGE)
-                continue
-            with self.assertRaisesRegex(ValueError, "bytes came for 8 leaves from 0 on"):
-                dask_root.tree_root(self.client, self.path, LEAF, RANGE)
+        for wrong in (0, 8, 16):
+            for change in (-64, -1, 1, 64):
+
+                def answer(*given):
+                    digests = hash_range(*given)
+                    if given[3] != wrong:
+                        return digests
+                    return digests[:change] if change < 0 else digests + bytes(change)
+
+                dask_root.hash_range = answer
+                words = f"^{512 + change} bytes came for 8 leaves from {wrong} on$"
+                with self.assertRaisesRegex(ValueError, words):
+                    dask_root.tree_root(self.client, self.path, LEAF, RANGE)
 
     def test_files_that_change(self):
         self.write(RANGE)
@@ -146,6 +186,12 @@ class RootTest(Case):
             self.assertEqual(len(dask_root.read_at(file, 10, 7990)), 10)
             with self.assertRaisesRegex(EOFError, "ended before byte 8001"):
                 dask_root.read_at(file, 11, 7990)
+        # It becomes shorter once its length is known.
+        with mock.patch("os.fstat", return_value=mock.Mock(st_size=9000)):
+            with self.assertRaisesRegex(EOFError, "ended before byte 9000"):
+                hash_range(self.path, 9000, LEAF, 8, 1)
+        with self.assertRaises(FileNotFoundError):
+            hash_range(self.path + ".absent", RANGE, LEAF, 0, 8)
         with self.assertRaises(FileNotFoundError):
             dask_root.tree_root(self.client, self.path + ".absent", LEAF)
 
@@ -191,6 +237,12 @@ class ClusterTest(Case):
             found = dask_root.tree_root(self.client, self.path, LEAF, RANGE)
             self.assertEqual(found, tree_root(message, LEAF, 64))
 
+    def test_error_of_a_worker(self):
+        self.write(3 * RANGE)
+        self.use(too_long)
+        with self.assertRaisesRegex(ValueError, "has 24000 bytes on this worker, and not 24001"):
+            dask_root.tree_root(self.client, self.path, LEAF, RANGE)
+
     def test_lost_worker(self):
         before = set(self.client.run(os.getpid).values())
         message = self.write(60 * RANGE)
@@ -206,6 +258,20 @@ class ClusterTest(Case):
         again = [first for worker, first in calls if worker not in lost]
         self.assertEqual(len(held), 3)
         self.assertEqual(sorted(again), list(range(0, 480, 8)))
+
+    def record(self, name, **more):
+        """A list of what dask_root makes from now on by the class of this name, each with its
+        keyword arguments, to which `more` are added."""
+        made, make = [], getattr(dask_root, name)
+
+        def recorded(*given, **named):
+            made.append((named, make(*given, **named, **more)))
+            return made[-1][1]
+
+        patch = mock.patch.object(dask_root, name, recorded)
+        patch.start()
+        self.addCleanup(patch.stop)
+        return made
 
     def run_main(self, *words):
         """Runs the program in this process, and returns its status, output and errors."""
@@ -225,13 +291,20 @@ class ClusterTest(Case):
     def test_program(self):
         message = self.write(200000)
         line = "{}  message\n"
-        with mock.patch("dask_root.LocalCluster", partial(LocalCluster, n_workers=1)):
-            # Dask and its web server may have words for developers on standard error.
-            wanted = line.format(tree_root(message, 65536, 64).hex())
-            self.assertEqual(self.run_main("message")[:2], (0, wanted))
+        clusters, clients = self.record("LocalCluster", n_workers=1), self.record("Client")
+        # Dask and its web server may have words for developers on standard error.
+        wanted = line.format(tree_root(message, 65536, 64).hex())
+        self.assertEqual(self.run_main("message")[:2], (0, wanted))
+        (named, cluster), (_, client) = clusters.pop(), clients.pop()
+        self.assertEqual(named, {"threads_per_worker": 1, "dashboard_address": None})
+        self.assertEqual((cluster.status.name, client.status), ("closed", "closed"))
         address = self.cluster.scheduler_address
-        self.assertEqual(self.run_main("--leaf", "777", "--scheduler", address, "message"),
-                         (0, line.format(tree_root(message, 777, 64).hex()), ""))
+        for length, leaf in ((200000, 777), (200000, 2**32 - 1), (5, 1)):
+            message = self.write(length)
+            self.assertEqual(self.run_main("--leaf", str(leaf), "--scheduler", address, "message"),
+                             (0, line.format(tree_root(message, leaf, 64).hex()), ""))
+            self.assertEqual(clients.pop()[1].status, "closed")
+        self.assertEqual(clusters, [])
         status, out, errors = self.run_main("--scheduler", address, "absent")
         self.assertEqual((status, out), (1, ""))
         self.assertRegex(errors, "(?m)^dask_root.py: .*No such file or directory: '.*/absent'$")
