@@ -97,7 +97,8 @@ IsCause fault words left rest failed =
     IsFaultOfWords fault words left rest failed
     ⊎ IsOkAnd (task_of words) (λ task. IsDue fault task left failed)
 
--- An error with its cause has this status, and the sink accepted its line.
+-- An error with its cause, other than a write error, has this status, and the sink accepted its
+-- line.
 pub record IsTold (words : List (List ℕ)) (left rest : Option (List ℕ)) (failed : Bool) (status : ℕ)
     (old new : Option (List ℕ)) : Type 0 where
   pub fault : Fault

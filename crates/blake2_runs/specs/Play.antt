@@ -86,13 +86,14 @@ abbrev pub play_call : {S : Type 0} → Meaning S → S → Slots → ℕ → Ca
 play_call m first slots i call =
     at_slot i (slice_index_or slots (slot_of call) None) (play_live m first slots i call)
 
--- The digests of earlier calls, followed by those of later ones.
+-- The digests of earlier calls, followed by those of later ones, or the error of a later one.
 abbrev pub after : List (List ℕ) → Result (List (List ℕ)) ReplayFault
     → Result (List (List ℕ)) ReplayFault
 after earlier (Ok later) = Ok (earlier ++ later)
 after earlier (Err fault) = Err fault
 
--- The digests of a call, followed by those that f has for the slots that it leaves.
+-- The digests of a call, followed by those that f has for the slots that it leaves, or the error of
+-- the call.
 abbrev pub followed_by : Result Outcome ReplayFault → (Slots → Result (List (List ℕ)) ReplayFault)
     → Result (List (List ℕ)) ReplayFault
 followed_by (Ok left) f = after left.digests (f left.slots)

@@ -6,8 +6,8 @@ use Rattle.blake2_digest.specs.States.{Meaning}
 use Rattle.blake2_tree.specs.TreeRoot.{TreeParameters}
 use Rattle.blake2_tree.specs.Ranges.{range_digests}
 
--- The digests that y adds, if the open leaf has room for `room` more bytes and its digest after
--- them is `open_leaf`, as the last leaf or not. If y fits, that leaf is the last. Otherwise the
+-- The digests that y adds, if the open leaf has room for `room` more bytes, and has the digest
+-- `open_leaf` after them, as the last leaf or not. If y fits, that leaf is the last. Otherwise the
 -- leaf is full, and the rest of y makes the leaves from index `next` on.
 unfoldable pub digests_to_come : TreeParameters → (Bool → List ℕ → List ℕ) → ℕ → ℕ → List ℕ → List ℕ
 digests_to_come p open_leaf room next y =
