@@ -11,13 +11,10 @@ A worker reads its ranges itself and returns 64 bytes for each leaf. The root is
 vulfsjor.tree_root and of `b2 tree b512 BYTES`, whatever the number of workers and the size of the
 ranges. If a worker is lost, Dask repeats its ranges on another one.
 
-What is proved: the digests of all ranges, joined in order, give the root of the file. What is not:
-that each range was hashed, once, and that a worker hashed the bytes that it was told to. Digests of
-leaves carry no key, so whoever can answer in place of a worker can choose what the root is of. Use
-the cluster's TLS to know the workers. A worker that has a secret key from somewhere else (not from
-the scheduler) can also return a tag of its answer, such as blake2b(digests, key=key, salt=range
-number, person=b"ranges"), which the client compares by `verify`. This shows that a holder of the
-key has answered, and nothing about which bytes it has read.
+It is proved that the digests of all ranges, joined in order, have the root of the file. It is not
+proved that each range was hashed once, nor that a worker read the right bytes. Leaves have no key,
+so anyone who can send digests can choose the message of the root. Use the cluster's TLS to know the
+workers; docs/LARGE.md says how a worker can also send a tag.
 """
 import argparse
 import contextlib

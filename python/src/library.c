@@ -1,4 +1,4 @@
-/* BLAKE2b and BLAKE2s for Python, with the interface of hashlib's, by the proved functions of the
+/* BLAKE2b and BLAKE2s for Python, with the interface of hashlib, by the proved functions of the
  * library blake2_c, whose assembly is linked with this file. */
 #include "library.h"
 

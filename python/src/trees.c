@@ -195,7 +195,7 @@ PyMethodDef tree_functions[] = {
      "tree_leaves(data, /, leaf_size, *, first, ends, salt=b'', person=b'')\n--\n\n"
      "Return the digests of a range of the leaves of tree_root, 64 bytes each, as bytes.\n\n"
      "The data is leaf first, counted from 0, and the leaves after it. ends says whether the\n"
-     "message ends with the data. If not, the data must be whole leaves. Take ends from the\n"
+     "message ends with the data. If not, the data must be whole leaves. Compute ends from the\n"
      "length of the message: a wrong value makes a wrong root, and no error. The digests of all\n"
      "ranges of a message, joined in order, are what tree_root_of_leaves accepts. The GIL is\n"
      "released meanwhile."},
@@ -433,10 +433,9 @@ static PyMethodDef methods[] = {
     {"next_leaves", WITH_WORDS(next_leaves),
      "next_leaves($self, data, /, skip=0)\n--\n\n"
      "Return the digests of whole leaves that follow all data so far, 64 bytes each, as bytes.\n\n"
-     "The data so far must be whole leaves too. The first leaf of the data is the one that skip\n"
-     "leaves separate from the next one. The hasher stays as it is, so threads may hash\n"
-     "different leaves by one hasher. update_leaves then absorbs the digests. The GIL is\n"
-     "released meanwhile."},
+     "The data so far must be whole leaves too. The first leaf of the data is skip leaves after\n"
+     "the next leaf of the hasher. The hasher is unchanged, so threads may hash different leaves\n"
+     "with one hasher. update_leaves then absorbs the digests. The GIL is released meanwhile."},
     {"update_leaves", update_leaves, METH_VARARGS,
      "update_leaves($self, digests, data, /)\n--\n\n"
      "Absorb whole leaves, given by their joined digests, and then the data.\n\n"

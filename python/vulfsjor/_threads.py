@@ -156,9 +156,9 @@ def tree_root(data: "Buffer", /, leaf_size: int, *, digest_size: SupportsIndex =
     bytes (the BLAKE2 document, section 2.10: fanout 0, depth 2, inner size 64, and the
     last-node flag on the last leaf and the root). It is not a BLAKE2b digest of the data.
 
-    threads is the number of threads that hash, 0 for all processors that this process may
-    run on. Fewer are started for data of less than 1 MiB for each, or if the system refuses
-    to start them. The root is the same for each number. The GIL is released meanwhile.
+    threads is the number of threads that hash; 0 is one for each processor that this process
+    may run on. Fewer are started for data of less than 1 MiB for each, or if the system refuses
+    to start them. The root is the same for any number. The GIL is released meanwhile.
     """
     threads = _thread_count(threads)
     view = None if threads == 1 else memoryview(_library.plain_bytes(data))
@@ -186,10 +186,10 @@ class TreeHasher(_library.TreeHasher):
     def update(self, data: "Buffer", /, *, threads: SupportsIndex = 1) -> None:
         """Absorb the data after all earlier data.
 
-        Pieces of many leaves suit it best, since whole leaves that more data follows are hashed
+        Pieces of many leaves are fastest, since whole leaves that more data follows are hashed
         four at a time. threads is as in tree_root: threads hash the whole leaves of the data that
-        others follow. If the call is interrupted, the hasher is as before. If another thread
-        updates it meanwhile, that is a RuntimeError, and the data is not absorbed.
+        more data follows. If the call is interrupted, the hasher is unchanged. If another thread
+        updates it meanwhile, the call raises RuntimeError and does not absorb the data.
         """
         threads = _thread_count(threads)
         view = None if threads == 1 else memoryview(_library.plain_bytes(data))
@@ -274,8 +274,8 @@ def tree_root_file(path: "FileDescriptorOrPath", /, leaf_size: int, *,
 
     path is a path, or the descriptor of an open file. A regular file is hashed from its first
     byte, and the position of the descriptor stays. Anything else, such as a pipe or a device,
-    is read to its end by one thread. A file that became shorter meanwhile is an OSError; what
-    is appended meanwhile may be left out.
+    is read to its end by one thread. If the file becomes shorter meanwhile, the call raises
+    OSError; what is appended meanwhile may be left out.
 
     threads is the number of threads that read and hash, as in tree_root, and each has a
     buffer of up to 16 MiB. progress is called from the calling thread with the number of
