@@ -1,13 +1,13 @@
-//! Lists of calls on hashers and MACs.
+//! Lists of calls on hashers.
 
-use crate::inputs::{KEY, check_digits, count_up, reads, take};
-use blake2::calls::{Call, ReplayFault, replay};
+use crate::inputs::{CALLS, check_digits, count_up, reads, take};
+use blake2::calls::{Call, replay};
 use blake2::digest::{Duplicate, FixedOutput, FixedOutputReset, Reset, Update};
-use blake2::{Blake2b256, Blake2b512, Blake2bMac512, Blake2s256, Blake2sMac256, Digest};
+use blake2::{Blake2b256, Blake2b512, Blake2s256, Digest};
 use std::process::Abort;
 
-/// Checks that a list of calls returns these digests, in hexadecimal.
-pub(crate) fn check_replay<H, const N: usize>(
+// Checks that a list of calls returns these digests, in hexadecimal.
+fn check_replay<H, const N: usize>(
     rt: &(impl Abort + AllocGlobal),
     first: H,
     calls: &[Call<'_>],
@@ -28,51 +28,14 @@ where
 
 #[test]
 fn copy_and_finalize_hashers(rt: HostRuntime) {
-    let calls = [
-        Call::Update(0, b"ab"),
-        Call::Clone(0),
-        Call::Update(0, b"c"),
-        Call::FinalizeReset(0),
-        Call::Update(1, b"c"),
-        Call::Finalize(1),
-        Call::Finalize(0),
-    ];
     let abc = "ba80a53f981c4d0d6a2797b69f12f6e94c212f14685ac4b74b12bb6fdbffa2d1\
                7d87c5392aab792dc252d5de4533cc9518d38aa8dbf1925ab92386edd4009923";
     let nothing = "786a02f742015903c6c6fd852552d272912f4740e15847618a86e217f71f5419\
                    d25e1031afee585313896444934eb04b903a685b1448b755d56f701afe9be2ce";
-    check_replay::<_, 64>(&rt, Blake2b512::new(), &calls, &[abc, abc, nothing]);
+    check_replay::<_, 64>(&rt, Blake2b512::new(), &CALLS, &[abc, abc, nothing]);
     let abc = "508c5e8c327c14e2e1a72ba34eeb452f37458b209ed63a294d999b4c86675982";
     let nothing = "69217a3079908094e11121d042354a7c1f55b6482ca1a51e1b250dfd1ed0eef9";
-    check_replay::<_, 32>(&rt, Blake2s256::new(), &calls, &[abc, abc, nothing]);
-}
-
-#[test]
-fn reset_macs(rt: HostRuntime) {
-    let calls = [
-        Call::Update(0, b"a"),
-        Call::Reset(0),
-        Call::FinalizeReset(0),
-        Call::Clone(0),
-        Call::Finalize(1),
-    ];
-    let mac = Blake2sMac256::new_with_salt_and_personal(Some(&KEY), b"", b"personal");
-    let output = "25a4ee63b594aed3f88a971e1877ef7099534f9097291f88fb86c79b5e70d022";
-    check_replay::<_, 32>(&rt, mac.expect(&rt, output), &calls, &[output, output]);
-    let mac = Blake2bMac512::new_with_salt_and_personal(Some(&KEY), b"", b"personal");
-    let output = "03de3b295dcfc3b25b05abb09bc95fe3e9ff3073638badc68101d1e42019d077\
-                  1dd07525a3aae8318e92c5e5d967ba92e4810d0021d7bf3b49da0b4b4a8a4e1f";
-    check_replay::<_, 64>(&rt, mac.expect(&rt, output), &calls, &[output, output]);
-}
-
-#[test]
-fn refuse_the_first_bad_call(rt: HostRuntime) {
-    let calls = [Call::Finalize(0), Call::Update(0, b"a"), Call::Reset(7)];
-    let refused = replay::<_, 64>(rt.alloc(), Blake2b512::new(), &calls);
-    assert!(rt; matches!(refused, Err(ReplayFault::NoSuchSlot(1))));
-    let calls = [Call::Clone(1)];
-    let refused = replay::<_, 32>(rt.alloc(), Blake2s256::new(), &calls);
-    assert!(rt; matches!(refused, Err(ReplayFault::NoSuchSlot(0))));
+    check_replay::<_, 32>(&rt, Blake2s256::new(), &CALLS, &[abc, abc, nothing]);
 }
 
 // Checks the digest of the digests of the first 1 to 1,000 bytes, each by a copy in a separate

@@ -3,7 +3,7 @@
 
 ghost use Rattle.std.specs.Prelude.{◌≤◌, length};
 
-use crate::inputs::{LENGTHS, check_digits, count_up, reads, take};
+use crate::inputs::{LENGTHS, check_digits, count_up, take};
 use blake2::digest::{Duplicate, FixedOutput, FixedOutputReset, Reset};
 use blake2::{
     Blake2b128, Blake2b256, Blake2b512, Blake2bMac512, Blake2s128, Blake2s256, Blake2sMac256,
@@ -130,34 +130,6 @@ fn authenticate_two_pieces_by_blake2s(rt: HostRuntime) {
     check_blake2s(&rt, Some(&[42]), b"salt", b"persona", wanted);
     let wanted = "b8567a8c63227534d0f2f24350a2516f2545f3f2081ccded8591d47881f59a20";
     check_blake2s(&rt, None, b"salt", b"persona", wanted);
-}
-
-// Checks the output for `hello` of a MAC that a reset made forget `world`, and then again.
-fn check_resets<M: FixedOutputReset<N> + Drop, const N: usize>(
-    rt: &impl Abort,
-    mut mac: M,
-    wanted: &str,
-) {
-    take(rt, &mut mac, b"world");
-    mac.reset();
-    take(rt, &mut mac, b"hello");
-    assert!(rt;
-        reads(mac.finalize_fixed_reset().as_slice(), wanted),
-        "{wanted}"
-    );
-    take(rt, &mut mac, b"hello");
-    assert!(rt; reads(mac.finalize_fixed().as_slice(), wanted), "{wanted}");
-}
-
-#[test]
-fn keep_key_salt_and_persona_over_resets(rt: HostRuntime) {
-    let mac = Blake2bMac512::new_with_salt_and_personal(Some(&[42]), b"salt", b"persona");
-    let wanted = "09fa78046355a58ececd765baba1728f205a607b426735d29db84ac43afddf1c\
-                  7296b4541530caa9acc98df48f9e5ca355fae94ba05fd79b046c4025259aa4e1";
-    check_resets(&rt, mac.expect(&rt, wanted), wanted);
-    let mac = Blake2sMac256::new_with_salt_and_personal(Some(&[42]), b"salt", b"persona");
-    let wanted = "30d8bff3d330fe5584722b37eeb1eb479b9a0090a956d88c4a672dfcc5a2d995";
-    check_resets(&rt, mac.expect(&rt, wanted), wanted);
 }
 
 // Checks the calls of `Digest` between two pieces, and absorbs the digests of the first and of

@@ -1,15 +1,60 @@
-//! Nodes of trees of hashes and their last-node flag, against the digests of Python's hashlib under
-//! the salt `salt` and the persona `persona`: each has 16 bytes, as a number, high byte first.
+//! Nodes of trees of hashes and their last-node flag, against the digests of Python's hashlib.
+
+ghost use Rattle.std.specs.Prelude.{◌<◌, ◌≤◌};
 
 use crate::inputs::{reads, take};
-use blake2::digest::{
-    Duplicate, FixedOutputReset, LazyBuffer, Reset, UpdateCore, VariableOutputCore,
-};
+use blake2::digest::{Duplicate, FixedOutputReset, LazyBuffer, Reset, VariableOutputCore};
 use blake2::{Blake2b128, Blake2bVarCore, Blake2s128, Blake2sVarCore, Digest, LastNode, Tree};
 use std::process::Abort;
 
+// The first 16 bytes of a core's output for 200 bytes 2a, as a number, high byte first.
+fn output_of<C: VariableOutputCore<B, M>, const B: usize, const M: usize>(
+    rt: &impl Abort,
+    core: &mut C,
+) -> u128
+    requires nonzero { 0 < B }
+    requires block { B ≤ 128 }
+    requires least { 16 ≤ M }
+    requires most { M ≤ 64 }
+{
+    let mut buffer = LazyBuffer::<B>::default();
+    assert!(rt; core.counted() == 0);
+    buffer.digest_blocks(&[b'*'; 200], core);
+    let counted = core.counted();
+    let pending = buffer.get_pos();
+    assert!(rt; counted <= 200 && pending <= 200);
+    let mut out = [0; M];
+    core.finalize_variable_core(&mut buffer, &mut out);
+    let out = &out[..];
+    let mut first = [0; 16];
+    first.copy_from_slice(&out[..16]);
+    u128::from_be_bytes(first)
+}
+
+// Checks the outputs of a core with the last-node flag on and off: a copy has the flag, and a
+// finalization and a reset keep it.
+fn check_core<C, const B: usize, const M: usize>(rt: &impl Abort, fresh: C, on: u128, off: u128)
+where
+    C: VariableOutputCore<B, M> + Duplicate + Reset + LastNode + Drop,
+    requires nonzero { 0 < B }
+    requires block { B ≤ 128 }
+    requires least { 16 ≤ M }
+    requires most { M ≤ 64 }
+{
+    let mut core = fresh;
+    core.set_last_node(true);
+    let mut copy = core.duplicate();
+    assert!(rt; output_of::<C, B, M>(rt, &mut core) == on, "{on:x}");
+    assert!(rt; output_of::<C, B, M>(rt, &mut copy) == on, "{on:x}");
+    core.reset();
+    assert!(rt; output_of::<C, B, M>(rt, &mut core) == on, "{on:x}");
+    core.reset();
+    core.set_last_node(false);
+    assert!(rt; output_of::<C, B, M>(rt, &mut core) == off, "{off:x}");
+}
+
 #[test]
-fn hash_a_node_of_blake2b(rt: HostRuntime) {
+fn finalize_nodes(rt: HostRuntime) {
     let tree = Tree {
         fanout: 2,
         depth: 3,
@@ -18,70 +63,10 @@ fn hash_a_node_of_blake2b(rt: HostRuntime) {
         node_depth: 1,
         inner_length: 64,
     };
-    let on = 0xd83e7da6c64e48ec8736d25affd11a9c;
-    let off = 0xf437c443eb8724a060fb0c1238a3128a;
-    let mut hasher = Blake2b128::new_with_tree(b"salt", b"persona", &tree);
-    Digest::update(&mut hasher, b"ab");
-    hasher.set_last_node(true);
-    Digest::update(&mut hasher, b"c");
-    // Copies have the flag, and a reset keeps it.
-    assert!(rt; u128::from_be_bytes(hasher.duplicate().finalize()) == on);
-    assert!(rt; u128::from_be_bytes(hasher.clone().expect(&rt, "a clone").finalize()) == on);
-    assert!(rt; u128::from_be_bytes(hasher.finalize_reset()) == on);
-    Digest::update(&mut hasher, b"*");
-    Digest::reset(&mut hasher);
-    Digest::update(&mut hasher, b"abc");
-    assert!(rt; u128::from_be_bytes(hasher.finalize_reset()) == on);
-    // It is off at first, and once it is set off again.
-    let mut hasher = Blake2b128::new_with_tree(b"salt", b"persona", &tree);
-    Digest::update(&mut hasher, b"abc");
-    assert!(rt; u128::from_be_bytes(hasher.duplicate().finalize()) == off);
-    hasher.set_last_node(true);
-    assert!(rt; u128::from_be_bytes(hasher.duplicate().finalize()) == on);
-    hasher.set_last_node(false);
-    assert!(rt; u128::from_be_bytes(hasher.finalize()) == off);
-}
-
-// The output for 200 bytes 2a, as the core of BLAKE2b returns it.
-fn finalize_blake2b(rt: &impl Abort, core: &mut Blake2bVarCore) -> u128 {
-    let mut buffer = LazyBuffer::<128>::default();
-    assert!(rt; core.counted() == 0);
-    buffer.digest_blocks(&[b'*'; 200], core);
-    let counted = core.counted();
-    let pending = buffer.get_pos();
-    assert!(rt; counted <= 200 && pending <= 200);
-    let mut out = [0; 64];
-    core.finalize_variable_core(&mut buffer, &mut out);
-    let mut first = [0; 16];
-    first.copy_from_slice(&out[..16]);
-    u128::from_be_bytes(first)
-}
-
-#[test]
-fn finalize_a_node_of_blake2b(rt: HostRuntime) {
-    let tree = Tree {
-        fanout: 2,
-        depth: 3,
-        leaf_length: 4096,
-        node_offset: u64::MAX - 1,
-        node_depth: 1,
-        inner_length: 64,
-    };
-    let mut core = Blake2bVarCore::new_with_tree(b"salt", b"persona", 0, 16, &tree);
-    core.set_last_node(true);
-    let mut copy = core.duplicate();
-    assert!(rt; finalize_blake2b(&rt, &mut core) == 0x04a52bc275493b1e9aad139bc4c48022);
-    assert!(rt; finalize_blake2b(&rt, &mut copy) == 0x04a52bc275493b1e9aad139bc4c48022);
-    // A finalization keeps the flag, and so does a reset.
-    core.reset();
-    assert!(rt; finalize_blake2b(&rt, &mut core) == 0x04a52bc275493b1e9aad139bc4c48022);
-    core.reset();
-    core.set_last_node(false);
-    assert!(rt; finalize_blake2b(&rt, &mut core) == 0x1bcf88105db6d47ef7f8c4525171b830);
-}
-
-#[test]
-fn hash_a_node_of_blake2s(rt: HostRuntime) {
+    let core = Blake2bVarCore::new_with_tree(b"salt", b"persona", 0, 16, &tree);
+    let on = 0x04a52bc275493b1e9aad139bc4c48022;
+    let off = 0x1bcf88105db6d47ef7f8c4525171b830;
+    check_core::<Blake2bVarCore, 128, 64>(&rt, core, on, off);
     let tree = Tree {
         fanout: 0,
         depth: 255,
@@ -90,99 +75,10 @@ fn hash_a_node_of_blake2s(rt: HostRuntime) {
         node_depth: 254,
         inner_length: 32,
     };
-    let on = 0x52f1f0350a58182eb9562cbe354e838a;
-    let off = 0x82626e96288de6e47d181c24d91510af;
-    let mut hasher = Blake2s128::new_with_tree(b"salt", b"persona", &tree);
-    Digest::update(&mut hasher, b"ab");
-    hasher.set_last_node(true);
-    Digest::update(&mut hasher, b"c");
-    // Copies have the flag, and a reset keeps it.
-    assert!(rt; u128::from_be_bytes(hasher.duplicate().finalize()) == on);
-    assert!(rt; u128::from_be_bytes(hasher.clone().expect(&rt, "a clone").finalize()) == on);
-    assert!(rt; u128::from_be_bytes(hasher.finalize_reset()) == on);
-    Digest::update(&mut hasher, b"*");
-    Digest::reset(&mut hasher);
-    Digest::update(&mut hasher, b"abc");
-    assert!(rt; u128::from_be_bytes(hasher.finalize_reset()) == on);
-    // It is off at first, and once it is set off again.
-    let mut hasher = Blake2s128::new_with_tree(b"salt", b"persona", &tree);
-    Digest::update(&mut hasher, b"abc");
-    assert!(rt; u128::from_be_bytes(hasher.duplicate().finalize()) == off);
-    hasher.set_last_node(true);
-    assert!(rt; u128::from_be_bytes(hasher.duplicate().finalize()) == on);
-    hasher.set_last_node(false);
-    assert!(rt; u128::from_be_bytes(hasher.finalize()) == off);
-}
-
-// The output for 200 bytes 2a, as the core of BLAKE2s returns it.
-fn finalize_blake2s(rt: &impl Abort, core: &mut Blake2sVarCore) -> u128 {
-    let mut buffer = LazyBuffer::<64>::default();
-    assert!(rt; core.counted() == 0);
-    buffer.digest_blocks(&[b'*'; 200], core);
-    let counted = core.counted();
-    let pending = buffer.get_pos();
-    assert!(rt; counted <= 200 && pending <= 200);
-    let mut out = [0; 32];
-    core.finalize_variable_core(&mut buffer, &mut out);
-    let mut first = [0; 16];
-    first.copy_from_slice(&out[..16]);
-    u128::from_be_bytes(first)
-}
-
-#[test]
-fn finalize_a_node_of_blake2s(rt: HostRuntime) {
-    let tree = Tree {
-        fanout: 0,
-        depth: 255,
-        leaf_length: u32::MAX,
-        node_offset: (1 << 48) - 1,
-        node_depth: 254,
-        inner_length: 32,
-    };
-    let mut core = Blake2sVarCore::new_with_tree(b"salt", b"persona", 0, 16, &tree);
-    core.set_last_node(true);
-    let mut copy = core.duplicate();
-    assert!(rt; finalize_blake2s(&rt, &mut core) == 0x52cef7a497f72d4c2e9f0077ee696b5d);
-    assert!(rt; finalize_blake2s(&rt, &mut copy) == 0x52cef7a497f72d4c2e9f0077ee696b5d);
-    // A finalization keeps the flag, and so does a reset.
-    core.reset();
-    assert!(rt; finalize_blake2s(&rt, &mut core) == 0x52cef7a497f72d4c2e9f0077ee696b5d);
-    core.reset();
-    core.set_last_node(false);
-    assert!(rt; finalize_blake2s(&rt, &mut core) == 0xe19b64a7d213fcbd9aecb37e619ed84b);
-}
-
-#[test]
-fn admit_trees(rt: HostRuntime) {
-    let sequential = Tree::sequential();
-    assert!(rt; Blake2bVarCore::admits_tree(&sequential));
-    assert!(rt; Blake2sVarCore::admits_tree(&sequential));
-    // Offset, depth and inner length, and whether BLAKE2b and BLAKE2s accept them.
-    for (node_offset, depth, inner_length, by_blake2b, by_blake2s) in [
-        ((1 << 48) - 1, 255, 32, true, true),
-        (1 << 48, 255, 32, true, false),
-        (u64::MAX, 1, 64, true, false),
-        (0, 1, 33, true, false),
-        (0, 1, 65, false, false),
-        (0, 0, 0, false, false),
-    ] {
-        let tree = Tree {
-            fanout: 0,
-            depth,
-            leaf_length: u32::MAX,
-            node_offset,
-            node_depth: 255,
-            inner_length,
-        };
-        let by_both = (
-            Blake2bVarCore::admits_tree(&tree),
-            Blake2sVarCore::admits_tree(&tree),
-        );
-        assert!(rt;
-            by_both == (by_blake2b, by_blake2s),
-            "{node_offset} {depth} {inner_length}"
-        );
-    }
+    let core = Blake2sVarCore::new_with_tree(b"salt", b"persona", 0, 16, &tree);
+    let on = 0x52cef7a497f72d4c2e9f0077ee696b5d;
+    let off = 0xe19b64a7d213fcbd9aecb37e619ed84b;
+    check_core::<Blake2sVarCore, 64, 32>(&rt, core, on, off);
 }
 
 // Checks that a state that has absorbed `ab` returns the digest of `abc` at the byte `c`, and

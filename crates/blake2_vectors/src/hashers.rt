@@ -78,16 +78,6 @@ fn hash_three_pieces(rt: HostRuntime) {
 }
 
 #[test]
-fn hash_over_block_boundaries(rt: HostRuntime) {
-    let message = [42u8; 300];
-    let wanted = "77ecafa11c24fe1fe99b68cee2ea44cfcb48de579aec5e6e6ea6704409b0756b\
-         1be69c7358b8d2fa601f64ffe43e9fed90f6f0b0ccb357fbea4e5660b9f735a0";
-    check_cuts::<Blake2b512, 64>(&rt, &message, wanted);
-    let wanted = "b18c5abf3e48843fb7efce3826710aa625d60ced6102849ffb07a6ee293e7a12";
-    check_cuts::<Blake2s256, 32>(&rt, &message, wanted);
-}
-
-#[test]
 fn hash_to_other_sizes(rt: HostRuntime) {
     assert!(rt; reads(&Blake2b::<10>::digest(b"my_input"), "2cc55c84e416924e6400"));
     let none = Blake2b::<0>::digest(b"my_input");

@@ -3,6 +3,7 @@
 
 ghost use Rattle.std.specs.Prelude.{◌≡◌, ◌≤◌, [], length};
 
+use blake2::calls::Call;
 use blake2::digest::Update;
 pub(crate) use blake2::digest::padded;
 use blake2::steps::{Entry, Input, Reading, Step, Transcript, Tree};
@@ -13,6 +14,30 @@ use std::process::Abort;
 pub(crate) const KEY: [u8; 32] = [
     0, 1, 2, 3, 4, 5, 6, 7, 8, 9, 10, 11, 12, 13, 14, 15, 16, 17, 18, 19, 20, 21, 22, 23, 24, 25,
     26, 27, 28, 29, 30, 31,
+];
+
+/// The words of BLAKE2b for the output size 64, a key of one byte, the salt `abc` and the persona
+/// `0123456789abcdef`.
+pub(crate) const WORDS: [u64; 8] = [
+    0x01010140,
+    0,
+    0,
+    0,
+    0x636261,
+    0,
+    0x3736353433323130,
+    0x6665646362613938,
+];
+
+/// Calls that return the digest of `abc` twice, and then that of no bytes.
+pub(crate) const CALLS: [Call<'static>; 7] = [
+    Call::Update(0, b"ab"),
+    Call::Clone(0),
+    Call::Update(0, b"c"),
+    Call::FinalizeReset(0),
+    Call::Update(1, b"c"),
+    Call::Finalize(1),
+    Call::Finalize(0),
 ];
 
 /// Lengths in bytes about the ends of blocks, and of two blocks.
@@ -39,7 +64,7 @@ pub(crate) fn count_up(bytes: &mut [u8]) {
 
 /// Whether these digits, two for each byte, are the bytes in hexadecimal.
 pub(crate) fn reads(bytes: &[u8], digits: &str) -> bool {
-    let mut decoded = [0u8; 64];
+    let mut decoded = [0u8; 128];
     match decoded.get_mut(..bytes.len()) {
         Some(room) => hex::decode_to_slice(digits, room).is_ok() && *room == *bytes,
         None => false,
@@ -131,6 +156,35 @@ pub(crate) fn step<W: Drop, const B: usize>(
         last,
         last_node: false,
     }
+}
+
+/// A last step of BLAKE2b, whose chaining words are the start words after the first of them: IV's
+/// (RFC 7693, 2.6).
+pub(crate) fn blake2b_last(first_word: u64, beginning: &[u8], counter: u64) -> Step<u64, 128>
+    requires { length beginning.now ≤ 128 }
+{
+    let chain = [
+        first_word,
+        0xbb67ae8584caa73b,
+        0x3c6ef372fe94f82b,
+        0xa54ff53a5f1d36f1,
+        0x510e527fade682d1,
+        0x9b05688c2b3e6c1f,
+        0x1f83d9abfb41bd6b,
+        0x5be0cd19137e2179,
+    ];
+    step(chain, beginning, counter, true)
+}
+
+/// A last step of BLAKE2s, whose chaining words are the start words after the first of them.
+pub(crate) fn blake2s_last(first_word: u32, beginning: &[u8], counter: u64) -> Step<u32, 64>
+    requires { length beginning.now ≤ 64 }
+{
+    let chain = [
+        first_word, 0xbb67ae85, 0x3c6ef372, 0xa54ff53a, 0x510e527f, 0x9b05688c, 0x1f83d9ab,
+        0x5be0cd19,
+    ];
+    step(chain, beginning, counter, true)
 }
 
 /// What a transcript of this input and output size is read as.

@@ -3,23 +3,10 @@
 
 ghost use Rattle.std.specs.Prelude.{◌≤◌};
 
-use crate::inputs::{count_up, reads, take};
+use crate::inputs::{count_up, input, reads, take};
 use blake2::digest::{FixedOutput, InvalidLength, KeyInit};
-use blake2::steps::{Input, Tree};
 use blake2::{Blake2b256, Blake2bMac512, Blake2bVarCore, Blake2sMac256, Blake2sVarCore, Digest};
 use std::process::Abort;
-
-// An input of these parts and no message.
-fn input<'a>(key: Option<&'a [u8]>, salt: &'a [u8], persona: &'a [u8]) -> Input<'a> {
-    Input {
-        salt,
-        persona,
-        key,
-        tree: Tree::sequential(),
-        last_node: false,
-        message: &[],
-    }
-}
 
 // Checks one choice of parts: all functions agree on whether they are accepted, and their output
 // is absorbed.
@@ -74,7 +61,7 @@ fn take_lengths_of_blake2b(rt: HostRuntime) {
                     &mut outputs,
                     lengths,
                     key_fits && salt_fits && persona_fits,
-                    Blake2bVarCore::accepts(&input(key, salt, persona)),
+                    Blake2bVarCore::accepts(&input(key, salt, persona, b"")),
                     Blake2bMac512::new_with_salt_and_personal(key, salt, persona),
                 );
             }
@@ -118,7 +105,7 @@ fn take_lengths_of_blake2s(rt: HostRuntime) {
                     &mut outputs,
                     lengths,
                     key_fits && salt_fits && persona_fits,
-                    Blake2sVarCore::accepts(&input(key, salt, persona)),
+                    Blake2sVarCore::accepts(&input(key, salt, persona, b"")),
                     Blake2sMac256::new_with_salt_and_personal(key, salt, persona),
                 );
             }

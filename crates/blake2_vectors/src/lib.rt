@@ -12,11 +12,7 @@ mod buffer;
 #[cfg(test)]
 mod calls;
 #[cfg(test)]
-mod compressions;
-#[cfg(test)]
 mod copies;
-#[cfg(test)]
-mod cores;
 #[cfg(test)]
 mod flags;
 #[cfg(test)]
@@ -35,8 +31,6 @@ mod lengths;
 mod macs;
 #[cfg(test)]
 mod memory;
-#[cfg(test)]
-mod node_calls;
 #[cfg(test)]
 mod nodes;
 #[cfg(test)]

@@ -1,15 +1,11 @@
 //! Outputs of the MACs, personas of the hashers, and what constructors refuse.
 
-ghost use Rattle.std.specs.Prelude.{◌≤◌};
-
-use crate::inputs::{KEY, check_digits, count_up, reads, take};
+use crate::inputs::{KEY, check_digits, reads, take};
 use blake2::digest::{
-    CustomizedInit, FixedOutput, InvalidLength, InvalidOutputSize, KeyInit, Mac, Update,
-    VariableOutputCore,
+    CustomizedInit, FixedOutput, InvalidLength, InvalidOutputSize, KeyInit, Mac, VariableOutputCore,
 };
 use blake2::{
-    Blake2b128, Blake2b256, Blake2bMac, Blake2bMac512, Blake2bVarCore, Blake2sMac, Blake2sMac256,
-    Blake2sVarCore, Digest,
+    Blake2b128, Blake2bMac, Blake2bMac512, Blake2bVarCore, Blake2sMac256, Blake2sVarCore,
 };
 use std::process::Abort;
 
@@ -124,36 +120,4 @@ fn verify_a_tag_of_blake2s(rt: HostRuntime) {
     assert!(rt; !blake2s_accepts(&rt, beginning));
     let wanted = "529f4f5488fba36a6e6b6ed17a0303e9a0732d86e769eb23523f5eabbb23cfa6";
     check_digits(&rt, tag, wanted);
-}
-
-// Absorbs the outputs over `abc` under the keys 0, 1, 2 and so on, with all their bytes and with
-// one.
-fn take_keyed<M, const K: usize, const N: usize>(rt: &impl Abort, outputs: &mut Blake2b256)
-where
-    M: KeyInit<K> + FixedOutput<N> + Drop,
-    requires supported { M.is_supported }
-    requires key { K ≤ 64 }
-{
-    let mut key = [0; K];
-    count_up(&mut key);
-    let mut mac = M::new(&key);
-    take(rt, &mut mac, b"abc");
-    take(rt, outputs, mac.finalize_fixed().as_slice());
-    let mut mac = M::new_from_slice(&[0]).expect(rt, "a MAC under one byte");
-    take(rt, &mut mac, b"abc");
-    take(rt, outputs, mac.finalize_fixed().as_slice());
-}
-
-// The expected digest of all outputs is that of `tools/expected_values.py`, under `keys`.
-#[test]
-fn authenticate_to_other_sizes(rt: HostRuntime) {
-    let mut outputs = Blake2b256::new();
-    take_keyed::<Blake2bMac<1>, 64, 1>(&rt, &mut outputs);
-    take_keyed::<Blake2bMac<20>, 64, 20>(&rt, &mut outputs);
-    take_keyed::<Blake2bMac<63>, 64, 63>(&rt, &mut outputs);
-    take_keyed::<Blake2sMac<1>, 32, 1>(&rt, &mut outputs);
-    take_keyed::<Blake2sMac<20>, 32, 20>(&rt, &mut outputs);
-    take_keyed::<Blake2sMac<31>, 32, 31>(&rt, &mut outputs);
-    let wanted = "bfd506236e9b8a5d740276cc9b96dd0c699608d0cae18bdc3e20fffe94fcc0ae";
-    assert!(rt; reads(&outputs.finalize(), wanted));
 }

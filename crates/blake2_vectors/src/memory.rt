@@ -3,7 +3,9 @@
 
 ghost use Rattle.std.specs.Prelude.{◌≤◌};
 
-use crate::inputs::{entry, input, reading, step, transcript, unkeyed};
+use crate::inputs::{
+    CALLS, WORDS, blake2b_last, blake2s_last, entry, input, reading, transcript, unkeyed,
+};
 use blake2::calls::{Call, ReplayFault, replay};
 use blake2::steps::{Input, Reading, Transcript};
 use blake2::{Blake2b512, Blake2bVarCore, Blake2sVarCore, Digest};
@@ -91,17 +93,8 @@ const NOTHING: [u8; 64] = [
 fn replay_with(alloc: Global, left: usize) -> Found
     requires { left ≤ 65536 }
 {
-    let calls = [
-        Call::Update(0, b"ab"),
-        Call::Clone(0),
-        Call::Update(0, b"c"),
-        Call::FinalizeReset(0),
-        Call::Update(1, b"c"),
-        Call::Finalize(1),
-        Call::Finalize(0),
-    ];
     let plug = plug(alloc, left);
-    let found = replay::<_, 64>(alloc, Blake2b512::new(), &calls);
+    let found = replay::<_, 64>(alloc, Blake2b512::new(), &CALLS);
     if plug.is_err() {
         return Found::Other;
     }
@@ -185,19 +178,6 @@ fn refuse_no_memory_before_a_bad_call(rt: HostRuntime) {
     drop(hoard);
     check_found(&rt, &found);
 }
-
-// The words of BLAKE2b for the output size 64, a key of one byte, the salt `abc` and the persona
-// `0123456789abcdef`.
-const WORDS: [u64; 8] = [
-    0x01010140,
-    0,
-    0,
-    0,
-    0x636261,
-    0,
-    0x3736353433323130,
-    0x6665646362613938,
-];
 
 // What a transcript finds if a number of bytes are left.
 fn transcript_with(
@@ -317,18 +297,8 @@ fn blake2b_witnesses(alloc: Global) -> bool {
     if !Blake2bVarCore::accepts(&a) || !Blake2bVarCore::accepts(&b) {
         return false;
     }
-    // The start words of a digest of no bytes: IV xored with the parameter words (RFC 7693, 2.5).
-    let chain = [
-        0x6a09e667f2bdc908,
-        0xbb67ae8584caa73b,
-        0x3c6ef372fe94f82b,
-        0xa54ff53a5f1d36f1,
-        0x510e527fade682d1,
-        0x9b05688c2b3e6c1f,
-        0x1f83d9abfb41bd6b,
-        0x5be0cd19137e2179,
-    ];
-    let wanted = (step(chain, b"a", 1, true), step(chain, b"b", 1, true));
+    let word = 0x6a09e667f2bdc908;
+    let wanted = (blake2b_last(word, b"a", 1), blake2b_last(word, b"b", 1));
     Blake2bVarCore::witness(alloc, &a, &b, 0) == Ok(Some(wanted))
         && Blake2bVarCore::witness(alloc, &a, &b, 64) == Ok(None)
         && Blake2bVarCore::witness(alloc, &a, &a, 0) == Ok(None)
@@ -340,11 +310,8 @@ fn blake2s_witnesses(alloc: Global) -> bool {
     if !Blake2sVarCore::accepts(&a) || !Blake2sVarCore::accepts(&b) {
         return false;
     }
-    let chain = [
-        0x6b08e667, 0xbb67ae85, 0x3c6ef372, 0xa54ff53a, 0x510e527f, 0x9b05688c, 0x1f83d9ab,
-        0x5be0cd19,
-    ];
-    let wanted = (step(chain, b"a", 1, true), step(chain, b"b", 1, true));
+    let word = 0x6b08e667;
+    let wanted = (blake2s_last(word, b"a", 1), blake2s_last(word, b"b", 1));
     Blake2sVarCore::witness(alloc, &a, &b, 0) == Ok(Some(wanted))
         && Blake2sVarCore::witness(alloc, &a, &b, 32) == Ok(None)
         && Blake2sVarCore::witness(alloc, &b, &b, 0) == Ok(None)

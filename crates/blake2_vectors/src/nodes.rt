@@ -5,8 +5,8 @@
 ghost use Rattle.std.specs.Prelude.{◌≤◌};
 
 use crate::inputs::{
-    blake2b_reads_as, blake2s_reads_as, check_digest_of, count_up, entry, input, step, transcript,
-    unkeyed,
+    blake2b_last, blake2b_reads_as, blake2s_reads_as, check_digest_of, count_up, entry, input,
+    transcript, unkeyed,
 };
 use blake2::steps::{Entry, Input, Step, Tree};
 use blake2::{Blake2b512, Blake2bVarCore, Blake2s256, Blake2sVarCore, Digest, LastNode};
@@ -159,7 +159,7 @@ fn blake2b_reads(
 }
 
 #[test]
-fn read_places_of_blake2b(rt: HostRuntime) {
+fn read_places(rt: HostRuntime) {
     let block = [0x2a; 128];
     for (place, word, tree) in [
         (2, 0x10000, None),
@@ -187,7 +187,7 @@ fn read_places_of_blake2b(rt: HostRuntime) {
 }
 
 #[test]
-fn read_the_last_node_of_blake2b(rt: HostRuntime) {
+fn read_the_last_node(rt: HostRuntime) {
     let message = [0x2a; 129];
     let words = [0x01010040, 0, 0, 0, 0, 0, 0, 0];
     for (first, second) in [(false, false), (false, true), (true, false), (true, true)] {
@@ -213,7 +213,7 @@ fn read_the_last_node_of_blake2b(rt: HostRuntime) {
 
 // The flag of the only entry, over no message, one of a byte and one of a block.
 #[test]
-fn read_the_last_node_in_one_entry_of_blake2b(rt: HostRuntime) {
+fn read_the_last_node_in_one_entry(rt: HostRuntime) {
     let message = [0x2a; 128];
     let words = [0x01010040, 0, 0, 0, 0, 0, 0, 0];
     for (length, last_node) in [
@@ -238,120 +238,15 @@ fn read_the_last_node_in_one_entry_of_blake2b(rt: HostRuntime) {
     }
 }
 
-// Whether BLAKE2s reads the transcript of these words and entries as this input at its maximum
-// size, or as none.
-fn blake2s_reads(
-    rt: &(impl Abort + AllocGlobal),
-    words: [u32; 8],
-    entries: &[Entry<64>],
-    wanted: Option<Input<'_>>,
-) -> bool {
-    let told = transcript(rt, words, entries);
-    match wanted {
-        Some(input) => blake2s_reads_as(rt, &told, &input, 32),
-        None => Blake2sVarCore::read_transcript(rt.alloc(), &told) == Ok(None),
-    }
-}
-
-#[test]
-fn read_places_of_blake2s(rt: HostRuntime) {
-    let block = [0x2a; 64];
-    for (place, word, tree) in [
-        (3, 0x21000000, None),
-        (0, 0x00010020, None),
-        (3, 0x20010000, Some(at(1, 0, 0, 1, 32))),
-        (0, 0x01000020, Some(at(0, 0, 0, 0, 0))),
-        (2, 1, Some(at(1, 0, 1, 0, 0))),
-        (3, 1, Some(at(1, 0, 0x1_0000_0000, 0, 0))),
-        (1, 7, Some(at(1, 7, 0, 0, 0))),
-    ] {
-        let mut words = [0x01010020, 0, 0, 0, 0, 0, 0, 0];
-        words[place] = word;
-        let entries = [entry(&block, 64, true)];
-        let wanted = match tree {
-            Some(tree) => Some(Input {
-                tree,
-                ..unkeyed(&block)
-            }),
-            None => None,
-        };
-        let is_read = blake2s_reads(&rt, words, &entries, wanted);
-        assert!(rt; is_read, "{place} {word:x}");
-    }
-}
-
-#[test]
-fn read_the_last_node_of_blake2s(rt: HostRuntime) {
-    let message = [0x2a; 65];
-    let words = [0x01010020, 0, 0, 0, 0, 0, 0, 0];
-    for (first, second) in [(false, false), (false, true), (true, false), (true, true)] {
-        let entries = [
-            Entry {
-                last_node: first,
-                ..entry(&message[..64], 64, false)
-            },
-            Entry {
-                last_node: second,
-                ..entry(&message[64..], 65, true)
-            },
-        ];
-        let input = Input {
-            last_node: second,
-            ..unkeyed(&message)
-        };
-        let wanted = if first { None } else { Some(input) };
-        let is_read = blake2s_reads(&rt, words, &entries, wanted);
-        assert!(rt; is_read, "{first} {second}");
-    }
-}
-
-// The same for BLAKE2s.
-#[test]
-fn read_the_last_node_in_one_entry_of_blake2s(rt: HostRuntime) {
-    let message = [0x2a; 64];
-    let words = [0x01010020, 0, 0, 0, 0, 0, 0, 0];
-    for (length, last_node) in [
-        (0, true),
-        (0, false),
-        (1, true),
-        (1, false),
-        (64, true),
-        (64, false),
-    ] {
-        let message = &message[..length];
-        let told = Entry {
-            last_node,
-            ..entry(message, length as u64, true)
-        };
-        let input = Input {
-            last_node,
-            ..unkeyed(message)
-        };
-        let is_read = blake2s_reads(&rt, words, &[told], Some(input));
-        assert!(rt; is_read, "{length} {last_node}");
-    }
-}
-
 // The last step of BLAKE2b over `a` at the size 0, from the start words of this node offset.
-fn blake2b_last(node_offset: u64, last_node: bool) -> Step<u64, 128> {
-    let chain = [
-        0x6a09e667f2bdc908,
-        0xbb67ae8584caa73b ^ node_offset,
-        0x3c6ef372fe94f82b,
-        0xa54ff53a5f1d36f1,
-        0x510e527fade682d1,
-        0x9b05688c2b3e6c1f,
-        0x1f83d9abfb41bd6b,
-        0x5be0cd19137e2179,
-    ];
-    Step {
-        last_node,
-        ..step(chain, b"a", 1, true)
-    }
+fn last_step(node_offset: u64, last_node: bool) -> Step<u64, 128> {
+    let mut last = blake2b_last(0x6a09e667f2bdc908, b"a", 1);
+    last.chain[1] ^= node_offset;
+    Step { last_node, ..last }
 }
 
 #[test]
-fn witness_nodes_of_blake2b(rt: HostRuntime) {
+fn witness_nodes(rt: HostRuntime) {
     let alloc = rt.alloc();
     let a = unkeyed(b"a");
     for (node_offset, last_node) in [(0, true), (1, false), (1, true)] {
@@ -365,59 +260,12 @@ fn witness_nodes_of_blake2b(rt: HostRuntime) {
             ..a
         };
         assert!(rt; Blake2bVarCore::accepts(&a) && Blake2bVarCore::accepts(&b));
-        let x = blake2b_last(0, false);
-        let y = blake2b_last(node_offset, last_node);
+        let x = last_step(0, false);
+        let y = last_step(node_offset, last_node);
         let found = Blake2bVarCore::witness(alloc, &a, &b, 0);
         assert!(rt; found == Ok(Some((x, y))), "{node_offset} {last_node}");
         for (a, b, output_size) in [(a, b, 64), (b, b, 0)] {
             let found = Blake2bVarCore::witness(alloc, &a, &b, output_size);
-            assert!(rt;
-                matches!(found, Ok(None)),
-                "{node_offset} {last_node} {output_size}"
-            );
-        }
-    }
-}
-
-// The last step of BLAKE2s over `a` at the size 0, from the start words of this node offset.
-fn blake2s_last(node_offset: u32, last_node: bool) -> Step<u32, 64> {
-    let chain = [
-        0x6b08e667,
-        0xbb67ae85,
-        0x3c6ef372 ^ node_offset,
-        0xa54ff53a,
-        0x510e527f,
-        0x9b05688c,
-        0x1f83d9ab,
-        0x5be0cd19,
-    ];
-    Step {
-        last_node,
-        ..step(chain, b"a", 1, true)
-    }
-}
-
-#[test]
-fn witness_nodes_of_blake2s(rt: HostRuntime) {
-    let alloc = rt.alloc();
-    let a = unkeyed(b"a");
-    for (node_offset, last_node) in [(0, true), (1, false), (1, true)] {
-        let tree = Tree {
-            node_offset,
-            ..Tree::sequential()
-        };
-        let b = Input {
-            tree,
-            last_node,
-            ..a
-        };
-        assert!(rt; Blake2sVarCore::accepts(&a) && Blake2sVarCore::accepts(&b));
-        let x = blake2s_last(0, false);
-        let y = blake2s_last(node_offset as u32, last_node);
-        let found = Blake2sVarCore::witness(alloc, &a, &b, 0);
-        assert!(rt; found == Ok(Some((x, y))), "{node_offset} {last_node}");
-        for (a, b, output_size) in [(a, b, 32), (b, b, 0)] {
-            let found = Blake2sVarCore::witness(alloc, &a, &b, output_size);
             assert!(rt;
                 matches!(found, Ok(None)),
                 "{node_offset} {last_node} {output_size}"

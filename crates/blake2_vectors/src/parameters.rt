@@ -30,27 +30,26 @@ fn words_of_a_tree_blake2b(rt: HostRuntime) {
         node_depth: 0,
         inner_length: 64,
     };
-    let of_leaf = blake2b::parameter_words(&Parameters {
+    let of_leaf = Parameters {
         output_size: 64,
         key_size: 0,
         salt: &[],
         persona: &[],
         tree: leaf,
-    });
-    assert!(rt; of_leaf == [0x0000100002000040, 3, 0x4000, 0, 0, 0, 0, 0]);
+    };
+    let words = blake2b::parameter_words(&of_leaf);
+    assert!(rt; words == [0x0000100002000040, 3, 0x4000, 0, 0, 0, 0, 0]);
     let root = Tree {
         node_offset: 0,
         node_depth: 1,
         ..leaf
     };
-    let of_root = blake2b::parameter_words(&Parameters {
+    let words = blake2b::parameter_words(&Parameters {
         output_size: 32,
-        key_size: 0,
-        salt: &[],
-        persona: &[],
         tree: root,
+        ..of_leaf
     });
-    assert!(rt; of_root == [0x0000100002000020, 0, 0x4001, 0, 0, 0, 0, 0]);
+    assert!(rt; words == [0x0000100002000020, 0, 0x4001, 0, 0, 0, 0, 0]);
 }
 
 // The same for BLAKE2s, whose node offset has 48 bits.

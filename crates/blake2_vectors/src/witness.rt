@@ -2,41 +2,13 @@
 //! with those of the parameter block (2.5). The chaining words after a first block come from a
 //! plain program of the compression (3.2) in Python, whose digests are those of `hashlib`.
 
-ghost use Rattle.std.specs.Prelude.{◌≤◌, length};
+ghost use Rattle.std.specs.Prelude.{◌≤◌};
 
-use crate::inputs::{input, padded, step, unkeyed};
+use crate::inputs::{blake2b_last, blake2s_last, input, padded, step, unkeyed};
 use blake2::steps::{Input, Step};
-use blake2::{Blake2b, Blake2bVarCore, Blake2s, Blake2sVarCore, Digest};
+use blake2::{Blake2b, Blake2bVarCore, Blake2sVarCore, Digest};
 use std::alloc::AllocError;
 use std::process::Abort;
-
-// A last step of BLAKE2b, whose chaining words are the start words after the first of them.
-fn blake2b_last(first_word: u64, beginning: &[u8], counter: u64) -> Step<u64, 128>
-    requires { length beginning.now ≤ 128 }
-{
-    let chain = [
-        first_word,
-        0xbb67ae8584caa73b,
-        0x3c6ef372fe94f82b,
-        0xa54ff53a5f1d36f1,
-        0x510e527fade682d1,
-        0x9b05688c2b3e6c1f,
-        0x1f83d9abfb41bd6b,
-        0x5be0cd19137e2179,
-    ];
-    step(chain, beginning, counter, true)
-}
-
-// A last step of BLAKE2s, whose chaining words are the start words after the first of them.
-fn blake2s_last(first_word: u32, beginning: &[u8], counter: u64) -> Step<u32, 64>
-    requires { length beginning.now ≤ 64 }
-{
-    let chain = [
-        first_word, 0xbb67ae85, 0x3c6ef372, 0xa54ff53a, 0x510e527f, 0x9b05688c, 0x1f83d9ab,
-        0x5be0cd19,
-    ];
-    step(chain, beginning, counter, true)
-}
 
 // The witness of two inputs, which BLAKE2b is checked to accept.
 fn blake2b_witness(
@@ -117,28 +89,6 @@ fn witness_nothing(rt: HostRuntime) {
 }
 
 #[test]
-fn witness_messages_of_one_block_of_blake2b(rt: HostRuntime) {
-    let word = 0x6a09e667f2bdc908;
-    let found = blake2b_witness(&rt, &unkeyed(b"a"), &unkeyed(b"b"), 0);
-    let wanted = (blake2b_last(word, b"a", 1), blake2b_last(word, b"b", 1));
-    assert!(rt; found == Ok(Some(wanted)));
-    let found = blake2b_witness(&rt, &unkeyed(b""), &unkeyed(b"\0"), 0);
-    let wanted = (blake2b_last(word, b"", 0), blake2b_last(word, b"", 1));
-    assert!(rt; found == Ok(Some(wanted)));
-}
-
-#[test]
-fn witness_messages_of_one_block_of_blake2s(rt: HostRuntime) {
-    let word = 0x6b08e667;
-    let found = blake2s_witness(&rt, &unkeyed(b"a"), &unkeyed(b"b"), 0);
-    let wanted = (blake2s_last(word, b"a", 1), blake2s_last(word, b"b", 1));
-    assert!(rt; found == Ok(Some(wanted)));
-    let found = blake2s_witness(&rt, &unkeyed(b""), &unkeyed(b"\0"), 0);
-    let wanted = (blake2s_last(word, b"", 0), blake2s_last(word, b"", 1));
-    assert!(rt; found == Ok(Some(wanted)));
-}
-
-#[test]
 fn witness_a_key_and_a_message_like_its_block(rt: HostRuntime) {
     let block: [u8; 128] = padded(b"a");
     let found = blake2b_witness(&rt, &keyed(b"a"), &unkeyed(&block), 0);
@@ -153,7 +103,7 @@ fn witness_a_key_and_a_message_like_its_block(rt: HostRuntime) {
 }
 
 #[test]
-fn witness_different_numbers_of_steps_of_blake2b(rt: HostRuntime) {
+fn witness_different_numbers_of_steps(rt: HostRuntime) {
     let message = [0x2a; 129];
     let found = blake2b_witness(&rt, &unkeyed(&message[..128]), &unkeyed(&message), 0);
     let chain = [
@@ -171,27 +121,12 @@ fn witness_different_numbers_of_steps_of_blake2b(rt: HostRuntime) {
     assert!(rt; found == Ok(Some((x, y))));
 }
 
-#[test]
-fn witness_different_numbers_of_steps_of_blake2s(rt: HostRuntime) {
-    let message = [0x2a; 65];
-    let found = blake2s_witness(&rt, &unkeyed(&message[..64]), &unkeyed(&message), 0);
-    let chain = [
-        0xca0e0a4b, 0xfef79605, 0xa2e4c3df, 0x62cb01ab, 0x45d5d3d6, 0x293c6464, 0x0719df00,
-        0xc6972108,
-    ];
-    let x = blake2s_last(0x6b08e667, &message[..64], 64);
-    let y = step(chain, &message[..1], 65, true);
-    assert!(rt; found == Ok(Some((x, y))));
-}
-
 // Two of the 257 messages of two bytes that are the numbers 0 to 256 that have equal digests of
 // one byte.
-fn equal_digests<H: Digest<1> + Drop>() -> Option<(u16, u16)>
-    requires { H.is_supported }
-{
+fn equal_digests() -> Option<(u16, u16)> {
     let mut seen = [None; 256];
     for number in 0..257u16 {
-        let digest = H::digest(&number.to_be_bytes());
+        let digest = Blake2b::<1>::digest(&number.to_be_bytes());
         if let [byte] = digest.as_slice() {
             let place = *byte as usize;
             if let Some(other) = seen[place] {
@@ -204,8 +139,8 @@ fn equal_digests<H: Digest<1> + Drop>() -> Option<(u16, u16)>
 }
 
 #[test]
-fn witness_equal_digests_of_one_byte_of_blake2b(rt: HostRuntime) {
-    let Some((a, b)) = equal_digests::<Blake2b<1>>() else {
+fn witness_equal_digests_of_one_byte(rt: HostRuntime) {
+    let Some((a, b)) = equal_digests() else {
         assert!(rt; false, "no equal digests");
         return;
     };
@@ -214,17 +149,4 @@ fn witness_equal_digests_of_one_byte_of_blake2b(rt: HostRuntime) {
     let word = 0x6a09e667f2bdc909;
     let (x, y) = (blake2b_last(word, &a, 2), blake2b_last(word, &b, 2));
     assert!(rt; blake2b_witness(&rt, &unkeyed(&a), &unkeyed(&b), 1) == Ok(Some((x, y))));
-}
-
-#[test]
-fn witness_equal_digests_of_one_byte_of_blake2s(rt: HostRuntime) {
-    let Some((a, b)) = equal_digests::<Blake2s<1>>() else {
-        assert!(rt; false, "no equal digests");
-        return;
-    };
-    assert!(rt; a != b);
-    let (a, b) = (a.to_be_bytes(), b.to_be_bytes());
-    let word = 0x6b08e666;
-    let (x, y) = (blake2s_last(word, &a, 2), blake2s_last(word, &b, 2));
-    assert!(rt; blake2s_witness(&rt, &unkeyed(&a), &unkeyed(&b), 1) == Ok(Some((x, y))));
 }
