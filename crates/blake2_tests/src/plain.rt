@@ -2,5 +2,4 @@
 
 mod blake2b;
 mod blake2s;
-mod leaves;
 mod trees;

@@ -1,49 +1,7 @@
-//! Roots of plain states against those of `tree_root`.
+//! Roots of plain states, and over digests of leaves, against those of `tree_root`.
 
-ghost use Rattle.std.specs.Prelude.{◌≤◌, length};
-
-use crate::inputs::count_up;
-use blake2_plain::tree::TreeState;
-use blake2_tree::tree_root;
-
-// The roots that a state returns between two pieces of a message and after them; it counts both.
-fn roots_of_pieces(leaf_length: u32, first: &[u8], second: &[u8]) -> Option<([u8; 64], [u8; 64])>
-    requires first { length first.now ≤ 2000 }
-    requires second { length second.now ≤ 2000 }
-{
-    let mut state = TreeState::new(64, b"salt", b"persona", leaf_length).ok()?;
-    let mut between = [0; 64];
-    let mut last = [0; 64];
-    state.update(first);
-    state.write_root(&mut between);
-    if state.counted() != first.len() as u64 {
-        return None;
-    }
-    state.update(second);
-    state.write_root(&mut last);
-    if state.counted() != (first.len() + second.len()) as u64 || !state.is_ready() {
-        return None;
-    }
-    Some((between, last))
-}
-
-// Up to more than nine leaves, and each cut.
-#[test]
-fn plain_roots_of_every_cut(rt: HostRuntime) {
-    let mut text = [0; 160];
-    count_up(&mut text);
-    for (leaf_length, length) in [(1, 20), (7, 70), (16, 160), (200, 160)] {
-        assert!(rt; 1 <= leaf_length && length <= text.len());
-        let message = &text[..length];
-        let root = tree_root::<64>(b"salt", b"persona", leaf_length, message);
-        for cut in 0..length {
-            let (first, second) = message.split_at(cut);
-            let between = tree_root::<64>(b"salt", b"persona", leaf_length, first);
-            let roots = roots_of_pieces(leaf_length, first, second);
-            assert!(rt; roots == Some((between, root)), "{leaf_length}, {cut}");
-        }
-    }
-}
+use blake2_plain::tree::{TreeState, write_root_of_leaves};
+use blake2_tree::{hash_leaves, is_range, leaf_count, tree_root};
 
 // The bytes after the root stay.
 #[test]
@@ -61,12 +19,17 @@ fn plain_root_of_twenty_bytes(rt: HostRuntime) {
     assert!(rt; !state.is_ready());
 }
 
+// The root over digests has the number of bytes that there is room for.
 #[test]
-fn refused_plain_trees(rt: HostRuntime) {
-    assert!(rt; TreeState::new(0, b"", b"", 1).is_err());
-    assert!(rt; TreeState::new(65, b"", b"", 1).is_err());
-    assert!(rt; TreeState::new(64, &[0; 17], b"", 1).is_err());
-    assert!(rt; TreeState::new(64, b"", &[0; 17], 1).is_err());
-    assert!(rt; TreeState::new(64, b"", b"", 0).is_err());
-    assert!(rt; !TreeState::zeros().is_ready());
+fn plain_roots_of_leaves(rt: HostRuntime) {
+    let message = b"abcdefghi";
+    let mut digests = [0; 192];
+    assert!(rt; is_range(4, 0, true, 9) && leaf_count(4, 9) == 3);
+    hash_leaves(b"salt", b"persona", 4, 0, true, message, &mut digests);
+    let mut out = [7; 20];
+    write_root_of_leaves(&mut out, &digests, b"salt", b"persona", 4);
+    assert!(rt; out == tree_root::<20>(b"salt", b"persona", 4, message));
+    let mut longest = [7; 64];
+    write_root_of_leaves(&mut longest, &digests, b"salt", b"persona", 4);
+    assert!(rt; longest == tree_root::<64>(b"salt", b"persona", 4, message));
 }
