@@ -27,9 +27,7 @@ def digest(data):
 
 
 def blake2(family, size, message=b"", key=b"", salt=b"", persona=b""):
-    """The digest of this size; hashlib has none of no bytes."""
-    if size == 0:
-        return b""
+    """The digest of this size."""
     return FAMILIES[family].function(message, digest_size=size, key=key, salt=salt, person=persona).digest()
 
 
@@ -68,23 +66,6 @@ def resets():
         print(f"  {kind}: {digest(digests)}")
 
 
-def keys():
-    """keys: the digest of the outputs over `abc` at 1, 20 and all but one bytes, each under the longest key,
-    0, 1, 2 and so on, and under the key 0."""
-    outputs = b"".join(blake2(family, size, b"abc", ALPHABET[:length]) for family, numbers in FAMILIES.items()
-                       for size in (1, 20, numbers.key - 1) for length in (numbers.key, 1))
-    print(f"  {digest(outputs)}")
-
-
-def cores():
-    """cores: the digest of the outputs over each message, at each size, smallest first."""
-    for family, numbers in FAMILIES.items():
-        for persona in (b"", b"personal"):
-            outputs = b"".join(blake2(family, size, ALPHABET[:length], persona=persona)
-                               for size in range(numbers.key + 1) for length in LENGTHS)
-            print(f"  {family} persona={persona.decode()}: {digest(outputs)}")
-
-
 def lengths():
     """lengths: the digest of the MACs' outputs over no message, at each length that is not refused."""
     for family, numbers in FAMILIES.items():
@@ -109,16 +90,6 @@ def transcripts():
             entries = list(blocks(family, key, ALPHABET[:5000]))
             data = b"".join(struct.pack("<QB", counter, last) + block for counter, last, block in entries)
             print(f"  {family} key={key.decode()}: {len(entries)} entries, {digest(data)}")
-
-
-def options():
-    """options: for each KIND and words in brackets the line of `sum` over `abc`, and the digest of what
-    `steps` prints over it."""
-    for kind, (family, size) in KINDS.items():
-        for texts in itertools.product((b"", b"key"), (b"", b"abc"), (b"", b"persona")):
-            words = [f"{name}={text.hex()}" for name, text in zip(("key", "salt", "persona"), texts) if text]
-            steps = digest(transcript_text(family, size, b"abc", *texts))
-            print(f"{' '.join([kind, *words])}|{blake2(family, size, b'abc', *texts).hex()}|{steps}")
 
 
 def large():
@@ -148,13 +119,14 @@ def texts():
         print(f"tree b512 {leaf}|{digest(roots.encode())}")
 
 
-def longest():
-    """longest: for each KIND the digests of what `sum` and `script`, one after the other, and of what `steps`
-    prints over `abc`, under key, salt and persona of 1 byte and of the most: 0, 1, 2 and so on."""
+def options():
+    """options: for each KIND the digests of what `sum` and `script`, one after the other, and of what `steps`
+    prints over `abc`, under each choice of a key, a salt and a persona that are absent, of 1 byte or of
+    the maximum length: 0, 1, 2 and so on."""
     for kind, (family, size) in KINDS.items():
         numbers = FAMILIES[family]
         sums, steps = b"", b""
-        for choice in itertools.product((1, numbers.key), (1, numbers.salt), (1, numbers.salt)):
+        for choice in itertools.product((0, 1, numbers.key), (0, 1, numbers.salt), (0, 1, numbers.salt)):
             key, salt, persona = (ALPHABET[:length] for length in choice)
             line = blake2(family, size, b"abc", key, salt, persona).hex() + "\n"
             sums += 2 * line.encode()
@@ -281,8 +253,7 @@ def ranges():
 
 
 TABLES = {table.__name__: table for table in (
-    copies, resets, keys, cores, lengths, replays, transcripts, options, large, texts, longest,
-    forged, nodes, trees, ranges)}
+    copies, resets, lengths, replays, transcripts, large, texts, options, forged, nodes, trees, ranges)}
 
 
 def main():

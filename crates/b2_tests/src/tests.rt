@@ -8,7 +8,6 @@ mod devices;
 mod large;
 mod lengths;
 mod memory;
-mod options;
 mod outputs;
 mod refusals;
 mod script;

@@ -1,6 +1,6 @@
-//! Inputs that end near the ends of pieces of 4,096 bytes, and keys, salts and personas of one
-//! byte and of the maximum length. The digests come from `tools/expected_values.py`, under
-//! `texts` and `longest`.
+//! Inputs that end near the ends of pieces of 4,096 bytes, and keys, salts and personas that are
+//! absent, of one byte and of the maximum length. The digests come from
+//! `tools/expected_values.py`, under `texts` and `options`.
 
 use super::{add_output, is_digest_of, text_of};
 use std::alloc::{AllocError, Global};
@@ -20,19 +20,19 @@ tree b512 64|6ddb6c171b252ba67072faaff8f088a4ba04980c48999526b33a3e2fd1e99bf4\n\
 tree b512 4096|4d497f7ac4b02de9b61e49f8de8316b01a22887bdc2ee09cd356187e86a86cc8\n\
 ";
 
-// KIND, the digest of what `sum` and `script` print over `abc` under all choices of lengths, and
+// KIND, the digest of what `sum` and `script` print over `abc` under all choices of options, and
 // that of what `steps` prints.
-const LONGEST: &str = "\
-b128|5f86ac34270813ce2fa65eaf28e11ce4489169a2b14c75787521625a5a3e5665|\
-7a6480bca8d7b41f914ca44e9f3c4d510dd6b390d6b69809b9c307d8a277e388\n\
-b256|d84fad01531eedb1c17b2c56b7522c15a05d36f227968a0840347e390facbfff|\
-8b4aaa9acd9d8efe2419b90f27741614546d07481957210856ebe1f5405135ff\n\
-b512|94d5bd9243068dca00f02bca06b5eb713826e8f31dd6fd85c514fbb37c665a62|\
-511f8a0e9a2593ba8ae6a1e64a4fed17fd08da427d71256eb417ed580eb84c8d\n\
-s128|872b53c764601809a4c436042c4ade7ce4d25bb6298ce22f34774bb866e9478c|\
-e065420551190860c2cd59f462e14b7949bf69276b13c5212135469b2a896ccf\n\
-s256|df6afbc6104dc75c498d85b3ebbd59049592f9acbd69017e138031a492e532dd|\
-d27d61cba45fd39885a479081b3ecc6dbefdefa8cff4cec4f3b7c1e273235c4c\n\
+const OPTIONS: &str = "\
+b128|ab5ab15289af0e07ed52d4172de7103e0a30b675e45dc9ae3f9c4a470db58255|\
+445827a5906585b5139ba1f9e2a584d995f3f30e64765bf453d841f23f2c3ccb\n\
+b256|c26ed164876948f5842478e05a8faa20460f4d8a666dab0c4e4b80a23e38569d|\
+413d40293e377ac6c4375d82820dbe32ad32e0b51ac4d33a441051c823a6abd1\n\
+b512|5d20ae8fcc3dd8c3812495a6ffd8dd2fc4761f5f5f6fd9132c5c00ce6d55f135|\
+af93596877e957218e8c56fd463a55e9f691e086a2a348b3867485d53cbb9c57\n\
+s128|a2e3dbb3356bc698ccd1863fef583d86944ee475c0ce4330d25e11a1985b921c|\
+fa5cec4936125abbe8b4842ebbdcc43535001bc503188ceb7b14d6e4faaaf9db\n\
+s256|639d476061f4031f056ad902bc1846b851c087c25e29757f5e43d57b1b163be2|\
+2b2d4238a32af6b056762061e64eef4d9451828c9461068404e8d4400f2c7f36\n\
 ";
 
 // Returns a script of `length` bytes, at least 10. It updates one slot with zeros, and prints
@@ -85,16 +85,20 @@ fn takes_texts_about_the_ends_of_pieces(rt: HostRuntime) {
     }
 }
 
-// Returns the arguments NAME=HEX for a key, a salt and a persona of these lengths, up to 64 bytes
-// each. The bytes are 0, 1, 2 and so on.
+// Returns the arguments NAME=HEX, each after a space, for a key, a salt and a persona of these
+// lengths, up to 64 bytes each. Those of no bytes are absent. The bytes are 0, 1, 2 and so on.
 fn options_of(alloc: Global, lengths: (usize, usize, usize)) -> Result<String, AllocError> {
     let digits = "000102030405060708090a0b0c0d0e0f101112131415161718191a1b1c1d1e1f\
                   202122232425262728292a2b2c2d2e2f303132333435363738393a3b3c3d3e3f";
     let (key, salt, persona) = lengths;
-    let key = digits.get(..2 * key.min(64)).unwrap_or("");
-    let salt = digits.get(..2 * salt.min(64)).unwrap_or("");
-    let persona = digits.get(..2 * persona.min(64)).unwrap_or("");
-    text_of(alloc, &["key=", key, " salt=", salt, " persona=", persona])
+    let mut options = String::new(alloc);
+    for (name, length) in [(" key=", key), (" salt=", salt), (" persona=", persona)] {
+        if length > 0 {
+            options.push_str(name)?;
+            options.push_str(digits.get(..2 * length.min(64)).unwrap_or(""))?;
+        }
+    }
+    Ok(options)
 }
 
 // Appends what `sum`, `script` and `steps` print over `abc` under a KIND and options of these
@@ -108,14 +112,9 @@ fn add_outputs(
 ) {
     let options = options_of(rt.alloc(), lengths).expect(rt, kind);
     let options = options.as_str();
-    add_output(rt, sums, &["sum ", kind, " ", options], b"abc");
-    add_output(
-        rt,
-        sums,
-        &["script ", kind, " ", options],
-        b"u 0 616263\nf 0\n",
-    );
-    add_output(rt, transcripts, &["steps ", kind, " ", options], b"abc");
+    add_output(rt, sums, &["sum ", kind, options], b"abc");
+    add_output(rt, sums, &["script ", kind, options], b"u 0 616263\nf 0\n");
+    add_output(rt, transcripts, &["steps ", kind, options], b"abc");
 }
 
 // Checks a KIND whose longest key has `key` bytes, and whose longest salt and persona have `text`
@@ -129,17 +128,12 @@ fn check_lengths(
 ) {
     let (sum_digest, steps_digest) = digests.split_once('|').unwrap_or((digests, ""));
     let (mut sums, mut transcripts) = (Vec::new(rt.alloc()), Vec::new(rt.alloc()));
-    for lengths in [
-        (1, 1, 1),
-        (1, 1, text),
-        (1, text, 1),
-        (1, text, text),
-        (key, 1, 1),
-        (key, 1, text),
-        (key, text, 1),
-        (key, text, text),
-    ] {
-        add_outputs(rt, &mut sums, &mut transcripts, kind, lengths);
+    for key in [0, 1, key] {
+        for salt in [0, 1, text] {
+            for persona in [0, 1, text] {
+                add_outputs(rt, &mut sums, &mut transcripts, kind, (key, salt, persona));
+            }
+        }
     }
     assert!(rt; is_digest_of(sums.as_slice(), sum_digest), "b2 sum {kind}");
     assert!(rt;
@@ -149,8 +143,8 @@ fn check_lengths(
 }
 
 #[test]
-fn takes_options_of_each_length(rt: HostRuntime) {
-    for row in LONGEST.lines() {
+fn takes_each_choice_of_options(rt: HostRuntime) {
+    for row in OPTIONS.lines() {
         let (kind, digests) = row.split_once('|').unwrap_or((row, ""));
         if kind.starts_with("b") {
             check_lengths(&rt, kind, digests, 64, 16);

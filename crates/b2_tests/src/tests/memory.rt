@@ -2,6 +2,8 @@
 
 ghost use Rattle.std.specs.Prelude.{◌≤◌};
 
+use super::script::{ABC, NOTHING};
+use super::witness::B0;
 use super::{text_of, words_of};
 use b2_commands::run;
 use blake2::engine::{SliceSink, SliceSource};
@@ -205,10 +207,6 @@ fn check_without_memory(
     assert!(rt; is_right, "b2 {words}");
 }
 
-const STEP: &str =
-    "s 6a09e667f2bdc908 bb67ae8584caa73b 3c6ef372fe94f82b a54ff53a5f1d36f1 510e527fade682d1 \
-    9b05688c2b3e6c1f 1f83d9abfb41bd6b 5be0cd19137e2179 1 1 ";
-
 #[test]
 fn each_request_for_memory_refused(rt: HostRuntime) {
     check_refusals(
@@ -218,12 +216,8 @@ fn each_request_for_memory_refused(rt: HostRuntime) {
         &["64e477c9f5c0ba5bd0d2d41455c1fb48\n"],
         16,
     );
-    let abc = "ba80a53f981c4d0d6a2797b69f12f6e94c212f14685ac4b74b12bb6fdbffa2d1\
-        7d87c5392aab792dc252d5de4533cc9518d38aa8dbf1925ab92386edd4009923\n";
-    let nothing = "786a02f742015903c6c6fd852552d272912f4740e15847618a86e217f71f5419\
-        d25e1031afee585313896444934eb04b903a685b1448b755d56f701afe9be2ce\n";
     let lines = b"u 0 6162\nc 0\nu 0 63\nd 0\nu 1 63\nf 1\nf 0\n";
-    check_refusals(&rt, "script b512", lines, &[abc, abc, nothing], 16);
+    check_refusals(&rt, "script b512", lines, &[ABC, ABC, NOTHING], 16);
     let transcript = "w 0000000001010040|7* 0000000000000000|\ne 128 1 |128*2a|\n";
     check_refusals(&rt, "steps b512", &[0x2a; 128], &[transcript], 16);
     let root = "14b0752e3ca5c2b4f5df98dcb4fab97caeda23424260d531f9b0b52310bb58ee\
@@ -233,7 +227,7 @@ fn each_request_for_memory_refused(rt: HostRuntime) {
 
 #[test]
 fn each_request_of_a_witness_refused(rt: HostRuntime) {
-    let pair = [STEP, "61|127*00|\n", STEP, "62|127*00|\n"];
+    let pair = [B0, "1 1 61|127*00|\n", B0, "1 1 62|127*00|\n"];
     check_refusals(&rt, "witness b0 61 62", b"", &pair, 16);
     for words in [
         "witness b0 61 61",

@@ -8,10 +8,10 @@ pub(super) fn check_wrong(rt: &(impl Abort + AllocGlobal), lines: &[u8], line: &
     check_line(rt, "script b512", lines, None, 2, line);
 }
 
-const NOTHING: &str = "786a02f742015903c6c6fd852552d272912f4740e15847618a86e217f71f5419\
+pub(super) const NOTHING: &str = "786a02f742015903c6c6fd852552d272912f4740e15847618a86e217f71f5419\
     d25e1031afee585313896444934eb04b903a685b1448b755d56f701afe9be2ce\n";
 
-const ABC: &str = "ba80a53f981c4d0d6a2797b69f12f6e94c212f14685ac4b74b12bb6fdbffa2d1\
+pub(super) const ABC: &str = "ba80a53f981c4d0d6a2797b69f12f6e94c212f14685ac4b74b12bb6fdbffa2d1\
     7d87c5392aab792dc252d5de4533cc9518d38aa8dbf1925ab92386edd4009923\n";
 
 #[test]

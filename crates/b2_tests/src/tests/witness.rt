@@ -5,7 +5,7 @@ use blake2::{Blake2b, Blake2s, Digest};
 use std::process::Abort;
 
 // The letter and the chaining words of the only step of a message, for a digest of no bytes.
-const B0: &str =
+pub(super) const B0: &str =
     "s 6a09e667f2bdc908 bb67ae8584caa73b 3c6ef372fe94f82b a54ff53a5f1d36f1 510e527fade682d1 \
     9b05688c2b3e6c1f 1f83d9abfb41bd6b 5be0cd19137e2179 ";
 
