@@ -1,6 +1,7 @@
 -- The length of the best piece of a message.
-use Rattle.std.proofs.Common.{◌≡◌, ℕ, ◌+◌, ◌*◌, ◌<◌, ◌≤◌, ◌⊎◌, max, inl, inr, ap, ◌∙◌, arith}
-use Rattle.std.proofs.lemmas.Bool.{cases_lt}
+use Rattle.std.proofs.Common.{◌≡◌, ℕ, ◌+◌, ◌-◌, ◌*◌, ◌/◌, ◌<◌, ◌≤◌, ◌⊎◌, nat_eq, false, refl}
+use Rattle.std.proofs.Common.{if◌then◌else◌, min, max, inl, inr, ap, arith}
+use Rattle.std.proofs.lemmas.Bool.{cases_lt, ne_eqb}
 use Rattle.std.proofs.Math.Nat.{mul-le-mul_left}
 
 -- Let y leaves fit the usual length, with q fours in them. A piece of q fours, at least four, and
@@ -33,3 +34,20 @@ pub piece-longest : (leaf m r : ℕ) → 16777216 < leaf * (m + 1) → m ≤ 4 *
     → 16777216 < leaf * (4 * r + 1) + 4 * leaf
 piece-longest leaf m r above few =
     omega (arith, above, mul-le-mul_left leaf (let h : m + 1 ≤ 4 * r + 5 = omega (arith, few) in h))
+
+-- where m leaves fit the longest one, and four fours at least with one leaf more: these are the
+-- fours of the best piece
+pub piece-exact : (leaf y m fours : ℕ) → leaf * (4 * fours + 1) ≤ 16777216
+    → 16777216 < leaf * (m + 1) → fours ≡ max y 4
+    → leaf * (4 * fours + 1) ≡ (if nat_eq (min (max y 4) ((m - 1) / 4)) 0 then 65536
+    else leaf * (4 * min (max y 4) ((m - 1) / 4) + 1))
+piece-exact leaf y m fours fits above is = elim (cases_lt m (4 * fours + 1)) [
+  | inl less ↦
+      let long : leaf * (m + 1) ≤ leaf * (4 * fours + 1) =
+      mul-le-mul_left leaf (let h : m + 1 ≤ 4 * fours + 1 = omega (arith, less) in h) in
+      absurd (omega (arith, long, fits, above))
+  | inr more ↦
+      let same : min (max y 4) ((m - 1) / 4) ≡ fours = omega (arith, is, more) in
+      let some : nat_eq fours 0 ≡ false = ne_eqb fours 0 (λ e. absurd (omega (arith, is, e))) in
+      rw (same, some) refl
+]

@@ -1,6 +1,7 @@
 pub mod LeafUpdates
 pub mod Nodes
 pub mod OpenTrees
+pub mod PieceLengths
 pub mod Ranges
 pub mod TreeHashers
 pub mod TreeRoot

@@ -1,6 +1,7 @@
 //! The tree's numbers, and the best length for the pieces of a message.
 
 ghost use Rattle.std.specs.Prelude.{◌≡◌, ℕ, ◌+◌, ◌*◌, ◌^◌, ◌<◌, ◌≤◌, ◌↔◌, ◌⊎◌, IsTrue};
+ghost use Rattle.blake2_tree.specs.PieceLengths.{best_piece_length};
 
 /// A message has fewer bytes than this: so the digests of leaves of one byte still fit the count of
 /// the root, which is below 2^64.
@@ -34,6 +35,7 @@ const LONGEST_PIECE_BYTES: usize = 1 << 24;
 /// number of leaves.
 pub fn best_piece_length(leaf_length: u32) -> usize
     requires { 1 ≤ leaf_length }
+    ensures is { result ≡ best_piece_length leaf_length }
     ensures least { 2 ^ 14 < result }
     ensures most { result ≤ 2 ^ 24 }
     ensures fours { 5 * leaf_length ≤ 2 ^ 24

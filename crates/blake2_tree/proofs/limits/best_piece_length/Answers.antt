@@ -1,5 +1,5 @@
 use Rattle.std.proofs.Common.{◌≡◌, ◌≤◌, ◌⊎◌, ℕ, ◌+◌, ◌-◌, ◌*◌, ◌/◌, ◌%◌, ◌<◌, max, inr, rules, arith}
-use Rattle.blake2_tree.proofs.PieceLengths.{piece-usual, piece-longest}
+use Rattle.blake2_tree.proofs.PieceLengths.{piece-usual, piece-longest, piece-exact}
 use Rattle.blake2_tree.proofs.limits.best_piece_length.Goals as goal
 
 -- A piece of the fours that fit, at least four, and one more leaf is neither short nor long.
@@ -30,3 +30,12 @@ returns-then-leaf-le-LONGEST_PIECE_BYTES-clause-long c = λ fits.
     let rest : 16777216 % leaf < leaf = omega arith in
     let whole : leaf * most + 16777216 % leaf ≡ 16777216 = omega arith in
     inr (piece-longest leaf most ((most - 1) / 4) (omega arith) (omega arith))
+
+pub returns-then-whole-le-LONGEST_PIECE_BYTES-clause-is :
+    goal.returns-then-whole-le-LONGEST_PIECE_BYTES-clause-is
+returns-then-whole-le-LONGEST_PIECE_BYTES-clause-is c =
+    let leaf : ℕ = c.args.leaf_length in
+    let most : ℕ = 16777216 / leaf in
+    let rest : 16777216 % leaf < leaf = omega arith in
+    let whole : leaf * most + 16777216 % leaf ≡ 16777216 = omega arith in
+    piece-exact leaf (65536 / leaf / 4) most c.max-fours.result (omega arith) (omega arith) (search rules)
