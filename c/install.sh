@@ -140,6 +140,6 @@ write_words "$libdir/pkgconfig/blake2_c-static.pc" blake2_c-static "$version" \
 write_words "$libdir/pkgconfig/blake2_c-threads.pc" blake2_c-threads "$version" \
     ", with trees by several threads" '${includedir}' \
     '-L${libdir} -l:libblake2_c-threads.a -l:libblake2_c.a -pthread'
-write_words "$beside/pkgconfig/libb2.pc" libb2 0.98.1 ", a drop-in replacement for libb2" '${libb2dir}' \
-    '-L${libdir}/blake2_c-libb2 -lb2'
+write_words "$beside/pkgconfig/libb2.pc" libb2 0.98.1 ", a drop-in replacement for libb2" \
+    '${libb2dir}' '-L${libdir}/blake2_c-libb2 -lb2'
 echo "install.sh: installed under $root$folder" >&2
