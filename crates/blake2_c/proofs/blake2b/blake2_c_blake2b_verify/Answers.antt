@@ -3,6 +3,3 @@ use Rattle.blake2_c.proofs.blake2b.blake2_c_blake2b_verify.Goals as goal
 
 pub returns-else-is_digest-clause-status : goal.returns-else-is_digest-clause-status
 returns-else-is_digest-clause-status c = search rules
-
-pub returns-else-is_digest-clause-same : goal.returns-else-is_digest-clause-same
-returns-else-is_digest-clause-same c = search rules

@@ -1,8 +1,5 @@
 use Rattle.std.proofs.Common.{rules}
 use Rattle.blake2_c.proofs.blake2s.blake2_c_blake2s_verify.Goals as goal
 
-pub returns-else-is_digest-clause-status : goal.returns-else-is_digest-clause-status
-returns-else-is_digest-clause-status c = search rules
-
 pub returns-else-is_digest-clause-same : goal.returns-else-is_digest-clause-same
 returns-else-is_digest-clause-same c = search rules

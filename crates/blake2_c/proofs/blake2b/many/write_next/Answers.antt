@@ -26,6 +26,3 @@ returns-then-accepts_four-clause-digests c =
     let long : length digests ≡ 4 = search rules in
     c.write_digests.ensures ∙ ap₂ (λ l (m : ℕ). l ++ drop (m * n) c.args.out.now)
     (same_flat (take n) of_text digests (take 4 messages) each) long
-
-pub returns-clause-digests : goal.returns-clause-digests
-returns-clause-digests c = search rules
