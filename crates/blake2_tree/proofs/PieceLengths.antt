@@ -35,8 +35,8 @@ pub piece-longest : (leaf m r : ℕ) → 16777216 < leaf * (m + 1) → m ≤ 4 *
 piece-longest leaf m r above few =
     omega (arith, above, mul-le-mul_left leaf (let h : m + 1 ≤ 4 * r + 5 = omega (arith, few) in h))
 
--- where m leaves fit the longest one, and four fours at least with one leaf more: these are the
--- fours of the best piece
+-- Let m leaves fit the maximum length, and four fours or more with one more leaf. These are the
+-- fours of the best piece.
 pub piece-exact : (leaf y m fours : ℕ) → leaf * (4 * fours + 1) ≤ 16777216
     → 16777216 < leaf * (m + 1) → fours ≡ max y 4
     → leaf * (4 * fours + 1) ≡ (if nat_eq (min (max y 4) ((m - 1) / 4)) 0 then 65536

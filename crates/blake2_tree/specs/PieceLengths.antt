@@ -1,12 +1,12 @@
 -- The best length of the pieces in which a tree absorbs a message.
 use Rattle.std.specs.Prelude.{ℕ, ◌+◌, ◌-◌, ◌*◌, ◌/◌, ◌^◌, nat_eq, min, max, if◌then◌else◌}
 
--- the number of fours of leaves in a piece: those that 64 KiB have room for, at least four, and at
--- most those that 16 MiB have room for with one leaf more
+-- The number of fours of leaves in a piece: as 64 KiB have room for, but at least four, and at most
+-- as 16 MiB have room for with one more leaf.
 abbrev pub piece_fours : ℕ → ℕ
 piece_fours leaf_length = min (max (2 ^ 16 / leaf_length / 4) 4) ((2 ^ 24 / leaf_length - 1) / 4)
 
--- the number of bytes of these fours and of one leaf more; 64 KiB if there are no fours
+-- The number of bytes of these fours and one more leaf, or 64 KiB if there are no fours.
 abbrev pub best_piece_length : ℕ → ℕ
 best_piece_length leaf_length =
     if nat_eq (piece_fours leaf_length) 0 then 2 ^ 16
