@@ -2,4 +2,5 @@
 
 mod blake2b;
 mod blake2s;
+mod leaves;
 mod trees;
