@@ -1,14 +1,14 @@
--- Which inputs are accepted, by what the options of a MAC refuse and how much is counted.
+-- Which inputs are accepted, in terms of what the options of a MAC refuse and of how much is
+-- counted.
 use Rattle.std.proofs.Common.{◌≡◌, ℕ, ◌+◌, ◌-◌, ◌<◌, ◌≤◌, ◌^◌, List, [], ◌++◌, length, replicate}
 use Rattle.std.proofs.Common.{Option, None, Some, inl, inr, refl, arith, length-append, lit<, subst}
 use Rattle.std.proofs.Common.{sym, IfSome}
 use Rattle.std.proofs.lemmas.List.{length-replicate}
-use Rattle.std.specs.Prelude.{◌⊎◌}
 use Rattle.std.proofs.lemmas.Bool.{cases_lt}
-use Rattle.blake2.specs.Family.{Family, blake2b, blake2s, block_bytes, key_bytes, salt_bytes}
+use Rattle.blake2.specs.Family.{Family, blake2b, blake2s, block_bytes, key_bytes}
 use Rattle.blake2.specs.Hash.{AdmitsTree, AreBytes, Input, key_block, padded, sequential}
 use Rattle.blake2.specs.Inputs.{Accepts, KeyFits}
-use Rattle.blake2.specs.Keys.{key_count, IsRefused, IsRefusedKey}
+use Rattle.blake2.specs.Keys.{key_count, Admits, IsRefused, KeyLengthFits}
 use Rattle.blake2.specs.States.{input}
 use Rattle.b2_commands.specs.Inputs.{IsKeyOfBytes, IsOfBytes}
 
@@ -17,7 +17,7 @@ key_in_block : (f : Family) (n : ℕ) → n ≤ key_bytes f → n ≤ block_byte
 key_in_block blake2b n h = omega arith
 key_in_block blake2s n h = omega arith
 
--- A key that is padded to n bytes counts for n bytes, with the message after it.
+-- A key that is padded to n bytes counts these and the message.
 padded_counts : (n : ℕ) (key message : List ℕ) → length key ≤ n
     → length (padded n key ++ message) ≡ n + length message
 unfolding padded
@@ -30,7 +30,7 @@ padded_counts n key message h =
       length-replicate {A = ℕ} (n - length key) 0,
     )
 
--- The data of a key that fits has the key's block and the message.
+-- The data of a key that fits counts the block of the key and the message.
 counted : (f : Family) (key : Option (List ℕ)) (message : List ℕ) → KeyFits f key
     → length (key_block f key ++ message) ≡ key_count f key + length message
 unfolding key_block
@@ -38,113 +38,80 @@ counted f None message fits = omega arith
 counted f (Some key) message fits = padded_counts (block_bytes f) key message
     (key_in_block f (length key) fits.1)
 
--- A key that fits is not refused.
-fits_or_refused : (f : Family) (key : Option (List ℕ)) → IsKeyOfBytes key
-    → KeyFits f key ⊎ IsRefusedKey f key
-fits_or_refused f None bytes = inl tt
-fits_or_refused f (Some key) bytes =
-    elim (cases_lt 0 (length key)) [
-      | inr empty ↦ inr (inl (omega (arith, empty)))
-      | inl some ↦ elim (cases_lt (key_bytes f) (length key)) [
-        | inl long ↦ inr (inr long)
-        | inr short ↦ inl (omega (arith, some), short, bytes)
-      ]
-    ]
+-- The tree parameters of a sequential hash are admitted.
+sequential_admitted : (f : Family) → AdmitsTree f sequential
+sequential_admitted blake2b = grind arith
+sequential_admitted blake2s = grind arith
 
-not_refused_key : (f : Family) (key : Option (List ℕ)) → KeyFits f key → IsRefusedKey f key → ⊥
-not_refused_key f None fits refused = refused
-not_refused_key f (Some key) fits (inl empty) = omega (arith, fits.0, empty)
-not_refused_key f (Some key) fits (inr long) = omega (arith, fits.1, long)
+-- A key fits if and only if its length does, since it consists of bytes.
+fits_by_length : (f : Family) (key : Option (List ℕ)) → IsKeyOfBytes key → KeyLengthFits f key
+    → KeyFits f key
+fits_by_length f None bytes fits = tt
+fits_by_length f (Some key) bytes fits = (fits.0, fits.1, bytes)
+
+length_fits : (f : Family) (key : Option (List ℕ)) → KeyFits f key → KeyLengthFits f key
+length_fits f None fits = tt
+length_fits f (Some key) fits = (fits.0, fits.1)
+
+-- An input of bytes is accepted if its lengths are admitted and it does not count too much.
+accepted : (f : Family) (a : Input) → IsOfBytes a → a.tree ≡ sequential
+    → Admits f a.key a.salt a.persona → key_count f a.key + length a.message < 2 ^ 64 → Accepts f a
+accepted f a bytes whole lengths short =
+    let key : KeyFits f a.key = fits_by_length f a.key bytes.key lengths.key_fits in
+    record {
+      salt_fits = lengths.salt_fits;
+      persona_fits = lengths.persona_fits;
+      key_fits = key;
+      counted = rw (counted f a.key a.message key) short;
+      tree = subst (AdmitsTree f) (sym whole) (sequential_admitted f);
+      salt_bytes = bytes.salt;
+      persona_bytes = bytes.persona;
+      message_bytes = bytes.message;
+    }
 
 -- An accepted input has no key, salt or personalization that a MAC refuses.
 pub not_refused : (f : Family) (a b : Input) → a ≡ b → Accepts f a
     → IsRefused f b.key b.salt b.persona → ⊥
-not_refused f a b same accepts = go (subst (Accepts f) same accepts)
-  where
-    go : Accepts f b → IsRefused f b.key b.salt b.persona → ⊥
-    go accepted (inl key) = not_refused_key f b.key accepted.key_fits key
-    go accepted (inr (inl salt)) = omega (arith, accepted.salt_fits, salt)
-    go accepted (inr (inr persona)) = omega (arith, accepted.persona_fits, persona)
+unfolding IsRefused
+not_refused f a b same accepts refused =
+    let taken : Accepts f b = subst (Accepts f) same accepts in
+    refused (record {
+      key_fits = length_fits f b.key taken.key_fits;
+      salt_fits = taken.salt_fits;
+      persona_fits = taken.persona_fits;
+    })
 
--- The tree parameters of a sequential hash are admitted.
-sequential_admitted : (f : Family) (a : Input) → a.tree ≡ sequential → AdmitsTree f a.tree
-sequential_admitted f a whole = subst (AdmitsTree f) (sym whole) (go f)
-  where
-    go : (f : Family) → AdmitsTree f sequential
-    go blake2b = record {
-      fanout = omega arith;
-      depth_given = omega arith;
-      depth = omega arith;
-      leaf_length = omega arith;
-      node_offset = omega arith;
-      node_depth = omega arith;
-      inner_length = omega arith;
-    }
-    go blake2s = record {
-      fanout = omega arith;
-      depth_given = omega arith;
-      depth = omega arith;
-      leaf_length = omega arith;
-      node_offset = omega arith;
-      node_depth = omega arith;
-      inner_length = omega arith;
-    }
-
--- An input of bytes is refused for its lengths, counts too much, or is accepted.
-refused_or_counts : (f : Family) (a : Input) → IsOfBytes a → a.tree ≡ sequential
-    → IsRefused f a.key a.salt a.persona ⊎ ((2 ^ 64 ≤ key_count f a.key
-    + length a.message) ⊎ Accepts f a)
-refused_or_counts f a bytes whole =
-    elim (fits_or_refused f a.key bytes.key) [
-      | inr key ↦ inl (inl key)
-      | inl key ↦ elim (cases_lt (salt_bytes f) (length a.salt)) [
-        | inl salt ↦ inl (inr (inl salt))
-        | inr salt ↦ elim (cases_lt (salt_bytes f) (length a.persona)) [
-          | inl persona ↦ inl (inr (inr persona))
-          | inr persona ↦ elim (cases_lt (key_count f a.key + length a.message) (2 ^ 64)) [
-            | inr long ↦ inr (inl long)
-            | inl short ↦ inr (inr (record {
-              salt_fits = salt;
-              persona_fits = persona;
-              key_fits = key;
-              counted = rw (counted f a.key a.message key) short;
-              tree = sequential_admitted f a whole;
-              salt_bytes = bytes.salt;
-              persona_bytes = bytes.persona;
-              message_bytes = bytes.message;
-            }))
-          ]
-        ]
-      ]
-    ]
+-- If an input that does not count too much is not accepted, a MAC refuses its key, salt or
+-- personalization.
+refused_for_lengths : (f : Family) (a b : Input) → a ≡ b → IsOfBytes a → b.tree ≡ sequential
+    → (Accepts f a → ⊥) → key_count f b.key + length b.message < 2 ^ 64
+    → IsRefused f b.key b.salt b.persona
+unfolding IsRefused
+refused_for_lengths f a b same bytes whole not short lengths =
+    not (subst (Accepts f) (sym same)
+    (accepted f b (subst IsOfBytes same bytes) whole lengths short))
 
 -- The block of a key without a message does not count too much.
-not_alone : (f : Family) (key : Option (List ℕ)) (n : ℕ) → n ≡ 0 → 2 ^ 64 ≤ key_count f key + n → ⊥
-not_alone blake2b None n empty long = omega (arith, empty, long)
-not_alone blake2s None n empty long = omega (arith, empty, long)
-not_alone blake2b (Some key) n empty long = omega (arith, empty, long)
-not_alone blake2s (Some key) n empty long = omega (arith, empty, long)
+alone : (f : Family) (key : Option (List ℕ)) (n : ℕ) → n ≡ 0 → key_count f key + n < 2 ^ 64
+alone blake2b None n empty = omega (arith, empty)
+alone blake2s None n empty = omega (arith, empty)
+alone blake2b (Some key) n empty = omega (arith, empty)
+alone blake2s (Some key) n empty = omega (arith, empty)
 
 -- If an input of no message is not accepted, a MAC refuses its key, salt or personalization.
 pub refused_without_message : (f : Family) (a b : Input) → a ≡ b → IsOfBytes a → b.tree ≡ sequential
     → length b.message ≡ 0 → (Accepts f a → ⊥) → IsRefused f b.key b.salt b.persona
 refused_without_message f a b same bytes whole empty not =
-    let of_bytes : IsOfBytes b = subst IsOfBytes same bytes in
-    elim (refused_or_counts f b of_bytes whole) [
-      | inl refused ↦ refused
-      | inr (inl long) ↦ absurd (not_alone f b.key (length b.message) empty long)
-      | inr (inr accepted) ↦ absurd (not (subst (Accepts f) (sym same) accepted))
-    ]
+    refused_for_lengths f a b same bytes whole not (alone f b.key (length b.message) empty)
 
 -- An input that is not accepted, although its lengths are, counts 2^64 bytes or more.
 pub too_long : (f : Family) (a b : Input) → a ≡ b → IsOfBytes a → b.tree ≡ sequential
     → (IsRefused f b.key b.salt b.persona → ⊥) → (Accepts f a → ⊥)
     → 2 ^ 64 ≤ key_count f b.key + length b.message
 too_long f a b same bytes whole allowed not =
-    elim (refused_or_counts f b (subst IsOfBytes same bytes) whole) [
-      | inl refused ↦ absurd (allowed refused)
-      | inr (inl long) ↦ long
-      | inr (inr accepted) ↦ absurd (not (subst (Accepts f) (sym same) accepted))
+    elim (cases_lt (key_count f b.key + length b.message) (2 ^ 64)) [
+      | inl short ↦ absurd (allowed (refused_for_lengths f a b same bytes whole not short))
+      | inr long ↦ long
     ]
 
 -- What is counted of a message is counted of all that a source had left, if the message is that.
@@ -154,20 +121,14 @@ pub counts_all : (left : Option (List ℕ)) (message : List ℕ) (n : ℕ)
 counts_all None message n is long = tt
 counts_all (Some all) message n is long = subst (λ (m : List ℕ). 2 ^ 64 ≤ n + length m) is long
 
--- A message without a key, salt and personalization is accepted.
+-- An unkeyed message without salt and personalization is accepted.
 pub unkeyed_accepted : (f : Family) (a : Input) (message : List ℕ) → a ≡ input [] [] None message
     → AreBytes message → length message < 2 ^ 64 → Accepts f a
 unkeyed_accepted f a message is bytes short =
-    subst (Accepts f) (sym is) (record {
-      salt_fits = omega arith;
-      persona_fits = omega arith;
-      key_fits = tt;
-      counted = omega (arith, counted f None message tt, short);
-      tree = sequential_admitted f (input [] [] None message) refl;
-      salt_bytes = no_bytes;
-      persona_bytes = no_bytes;
-      message_bytes = bytes;
-    })
+    subst (Accepts f) (sym is) (accepted f (input [] [] None message)
+    (record { salt = none; persona = none; key = tt; message = bytes }) refl
+    (record { key_fits = tt; salt_fits = omega arith; persona_fits = omega arith })
+    (omega (arith, short)))
   where
-    no_bytes : AreBytes []
-    no_bytes i = lit< tt
+    none : AreBytes []
+    none i = lit< tt

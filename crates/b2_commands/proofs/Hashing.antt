@@ -3,7 +3,7 @@ use Rattle.std.proofs.Common.{◌≡◌, ℕ, Bool, List, Option, Result, Ok, Er
 use Rattle.std.proofs.lemmas.Grind.{common_steps}
 use Rattle.std.specs.Prelude.{◌↔◌, IsErrOf, IsTrue}
 use Rattle.blake2.specs.Family.{Family, blake2b, blake2s}
-use Rattle.blake2.specs.Keys.{key_count}
+use Rattle.blake2.specs.Keys.{key_count, IsRefused}
 use Rattle.blake2.specs.Streams.{line_of}
 use Rattle.b2_commands.specs.declared.fault.Fault.{Fault}
 use Rattle.b2_commands.specs.declared.fault.Fault.TheVariants.{WrongLength, ReadFailed, NoMemory}
@@ -16,6 +16,7 @@ use Rattle.b2_commands.specs.Ends.{EndsTask, EndsBy, EndsByDigests}
 
 -- If no option is given, none is refused.
 pub nothing_taken : (f : Family) → IsRefusedBy f nothing_given → ⊥
+unfolding IsRefused
 nothing_taken blake2b refused = grind arith
 nothing_taken blake2s refused = grind arith
 

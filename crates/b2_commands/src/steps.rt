@@ -32,6 +32,7 @@ use std::alloc::Global;
 /// persona; `ReadFailed` if a read returns an error; `TooLong` if the input, with the key's block
 /// if there is a key, has 2^64 bytes or more; `NoMemory` if an allocation fails; `WriteFailed` if
 /// a write fails. If it is not `WriteFailed`, nothing was printed.
+#[tactic(auto, unfolding(blake2::specs::Keys::IsRefused))]
 pub(crate) fn steps_blake2b<S: Source, K: Sink>(
     alloc: Global,
     options: &Options,
@@ -50,6 +51,7 @@ pub(crate) fn steps_blake2b<S: Source, K: Sink>(
         (key_count blake2b (given_of options.now).key) result (S.left source.old)
         (K.held sink.old) (K.held sink.new) }
 {
+    // The lengths are checked before the input is read.
     if !Blake2bVarCore::accepts(&input_under(options, &[])) {
         return Err(Fault::WrongLength);
     }
@@ -79,6 +81,7 @@ fn print_blake2b<K: Sink>(transcript: &Transcript<u64, 128>, sink: &mut K) -> Re
 }
 
 /// Does what `steps_blake2b` does, under BLAKE2s, with digests of at most 32 bytes.
+#[tactic(auto, unfolding(blake2::specs::Keys::IsRefused))]
 pub(crate) fn steps_blake2s<S: Source, K: Sink>(
     alloc: Global,
     options: &Options,
@@ -97,6 +100,7 @@ pub(crate) fn steps_blake2s<S: Source, K: Sink>(
         (key_count blake2s (given_of options.now).key) result (S.left source.old)
         (K.held sink.old) (K.held sink.new) }
 {
+    // The lengths are checked before the input is read.
     if !Blake2sVarCore::accepts(&input_under(options, &[])) {
         return Err(Fault::WrongLength);
     }

@@ -38,6 +38,7 @@ impl<const N: usize> Blake2bMac<N> {
     /// salt and a persona of up to 16 bytes each. `None` stands for no key, and the MAC is then
     /// the unkeyed hash. The error is `InvalidLength`, exactly for a key of no bytes or of more
     /// than 64, and for a salt or a persona of more than 16.
+    #[tactic(auto, unfolding(crate::specs::Keys::IsRefused))]
     pub fn new_with_salt_and_personal(
         key: Option<&[u8]>,
         salt: &[u8],
@@ -52,15 +53,13 @@ impl<const N: usize> Blake2bMac<N> {
         if salt.len() > 16 || persona.len() > 16 {
             return Err(InvalidLength);
         }
-        match key {
-            None => Ok(Self::unkeyed(salt, persona)),
-            Some(key) => {
-                if key.is_empty() || key.len() > 64 {
-                    return Err(InvalidLength);
-                }
-                Ok(Self::under_key(key, salt, persona))
-            }
+        let Some(key) = key else {
+            return Ok(Self::unkeyed(salt, persona));
+        };
+        if key.is_empty() || key.len() > 64 {
+            return Err(InvalidLength);
         }
+        Ok(Self::under_key(key, salt, persona))
     }
 
     // A MAC under this key that has absorbed nothing else.
@@ -127,6 +126,7 @@ impl<const N: usize> KeyInit<64> for Blake2bMac<N> {
         Self::under_key(key, &[], &[])
     }
 
+    #[tactic(auto, unfolding(crate::specs::Keys::IsRefused))]
     fn new_from_slice(key: &[u8]) -> Result<Self, InvalidLength>
         requires { N ≤ 64 }
         ensures refused { IsErr result ↔ ((length key.now ≡ 0) ⊎ (64 < length key.now)) }
