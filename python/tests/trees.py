@@ -666,6 +666,25 @@ class Stops(Test):
         self.assertEqual((stopped.is_set(), failures), (True, []))
         self.assertEqual(threading.active_count(), 1)
 
+    def test_calls_ahead_of_the_caller(self):
+        calls, made = queue.SimpleQueue(), 0
+
+        def call(place):
+            calls.put(place)
+            return b"%d" % place
+
+        results = _threads._in_order(call, 20, 2, threading.Event())
+        for place in range(20):
+            self.assertEqual(next(results), b"%d" % place)
+            # Two for each thread, counting the one whose result this is.
+            while made < min(place + 4, 20):
+                calls.get(timeout=20)
+                made += 1
+            time.sleep(0.01)
+            self.assertTrue(calls.empty())
+        self.refuses(StopIteration, "", next, results)
+        self.assertEqual(threading.active_count(), 1)
+
     def test_a_leaf_longer_than_a_call_ends_early(self):
         reads, events, event, preadv = [], [], threading.Event, os.preadv
 
