@@ -1,4 +1,4 @@
-/* The root of the tree of two levels (blake2_c.h) by several threads: of bytes in memory, of a
+/* The root of the tree of two levels (blake2_c.h) with several threads: of bytes in memory, of a
  * file, and of a message that is absorbed in pieces.
  *
  *   cc program.c $(pkg-config --cflags --libs blake2_c-threads)

@@ -18,7 +18,7 @@ pub fn tree_leaf_count(message_length: u64, leaf_length: u32) -> u64 {
 ///
 /// The digests of the ranges of a message, joined in the order of the leaves, are what
 /// [`tree_root_of_leaves`] accepts, however the message was cut. So ranges can be hashed in any
-/// order, by threads, processes or machines, and after a change only the ranges that changed.
+/// order, on threads, processes or machines, and after a change only the ranges that changed.
 ///
 /// ```
 /// use vulfsjor::{tree_leaf_count, tree_leaves, tree_root, tree_root_of_leaves};

@@ -111,7 +111,7 @@
 //! # Features
 //!
 //! `std`, which is on by default, adds `std::io::Write` for hashers, `std::error::Error` for
-//! errors, and the calls by several threads. Without it the crate is `no_std`.
+//! errors, and the calls that use several threads. Without it the crate is `no_std`.
 #![no_std]
 #![deny(missing_docs, unsafe_op_in_unsafe_fn)]
 

@@ -52,7 +52,7 @@ pub(crate) fn hash_parts(
 }
 
 /// Returns the root of [`tree_root_with_output_size`](crate::tree_root_with_output_size), computed
-/// by several threads.
+/// with several threads.
 ///
 /// `threads` is the number of threads that hash, the caller's among them; 0 is the number that
 /// [`std::thread::available_parallelism`] returns. Fewer are started if the message is short (less
@@ -97,7 +97,7 @@ pub fn tree_root_threads(
 }
 
 impl TreeHasher {
-    /// Absorbs the input as [`update`](Self::update) does, by several threads.
+    /// Absorbs the input as [`update`](Self::update) does, with several threads.
     ///
     /// `threads` is as in [`tree_root_threads`]. Threads hash the whole leaves of the input that
     /// more input follows; only the caller's thread hashes the bytes before and after them. So
