@@ -1,8 +1,8 @@
 #!/usr/bin/env python3
-"""Compares the package with Python's own BLAKE2 over random calls, refused ones among them, and over a list of
-calls at the edges. Both have to give the same digests, or to raise the same exception.
+"""Compares the package with Python's own BLAKE2 over random calls, refused ones among them, and
+over a list of calls at the edges. Both have to return the same digests or raise the same exception.
 
-usage: compare.py FOLDER COUNT      FOLDER is where the package vulfsjor stands
+usage: compare.py FOLDER COUNT      FOLDER has the package vulfsjor
 """
 import array
 import ctypes
@@ -27,14 +27,18 @@ def parameters(longest):
         return DICE.random() < 0.05
 
     choices = {
-        "digest_size": lambda: DICE.randint(-1, longest + 2) if beyond() else DICE.randint(1, longest),
+        "digest_size": lambda: (
+            DICE.randint(-1, longest + 2) if beyond() else DICE.randint(1, longest)
+        ),
         "key": lambda: DICE.randbytes(longest + 1 if beyond() else DICE.randint(0, longest)),
         "salt": lambda: DICE.randbytes(DICE.randint(0, longest // 4 + beyond())),
         "person": lambda: DICE.randbytes(DICE.randint(0, longest // 4 + beyond())),
         "fanout": lambda: DICE.randint(0, 255 + beyond()),
         "depth": lambda: DICE.randint(0, 256) if beyond() else DICE.randint(1, 255),
         "leaf_size": lambda: DICE.choice([-1, 2**32]) if beyond() else DICE.getrandbits(32),
-        "node_offset": lambda: DICE.choice([-1, 2**48, 2**64]) if beyond() else DICE.getrandbits(48),
+        "node_offset": lambda: (
+            DICE.choice([-1, 2**48, 2**64]) if beyond() else DICE.getrandbits(48)
+        ),
         "node_depth": lambda: DICE.randint(0, 255 + beyond()),
         "inner_size": lambda: DICE.randint(0, longest + beyond()),
         "last_node": lambda: DICE.choice([True, False, 1, 0]),
@@ -65,7 +69,9 @@ def compare_random_calls(count):
         length = DICE.choice([0, 1, 63, 64, 65, 127, 128, 129, 2047, 2048, DICE.randint(0, 5000)])
         words, message = parameters(longest), DICE.randbytes(length)
         cut = DICE.randint(0, len(message))
-        ours, theirs = (answer(getattr(module, name), words, message, cut) for module in (vulfsjor, _blake2))
+        ours, theirs = (
+            answer(getattr(module, name), words, message, cut) for module in (vulfsjor, _blake2)
+        )
         assert ours == theirs, (name, words, message, cut, ours, theirs)
         refused += isinstance(ours, str)
     return refused
@@ -74,29 +80,56 @@ def compare_random_calls(count):
 def edge_parameters(longest):
     """Each parameter by itself, at its edges, beyond them, and of other types."""
     small, bits = longest // 4, 64 if longest == 64 else 48
-    numbers = {"digest_size": (1, longest), "fanout": (0, 255), "depth": (1, 255), "leaf_size": (0, 2**32 - 1),
-               "node_offset": (0, 2**bits - 1), "node_depth": (0, 255), "inner_size": (0, longest)}
+    numbers = {
+        "digest_size": (1, longest),
+        "fanout": (0, 255),
+        "depth": (1, 255),
+        "leaf_size": (0, 2**32 - 1),
+        "node_offset": (0, 2**bits - 1),
+        "node_depth": (0, 255),
+        "inner_size": (0, longest),
+    }
     for name, (least, most) in numbers.items():
         near = [bound + step for bound in (least, most) for step in (-2, -1, 0, 1, 2)]
         far = [2**power + step for power in (8, 31, 32, 48, 63, 64, 100) for step in (-1, 0, 1)]
         for value in near + far + [-number for number in far]:
             yield {name: value}
-        for value in (None, 1.0, "1", b"1", True, type("Index", (), {"__index__": lambda self: 2})()):
+        for value in (
+            None, 1.0, "1", b"1", True, type("Index", (), {"__index__": lambda self: 2})()
+        ):
             yield {name: value}
     for name, most in {"key": longest, "salt": small, "person": small}.items():
         for length in (0, 1, most - 1, most, most + 1, 2 * most, 1000):
             yield {name: bytes(length)}
             yield {name: bytes(range(1, 256))[:length]}
-        for value in (None, 1, "text", bytearray(b"12"), memoryview(b"12"), memoryview(b"1234")[::2],
-                      array.array("H", [1, 2]), [1]):
+        for value in (
+            None,
+            1,
+            "text",
+            bytearray(b"12"),
+            memoryview(b"12"),
+            memoryview(b"1234")[::2],
+            array.array("H", [1, 2]),
+            [1],
+        ):
             yield {name: value}
     for name in ("last_node", "usedforsecurity"):
         for value in (0, 1, 2, None, "", "x", True, False):
             yield {name: value}
     yield {"data": b"x"}
     yield {"size": 1}
-    refused = {"digest_size": 0, "salt": bytes(99), "person": bytes(99), "fanout": -1, "depth": 0, "leaf_size": 2**32,
-               "node_offset": 2**64, "node_depth": -1, "inner_size": -1, "key": bytes(99)}
+    refused = {
+        "digest_size": 0,
+        "salt": bytes(99),
+        "person": bytes(99),
+        "fanout": -1,
+        "depth": 0,
+        "leaf_size": 2**32,
+        "node_offset": 2**64,
+        "node_depth": -1,
+        "inner_size": -1,
+        "key": bytes(99),
+    }
     for first, second in itertools.combinations(refused, 2):  # which of two is refused first
         yield {first: refused[first], second: refused[second]}
 
@@ -135,9 +168,21 @@ def edges_of(module, name, longest):
 def inputs():
     """Objects to hash, and objects that are refused."""
     mapped = mmap.mmap(-1, 5000, access=mmap.ACCESS_READ)
-    yield from (b"", b"abc", bytearray(b"abc"), memoryview(b"abc"), memoryview(b"abcdef")[1:4], mapped)
-    yield from (memoryview(b"abcdef")[::2], array.array("I", [1, 2, 3]), (ctypes.c_char * 8)(), ctypes.c_uint64(7))
-    yield from (((ctypes.c_char * 3) * 4)(), memoryview(bytes(12)).cast("B", (3, 4)), bytes(4096), bytearray(4096))
+    yield from (
+        b"", b"abc", bytearray(b"abc"), memoryview(b"abc"), memoryview(b"abcdef")[1:4], mapped
+    )
+    yield from (
+        memoryview(b"abcdef")[::2],
+        array.array("I", [1, 2, 3]),
+        (ctypes.c_char * 8)(),
+        ctypes.c_uint64(7),
+    )
+    yield from (
+        ((ctypes.c_char * 3) * 4)(),
+        memoryview(bytes(12)).cast("B", (3, 4)),
+        bytes(4096),
+        bytearray(4096),
+    )
     yield from ("text", "", 1, None, [1, 2], object(), 1.5)
 
 
@@ -145,15 +190,17 @@ def compare_edges():
     """All calls at the edges. How many they were."""
     count = 0
     for name, longest in FAMILIES:
-        for ours, theirs in zip(edges_of(vulfsjor, name, longest), edges_of(_blake2, name, longest), strict=True):
+        for ours, theirs in zip(
+            edges_of(vulfsjor, name, longest), edges_of(_blake2, name, longest), strict=True
+        ):
             assert ours[1:] == theirs[1:], (name, ours, theirs)
             count += 1
     return count
 
 
 def share_among_threads(make):
-    """Many threads update one hasher with pieces of one text, long and short, and copy it meanwhile. Each copy is one
-    of a beginning of the text, since all pieces are of whole periods."""
+    """Many threads update one hasher with long and short pieces of one message, and copy it
+    meanwhile. Each copy has hashed a prefix of the message, since all pieces are whole periods."""
     piece, hasher, prefixes = b"12345678" * 1000, make(), make()
     pieces, digests, beginnings = [piece[:1000], piece], [], {make().digest()}
 

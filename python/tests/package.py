@@ -1,8 +1,8 @@
 #!/usr/bin/env python3
-"""Tests of what compare.py can't compare: verify, several messages, the tree root, what is left of a key, threads,
-views that are let go, and the words of the package.
+"""Tests of what compare.py can't compare: verify, several messages, the tree root, what is left of
+a key, threads, views that are let go, and the names and signatures of the package.
 
-usage: package.py FOLDER      FOLDER is where the package vulfsjor stands
+usage: package.py FOLDER      FOLDER has the package vulfsjor
 """
 import ast
 import ctypes
@@ -71,11 +71,19 @@ class Many(unittest.TestCase):
         for _, _, theirs, many, longest in FAMILIES:
             for count in (0, 1, 2, 3, 4, 5, 7, 8, 9, 16, 33):
                 for length in (0, 1, 64, 128, 129, 1000, None):
-                    lengths = [DICE.choice([0, 1, 200]) if length is None else length for _ in range(count)]
+                    lengths = [
+                        DICE.choice([0, 1, 200]) if length is None else length for _ in range(count)
+                    ]
                     messages = [DICE.randbytes(length) for length in lengths]
-                    self.assertEqual(many(messages), [theirs(message).digest() for message in messages])
-                    words = dict(digest_size=DICE.randint(1, longest), key=DICE.randbytes(DICE.randint(0, longest)),
-                                 salt=DICE.randbytes(longest // 4), person=DICE.randbytes(DICE.randint(0, 8)))
+                    self.assertEqual(
+                        many(messages), [theirs(message).digest() for message in messages]
+                    )
+                    words = dict(
+                        digest_size=DICE.randint(1, longest),
+                        key=DICE.randbytes(DICE.randint(0, longest)),
+                        salt=DICE.randbytes(longest // 4),
+                        person=DICE.randbytes(DICE.randint(0, 8)),
+                    )
                     wanted = [theirs(message, **words).digest() for message in messages]
                     self.assertEqual(many(messages, **words), wanted)
 
@@ -107,7 +115,9 @@ class TreeRoot(unittest.TestCase):
     def test_roots_are_those_of_hashlib(self):
         for leaf_size in (1, 7, 128, 1000, 4096, 2**32 - 1):
             for length in (0, 1, 6, 7, 8, 128, 129, 1000, 5000, 9001):
-                data, salt, person = (DICE.randbytes(n) for n in (length, DICE.randint(0, 16), DICE.randint(0, 16)))
+                data, salt, person = (
+                    DICE.randbytes(n) for n in (length, DICE.randint(0, 16), DICE.randint(0, 16))
+                )
                 wanted = oracle.tree_root(data, leaf_size)
                 self.assertEqual(vulfsjor.tree_root(data, leaf_size), wanted)
                 size = DICE.randint(1, 64)
@@ -160,7 +170,8 @@ def places_of(text):
 
 
 def deep(call, levels=60):
-    """What a call answers, whose frames in C stand far below those of later calls, which would write over them."""
+    """What a call returns. Its frames in C are far below those of later calls, which would
+    otherwise overwrite them."""
     return call() if levels == 0 else next(map(deep, [call], [levels - 1]))
 
 
@@ -189,12 +200,19 @@ class Secrets(unittest.TestCase):
             key = os.urandom(longest)
             before = places_of(key)
             mac = make(b"message", key=key)
-            for call in (mac.digest, mac.hexdigest, lambda: mac.verify(b"x"), lambda: mac.verify(mac.digest()),
-                         lambda: mac.copy().digest()):
+            for call in (
+                mac.digest,
+                mac.hexdigest,
+                lambda: mac.verify(b"x"),
+                lambda: mac.verify(mac.digest()),
+                lambda: mac.copy().digest(),
+            ):
                 deep(call)
                 new = places_of(key) - before
                 self.assertTrue(new)
-                self.assertEqual([place for place in new if not 0 <= place - id(mac) < mac.__sizeof__()], [])
+                self.assertEqual(
+                    [place for place in new if not 0 <= place - id(mac) < mac.__sizeof__()], []
+                )
             del mac
             self.assertEqual(places_of(key) - before, set())
 
@@ -217,7 +235,7 @@ class Counts(unittest.TestCase):
 
 
 class Views(unittest.TestCase):
-    """Each call lets go what it was given, whether it answers or refuses: a bytearray can then grow."""
+    """A call lets go of its arguments, whether it succeeds or fails: a bytearray can then grow."""
 
     def grows(self, call, names, **words):
         """Calls with a bytearray of each name, and of `data`, alone."""
@@ -231,22 +249,33 @@ class Views(unittest.TestCase):
 
     def test_hashes(self):
         for _, make, _, many, _ in FAMILIES:
-            for words in ({}, {"digest_size": 0}, {"depth": 0}, {"leaf_size": -1}, {"leaf_size": "x"}):
-                self.grows(lambda **words: make(words.pop("data", b"x"), **words), ("data", "key", "salt", "person"),
-                           **words)
-                self.grows(lambda **words: make("text", **words), ("key", "salt", "person"), **words)
+            for words in (
+                {}, {"digest_size": 0}, {"depth": 0}, {"leaf_size": -1}, {"leaf_size": "x"}
+            ):
+                self.grows(
+                    lambda **words: make(words.pop("data", b"x"), **words),
+                    ("data", "key", "salt", "person"),
+                    **words,
+                )
+                self.grows(
+                    lambda **words: make("text", **words), ("key", "salt", "person"), **words
+                )
             self.grows(lambda data: make().update(data), ("data",))
             self.grows(lambda data: make().verify(data), ("data",))
             for words in ({}, {"digest_size": 0}):
                 self.grows(lambda **words: many([b"x", words.pop("data", b"x")], **words),
                            ("data", "key", "salt", "person"), **words)
-                self.grows(lambda **words: many([words.pop("data"), None], **words), ("data",), **words)
+                self.grows(
+                    lambda **words: many([words.pop("data"), None], **words), ("data",), **words
+                )
 
     def test_roots(self):
         for words in ({"leaf_size": 1}, {"leaf_size": 0}, {"leaf_size": 1, "digest_size": 0}):
             self.grows(lambda **words: vulfsjor.tree_root(words.pop("data", b"x"), **words),
                        ("data", "salt", "person"), **words)
-            self.grows(lambda **words: vulfsjor.tree_root("text", **words), ("salt", "person"), **words)
+            self.grows(
+                lambda **words: vulfsjor.tree_root("text", **words), ("salt", "person"), **words
+            )
 
     def test_nothing_is_kept(self):
         def work():
@@ -255,8 +284,13 @@ class Views(unittest.TestCase):
                     hasher = make(b"x", key=b"key")
                     hasher.copy().update(bytes(3000))
                     hasher.digest(), hasher.hexdigest(), hasher.verify(b"x"), many([b"x"] * 5)
-                    for call in (lambda: make("x"), lambda: many([b"x", "x"]), lambda: make(depth=0),
-                                 lambda: make(leaf_size=-1), lambda: vulfsjor.tree_root("x", 1)):
+                    for call in (
+                        lambda: make("x"),
+                        lambda: many([b"x", "x"]),
+                        lambda: make(depth=0),
+                        lambda: make(leaf_size=-1),
+                        lambda: vulfsjor.tree_root("x", 1),
+                    ):
                         self.assertRaises((TypeError, ValueError), call)
                     vulfsjor.tree_root(b"x", 1)
 
@@ -302,19 +336,25 @@ class Threads(unittest.TestCase):
             hasher = make()
             for call in (lambda: hasher.update(LONG), lambda: make(LONG), lambda: many([LONG])):
                 self.assertGreater(self.turns_during(call), 10)
-        for call in (lambda: vulfsjor.tree_root(LONG, 4096), lambda: vulfsjor.TreeHasher(4096).update(LONG),
-                     lambda: vulfsjor.TreeHasher(4096).next_leaves(LONG),
-                     lambda: vulfsjor.tree_leaves(LONG, 4096, first=0, ends=True),
-                     lambda: vulfsjor.tree_root_of_leaves(LONG, 4096)):
+        for call in (
+            lambda: vulfsjor.tree_root(LONG, 4096),
+            lambda: vulfsjor.TreeHasher(4096).update(LONG),
+            lambda: vulfsjor.TreeHasher(4096).next_leaves(LONG),
+            lambda: vulfsjor.tree_leaves(LONG, 4096, first=0, ends=True),
+            lambda: vulfsjor.tree_root_of_leaves(LONG, 4096),
+        ):
             self.assertGreater(self.turns_during(call), 10)
 
     def test_others_wait_for_a_long_update(self):
-        """A call of an object meets all of an update that is under way, here in one of ten tries at least: in a try
-        the update may not have begun."""
+        """A call of an object sees all of an update that is under way, at least once in ten tries:
+        in a single try the update may not have started."""
         for _, make, theirs, _, _ in FAMILIES:
             wanted = theirs(LONG).digest()
-            for call in (lambda hasher: hasher.copy().digest() == wanted, lambda hasher: hasher.digest() == wanted,
-                         lambda hasher: hasher.verify(wanted)):
+            for call in (
+                lambda hasher: hasher.copy().digest() == wanted,
+                lambda hasher: hasher.digest() == wanted,
+                lambda hasher: hasher.verify(wanted),
+            ):
                 self.assertTrue(any(self.is_met(call, make()) for _ in range(10)))
 
     def is_met(self, call, hasher):
@@ -329,7 +369,9 @@ class Threads(unittest.TestCase):
     def test_short_ones_do_not(self):
         for _, make, _, _, _ in FAMILIES:
             hasher, short = make(), bytes(2047)
-            self.assertEqual(self.turns_during(lambda: [hasher.update(short) for _ in range(3000)]), 0)
+            self.assertEqual(
+                self.turns_during(lambda: [hasher.update(short) for _ in range(3000)]), 0
+            )
 
     def test_2048_bytes_are_long(self):
         for make in (vulfsjor.blake2b, vulfsjor.blake2s, lambda: vulfsjor.TreeHasher(4096)):
@@ -345,12 +387,16 @@ class Words(unittest.TestCase):
     def test_versions_agree(self):
         with open(os.path.join(HERE, "..", "pyproject.toml")) as file:
             project = file.read()
-        self.assertEqual(re.search(r'^version = "(.*)"$', project, re.MULTILINE)[1], vulfsjor.__version__)
+        self.assertEqual(
+            re.search(r'^version = "(.*)"$', project, re.MULTILINE)[1], vulfsjor.__version__
+        )
 
     def test_signatures_are_those_of_hashlib(self):
         for name, make, theirs, _, _ in FAMILIES:
             self.assertEqual(inspect.signature(make), inspect.signature(theirs))
-            self.assertEqual((make.__module__, make.__name__, make().name), ("vulfsjor", name, name))
+            self.assertEqual(
+                (make.__module__, make.__name__, make().name), ("vulfsjor", name, name)
+            )
             for method in ("copy", "digest", "hexdigest", "update"):
                 signature = inspect.signature(getattr(make, method))
                 self.assertEqual(signature, inspect.signature(getattr(theirs, method)))
@@ -360,7 +406,9 @@ class Words(unittest.TestCase):
         for name in vulfsjor.__all__:
             thing = getattr(vulfsjor, name)
             self.assertTrue(thing.__doc__)
-            for member in (name for name in dir(thing) if inspect.isclass(thing) and name.islower()):
+            for member in (
+                name for name in dir(thing) if inspect.isclass(thing) and name.islower()
+            ):
                 if not member.startswith("_"):
                     self.assertTrue(getattr(thing, member).__doc__, member)
 
@@ -375,8 +423,13 @@ class Words(unittest.TestCase):
         for node in self.stub():
             if isinstance(node, ast.ClassDef):
                 declared.add(node.name)
-                members = {part.target.id if isinstance(part, ast.AnnAssign) else part.name for part in node.body}
-                there = {name for name in dir(getattr(vulfsjor, node.name)) if not name.startswith("_")}
+                members = {
+                    part.target.id if isinstance(part, ast.AnnAssign) else part.name
+                    for part in node.body
+                }
+                there = {
+                    name for name in dir(getattr(vulfsjor, node.name)) if not name.startswith("_")
+                }
                 self.assertEqual(members - {"_replace"}, there | {"__new__"})
                 for part in node.body:
                     if isinstance(part, ast.FunctionDef) and not part.decorator_list:
@@ -386,13 +439,19 @@ class Words(unittest.TestCase):
                 self.same_signature(node, vulfsjor._library, node.name)
             elif isinstance(node, ast.AnnAssign):
                 declared.add(node.target.id)
-        there = {name for name in dir(vulfsjor._library) if not name.startswith("_") or name == "__version__"}
+        there = {
+            name
+            for name in dir(vulfsjor._library)
+            if not name.startswith("_") or name == "__version__"
+        }
         self.assertEqual(declared, there)
         self.assertEqual(set(vulfsjor.__all__) - declared, {"tree_root_file"})
 
     def same_signature(self, node, owner, name):
-        """Compares the names, kinds and defaults of a function's arguments with those of the stub."""
-        theirs = inspect.signature(owner if name == "__new__" else getattr(owner, name)).parameters.values()
+        """Compares the names, kinds and defaults of a function's arguments with the stub."""
+        theirs = inspect.signature(
+            owner if name == "__new__" else getattr(owner, name)
+        ).parameters.values()
         mine, args = [], node.args
         first = [arg.arg for arg in args.posonlyargs + args.args]
         plain = args.posonlyargs + args.args
@@ -401,11 +460,18 @@ class Words(unittest.TestCase):
             mine.append((arg.arg, None if default is None else ast.literal_eval(default)))
         for arg, default in zip(args.kwonlyargs, args.kw_defaults):
             mine.append((arg.arg, None if default is None else ast.literal_eval(default)))
-        if first[0] == "cls" or first[0] == "self" and "self" not in [parameter.name for parameter in theirs]:
+        names = [parameter.name for parameter in theirs]
+        if first[0] == "cls" or first[0] == "self" and "self" not in names:
             mine = mine[1:]
         empty = inspect.Parameter.empty
-        self.assertEqual(mine, [(parameter.name, None if parameter.default is empty else parameter.default)
-                                for parameter in theirs], name)
+        self.assertEqual(
+            mine,
+            [
+                (parameter.name, None if parameter.default is empty else parameter.default)
+                for parameter in theirs
+            ],
+            name,
+        )
 
     def test_examples(self):
         failed, tried = doctest.testmod(vulfsjor)
@@ -413,7 +479,9 @@ class Words(unittest.TestCase):
         here = os.getcwd()
         with tempfile.TemporaryDirectory() as folder:
             os.chdir(folder)
-            failed, tried = doctest.testfile(os.path.join(HERE, "..", "README.md"), module_relative=False)
+            failed, tried = doctest.testfile(
+                os.path.join(HERE, "..", "README.md"), module_relative=False
+            )
             os.chdir(here)
         self.assertEqual((failed, tried > 20), (0, True))
 

@@ -76,26 +76,47 @@ class Parameters(Test):
         for call, has_size in self.calls():
             call(leaf_size=1 << 16, **TEXTS)
             call(leaf_size=2**32 - 1, salt=bytearray(16), person=memoryview(bytes(16)))
-            self.refuses(ValueError, "leaf_size must be between 1 and 4294967295", call, leaf_size=0)
+            self.refuses(
+                ValueError, "leaf_size must be between 1 and 4294967295", call, leaf_size=0
+            )
             self.refuses(ValueError, "value must be positive", call, leaf_size=-1)
             self.refuses(OverflowError, "leaf_size is too large", call, leaf_size=2**32)
             self.refuses(TypeError, "an integer is required", call, leaf_size=1.0)
             for name in ("salt", "person"):
                 for length in (17, 1000):
-                    self.refuses(ValueError, f"maximum {name} length is 16 bytes", call, leaf_size=1 << 16,
-                                 **{name: bytes(length)})
-                self.refuses(TypeError, "a bytes-like object is required, not 'str'", call, leaf_size=1 << 16,
-                             **{name: "text"})
+                    self.refuses(
+                        ValueError,
+                        f"maximum {name} length is 16 bytes",
+                        call,
+                        leaf_size=1 << 16,
+                        **{name: bytes(length)},
+                    )
+                self.refuses(
+                    TypeError,
+                    "a bytes-like object is required, not 'str'",
+                    call,
+                    leaf_size=1 << 16,
+                    **{name: "text"},
+                )
             for size in (-1, 0, 65) if has_size else ():
-                self.refuses(ValueError, "digest_size must be between 1 and 64 bytes", call, leaf_size=1 << 16,
-                             digest_size=size)
+                self.refuses(
+                    ValueError,
+                    "digest_size must be between 1 and 64 bytes",
+                    call,
+                    leaf_size=1 << 16,
+                    digest_size=size,
+                )
             self.assertRaises(TypeError, call)
             self.assertRaises(TypeError, call, leaf_size=1 << 16, key=b"k")
 
     def test_threads(self):
-        for call in (lambda threads: vulfsjor.tree_root(DATA, 1 << 14, threads=threads),
-                     lambda threads: vulfsjor.tree_root_file(self.file(DATA), 1 << 14, threads=threads)):
-            for threads in (0, 1, 2, 3, 4, 7, 1000, True, type("Index", (), {"__index__": lambda self: 2})()):
+        for call in (
+            lambda threads: vulfsjor.tree_root(DATA, 1 << 14, threads=threads),
+            lambda threads: vulfsjor.tree_root_file(self.file(DATA), 1 << 14, threads=threads),
+        ):
+            for threads in (
+                0, 1, 2, 3, 4, 7, 1000, True, type("Index", (), {"__index__": lambda self: 2})()
+            ):
                 self.assertEqual(call(threads), ROOT)
             with mock.patch("os.sched_getaffinity", lambda process: {1, 4, 9}), \
                     mock.patch.object(_threads, "_start", side_effect=_threads._start) as start:
@@ -103,7 +124,9 @@ class Parameters(Test):
                 self.assertEqual(start.call_args.args[0], 3)
             self.refuses(ValueError, "threads must be 0 or more", call, -1)
             self.refuses(TypeError, "'float' object cannot be interpreted as an integer", call, 1.0)
-            self.refuses(TypeError, "'NoneType' object cannot be interpreted as an integer", call, None)
+            self.refuses(
+                TypeError, "'NoneType' object cannot be interpreted as an integer", call, None
+            )
 
 
 class Parts(Test):
@@ -114,9 +137,13 @@ class Parts(Test):
             for count in (1, 2, 3, 4, 5, 8, 9):
                 for first in (0, 1, 5, 2**32 + 1, (2**58 - 1) // leaf_size - count):
                     data = DICE.randbytes(count * leaf_size)
-                    for ends, part in ((False, data), (True, data), (True, data[:len(data) - leaf_size // 2])):
+                    for ends, part in (
+                        (False, data), (True, data), (True, data[:len(data) - leaf_size // 2])
+                    ):
                         wanted = oracle.range_digests(part, leaf_size, first, ends, **TEXTS)
-                        found = vulfsjor.tree_leaves(part, leaf_size, first=first, ends=ends, **TEXTS)
+                        found = vulfsjor.tree_leaves(
+                            part, leaf_size, first=first, ends=ends, **TEXTS
+                        )
                         self.assertEqual(found, wanted)
         found = vulfsjor.tree_leaves(b"", 5, first=0, ends=True)
         self.assertEqual(found, oracle.range_digests(b"", 5))
@@ -129,8 +156,16 @@ class Parts(Test):
             data = DATA[:length]
             for part in (1, 3, 4, 100):
                 starts = range(0, max(length, 1), 100 * part)
-                digests = b"".join(vulfsjor.tree_leaves(data[at:at + 100 * part], 100, first=at // 100,
-                                                        ends=at + 100 * part >= length, **TEXTS) for at in starts)
+                digests = b"".join(
+                    vulfsjor.tree_leaves(
+                        data[at:at + 100 * part],
+                        100,
+                        first=at // 100,
+                        ends=at + 100 * part >= length,
+                        **TEXTS,
+                    )
+                    for at in starts
+                )
                 self.assertEqual(len(digests), 64 * vulfsjor.tree_leaf_count(length, 100))
                 for size in (1, 20, 64):
                     root = vulfsjor.tree_root_of_leaves(digests, 100, digest_size=size, **TEXTS)
@@ -144,21 +179,41 @@ class Parts(Test):
         for first, ends in ((0, False), (1, True), (1, False), (2**63, True)):
             self.refuses(ValueError, empty, leaves, b"", 10, first=first, ends=ends)
         leaves(b"x", 1, first=2**58 - 2, ends=True)
-        for data, leaf_size, first in ((b"x", 1, 2**58 - 1), (b"xy", 1, 2**58 - 2), (b"x", 1, 2**64 - 1),
-                                       (bytes(1024), 1024, 2**48 - 1), (b"x", 2**31, 2**63)):
-            self.refuses(OverflowError, "2^58 bytes or more", leaves, data, leaf_size, first=first, ends=True)
-        self.refuses(OverflowError, "int too big to convert", leaves, b"x", 1, first=2**64, ends=True)
+        for data, leaf_size, first in (
+            (b"x", 1, 2**58 - 1),
+            (b"xy", 1, 2**58 - 2),
+            (b"x", 1, 2**64 - 1),
+            (bytes(1024), 1024, 2**48 - 1),
+            (b"x", 2**31, 2**63),
+        ):
+            self.refuses(
+                OverflowError, "2^58 bytes or more", leaves, data, leaf_size, first=first, ends=True
+            )
+        self.refuses(
+            OverflowError, "int too big to convert", leaves, b"x", 1, first=2**64, ends=True
+        )
         self.refuses(ValueError, "value must be positive", leaves, b"x", 1, first=-1, ends=True)
         self.refuses(TypeError, "an integer is required", leaves, b"x", 1, first=None, ends=True)
         needs = "tree_leaves() requires the keyword arguments first and ends"
         for words in ({}, {"first": 0}, {"ends": True}):
             self.refuses(TypeError, needs, leaves, b"x", 1, **words)
-        self.refuses(TypeError, "Strings must be encoded before hashing", leaves, "x", 1, first=0, ends=True)
-        self.refuses(TypeError, "object supporting the buffer API required", leaves, None, 1, first=0, ends=True)
+        self.refuses(
+            TypeError, "Strings must be encoded before hashing", leaves, "x", 1, first=0, ends=True
+        )
+        self.refuses(
+            TypeError,
+            "object supporting the buffer API required",
+            leaves,
+            None,
+            1,
+            first=0,
+            ends=True,
+        )
         self.assertRaises(BufferError, leaves, memoryview(b"abcd")[::2], 1, first=0, ends=True)
 
     def test_digests_are_refused(self):
-        root, text = vulfsjor.tree_root_of_leaves, "digests must have 64 bytes for each leaf, and at least one leaf"
+        root = vulfsjor.tree_root_of_leaves
+        text = "digests must have 64 bytes for each leaf, and at least one leaf"
         for length in range(193):
             if length and length % 64 == 0:
                 root(bytes(length), 1)
@@ -172,7 +227,9 @@ class Parts(Test):
         count = vulfsjor.tree_leaf_count
         for leaf_size in (1, 2, 64, 2**32 - 1):
             for length in (0, 1, leaf_size - 1, leaf_size, leaf_size + 1, 5 * leaf_size, 2**64 - 1):
-                self.assertEqual(count(length, leaf_size=leaf_size), max(1, -(-length // leaf_size)))
+                self.assertEqual(
+                    count(length, leaf_size=leaf_size), max(1, -(-length // leaf_size))
+                )
         self.refuses(ValueError, "leaf_size must be between 1 and 4294967295", count, 5, 0)
         self.refuses(OverflowError, "leaf_size is too large", count, 5, 2**32)
         self.refuses(ValueError, "value must be positive", count, -1, 5)
@@ -182,15 +239,19 @@ class Parts(Test):
 
     def test_views_are_let_go(self):
         array_ = bytearray(128)
-        for call in (lambda: vulfsjor.tree_leaves(array_, 1, first=0, ends=True, salt=array_),
-                     lambda: vulfsjor.tree_leaves(array_, 128, first=0, ends=True),
-                     lambda: vulfsjor.tree_leaves(array_, 127, first=0, ends=False),
-                     lambda: vulfsjor.tree_leaves(array_, 128, first=2**60, ends=True),
-                     lambda: vulfsjor.tree_leaves(b"x", 1, first=0, ends=True, person=array_),
-                     lambda: vulfsjor.tree_leaves(b"x", 1, person=array_),
-                     lambda: vulfsjor.tree_root_of_leaves(array_[:], 1, person=array_),
-                     lambda: vulfsjor.tree_root_of_leaves(array_, 1), lambda: vulfsjor.TreeHasher(1, salt=array_),
-                     lambda: vulfsjor.tree_root(array_, 1, threads=2), lambda: vulfsjor.TreeHasher(1).update(array_)):
+        for call in (
+            lambda: vulfsjor.tree_leaves(array_, 1, first=0, ends=True, salt=array_),
+            lambda: vulfsjor.tree_leaves(array_, 128, first=0, ends=True),
+            lambda: vulfsjor.tree_leaves(array_, 127, first=0, ends=False),
+            lambda: vulfsjor.tree_leaves(array_, 128, first=2**60, ends=True),
+            lambda: vulfsjor.tree_leaves(b"x", 1, first=0, ends=True, person=array_),
+            lambda: vulfsjor.tree_leaves(b"x", 1, person=array_),
+            lambda: vulfsjor.tree_root_of_leaves(array_[:], 1, person=array_),
+            lambda: vulfsjor.tree_root_of_leaves(array_, 1),
+            lambda: vulfsjor.TreeHasher(1, salt=array_),
+            lambda: vulfsjor.tree_root(array_, 1, threads=2),
+            lambda: vulfsjor.TreeHasher(1).update(array_),
+        ):
             try:
                 call()
             except (ValueError, OverflowError, TypeError):
@@ -212,7 +273,9 @@ class Pieces(Test):
                         self.assertIsNone(hasher.update(DATA[at:min(at + piece, length)]))
                     wanted = oracle.tree_root(DATA[:length], 100, size, **TEXTS)
                     self.assertEqual((hasher.digest(), hasher.hexdigest()), (wanted, wanted.hex()))
-                    self.assertEqual((hasher.digest(), hasher.digest_size, hasher.leaf_size), (wanted, size, 100))
+                    self.assertEqual(
+                        (hasher.digest(), hasher.digest_size, hasher.leaf_size), (wanted, size, 100)
+                    )
 
     def test_copies_go_on_by_themselves(self):
         hasher = vulfsjor.TreeHasher(10)
@@ -243,7 +306,8 @@ class Pieces(Test):
             closed = ctypes.c_uint64.from_address(id(hasher) + 32 + 2 * 424)
             self.assertEqual(closed.value, 1)
             closed.value = 2**48 - 1
-            counter = (ctypes.c_uint64 * 2).from_address(id(hasher) + 32 + 424 + 128)  # of the root, and pending bytes
+            # The counter of the root, and the number of its pending bytes.
+            counter = (ctypes.c_uint64 * 2).from_address(id(hasher) + 32 + 424 + 128)
             counter[:] = [(2**48 - 1) * 64, 0]
             hasher.update(bytes(1020))
             before = hasher.digest()
@@ -291,7 +355,10 @@ class Leaves(Test):
                 hasher.update(data[:100 * before])
                 end = 100 * (before + leaves)
                 starts = range(100 * before, end, 200)
-                digests = [hasher.next_leaves(data[at:min(at + 200, end)], at // 100 - before) for at in starts]
+                digests = [
+                    hasher.next_leaves(data[at:min(at + 200, end)], at // 100 - before)
+                    for at in starts
+                ]
                 wanted = oracle.range_digests(data[100 * before:end], 100, before, False, **TEXTS)
                 self.assertEqual(b"".join(digests), wanted if leaves else b"")
                 self.assertEqual(hasher.count, 100 * before)
@@ -312,19 +379,40 @@ class Leaves(Test):
             hasher.update(bytes(count))
             before = hasher.digest()
             for length in (0, 1, 99, 101, 150):
-                self.refuses(ValueError, "data must be whole leaves, at least one", hasher.next_leaves, bytes(length))
+                self.refuses(
+                    ValueError,
+                    "data must be whole leaves, at least one",
+                    hasher.next_leaves,
+                    bytes(length),
+                )
             for length in (1, 63, 65):
-                self.refuses(ValueError, "digests must have 64 bytes for each leaf", hasher.update_leaves,
-                             bytes(length), b"x")
-            self.refuses(ValueError, "data must follow the digests, at least one byte of it", hasher.update_leaves,
-                         bytes(64), b"")
+                self.refuses(
+                    ValueError,
+                    "digests must have 64 bytes for each leaf",
+                    hasher.update_leaves,
+                    bytes(length),
+                    b"x",
+                )
+            self.refuses(
+                ValueError,
+                "data must follow the digests, at least one byte of it",
+                hasher.update_leaves,
+                bytes(64),
+                b"",
+            )
             if count % 100:
                 self.refuses(ValueError, boundary, hasher.next_leaves, bytes(100))
                 self.refuses(ValueError, boundary, hasher.update_leaves, bytes(64), b"x")
             else:
-                self.refuses(OverflowError, "2^58 bytes or more", hasher.next_leaves, bytes(100), 2**52)
-                self.refuses(OverflowError, "int too big to convert", hasher.next_leaves, bytes(100), 2**64)
-                self.refuses(ValueError, "value must be positive", hasher.next_leaves, bytes(100), -1)
+                self.refuses(
+                    OverflowError, "2^58 bytes or more", hasher.next_leaves, bytes(100), 2**52
+                )
+                self.refuses(
+                    OverflowError, "int too big to convert", hasher.next_leaves, bytes(100), 2**64
+                )
+                self.refuses(
+                    ValueError, "value must be positive", hasher.next_leaves, bytes(100), -1
+                )
                 hasher.copy().update_leaves(bytes(64), b"x")
             for wrong in ("x", None):
                 self.assertRaises(TypeError, hasher.next_leaves, wrong)
@@ -333,8 +421,12 @@ class Leaves(Test):
             hasher.update_leaves(b"", b"")
             self.assertEqual((hasher.digest(), hasher.count), (before, count))
         array_ = bytearray(128)
-        for call in (hasher.next_leaves, lambda data: hasher.update_leaves(data, b""),
-                     lambda data: hasher.update_leaves(b"", data), lambda data: hasher.update_leaves(data, None)):
+        for call in (
+            hasher.next_leaves,
+            lambda data: hasher.update_leaves(data, b""),
+            lambda data: hasher.update_leaves(b"", data),
+            lambda data: hasher.update_leaves(data, None),
+        ):
             try:
                 call(array_)
             except (ValueError, TypeError):
@@ -356,8 +448,20 @@ class Leaves(Test):
         hasher = vulfsjor.TreeHasher(1 << 14)
         hasher.update(DATA[:5])
         for threads in (1, 3):
-            self.refuses(TypeError, "Strings must be encoded before hashing", hasher.update, "x", threads=threads)
-            self.refuses(TypeError, "object supporting the buffer API required", hasher.update, 5, threads=threads)
+            self.refuses(
+                TypeError,
+                "Strings must be encoded before hashing",
+                hasher.update,
+                "x",
+                threads=threads,
+            )
+            self.refuses(
+                TypeError,
+                "object supporting the buffer API required",
+                hasher.update,
+                5,
+                threads=threads,
+            )
         self.refuses(ValueError, "threads must be 0 or more", hasher.update, DATA, threads=-1)
         other = threading.Thread(target=hasher.update, args=(b"more",))
 
@@ -368,8 +472,13 @@ class Leaves(Test):
 
         started = _threads._start
         with mock.patch.object(_threads, "_start", start):
-            self.refuses(RuntimeError, "another thread has updated the hasher meanwhile", hasher.update, DATA,
-                         threads=3)
+            self.refuses(
+                RuntimeError,
+                "another thread has updated the hasher meanwhile",
+                hasher.update,
+                DATA,
+                threads=3,
+            )
         self.assertEqual(hasher.digest(), oracle.tree_root(DATA[:5] + b"more", 1 << 14))
 
     def test_an_interrupted_update_changes_nothing(self):
@@ -401,32 +510,55 @@ class Threads(Test):
                 size = DICE.randint(1, 64)
                 wanted = oracle.tree_root(data, leaf_size, size, **TEXTS)
                 for threads in (2, 3, 5):
-                    found = vulfsjor.tree_root(data, leaf_size, digest_size=size, threads=threads, **TEXTS)
+                    found = vulfsjor.tree_root(
+                        data, leaf_size, digest_size=size, threads=threads, **TEXTS
+                    )
                     self.assertEqual(found, wanted)
         small = DATA[:3 * MIB]
         self.assertEqual(vulfsjor.tree_root(small, 61, threads=3), oracle.tree_root(small, 61))
 
     def test_leaves_longer_than_a_call(self):
-        with mock.patch.multiple(_threads, _PART_BYTES=30_000, _MOST_BYTES=50_000, _MOST_BUFFER_BYTES=50_000):
+        with mock.patch.multiple(
+            _threads, _PART_BYTES=30_000, _MOST_BYTES=50_000, _MOST_BUFFER_BYTES=50_000
+        ):
             for leaf_size in (7000, 49_999, 50_000, 50_001, 60_000, MIB, 20 * MIB):
                 wanted = oracle.tree_root(DATA, leaf_size)
                 self.assertEqual(vulfsjor.tree_root(DATA, leaf_size, threads=3), wanted)
-                self.assertEqual(vulfsjor.tree_root_file(self.file(DATA), leaf_size, threads=3), wanted)
-                self.assertEqual(vulfsjor.tree_root_file(self.file(DATA), leaf_size, threads=1), wanted)
+                self.assertEqual(
+                    vulfsjor.tree_root_file(self.file(DATA), leaf_size, threads=3), wanted
+                )
+                self.assertEqual(
+                    vulfsjor.tree_root_file(self.file(DATA), leaf_size, threads=1), wanted
+                )
 
     def test_any_buffer(self):
         short = DATA[:3 * MIB]
         wanted = oracle.tree_root(short, 4096)
         shaped = ((ctypes.c_char * MIB) * 3).from_buffer_copy(short)
-        for data in (bytearray(short), memoryview(DATA)[:3 * MIB], memoryview(array.array("d", short)),
-                     (ctypes.c_uint16.__ctype_be__ * (3 * MIB // 2)).from_buffer_copy(short),
-                     memoryview(short).cast("B", (3, MIB))):
+        for data in (
+            bytearray(short),
+            memoryview(DATA)[:3 * MIB],
+            memoryview(array.array("d", short)),
+            (ctypes.c_uint16.__ctype_be__ * (3 * MIB // 2)).from_buffer_copy(short),
+            memoryview(short).cast("B", (3, MIB)),
+        ):
             self.assertEqual(vulfsjor.tree_root(data, 4096, threads=3), wanted)
-        self.refuses(BufferError, "Buffer must be single dimension", vulfsjor.tree_root, shaped, 4096, threads=3)
+        self.refuses(
+            BufferError,
+            "Buffer must be single dimension",
+            vulfsjor.tree_root,
+            shaped,
+            4096,
+            threads=3,
+        )
         for threads in (1, 3):
             root = vulfsjor.tree_root
-            self.refuses(TypeError, "Strings must be encoded before hashing", root, "x", 1, threads=threads)
-            self.refuses(TypeError, "object supporting the buffer API required", root, 5, 1, threads=threads)
+            self.refuses(
+                TypeError, "Strings must be encoded before hashing", root, "x", 1, threads=threads
+            )
+            self.refuses(
+                TypeError, "object supporting the buffer API required", root, 5, 1, threads=threads
+            )
             self.refuses(BufferError, "memoryview: underlying buffer is not C-contiguous", root,
                          memoryview(DATA)[::2], 1, threads=threads)
 
@@ -439,18 +571,30 @@ class Threads(Test):
             return leaves(*args, **words)
 
         with mock.patch.object(_threads._library, "tree_leaves", tree_leaves):
-            for call in (lambda: vulfsjor.tree_root(DATA[:3 * MIB], MIB, threads=3),
-                         lambda: vulfsjor.tree_root_file(self.file(DATA[:3 * MIB]), MIB, threads=3)):
+            for call in (
+                lambda: vulfsjor.tree_root(DATA[:3 * MIB], MIB, threads=3),
+                lambda: vulfsjor.tree_root_file(self.file(DATA[:3 * MIB]), MIB, threads=3),
+            ):
                 seen.clear()
                 self.assertEqual(call(), oracle.tree_root(DATA[:3 * MIB], MIB))
                 self.assertEqual(len(seen - {threading.get_ident()}), 3)
 
     def test_a_mebibyte_for_each_thread(self):
         with mock.patch.object(_threads, "_start", side_effect=_threads._start) as start:
-            for length, asked, wanted in ((2 * MIB - 1, 9, None), (2 * MIB, 9, 2), (5 * MIB, 9, 5), (5 * MIB, 3, 3),
-                                          (5 * MIB, 1, None), (5 * MIB, 0, min(5, len(os.sched_getaffinity(0))))):
-                for call in (lambda: vulfsjor.tree_root(DATA[:length], 1 << 16, threads=asked),
-                             lambda: vulfsjor.tree_root_file(self.file(DATA[:length]), 1 << 16, threads=asked)):
+            for length, asked, wanted in (
+                (2 * MIB - 1, 9, None),
+                (2 * MIB, 9, 2),
+                (5 * MIB, 9, 5),
+                (5 * MIB, 3, 3),
+                (5 * MIB, 1, None),
+                (5 * MIB, 0, min(5, len(os.sched_getaffinity(0)))),
+            ):
+                for call in (
+                    lambda: vulfsjor.tree_root(DATA[:length], 1 << 16, threads=asked),
+                    lambda: vulfsjor.tree_root_file(
+                        self.file(DATA[:length]), 1 << 16, threads=asked
+                    ),
+                ):
                     start.reset_mock()
                     call()
                     started = start.call_args.args[0] if start.called else None
@@ -462,7 +606,9 @@ class Threads(Test):
             self.assertRaises(RuntimeError, threading.Thread(target=print).start)
             found = vulfsjor.tree_root(DATA, 1 << 14, threads=3)
             seen = []
-            of_file = vulfsjor.tree_root_file(self.file(DATA), 1 << 14, threads=3, progress=seen.append)
+            of_file = vulfsjor.tree_root_file(
+                self.file(DATA), 1 << 14, threads=3, progress=seen.append
+            )
         finally:
             threading.stack_size(size)
         self.assertEqual((found, of_file, seen[-1]), (ROOT, ROOT, len(DATA)))
@@ -505,7 +651,9 @@ class Files(Test):
         with open(self.file(DATA), "rb", buffering=0) as file:
             file.seek(777)
             for threads in (1, 3):
-                self.assertEqual(vulfsjor.tree_root_file(file.fileno(), 1 << 14, threads=threads), ROOT)
+                self.assertEqual(
+                    vulfsjor.tree_root_file(file.fileno(), 1 << 14, threads=threads), ROOT
+                )
                 self.assertEqual(file.tell(), 777)
         self.assertEqual(vulfsjor.tree_root_file(self.file(DATA), 1 << 14), ROOT)
 
@@ -551,9 +699,13 @@ class Files(Test):
             wanted = oracle.tree_root(file.read(), 10)
             self.assertEqual(vulfsjor.tree_root_file("/proc/version", 10), wanted)
             file.seek(3)
-            self.assertEqual(vulfsjor.tree_root_file(file.fileno(), 10), vulfsjor.tree_root_file("/proc/version", 10))
+            self.assertEqual(
+                vulfsjor.tree_root_file(file.fileno(), 10),
+                vulfsjor.tree_root_file("/proc/version", 10),
+            )
         self.assertEqual(vulfsjor.tree_root_file("/dev/null", 10), oracle.tree_root(b"", 10))
-        name = "/sys/kernel/mm/transparent_hugepage/enabled"  # shorter than the 4,096 bytes that it reports
+        # This file is shorter than the 4,096 bytes that it reports.
+        name = "/sys/kernel/mm/transparent_hugepage/enabled"
         if os.path.exists(name):
             with open(name, "rb") as file:
                 wanted = oracle.tree_root(file.read(), 10)
@@ -578,23 +730,41 @@ class Files(Test):
             path = self.file(DATA)
             with mock.patch.object(_threads, "_PART_BYTES", 1 << 18):
                 with self.assertRaises(OSError) as caught:
-                    vulfsjor.tree_root_file(path, 1 << 14, threads=2, progress=lambda done: os.truncate(path, end))
+                    vulfsjor.tree_root_file(
+                        path, 1 << 14, threads=2, progress=lambda done: os.truncate(path, end)
+                    )
             self.assertEqual(str(caught.exception), text.format(path))
             self.assertEqual((caught.exception.errno, caught.exception.filename), (errno.EIO, path))
 
     def test_refusals(self):
         root, absent = vulfsjor.tree_root_file, os.path.join(self.folder.name, "absent")
-        self.refuses(FileNotFoundError, f"[Errno 2] No such file or directory: {absent!r}", root, absent, 1)
-        self.refuses(IsADirectoryError, f"[Errno 21] Is a directory: {self.folder.name!r}", root, self.folder.name, 1)
+        self.refuses(
+            FileNotFoundError, f"[Errno 2] No such file or directory: {absent!r}", root, absent, 1
+        )
+        self.refuses(
+            IsADirectoryError,
+            f"[Errno 21] Is a directory: {self.folder.name!r}",
+            root,
+            self.folder.name,
+            1,
+        )
         self.refuses(OSError, "[Errno 9] Bad file descriptor", root, 12345, 1)
         self.refuses(ValueError, "embedded null byte", root, "a\0b", 1)
         for path in (None, 1.5, [], object()):
             self.assertRaises(TypeError, root, path, 1)
         with open(self.file(b"abc"), "wb") as file:
-            self.refuses(OSError, f"[Errno 9] Bad file descriptor: {file.fileno()}", root, file.fileno(), 1)
+            self.refuses(
+                OSError, f"[Errno 9] Bad file descriptor: {file.fileno()}", root, file.fileno(), 1
+            )
         reader, writer = os.pipe()
         fcntl.fcntl(reader, fcntl.F_SETFL, os.O_NONBLOCK)
-        self.refuses(BlockingIOError, f"[Errno 11] Resource temporarily unavailable: {reader}", root, reader, 1)
+        self.refuses(
+            BlockingIOError,
+            f"[Errno 11] Resource temporarily unavailable: {reader}",
+            root,
+            reader,
+            1,
+        )
         os.close(reader)
         os.close(writer)
         self.refuses(TypeError, "progress must be callable", root, self.file(DATA), 1, progress=5)
@@ -606,14 +776,24 @@ class Files(Test):
             error = OSError(errno.ENXIO, "broken")
             with mock.patch.object(os, name, side_effect=error):
                 path = self.file(DATA)
-                self.refuses(OSError, f"[Errno 6] broken: {path!r}", vulfsjor.tree_root_file, path, 1 << 14,
-                             threads=threads)
+                self.refuses(
+                    OSError,
+                    f"[Errno 6] broken: {path!r}",
+                    vulfsjor.tree_root_file,
+                    path,
+                    1 << 14,
+                    threads=threads,
+                )
 
     def test_short_reads(self):
         preadv = os.preadv
-        with mock.patch.object(os, "preadv", lambda file, views, at: preadv(file, [views[0][:99_999]], at)):
+        with mock.patch.object(
+            os, "preadv", lambda file, views, at: preadv(file, [views[0][:99_999]], at)
+        ):
             for threads in (1, 3):
-                self.assertEqual(vulfsjor.tree_root_file(self.file(DATA), 1 << 14, threads=threads), ROOT)
+                self.assertEqual(
+                    vulfsjor.tree_root_file(self.file(DATA), 1 << 14, threads=threads), ROOT
+                )
 
 
 class Stops(Test):
@@ -623,8 +803,12 @@ class Stops(Test):
         for threads in (1, 3):
             seen = []
             with mock.patch.object(_threads, "_PART_BYTES", MIB):
-                vulfsjor.tree_root_file(self.file(DATA), 1 << 14, threads=threads,
-                                        progress=lambda done: seen.append((threading.get_ident(), done)))
+                vulfsjor.tree_root_file(
+                    self.file(DATA),
+                    1 << 14,
+                    threads=threads,
+                    progress=lambda done: seen.append((threading.get_ident(), done)),
+                )
             self.assertEqual({thread for thread, _ in seen}, {threading.get_ident()})
             self.assertEqual([done for _, done in seen], [*range(MIB, 10 * MIB, MIB), len(DATA)])
 
@@ -699,8 +883,9 @@ class Stops(Test):
                     events[0].wait(5)
             return preadv(file, views, at)
 
-        with mock.patch.multiple(_threads, _PART_BYTES=1 << 18, _MOST_BUFFER_BYTES=MIB, Event=keep), \
-                mock.patch.object(os, "preadv", read):
+        with mock.patch.multiple(
+            _threads, _PART_BYTES=1 << 18, _MOST_BUFFER_BYTES=MIB, Event=keep
+        ), mock.patch.object(os, "preadv", read):
             self.refuses(KeyboardInterrupt, "", vulfsjor.tree_root_file, self.file(DATA), 4 * MIB,
                          threads=2, progress=mock.Mock(side_effect=KeyboardInterrupt))
         self.assertLessEqual(len(reads), 1)
@@ -718,8 +903,9 @@ class Stops(Test):
             self.assertIs(future.exception(0), error)
 
     def run_program(self, lines, is_interrupted=True):
-        """What a program says last, and the seconds until it ended: since SIGINT, which it gets once
-        it has printed a line, if it is interrupted. One that does not end is killed."""
+        """The last line that a program prints to stderr, and the seconds until it ends. If it is
+        interrupted, it gets SIGINT after its first line, and the seconds count from there. A
+        program that does not end is killed."""
         program = ("import signal, sys\nsignal.signal(signal.SIGINT, signal.default_int_handler)\n"
                    f"sys.path.insert(0, {sys.argv[1]!r})\nimport vulfsjor\n" + lines)
         with subprocess.Popen([sys.executable, "-c", program], stdout=subprocess.PIPE,
@@ -738,20 +924,24 @@ class Stops(Test):
     def test_interrupts(self):
         path = self.file(b"")
         os.truncate(path, 1 << 37)
-        for lines in (f"print(flush=True); vulfsjor.tree_root_file({path!r}, 1 << 16, threads=3)",
-                      f"print(flush=True); vulfsjor.tree_root_file({path!r}, 1 << 16, threads=1)",
-                      f"print(flush=True); vulfsjor.tree_root_file({path!r}, 2**32 - 1, threads=3)",
-                      "import os; print(flush=True); vulfsjor.tree_root_file(os.pipe()[0], 1 << 16)",
-                      f"import mmap; f = open({path!r}); m = mmap.mmap(f.fileno(), 0, prot=mmap.PROT_READ)\n"
-                      "print(flush=True); vulfsjor.tree_root(m, 1 << 16, threads=2)"):
+        for lines in (
+            f"print(flush=True); vulfsjor.tree_root_file({path!r}, 1 << 16, threads=3)",
+            f"print(flush=True); vulfsjor.tree_root_file({path!r}, 1 << 16, threads=1)",
+            f"print(flush=True); vulfsjor.tree_root_file({path!r}, 2**32 - 1, threads=3)",
+            "import os; print(flush=True); vulfsjor.tree_root_file(os.pipe()[0], 1 << 16)",
+            f"import mmap; f = open({path!r}); m = mmap.mmap(f.fileno(), 0, prot=mmap.PROT_READ)\n"
+            "print(flush=True); vulfsjor.tree_root(m, 1 << 16, threads=2)",
+        ):
             said, seconds = self.run_program(lines)
             self.assertEqual(said, ["KeyboardInterrupt"], lines)
             self.assertLess(seconds, 5)
 
     def test_an_exception_of_a_thread_reaches_the_caller(self):
-        lines = ("from unittest import mock\nprint(flush=True)\n"
-                 "with mock.patch('vulfsjor._library.tree_leaves', side_effect=KeyboardInterrupt):\n"
-                 "    vulfsjor.tree_root(bytes(3 << 20), 1 << 16, threads=3)")
+        lines = (
+            "from unittest import mock\nprint(flush=True)\n"
+            "with mock.patch('vulfsjor._library.tree_leaves', side_effect=KeyboardInterrupt):\n"
+            "    vulfsjor.tree_root(bytes(3 << 20), 1 << 16, threads=3)"
+        )
         said, _ = self.run_program(lines, is_interrupted=False)
         self.assertEqual(said, ["KeyboardInterrupt"])
 

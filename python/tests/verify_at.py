@@ -1,5 +1,5 @@
 #!/usr/bin/env python3
-"""Compares a tag that differs at one place, for a count of instructions: verify_at.py FOLDER PLACE"""
+"""Compares a tag that differs at one byte, to count instructions: verify_at.py FOLDER INDEX"""
 import sys
 
 sys.path.insert(0, sys.argv[1])
