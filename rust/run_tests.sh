@@ -25,7 +25,8 @@ cargo_here() { cargo "$1" --offline --manifest-path "$top/Cargo.toml" "${@:2}"; 
 # A crate of another folder with Debian's crates, from a copy, since cargo writes a lock file there.
 cargo_debian() {
     if ! [ -e "$work/copy" ]; then
-        mkdir "$work/copy" && cp -r "$top"/{Cargo.toml,rust,rust-digest,dist} "$work/copy/"
+        mkdir "$work/copy" &&
+            cp -r "$top"/{Cargo.toml,rust,rust-digest,dist,tests,tools} "$work/copy/"
     fi
     cargo "$2" --offline --manifest-path "$work/copy/$1/Cargo.toml" \
         --config 'source.crates-io.replace-with="debian"' \
@@ -199,9 +200,7 @@ count_comparisons() {
 sum_example() {
     head -c 100000 /dev/urandom >"$work/file" && : >"$work/empty" && cd "$work" &&
         ! cargo_here run -q --example sum -- file absent empty >said 2>said_of_faults &&
-        python3 -c 'import hashlib
-for name in ("file", "empty"):
-    print(hashlib.blake2b(open(name, "rb").read()).hexdigest(), "", name)' | diff said - &&
+        sums_by_hashlib file empty | diff said - &&
         grep -q ^absent: said_of_faults
 }
 
@@ -210,7 +209,7 @@ rayon_example() {
     head -c 5000003 /dev/urandom >"$work/long" && head -c 1048576 /dev/urandom >"$work/whole" &&
         : >"$work/none" && cargo_debian rust/examples/rayon build -q && cd "$work" &&
         ! "$CARGO_TARGET_DIR/debug/rayon-example" long whole absent none >said 2>said_of_errors &&
-        python3 "$top/rust/tests/roots.py" long whole none | diff said - &&
+        roots_by_hashlib 65536 long whole none | diff said - &&
         grep -q ^absent: said_of_errors
 }
 

@@ -9,7 +9,8 @@ shown=("$work/output" "$work/errors")
 
 # The repository, and the commands that are on the PATH.
 repository=$work/a\ repository
-mkdir -p "$repository"/{tools/key_scan,c,js,dist/x86_64,dist/aarch64,crates/b2/out} "$work/bin"
+mkdir -p "$work/bin" \
+    "$repository"/{tools/key_scan,tests,c,js,dist/x86_64,dist/aarch64,crates/b2/out}
 cp "$top/test" "$repository/"
 cp "$top/tools/checks.sh" "$repository/tools/"
 for text in x86_64/b2-v2.s x86_64/b2-v3.s aarch64/b2.s; do
@@ -31,8 +32,8 @@ done <"$work/prints"
 ! grep -q "^\$name status" "$work/statuses"
 END
 chmod +x "$work/part"
-for part in tools/{dist,check_{dist,b2,test,program,pages},try_tests}.sh \
-    tools/{check_texts,run_examples}.py tools/key_scan/run.sh c/run_tests.sh js/run_tests.sh; do
+for part in tools/{dist,check_{dist,b2,test,program,pages},try_tests,key_scan/run}.sh \
+    tests/vectors.py tools/{check_texts,run_examples}.py {c,js}/run_tests.sh; do
     ln "$work/part" "$repository/$part"
 done
 printf '#!/bin/sh\necho x86-64-v3\n' >"$repository/tools/processor.sh"
@@ -58,7 +59,7 @@ says() { grep -q -- "$1" "$work/errors"; }
 : >"$work/statuses"
 
 run
-check "all parts are counted" ends 0 "24 passed, 0 failed"
+check "all parts are counted" ends 0 "25 passed, 0 failed"
 check "it says what it does and how long it takes" says \
     "^test: testing the code in dist/, without a proof .* minutes"
 check "it names each part before it begins" [ ! -e "$work/unnamed" ]
@@ -70,40 +71,41 @@ for part in tools/check_dist.sh tools/check_b2.sh tools/check_test.sh tools/chec
     check "it runs $part" calls "^$part <>" 1
 done
 check "dist/ is looked at" calls "^tools/dist.sh <current>" 1
+check "and the known answers" calls "^tests/vectors.py <--check>" 1
 check "the programs of dist/ are run" calls "^tools/check_program.sh <b2\(-v2\)\?>" 2
 check "which the compiler makes" calls \
     "^cc -O2 -DMAIN=main_v[23].s -o b2\(-v2\)\? c/b2.c dist/x86_64/b2-v[23].s$" 2
 check "the examples are run" calls "^tools/run_examples.py <README.md><docs/TUTORIAL.md>" 1
 check "the pages are given the program" calls "^tools/check_pages.sh <b2>" 1
 check "nothing is proved" calls "^bin/rt" 0
-check "nothing else is called" [ "$(wc -l <"$work/calls")" -eq 14 ]
+check "nothing else is called" [ "$(wc -l <"$work/calls")" -eq 15 ]
 check "no test was skipped, and no line says so" \
     [ "$(grep -c 'were skipped\|^skipped' "$work/output")" -eq 0 ]
 
 line="skipped: Rust (no cargo);skipped: ARM (no qemu);7 passed, 1 failed, 2 skipped"
 echo "c/run_tests.sh $line" >"$work/prints"
 run
-check "a failure is counted" ends 1 "29 passed, 1 failed"
+check "a failure is counted" ends 1 "30 passed, 1 failed"
 check "what was skipped is listed last" diff - <(tail -n 4 "$work/output") <<'END'
 == 2 tests were skipped:
 skipped: Rust (no cargo)
 skipped: ARM (no qemu)
-29 passed, 1 failed
+30 passed, 1 failed
 END
 echo "tools/check_pages.sh no counts" >"$work/prints"
 run
-check "a part without counts fails" ends 1 "22 passed, 1 failed"
+check "a part without counts fails" ends 1 "23 passed, 1 failed"
 echo "tools/check_pages.sh dies" >"$work/prints"
 run
-check "so does one that is killed" ends 1 "22 passed, 1 failed"
+check "so does one that is killed" ends 1 "23 passed, 1 failed"
 : >"$work/prints"
 echo "js/run_tests.sh status" >"$work/statuses"
 run
-check "and one whose status is 1" ends 1 "24 passed, 1 failed"
+check "and one whose status is 1" ends 1 "25 passed, 1 failed"
 : >"$work/statuses"
 : >"$work/stale"
 run
-check "and a dist/ of other sources" ends 1 "23 passed, 1 failed"
+check "and a dist/ of other sources" ends 1 "24 passed, 1 failed"
 rm "$work/stale"
 
 # What the scripts share: a test that passes, fails, is skipped, and the counts of other scripts.
@@ -164,7 +166,7 @@ END
 check "and what was skipped is listed" diff - <(tail -n 5 "$work/output" | LC_ALL=C sort) <<'END'
 15 passed, 0 failed
 == 3 tests were skipped:
-skipped: the code in dist/, and the pages (no python3)
+skipped: the known answers, the code in dist/, and the pages (no python3)
 skipped: the examples of the README and the tutorial (no python3, or no C compiler)
 skipped: the program in dist/ (no C compiler)
 END
@@ -174,7 +176,7 @@ check "--prove needs rt" ends 1 "0 passed, 1 failed"
 check "and says so" says "test: the toolchain's command rt is not on the PATH"
 ln "$work/part" "$work/bin/rt"
 run --prove
-check "--prove counts all" ends 0 "30 passed, 0 failed"
+check "--prove counts all" ends 0 "31 passed, 0 failed"
 check "it says what it does and how long it takes" says \
     "^test: proving every crate, comparing dist/ .* minutes on a new machine"
 check "it names each part before it begins, too" [ ! -e "$work/unnamed" ]
@@ -186,11 +188,11 @@ tools/check_program.sh <crates/b2/out/b2>
 tools/dist.sh <check>
 key_scan/run.sh <>
 END
-check "then it does what ./test does" [ "$(wc -l <"$work/calls")" -eq 17 ]
+check "then it does what ./test does" [ "$(wc -l <"$work/calls")" -eq 18 ]
 check "except unproved tests" calls "^tools/try_tests.sh" 0
 echo "tools/dist.sh 5 passed, 4 failed" >"$work/prints"
 run --prove
-check "a difference fails it" ends 1 "33 passed, 4 failed"
+check "a difference fails it" ends 1 "34 passed, 4 failed"
 for words in "--quick" "--prove --help" "x"; do
     # shellcheck disable=SC2086
     run $words

@@ -68,5 +68,23 @@ finish() {
     exit $((failed > 0))
 }
 
-# The version, which is at the top of CHANGELOG.md, with this instead of its dots.
-version() { sed -nE '/^## [0-9.]+/{s/^## ([0-9.]+).*/\1/p;q}' "$top/CHANGELOG.md" | tr . "${1:-.}"; }
+# The version, which is at the top of CHANGELOG.md, with this character for its dots.
+version() {
+    sed -nE '/^## [0-9.]+/{s/^## ([0-9.]+).*/\1/p;q}' "$top/CHANGELOG.md" | tr . "${1:-.}"
+}
+
+# The lines of b2sum for these files, by hashlib.
+sums_by_hashlib() {
+    python3 -c 'import hashlib, sys
+for name in sys.argv[1:]:
+    print(hashlib.blake2b(open(name, "rb").read()).hexdigest(), "", name)' "$@"
+}
+
+# The same with the roots of trees with leaves of a number of bytes: LEAF FILE.. A file may be `-`.
+roots_by_hashlib() {
+    PYTHONPATH=$top/tools python3 -c 'import sys
+from oracle import tree_root
+for name in sys.argv[2:]:
+    with open("/dev/stdin" if name == "-" else name, "rb") as file:
+        print(tree_root(file.read(), int(sys.argv[1]), 64).hex(), "", name)' "$@"
+}

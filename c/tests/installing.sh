@@ -8,7 +8,8 @@ files_below() { (cd "$1" && find . -type f -o -type l | sed 's/^\.\///' | LC_ALL
 # The files of an installation, with this in the place of lib/.
 wanted_files() {
     printf '%s\n' include/blake2_c-libb2/blake2.h include/blake2_c.h "$1libblake2_c.a" \
-        "$1libblake2_c.so" "$1libblake2_c.so.0" "$1libblake2_c.so.$(version)" "$1libblake2_c-libb2.a" \
+        "$1libblake2_c.so" "$1libblake2_c.so.0" "$1libblake2_c.so.$(version)" \
+        "$1libblake2_c-libb2.a" \
         "$1pkgconfig/blake2_c.pc" "$1pkgconfig/blake2_c-static.pc" "$1blake2_c-libb2/libb2.a" \
         "$1blake2_c-libb2/pkgconfig/libb2.pc" "$1libblake2_c-threads.a" \
         "$1pkgconfig/blake2_c-threads.pc" include/blake2_threads.h |

@@ -75,13 +75,6 @@ c_example() {
         diff "$work/said" <(wanted_of_readme)
 }
 
-# The lines of b2sum for these files.
-wanted_of_sum() {
-    python3 -c 'import hashlib, sys
-for name in sys.argv[1:]:
-    print(hashlib.blake2b(open(name, "rb").read()).hexdigest(), "", name)' "$@"
-}
-
 # The program of c/examples over files of several lengths, over standard input, and over what can't
 # be read.
 sum_example() {
@@ -92,9 +85,9 @@ sum_example() {
     for length in 0 1 128 129 65536 65537 200000; do
         head -c $length /dev/urandom >file_$length || return 1
     done
-    "$sum" file_* >said && wanted_of_sum file_* >wanted && diff said wanted || return 1
+    "$sum" file_* >said && sums_by_hashlib file_* >wanted && diff said wanted || return 1
     "$sum" <file_200000 >said && sed -n 's/file_200000$/-/p' wanted | diff said - || return 1
-    ! "$sum" file_1 absent . file_0 >said && wanted_of_sum file_1 file_0 | diff said -
+    ! "$sum" file_1 absent . file_0 >said && sums_by_hashlib file_1 file_0 | diff said -
 }
 
 # The benchmark of the README, one turn of it: a table for each family, with a time in each row.

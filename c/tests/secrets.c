@@ -4,7 +4,7 @@
  * verify and is_same may have one report a call, that of their result. A call writes what memcheck
  * knows for a secret, which is then marked as defined and compared with the expected digest.
  *
- *   secrets FILE      every call that takes a key or a message, over the lines that cases.py writes
+ *   secrets FILE      every call that takes a key or a message, over the lines of vectors.py
  *   secrets branch    a branch on a byte of a key, and
  *   secrets address   an address from a byte of a key: each has to be reported
  *
@@ -193,7 +193,7 @@ static void node_case(const char *numbers) {
     of_state(&made);
 }
 
-static void block_case(const char *digits) {
+static void block_case(const char *digits, int last_node) {
     static text block;
     BLAKE(param) given;
     state_t made;
@@ -202,6 +202,7 @@ static void block_case(const char *digits) {
     key.length = 0;
     hide(&message);
     require(!BLAKE(init_param)(&made, &given), "init_param is refused");
+    require(!BLAKE(set_last_node)(&made, last_node), "set_last_node is refused");
     of_state(&made);
 }
 
@@ -242,7 +243,7 @@ static char field[8][9000];
 
 /* One case, of `count` fields behind its letter; one of a longer message is left out. */
 static void one_case(char kind) {
-    int first = kind == 't' ? 1 : kind == 'r' ? 4 : kind == 'n' ? 5 : 4;
+    int first = kind == 't' ? 2 : kind == 'n' ? 5 : 4;
     wanted.length = 0;
     if (strlen(field[first]) > 2 * sizeof message.bytes) return;
     read_text(&message, field[first]);
@@ -254,7 +255,7 @@ static void one_case(char kind) {
     }
     if (kind == 'h') hash_case();
     if (kind == 'n') node_case(field[4]);
-    if (kind == 't') block_case(field[0]);
+    if (kind == 't') block_case(field[0], atoi(field[1]));
 #ifndef TEST_S
     if (kind == 'r') {
         read_text(&salt, field[1]);
@@ -285,7 +286,7 @@ int main(int count, char **words) {
     file = fopen(words[1], "r");
     if (!file) return 2;
     while (fscanf(file, "%2s", kind) == 1) {
-        int fields = kind[0] == 't' ? 3 : kind[0] == 'n' ? 7 : 6;
+        int fields = kind[0] == 't' ? 4 : kind[0] == 'n' ? 7 : 6;
         for (int i = 0; i < fields; i++)
             if (fscanf(file, "%8999s", field[i]) != 1) return 2;
         one_case(kind[0]);

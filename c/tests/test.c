@@ -1,6 +1,6 @@
 /* Known answers in one call, at every cut and in random pieces; tags, copies, resets, wiping; what
- * is refused; states of random bytes. Reads the lines of cases.py from the file that is named, and
- * answers 0 where all is as it should be. TEST_S is defined for BLAKE2s. */
+ * is refused; states of random bytes. Reads the lines of
+ * tests/vectors.py from the file that is named, and returns 0 if all is as it should be. TEST_S is defined for BLAKE2s. */
 #include "blake2_c.h"
 
 #include <stdio.h>
@@ -430,12 +430,14 @@ static void random_trees(void) {
 }
 #endif
 
-static void tree_case(text block, text message, text wanted) {
+/* The same by a parameter block, after which the key's block is an input. */
+static void block_case(text block, int last_node, text message, text wanted) {
     BLAKE(param) param;
     state_t *state = malloc(sizeof *state);
     CHECK(block.length == sizeof param);
     memcpy(&param, block.bytes, sizeof param);
     CHECK(BLAKE(init_param)(state, &param) == 0);
+    CHECK(BLAKE(set_last_node)(state, last_node) == 0);
     runs(state, message, wanted);
     free(state);
 }
@@ -446,11 +448,12 @@ static int read_cases(const char *name) {
     if (!file) return 0;
     int cases = 0;
     for (; fscanf(file, "%2s", kind) == 1; cases++) {
-        int fields = kind[0] == 'h' || kind[0] == 'r' ? 6 : kind[0] == 'n' ? 7 : 3;
+        int fields = kind[0] == 't' ? 4 : kind[0] == 'n' ? 7 : 6;
         text t[7];
         for (int i = 0; i < fields; i++) {
             if (fscanf(file, "%199999s", field[i]) != 1) return 0;
-            int is_number = (kind[0] != 't' && i == 0) || (kind[0] == 'n' && i == 4) ||
+            /* A block comes first, and then the flag; else a size comes first. */
+            int is_number = i == (kind[0] == 't') || (kind[0] == 'n' && i == 4) ||
                             (kind[0] == 'r' && i == 3);
             t[i] = from_hex(is_number ? "-" : field[i]);
         }
@@ -462,7 +465,7 @@ static int read_cases(const char *name) {
             root_case((size_t)atoi(field[0]), t[1], t[2], (uint32_t)strtoul(field[3], NULL, 10),
                       t[4], t[5]);
 #endif
-        else tree_case(t[0], t[1], t[2]);
+        else block_case(t[0], atoi(field[1]), t[2], t[3]);
         for (int i = 0; i < fields; i++) free(t[i].bytes);
     }
     fclose(file);

@@ -46,15 +46,6 @@ sanitized() {
         threads_with -O1 "-fsanitize=$1" -fno-sanitize-recover=all
 }
 
-# The lines of tree_sum for these files with leaves of so many bytes, by hashlib.
-wanted_of_trees() {
-    PYTHONPATH=$top/tools python3 -c 'import sys
-from oracle import tree_root
-for name in sys.argv[2:]:
-    with open("/dev/stdin" if name == "-" else name, "rb") as file:
-        print(tree_root(file.read(), int(sys.argv[1]), 64).hex(), "", name)' "$@"
-}
-
 # The words that pkg-config has for one of its names, or those that do the same.
 words_of() {
     if has pkg-config; then
@@ -89,23 +80,23 @@ refuses_with() {
 tree_sum_example() {
     local sum=$work/tree_sum threads leaf
     compile_example tree_sum blake2_c-threads && make_files || return 1
-    wanted_of_trees 65536 file_* >wanted && "$sum" file_* | diff wanted - || return 1
+    roots_by_hashlib 65536 file_* >wanted && "$sum" file_* | diff wanted - || return 1
     for threads in 0 1 3; do
         "$sum" --threads $threads file_* | diff wanted - || return 1
     done
     for leaf in 1000 4294967295; do
-        "$sum" --leaf $leaf file_* | diff <(wanted_of_trees $leaf file_*) - || return 1
+        "$sum" --leaf $leaf file_* | diff <(roots_by_hashlib $leaf file_*) - || return 1
     done
-    "$sum" <file_3000000 | diff <(wanted_of_trees 65536 - <file_3000000) - || return 1
-    "$sum" --leaf 777 - <file_65537 | diff <(wanted_of_trees 777 - <file_65537) - || return 1
+    "$sum" <file_3000000 | diff <(roots_by_hashlib 65536 - <file_3000000) - || return 1
+    "$sum" --leaf 777 - <file_65537 | diff <(roots_by_hashlib 777 - <file_65537) - || return 1
     cat file_3000000 | "$sum" --threads=2 - file_1 |
-        diff <(wanted_of_trees 65536 - file_1 <file_3000000) - || return 1
+        diff <(roots_by_hashlib 65536 - file_1 <file_3000000) - || return 1
     # standard input from where it stands, and to its end
     { head -c 5 >head && "$sum" && "$sum" -; } <file_262144 >said && tail -c +6 file_262144 >rest &&
-        { wanted_of_trees 65536 - <rest && wanted_of_trees 65536 - </dev/null; } | diff - said ||
+        { roots_by_hashlib 65536 - <rest && roots_by_hashlib 65536 - </dev/null; } | diff - said ||
         return 1
     ! "$sum" file_1 absent folder file_0 >said 2>errors &&
-        wanted_of_trees 65536 file_1 file_0 | diff - said &&
+        roots_by_hashlib 65536 file_1 file_0 | diff - said &&
         printf 'tree_sum: %s\n' 'absent: No such file or directory' 'folder: Is a directory' |
         diff - errors || return 1
     ! "$sum" file_1 >/dev/full && "$sum" --help | grep -q '^usage' || return 1
@@ -129,7 +120,7 @@ tree_parts_example() {
     compile_example tree_parts blake2_c-static && make_files || return 1
     for name in file_*; do
         for count in 1 7 16 100; do
-            in_parts "$name" $count | diff <(wanted_of_trees 65536 "$name") - || return 1
+            in_parts "$name" $count | diff <(roots_by_hashlib 65536 "$name") - || return 1
         done
     done
     [ "$("$parts" leaves file_3000000 45 9223372036854775807 | wc -c)" -eq 64 ] || return 1
@@ -165,7 +156,7 @@ parallel_example() {
     local line
     line=$(sed -n '/^ \*   seq 0/,/root FILE$/s/^ \*  *//p' "$here/examples/tree_parts.c")
     cd "$work/trees" && cp "$work/tree_parts" . && HOME=$work sh -c "${line//FILE/file_3000000}" |
-        diff <(wanted_of_trees 65536 file_3000000) -
+        diff <(roots_by_hashlib 65536 file_3000000) -
 }
 
 # The program of docs/LARGE.md, which hashes a changed leaf again.

@@ -1,14 +1,14 @@
 // The package in Chromium and Firefox, on the page's thread and in a worker, and in JavaScriptCore,
 // the engine of Safari; each where it is installed.
 import assert from "node:assert/strict";
-import { execFileSync, spawn, spawnSync } from "node:child_process";
+import { spawn, spawnSync } from "node:child_process";
 import { mkdtempSync, readFileSync, rmSync, writeFileSync } from "node:fs";
 import { createServer } from "node:http";
 import { tmpdir } from "node:os";
 import { extname, join } from "node:path";
 import test from "node:test";
 import { fileURLToPath } from "node:url";
-import { messageOf } from "./common.mjs";
+import { randomCases } from "./common.mjs";
 
 const top = fileURLToPath(new URL("..", import.meta.url));
 const TYPES = {
@@ -46,15 +46,8 @@ try {
 }
 </script>`;
 
-function casesOf(count) {
-  const lines = execFileSync(
-    "python3", [join(top, "tests/cases.py"), "2", count], { maxBuffer: 2 ** 28, encoding: "utf8" });
-  return lines.trim().split("\n").map((line) => JSON.parse(line))
-    .filter(({ lengths }) => lengths.every((length) => length <= 6000))
-    .map((line) => ({ ...line, messages: line.lengths.map((length, i) =>
-      Buffer.from(messageOf(line.kind === "many" ? `${line.number}.${i}` : line.number, length))
-        .toString("hex")) }));
-}
+const shortCases = () =>
+  randomCases("2", "800").filter(({ length, lengths = [length] }) => Math.max(...lengths) <= 6000);
 
 // Serves the package, opens the page in a browser, and returns what the page sends back.
 async function answerOf(command, wordsOf, cases) {
@@ -116,7 +109,7 @@ for (const [command, wordsOf] of Object.entries(BROWSERS)) {
     if (!has(command) || !has("python3")) {
       return t.skip(`no ${has("python3") ? command : "python3"}`);
     }
-    const cases = casesOf("800");
+    const cases = shortCases();
     const { fault, page, worker, threads } = await answerOf(command, wordsOf, cases);
     assert.equal(fault, undefined);
     const [root, byThreads, ...failed] = threads;
@@ -135,7 +128,7 @@ test("800 cases of hashlib in jsc, the engine of Safari", (t) => {
   if (!has("jsc") || !has("python3")) return t.skip(`no ${has("python3") ? "jsc" : "python3"}`);
   const folder = mkdtempSync(join(tmpdir(), "vulfsjor-jsc-"));
   try {
-    const cases = casesOf("800");
+    const cases = shortCases();
     // the shell has no atob, and no encoder of texts
     writeFileSync(join(folder, "main.mjs"), `
       const digits = "ABCDEFGHIJKLMNOPQRSTUVWXYZabcdefghijklmnopqrstuvwxyz0123456789+/";

@@ -1,18 +1,19 @@
 // Helpers of several tests.
 import assert from "node:assert/strict";
-import { createHash } from "node:crypto";
+import { execFileSync } from "node:child_process";
+import { fileURLToPath } from "node:url";
 import { memory } from "../src/engine.js";
 
 export const bytesOf = (text) => Uint8Array.from(Buffer.from(text, "hex"));
 export const hexOf = (bytes) =>
   Buffer.from(bytes.buffer, bytes.byteOffset, bytes.length).toString("hex");
 
-/** The message that tests/cases.py names so. */
-export const messageOf = (name, length) =>
-  length === 0
-    ? new Uint8Array(0)
-    : new Uint8Array(
-        createHash("shake128", { outputLength: length }).update(String(name)).digest());
+/** Random cases that tests/vectors.py makes, from a seed and their number in digits. */
+export function randomCases(seed, count) {
+  const script = fileURLToPath(new URL("../../tests/vectors.py", import.meta.url));
+  return JSON.parse(execFileSync(
+    "python3", [script, "--random", seed, count], { maxBuffer: 2 ** 30, encoding: "utf8" }));
+}
 
 /** The sequence of RFC 7693, appendix E. */
 export function sequence(length, seed) {

@@ -1,32 +1,15 @@
-// Random calls with all parameters, compared with Python's hashlib and with node:crypto.
+// Known answers and random calls with all parameters, compared with Python's hashlib, and calls
+// compared with node:crypto.
 import assert from "node:assert/strict";
-import { execFileSync } from "node:child_process";
 import { createHash, randomBytes, randomInt } from "node:crypto";
-import { fileURLToPath } from "node:url";
+import { readFileSync } from "node:fs";
 import test from "node:test";
 import * as vulfsjor from "../index.js";
-import { assertClean, bytesOf, hexOf, messageOf } from "./common.mjs";
+import { digestOf, messagesOf, namesOf, optionsOf } from "./check_cases.mjs";
+import { assertClean, bytesOf, hexOf, randomCases } from "./common.mjs";
 
-const COUNT = Number(process.env.VULFSJOR_CASES ?? 10000);
+const COUNT = process.env.VULFSJOR_CASES ?? "10000";
 const SEED = process.env.VULFSJOR_SEED ?? "7693";
-const NAMES = {
-  digest_size: "digestLength",
-  person: "personalization",
-  leaf_size: "leafLength",
-  node_offset: "nodeOffset",
-  node_depth: "nodeDepth",
-  inner_size: "innerLength",
-  last_node: "lastNode",
-};
-
-// The options of the package for hashlib's arguments.
-function optionsOf(words) {
-  const valueOf = (name, value) =>
-    name === "node_offset" ? BigInt(value) : typeof value === "string" ? bytesOf(value) : value;
-  return Object.fromEntries(
-    Object.entries(words).map(([name, value]) => [NAMES[name] ?? name, valueOf(name, value)]),
-  );
-}
 
 // A message in one of the types that hold bytes.
 function dressed(bytes, number) {
@@ -42,58 +25,66 @@ function dressed(bytes, number) {
   ][number % 8];
 }
 
-function checkOne(line) {
-  const { kind, number, cut, words, tree, lengths: [length], digests: [digest] } = line;
-  const message = messageOf(number, length);
-  const options = optionsOf(words);
-  if (tree !== undefined && Object.keys(tree).length > 0) options.tree = optionsOf(tree);
-  const [hash, Hasher] = {
-    blake2b: [vulfsjor.blake2b, vulfsjor.Blake2b],
-    blake2s: [vulfsjor.blake2s, vulfsjor.Blake2s],
-    tree: [vulfsjor.treeRoot, vulfsjor.TreeHash],
-  }[kind];
-  assert.equal(hexOf(hash(dressed(message, number), options)), digest);
+function checkOne(given) {
+  const { seed = 0, length, digest } = given;
+  const [message] = messagesOf(given);
+  const options = optionsOf(given);
+  const [hash, , Hasher] = namesOf(given).map((name) => vulfsjor[name]);
+  assert.equal(hexOf(hash(dressed(message, seed), options)), digest);
   assertClean();
-  const place = Math.floor(cut * (length + 1));
-  const run = new Hasher(options).update(dressed(message.subarray(0, place), number + 1));
+  const place = Math.floor(((seed * 0.618) % 1) * (length + 1));
+  const run = new Hasher(options).update(dressed(message.subarray(0, place), seed + 1));
   const copy = run.copy();
-  assert.equal(run.update(dressed(message.subarray(place), number + 2)).hex(), digest);
+  assert.equal(run.update(dressed(message.subarray(place), seed + 2)).hex(), digest);
   copy.reset().update(message);
   const wrong = bytesOf(digest);
-  wrong[number % wrong.length] ^= 1 << number % 8;
+  wrong[seed % wrong.length] ^= 1 << seed % 8;
   assert.equal(copy.copy().verify(wrong), false);
   assert.equal(copy.copy().verify(wrong.subarray(1)), false);
   assert.equal(copy.verify(bytesOf(digest)), true);
   assertClean();
 }
 
-function checkMany({ name, number, words, lengths, digests }) {
-  const many = { blake2b: vulfsjor.blake2bMany, blake2s: vulfsjor.blake2sMany }[name];
-  const messages = lengths.map((length, i) => messageOf(`${number}.${i}`, length));
-  const given = messages.map((message, i) => dressed(message, number + i));
-  assert.deepEqual(many(new Set(given), optionsOf(words)).map(hexOf), digests);
-  if (lengths.length > 0) assertClean();
+function checkMany(given) {
+  const { hash, seed = 0, digest } = given;
+  const messages = messagesOf(given).map((message, i) => dressed(message, seed + i));
+  const digests = vulfsjor[`${hash}Many`](new Set(messages), optionsOf(given));
+  if (messages.length > 0) assertClean();
+  assert.equal(digests.length, messages.length);
+  assert.equal(digestOf(vulfsjor, digests), digest);
 }
 
+function checkAll(cases) {
+  for (const given of cases) {
+    try {
+      (given.kind === "many" ? checkMany : checkOne)(given);
+    } catch (fault) {
+      fault.message += `\nof the case ${JSON.stringify(given)}`;
+      throw fault;
+    }
+  }
+}
+
+test("tests/vectors.json", () => {
+  const groups = JSON.parse(readFileSync(new URL("../../tests/vectors.json", import.meta.url)));
+  const cases = groups.flatMap(({ columns, rows, ...fixed }) => rows.map((row) =>
+    ({ ...fixed, ...Object.fromEntries(columns.map((name, i) => [name, row[i]])) })));
+  const counts = { hash: 0, many: 0, root: 0 };
+  for (const { kind } of cases) counts[kind]++;
+  assert.deepEqual([counts.hash, counts.many, counts.root], [1744, 60, 207]);
+  checkAll(cases.filter(({ kind }) => ["hash", "many", "root"].includes(kind)));
+});
+
 test(`${COUNT} random cases of all parameters, compared with hashlib`, (t) => {
-  const script = fileURLToPath(new URL("cases.py", import.meta.url));
-  let text;
+  let cases;
   try {
-    text = execFileSync("python3", [script, SEED, COUNT], { maxBuffer: 2 ** 30, encoding: "utf8" });
+    cases = randomCases(SEED, COUNT);
   } catch (fault) {
     if (fault.code === "ENOENT") return t.skip("no python3");
     throw fault;
   }
-  const lines = text.trim().split("\n").map((line) => JSON.parse(line));
-  assert.equal(lines.length, COUNT);
-  for (const line of lines) {
-    try {
-      (line.kind === "many" ? checkMany : checkOne)(line);
-    } catch (fault) {
-      fault.message += `\nof the case ${JSON.stringify(line)}`;
-      throw fault;
-    }
-  }
+  assert.equal(cases.length, Number(COUNT));
+  checkAll(cases);
 });
 
 const native = (name, message) => createHash(name).update(message).digest("hex");

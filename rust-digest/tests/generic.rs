@@ -1,6 +1,9 @@
 //! Generic code over the traits of `digest`, and of crates that ask for them, beside hashlib's answers.
-use std::process::Command;
+#[allow(dead_code)]
+#[path = "../../rust/tests/common/mod.rs"]
+mod common;
 
+use common::{bytes, cases, lines, Case};
 use digest::consts::{U1, U16, U20, U28, U32, U48, U63, U64};
 use digest::crypto_common::{AlgorithmName, BlockSizeUser, KeySizeUser};
 use digest::generic_array::GenericArray;
@@ -8,33 +11,8 @@ use digest::{
     Digest, DynDigest, FixedOutput, FixedOutputReset, KeyInit, Mac, Output, OutputSizeUser, Reset,
     Update, VariableOutput, VariableOutputReset,
 };
+use vulfsjor::Tree;
 use vulfsjor_digest::*;
-
-fn bytes(digits: &str) -> Vec<u8> {
-    let digits = if digits == "-" { "" } else { digits };
-    let pairs = (0..digits.len()).step_by(2);
-    pairs
-        .map(|i| u8::from_str_radix(&digits[i..i + 2], 16).unwrap())
-        .collect()
-}
-
-// The fields of the script's lines of a kind and a family.
-fn lines(kind: &str, family: &str) -> Vec<Vec<String>> {
-    let script = concat!(env!("CARGO_MANIFEST_DIR"), "/tests/cases.py");
-    let output = Command::new("python3")
-        .arg(script)
-        .output()
-        .expect("python3");
-    assert!(output.status.success());
-    let text = String::from_utf8(output.stdout).unwrap();
-    let fields = text
-        .lines()
-        .map(|line| line.split(' ').map(String::from).collect());
-    let mine = |line: &Vec<String>| line[0] == kind && line[1] == family;
-    let lines: Vec<Vec<String>> = fields.filter(mine).collect();
-    assert!(lines.len() >= 3);
-    lines
-}
 
 // A digest of a message in two pieces, by each of the ways that generic code has.
 fn digest_by_all_ways<D>(start: D, message: &[u8], wanted: &[u8])
@@ -99,15 +77,15 @@ macro_rules! family {
 
             // Whether the size of the line is N; then its digest, or its tag.
             macro_rules! at_size {
-                ($fields:expr, $n:ty) => {{
-                    let [key, salt, persona, message, wanted] = [3, 4, 5, 6, 7].map(|i| bytes(&$fields[i]));
+                ($case:expr, $n:ty) => {{
+                    let Case { key, salt, persona, message, wanted, .. } = &$case;
                     let is_its = <$n as digest::typenum::Unsigned>::USIZE == wanted.len();
                     if is_its && key.is_empty() {
-                        let start = $hasher::<$n>::new_with_salt_and_personal(&salt, &persona).unwrap();
-                        digest_by_all_ways(start, &message, &wanted);
+                        let start = $hasher::<$n>::new_with_salt_and_personal(salt, persona).unwrap();
+                        digest_by_all_ways(start, message, wanted);
                     } else if is_its {
-                        let start = $mac::<$n>::new_with_salt_and_personal(&key, &salt, &persona).unwrap();
-                        tag_by_all_ways(start, &message, &wanted);
+                        let start = $mac::<$n>::new_with_salt_and_personal(key, salt, persona).unwrap();
+                        tag_by_all_ways(start, message, wanted);
                     }
                     is_its as usize
                 }};
@@ -121,24 +99,29 @@ macro_rules! family {
                 };
             }
 
+            // These traits have no place in a tree.
+            fn sequential_cases() -> impl Iterator<Item = Case> {
+                let is_sequential = |case: &Case| case.tree == Tree::SEQUENTIAL && !case.last_node;
+                cases($letter).into_iter().filter(is_sequential)
+            }
+
             #[test]
             fn digests_and_tags_are_those_of_hashlib() {
                 let mut met = 0;
-                for fields in lines("digest", $letter) {
-                    met += at_sizes!(fields, $sizes);
+                for case in sequential_cases() {
+                    met += at_sizes!(case, $sizes);
                 }
-                assert_eq!(met, 3 * 5 + $max);
+                assert!(met >= 3 * 5 + $max + 512);
             }
 
             #[test]
             fn sizes_at_run_time() {
                 let mut met = [false; $max + 1];
-                for fields in lines("digest", $letter) {
-                    let (message, wanted) = (bytes(&fields[6]), bytes(&fields[7]));
-                    if fields[3..6].iter().any(|field| field != "-") {
+                for case in sequential_cases() {
+                    let Case { size, message, wanted, .. } = case;
+                    if !(case.key.is_empty() && case.salt.is_empty() && case.persona.is_empty()) {
                         continue;
                     }
-                    let size = wanted.len();
                     let mut hasher = $var::new(size).unwrap();
                     assert_eq!(VariableOutput::output_size(&hasher), size);
                     Update::update(&mut hasher, &message);
@@ -208,24 +191,24 @@ macro_rules! family {
             #[test]
             fn hmac_hkdf_and_pbkdf2() {
                 type Hmac = hmac::SimpleHmac<$hasher<$longest>>;
-                for fields in lines("hmac", $letter) {
-                    let [key, message, wanted] = [2, 3, 4].map(|i| bytes(&fields[i]));
+                for fields in lines($letter, "hmac") {
+                    let [key, message, wanted] = [0, 1, 2].map(|i| bytes(&fields[i]));
                     let start = <Hmac as KeyInit>::new_from_slice(&key).unwrap();
                     let tag = start.chain_update(message).finalize().into_bytes();
                     assert_eq!(tag[..], wanted);
                 }
-                for fields in lines("hkdf", $letter) {
-                    let [salt, secret, info, wanted] = [2, 3, 4, 5].map(|i| bytes(&fields[i]));
+                for fields in lines($letter, "hkdf") {
+                    let [salt, secret, info, wanted] = [0, 1, 2, 3].map(|i| bytes(&fields[i]));
                     let mut key = vec![0; wanted.len()];
                     let salt = Some(&salt[..]).filter(|salt| !salt.is_empty());
                     let extracted = hkdf::SimpleHkdf::<$hasher<$longest>>::new(salt, &secret);
                     extracted.expand(&info, &mut key).unwrap();
                     assert_eq!(key, wanted);
                 }
-                for fields in lines("pbkdf2", $letter) {
-                    let [password, salt, wanted] = [2, 3, 5].map(|i| bytes(&fields[i]));
+                for fields in lines($letter, "pbkdf2") {
+                    let [password, salt, wanted] = [0, 1, 3].map(|i| bytes(&fields[i]));
                     let mut key = vec![0; wanted.len()];
-                    pbkdf2::pbkdf2::<Hmac>(&password, &salt, fields[4].parse().unwrap(), &mut key);
+                    pbkdf2::pbkdf2::<Hmac>(&password, &salt, fields[2].parse().unwrap(), &mut key);
                     assert_eq!(key, wanted);
                 }
             }

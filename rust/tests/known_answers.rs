@@ -26,12 +26,11 @@ fn roots_of_pieces(mut hasher: TreeHasher, message: &[u8], length: usize) -> [Di
 
 #[test]
 fn roots() {
-    let lines = lines("b", 'r');
-    assert!(lines.len() >= 120);
-    for (i, line) in lines.iter().enumerate() {
-        let fields: Vec<&str> = line.split(' ').collect();
-        let [salt, persona, message, wanted] = [2, 3, 5, 6].map(|field| bytes(fields[field]));
-        let (size, leaf_length) = (fields[1].parse().unwrap(), fields[4].parse().unwrap());
+    let lines = lines("b", "r");
+    assert_eq!(lines.len(), 195);
+    for (i, fields) in lines.iter().enumerate() {
+        let [salt, persona, message, wanted] = [1, 2, 4, 5].map(|field| bytes(&fields[field]));
+        let (size, leaf_length) = (fields[0].parse().unwrap(), fields[3].parse().unwrap());
         let hasher = TreeHasher::with_output_size(size, &salt, &persona, leaf_length).unwrap();
         let [half, root] = roots_of_pieces(hasher, &message, 1 + i % 200);
         assert_eq!(root.as_bytes(), wanted);
@@ -164,25 +163,26 @@ macro_rules! family {
                 }
             }
 
-            // The digests of the line's messages at once, if they have this size. Whether they
-            // have.
-            fn at_once<const N: usize>(line: &str) -> bool {
-                let fields: Vec<&str> = line.split(' ').collect();
-                let [key, salt, persona, wanted] = [2, 3, 4, 6].map(|field| bytes(fields[field]));
-                let messages: Vec<Vec<u8>> = match fields[5] {
-                    "none" => vec![],
-                    texts => texts.split(',').map(bytes).collect(),
-                };
-                let is_its = fields[1] == N.to_string();
+            // The digests of the line's messages in parallel, and of some of them, if they have
+            // this size. Whether they have.
+            fn in_parallel<const N: usize>(fields: &[String]) -> bool {
+                let [key, salt, persona, wanted] = [1, 2, 3, 5].map(|field| bytes(&fields[field]));
+                let messages: Vec<Vec<u8>> = fields[4].split(',').map(bytes).collect();
+                let is_its = fields[0] == N.to_string();
                 if is_its {
                     let params = Params::new().key(&key).salt(&salt).persona(&persona);
-                    for params in [params, params.output_size(N)] {
-                        let mut digests = vec![[0; N]; messages.len()];
-                        assert_eq!(
-                            $hasher::digest_many(&params, &messages, &mut digests),
-                            Ok(())
-                        );
-                        assert_eq!(digests.concat(), wanted);
+                    let digests = |params: Params, count: usize| {
+                        let mut digests = vec![[0; N]; count];
+                        let made = $hasher::digest_many(&params, &messages[..count], &mut digests);
+                        assert_eq!(made, Ok(()));
+                        digests
+                    };
+                    let all = digests(params, 40);
+                    let hash = Params::new().output_size(32).blake2b();
+                    assert_eq!(hash.unwrap().update(all.concat()).finalize_reset(), wanted[..]);
+                    for count in [0, 1, 2, 3, 4, 5, 7, 8, 9, 15, 16, 17, 40] {
+                        assert_eq!(digests(params, count), all[..count]);
+                        assert_eq!(digests(params.output_size(N), count), all[..count]);
                     }
                 }
                 is_its
@@ -190,11 +190,11 @@ macro_rules! family {
 
             #[test]
             fn several_messages() {
-                let lines = lines($letter, 'm');
-                let of_line = |line: &&String| {
-                    at_once::<1>(line) || at_once::<20>(line) || at_once::<$max>(line)
+                let lines = lines($letter, "m");
+                let of_line = |line: &&Vec<String>| {
+                    in_parallel::<1>(line) || in_parallel::<20>(line) || in_parallel::<$max>(line)
                 };
-                assert_eq!(lines.iter().filter(of_line).count(), 3 * 13 * 10);
+                assert_eq!(lines.iter().filter(of_line).count(), 3 * 10);
             }
         }
     };

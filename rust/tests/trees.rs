@@ -21,13 +21,12 @@ struct Range {
 }
 
 fn ranges() -> Vec<Range> {
-    let range = |line: &String| {
-        let fields: Vec<&str> = line.split(' ').collect();
-        let [salt, persona, bytes, digests, root] = [4, 5, 6, 7, 9].map(|i| bytes(fields[i]));
+    let range = |fields: &Vec<String>| {
+        let [salt, persona, bytes, digests, root] = [3, 4, 5, 6, 8].map(|i| bytes(&fields[i]));
         Range {
-            leaf: fields[1].parse().unwrap(),
-            first: fields[2].parse().unwrap(),
-            ends: fields[3] == "1",
+            leaf: fields[0].parse().unwrap(),
+            first: fields[1].parse().unwrap(),
+            ends: fields[2] == "1",
             salt,
             persona,
             bytes,
@@ -35,7 +34,7 @@ fn ranges() -> Vec<Range> {
             root,
         }
     };
-    lines("b", 'l').iter().map(range).collect()
+    lines("b", "l").iter().map(range).collect()
 }
 
 impl Range {
@@ -67,7 +66,7 @@ impl Range {
 #[test]
 fn ranges_are_those_of_hashlib() {
     let ranges = ranges();
-    assert!(ranges.len() > 1200);
+    assert_eq!(ranges.len(), 1268);
     for range in &ranges {
         let count = tree_leaf_count(range.bytes.len() as u64, range.leaf) as usize;
         assert_eq!(64 * count, range.digests.len());
@@ -337,14 +336,13 @@ fn leaves_by_their_digests_are_refused() {
 type Long = (u32, Vec<u8>, Vec<u8>, Vec<u8>, Vec<u8>);
 
 fn long_messages() -> Vec<Long> {
-    let message = |line: &String| {
-        let fields: Vec<&str> = line.split(' ').collect();
-        let [salt, persona, root] = [3, 4, 6].map(|i| bytes(fields[i]));
-        let length: usize = fields[2].parse().unwrap();
-        let message = (0..length).map(|i| (i % 251) as u8).collect();
-        (fields[1].parse().unwrap(), message, salt, persona, root)
+    let message = |fields: &Vec<String>| {
+        let [salt, persona, root] = [2, 3, 5].map(|i| bytes(&fields[i]));
+        let length: usize = fields[1].parse().unwrap();
+        let message = (0..length).map(|i| (i + i / 256 + i / 65536) as u8).collect();
+        (fields[0].parse().unwrap(), message, salt, persona, root)
     };
-    lines("b", 'y').iter().map(message).collect()
+    lines("b", "y").iter().map(message).collect()
 }
 
 #[test]

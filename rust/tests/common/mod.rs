@@ -1,4 +1,5 @@
-//! The cases that the two scripts write, which hashlib computes.
+//! The known answers of tests/vectors.json.
+use std::path::Path;
 use std::process::Command;
 use vulfsjor::{Params, Tree};
 
@@ -56,18 +57,15 @@ fn place(numbers: &str) -> (Tree, bool) {
     (tree, numbers[6] == 1)
 }
 
-// The hash of a line, where it is one.
-fn case(line: &str) -> Option<Case> {
-    let mut fields: Vec<&str> = line.split(' ').collect();
-    let (tree, last_node) = match fields[0] {
-        "h" => (Tree::SEQUENTIAL, false),
-        "n" => place(fields.remove(5)),
-        _ => return None,
+// The hash of a line, with its place in a tree if it has one.
+fn case(mut fields: Vec<String>) -> Case {
+    let (tree, last_node) = match fields.len() {
+        7 => place(&fields.remove(4)),
+        _ => (Tree::SEQUENTIAL, false),
     };
-    let [key, salt, persona, message, wanted] = [2, 3, 4, 5, 6].map(|field| bytes(fields[field]));
-    let size = fields[1].parse().unwrap();
-    Some(Case {
-        size,
+    let [key, salt, persona, message, wanted] = [1, 2, 3, 4, 5].map(|i| bytes(&fields[i]));
+    Case {
+        size: fields[0].parse().unwrap(),
         key,
         salt,
         persona,
@@ -75,31 +73,33 @@ fn case(line: &str) -> Option<Case> {
         last_node,
         message,
         wanted,
-    })
+    }
 }
 
-/// The lines of a family that begin with this letter.
-pub fn lines(family: &str, kind: char) -> Vec<String> {
-    let mut all = Vec::new();
-    for script in ["/c/tests/cases.py", "/rust/tests/cases.py"] {
-        let script = format!("{}{script}", env!("CARGO_MANIFEST_DIR"));
-        let output = Command::new("python3")
-            .args([&script, family])
-            .output()
-            .expect("python3");
-        assert!(output.status.success());
-        let text = String::from_utf8(output.stdout).unwrap();
-        all.extend(
-            text.lines()
-                .filter(|line| line.starts_with(kind))
-                .map(String::from),
-        );
-    }
-    all
+/// The fields of a family's lines of tests/vectors.json, as tests/vectors.py prints them, without
+/// their kind, which is this.
+pub fn lines(family: &str, kind: &str) -> Vec<Vec<String>> {
+    let folders = Path::new(env!("CARGO_MANIFEST_DIR")).ancestors();
+    let mut scripts = folders.map(|folder| folder.join("tests/vectors.py"));
+    let output = Command::new("python3")
+        .arg(scripts.find(|script| script.exists()).unwrap())
+        .args(["--lines", family])
+        .output()
+        .expect("python3");
+    assert!(output.status.success(), "{output:?}");
+    let text = String::from_utf8(output.stdout).unwrap();
+    let lines = text
+        .lines()
+        .filter_map(|line| line.strip_prefix(kind)?.strip_prefix(' '));
+    let fields: Vec<_> = lines
+        .map(|line| line.split(' ').map(String::from).collect())
+        .collect();
+    assert!(fields.len() >= 3);
+    fields
 }
 
 /// The hashes of a family.
 pub fn cases(family: &str) -> Vec<Case> {
-    let lines = [lines(family, 'h'), lines(family, 'n')].concat();
-    lines.iter().filter_map(|line| case(line)).collect()
+    let lines = [lines(family, "h"), lines(family, "n")].concat();
+    lines.into_iter().map(case).collect()
 }
