@@ -5,6 +5,7 @@ a key, threads, views that are let go, and the names and signatures of the packa
 usage: package.py FOLDER      FOLDER has the package vulfsjor
 """
 import ast
+import collections
 import ctypes
 import doctest
 import hashlib
@@ -21,15 +22,37 @@ import tracemalloc
 import unittest
 
 HERE = os.path.dirname(os.path.abspath(__file__))
-sys.path.append(os.path.join(HERE, "..", "..", "tools"))
+sys.path += [os.path.join(HERE, "..", "..", folder) for folder in ("tools", "tests")]
 sys.path.insert(0, sys.argv[1])
 import oracle  # noqa: E402
+import vectors  # noqa: E402
 import vulfsjor  # noqa: E402
 
 DICE = random.Random(1)
 FAMILIES = (("blake2b", vulfsjor.blake2b, hashlib.blake2b, vulfsjor.blake2b_many, 64),
             ("blake2s", vulfsjor.blake2s, hashlib.blake2s, vulfsjor.blake2s_many, 32))
 LONG = bytes(1 << 26)
+
+
+class KnownAnswers(unittest.TestCase):
+    """The cases of tests/vectors.json."""
+
+    def test_all(self):
+        met = collections.Counter()
+        for case in vectors.cases():
+            words = vectors.arguments(case)
+            if case["kind"] == "hash":
+                found = getattr(vulfsjor, case["hash"])(vectors.message(case), **words).digest()
+            elif case["kind"] == "many":
+                digests = getattr(vulfsjor, case["hash"] + "_many")(vectors.messages(case), **words)
+                found = vectors.hash_of(b"".join(digests))
+            elif case["kind"] == "root":
+                found = vulfsjor.tree_root(vectors.message(case), **words)
+            else:
+                continue
+            self.assertEqual(found.hex(), case["digest"], case)
+            met[case["kind"]] += 1
+        self.assertEqual(met, {"hash": 1744, "many": 60, "root": 207})
 
 
 class Verify(unittest.TestCase):
