@@ -112,16 +112,12 @@ fn begin(state: &mut State, given: &StateParameters<'_>, tree: &Tree) -> i32
         (given_count blake2b given.now.key.now) state.new }
     ensures zeros { result ≡ negsuc 0 → state.new ≡ zeros }
 {
-    match State::new_with_tree(given, tree) {
-        Ok(made) => {
-            *state = made;
-            0
-        }
-        Err(_) => {
-            state.wipe();
-            -1
-        }
-    }
+    let Ok(made) = State::new_with_tree(given, tree) else {
+        state.wipe();
+        return -1;
+    };
+    *state = made;
+    0
 }
 
 /// Initializes this state, whatever it was: a digest of 1 to 64 bytes, a key of up to 64 (no
@@ -250,16 +246,12 @@ pub extern "C" fn blake2_c_blake2b_init_block(state: &mut State, block: &[u8]) -
         → Fresh meaning (block_digest blake2b block.now) 0 state.new }
     ensures zeros { result ≡ negsuc 0 → state.new ≡ zeros }
 {
-    match State::from_block(block) {
-        Ok(made) => {
-            *state = made;
-            0
-        }
-        Err(_) => {
-            state.wipe();
-            -1
-        }
-    }
+    let Ok(made) = State::from_block(block) else {
+        state.wipe();
+        return -1;
+    };
+    *state = made;
+    0
 }
 
 // Absorbs the input, in a separate frame, which the caller scrubs.

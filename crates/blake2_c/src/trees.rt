@@ -102,16 +102,12 @@ pub extern "C" fn blake2_c_tree_init(
     ensures opened { result ≡ pos 0 → IsAsOpened state.new }
     ensures zeros { result ≡ negsuc 0 → state.new ≡ zeros }
 {
-    match TreeState::new(output_size, salt, persona, leaf_length) {
-        Ok(made) => {
-            *state = made;
-            0
-        }
-        Err(_) => {
-            state.wipe();
-            -1
-        }
-    }
+    let Ok(made) = TreeState::new(output_size, salt, persona, leaf_length) else {
+        state.wipe();
+        return -1;
+    };
+    *state = made;
+    0
 }
 
 /// Absorbs the input after all that was absorbed before. Returns 0, or -1 if the state is not
