@@ -50,6 +50,40 @@ fn check_blake2s(
 }
 
 #[test]
+fn write_and_read_messages_of_blake2b(rt: HostRuntime) {
+    let message = [0x2a; 129];
+    let block = &message[..128];
+    let words = [0x01010040, 0, 0, 0, 0, 0, 0, 0];
+    let entries = [entry(block, 128, true)];
+    check_blake2b(&rt, &unkeyed(block), 64, words, &entries);
+    let entries = [entry(block, 128, false), entry(&[0x2a], 129, true)];
+    check_blake2b(&rt, &unkeyed(&message), 64, words, &entries);
+    let words = [0x01010010, 0, 0, 0, 0, 0, 0, 0];
+    let entries = [entry(b"", 128, false), entry(b"", 256, true)];
+    check_blake2b(&rt, &unkeyed(&[0; 256]), 16, words, &entries);
+}
+
+#[test]
+fn write_and_read_messages_of_blake2s(rt: HostRuntime) {
+    let message = [0x2a; 129];
+    let block = &message[..64];
+    let words = [0x01010020, 0, 0, 0, 0, 0, 0, 0];
+    let entries = [entry(block, 64, true)];
+    check_blake2s(&rt, &unkeyed(block), 32, words, &entries);
+    let (input, entries) = (
+        unkeyed(&message[..128]),
+        [entry(block, 64, false), entry(block, 128, true)],
+    );
+    check_blake2s(&rt, &input, 32, words, &entries);
+    let entries = [
+        entry(block, 64, false),
+        entry(block, 128, false),
+        entry(&[0x2a], 129, true),
+    ];
+    check_blake2s(&rt, &unkeyed(&message), 32, words, &entries);
+}
+
+#[test]
 fn write_and_read_a_key_and_a_persona(rt: HostRuntime) {
     let mut key = [0; 32];
     count_up(&mut key);
