@@ -1,12 +1,25 @@
-"""What the scripts share: the two families of BLAKE2, the KINDs of `b2`, and the command line. Not a program by itself.
+"""What the scripts share: the files of the repository, the two families of BLAKE2, the KINDs of `b2`, and the command
+line. Not a program by itself.
 """
 import argparse
 import hashlib
 import os
+import re
 from dataclasses import dataclass
 from typing import Callable
 
 TOP = os.path.dirname(os.path.dirname(os.path.abspath(__file__)))
+
+
+def read(*parts):
+    """The text of a file of the repository."""
+    with open(os.path.join(TOP, *parts), encoding="utf-8") as file:
+        return file.read()
+
+
+def version():
+    """The version, which is at the top of CHANGELOG.md."""
+    return re.search(r"^## ([0-9.]+)", read("CHANGELOG.md"), re.MULTILINE)[1]
 
 
 @dataclass(frozen=True)

@@ -8,65 +8,47 @@ whose tests run them.
 usage: tools/check_calling.py
 """
 import glob
-import os
 import re
 import sys
 
-TOP = os.path.dirname(os.path.dirname(os.path.abspath(__file__)))
+from blake2_kinds import TOP, read
 
-
-def read(*parts):
-    """The text of a file, with each run of spaces as one."""
-    with open(os.path.join(TOP, *parts), encoding="utf-8") as file:
-        return re.sub(r"\s+", " ", file.read())
+FUNCTION = r"^///.*?^}$"
 
 
 def one_spaced(text):
     """The text, with each run of spaces as one."""
-    return re.sub(r"\s+", " ", text).strip()
+    return " ".join(text.split())
 
 
-def faults(page):
-    """What the page shows and no source has, and how many quotes it has."""
-    with open(page, encoding="utf-8") as file:
-        text = file.read()
-    callers = [read(path) for path in glob.glob(os.path.join(TOP, "crates", "blake2_callers", "src", "*.rt"))]
-    found, quotes = [], 0
-    for block in re.findall(r"^```rust\n(.*?)^```$", text, re.M | re.S):
-        for function in re.findall(r"^///.*?^}$", block, re.M | re.S):
-            quotes += 1
-            if not any(one_spaced(function) in source for source in callers):
-                found.append(function.splitlines()[0])
-    return found, quotes
+def paths(pattern):
+    """The files that a pattern names, from the top of the repository."""
+    return sorted(glob.glob(pattern, root_dir=TOP))
 
 
-def readme_faults():
-    """What the blocks of Rust in README.md of the crate blake2 show and its tests lack, and how many quotes it has."""
-    with open(os.path.join(TOP, "crates", "blake2", "README.md"), encoding="utf-8") as file:
-        blocks = re.findall(r"^```rust\n(.*?)^```$", file.read(), re.M | re.S)
-    source = read("crates", "blake2_vectors", "src", "readme.rt")
-    quotes = [quote for block in blocks for quote in re.findall(r"^use .*?;$|^///.*?^}$", block, re.M | re.S)]
-    return [quote.splitlines()[0] for quote in quotes if one_spaced(quote) not in source], len(quotes)
+def missing(page, form, sources):
+    """What matches the form in the page's blocks of Rust and is in none of the sources, and how much matches it."""
+    blocks = re.findall(r"^```rust\n(.*?)^```$", read(page), re.M | re.S)
+    quotes = [quote for block in blocks for quote in re.findall(form, block, re.M | re.S)]
+    return [quote for quote in quotes if not any(one_spaced(quote) in source for source in sources)], len(quotes)
 
 
 def main():
     """Prints what differs, and returns whether something does."""
-    pages = sorted(glob.glob(os.path.join(TOP, "crates", "*", "CALLING.md")))
-    found, total = readme_faults()
-    differs = len(found)
-    for quote in found:
-        print(f"crates/blake2/README.md: not in the source: {quote}")
-    if not total:
-        print("crates/blake2/README.md: no quote")
-        differs += 1
-    for page in pages:
-        found, quotes = faults(page)
-        total += quotes
-        for quote in found:
-            differs += 1
-            print(f"{os.path.relpath(page, TOP)}: not in the source: {quote}")
-    print(f"{len(pages) + 1} pages, {total} quotes, {differs} differ")
-    return 1 if differs or not total else 0
+    callers, readme = ([one_spaced(read(path)) for path in paths(pattern)] for pattern in (
+        "crates/blake2_callers/src/*.rt", "crates/blake2_vectors/src/readme.rt"))
+    pages = [(page, FUNCTION, callers) for page in paths("crates/*/CALLING.md")]
+    pages.append(("crates/blake2/README.md", rf"^use .*?;$|{FUNCTION}", readme))
+    total = differs = 0
+    for page, form, sources in pages:
+        absent, quotes = missing(page, form, sources)
+        for quote in absent:
+            print(f"{page}: not in the source: {quote.splitlines()[0]}")
+        if not quotes:
+            print(f"{page}: no quote")
+        total, differs = total + quotes, differs + len(absent) + (not quotes)
+    print(f"{len(pages)} pages, {total} quotes, {differs} differ")
+    return 1 if differs else 0
 
 
 if __name__ == "__main__":

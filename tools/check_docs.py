@@ -21,16 +21,10 @@ import shutil
 import subprocess
 import sys
 
-from blake2_kinds import TOP, Parser
+from blake2_kinds import TOP, Parser, read, version
 from sources import anchor, modules
 
 WORD = re.compile(r"`([^`]+)`")
-
-
-def read(path):
-    """The text of a file of the repository."""
-    with open(os.path.join(TOP, path)) as file:
-        return file.read()
 
 
 def paths(pattern):
@@ -177,21 +171,16 @@ def check_specification():
 
 
 # Where the version is, by what is before it.
-VERSIONS = (("CHANGELOG.md", r"^## "), ("c/include/blake2_c.h", r"VULFSJOR_VERSION \""),
-            ("Cargo.toml", r"^version = \""), ("rust-digest/Cargo.toml", r"^version = \""),
-            ("python/pyproject.toml", r"^version = \""), ("js/package.json", r"^ *\"version\": \""))
+VERSIONS = (("c/include/blake2_c.h", r"VULFSJOR_VERSION \""), ("js/package.json", r"^ *\"version\": \""), *(
+    (path, r"^version = \"") for path in ("Cargo.toml", "rust-digest/Cargo.toml", "python/pyproject.toml")))
 
 
 def check_version():
     """Which file has another version than the top of CHANGELOG.md."""
-    wanted = None
     for path, before in VERSIONS:
-        if not os.path.exists(os.path.join(TOP, path)):
-            continue
         found = re.search(before + r"([0-9]+\.[0-9]+\.[0-9]+)", read(path), re.MULTILINE)
-        wanted = wanted or found[1]
-        if found and found[1] != wanted:
-            yield f"{path}: version {found[1]}, and CHANGELOG.md has {wanted}"
+        if not found or found[1] != version():
+            yield f"{path}: version {found and found[1]}, and CHANGELOG.md has {version()}"
 
 
 KIT = re.compile(r"`rt version`: (\S+ logic [0-9a-f]+)")

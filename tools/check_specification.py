@@ -19,12 +19,12 @@ import shlex
 import subprocess
 import sys
 
-from blake2_kinds import KINDS, TOP, Parser, at_least, program
+from blake2_kinds import FAMILIES, KINDS, TOP, Parser, at_least, program
+from blake2_kinds import read as read_file
 from from_specification import B, S, Input, Place, entries, parameter_words, read, run
 from oracle import tree_root
 
-PAGE = os.path.join(TOP, "docs", "SPECIFICATION.md")
-FUNCTIONS = {"b": hashlib.blake2b, "s": hashlib.blake2s}
+FUNCTIONS = {name: family.function for name, family in FAMILIES.items()}
 
 
 def lengths(source, block):
@@ -167,8 +167,7 @@ def of_hashlib(words, message):
 
 def worked():
     """The worked examples of the page: where each is, and whether program, hashlib and page agree."""
-    with open(PAGE, encoding="utf-8") as file:
-        page = " ".join(file.read().split())
+    page = " ".join(read_file("docs", "SPECIFICATION.md").split())
     digest = {kind: run([b"sum", kind], lambda: b"abc")[1].decode().strip() for kind in (b"b512", b"s256")}
     yield "abc of BLAKE2b", digest[b"b512"] == hashlib.blake2b(b"abc").hexdigest() and digest[b"b512"] in page
     yield "abc of BLAKE2s", digest[b"s256"] == hashlib.blake2s(b"abc").hexdigest() and digest[b"s256"] in page
@@ -211,8 +210,8 @@ def worked():
 def examples():
     """The words and the input of each example of README.md and docs/PROGRAM.md that runs `./b2`, and its line."""
     for page in ("README.md", os.path.join("docs", "PROGRAM.md")):
-        with open(os.path.join(TOP, page), encoding="utf-8") as file:
-            found = re.findall(r"^    ((?:printf (\S+|'[^']*') \| )?\./b2 (?!--)([^#\n]*[a-z0-9]))  +#", file.read(), re.M)
+        form = r"^    ((?:printf (\S+|'[^']*') \| )?\./b2 (?!--)([^#\n]*[a-z0-9]))  +#"
+        found = re.findall(form, read_file(page), re.M)
         if not found:
             yield f"{page}: no example", [], b""
         for line, given, words in found:

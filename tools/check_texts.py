@@ -11,7 +11,8 @@ import os
 import re
 import sys
 
-TOP = os.path.dirname(os.path.dirname(os.path.abspath(__file__)))
+from blake2_kinds import TOP, version
+
 # The files, the ends of their names, and what each calls from elsewhere.
 LIBRARY = {"memcpy", "memmove", "memset"}
 TEXTS = {"x86_64/blake2_c-v2.s": "v2", "x86_64/blake2_c-v3.s": "v3", "aarch64/blake2_c.s": "arm",
@@ -22,12 +23,8 @@ LABEL = re.compile(r"([\w.]+):")
 CALL = re.compile(r"\t(?:callq?|jmpq?|bl?|b)\t([\w.]+)(?:@PLT)?$")
 VECTOR = re.compile(r"\b[vqdshb][0-9]+\b")
 FAMILIES = ("blake2b", "blake2s")
-
-
-def version():
-    """The version at the top of CHANGELOG.md, with _ for the dots."""
-    with open(os.path.join(TOP, "CHANGELOG.md"), encoding="utf-8") as page:
-        return re.search(r"^## ([0-9.]+)", page.read(), re.MULTILINE)[1].replace(".", "_")
+# The version as it is in names.
+VERSION = version().replace(".", "_")
 
 
 def functions(lines):
@@ -64,10 +61,10 @@ def check_arm(name, text):
     """Whether the compressions use the registers that they are to use."""
     code = functions(text.split("\n"))
     for family in FAMILIES:
-        one = [it for it in code if it.startswith(f"blake2_words..words..{family}..compress_{version()}")]
+        one = [it for it in code if it.startswith(f"blake2_words..words..{family}..compress_{VERSION}")]
         yield (f"{family}: one message is compressed without vector registers",
                len(one) == 1 and len(code[one[0]]) > 1000 and count_vectors(code[one[0]]) == 0)
-        several = [it for it in code if it.startswith(f"blake2_words..many..{family}..compress_blocks_{version()}")]
+        several = [it for it in code if it.startswith(f"blake2_words..many..{family}..compress_blocks_{VERSION}")]
         if several or family == "blake2b" or "/blake2_c" in name:
             yield (f"{family}: several messages are compressed with them",
                    len(several) == 1 and count_vectors(code[several[0]]) > 3000)
@@ -79,7 +76,7 @@ def main():
     for name, build in TEXTS.items():
         with open(os.path.join(dist, name), encoding="utf-8") as file:
             text = file.read()
-        checks = [*check_text(name, text, f"{version()}_{build}"), *(check_arm(name, text) if build == "arm" else [])]
+        checks = [*check_text(name, text, f"{VERSION}_{build}"), *(check_arm(name, text) if build == "arm" else [])]
         for words, holds in checks:
             passed, failed = passed + bool(holds), failed + (not holds)
             print(f"{'passed' if holds else 'FAILED'}: {name}: {words}")

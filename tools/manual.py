@@ -10,18 +10,13 @@ import shutil
 import subprocess
 import sys
 
-TOP = os.path.dirname(os.path.dirname(os.path.abspath(__file__)))
-PAGE, MANUAL = os.path.join(TOP, "docs", "PROGRAM.md"), os.path.join(TOP, "docs", "b2.1")
+from blake2_kinds import TOP, read, version
+
+MANUAL = os.path.join(TOP, "docs", "b2.1")
 DATE = "2026-11-25"
 NAME = "b2 \\- BLAKE2 digests, tags, transcripts and hash trees of standard input"
 LEFT_OUT = ("Building", "See also")
 END = '.SH SEE ALSO\n.BR b2sum (1),\n.BR openssl\\-dgst (1),\nRFC 7693\n'
-
-
-def read(*parts):
-    """The text of a file of the repository."""
-    with open(os.path.join(TOP, *parts), encoding="utf-8") as file:
-        return file.read()
 
 
 def escaped(text):
@@ -50,8 +45,7 @@ def block(part):
 
 def manual():
     """The man page."""
-    version = re.search(r"^## ([0-9.]+)", read("CHANGELOG.md"), re.MULTILINE)[1]
-    made = [f'.\\" Made from docs/PROGRAM.md by tools/manual.py.\n.TH B2 1 {DATE} "Vulfsjor {version}"',
+    made = [f'.\\" Made from docs/PROGRAM.md by tools/manual.py.\n.TH B2 1 {DATE} "Vulfsjor {version()}"',
             f".SH NAME\n{NAME}"]
     for section in re.split(r"^## ", read("docs", "PROGRAM.md"), flags=re.MULTILINE)[1:]:
         title, text = section.split("\n", 1)
