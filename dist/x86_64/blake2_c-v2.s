@@ -30,23 +30,23 @@ blake2_c..blake2b..begin_0_1_0_v2:
 	movq	(%rsi), %r13
 	leaq	-65(%r13), %rcx
 	cmpq	$-64, %rcx
-	jb	.L0_1_0_v2_BB0_8
+	jb	.L0_1_0_v2_BB0_9
 	movq	16(%rsi), %rbx
 	cmpq	$64, %rbx
-	ja	.L0_1_0_v2_BB0_8
+	ja	.L0_1_0_v2_BB0_9
 	movq	%rdx, %rax
 	movq	32(%rsi), %rdx
 	cmpq	$16, %rdx
-	ja	.L0_1_0_v2_BB0_8
+	ja	.L0_1_0_v2_BB0_9
 	movq	48(%rsi), %r14
 	cmpq	$16, %r14
 	jbe	.L0_1_0_v2_BB0_4
-.L0_1_0_v2_BB0_8:
+.L0_1_0_v2_BB0_9:
 	movl	$424, %edx
 	xorl	%esi, %esi
 	callq	memset@PLT
 	movl	$-1, %eax
-.L0_1_0_v2_BB0_9:
+.L0_1_0_v2_BB0_8:
 	leaq	-40(%rbp), %rsp
 	popq	%rbx
 	popq	%r12
@@ -237,7 +237,7 @@ blake2_c..blake2b..begin_0_1_0_v2:
 	movaps	208(%rsp), %xmm0
 	movups	%xmm0, 408(%rax)
 	xorl	%eax, %eax
-	jmp	.L0_1_0_v2_BB0_9
+	jmp	.L0_1_0_v2_BB0_8
 .L0_1_0_v2_func_end0:
 	.size	blake2_c..blake2b..begin_0_1_0_v2, .L0_1_0_v2_func_end0-blake2_c..blake2b..begin_0_1_0_v2
 
@@ -425,18 +425,18 @@ blake2_c..blake2s..begin_0_1_0_v2:
 	movq	(%rsi), %r13
 	leaq	-33(%r13), %rcx
 	cmpq	$-32, %rcx
-	jb	.L0_1_0_v2_BB3_8
+	jb	.L0_1_0_v2_BB3_9
 	movq	16(%rsi), %r14
 	cmpq	$32, %r14
-	ja	.L0_1_0_v2_BB3_8
+	ja	.L0_1_0_v2_BB3_9
 	movq	%rdx, %rax
 	movq	32(%rsi), %rdx
 	cmpq	$8, %rdx
-	ja	.L0_1_0_v2_BB3_8
+	ja	.L0_1_0_v2_BB3_9
 	movq	48(%rsi), %rbx
 	cmpq	$8, %rbx
 	jbe	.L0_1_0_v2_BB3_4
-.L0_1_0_v2_BB3_8:
+.L0_1_0_v2_BB3_9:
 	xorps	%xmm0, %xmm0
 	movups	%xmm0, 208(%rdi)
 	movups	%xmm0, 192(%rdi)
@@ -454,7 +454,7 @@ blake2_c..blake2s..begin_0_1_0_v2:
 	movups	%xmm0, (%rdi)
 	movq	$0, 224(%rdi)
 	movl	$-1, %eax
-.L0_1_0_v2_BB3_9:
+.L0_1_0_v2_BB3_8:
 	addq	$248, %rsp
 	popq	%rbx
 	popq	%r12
@@ -581,7 +581,7 @@ blake2_c..blake2s..begin_0_1_0_v2:
 	movups	%xmm2, 200(%rbp)
 	movups	%xmm3, 216(%rbp)
 	xorl	%eax, %eax
-	jmp	.L0_1_0_v2_BB3_9
+	jmp	.L0_1_0_v2_BB3_8
 .L0_1_0_v2_func_end3:
 	.size	blake2_c..blake2s..begin_0_1_0_v2, .L0_1_0_v2_func_end3-blake2_c..blake2s..begin_0_1_0_v2
 

@@ -28,18 +28,18 @@ blake2_c..blake2b..begin_0_1_0_v3:
 	movq	(%rsi), %r13
 	leaq	-65(%r13), %rcx
 	cmpq	$-64, %rcx
-	jb	.L0_1_0_v3_BB0_8
+	jb	.L0_1_0_v3_BB0_9
 	movq	16(%rsi), %r14
 	cmpq	$64, %r14
-	ja	.L0_1_0_v3_BB0_8
+	ja	.L0_1_0_v3_BB0_9
 	movq	%rdx, %rax
 	movq	32(%rsi), %rdx
 	cmpq	$16, %rdx
-	ja	.L0_1_0_v3_BB0_8
+	ja	.L0_1_0_v3_BB0_9
 	movq	48(%rsi), %rbx
 	cmpq	$16, %rbx
 	jbe	.L0_1_0_v3_BB0_4
-.L0_1_0_v3_BB0_8:
+.L0_1_0_v3_BB0_9:
 	vxorps	%xmm0, %xmm0, %xmm0
 	vmovups	%ymm0, 384(%rdi)
 	vmovups	%ymm0, 352(%rdi)
@@ -56,7 +56,7 @@ blake2_c..blake2b..begin_0_1_0_v3:
 	vmovups	%ymm0, (%rdi)
 	movq	$0, 416(%rdi)
 	movl	$-1, %eax
-.L0_1_0_v3_BB0_9:
+.L0_1_0_v3_BB0_8:
 	leaq	-40(%rbp), %rsp
 	popq	%rbx
 	popq	%r12
@@ -197,7 +197,7 @@ blake2_c..blake2b..begin_0_1_0_v3:
 	vmovups	%ymm2, 360(%rax)
 	vmovups	%ymm3, 392(%rax)
 	xorl	%eax, %eax
-	jmp	.L0_1_0_v3_BB0_9
+	jmp	.L0_1_0_v3_BB0_8
 .L0_1_0_v3_func_end0:
 	.size	blake2_c..blake2b..begin_0_1_0_v3, .L0_1_0_v3_func_end0-blake2_c..blake2b..begin_0_1_0_v3
 
@@ -293,18 +293,18 @@ blake2_c..blake2s..begin_0_1_0_v3:
 	movq	(%rsi), %r13
 	leaq	-33(%r13), %rcx
 	cmpq	$-32, %rcx
-	jb	.L0_1_0_v3_BB3_8
+	jb	.L0_1_0_v3_BB3_9
 	movq	16(%rsi), %rbx
 	cmpq	$32, %rbx
-	ja	.L0_1_0_v3_BB3_8
+	ja	.L0_1_0_v3_BB3_9
 	movq	%rdx, %rax
 	movq	32(%rsi), %rdx
 	cmpq	$8, %rdx
-	ja	.L0_1_0_v3_BB3_8
+	ja	.L0_1_0_v3_BB3_9
 	movq	48(%rsi), %r14
 	cmpq	$8, %r14
 	jbe	.L0_1_0_v3_BB3_4
-.L0_1_0_v3_BB3_8:
+.L0_1_0_v3_BB3_9:
 	vxorps	%xmm0, %xmm0, %xmm0
 	vmovups	%ymm0, 192(%rdi)
 	vmovups	%ymm0, 160(%rdi)
@@ -315,7 +315,7 @@ blake2_c..blake2s..begin_0_1_0_v3:
 	vmovups	%ymm0, (%rdi)
 	movq	$0, 224(%rdi)
 	movl	$-1, %eax
-.L0_1_0_v3_BB3_9:
+.L0_1_0_v3_BB3_8:
 	addq	$248, %rsp
 	popq	%rbx
 	popq	%r12
@@ -427,7 +427,7 @@ blake2_c..blake2s..begin_0_1_0_v3:
 	vmovups	%ymm0, 168(%rbp)
 	vmovups	%ymm1, 200(%rbp)
 	xorl	%eax, %eax
-	jmp	.L0_1_0_v3_BB3_9
+	jmp	.L0_1_0_v3_BB3_8
 .L0_1_0_v3_func_end3:
 	.size	blake2_c..blake2s..begin_0_1_0_v3, .L0_1_0_v3_func_end3-blake2_c..blake2s..begin_0_1_0_v3
 

@@ -5,7 +5,6 @@ use Rattle.b2_commands.specs.declared.comparison.Family.TheVariants.{Blake2b as 
 use Rattle.b2_commands.specs.declared.comparison.Family.TheVariants.{Blake2s as FamilyS}
 use Rattle.b2_commands.specs.declared.words.Blake2bKind.{Blake2bKind}
 use Rattle.b2_commands.specs.declared.words.Blake2bKind.TheVariants.{B128, B256, B512}
-use Rattle.b2_commands.specs.declared.words.Blake2sKind.{Blake2sKind}
 use Rattle.b2_commands.specs.declared.words.Blake2sKind.TheVariants.{S128, S256}
 use Rattle.b2_commands.specs.declared.words.Kind.{Kind as KindNamed}
 use Rattle.b2_commands.specs.declared.words.Kind.TheVariants.{Blake2b, Blake2s}

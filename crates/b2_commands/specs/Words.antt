@@ -1,6 +1,6 @@
 -- The tasks that the arguments of the command line name. The arguments are checked from left to
 -- right, and the first error is returned.
-use Rattle.std.specs.Prelude.{◌≡◌, ⊤, ℕ, ◌^◌, ◌==◌, ◌&&◌, ◌||◌, nat_lt, Bool, true, false}
+use Rattle.std.specs.Prelude.{◌≡◌, ⊤, ℕ, ◌^◌, ◌==◌, ◌&&◌, nat_lt, Bool, true, false}
 use Rattle.std.specs.Prelude.{if◌then◌else◌, List, [], ◌∷◌, codes, Option}
 use Rattle.std.specs.Prelude.{Some, None, is_some, position, Result, Ok, Err}
 use Rattle.std.specs.List.{before_first, after_first}
