@@ -166,8 +166,8 @@ END
 check "and what was skipped is listed" diff - <(tail -n 5 "$work/output" | LC_ALL=C sort) <<'END'
 15 passed, 0 failed
 == 3 tests were skipped:
-skipped: the known answers, the code in dist/, and the pages (no python3)
 skipped: the examples of the README and the tutorial (no python3, or no C compiler)
+skipped: the known answers, the code in dist/, and the pages (no python3)
 skipped: the program in dist/ (no C compiler)
 END
 
