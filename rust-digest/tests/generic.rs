@@ -1,4 +1,4 @@
-//! Generic code over the traits of `digest`, and of crates that ask for them, beside hashlib's answers.
+//! Generic code over the traits of `digest`, and of crates that need them, compared with hashlib.
 #[allow(dead_code)]
 #[path = "../../rust/tests/common/mod.rs"]
 mod common;
@@ -69,8 +69,8 @@ fn name_of<T: AlgorithmName>() -> String {
 
 macro_rules! family {
     (
-        $test:ident, $letter:literal, $hasher:ident, $mac:ident, $var:ident, $max:literal, $small:literal, $block:literal,
-        $longest:ty, $sizes:tt
+        $test:ident, $letter:literal, $hasher:ident, $mac:ident, $var:ident, $max:literal,
+        $small:literal, $block:literal, $longest:ty, $sizes:tt
     ) => {
         mod $test {
             use super::*;
@@ -81,10 +81,12 @@ macro_rules! family {
                     let Case { key, salt, persona, message, wanted, .. } = &$case;
                     let is_its = <$n as digest::typenum::Unsigned>::USIZE == wanted.len();
                     if is_its && key.is_empty() {
-                        let start = $hasher::<$n>::new_with_salt_and_personal(salt, persona).unwrap();
+                        let start =
+                            $hasher::<$n>::new_with_salt_and_personal(salt, persona).unwrap();
                         digest_by_all_ways(start, message, wanted);
                     } else if is_its {
-                        let start = $mac::<$n>::new_with_salt_and_personal(key, salt, persona).unwrap();
+                        let start =
+                            $mac::<$n>::new_with_salt_and_personal(key, salt, persona).unwrap();
                         tag_by_all_ways(start, message, wanted);
                     }
                     is_its as usize
@@ -95,7 +97,9 @@ macro_rules! family {
                 ($fields:expr, ($n:ty)) => { at_size!($fields, $n) };
                 ($fields:expr, ($n:ty, $t:ty)) => { at_size!($fields, $n) + at_size!($fields, $t) };
                 ($fields:expr, ($a:ty, $b:ty, $c:ty, $d:ty, $e:ty)) => {
-                    at_sizes!($fields, ($a, $b)) + at_sizes!($fields, ($c, $d)) + at_size!($fields, $e)
+                    at_sizes!($fields, ($a, $b))
+                        + at_sizes!($fields, ($c, $d))
+                        + at_size!($fields, $e)
                 };
             }
 
@@ -156,7 +160,10 @@ macro_rules! family {
                 assert_eq!(boxed.finalize()[..], *wanted.as_bytes());
                 let wanted = vulfsjor::$mac::tag(&[7; $max], b"abc").unwrap();
                 let mac = <$mac<$longest> as KeyInit>::new(GenericArray::from_slice(&[7; $max]));
-                assert_eq!(mac.chain_update(b"abc").finalize().into_bytes()[..], *wanted.as_bytes());
+                assert_eq!(
+                    mac.chain_update(b"abc").finalize().into_bytes()[..],
+                    *wanted.as_bytes()
+                );
             }
 
             #[test]
@@ -166,11 +173,13 @@ macro_rules! family {
                     let (text, is_long) = (&long[..length], length > $small);
                     let is_no_key = length == 0 || length > $max;
                     assert_eq!(<$mac<U16> as KeyInit>::new_from_slice(text).is_err(), is_no_key);
-                    assert_eq!($mac::<U16>::new_with_salt_and_personal(text, b"", b"").is_err(), is_no_key);
-                    assert_eq!($mac::<U16>::new_with_salt_and_personal(b"k", text, b"").is_err(), is_long);
-                    assert_eq!($mac::<U16>::new_with_salt_and_personal(b"k", b"", text).is_err(), is_long);
-                    assert_eq!($hasher::<U16>::new_with_salt_and_personal(text, b"").is_err(), is_long);
-                    assert_eq!($hasher::<U16>::new_with_salt_and_personal(b"", text).is_err(), is_long);
+                    let mac = $mac::<U16>::new_with_salt_and_personal;
+                    assert_eq!(mac(text, b"", b"").is_err(), is_no_key);
+                    assert_eq!(mac(b"k", text, b"").is_err(), is_long);
+                    assert_eq!(mac(b"k", b"", text).is_err(), is_long);
+                    let hasher = $hasher::<U16>::new_with_salt_and_personal;
+                    assert_eq!(hasher(text, b"").is_err(), is_long);
+                    assert_eq!(hasher(b"", text).is_err(), is_long);
                 }
             }
 
@@ -183,8 +192,14 @@ macro_rules! family {
                 assert_eq!(<$mac<U16> as KeySizeUser>::key_size(), $max);
                 let mac = <$mac<U16> as KeyInit>::new_from_slice(b"secret").unwrap();
                 assert_eq!(format!("{mac:?}"), concat!(stringify!($mac), " { .. }"));
-                assert_eq!(format!("{:?}", $hasher::<U16>::default()), concat!(stringify!($hasher), " { .. }"));
-                assert_eq!(format!("{:?}", $var::new(1).unwrap()), concat!(stringify!($var), " { .. }"));
+                assert_eq!(
+                    format!("{:?}", $hasher::<U16>::default()),
+                    concat!(stringify!($hasher), " { .. }")
+                );
+                assert_eq!(
+                    format!("{:?}", $var::new(1).unwrap()),
+                    concat!(stringify!($var), " { .. }")
+                );
             }
 
             // What other crates make of these types, beside Python's hmac and hashlib.
