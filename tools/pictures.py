@@ -34,10 +34,10 @@ text { font: 14px system-ui, sans-serif; fill: #1f2328 }
 # The layers from the caller down to the standard: class, name, what it is.
 LAYERS = [
     ("yours", "Your program", "C, C++, Rust, Python, JavaScript"),
-    ("tested", "Bindings", "rust/, python/, js/: check arguments, call the C functions"),
-    ("tested", "C header", "blake2_c.h: checks for null pointers, calls the exports"),
-    ("tested", "Chooser", "choose.c: picks the code for x86-64-v2 or x86-64-v3 at run time"),
-    ("proved", "Exports", "blake2_c: one contract for each C function"),
+    ("tested", "Packages and threads", "rust/, python/, js/, c/threads.c: check arguments, cut ranges, start threads"),
+    ("tested", "C header", "blake2_c.h, for C, C++ and Python: checks for null pointers, calls the exports"),
+    ("tested", "Chooser", "choose.c, and processor.rs for Rust: pick the code for x86-64-v2 or -v3 at run time"),
+    ("proved", "Exports", "blake2_c: one contract for each function that C, Rust or JavaScript calls"),
     ("proved", "Hashers, MACs, trees", "blake2, blake2_tree, blake2_plain: any sequence of calls"),
     ("proved", "Compression", "blake2_words, blake2_rows: F, parameter block, SIMD"),
     ("standard", "Definitions", "specs/: BLAKE2 in the terms of the standard; the contracts cite them"),
