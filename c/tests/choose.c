@@ -14,8 +14,9 @@
 #define CHOOSE_FUNCTIONS "functions.h"
 #include "../choose.c"
 
+#include "check.h"
+
 #include <stdint.h>
-#include <stdio.h>
 #include <string.h>
 
 /* What a build was given: each argument times a prime of its own, and its level in front. The most
@@ -48,15 +49,6 @@ __attribute__((noinline)) int probe_v3(void) {
     return is_aligned(__builtin_frame_address(0)) ? 3 : -3;
 }
 int probe(void);
-
-static int fails;
-#define CHECK(condition)                                           \
-    do {                                                           \
-        if (!(condition)) {                                        \
-            fails++;                                               \
-            printf("choose.c:%d: not %s\n", __LINE__, #condition); \
-        }                                                          \
-    } while (0)
 
 /* The arguments arrive, by a call that asks and by one that does not. */
 static void check_arguments(int level) {

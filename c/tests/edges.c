@@ -10,48 +10,10 @@
  *   ./edges 4294967396                          one message of so many zeros too: 4 GiB of address
  *                                               space, without which it is skipped, and 11 s for
  *                                               BLAKE2b */
-#include "blake2_c.h"
+#include "check.h"
+#include "family.h"
 
-#include <stdio.h>
 #include <stdlib.h>
-
-#ifdef TEST_S
-#define MAX 32
-#define SALT 8
-#define BLOCK 64
-#define LANES 8
-#define FAMILY "s"
-#define BLAKE(name) vulfsjor_blake2s_##name
-#define LIBRARY(name) blake2_c_blake2s_##name
-#define CONSTANT(name) VULFSJOR_BLAKE2S_##name
-#define ONE_CALL vulfsjor_blake2s
-typedef uint32_t word;
-#else
-#define MAX 64
-#define SALT 16
-#define BLOCK 128
-#define LANES 4
-#define FAMILY "b"
-#define BLAKE(name) vulfsjor_blake2b_##name
-#define LIBRARY(name) blake2_c_blake2b_##name
-#define CONSTANT(name) VULFSJOR_BLAKE2B_##name
-#define ONE_CALL vulfsjor_blake2b
-typedef uint64_t word;
-#endif
-
-typedef BLAKE(state) state_t;
-typedef BLAKE(param) param_t;
-
-static int fails;
-static int checks;
-#define CHECK(condition)                                                \
-    do {                                                                \
-        checks++;                                                       \
-        if (!(condition)) {                                             \
-            fails++;                                                    \
-            fprintf(stderr, "edges.c:%d: not %s\n", __LINE__, #condition); \
-        }                                                               \
-    } while (0)
 
 /* Bytes that count up from a start, which check_lines.py makes in the same way. */
 static uint8_t bytes[8 * BLOCK + 64];

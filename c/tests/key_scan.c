@@ -9,28 +9,13 @@
  *
  * With -z now no call goes by the dynamic linker, which would save vector registers on the
  * stack. */
-#include <blake2_c.h>
+#include "family.h"
 
 #include <stdio.h>
 #include <string.h>
 
-#ifdef TEST_S
-#define MAX 32
-#define BLOCK 64
-#define LANES 8
-#define BLAKE(name) vulfsjor_blake2s_##name
-#define ONE_CALL vulfsjor_blake2s
-#else
-#define MAX 64
-#define BLOCK 128
-#define LANES 4
-#define BLAKE(name) vulfsjor_blake2b_##name
-#define ONE_CALL vulfsjor_blake2b
-#endif
-
 enum { DEPTH = 64 * 1024, PIECE = 8, LONGEST = 1000 };
 
-typedef BLAKE(state) state_t;
 
 /* What the calls are given, none of it on the stack. */
 static uint8_t key[MAX], message[LONGEST], salt[2 * MAX], tag[MAX], wrong[MAX],

@@ -7,10 +7,11 @@
  * TEST_S is for BLAKE2s. OWN_HEADER takes libb2's own <blake2.h>; without it the functions are
  * declared here. */
 #define _POSIX_C_SOURCE 200112L
+#include "check.h"
+
 #include <signal.h>
 #include <stddef.h>
 #include <stdint.h>
-#include <stdio.h>
 #include <stdlib.h>
 #include <string.h>
 #include <sys/wait.h>
@@ -59,16 +60,6 @@ int BLAKE2(uint8_t *out, const void *in, const void *key, size_t outlen, size_t 
  * signal. */
 enum { DIES = 1000 };
 #define ROW(libb2, here) (IS_LIBB2 ? (libb2) : (here))
-
-static int fails, checks;
-#define CHECK(condition)                                          \
-    do {                                                          \
-        checks++;                                                 \
-        if (!(condition)) {                                       \
-            fails++;                                              \
-            printf("libb2.c:%d: not %s\n", __LINE__, #condition); \
-        }                                                         \
-    } while (0)
 
 /* The status of a call in a process of its own, or DIES. */
 #define STATUS(call) (fork_is_child() ? (_exit((call) & 0xff), 0) : child_status())

@@ -6,9 +6,9 @@
  *       ARCHIVE -o header
  *   cc the same with -DTEST_S                        the same of BLAKE2s
  *   ./header | python3 check_lines.py                status 0 where every digest is hashlib's */
-#include <blake2.h>
+#include "check.h"
 
-#include <stdio.h>
+#include <blake2.h>
 
 #ifdef TEST_S
 #define MAX 32
@@ -32,17 +32,6 @@ typedef enum blake2b_constant constant_t;
 
 typedef B(state) state_t;
 typedef B(param) param_t;
-
-static int fails;
-static int checks;
-#define CHECK(condition)                                                        \
-    do {                                                                        \
-        checks++;                                                               \
-        if (!(condition)) {                                                     \
-            fails++;                                                            \
-            fprintf(stderr, "libb2_header.c:%d: not %s\n", __LINE__, #condition); \
-        }                                                                       \
-    } while (0)
 
 static uint8_t bytes[4 * BLOCK];
 static uint8_t key[MAX + 1];

@@ -8,21 +8,12 @@
  *   ./parts [TURNS] | python3 check_lines.py    status 0 if every digest is hashlib's; TURNS is how
  *                                               many random messages are cut, 20,000 without it */
 #include "blake2_c.h"
+#include "check.h"
 
 #include <limits.h>
-#include <stdio.h>
 #include <stdlib.h>
 
 enum { MAX = 64, SALT = 16, MOST_BYTES = 3000 };
-
-static int fails;
-#define CHECK(condition)                                                    \
-    do {                                                                    \
-        if (!(condition)) {                                                 \
-            fails++;                                                        \
-            fprintf(stderr, "parts.c:%d: not %s\n", __LINE__, #condition);  \
-        }                                                                   \
-    } while (0)
 
 /* As those of check_lines.py. */
 static uint8_t bytes[8 * 128 + 64], salt[SALT + 2], persona[SALT + 2];

@@ -10,22 +10,11 @@
  *
  * It has to run under valgrind with --error-limit=no, and returns 0 if all is as expected. TEST_S
  * is defined for BLAKE2s. */
-#include <blake2_c.h>
+#include "family.h"
+
 #include <stdio.h>
 #include <stdlib.h>
 #include <valgrind/memcheck.h>
-
-#ifdef TEST_S
-#define BLAKE(name) vulfsjor_blake2s_##name
-#define ONE_CALL vulfsjor_blake2s
-enum { MAX = 32, BLOCK = 64 };
-#else
-#define BLAKE(name) vulfsjor_blake2b_##name
-#define ONE_CALL vulfsjor_blake2b
-enum { MAX = 64, BLOCK = 128 };
-#endif
-
-typedef BLAKE(state) state_t;
 
 typedef struct text {
     uint8_t bytes[4096];

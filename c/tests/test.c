@@ -1,38 +1,11 @@
 /* Known answers in one call, at every cut and in random pieces; tags, copies, resets, wiping; what
  * is refused; states of random bytes. Reads the lines of
  * tests/vectors.py from the file that is named, and returns 0 if all is as it should be. TEST_S is defined for BLAKE2s. */
-#include "blake2_c.h"
+#include "check.h"
+#include "family.h"
 
-#include <stdio.h>
 #include <stdlib.h>
 #include <string.h>
-
-#ifdef TEST_S
-#define MAX 32
-#define SALT 8
-#define BLOCK 64
-#define BLAKE(name) vulfsjor_blake2s_##name
-#define ONE_CALL vulfsjor_blake2s
-#else
-#define MAX 64
-#define SALT 16
-#define BLOCK 128
-#define BLAKE(name) vulfsjor_blake2b_##name
-#define ONE_CALL vulfsjor_blake2b
-#endif
-
-typedef BLAKE(state) state_t;
-
-static int fails;
-static int checks;
-#define CHECK(condition)                                             \
-    do {                                                             \
-        checks++;                                                    \
-        if (!(condition)) {                                          \
-            fails++;                                                 \
-            printf("test.c:%d: not %s\n", __LINE__, #condition);     \
-        }                                                            \
-    } while (0)
 
 /* A text in memory of exactly its own length, so that a sanitizer sees a byte too far. */
 typedef struct text {
