@@ -74,8 +74,20 @@ main_of() { sed -n 's/^\t\.globl\t\(main_.*\)/\1/p' "$1"; }
 # The words of a test program for a family.
 family_words() { [ "$1" = s ] && echo -DTEST_S; }
 
-# The first block of the README in this language.
-block_of_readme() { sed -n "/^\`\`\`$1\$/,/^\`\`\`\$/p" "$here/README.md" | sed '1d;$d'; }
+# The words that pkg-config has for one of its names, or those that do the same.
+words_for() {
+    if has pkg-config; then
+        PKG_CONFIG_PATH=$prefix/lib/pkgconfig pkg-config --cflags --libs "$1"
+        return
+    fi
+    case $1 in
+        blake2_c) echo "-I$include -L$prefix/lib -lblake2_c" ;;
+        blake2_c-static) echo "-I$include $archive" ;;
+        blake2_c-threads)
+            echo "-I$include $prefix/lib/libblake2_c-threads.a $archive -pthread"
+            ;;
+    esac
+}
 
 wanted_of_readme() {
     python3 -c 'import hashlib

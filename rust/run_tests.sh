@@ -216,10 +216,9 @@ rayon_example() {
 # A new program, made from the page only.
 follow_page() {
     mkdir -p "$work/program/src" && cd "$work/program" &&
-        sed -n '/^```toml$/,/^```$/p' "$top/rust/README.md" | sed '1d;$d' |
-            sed "s#PATH#$top#" >part.toml &&
+        block_of rust/README.md toml | sed "s#PATH#$top#" >part.toml &&
         { printf %s "$package_of_program"; cat part.toml; } >Cargo.toml &&
-        sed -n '/^```rust$/,/^```$/p' "$top/rust/README.md" | sed '1d;$d' >src/main.rs &&
+        block_of rust/README.md rust >src/main.rs &&
         [ -s part.toml ] && cargo run -q --offline | diff - <(python3 -c 'import hashlib
 print(hashlib.blake2b(b"hello world", digest_size=32, person=b"my program").hexdigest())')
 }

@@ -73,6 +73,9 @@ version() {
     sed -nE '/^## [0-9.]+/{s/^## ([0-9.]+).*/\1/p;q}' "$top/CHANGELOG.md" | tr . "${1:-.}"
 }
 
+# The block of a page in this language: PAGE LANGUAGE.
+block_of() { sed -n "/^\`\`\`$2\$/,/^\`\`\`\$/p" "$top/$1" | sed '1d;$d'; }
+
 # The lines of b2sum for these files, by hashlib.
 sums_by_hashlib() {
     python3 -c 'import hashlib, sys

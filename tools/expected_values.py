@@ -96,7 +96,8 @@ def large():
     """large: over 1,048,577 bytes, byte i being i modulo 251: the line of `sum`, and the digest of what
     `steps` prints; and the line of `tree b256` for each length of a leaf."""
     message = bytes(i % 251 for i in range(2**20 + 1))
-    for kind, (family, size) in KINDS.items():
+    for kind in ("b512", "s256"):
+        family, size = KINDS[kind]
         text = transcript_text(family, size, message)
         print(f"  {kind}: {blake2(family, size, message).hex()}, {len(text)} bytes, {digest(text)}")
     for leaf in (1, 64, 1000, 4096, 20000, 2**20, 2**20 + 1, 2**26):

@@ -87,7 +87,7 @@ names_are_hidden() {
 # A program takes of the archives what it calls, if the linker leaves out the rest.
 programs_take_what_they_call() {
     local lib=$prefix/lib section
-    block_of_readme c >"$work/hello.c"
+    block_of c/README.md c >"$work/hello.c"
     cc -O2 -I"$include" "$work/hello.c" "$archive" -Wl,--gc-sections -o "$work/hello" &&
         nm "$work/hello" >"$work/names" && grep -q ' blake2_c_blake2b_update$' "$work/names" &&
         ! grep 'blake2_c_\(tree\|blake2s\|blake2b_many\)' "$work/names" || return 1
@@ -187,7 +187,7 @@ test_emulated() {
         skip "the choice on emulated processors" "cc links no static program"
         return
     fi
-    block_of_readme c >"$work/hello.c"
+    block_of c/README.md c >"$work/hello.c"
     cc -static -I"$include" "$work/hello.c" "$archive" -o "$work/hello_static"
     for level in 0 2 3; do
         for name in $(emulated $level); do

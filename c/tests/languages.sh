@@ -54,21 +54,10 @@ cpp_links() {
         "$work/link"
 }
 
-# The words that pkg-config has for one of its names, or those that say the same.
-words_for() {
-    if has pkg-config; then
-        PKG_CONFIG_PATH=$prefix/lib/pkgconfig pkg-config --cflags --libs "$1"
-    elif [ "$1" = blake2_c ]; then
-        echo "-I$include -L$prefix/lib -lblake2_c"
-    else
-        echo "-I$include $archive"
-    fi
-}
-
 # The example in C by a compiler, with the library of this name.
 c_example() {
     local compiler=$1 name=$2 language=$3
-    block_of_readme c >"$work/hello.c"
+    block_of c/README.md c >"$work/hello.c"
     "$compiler" -O2 "${warnings[@]}" -x "$language" "$work/hello.c" -x none $(words_for "$name") \
         -o "$work/hello" &&
         LD_LIBRARY_PATH=$prefix/lib "$work/hello" >"$work/said" &&

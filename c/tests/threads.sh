@@ -46,18 +46,9 @@ sanitized() {
         threads_with -O1 "-fsanitize=$1" -fno-sanitize-recover=all
 }
 
-# The words that pkg-config has for one of its names, or those that do the same.
-words_of() {
-    if has pkg-config; then
-        PKG_CONFIG_PATH=$prefix/lib/pkgconfig pkg-config --cflags --libs "$1"
-    else
-        echo "-I$include $prefix/lib/libblake2_c-threads.a $archive -pthread"
-    fi
-}
-
 # Compiles a program of c/examples with the words of this name for pkg-config.
 compile_example() {
-    cc -O2 "${warnings[@]}" "$here/examples/$1.c" $(words_of "$2") -o "$work/$1"
+    cc -O2 "${warnings[@]}" "$here/examples/$1.c" $(words_for "$2") -o "$work/$1"
 }
 
 # Files of several lengths in a folder of their own.
@@ -161,7 +152,7 @@ parallel_example() {
 
 # The program of docs/LARGE.md, which hashes a changed leaf again.
 change_example() {
-    sed -n '/^```c$/,/^```$/p' "$top/docs/LARGE.md" | sed '1d;$d' >"$work/change.c" &&
+    block_of docs/LARGE.md c >"$work/change.c" &&
         cc -O2 "${warnings[@]}" -I"$include" "$work/change.c" "$archive" -o "$work/change" &&
         [ "$("$work/change")" = "the root of the changed message" ]
 }
