@@ -103,7 +103,7 @@ else
     finish
 fi
 mkdir "$cases"
-# The known answers of the families, a line each.
+# The test vectors of the families, a line each.
 write_cases() {
     local family
     for family in b s; do

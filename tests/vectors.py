@@ -1,5 +1,5 @@
 #!/usr/bin/env python3
-"""Writes tests/vectors.json, the known answers that the tests of all languages read:
+"""Writes tests/vectors.json, the test vectors of all languages:
 
     tests/vectors.py                    writes the file, with the digests of Python's hashlib
     tests/vectors.py --check            ends with status 1 if the file is another
@@ -12,7 +12,7 @@ byte i is start + i + i / 256 + i / 65536 modulo 256, where start is `seed` for 
 several, 2 seed for a key, 3 seed for a salt or a password, and 5 seed for a persona or the info of HKDF. What a
 case leaves out is 0 or hashlib's default. The kinds:
 
-    hash      a digest. The first 512 of a family are the messages of the official known answers
+    hash      a digest. The first 512 of a family have the messages of the official test vectors
     many      BLAKE2b-256 of the joined digests of messages of these lengths
     root      the root of a tree of two levels, as hashlib's nodes make it
     leaves    BLAKE2b-256 of the joined results of `ranges` below
@@ -56,8 +56,9 @@ def messages(case):
 
 def arguments(case):
     """The arguments of a case for hashlib."""
-    numbers = {name: int(case[name]) for name in ("digest_size", *NUMBERS) if name in case}
-    return numbers | {name: filler(factor * case["seed"], case[name]) for name, factor in STARTS.items() if name in case}
+    given = {name: int(case[name]) for name in ("digest_size", *NUMBERS) if name in case}
+    given |= {name: filler(factor * case["seed"], case[name]) for name, factor in STARTS.items() if name in case}
+    return given
 
 
 def hash_of(data):
@@ -271,7 +272,7 @@ def digits(field):
 # ---- random cases
 
 def random_length(dice):
-    """A length of a message: mostly short or around blocks, sometimes around the pieces of the package for JavaScript."""
+    """A length of a message: mostly short or around blocks, sometimes around the pieces that JavaScript hashes."""
     kind, piece, window = dice.random(), 65536, 8 * 65536 - 8192
     if kind < 0.5:
         return dice.randint(0, 300)

@@ -71,7 +71,7 @@ for part in tools/check_dist.sh tools/check_b2.sh tools/check_test.sh tools/chec
     check "it runs $part" calls "^$part <>" 1
 done
 check "dist/ is looked at" calls "^tools/dist.sh <current>" 1
-check "and the known answers" calls "^tests/vectors.py <--check>" 1
+check "and the test vectors" calls "^tests/vectors.py <--check>" 1
 check "the programs of dist/ are run" calls "^tools/check_program.sh <b2\(-v2\)\?>" 2
 check "which the compiler makes" calls \
     "^cc -O2 -DMAIN=main_v[23].s -o b2\(-v2\)\? c/b2.c dist/x86_64/b2-v[23].s$" 2
@@ -167,7 +167,7 @@ check "and what was skipped is listed" diff - <(tail -n 5 "$work/output" | LC_AL
 15 passed, 0 failed
 == 3 tests were skipped:
 skipped: the examples of the README and the tutorial (no python3, or no C compiler)
-skipped: the known answers, the code in dist/, and the pages (no python3)
+skipped: the test vectors, the code in dist/, and the pages (no python3)
 skipped: the program in dist/ (no C compiler)
 END
 

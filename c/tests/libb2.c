@@ -1,5 +1,5 @@
 /* libb2's functions by their own names, linked: what c/LIBB2.md says of them and of libb2, row by
- * row, and the known answers of tests/vectors.json. c/run_tests.sh links it with libblake2_c-libb2.a, and
+ * row, and the hashes of tests/vectors.json. c/run_tests.sh links it with libblake2_c-libb2.a, and
  * where libb2 is there, with libb2 itself under LIBB2, so that what is said of libb2 is seen too.
  *
  *   libb2 CASES

@@ -1,4 +1,4 @@
-//! The known answers of tests/vectors.json.
+//! The cases of tests/vectors.json.
 use std::path::Path;
 use std::process::Command;
 use vulfsjor::{Params, Tree};
