@@ -167,8 +167,8 @@ check "and what was skipped is listed" diff - <(tail -n 5 "$work/output" | LC_AL
 15 passed, 0 failed
 == 3 tests were skipped:
 skipped: the examples of the README and the tutorial (no python3, or no C compiler)
-skipped: the test vectors, the code in dist/, and the pages (no python3)
 skipped: the program in dist/ (no C compiler)
+skipped: the test vectors, the code in dist/, and the pages (no python3)
 END
 
 run --prove

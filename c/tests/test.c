@@ -1,6 +1,6 @@
-/* Known answers in one call, at every cut and in random pieces; tags, copies, resets, wiping; what
- * is refused; states of random bytes. Reads the lines of
- * tests/vectors.py from the file that is named, and returns 0 if all is as it should be. TEST_S is defined for BLAKE2s. */
+/* Test vectors in one call, at every cut and in random pieces; tags, copies, resets, wiping; what
+ * is refused; states of random bytes. Reads the lines of tests/vectors.py from the file that is
+ * named, and returns 0 if all is as it should be. TEST_S is defined for BLAKE2s. */
 #include "check.h"
 #include "family.h"
 
