@@ -53,7 +53,7 @@ fn digests_are(inputs: &[Input<'_>; 4], wanted: &str) -> bool {
 }
 
 // What the inputs are, the length of their messages, and their digests. Under keys, each key is a
-// byte shorter than the one before. Of nodes, every other one is the last of its level.
+// byte shorter than the one before. Every other node is the last of its level.
 const DIGESTS: &str = "\
 unkeyed|0|cae66941d9efbd404e4d88758ea67670c8d682029e33a968ffedfdc5d3226a70\
 dc46b8aa218ba780ffa2d9b38e235d0455019f5c950b7e418c30981e11a09102\n\

@@ -57,7 +57,7 @@ fn digests_are(inputs: &[Input<'_>; 8], wanted: &str) -> bool {
 }
 
 // What the inputs are, the length of their messages, and their digests. Under keys, each key is a
-// byte shorter than the one before. Of nodes, every other one is the last of its level.
+// byte shorter than the one before. Every other node is the last of its level.
 const DIGESTS: &str = "\
 unkeyed|0|64550d6ffe2c0a01a14aba1eade0200caed1c4d0bd01a637869f76c6b5bedada\
 234c544d829c832e6508c83f20234d4ed685c35b649ad39ee94988a19462c14a\
