@@ -221,16 +221,17 @@ def man(text):
 # The files of each kind, what is prose in them, and a file of that kind with a sentence in its prose and in its code.
 KINDS = (
     (("**/*.md",), page, "Some text.\n\n{0}\n", "`{0}`\n\n```text\n{0}\n```\n\nAs:\n\n    {0}\n\n"),
-    (("c/include/**/*.h", "c/*.c", "c/libb2/*.c", "c/examples/*.c", "js/index.d.ts"), comments,
+    (("c/include/**/*.h", "c/*.c", "c/libb2/*.c", "c/examples/*.c", "c/tests/*.[ch]", "js/index.d.ts"), comments,
      "int f;\n/* A.\n * {0} */\n", "f({0});\n"),
     (("python/src/*.c", "python/src/*.h"), module, 'int f;\n{{"f", g, "A. {0}"}};\n', "f({0});\n"),
-    (("rust/src/*.rs", "rust-digest/src/*.rs", "crates/*/src/**/*.rt"), rust,
+    (("rust/**/*.rs", "rust-digest/**/*.rs", "crates/*/src/**/*.rt"), rust,
      "fn f() {{}}\n    /// {0}\n", "f({0});\n/// `{0}`\n"),
     (("crates/*/specs/*.antt", "crates/*/proofs/**/*.antt"), antt,
      "f : A\n  -- A.\n  -- {0}\nf = b\n", "f = {0}\n-- `{0}`\n"),
-    (("python/vulfsjor/*.py", "python/vulfsjor/*.pyi", "tools/*.py", "bench/*.py"), python,
+    (("python/vulfsjor/*.py", "python/vulfsjor/*.pyi", "python/tests/*.py", "python/examples/*.py",
+      "tests/*.py", "tools/*.py", "bench/*.py"), python,
      '"""A.\n\n{0}"""\n', 'x = "{0}"\n'),
-    (("b2", "test", "c/*.sh", "*/run_tests.sh", "tools/*.sh"), script,
+    (("b2", "test", "c/*.sh", "c/tests/**/*.sh", "*/run_tests.sh", "tools/*.sh"), script,
      "#!/bin/sh\n# {0}\nset -u\n", "#!/bin/sh\nset -u\nf {0}\n"),
     (("docs/*.1",), man, ".PP\n{0}\n", ".EX\n{0}\n.EE\n"),
 )
