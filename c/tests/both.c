@@ -1,5 +1,5 @@
-/* libb2 and this library in one program, by libb2's own header and blake2_c.h. Answers 0 where both
- * have the same digests. */
+/* Calls libb2 and this library in one program, which includes libb2's own header and blake2_c.h.
+ * Returns 0 if both have the same digests. */
 #include <blake2.h>
 #include <blake2_c.h>
 

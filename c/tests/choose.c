@@ -1,13 +1,14 @@
-/* ../choose.c with functions of its own in the place of the two builds, so that what it decides and
- * what it hands on can be seen. c/run_tests.sh compiles it, as it stands and with PROCESSOR.
+/* Tests ../choose.c with functions of this file instead of the two builds, so that it sees which
+ * level is chosen and which arguments are passed. c/run_tests.sh compiles this file without
+ * PROCESSOR and with it.
  *
- *   choose           prints the level that a call takes here, 2 or 3, by its first call and by a
- *                    later one; before that it prints "begun", so that an end by the first call can
- *                    be told apart
- *   choose compiler  the same, and what the compiler's own test of the processor says
+ *   choose           prints `begun`, and then the level that is chosen on this processor, 2 or 3:
+ *                    by the first call and by a later one. If there is only the first line, the
+ *                    first call has ended the program
+ *   choose compiler  also prints the level that the compiler's own test of the processor finds
  *
- * With PROCESSOR the processor is made up (processor.h): each bit that a level needs is taken away
- * alone. */
+ * With PROCESSOR the processor is made up (processor.h), and each bit that a level needs is cleared
+ * separately. */
 #ifdef PROCESSOR
 #define CHOOSE_PROCESSOR "processor.h"
 #endif
@@ -19,9 +20,9 @@
 #include <stdint.h>
 #include <string.h>
 
-/* What a build was given: each argument times a prime of its own, and its level in front. The most
- * that a function of the library takes are fifteen arguments; here are sixteen, six of which go in
- * registers. */
+/* The sum of the arguments that a build was given, each multiplied by a different prime. The build
+ * adds its level. A function of the library has at most fifteen arguments. These have sixteen, six
+ * of which are passed in registers. */
 typedef unsigned long long number;
 typedef uint32_t half;
 #define PARAMETERS                                                                            \

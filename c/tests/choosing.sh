@@ -235,10 +235,10 @@ test_builds() {
     if [ "$level" = 3 ]; then
         builds="2 3 0"
     else
-        skip "the build for x86-64-v3" "the processor is no such"
+        skip "the build for x86-64-v3" "the processor is below x86-64-v3"
     fi
     for build in $builds; do
-        check "a library with build $build alone (0: either)" make_build $build || return
+        check "a test library with build $build (0: both, alternating)" make_build $build || return
         for family in b s; do
             if has python3; then
                 check "test.c, blake2$family, by build $build" test_of_build $build $family
@@ -294,7 +294,7 @@ test_choosing() {
     if has nm && has readelf; then
         check "one list of functions" names_are_one
         check "the shared library's form" shared_library_is_right
-        check "the texts beside those of another version" texts_stand_together "${here_texts[@]}"
+        check "the assembly with that of another version" texts_stand_together "${here_texts[@]}"
         check "what a program takes of the library" programs_take_what_they_call
         check "hidden names, libblake2_c.a" names_are_hidden "$archive"
         check "hidden names, libblake2_c-libb2.a" names_are_hidden "$prefix/lib/libblake2_c-libb2.a"
@@ -308,8 +308,8 @@ test_choosing() {
         return
     fi
     check "join.sh refuses another list of functions" join_refuses_a_difference
-    check "processors that are made up" made_up_processors 0
-    check "processors that are made up, optimised" made_up_processors 2
+    check "made-up processors" made_up_processors 0
+    check "made-up processors, optimized" made_up_processors 2
     if has clang; then
         check "the library joined by clang" joined_by clang
     else

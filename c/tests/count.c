@@ -1,4 +1,5 @@
-/* Calls one function so many times, for a count of instructions: count TASK TIMES. */
+/* Makes the call of a task TIMES times, so that its instructions can be counted:
+ * count TASK TIMES. */
 #include "blake2_c.h"
 
 #include <stdlib.h>
@@ -8,7 +9,7 @@ static vulfsjor_blake2s_state s;
 static vulfsjor_tree_state t;
 static uint8_t data[256], out[64];
 
-/* 0 where there is such a task. */
+/* Returns the status of the call of this task, or -1 if there is no such task. */
 static int call(int task) {
     vulfsjor_tree node = {.depth = 2, .inner_length = 64};
     switch (task) {

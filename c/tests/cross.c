@@ -1,14 +1,14 @@
-/* A run that goes from one build to the other between its calls has the states and digests of a run
- * in one build. It loads two modules, each of which is this file compiled with MODULE and linked
- * with the library that takes one build: cross V2.so V3.so. */
+/* Checks that a run which moves from one build to the other between its calls has the same states
+ * and digests as a run in one build. It loads two modules, each of which is this file compiled with
+ * MODULE and linked with a library of one build: cross V2.so V3.so. */
 #define _GNU_SOURCE /* for RTLD_LOCAL in C99 */
 #include "blake2_c.h"
 
 enum { BLAKE2B, BLAKE2S, TREE, KINDS };
 enum { INIT, INIT_NODE, UPDATE, SET_LAST_NODE, RESET, FINAL, VERIFY, OPERATIONS };
 
-/* One call of this kind: a text of bytes that the operation takes, and the digest's or the tag's
- * place. */
+/* Makes one call of this kind. `in` has the bytes that the operation reads, and `out` is for the
+ * digest or has the tag. */
 typedef int call_function(int kind, int operation, void *state, size_t size, uint8_t *out,
                           const uint8_t *in, size_t length);
 

@@ -1,15 +1,14 @@
-/* The edges of each function of blake2_c.h: each pointer null with length 0 and 1, every size from
- * 0 to 65, counts near 2^64 and 2^58, flags, parameter blocks, states that are not ready, what
- * stays of a key, several messages, constants, the state's fields. Prints a line for each digest
- * whose value Python's hashlib has to agree with, as check_lines.py reads them; answers 0 where all
- * else is as it should be.
+/* Tests the edges of each function of blake2_c.h: each pointer null with length 0 and 1, every size
+ * from 0 to 65, counts near 2^64 and 2^58, flags, parameter blocks, states that are not ready, what
+ * is left of a key, several messages, constants, and the state's fields. Prints a line for each
+ * digest that check_lines.py compares with Python's hashlib. Returns 0 if every other check passes.
  *
  *   cc -std=c99 -Wall -Wextra -Wpedantic -Werror -I FOLDER/include edges.c ARCHIVE -o edges
- *   cc the same with -DTEST_S                   the same of BLAKE2s, without the tree
- *   ./edges | python3 check_lines.py            status 0 where every digest is hashlib's
- *   ./edges 4294967396                          one message of so many zeros too: 4 GiB of address
- *                                               space, without which it is skipped, and 11 s for
- *                                               BLAKE2b */
+ *   cc the same with -DTEST_S                   the same for BLAKE2s, without the tree
+ *   ./edges | python3 check_lines.py            status 0 if every digest is that of hashlib
+ *   ./edges 4294967396                          also hashes a message of this many zeros, in 11 s
+ *                                               for BLAKE2b; skips it if there are no 4 GiB of
+ *                                               address space */
 #include "check.h"
 #include "family.h"
 
@@ -244,7 +243,7 @@ static void same_texts(void) {
     for (size_t length = 0; length <= 70; length++) {
         memcpy(a, bytes, 70);
         memcpy(b, bytes, 70);
-        if (length < 70) b[length] ^= 1; /* behind the texts */
+        if (length < 70) b[length] ^= 1; /* after the compared bytes */
         CHECK(vulfsjor_is_same(a, b, length) == 0);
         for (size_t i = 0; i < length; i++) {
             b[i] ^= 0x80;
@@ -366,7 +365,7 @@ static void flags(void) {
     CHECK(BLAKE(final)(&state, out, MAX) == 0 && !memcmp(out, on_digest, MAX));
 }
 
-/* ---- places in a tree and parameter blocks */
+/* ---- tree parameters and parameter blocks */
 
 /* A line for hashlib: a node without key, salt and persona, over the first 20 bytes. */
 static void tell_node(const vulfsjor_tree *tree, const uint8_t *digest) {
@@ -555,7 +554,7 @@ static void refused_messages(void) {
         messages[i].bytes = NULL; /* of 0 bytes too */
         CHECK(BLAKE(many)(out, MAX, messages, 9, 0, 0, 0, 0, 0, 0) == -1);
         messages[i].bytes = bytes;
-        /* A message that can't be counted beside a key's block: no byte of any is read. */
+        /* With the key's block, this message is too long to count: no byte of any is read. */
         messages[i].length = ~(size_t)0 - BLOCK + 1;
         CHECK(BLAKE(many)(out, MAX, messages, 9, key, 1, 0, 0, 0, 0) == -1);
         messages[i].length = i;
@@ -621,7 +620,7 @@ static void long_message(size_t length) {
 #ifndef TEST_S
 /* ---- the tree */
 
-/* A line for hashlib: the root, in so many bytes, of the first `length` bytes. */
+/* Prints a line for hashlib: the root, which has `size` bytes, of the first `length` bytes. */
 static void tell_root(size_t size, size_t saltlen, size_t personalen, uint32_t leaf, size_t length,
                       const uint8_t *root) {
     printf("root %zu %zu %zu %lu %zu ", size, saltlen, personalen, (unsigned long)leaf, length);

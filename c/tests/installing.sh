@@ -251,10 +251,11 @@ test_installing() {
         skip "a project with the files by CMake, and what that chooses" "no cmake"
     fi
     if is_x86; then
-        check "one build alone" one_build
+        check "an installation with only one build" one_build
         check "where the library comes from" comes_from
     else
-        skip "one build alone, and where the library comes from" "the processor is no x86-64"
+        skip "an installation with only one build, and where the library comes from" \
+            "the processor is not x86-64"
     fi
     has pkg-config || skip "the words for pkg-config" "no pkg-config"
 }

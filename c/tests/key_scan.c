@@ -47,7 +47,7 @@ static void start_and_take(void) {
     if (BLAKE(update)(&state, message, length)) fail("an update");
 }
 
-/* ---- The calls. Each answers 0 where its status is the right one. */
+/* ---- The calls. Each returns 0 if its status is the expected one. */
 
 static int call_init_key(void) { return BLAKE(init_key)(&state, MAX, key, MAX); }
 
@@ -132,7 +132,7 @@ static __attribute__((noinline)) int call_and_keep(int (*call)(void)) {
     return status;
 }
 
-/* How often pieces of the key stand in what was kept. */
+/* Counts the copies of pieces of the key in `stack`. */
 static int pieces_on_stack(void) {
     int found = 0;
 
@@ -159,8 +159,8 @@ static int is_zero(const void *memory, size_t size) {
 
 /* ---- Copies to be found. */
 
-/* Copies so many bytes of the key to its frame, as far below the caller's frame as the place
- * says. */
+/* Copies the first `copied` bytes of the key into its frame. The copy ends `place` bytes below the
+ * end of `frame`. */
 static size_t place, copied;
 static __attribute__((noinline)) int leave_a_copy(void) {
     uint8_t frame[DEPTH - 256];

@@ -166,11 +166,11 @@ test_languages() {
     test_keys
     if has python3; then
         for family in b s; do test_family $family; done
-        # A wrong tag takes as many instructions wherever it differs; leaves and messages are hashed
-        # at once.
+        # The comparison of a wrong tag has the same number of instructions wherever the tag
+        # differs. Leaves and messages are hashed in parallel.
         run_script "$top/tools/count_instructions.sh" "$prefix"
         test_examples
     else
-        skip "the known answers and the examples" "no python3"
+        skip "the test vectors and the examples" "no python3"
     fi
 }

@@ -1,6 +1,7 @@
-/* libb2's functions by their own names, linked: what c/LIBB2.md says of them and of libb2, row by
- * row, and the hashes of tests/vectors.json. c/run_tests.sh links it with libblake2_c-libb2.a, and
- * where libb2 is there, with libb2 itself under LIBB2, so that what is said of libb2 is seen too.
+/* Tests libb2's functions by their own names: what c/LIBB2.md says of them and of libb2, row by
+ * row, and the hashes of tests/vectors.json. c/run_tests.sh links it with libblake2_c-libb2.a and,
+ * if libb2 is installed, with libb2 itself under LIBB2, so that what the page says of libb2 is
+ * tested too.
  *
  *   libb2 CASES
  *
@@ -61,7 +62,7 @@ int BLAKE2(uint8_t *out, const void *in, const void *key, size_t outlen, size_t 
 enum { DIES = 1000 };
 #define ROW(libb2, here) (IS_LIBB2 ? (libb2) : (here))
 
-/* The status of a call in a process of its own, or DIES. */
+/* The status of a call in a child process, or DIES if a signal ends that process. */
 #define STATUS(call) (fork_is_child() ? (_exit((call) & 0xff), 0) : child_status())
 static int fork_is_child(void) {
     fflush(stdout);
@@ -127,8 +128,8 @@ static void take(X(_state) *S, size_t length, size_t digest) {
     CHECK(IS_LIBB2 || is_zero(S, sizeof *S));
 }
 
-/* A case of a hash: by a parameter block, and by key alone or in one call where there is no
- * more. */
+/* Tests a case of a hash by a parameter block. If it has no salt and no persona, tests it also by
+ * init or init_key, and in one call. */
 static void hash_case(size_t digest, size_t keys, size_t salted, size_t named, size_t length) {
     X(_state) *S = malloc(sizeof *S);
     X(_param) P;
@@ -215,7 +216,7 @@ static void lengths(void) {
     CHECK(status_of(&S, LONGEST, LONGEST) == 0 && status_of(&S, 1, 0) == 0);
 }
 
-/* After the end of a run, and in a state of zeros. */
+/* Calls with a state after finalization, and with a zeroed state. */
 static void no_run(void) {
     X(_state) S, before;
     CHECK(X(_init)(&S, LONGEST) == 0 && X(_update)(&S, message, 200) == 0);

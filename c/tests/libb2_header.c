@@ -1,11 +1,11 @@
-/* Each function and constant of libb2/blake2.h, at its edges: null pointers, every size from 0 to
- * 65, outputs that overlap what is read, what is stricter than libb2. Prints the lines that
- * check_lines.py compares with Python's hashlib; answers 0 where all else is as it should be.
+/* Tests each function and constant of libb2/blake2.h at its edges: null pointers, every size from 0
+ * to 65, outputs that overlap inputs, and what is stricter than libb2. Prints the lines that
+ * check_lines.py compares with Python's hashlib. Returns 0 if every other check passes.
  *
  *   cc -std=c99 -Wall -Wextra -Wpedantic -Werror -I FOLDER/include/blake2_c-libb2 libb2_header.c
  *       ARCHIVE -o header
- *   cc the same with -DTEST_S                        the same of BLAKE2s
- *   ./header | python3 check_lines.py                status 0 where every digest is hashlib's */
+ *   cc the same with -DTEST_S                        the same for BLAKE2s
+ *   ./header | python3 check_lines.py                status 0 if every digest is that of hashlib */
 #include "check.h"
 
 #include <blake2.h>
@@ -150,7 +150,7 @@ static void blake2_is_blake2b(void) {
           !memcmp(a, b, 20));
 }
 
-/* The digest may stand where the input or the key does, wherever in it. */
+/* The output may overlap the input or the key, at any offset. */
 static void overlaps(void) {
     for (size_t at = 0; at + MAX <= 2 * BLOCK; at += 13) {
         uint8_t text[2 * BLOCK], other[2 * MAX];

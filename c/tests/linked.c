@@ -1,6 +1,6 @@
-/* The library in a program: called by a constructor before main, and by many threads whose first
- * calls come at the same time. FIRST_BY_THREADS leaves the constructor out. Answers 0 where all
- * digests are right. */
+/* Calls the library from a constructor before main, and from many threads whose first calls come at
+ * the same time. FIRST_BY_THREADS leaves out the constructor. Returns 0 if all digests are
+ * right. */
 #define _POSIX_C_SOURCE 200112L
 #include "blake2_c.h"
 

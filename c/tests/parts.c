@@ -17,7 +17,7 @@ enum { MAX = 64, SALT = 16, MOST_BYTES = 3000 };
 
 /* As those of check_lines.py. */
 static uint8_t bytes[8 * 128 + 64], salt[SALT + 2], persona[SALT + 2];
-/* Digests of leaves, and what is left where nothing is written. */
+/* Digests of leaves, and the bytes that `out` has before a call writes to it. */
 static uint8_t out[64 * (MOST_BYTES + 1)], blank[sizeof out];
 
 static void fill_all(void) {
@@ -116,7 +116,7 @@ static void places_at_the_limits(void) {
     CHECK(ends_at(0));
 }
 
-/* What is no range, and lengths of the output. */
+/* Ranges and lengths of the output that are refused. */
 static void refused_ranges(void) {
     static const size_t huge[] = {(size_t)1 << 32, ((size_t)1 << 32) + 192, SIZE_MAX,
                                   SIZE_MAX - 63};
@@ -218,7 +218,7 @@ static vulfsjor_tree_state tree_with(uint32_t size, size_t length) {
     return state;
 }
 
-/* Whether two states have absorbed as many bytes and have one root. */
+/* Whether two states have absorbed the same number of bytes and have the same root. */
 static int are_alike(vulfsjor_tree_state a, vulfsjor_tree_state b) {
     uint8_t one[MAX] = {0}, two[MAX] = {1};
 

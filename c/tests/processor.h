@@ -8,7 +8,7 @@ static struct made_up {
     unsigned saved;                     /* the low half of XCR0 */
 } made_up;
 
-/* The stack is as a function may take it to be, in a call that asks for the processor too. */
+/* Aborts unless the stack is aligned as the ABI requires, while the processor is detected. */
 __attribute__((noinline)) static void need_aligned_stack(void) {
     if ((uintptr_t)__builtin_frame_address(0) % 16) abort();
 }

@@ -33,7 +33,8 @@ static int fails;
         }                                                           \
     } while (0)
 
-/* What the calls asked of the C library, and whether it has memory. */
+/* The last size that was requested from the C library, the number of calls of free, the last
+ * pointer that was freed, and whether allocations fail. */
 static size_t asked, freed;
 static void *last_freed;
 static bool refuses;

@@ -4,7 +4,7 @@
  * verify and is_same may have one report a call, that of their result. A call writes what memcheck
  * knows for a secret, which is then marked as defined and compared with the expected digest.
  *
- *   secrets FILE      every call that takes a key or a message, over the lines of vectors.py
+ *   secrets FILE      every call that accepts a key or a message, over the lines of vectors.py
  *   secrets branch    a branch on a byte of a key, and
  *   secrets address   an address from a byte of a key: each has to be reported
  *
@@ -72,7 +72,7 @@ static void absorb(state_t *state, unsigned cut) {
 /* Reports that are those of a comparison's result. */
 static unsigned long allowed;
 
-/* Checks the result of a comparison, before which there were so many reports. */
+/* Checks the result of a comparison. `before` is the number of reports before it. */
 static void compared(unsigned long before, int result, int is_right) {
     unsigned long reports = VALGRIND_COUNT_ERRORS - before;
     require(reports <= 1, "more than one report in a comparison");
@@ -241,7 +241,8 @@ static void root_case(uint32_t leaf) {
 
 static char field[8][9000];
 
-/* One case, of `count` fields behind its letter; one of a longer message is left out. */
+/* Tests the case of this letter whose fields are in `field`. A case whose message is too long is
+ * left out. */
 static void one_case(char kind) {
     int first = kind == 't' ? 2 : kind == 'n' ? 5 : 4;
     wanted.length = 0;

@@ -28,7 +28,7 @@ test_secrets() {
     for build in $builds; do
         if [ "$build" != none ]; then
             library=$work/build_$build/libblake2_c.a
-            check "a library with build $build alone, for secrets" "$here/join.sh" --test "$build" \
+            check "a library with only build $build, for secrets" "$here/join.sh" --test "$build" \
                 "$work/build_$build" "$dist/x86_64/blake2_c-v2.s" "$dist/x86_64/blake2_c-v3.s" ||
                 return
         fi

@@ -7,7 +7,7 @@
 #include <stdlib.h>
 #include <string.h>
 
-/* A text in memory of exactly its own length, so that a sanitizer sees a byte too far. */
+/* Bytes in an allocation of exactly their length, so that a sanitizer sees a byte too far. */
 typedef struct text {
     uint8_t *bytes;
     size_t length;
@@ -46,7 +46,7 @@ static int is_zero(const state_t *state) {
     return !memcmp(state, &zeros, sizeof zeros);
 }
 
-/* Takes bytes from..to of the message, alone in their memory. */
+/* Absorbs bytes from..to of the message, from a separate allocation. */
 static void take(state_t *state, text message, size_t from, size_t to) {
     text piece = copy_of(message.bytes + from, to - from);
     CHECK(BLAKE(update)(state, or_null(piece), piece.length) == 0);
@@ -91,7 +91,7 @@ static void verifies(const state_t *state, text wanted) {
     CHECK(vulfsjor_is_same(tag, wanted.bytes, wanted.length) == 0);
 }
 
-/* The run that the state begins gives the wanted digest of the message, however it comes. */
+/* Absorbs the message in the initialized state, cut in several ways, and checks each digest. */
 static void runs(state_t *state, text message, text wanted) {
     for (size_t cut = 0; cut <= message.length && message.length <= 400; cut++) {
         take(state, message, 0, cut);
@@ -107,11 +107,11 @@ static void runs(state_t *state, text message, text wanted) {
     }
     gives(state, wanted);
     verifies(state, wanted);
-    /* Too little room: nothing is written, and the state stays. */
+    /* The buffer is too small: nothing is written, and the state stays. */
     uint8_t out[MAX + 16];
     memset(out, 0xaa, sizeof out);
     CHECK(BLAKE(final)(state, out, wanted.length - 1) == -1 && out[0] == 0xaa);
-    /* Room to spare: no byte behind the digest. */
+    /* The buffer is larger: no byte after the digest is written. */
     CHECK(BLAKE(final)(state, out, sizeof out) == 0);
     CHECK(!memcmp(out, wanted.bytes, wanted.length) && out[wanted.length] == 0xaa);
     CHECK(out[sizeof out - 1] == 0xaa);
@@ -181,7 +181,7 @@ static void node_case(size_t size, text key, text salt, text persona, const char
 }
 
 #ifndef TEST_S
-/* The digest of a node of the tree below in the bytes of its own. */
+/* Writes to `out` the digest, of `size` bytes, of a tree node over these bytes. */
 static void node_of_root(uint8_t *out, size_t size, text salt, text persona, vulfsjor_tree tree,
                          int last, const uint8_t *bytes, size_t length) {
     state_t state;
@@ -196,7 +196,7 @@ static int is_zero_tree(const vulfsjor_tree_state *state) {
     return !memcmp(state, &zeros, sizeof zeros);
 }
 
-/* Takes bytes from..to of the message, alone in their memory. */
+/* Absorbs bytes from..to of the message, from a separate allocation. */
 static void take_in_tree(vulfsjor_tree_state *state, text message, size_t from, size_t to) {
     text piece = copy_of(message.bytes + from, to - from);
     CHECK(vulfsjor_tree_update(state, or_null(piece), piece.length) == 0);

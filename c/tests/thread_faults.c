@@ -63,8 +63,8 @@ static int fails_now(const char *call) {
     return 1;
 }
 
-/* What a read does instead of what is asked: at most so many bytes, an interruption before each, a
- * pause after the first, another end of the file at this call. */
+/* How reads differ from what is requested: at most `most` bytes each, an interruption before each,
+ * a pause after the first, and another size of the file at call `resized_at`. */
 static struct {
     size_t most;
     int interrupted, pause, resized_at;
@@ -265,7 +265,8 @@ static int descriptors(void) {
     return count;
 }
 
-/* Makes the call, which has to answer this and leave nothing behind. */
+/* Makes the call, which has to fail with this errno, or to succeed if `error` is 0. No memory,
+ * thread or descriptor may be left. */
 static void expect(int (*call)(void), int error) {
     int open = descriptors(), status;
 
@@ -278,8 +279,8 @@ static void expect(int (*call)(void), int error) {
     CHECK(!value(&allocated) && !value(&running) && descriptors() == open);
 }
 
-/* Fails the first call of this name, then the second, until there is none: so many times at
- * least. */
+/* Fails the first call of this name, then the second, until there is no such call. There have to be
+ * at least `least` of them. */
 static void each_fails(int (*call)(void), const char *name, int given, int error, int least) {
     int at = 0, hit = 1;
 

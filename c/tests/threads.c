@@ -1,12 +1,12 @@
-/* The functions of blake2_threads.h: roots of bytes, files and descriptors beside
+/* Tests the functions of blake2_threads.h. Compares roots of bytes, files and descriptors with
  * vulfsjor_tree_root of the same bytes (whose values edges.c compares with hashlib), for any number
- * of threads; files of every kind; each refusal with its errno; signals, cancellation, calls at the
- * same time. Returns 0 if all is as it should be.
+ * of threads. Tests files of every kind, each refusal with its errno, signals, cancellation, and
+ * calls at the same time. Returns 0 if all is as it should be.
  *
  *   cc -std=gnu99 -I FOLDER/include threads.c ARCHIVE-threads.a ARCHIVE.a -pthread -o threads
  *   ./threads FOLDER             makes its files in this folder
  *
- * It is run over threads.c compiled with -DLEAST_BYTES=1 too, where few bytes have many threads. */
+ * It is also run over threads.c compiled with -DLEAST_BYTES=1, so few bytes have many threads. */
 #define _GNU_SOURCE
 #include "blake2_threads.h"
 
@@ -143,7 +143,7 @@ static void roots_of_long_leaves(void) {
 
 /* ---- updates */
 
-/* Whether two states have absorbed as many bytes and have one root. */
+/* Whether two states have absorbed the same number of bytes and have the same root. */
 static int are_alike(vulfsjor_tree_state a, vulfsjor_tree_state b) {
     int are = vulfsjor_tree_count(&a) == vulfsjor_tree_count(&b);
 
@@ -464,7 +464,7 @@ static void *cancel_myself(void *given) {
     return NULL;
 }
 
-/* A call is no cancellation point, and leaves the thread as cancelable as it was. */
+/* A call is not a cancellation point, and leaves the thread as cancelable as it was. */
 static void cancellation(void) {
     int file, given, files = entries("/proc/self/fd");
     void *answer = NULL;

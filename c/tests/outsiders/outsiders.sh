@@ -8,7 +8,7 @@
 #
 #   libsodium-dev, libgcrypt20-dev, libbotan-2-dev, libssl-dev (of OpenSSL 3)
 #
-# The last line counts, and the status is 0 where no test failed.
+# The last line has the counts, and the status is 0 if no test failed.
 set -u
 here=$(dirname "$(readlink -f "$0")")
 source "$here/../../../tools/checks.sh"
