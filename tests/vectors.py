@@ -6,11 +6,12 @@
     tests/vectors.py --lines b|s        prints the cases of a family in lines, for C and Rust
     tests/vectors.py --random SEED N    prints N random cases, for JavaScript
 
-The file is a list of groups. Each row of a group is a case: its values are those of the group's columns, and all
-else in the group holds for each row. The names are those of hashlib's arguments. Of bytes a case has the number:
-byte i is start + i + i / 256 + i / 65536 modulo 256, where start is `seed` for a message, seed + j for message j of
-several, 2 seed for a key, 3 seed for a salt or a password, and 5 seed for a persona or the info of HKDF. What a
-case leaves out is 0 or hashlib's default. The kinds:
+The file is a list of groups. Each row of a group is a case: its values are those of the group's
+columns, and all else in the group holds for each row. The names are those of hashlib's arguments.
+For bytes, a case has their number: byte i is start + i + i / 256 + i / 65536 modulo 256, where
+start is `seed` for a message, seed + j for message j of several, 2 seed for a key, 3 seed for a
+salt or a password, and 5 seed for a persona or the info of HKDF. What a case leaves out is 0 or
+hashlib's default. The kinds:
 
     hash      a digest. The first 512 of a family have the messages of the official test vectors
     many      BLAKE2b-256 of the joined digests of messages of these lengths
@@ -131,7 +132,8 @@ def case_of(group, row):
 
 
 def size_rows(dice, longest, salt):
-    """Every size of a digest without texts, with all, and with salt and persona; every third length."""
+    """Every size of a digest: without key, salt and persona, with all of them, and with salt and
+    persona only. The lengths of messages include every third one below 400."""
     for i in range(max(134, 3 * longest)):
         key = dice.choice([1, longest // 2, longest, dice.randint(1, longest)]) if i % 3 == 1 else 0
         texts = [dice.choice([0, salt, dice.randint(0, salt)]) if i % 3 else 0 for _ in range(2)]
@@ -139,7 +141,7 @@ def size_rows(dice, longest, salt):
 
 
 def node_rows(dice, longest, salt, offset_bits):
-    """Nodes of trees, with the least and the greatest numbers among them."""
+    """Nodes of trees, with the smallest and the largest numbers among them."""
     def number(least, most):
         return dice.choice([least, most, dice.randint(least, most)])
     for i in range(134):

@@ -24,7 +24,7 @@ import sys
 import vulfsjor
 from distributed import Client, LocalCluster
 
-RANGE_BYTES = 64 << 20  # about as many are one task
+RANGE_BYTES = 64 << 20  # a task has about this many bytes
 
 
 def read_at(file, length, start):
@@ -56,10 +56,10 @@ def tree_root(client, path, leaf_size, range_bytes=RANGE_BYTES):
     """The root of a file, whose ranges of about range_bytes the workers of the client hash."""
     length = os.stat(path).st_size
     leaves = max(1, -(-length // leaf_size))
-    part = max(4, range_bytes // leaf_size // 4 * 4)  # four leaves are hashed at once
+    part = max(4, range_bytes // leaf_size // 4 * 4)  # four leaves are hashed in parallel
     ranges = [(first, min(part, leaves - first)) for first in range(0, leaves, part)]
-    # pure=False: the file may have changed since an earlier call, whose answers Dask would take
-    # again.
+    # pure=False: the file may have changed since an earlier call, whose results Dask would
+    # otherwise reuse.
     tasks = [client.submit(hash_range, path, length, leaf_size, *each, pure=False)
              for each in ranges]
     answers = client.gather(tasks)

@@ -100,7 +100,7 @@ class Case(unittest.TestCase):
         return message
 
     def use(self, function):
-        """Puts a function of (folder, *arguments) in the place of hash_range."""
+        """Replaces hash_range with a function of (folder, *arguments)."""
         folder = self.folder
         dask_root.hash_range = lambda *given: function(folder, *given)
 
@@ -145,12 +145,12 @@ class RootTest(Case):
             return asked
 
         dask_root.hash_range = stand_in
-        # Fours of leaves, at least one four.
+        # A range has a multiple of four leaves, and at least four, except the last.
         for size, part in ((1, 4), (5 * LEAF, 4), (8 * LEAF - 1, 4), (8 * LEAF, 8),
                            (13 * LEAF, 12), (31 * LEAF, 28), (1 << 40, 31)):
             self.assertEqual(ask(30 * LEAF + 1, LEAF, size),
                              [(first, min(part, 31 - first)) for first in range(0, 31, part)])
-        # Of 64 MiB if no size is given.
+        # A range has 64 MiB if no size is given.
         self.assertEqual(ask((64 << 20) + 1, 65536), [(0, 1024), (1024, 1)])
 
     def test_symbolic_link(self):
@@ -283,7 +283,7 @@ class ClusterTest(Case):
                 dask_root.main()
             except SystemExit as end:
                 status = end.code
-                if not isinstance(status, int):  # a text, which Python prints, and the status is 1
+                if not isinstance(status, int):  # Python prints a message, and the status is 1
                     print(status, file=errors)
                     status = 1
         return status, out.getvalue(), errors.getvalue()

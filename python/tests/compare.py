@@ -135,7 +135,8 @@ def edge_parameters(longest):
 
 
 def outcome(act):
-    """What a call answers, or the exception with its text, but for two texts that differ."""
+    """The result of a call, or the name and the message of its exception: None for the two
+    messages that differ."""
     try:
         return act()
     except Exception as fault:  # whatever is raised is compared

@@ -1,7 +1,7 @@
 #!/usr/bin/env python3
-"""Runs CPython's own test_hashlib with the package in the place of _blake2.
+"""Runs CPython's own test_hashlib with the package instead of _blake2.
 
-usage: cpython.py FOLDER      FOLDER is where the package vulfsjor stands
+usage: cpython.py FOLDER      FOLDER has the package vulfsjor
 
 The tests that fetch vectors from the network are skipped.
 """
@@ -27,7 +27,7 @@ def tests_of(suite):
             yield test
 
 
-test.support.use_resources = []  # the network is one that tests ask for
+test.support.use_resources = []  # tests that require a resource, such as the network, are skipped
 assert theirs.hashlib.blake2b is vulfsjor.blake2b and theirs.hashlib.blake2s is vulfsjor.blake2s
 with tempfile.TemporaryDirectory() as folder:
     os.chdir(folder)

@@ -168,12 +168,12 @@ class TreeRoot(unittest.TestCase):
         self.assertRaises(BufferError, root, memoryview(b"abcd")[::2], 1)
 
 
-# Room for a copy of a part of the memory. It is shared, so that it stands in a part of its own.
+# Room for a copy of a region of the memory. It is shared, so that places_of does not search it.
 COPY = mmap.mmap(-1, 1 << 28)
 
 
 def places_of(text):
-    """The addresses in the memory that this process can write where the text stands."""
+    """The addresses of the copies of `text` in the memory that this process can write."""
     found = set()
     with open("/proc/self/maps") as maps, open("/proc/self/mem", "rb", 0) as memory:
         for line in maps.read().splitlines():
@@ -261,7 +261,7 @@ class Views(unittest.TestCase):
     """A call lets go of its arguments, whether it succeeds or fails: a bytearray can then grow."""
 
     def grows(self, call, names, **words):
-        """Calls with a bytearray of each name, and of `data`, alone."""
+        """Calls once for each name, with a bytearray as that argument, which can then grow."""
         for name in names:
             array = bytearray(b"12345678")
             try:
@@ -329,7 +329,7 @@ class Views(unittest.TestCase):
 
 
 class Threads(unittest.TestCase):
-    """Other threads run meanwhile. No thread takes turns here but where one lets go."""
+    """Other threads run during long calls. Here, threads switch only when one releases the GIL."""
 
     def setUp(self):
         self.interval, self.turns, self.ended = sys.getswitchinterval(), 0, False
@@ -343,7 +343,7 @@ class Threads(unittest.TestCase):
         self.other.join()
 
     def count(self):
-        """Counts turns, and lets go after each."""
+        """Counts turns, and releases the GIL after each."""
         while not self.ended:
             self.turns += 1
             time.sleep(0)
@@ -381,7 +381,7 @@ class Threads(unittest.TestCase):
                 self.assertTrue(any(self.is_met(call, make()) for _ in range(10)))
 
     def is_met(self, call, hasher):
-        """What a call answers while another thread updates the object."""
+        """The result of a call while another thread updates the object."""
         thread = threading.Thread(target=hasher.update, args=(LONG,))
         thread.start()
         time.sleep(0.002)
@@ -436,7 +436,7 @@ class Words(unittest.TestCase):
                     self.assertTrue(getattr(thing, member).__doc__, member)
 
     def stub(self):
-        """What the stubs declare: names, and functions by the places they stand in."""
+        """The declarations in the stubs, as nodes of the syntax tree."""
         path = os.path.join(os.path.dirname(vulfsjor.__file__), "_library.pyi")
         with open(path) as file:
             return ast.parse(file.read()).body
