@@ -103,7 +103,7 @@ macro_rules! family {
                 };
             }
 
-            // These traits have no place in a tree.
+            // These traits have no tree parameters.
             fn sequential_cases() -> impl Iterator<Item = Case> {
                 let is_sequential = |case: &Case| case.tree == Tree::SEQUENTIAL && !case.last_node;
                 cases($letter).into_iter().filter(is_sequential)
@@ -202,7 +202,7 @@ macro_rules! family {
                 );
             }
 
-            // What other crates make of these types, beside Python's hmac and hashlib.
+            // Checks that other crates over these types agree with Python's hmac and hashlib.
             #[test]
             fn hmac_hkdf_and_pbkdf2() {
                 type Hmac = hmac::SimpleHmac<$hasher<$longest>>;

@@ -1,5 +1,5 @@
-//! Compares tags with texts that differ at one place, 2,000 times, for a count of instructions:
-//! run_tests.sh counts them in valgrind, and the count may not depend on the place.
+//! Compares a tag with bytes that differ from it at one place, 2,000 times. run_tests.sh counts the
+//! instructions with valgrind, and the count must not depend on the place.
 //!
 //!     equal_time digest|verify PLACE
 use vulfsjor::Blake2bMac;

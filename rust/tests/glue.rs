@@ -11,12 +11,12 @@ use vulfsjor::*;
 // A value's bytes, before it is dropped and after.
 fn bytes_around_drop<T>(value: T) -> [Vec<u8>; 2] {
     let mut slot = MaybeUninit::new(value);
-    // Safety: the types here have no padding, and a drop writes bytes of the value alone.
+    // Safety: the types here have no padding, and a drop writes only bytes of the value.
     let look = |slot: &MaybeUninit<T>| unsafe {
         std::slice::from_raw_parts(slot.as_ptr().cast::<u8>(), size_of::<T>()).to_vec()
     };
     let before = look(&slot);
-    // Safety: the value stands there, and nobody uses it later.
+    // Safety: the slot holds the value, and nobody uses it later.
     unsafe { slot.assume_init_drop() };
     [before, look(&slot)]
 }

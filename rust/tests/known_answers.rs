@@ -1,4 +1,4 @@
-//! The answers that hashlib gives: digests, tags and roots, in one call and in pieces.
+//! Compares digests, tags and roots with those of hashlib, in one call and in pieces.
 #![cfg(feature = "std")]
 mod common;
 

@@ -12,7 +12,7 @@ pub fn bytes(digits: &str) -> Vec<u8> {
         .collect()
 }
 
-/// A hash: what it is of, its place in a tree and last-node flag, and its digest.
+/// A hash: its inputs, its tree parameters and last-node flag, and its digest.
 pub struct Case {
     pub size: usize,
     pub key: Vec<u8>,
@@ -43,7 +43,7 @@ impl Case {
     }
 }
 
-// The place that a line names, and the flag.
+// The tree parameters that a line has, and the last-node flag.
 fn place(numbers: &str) -> (Tree, bool) {
     let numbers: Vec<u64> = numbers.split(',').map(|n| n.parse().unwrap()).collect();
     let tree = Tree {
@@ -57,7 +57,7 @@ fn place(numbers: &str) -> (Tree, bool) {
     (tree, numbers[6] == 1)
 }
 
-// The hash of a line, with its place in a tree if it has one.
+// The hash of a line, with the tree parameters if the line has them.
 fn case(mut fields: Vec<String>) -> Case {
     let (tree, last_node) = match fields.len() {
         7 => place(&fields.remove(4)),
