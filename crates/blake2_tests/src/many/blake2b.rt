@@ -84,7 +84,7 @@ fn hash_four_inputs(rt: HostRuntime) {
             }
             input.last_node = what == "nodes" && j % 2 == 1;
         }
-        assert!(rt; digests_are(&inputs, wanted), "{what}, {n} bytes");
+        assert!(rt; digests_are(&inputs, wanted), "{n} bytes");
     }
 }
 

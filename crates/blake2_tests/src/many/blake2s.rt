@@ -100,7 +100,7 @@ fn hash_eight_inputs(rt: HostRuntime) {
             }
             input.last_node = what == "nodes" && j % 2 == 1;
         }
-        assert!(rt; digests_are(&inputs, wanted), "{what}, {n} bytes");
+        assert!(rt; digests_are(&inputs, wanted), "{n} bytes");
     }
 }
 
