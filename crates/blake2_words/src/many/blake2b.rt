@@ -235,9 +235,9 @@ fn start(output_size: usize, inputs: &[Input<'_>; 4]) -> [u64x4; 8]
 
 // Compresses blocks of each of four messages, one after another, the same number of each, with
 // flags j for message j. `counter` bytes are counted with the first of them, 128 more with each
-// that follows, and less than 2^64 with the last, as `counted` says for any number of blocks. The
-// loop has the only call of `compress`, so that the compiler lays it out there. It works on a
-// copy of the rows, so that what is the same for all blocks is computed once.
+// that follows, and less than 2^64 with the last. `counted` says so with 128 more on each side, and
+// so for no blocks too. The loop has the only call of `compress`, so that the compiler lays it out
+// there. It works on a copy of the rows, so that what is the same for all blocks is computed once.
 fn compress_blocks(h: &mut [u64x4; 8], blocks: &[&[[u8; 128]]; 4], counter: u64, flags: &[Flags; 4])
     requires same_number { (j : ℕ) → j < 4
         → length (slice_index_or (block_lists blocks.now) j [])

@@ -1,10 +1,7 @@
-use Rattle.std.proofs.Common.{◌≡◌, ℕ, ◌+◌, ◌-◌, ◌<◌, ◌≤◌, List, [], ◌∷◌, ◌++◌, length, take, drop}
-use Rattle.std.proofs.Common.{replicate, refl, sym, ap, ◌∙◌, arith, length-append, length-drop}
-use Rattle.std.proofs.Common.{drop-drop}
+use Rattle.std.proofs.Common.{◌≡◌, ℕ, ◌+◌, ◌-◌, ◌≤◌, List, ◌++◌, length, take, drop}
+use Rattle.std.proofs.Common.{replicate, sym, zero-add, ap, ◌∙◌, arith, length-append, drop-drop}
 use Rattle.std.proofs.lemmas.List.{length-take-le, take_rest, drop-replicate}
-use Rattle.blake2_digest.specs.Blocks.{handed_on, held_back}
-use Rattle.blake2_digest.proofs.Cutting.{handed_none, held_all, handed_more, held_more, first_block}
-use Rattle.blake2_digest.proofs.Cutting.{cut_input}
+use Rattle.blake2_digest.proofs.Cutting.{handed_none, held_all, handed_from, held_from}
 use Rattle.blake2_digest.proofs.buffer.digest_into.Goals as goal
 
 pub returns-then-input-room-clause-handed : goal.returns-then-input-room-clause-handed
@@ -38,43 +35,15 @@ returns-then-input-room-clause-rest g c = λ zero.
 
 pub returns-clause-handed : goal.returns-clause-handed
 returns-clause-handed g c =
-    let absorb = g.C.UpdateCore.absorb in
-    let p : List ℕ = take c.args.pos c.args.bytes.now in
-    let room : ℕ = g.row.B - c.args.pos in
-    let block : List ℕ = p ++ take room c.args.input.now in
-    let rest : List ℕ = drop room c.args.input.now in
-    let filled : c.put_behind-2.new.bytes ≡ block =
-    first_block g.row.B c.args.pos c.args.bytes.now _ p c.args.input.now refl c.requires.within
-    c.told-bytes c.put_behind-2.ensures.size (omega arith) c.put_behind-2.ensures.placed in
-    let lb : length block ≡ g.row.B = sym (ap length filled) ∙ c.put_behind-2.ensures.size in
-    let some : 0 < length rest = omega (arith, length-drop room c.args.input.now) in
-    let cut : handed_on g.row.B (p ++ c.args.input.now) ≡ (block ∷ []) ++ handed_on g.row.B rest =
-    ap (handed_on g.row.B) (sym (cut_input room p c.args.input.now))
-    ∙ handed_more g.row.B block rest c.requires.nonzero lb some in
-    let first : c.update_blocks.new.self ≡ absorb c.args.core.now (block ∷ []) =
-    c.update_blocks.ensures ∙ ap (absorb c.args.core.now)
-    (c.from_ref.ensures.value ∙ ap (λ (b : List ℕ). b ∷ []) filled) in
-    let tail : handed_on g.row.B (take (length c.args.input.now - room)
-    (drop room c.args.input.now)) ≡ handed_on g.row.B rest =
-    ap (handed_on g.row.B) (take_rest c.args.input.now room) in
-    rw (c.hand_on-2.ensures.handed, first, tail, cut)
-    (sym (g.met.C.UpdateCore.absorb_join c.args.core.now (block ∷ []) (handed_on g.row.B rest)))
+    c.update_blocks.ensures ∙ ap (g.C.UpdateCore.absorb c.pass_pending-rest.new.core)
+    (c.as_chunks.ensures.front ∙ rw c.saturating_sub.ensures
+    (handed_from g.row.B c.pass_pending-rest.result.now c.requires.nonzero))
+    ∙ c.pass_pending-rest.ensures.handed
 
 pub returns-clause-pending : goal.returns-clause-pending
 returns-clause-pending g c =
-    let p : List ℕ = take c.args.pos c.args.bytes.now in
-    let room : ℕ = g.row.B - c.args.pos in
-    let block : List ℕ = p ++ take room c.args.input.now in
-    let rest : List ℕ = drop room c.args.input.now in
-    let filled : c.put_behind-2.new.bytes ≡ block =
-    first_block g.row.B c.args.pos c.args.bytes.now _ p c.args.input.now refl c.requires.within
-    c.told-bytes c.put_behind-2.ensures.size (omega arith) c.put_behind-2.ensures.placed in
-    let lb : length block ≡ g.row.B = sym (ap length filled) ∙ c.put_behind-2.ensures.size in
-    let some : 0 < length rest = omega (arith, length-drop room c.args.input.now) in
-    let cut : held_back g.row.B (p ++ c.args.input.now) ≡ held_back g.row.B rest =
-    ap (held_back g.row.B) (sym (cut_input room p c.args.input.now))
-    ∙ held_more g.row.B block rest c.requires.nonzero lb some in
-    let tail : held_back g.row.B (take (length c.args.input.now - room)
-    (drop room c.args.input.now)) ≡ held_back g.row.B rest =
-    ap (held_back g.row.B) (take_rest c.args.input.now room) in
-    c.hand_on-2.ensures.held ∙ tail ∙ sym cut
+    ap (λ (n : ℕ). take n c.put_behind-2.new.bytes) (sym (zero-add _))
+    ∙ c.put_behind-2.ensures.placed ∙ take_rest c.pass_pending-rest.result.now _
+    ∙ rw c.saturating_sub.ensures
+    (held_from g.row.B c.pass_pending-rest.result.now c.requires.nonzero)
+    ∙ c.pass_pending-rest.ensures.held
