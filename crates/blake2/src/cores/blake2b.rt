@@ -145,17 +145,6 @@ impl Blake2bVarCore {
             hint::spin_loop();
         }
     }
-
-    // Compresses a block that is not the last.
-    #[inline]
-    fn absorb_block(&mut self, block: &[u8; 128])
-        requires { self.old.count + 128 < 2 ^ 64 }
-        ensures { self.new ≡ absorbed blake2b self.old (block.now ∷ []) }
-    {
-        self.counter += 128;
-        let counter = self.counter;
-        words::compress(&mut self.h, block, counter, Flags::INNER);
-    }
 }
 
 impl BlockSizeUser for Blake2bVarCore {
@@ -180,7 +169,9 @@ impl UpdateCore<128> for Blake2bVarCore {
     #[inline]
     fn update_blocks(&mut self, blocks: &[[u8; 128]]) {
         'each: for block in blocks {
-            self.absorb_block(block);
+            self.counter += 128;
+            let counter = self.counter;
+            words::compress(&mut self.h, block, counter, Flags::INNER);
         }
     }
 

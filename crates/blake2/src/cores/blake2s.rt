@@ -146,17 +146,6 @@ impl Blake2sVarCore {
             hint::spin_loop();
         }
     }
-
-    // Compresses a block that is not the last.
-    #[inline]
-    fn absorb_block(&mut self, block: &[u8; 64])
-        requires { self.old.count + 64 < 2 ^ 64 }
-        ensures { self.new ≡ absorbed blake2s self.old (block.now ∷ []) }
-    {
-        self.counter += 64;
-        let counter = self.counter;
-        words::compress(&mut self.h, block, counter, Flags::INNER);
-    }
 }
 
 impl BlockSizeUser for Blake2sVarCore {
@@ -181,7 +170,9 @@ impl UpdateCore<64> for Blake2sVarCore {
     #[inline]
     fn update_blocks(&mut self, blocks: &[[u8; 64]]) {
         'each: for block in blocks {
-            self.absorb_block(block);
+            self.counter += 64;
+            let counter = self.counter;
+            words::compress(&mut self.h, block, counter, Flags::INNER);
         }
     }
 

@@ -4,12 +4,12 @@ ghost use Rattle.std.specs.Prelude.{◌≡◌, ◌≢◌, ◌↔◌, ℕ, ◌+�
 ghost use Rattle.std.specs.Prelude.{false, IsTrue, IsErr, IfOk, IfSome, OnOk, OnErr};
 ghost use Rattle.std.specs.Result.{IsErrOf};
 ghost use Rattle.std.specs.Io.KnownBytes.{Consumes, Appends, Keeps};
-ghost use Rattle.blake2_digest.specs.States.{Updated, digest_after};
+ghost use Rattle.blake2_digest.specs.States.{digest_after, digest_now};
 ghost use Rattle.blake2_digest.specs.Texts.{AreBytes};
 ghost use Rattle.blake2_runs.specs.Streams.{GivesAll, TakesPart, line_of};
 
 use super::device::{DeviceError, Sink, Source};
-use blake2_digest::{FixedOutput, Update};
+use blake2_digest::{FixedOutput, tell_bytes};
 
 // The number of bytes that one read requests.
 const PIECE_BYTES: usize = 4096;
@@ -73,11 +73,26 @@ where
         × TakesPart (K.held sink.old) (K.held sink.new)
         (line_of (digest_after H.meaning hasher bytes)) }
 {
-    let total = absorb(source, &mut hasher)?;
-    let mut digest = [0u8; N];
-    hasher.finalize_into(&mut digest);
-    let line = padded_line(&digest);
-    match write_whole(sink, &line[..2 * N + 1]) {
+    let mut buffer = [0u8; PIECE_BYTES];
+    let mut total = 0u64;
+    let mut room = u64::MAX - hasher.counted();
+    'reading: loop {
+        let Ok(count) = source.read(&mut buffer) else {
+            return Err(StreamFault::Read);
+        };
+        if count == 0 {
+            break;
+        }
+        let piece = &buffer[..count];
+        tell_bytes(piece);
+        if count as u64 > room {
+            return Err(StreamFault::TooLong);
+        }
+        hasher.update(piece);
+        total += count as u64;
+        room -= count as u64;
+    }
+    match write_digest(hasher, sink) {
         Ok(()) => Ok(total),
         Err(DeviceError) => Err(StreamFault::Write),
     }
@@ -103,46 +118,25 @@ pub fn write_whole<K: Sink>(sink: &mut K, text: &[u8]) -> Result<(), DeviceError
     Ok(())
 }
 
-// Passes all that the source returns to the hasher, and returns how many bytes those were.
-fn absorb<H: Update, S: Source>(source: &mut S, hasher: &mut H) -> Result<u64, StreamFault>
-    requires { S.failed source.old ≡ false }
-    ensures read { IsErrOf result StreamFault.Read ↔ IsTrue (S.failed source.new) }
-    ensures too_long { IfSome (S.left source.old) (λ bytes. IsErrOf result StreamFault.TooLong ↔
-        ((S.failed source.new ≡ false) × (2 ^ 64 ≤ H.meaning.count hasher.old + length bytes))) }
-    ensures no_write { result ≢ Err StreamFault.Write }
-    ensures whole { IfOk result (λ n. (bytes : List ℕ) × (length bytes ≡ n)
-        × GivesAll (S.left source.old) (S.left source.new) bytes
-        × Updated H.meaning hasher.old bytes hasher.new) }
-    ensures fits { OnOk result (H.meaning.count hasher.new < 2 ^ 64) }
-    ensures past_count { IsErrOf result StreamFault.TooLong → (bytes : List ℕ) × AreBytes bytes
-        × Consumes (S.left source.old) (S.left source.new) bytes
-        × (2 ^ 64 ≤ H.meaning.count hasher.old + length bytes) }
+// Writes the hasher's digest, of at most 64 bytes, as a line. The sink must not have failed
+// before. The error is that of `write_whole`.
+fn write_digest<H, K, const N: usize>(hasher: H, sink: &mut K) -> Result<(), DeviceError>
+where
+    H: FixedOutput<N> + Drop,
+    K: Sink,
+    requires size { N ≤ 64 }
+    requires sink { K.failed sink.old ≡ false }
+    ensures fails { IsErr result ↔ IsTrue (K.failed sink.new) }
+    ensures whole { OnOk result
+        (Appends (K.held sink.old) (K.held sink.new) (line_of (digest_now H.meaning hasher))) }
+    ensures part { OnErr result
+        (TakesPart (K.held sink.old) (K.held sink.new) (line_of (digest_now H.meaning hasher))) }
 {
-    let mut buffer = [0u8; PIECE_BYTES];
-    let mut total = 0u64;
-    let mut room = u64::MAX - hasher.counted();
-    'reading: loop {
-        let Ok(count) = source.read(&mut buffer) else {
-            return Err(StreamFault::Read);
-        };
-        if count == 0 {
-            return Ok(total);
-        }
-        let piece = &buffer[..count];
-        tell_bytes(piece);
-        if count as u64 > room {
-            return Err(StreamFault::TooLong);
-        }
-        hasher.update(piece);
-        total += count as u64;
-        room -= count as u64;
-    }
+    let mut digest = [0u8; N];
+    hasher.finalize_into(&mut digest);
+    let line = padded_line(&digest);
+    write_whole(sink, &line[..2 * N + 1])
 }
-
-// Does nothing. Proofs read from the type of the piece that each element is a byte.
-fn tell_bytes(piece: &[u8])
-    ensures { AreBytes piece.now }
-{}
 
 // The line of a digest, at the front of an array that holds the longest one.
 fn padded_line<const N: usize>(digest: &[u8; N]) -> [u8; LINE_BYTES]

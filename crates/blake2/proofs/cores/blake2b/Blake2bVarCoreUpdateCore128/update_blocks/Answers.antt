@@ -1,27 +1,28 @@
-use Rattle.std.proofs.Common.{[], ◌∷◌, get_or, sym, ap, ◌∙◌, arith}
-use Rattle.std.proofs.lemmas.List.{take_all}
+use Rattle.std.proofs.Common.{[], get_or, sym, ap, ◌∙◌, arith}
 use Rattle.blake2_rows.specs.Family.{blake2b}
-use Rattle.blake2.specs.CoreLaws.{absorbed-nil, count-absorbed}
-use Rattle.blake2.specs.Cores.{CoreState, absorbed}
-use Rattle.blake2.proofs.CoreSteps.{absorbed-next}
+use Rattle.blake2_rows.specs.Rows.{eight}
+use Rattle.blake2.specs.CoreLaws.{absorbed-nil}
+use Rattle.blake2.specs.Cores.{CoreState}
+use Rattle.blake2.proofs.CoreSteps.{absorbed-one, absorbed-next}
 use Rattle.blake2.proofs.cores.blake2b.Blake2bVarCoreUpdateCore128.update_blocks.Goals as goal
 
 pub each-init : goal.each-init
-each-init c = record { taken = sym (absorbed-nil blake2b c.args.self.now); counted = omega arith }
+each-init c = record {
+  taken = c.self.view_is ∙ sym (absorbed-nil blake2b c.args.self.now);
+  counted = omega (arith, ap (λ (core : CoreState). core.count) c.self.view_is);
+}
 
 pub each-preserved : goal.each-preserved
 each-preserved c =
-    let taken = c.absorb_block.ensures in record {
-      taken = absorbed-next blake2b c.args.self.now c.each.self c.absorb_block.new.self
-          c.args.blocks.now c.each.block-index c.each-test.true c.each.invariant.taken taken;
-      counted = omega (
-        arith,
-        c.each.invariant.counted,
-        ap (λ (core : CoreState). core.count) taken,
-        count-absorbed blake2b c.each.self (get_or c.args.blocks.now c.each.block-index [] ∷ []),
-      );
+    let block = get_or c.args.blocks.now c.each.block-index [] in
+    let held : CoreState = record {
+      h = eight c.each.self-inside.h;
+      start = eight c.each.self-inside.start;
+      count = c.each.self-inside.counter;
+      last_node = c.each.self-inside.last_node;
+    } in record {
+      taken = absorbed-next blake2b c.args.self.now held _ c.args.blocks.now c.each.block-index
+          c.each-test.true c.each.invariant.taken
+          (absorbed-one blake2b held block (eight c.compress.new.h) c.compress.ensures);
+      counted = omega (arith, c.each.invariant.counted);
     }
-
-pub returns : goal.returns
-returns c = c.each.invariant.taken ∙ ap (absorbed blake2b c.args.self.now)
-    (take_all c.each.block-index c.args.blocks.now c.each-test.false)

@@ -1,10 +1,17 @@
 use Rattle.std.proofs.Common.{◌≡◌, ◌+◌, ◌*◌, take}
 use Rattle.blake2_rows.specs.Family.{blake2s}
-use Rattle.blake2.specs.Cores.{absorbed}
+use Rattle.blake2_rows.specs.Rows.{eight}
+use Rattle.blake2.specs.Cores.{CoreState, absorbed}
 use Rattle.blake2.proofs.cores.blake2s.Blake2sVarCoreUpdateCore64.update_blocks.Given as goal
 
 abbrev pub invariant-each : goal.invariant-each
-invariant-each l = record {
-  taken : l.self ≡ absorbed blake2s l.fn.self (take l.block-index l.blocks);
-  counted : l.self.count ≡ l.fn.self.count + 64 * l.block-index;
-}
+invariant-each l =
+    let held : CoreState = record {
+      h = eight l.self-inside.h;
+      start = eight l.self-inside.start;
+      count = l.self-inside.counter;
+      last_node = l.self-inside.last_node;
+    } in record {
+      taken : held ≡ absorbed blake2s l.fn.self (take l.block-index l.blocks);
+      counted : l.self-inside.counter ≡ l.fn.self.count + 64 * l.block-index;
+    }
