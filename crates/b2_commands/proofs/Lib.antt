@@ -6,4 +6,5 @@ mod LineLemmas
 mod Printing
 mod Rooting
 mod ScriptLemmas
+mod Statuses
 mod WordLemmas

@@ -1,12 +1,12 @@
 //! The run of a command.
 
-ghost use Rattle.std.specs.Prelude.{◌≡◌, ◌≢◌, ◌≤◌, false, map, IsTrue, IsOkAnd};
+ghost use Rattle.std.specs.Prelude.{◌≡◌, ◌≢◌, ◌≤◌, ◌↔◌, false, map, IsTrue, IsOkAnd, IfErr, OnOk};
+ghost use Rattle.std.specs.Io.KnownBytes.{Appends};
+ghost use Rattle.std.specs.Result.{IsErrOf};
 ghost use Rattle.std.specs.String.{string_bytes};
 ghost use Rattle.b2_commands.specs.Words.{task_of};
 ghost use Rattle.b2_commands.specs.Tasks.{IsDone};
-ghost use Rattle.b2_commands.specs.Faults.{IsTold};
-ghost use Rattle.b2_commands.specs.Parsed.{task_value};
-ghost use Rattle.b2_commands.specs.Ends.{EndsTask};
+ghost use Rattle.b2_commands.specs.Faults.{IsTold, status_of, fault_line};
 
 use crate::fault::Fault;
 use crate::hash::hash;
@@ -36,30 +36,35 @@ pub fn run<S: Source, K: Sink>(alloc: Global, words: &[String], source: &mut S, 
         (K.held sink.old) (K.held sink.new) }
 {
     match Task::from_words(alloc, words) {
-        Ok(task) => match execute(alloc, task, source, sink) {
-            Ok(()) => 0,
-            Err(fault) => fault.report(sink),
-        },
+        Ok(Task::Hash(output, kind, options)) => {
+            let end = hash(alloc, output, kind, &options, source, sink);
+            status_of(end, sink)
+        }
+        Ok(Task::Compare(comparison)) => {
+            let end = witness(alloc, &comparison, sink);
+            status_of(end, sink)
+        }
+        Ok(Task::Tree(root)) => {
+            let end = tree(alloc, &root, source, sink);
+            status_of(end, sink)
+        }
         Err(fault) => fault.report(sink),
     }
 }
 
-// Does the task. Neither device may have failed before. The error is a `Fault`, which the caller
-// is to print; if it is not `WriteFailed`, nothing was printed.
-fn execute<S: Source, K: Sink>(
-    alloc: Global,
-    task: Task,
-    source: &mut S,
-    sink: &mut K,
-) -> Result<(), Fault>
-    requires source { S.failed source.old ≡ false }
-    requires sink { K.failed sink.old ≡ false }
-    ensures { EndsTask (task_value task) result (S.left source.old)
-        (S.failed source.new) (K.failed sink.new) (K.held sink.old) (K.held sink.new) }
+// Returns the status of a task that ended in this way: 0, or the status of the error, whose line
+// it prints. The sink has failed if the error is `WriteFailed`, and only then.
+fn status_of<K: Sink>(end: Result<(), Fault>, sink: &mut K) -> u8
+    requires { IsErrOf end Fault.WriteFailed ↔ IsTrue (K.failed sink.old) }
+    ensures done { OnOk end ((result ≡ 0) × (sink.new ≡ sink.old)) }
+    ensures printed { IfErr end (λ fault. K.failed sink.new ≡ false →
+        (result ≡ status_of fault)
+        × Appends (K.held sink.old) (K.held sink.new) (fault_line fault)) }
+    ensures failed { IsTrue (K.failed sink.old) → IsTrue (K.failed sink.new) }
+    ensures unprinted { IsTrue (K.failed sink.new) → result ≡ 1 }
 {
-    match task {
-        Task::Hash(output, kind, options) => hash(alloc, output, kind, &options, source, sink),
-        Task::Compare(comparison) => witness(alloc, &comparison, sink),
-        Task::Tree(root) => tree(alloc, &root, source, sink),
+    match end {
+        Ok(()) => 0,
+        Err(fault) => fault.report(sink),
     }
 }

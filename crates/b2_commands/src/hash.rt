@@ -15,10 +15,9 @@ ghost use Rattle.b2_commands.specs.Words.{blake2b_of, blake2s_of};
 use crate::fault::Fault;
 use crate::script::script;
 use crate::steps::{steps_blake2b, steps_blake2s};
-use crate::sum::sum;
 use crate::task::Output;
 use crate::words::{Blake2bKind, Blake2sKind, Kind, Options};
-use blake2::engine::{Sink, Source};
+use blake2::engine::{Sink, Source, hash_stream};
 use blake2::{Blake2b, Blake2bMac, Blake2s, Blake2sMac, Digest};
 use std::alloc::Global;
 
@@ -74,8 +73,14 @@ fn hash_blake2b<S: Source, K: Sink, const N: usize>(
         (K.held sink.old) (K.held sink.new) }
 {
     match output {
-        Output::Digest if options.are_empty() => sum(Blake2b::<N>::new(), source, sink),
-        Output::Digest => sum(mac_blake2b::<N>(options)?, source, sink),
+        Output::Digest if options.are_empty() => {
+            hash_stream(source, sink, Blake2b::<N>::new())?;
+            Ok(())
+        }
+        Output::Digest => {
+            hash_stream(source, sink, mac_blake2b::<N>(options)?)?;
+            Ok(())
+        }
         Output::Digests if options.are_empty() => script(alloc, Blake2b::<N>::new(), source, sink),
         Output::Digests => script(alloc, mac_blake2b::<N>(options)?, source, sink),
         Output::Transcript => steps_blake2b(alloc, options, N, source, sink),
@@ -115,8 +120,14 @@ fn hash_blake2s<S: Source, K: Sink, const N: usize>(
         (K.held sink.old) (K.held sink.new) }
 {
     match output {
-        Output::Digest if options.are_empty() => sum(Blake2s::<N>::new(), source, sink),
-        Output::Digest => sum(mac_blake2s::<N>(options)?, source, sink),
+        Output::Digest if options.are_empty() => {
+            hash_stream(source, sink, Blake2s::<N>::new())?;
+            Ok(())
+        }
+        Output::Digest => {
+            hash_stream(source, sink, mac_blake2s::<N>(options)?)?;
+            Ok(())
+        }
         Output::Digests if options.are_empty() => script(alloc, Blake2s::<N>::new(), source, sink),
         Output::Digests => script(alloc, mac_blake2s::<N>(options)?, source, sink),
         Output::Transcript => steps_blake2s(alloc, options, N, source, sink),

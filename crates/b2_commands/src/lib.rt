@@ -14,7 +14,6 @@ mod numbers;
 mod print;
 mod script;
 mod steps;
-mod sum;
 mod task;
 mod tree;
 mod witness;

@@ -5,7 +5,6 @@ ghost use Rattle.std.specs.List.{flat_map};
 ghost use Rattle.std.specs.Result.{IsErrOf};
 ghost use Rattle.std.specs.Io.KnownBytes.{Appends};
 ghost use Rattle.blake2.specs.Family.{blake2b, blake2s};
-ghost use Rattle.blake2.specs.Hash.{AreBytes};
 ghost use Rattle.blake2.specs.Keys.{key_count};
 ghost use Rattle.blake2.specs.Views.{entry_of, entries_of, input_of, key_of};
 ghost use Rattle.b2_commands.specs.Options.{given_of};
@@ -18,6 +17,7 @@ use crate::fault::Fault;
 use crate::input::read_all;
 use crate::print::Line;
 use crate::words::Options;
+use blake2::digest::tell_bytes;
 use blake2::engine::{Sink, Source};
 use blake2::steps::{Entry, Input, Transcript, Tree};
 use blake2::{Blake2bVarCore, Blake2sVarCore};
@@ -148,13 +148,7 @@ fn input_under<'a>(options: &'a Options, message: &'a [u8]) -> Input<'a>
     input
 }
 
-// Does nothing. It shows proofs that each element of the slice is a byte, which they read from
-// its type.
-fn tell_bytes(slice: &[u8])
-    ensures { AreBytes slice.now }
-{}
-
-// Does the same for a key, if there is one.
+// Does nothing. It shows proofs that a key, if there is one, is a list of bytes.
 fn tell_key_bytes(key: &Option<&[u8]>)
     ensures { IsKeyOfBytes (key_of key.now) }
 {

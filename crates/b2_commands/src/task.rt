@@ -59,25 +59,14 @@ impl Task {
         let Some((command, words)) = words.split_first() else {
             return Err(Fault::WrongWords);
         };
-        match command.as_str() {
-            "sum" => Self::hash(alloc, Output::Digest, words),
-            "script" => Self::hash(alloc, Output::Digests, words),
-            "steps" => Self::hash(alloc, Output::Transcript, words),
-            "witness" => Ok(Task::Compare(Comparison::from_words(alloc, words)?)),
-            "tree" => Ok(Task::Tree(Root::from_words(alloc, words)?)),
-            _ => Err(Fault::WrongWords),
-        }
-    }
-
-    // Reads the arguments KIND [key=HEX] [salt=HEX] [persona=HEX] from left to right, and returns
-    // the task that prints this output. The errors are those of `Task::from_words`.
-    fn hash(alloc: Global, output: Output, words: &[String]) -> Result<Task, Fault>
-        ensures task { IfOk result (λ task.
-            given_task (output_task output) (map string_bytes words.now) ≡ Ok (task_value task)) }
-        ensures fault { IfErr result (λ fault.
-            IsReadingFault fault (given_task (output_task output) (map string_bytes words.now))) }
-        ensures memory { result ≡ Err Fault.NoMemory → 1 < length words.now }
-    {
+        let output = match command.as_str() {
+            "sum" => Output::Digest,
+            "script" => Output::Digests,
+            "steps" => Output::Transcript,
+            "witness" => return Ok(Task::Compare(Comparison::from_words(alloc, words)?)),
+            "tree" => return Ok(Task::Tree(Root::from_words(alloc, words)?)),
+            _ => return Err(Fault::WrongWords),
+        };
         let Some((kind, words)) = words.split_first() else {
             return Err(Fault::WrongWords);
         };
