@@ -13,11 +13,12 @@ use crate::fault::Fault;
 use blake2::engine::{Sink, write_whole};
 use std::marker::Model;
 
-// The length in bytes of eight words as fields, with 16 digits each in BLAKE2b and 8 in BLAKE2s.
-// Each field has a space before it.
-const WORDS_OF_64_BYTES: usize = 8 * (1 + 16);
+// The length in bytes of eight words of BLAKE2b as fields, with 16 digits each. Each field has a
+// space before it.
+const BLAKE2B_WORDS_BYTES: usize = 8 * (1 + 16);
 
-const WORDS_OF_32_BYTES: usize = 8 * (1 + 8);
+// The length in bytes of eight words of BLAKE2s as fields, with 8 digits each.
+const BLAKE2S_WORDS_BYTES: usize = 8 * (1 + 8);
 
 // The length in bytes of the longest number as a field, with 20 digits.
 const NUMBER_BYTES: usize = 1 + 20;
@@ -31,7 +32,7 @@ const BLOCK_BYTES: usize = 1 + 2 * 128;
 /// The length in bytes of the longest line, that of a step of BLAKE2b: a letter, eight words, a
 /// counter, a flag, a block and a newline.
 pub(crate) const LINE_BYTES: usize = 1
-    + WORDS_OF_64_BYTES
+    + BLAKE2B_WORDS_BYTES
     + NUMBER_BYTES
     + FLAG_BYTES
     + BLOCK_BYTES
@@ -99,9 +100,9 @@ impl Line {
         self.length = end;
     }
 
-    /// Appends a field: a space, and two lower-case hexadecimal digits for each byte. The line
-    /// must have room for it.
-    pub(crate) fn add_bytes(&mut self, bytes: &[u8])
+    // Appends a field: a space, and two lower-case hexadecimal digits for each byte. The line
+    // must have room for it.
+    fn add_bytes(&mut self, bytes: &[u8])
         requires { length self.old + 2 * length bytes.now < LINE_BYTES }
         ensures added { self.new ≡ self.old ++ bytes_field bytes.now }
         ensures longer { length self.new ≡ length self.old + 2 * length bytes.now + 1 }
@@ -110,12 +111,24 @@ impl Line {
         self.push_hex(bytes);
     }
 
+    /// Appends a block as a field: a space, and two lower-case hexadecimal digits for each byte.
+    /// The line must have room for it. It is a separate call, in which the compiler knows that
+    /// the line and the block do not overlap; inlined, it needs a tenth more instructions.
+    #[inline(never)]
+    pub(crate) fn add_block(&mut self, block: &[u8])
+        requires { length self.old + 2 * length block.now < LINE_BYTES }
+        ensures added { self.new ≡ self.old ++ bytes_field block.now }
+        ensures longer { length self.new ≡ length self.old + 2 * length block.now + 1 }
+    {
+        self.add_bytes(block);
+    }
+
     /// Appends the words as fields: a space and 16 lower-case hexadecimal digits each. The line
-    /// must have room for `WORDS_OF_64_BYTES` bytes.
+    /// must have room for `BLAKE2B_WORDS_BYTES` bytes.
     pub(crate) fn add_words_of_64(&mut self, words: &[u64; 8])
-        requires { length self.old + WORDS_OF_64_BYTES ≤ LINE_BYTES }
+        requires { length self.old + BLAKE2B_WORDS_BYTES ≤ LINE_BYTES }
         ensures added { self.new ≡ self.old ++ word_fields blake2b words.now }
-        ensures longer { length self.new ≡ length self.old + WORDS_OF_64_BYTES }
+        ensures longer { length self.new ≡ length self.old + BLAKE2B_WORDS_BYTES }
     {
         for word in words {
             self.add_bytes(&word.to_be_bytes());
@@ -123,11 +136,11 @@ impl Line {
     }
 
     /// Appends the words as fields: a space and 8 lower-case hexadecimal digits each. The line
-    /// must have room for `WORDS_OF_32_BYTES` bytes.
+    /// must have room for `BLAKE2S_WORDS_BYTES` bytes.
     pub(crate) fn add_words_of_32(&mut self, words: &[u32; 8])
-        requires { length self.old + WORDS_OF_32_BYTES ≤ LINE_BYTES }
+        requires { length self.old + BLAKE2S_WORDS_BYTES ≤ LINE_BYTES }
         ensures added { self.new ≡ self.old ++ word_fields blake2s words.now }
-        ensures longer { length self.new ≡ length self.old + WORDS_OF_32_BYTES }
+        ensures longer { length self.new ≡ length self.old + BLAKE2S_WORDS_BYTES }
     {
         for word in words {
             self.add_bytes(&word.to_be_bytes());
@@ -168,12 +181,13 @@ impl Line {
     /// Appends a newline, and writes the line. The line must have room for the newline, and the
     /// sink must not have failed before. The error is `Fault::WriteFailed`, if a write returns an
     /// error or accepts no byte.
-    pub(crate) fn print<K: Sink>(mut self, sink: &mut K) -> Result<(), Fault>
-        requires room { length self < LINE_BYTES }
+    pub(crate) fn print<K: Sink>(&mut self, sink: &mut K) -> Result<(), Fault>
+        requires room { length self.old < LINE_BYTES }
         requires sink { K.failed sink.old ≡ false }
         ensures write { IsErrOf result Fault.WriteFailed ↔ IsTrue (K.failed sink.new) }
         ensures fault { IsOkUnless result Fault.WriteFailed }
-        ensures line { OnOk result (Appends (K.held sink.old) (K.held sink.new) (self ++ 10 ∷ [])) }
+        ensures line { OnOk result
+            (Appends (K.held sink.old) (K.held sink.new) (self.old ++ 10 ∷ [])) }
     {
         self.push(b"\n");
         let bytes = &self.bytes[..];

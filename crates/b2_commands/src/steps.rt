@@ -187,6 +187,6 @@ fn print_entry<K: Sink, const B: usize>(entry: &Entry<B>, sink: &mut K) -> Resul
     let mut line = Line::starting(b"e");
     line.add_number(entry.counter);
     line.add_flag(entry.last);
-    line.add_bytes(&entry.block);
+    line.add_block(&entry.block);
     line.print(sink)
 }

@@ -121,7 +121,7 @@ fn print_blake2b<K: Sink>(step: &Step<u64, 128>, sink: &mut K) -> Result<(), Fau
     line.add_words_of_64(&step.chain);
     line.add_number(step.counter);
     line.add_flag(step.last);
-    line.add_bytes(&step.block);
+    line.add_block(&step.block);
     line.print(sink)
 }
 
@@ -138,7 +138,7 @@ fn print_blake2s<K: Sink>(step: &Step<u32, 64>, sink: &mut K) -> Result<(), Faul
     line.add_words_of_32(&step.chain);
     line.add_number(step.counter);
     line.add_flag(step.last);
-    line.add_bytes(&step.block);
+    line.add_block(&step.block);
     line.print(sink)
 }
 
