@@ -10,7 +10,7 @@ use Rattle.b2_commands.specs.Tasks.{IsDone}
 use Rattle.b2_commands.specs.Faults.{IsTold, status_of, fault_line}
 use Rattle.b2_commands.specs.Ends.{EndsTask}
 
--- A status other than 0, if no write failed: the error of the task is told.
+-- A status other than 0, if no write failed: the line of the task's error is printed.
 pub told_by : (words : List (List ℕ)) (task : Task) (end : Result (Unit {0}) Fault)
     (left rest : Option (List ℕ)) (read_failed write_failed failed : Bool) (status : ℕ)
     (old mid new : Option (List ℕ))
