@@ -10,8 +10,9 @@ test: ## test everything that needs no proof, over the code in dist/
 prove: ## prove every crate, compare dist/ with the proofs, and test everything (needs rt)
 	./test --prove
 
-dist: ## write dist/, the code that the proofs build (needs rt)
+dist: ## write dist/, the code that the proofs build, and js/src/wasm.js (needs rt and node)
 	tools/dist.sh make
+	js/tools/build.mjs
 
 bench: ## measure speed next to other libraries
 	bench/speed.py

@@ -215,6 +215,7 @@ if command -v make >/dev/null; then
 ./test
 ./test --prove
 tools/dist.sh make
+js/tools/build.mjs
 bench/speed.py
 tools/reference.py
 tools/manual.py

@@ -1,9 +1,10 @@
+#!/usr/bin/env node
 // Writes the two generated files from dist/wasm/blake2_c.wasm, the module that the proved source
 // compiles to: src/wasm.js, the module with a 32-bit memory (lower.mjs) in base64 and the hashes of
 // both; and demo/index.html, the page in one file, from src/ and the other files of demo/.
 //
-//   node tools/build.mjs                      writes both
-//   node tools/build.mjs --check              compares both with the files instead
+//   tools/build.mjs                           writes both
+//   tools/build.mjs --check                   compares both with the files instead
 import { createHash } from "node:crypto";
 import { readFileSync, writeFileSync } from "node:fs";
 import { fileURLToPath } from "node:url";
