@@ -38,15 +38,15 @@ pub fn run<S: Source, K: Sink>(alloc: Global, words: &[String], source: &mut S, 
     match Task::from_words(alloc, words) {
         Ok(Task::Hash(output, kind, options)) => {
             let end = hash(alloc, output, kind, &options, source, sink);
-            status_of(end, sink)
+            status_after(end, sink)
         }
         Ok(Task::Compare(comparison)) => {
             let end = witness(alloc, &comparison, sink);
-            status_of(end, sink)
+            status_after(end, sink)
         }
         Ok(Task::Tree(root)) => {
             let end = tree(alloc, &root, source, sink);
-            status_of(end, sink)
+            status_after(end, sink)
         }
         Err(fault) => fault.report(sink),
     }
@@ -54,7 +54,7 @@ pub fn run<S: Source, K: Sink>(alloc: Global, words: &[String], source: &mut S, 
 
 // Returns the status of a task that ended in this way: 0, or the status of the error, whose line
 // it prints. The sink has failed if the error is `WriteFailed`, and only then.
-fn status_of<K: Sink>(end: Result<(), Fault>, sink: &mut K) -> u8
+fn status_after<K: Sink>(end: Result<(), Fault>, sink: &mut K) -> u8
     requires { IsErrOf end Fault.WriteFailed ↔ IsTrue (K.failed sink.old) }
     ensures done { OnOk end ((result ≡ 0) × (sink.new ≡ sink.old)) }
     ensures printed { IfErr end (λ fault. K.failed sink.new ≡ false →

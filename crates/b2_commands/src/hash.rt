@@ -23,8 +23,10 @@ use std::alloc::Global;
 
 /// Prints the output for all that the source returns, with the hash function of this kind under
 /// the options. Neither device may have failed before. The error is a `Fault`: `WrongLength` if
-/// the hash function does not accept a length of the options, and the errors of `sum`, `script`
-/// or `steps_blake2b`. If it is not `WriteFailed`, nothing was printed.
+/// the hash function does not accept a length of the options; for a digest `ReadFailed` if a read
+/// returns an error, `TooLong` if the input, with the key's block if there is a key, has 2^64
+/// bytes or more, and `WriteFailed` if a write fails; otherwise those of `script` or
+/// `steps_blake2b`. If it is not `WriteFailed`, nothing was printed.
 pub(crate) fn hash<S: Source, K: Sink>(
     alloc: Global,
     output: Output,
