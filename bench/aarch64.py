@@ -71,7 +71,7 @@ def ours():
     folder = os.path.join(ROOM, "installed")
     run([os.path.join(TOP, "c", "install.sh"), folder], env={**os.environ, "CC": GCC})
     return compiled("ours", [GCC], ["-DOURS", "-I" + os.path.join(folder, "include"),
-                                    os.path.join(folder, "lib", "libblake2_c.a")])
+                                    os.path.join(folder, "lib", "libvulfsjor.a")])
 
 
 def unpacked(packages):

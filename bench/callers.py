@@ -56,14 +56,14 @@ def installed(name, *words):
 
 def words_for(folder):
     """The words of the C compiler for a program over the library that is installed there."""
-    return ["-I" + os.path.join(folder, "include"), os.path.join(folder, "lib", "libblake2_c.a")]
+    return ["-I" + os.path.join(folder, "include"), os.path.join(folder, "lib", "libvulfsjor.a")]
 
 
 def crate_in_rust(folder):
     """The shared library over the crate in rust/; None if cargo is absent."""
     command = ["cargo", "build", "--release", "--offline", "--manifest-path", os.path.join(HERE, "rust", "Cargo.toml"),
                "--target-dir", os.path.join(OUT, "callers")]
-    os.environ["BLAKE2_C_LIB"] = os.path.join(folder, "lib")
+    os.environ["VULFSJOR_LIB"] = os.path.join(folder, "lib")
     if not speed.outcome(command)[0]:
         say("the crate in rust/ is left out, since cargo did not build it")
         return None
@@ -85,7 +85,7 @@ def calls_in_c(folder):
 def libraries(folder):
     """The shared libraries to time, by their names."""
     found = {**calls_in_c(folder), "ours from Rust": crate_in_rust(folder), "libb2": speed.libb2()[1],
-             "blake2_simd": speed.blake2_simd()[1], "OpenSSL's EVP": speed.openssl()}
+             "blake2b/s_simd": speed.blake2_simd()[1], "OpenSSL's EVP": speed.openssl()}
     return {name: ctypes.CDLL(path) for name, path in found.items() if path}
 
 
@@ -159,7 +159,7 @@ def programs(folder):
     found = {"ours: `c/examples/sum.c`": [example], "ours: `b2 sum`": [b2, "sum", "b512"]}
     if shutil.which("b2sum"):
         found["`b2sum`"] = ["b2sum"]
-    for name, (program, _) in (("libb2", speed.libb2()), ("blake2_simd", speed.blake2_simd())):
+    for name, (program, _) in (("libb2", speed.libb2()), ("blake2b/s_simd", speed.blake2_simd())):
         if program:
             found[name] = [program, "b512"]
     return found

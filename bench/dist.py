@@ -4,7 +4,7 @@
 Two tables, as Markdown on standard output, for one processor:
 
 - instructions: what one more call takes, by the programs of c/tests/count.c over both libraries. valgrind counts.
-- time: the least nanoseconds of each call of c/bench.c over both, in turns, and their ratio. More than 1 is faster
+- time: the least nanoseconds of each call of bench/calls.c over both, in turns, and their ratio. More than 1 is faster
   from dist/.
 
 It needs a C compiler, valgrind, and the toolchain's command rt, which proves what is not proved.
@@ -24,7 +24,7 @@ ROOM = os.path.join(OUT, "dist")
 NAMES = ("dist/", "`rt lib`")
 TASKS = range(12)  # of c/tests/count.c
 CALLS = (1000, 2000)  # for a count
-BENCH_TURNS = "30"  # of c/bench.c in each turn
+BENCH_TURNS = "30"  # of bench/calls.c in each turn
 
 
 def run(command, folder=TOP, **more):
@@ -39,9 +39,9 @@ def archives(cpu):
     """The static libraries by their names."""
     folder = os.path.join(ROOM, "installed")
     run([os.path.join(TOP, "c", "install.sh"), "--cpu", cpu, folder])
-    run(["rt", "lib", "--cpu", cpu], os.path.join(TOP, "crates", "blake2_c"), stderr=subprocess.STDOUT)
-    built = os.path.join(TOP, "crates", "blake2_c", "out", "libblake2_c.a")
-    return dict(zip(NAMES, (os.path.join(folder, "lib", "libblake2_c.a"), shutil.copy(built, ROOM))))
+    run(["rt", "lib", "--cpu", cpu], os.path.join(TOP, "crates", "blake2_ffi"), stderr=subprocess.STDOUT)
+    built = os.path.join(TOP, "crates", "vulfsjor", "out", "libvulfsjor.a")
+    return dict(zip(NAMES, (os.path.join(folder, "lib", "libvulfsjor.a"), shutil.copy(built, ROOM))))
 
 
 def programs(source, found):
@@ -75,7 +75,7 @@ def count_table(found):
 
 
 def times(program):
-    """The nanoseconds of each call that c/bench.c prints, by its family and its name."""
+    """The nanoseconds of each call that bench/calls.c prints, by its family and its name."""
     family, found = "", {}
     for line in run([program, BENCH_TURNS]).splitlines():
         title = re.match(r"\| (\S+), ns \|", line)
@@ -89,7 +89,7 @@ def times(program):
 
 def time_table(found, turns):
     """The table of times, each the least of these turns."""
-    timers, best = programs(os.path.join(TOP, "c", "bench.c"), found), {name: {} for name in NAMES}
+    timers, best = programs(os.path.join(TOP, "bench", "calls.c"), found), {name: {} for name in NAMES}
     for turn in range(turns):
         for name in NAMES if turn % 2 else reversed(NAMES):
             for call, taken in times(timers[name]).items():

@@ -6,11 +6,11 @@ from xml.sax.saxutils import escape
 # By the candidates' names: the color, the width of the line in pixels, and its dashes. People with any kind of sight
 # can distinguish the colors (Okabe and Ito).
 STYLES = {
-    "ours: `blake2_c`, x86-64-v3": ("#d55e00", 3, ""),
-    "ours: `blake2_c`, x86-64-v2": ("#d55e00", 3, "8 4"),
+    "ours: `vulfsjor`, x86-64-v3": ("#d55e00", 3, ""),
+    "ours: `vulfsjor`, x86-64-v2": ("#d55e00", 3, "8 4"),
     "ours from C": ("#d55e00", 3, ""),
     "ours from Rust": ("#d55e00", 3, "8 4"),
-    "blake2_simd": ("#0072b2", 2, ""),
+    "blake2b/s_simd": ("#0072b2", 2, ""),
     "libb2": ("#009e73", 2, ""),
     "OpenSSL's EVP": ("#cc79a7", 2, ""),
     "hashlib's C functions": ("#56b4e9", 2, "2 3"),

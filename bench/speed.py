@@ -9,21 +9,21 @@ Tables, as Markdown on standard output, and a plot:
 - kernel: one message of 1 MiB in memory, digested again and again.
 - short: messages of 0, 64 and 1,024 bytes in memory, digested again and again.
 - several: four messages of BLAKE2b-512 and eight of BLAKE2s-256, each of 64, 1,024 and 4,096 bytes, digested
-  one after another and in parallel, by this project (blake2_c_.._many) and by blake2_simd (hash_many).
+  one after another and in parallel, by this project (vulfsjor_ffi_.._many) and by blake2b/s_simd (hash_many).
 - tree: the roots of trees with leaves of 4 KiB, 64 KiB and 1 MiB over one message of 16 MiB in memory, next to
-  one stream over it; blake2_simd's root hashes its leaves by `hash_many`.
+  one stream over it; blake2b/s_simd's root hashes its leaves by `hash_many`.
 - plot: messages of 64 bytes to 1 MiB in memory, at each power of two.
 
 With --write all of them go into the documents: the tables to docs/SPEED.md, between its two marks, and the
 plot to docs/speed.svg.
 
-This project's code is that of dist/ for x86-64-v2 and for x86-64-v3: the program b2, and the static library blake2_c,
+This project's code is that of dist/ for x86-64-v2 and for x86-64-v3: the program b2, and the static library vulfsjor,
 whose functions C calls. In memory one loop in C (peers/clock.c) calls each library's function through a pointer,
 a digest a call, so each pays for one such call, and nothing is subtracted from any. "hashlib's C functions"
 are those that hashlib.blake2b and hashlib.blake2s of this Python run, called at their addresses in its
 module _blake2, so nothing of Python is counted; "hashlib through Python" is the same digest as a Python
 program gets it, with the turn of its loop. OpenSSL's algorithm is looked up once, and its context is used
-again. blake2_simd stands for the Rust crates blake2b_simd and blake2s_simd, which choose AVX2 at run time
+again. blake2b/s_simd stands for the Rust crates blake2b_simd and blake2s_simd, which choose AVX2 at run time
 if the processor has it; libb2 chooses among its functions likewise.
 
 Each digest is first compared with hashlib's. Then the candidates of a column are timed in turns, and the
@@ -51,7 +51,7 @@ from dataclasses import dataclass
 from typing import Callable
 
 TOP = os.path.dirname(os.path.dirname(os.path.abspath(__file__)))
-sys.path.insert(0, os.path.join(TOP, "tools"))
+sys.path.insert(0, os.path.join(TOP, "tests"))
 from blake2_kinds import FAMILIES, KINDS, Parser, at_least  # noqa: E402
 from oracle import tree_root  # noqa: E402
 import plot  # noqa: E402
@@ -152,13 +152,13 @@ def program_of(cpu):
 
 @functools.cache
 def library_of(cpu):
-    """The shared library over blake2_c for the processor, linked from dist/."""
+    """The shared library over vulfsjor for the processor, linked from dist/."""
     folder = os.path.join(OUT, cpu)
-    good, output = outcome([os.path.join(TOP, "c", "join.sh"), folder, text_of("blake2_c", cpu)])
+    good, output = outcome([os.path.join(TOP, "c", "join.sh"), folder, text_of("vulfsjor", cpu)])
     if not good:
-        sys.exit("speed: blake2_c was not linked: " + output)
+        sys.exit("speed: vulfsjor was not linked: " + output)
     sources = [os.path.join(PEERS, name) for name in ("ours.c", "several.c", "tree.c")]
-    return shared(cpu + "-blake2_c.so", [*sources, os.path.join(folder, "libblake2_c.a")])
+    return shared(cpu + "-vulfsjor.so", [*sources, os.path.join(folder, "libvulfsjor.a")])
 
 
 def compiled(name, words):
@@ -191,7 +191,7 @@ def blake2_simd():
     shutil.copytree(os.path.join(PEERS, "simd"), folder, dirs_exist_ok=True)
     good, _ = outcome(["cargo", "build", "--release", "--offline"] + DEBIAN_CRATES, folder)
     if not good:
-        say("blake2_simd is absent (librust-blake2b-simd-dev and librust-blake2s-simd-dev, and cargo)")
+        say("blake2b/s_simd is absent (librust-blake2b-simd-dev and librust-blake2s-simd-dev, and cargo)")
         return None, None
     release = os.path.join(folder, "target", "release")
     return os.path.join(release, "simd_sum"), os.path.join(release, "libsimd.so")
@@ -243,7 +243,7 @@ def programs():
         found["`b2sum`"] = lambda kind: ["b2sum"] if kind.word == "b512" else None
     if shutil.which("openssl"):
         found["`openssl dgst`"] = lambda kind: ["openssl", "dgst", "-" + kind.function]
-    for name, (program, _) in (("libb2", libb2()), ("blake2_simd", blake2_simd())):
+    for name, (program, _) in (("libb2", libb2()), ("blake2b/s_simd", blake2_simd())):
         if program:
             found[name] = lambda kind, program=program: [program, kind.word]
     return found
@@ -319,8 +319,8 @@ def libraries():
     """The functions to time in memory, by the names of their libraries and their kinds' words."""
     found = {}
     for cpu in CPUS:
-        found[f"ours: `blake2_c`, {cpu}"] = functions_of(library_of(cpu), "ours_")
-    for name, path in (("libb2", libb2()[1]), ("blake2_simd", blake2_simd()[1]), ("OpenSSL's EVP", openssl())):
+        found[f"ours: `vulfsjor`, {cpu}"] = functions_of(library_of(cpu), "ours_")
+    for name, path in (("libb2", libb2()[1]), ("blake2b/s_simd", blake2_simd()[1]), ("OpenSSL's EVP", openssl())):
         if path:
             found[name] = functions_of(path)
     inside = functions_of_hashlib()
@@ -493,8 +493,8 @@ def several_functions():
         found[f"ours: in parallel, {cpu}"] = functions_of(path, "several_")
     path = blake2_simd()[1]
     if path:
-        found["blake2_simd: one after another"] = functions_of(path, "each_")
-        found["blake2_simd: `hash_many`"] = functions_of(path, "several_")
+        found["blake2b/s_simd: one after another"] = functions_of(path, "each_")
+        found["blake2b/s_simd: `hash_many`"] = functions_of(path, "several_")
     return found
 
 
@@ -536,8 +536,8 @@ def tree_functions():
         single[f"ours: one stream, {cpu}"] = found.ours_blake2b512
     path = blake2_simd()[1]
     if path:
-        roots["blake2_simd: root by `hash_many`"] = ctypes.CDLL(path)
-        single["blake2_simd: one stream"] = ctypes.CDLL(path).blake2b512
+        roots["blake2b/s_simd: root by `hash_many`"] = ctypes.CDLL(path)
+        single["blake2b/s_simd: one stream"] = ctypes.CDLL(path).blake2b512
     return roots, single
 
 

@@ -10,7 +10,7 @@ Two tables, as Markdown on standard output, in 10^9 bytes a second by the clock,
 With --write both go into docs/SPEED.md, between the two marks for threads.
 
 The library is the one that c/install.sh installs from dist/, and `b2` the one that ./b2 builds from it, so nothing is
-proved here. Each root is first compared with the one that tools/oracle.py makes with hashlib. Then the candidates
+proved here. Each root is first compared with the one that tests/oracle.py makes with hashlib. Then the candidates
 of a table are timed in turns, and the best time of each counts. Leaves have 64 KiB. A peer that is absent is named on
 standard error and left out: Debian's package b3sum has it.
 
@@ -28,7 +28,7 @@ import speed
 from callers import installed
 from speed import OUT, TOP, Parser, at_least, say
 
-sys.path.insert(0, os.path.join(TOP, "tools"))
+sys.path.insert(0, os.path.join(TOP, "tests"))
 from oracle import tree_root  # noqa: E402
 
 MARKS = ("<!-- measured by bench/threads.py -->\n", "<!-- end of what bench/threads.py measured -->\n")
@@ -54,20 +54,20 @@ def function_of(library, name, *types):
 def functions(folder):
     """The functions over the library that is installed in this folder, by their names in C."""
     words = ["-I" + os.path.join(folder, "include"), os.path.join(TOP, "c", "threads.c"),
-             os.path.join(folder, "lib", "libblake2_c.a"), "-pthread"]
+             os.path.join(folder, "lib", "libvulfsjor.a"), "-pthread"]
     path = speed.shared("threads.so", words)
     if path is None:
         sys.exit("threads: a C compiler (cc) is needed")
-    one = ctypes.CDLL(os.path.join(folder, "lib", "libblake2_c.so"))
+    one = ctypes.CDLL(os.path.join(folder, "lib", "libvulfsjor.so"))
     several = ctypes.CDLL(path)
     memory = [ctypes.c_void_p, ctypes.c_size_t]
-    plain = one.blake2_c_tree_root
+    plain = one.vulfsjor_ffi_tree_root
     plain.argtypes = [ctypes.c_char_p, ctypes.c_size_t, *memory, *[ctypes.c_char_p, ctypes.c_size_t] * 2, ctypes.c_uint32]
     out = ctypes.create_string_buffer(SIZE)
 
     def root(*given):
         if plain(out, SIZE, *given, b"", 0, b"", 0, LEAF):
-            sys.exit("threads: blake2_c_tree_root failed")
+            sys.exit("threads: vulfsjor_ffi_tree_root failed")
         return out.raw
     return {"vulfsjor_tree_root": root,
             "vulfsjor_tree_root_threads": function_of(several, "vulfsjor_tree_root_threads", *memory),
@@ -121,9 +121,8 @@ def memory_table(found, message, wanted, turns):
 def file_table(found, path, length, wanted, turns):
     """The table of roots and digests of a file."""
     program = os.path.join(OUT, "b2")
-    if not speed.outcome([os.path.join(TOP, "b2"), "--build"])[0]:
+    if not speed.outcome([os.path.join(TOP, "b2"), "--build", program])[0]:
         sys.exit("threads: ./b2 --build failed")
-    shutil.copy(os.path.join(TOP, "out", "b2-" + printed([os.path.join(TOP, "tools", "processor.sh")])), program)
     command = [program, "tree", "b512", str(LEAF)]
     timers = {("`b2 tree`", 1): clocked(lambda: printed(command, path), wanted.hex())}
     for threads in THREADS:

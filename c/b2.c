@@ -3,7 +3,9 @@
  * function must do (rattle/libc/src/heap.rt, rattle/os/src/c.rt). None of this is proved.
  * tests/program.c tests each function.
  *
- * MAIN is the main of the assembly file, such as main_0_1_0_v3. */
+ * MAIN is the main of the assembly file, such as main_0_1_0_v3. If MAIN_V3 is defined, two files are
+ * linked: MAIN is that of the build for x86-64-v2 and MAIN_V3 the other, for processors on which
+ * choose.c finds level 3. */
 #include <errno.h>
 #include <stdbool.h>
 #include <stddef.h>
@@ -16,13 +18,22 @@
 
 int MAIN(void);
 
+#ifdef MAIN_V3
+int MAIN_V3(void);
+unsigned char vulfsjor_ffi_find(void);
+
+static int start(void) { return vulfsjor_ffi_find() == 3 ? MAIN_V3() : MAIN(); }
+#else
+static int start(void) { return MAIN(); }
+#endif
+
 static size_t count;
 static char **arguments;
 
 int main(int argc, char **argv) {
     count = (size_t)argc;
     arguments = argv;
-    return MAIN();
+    return start();
 }
 
 /* Copies argument i to the start of these `size` bytes and returns its length. Returns -1 if there

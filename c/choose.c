@@ -1,4 +1,4 @@
-/* The functions blake2_c_* of the library, by their own names. The code is in the assembly of
+/* The functions vulfsjor_ffi_* of the library, by their own names. The code is in the assembly of
  * dist/: on x86-64 twice, for x86-64-v2 and for x86-64-v3 processors, and on 64-bit ARM once. A
  * call jumps to the build that this processor and this system support. This file is tested, not
  * proved: every call passes through it on its way to the proved code.
@@ -17,7 +17,7 @@
  * CHOOSE_TEST 2 or 3 selects that build, whatever the processor, and 0 alternates between them
  * without a rule. CHOOSE_PROCESSOR is a header with a simulated processor, and CHOOSE_FUNCTIONS a
  * header with other functions. */
-#include "blake2_c.h"
+#include "vulfsjor.h"
 
 #include <stdlib.h>
 #include <unistd.h>
@@ -57,24 +57,24 @@
 #else
 
 /* 3 and 2 for the builds of these levels, or 0 before the first call. */
-__attribute__((visibility("hidden"))) unsigned char blake2_c_level;
+__attribute__((visibility("hidden"))) unsigned char vulfsjor_ffi_level;
 
 #define CALL(name)                                  \
     FUNCTION(name, VISIBILITY(name),                \
-             "cmpb $2, blake2_c_level(%rip)\n"      \
+             "cmpb $2, vulfsjor_ffi_level(%rip)\n"      \
              "ja " IN_BUILD(name, "v3") "\n"        \
              "je " IN_BUILD(name, "v2") "\n"        \
-             "call blake2_c_ask\n"                  \
+             "call vulfsjor_ffi_ask\n"                  \
              "cmpb $2, %al\n"                       \
              "ja " IN_BUILD(name, "v3") "\n"        \
              "jmp " IN_BUILD(name, "v2") "\n")
 
-/* Calls blake2_c_find and keeps the registers that hold arguments. The result is in al. */
+/* Calls vulfsjor_ffi_find and keeps the registers that hold arguments. The result is in al. */
 #define KEEP(register) "push " register "\n.cfi_adjust_cfa_offset 8\n"
 #define TAKE(register) "pop " register "\n.cfi_adjust_cfa_offset -8\n"
-FUNCTION("blake2_c_ask", ".hidden blake2_c_ask\n",
+FUNCTION("vulfsjor_ffi_ask", ".hidden vulfsjor_ffi_ask\n",
          KEEP("%rdi") KEEP("%rsi") KEEP("%rdx") KEEP("%rcx") KEEP("%r8") KEEP("%r9")
-         "call blake2_c_find\n"
+         "call vulfsjor_ffi_find\n"
          TAKE("%r9") TAKE("%r8") TAKE("%rcx") TAKE("%rdx") TAKE("%rsi") TAKE("%rdi")
          "ret\n")
 
@@ -119,11 +119,11 @@ static unsigned char level_here(void) {
 }
 
 static void keep(unsigned char level) {
-    __atomic_store_n(&blake2_c_level, level, __ATOMIC_RELAXED);
+    __atomic_store_n(&vulfsjor_ffi_level, level, __ATOMIC_RELAXED);
 }
 #elif CHOOSE_TEST
 static unsigned char level_here(void) { return CHOOSE_TEST; }
-static void keep(unsigned char level) { blake2_c_level = level; }
+static void keep(unsigned char level) { vulfsjor_ffi_level = level; }
 #else
 static unsigned turn;
 static unsigned char level_here(void) { return 2 + ((turn = turn * 1664525u + 1013904223u) >> 31); }
@@ -131,9 +131,9 @@ static void keep(unsigned char level) { (void)level; }
 #endif
 
 /* Looks for the level, keeps it and returns it. */
-__attribute__((used, visibility("hidden"))) unsigned char blake2_c_find(void) {
+__attribute__((used, visibility("hidden"))) unsigned char vulfsjor_ffi_find(void) {
     static const char refusal[] =
-        "blake2_c: this processor is below x86-64-v2, which the library needs\n";
+        "vulfsjor: this processor is below x86-64-v2, which the library needs\n";
     unsigned char level = level_here();
 
     if (!level) {
@@ -145,58 +145,58 @@ __attribute__((used, visibility("hidden"))) unsigned char blake2_c_find(void) {
 }
 #endif
 
-/* The functions that blake2_c.h declares: c/join.sh compares this list with the header and with the
+/* The functions that vulfsjor.h declares: c/join.sh compares this list with the header and with the
  * assembly. */
 #ifdef CHOOSE_FUNCTIONS
 #include CHOOSE_FUNCTIONS
 #else
-CALL("blake2_c_version")
-CALL("blake2_c_is_same")
+CALL("vulfsjor_ffi_version")
+CALL("vulfsjor_ffi_is_same")
 
-CALL("blake2_c_blake2b")
-CALL("blake2_c_blake2b_many")
-CALL("blake2_c_blake2b_init")
-CALL("blake2_c_blake2b_init_key")
-CALL("blake2_c_blake2b_init_block")
-CALL("blake2_c_blake2b_init_node")
-CALL("blake2_c_blake2b_update")
-CALL("blake2_c_blake2b_final")
-CALL("blake2_c_blake2b_verify")
-CALL("blake2_c_blake2b_set_last_node")
-CALL("blake2_c_blake2b_reset")
-CALL("blake2_c_blake2b_wipe")
-CALL("blake2_c_blake2b_count")
-CALL("blake2_c_blake2b_digest_size")
-CALL("blake2_c_blake2b_state_size")
+CALL("vulfsjor_ffi_blake2b")
+CALL("vulfsjor_ffi_blake2b_many")
+CALL("vulfsjor_ffi_blake2b_init_salt_personal")
+CALL("vulfsjor_ffi_blake2b_init_key")
+CALL("vulfsjor_ffi_blake2b_init_param")
+CALL("vulfsjor_ffi_blake2b_init_tree")
+CALL("vulfsjor_ffi_blake2b_update")
+CALL("vulfsjor_ffi_blake2b_final")
+CALL("vulfsjor_ffi_blake2b_verify")
+CALL("vulfsjor_ffi_blake2b_set_last_node")
+CALL("vulfsjor_ffi_blake2b_reset")
+CALL("vulfsjor_ffi_blake2b_wipe")
+CALL("vulfsjor_ffi_blake2b_count")
+CALL("vulfsjor_ffi_blake2b_digest_size")
+CALL("vulfsjor_ffi_blake2b_state_size")
 
-CALL("blake2_c_blake2s")
-CALL("blake2_c_blake2s_many")
-CALL("blake2_c_blake2s_init")
-CALL("blake2_c_blake2s_init_key")
-CALL("blake2_c_blake2s_init_block")
-CALL("blake2_c_blake2s_init_node")
-CALL("blake2_c_blake2s_update")
-CALL("blake2_c_blake2s_final")
-CALL("blake2_c_blake2s_verify")
-CALL("blake2_c_blake2s_set_last_node")
-CALL("blake2_c_blake2s_reset")
-CALL("blake2_c_blake2s_wipe")
-CALL("blake2_c_blake2s_count")
-CALL("blake2_c_blake2s_digest_size")
-CALL("blake2_c_blake2s_state_size")
+CALL("vulfsjor_ffi_blake2s")
+CALL("vulfsjor_ffi_blake2s_many")
+CALL("vulfsjor_ffi_blake2s_init_salt_personal")
+CALL("vulfsjor_ffi_blake2s_init_key")
+CALL("vulfsjor_ffi_blake2s_init_param")
+CALL("vulfsjor_ffi_blake2s_init_tree")
+CALL("vulfsjor_ffi_blake2s_update")
+CALL("vulfsjor_ffi_blake2s_final")
+CALL("vulfsjor_ffi_blake2s_verify")
+CALL("vulfsjor_ffi_blake2s_set_last_node")
+CALL("vulfsjor_ffi_blake2s_reset")
+CALL("vulfsjor_ffi_blake2s_wipe")
+CALL("vulfsjor_ffi_blake2s_count")
+CALL("vulfsjor_ffi_blake2s_digest_size")
+CALL("vulfsjor_ffi_blake2s_state_size")
 
-CALL("blake2_c_tree_root")
-CALL("blake2_c_tree_init")
-CALL("blake2_c_tree_update")
-CALL("blake2_c_tree_next_leaves")
-CALL("blake2_c_tree_update_leaves")
-CALL("blake2_c_tree_final")
-CALL("blake2_c_tree_wipe")
-CALL("blake2_c_tree_count")
-CALL("blake2_c_tree_leaf_length")
-CALL("blake2_c_tree_digest_size")
-CALL("blake2_c_tree_state_size")
-CALL("blake2_c_tree_leaf_count")
-CALL("blake2_c_tree_leaves")
-CALL("blake2_c_tree_root_of_leaves")
+CALL("vulfsjor_ffi_tree_root")
+CALL("vulfsjor_ffi_tree_init")
+CALL("vulfsjor_ffi_tree_update")
+CALL("vulfsjor_ffi_tree_next_leaves")
+CALL("vulfsjor_ffi_tree_update_leaves")
+CALL("vulfsjor_ffi_tree_final")
+CALL("vulfsjor_ffi_tree_wipe")
+CALL("vulfsjor_ffi_tree_count")
+CALL("vulfsjor_ffi_tree_leaf_length")
+CALL("vulfsjor_ffi_tree_digest_size")
+CALL("vulfsjor_ffi_tree_state_size")
+CALL("vulfsjor_ffi_tree_leaf_count")
+CALL("vulfsjor_ffi_tree_leaves")
+CALL("vulfsjor_ffi_tree_root_of_leaves")
 #endif

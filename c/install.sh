@@ -1,27 +1,29 @@
 #!/usr/bin/env bash
-# Installs the library blake2_c under a folder:
+# Installs the library vulfsjor under a folder:
 #
 #   c/install.sh [--cpu CPU] [--prove | --from DIST] FOLDER
 #   c/install.sh --uninstall FOLDER
 #
-#   FOLDER/lib/libblake2_c.a                  the static library
-#   FOLDER/lib/libblake2_c.so.VERSION         the shared one, with the links .so.0 and .so
-#   FOLDER/lib/libblake2_c-libb2.a            the static one, with libb2's functions by their own
+#   FOLDER/lib/libvulfsjor.a                  the static library, and libvulfsjor-static.a, a link
+#                                             to it by a name that no shared library has
+#   FOLDER/lib/libvulfsjor.so.VERSION         the shared one, with the links .so.0 and .so
+#   FOLDER/lib/libvulfsjor-libb2.a            the static one, with libb2's functions by their own
 #                                             names
-#   FOLDER/lib/libblake2_c-threads.a          roots of trees by several threads, which needs one of
+#   FOLDER/lib/libvulfsjor-threads.a          roots of trees by several threads, which needs one of
 #                                             the first two
-#   FOLDER/lib/pkgconfig/                     blake2_c.pc, blake2_c-static.pc, blake2_c-threads.pc
-#   FOLDER/lib/blake2_c-libb2/                libb2.a and pkgconfig/libb2.pc, for programs that
+#   FOLDER/lib/pkgconfig/                     vulfsjor.pc, vulfsjor-static.pc, vulfsjor-threads.pc
+#   FOLDER/lib/cmake/vulfsjor/                the package vulfsjor for CMake
+#   FOLDER/lib/vulfsjor-libb2/                libb2.a and pkgconfig/libb2.pc, for programs that
 #                                             look for libb2
-#   FOLDER/include/blake2_c.h                 the functions
-#   FOLDER/include/blake2_threads.h           those of libblake2_c-threads.a
-#   FOLDER/include/blake2_c-libb2/blake2.h    the same by the names of libb2
+#   FOLDER/include/vulfsjor.h                 the functions
+#   FOLDER/include/vulfsjor_threads.h         those of libvulfsjor-threads.a
+#   FOLDER/include/vulfsjor-libb2/blake2.h    the same by the names of libb2
 #
 # It assembles the files of dist/ for the machine that the C compiler (CC, otherwise cc) compiles
-# for, Linux on x86-64 or aarch64, in a second or two. It needs the compiler and its binutils. With
-# --prove it proves the crates and installs what they compile to instead of dist/. That needs the
-# toolchain's command rt too, and 10 to 20 minutes the first time. With --from it installs what
-# `tools/dist.sh make` has written to the folder DIST.
+# for, Linux on x86-64 or aarch64, in a second or two. It needs the compiler and its binutils. CC
+# may have several words, such as `ccache gcc`. With --prove it proves the crates and installs what
+# they compile to instead of dist/. That needs the toolchain's command rt too, and 10 to 20 minutes
+# the first time. With --from it installs what `tools/dist.sh make` has written to the folder DIST.
 #
 # On x86-64 the library contains the code for x86-64-v2 and for x86-64-v3 processors, and chooses at
 # run time. With --cpu it contains only the code for CPU, x86-64-v2 or x86-64-v3, and runs on no
@@ -40,7 +42,8 @@ usage() {
     exit 2
 }
 
-cc=${CC:-cc} cpu= dist=$top/dist prove=no uninstall=no
+read -ra cc <<<"${CC:-cc}"
+cpu= dist=$top/dist prove=no uninstall=no
 while [ $# -gt 0 ]; do
     case $1 in
         --cpu) [[ ${2-} =~ ^x86-64-v[23]$ ]] || usage; cpu=$2; shift 2 ;;
@@ -57,18 +60,21 @@ done
 folder=$(realpath -ms -- "$1")
 libdir=$(cd / && realpath -ms -- "$([[ ${LIBDIR:-lib} == /* ]] || echo "$folder/")${LIBDIR:-lib}")
 include=$folder/include
-beside=$libdir/blake2_c-libb2
+beside=$libdir/vulfsjor-libb2
+package=$libdir/cmake/vulfsjor
 root=${DESTDIR:-}
 
 # The version, as the header has it.
-version=$(sed -n 's/^#define VULFSJOR_VERSION "\(.*\)"$/\1/p' "$here/include/blake2_c.h")
+version=$(sed -n 's/^#define VULFSJOR_VERSION "\(.*\)"$/\1/p' "$here/include/vulfsjor.h")
 
-files=("$libdir/libblake2_c.a" "$libdir/libblake2_c.so.$version" "$libdir/libblake2_c.so.0"
-    "$libdir/libblake2_c.so" "$libdir/libblake2_c-libb2.a" "$libdir/pkgconfig/blake2_c.pc"
-    "$libdir/pkgconfig/blake2_c-static.pc" "$beside/libb2.a" "$beside/pkgconfig/libb2.pc"
-    "$libdir/libblake2_c-threads.a" "$libdir/pkgconfig/blake2_c-threads.pc"
-    "$include/blake2_threads.h" "$include/blake2_c.h" "$include/blake2_c-libb2/blake2.h")
-folders=("$beside/pkgconfig" "$beside" "$include/blake2_c-libb2")
+files=("$libdir/libvulfsjor.a" "$libdir/libvulfsjor.so.$version" "$libdir/libvulfsjor.so.0"
+    "$libdir/libvulfsjor.so" "$libdir/libvulfsjor-libb2.a" "$libdir/pkgconfig/vulfsjor.pc"
+    "$libdir/pkgconfig/vulfsjor-static.pc" "$beside/libb2.a" "$beside/pkgconfig/libb2.pc"
+    "$libdir/libvulfsjor-threads.a" "$libdir/pkgconfig/vulfsjor-threads.pc"
+    "$libdir/libvulfsjor-static.a" "$package/vulfsjor-config.cmake"
+    "$package/vulfsjor-config-version.cmake"
+    "$include/vulfsjor_threads.h" "$include/vulfsjor.h" "$include/vulfsjor-libb2/blake2.h")
+folders=("$package" "$beside/pkgconfig" "$beside" "$include/vulfsjor-libb2")
 if [ "$uninstall" = yes ]; then
     for name in "${files[@]}"; do rm -f -- "$root$name"; done
     for name in "${folders[@]}"; do
@@ -83,17 +89,17 @@ fail() {
     exit 1
 }
 
-command -v "$cc" >/dev/null ||
-    fail "$cc is not on the PATH: a C compiler is needed, and its binutils"
+command -v "${cc[0]-}" >/dev/null ||
+    fail "${cc[0]-} is not on the PATH: a C compiler is needed, and its binutils"
 # The texts for the machine that it compiles for.
-machine=$("$cc" -dumpmachine) texts=()
+machine=$("${cc[@]}" -dumpmachine) texts=()
 case $machine in
     *x32 | *ilp32) ;;
     x86_64-*linux*)
         cpus=${cpu:-x86-64-v2 x86-64-v3}
-        for level in $cpus; do texts+=("x86_64/blake2_c-${level#x86-64-}.s"); done
+        for level in $cpus; do texts+=("x86_64/vulfsjor-${level#x86-64-}.s"); done
         ;;
-    aarch64-*linux*) [ -n "$cpu" ] || cpus=aarch64 texts=(aarch64/blake2_c.s) ;;
+    aarch64-*linux*) [ -n "$cpu" ] || cpus=aarch64 texts=(aarch64/vulfsjor.s) ;;
 esac
 [ ${#texts[@]} -gt 0 ] || fail "there is no build for $machine${cpu:+ and $cpu}"
 work=$(mktemp -d)
@@ -109,22 +115,23 @@ fi
 
 install -d "$root$libdir/pkgconfig" "${folders[@]/#/$root}"
 install -m 644 "$work/lib"/*.a "$root$libdir/"
-install -m 755 "$work/lib/libblake2_c.so.$version" "$root$libdir/"
-cp -P "$work/lib/libblake2_c.so.0" "$work/lib/libblake2_c.so" "$root$libdir/"
-ln -sf ../libblake2_c-libb2.a "$root$beside/libb2.a"
-install -m 644 "$here/include/blake2_c.h" "$here/include/blake2_threads.h" "$root$include/"
-install -m 644 "$here/include/libb2/blake2.h" "$root$include/blake2_c-libb2/"
+install -m 755 "$work/lib/libvulfsjor.so.$version" "$root$libdir/"
+cp -P "$work/lib/libvulfsjor.so.0" "$work/lib/libvulfsjor.so" "$root$libdir/"
+ln -sf libvulfsjor.a "$root$libdir/libvulfsjor-static.a"
+ln -sf ../libvulfsjor-libb2.a "$root$beside/libb2.a"
+install -m 644 "$here/include/vulfsjor.h" "$here/include/vulfsjor_threads.h" "$root$include/"
+install -m 644 "$here/include/libb2/blake2.h" "$root$include/vulfsjor-libb2/"
 
 # Writes a file for pkg-config: FILE NAME VERSION WHAT HEADERS WORDS. It finds the folders from
 # where it stands, so that all may be moved together.
 write_words() {
     local from
     from=$(dirname "$1")
-    cat >"$root$1" <<END
+    install -m 644 /dev/stdin "$root$1" <<END
 prefix=\${pcfiledir}/$(realpath -ms --relative-to="$from" "$folder")
 libdir=\${pcfiledir}/$(realpath -ms --relative-to="$from" "$libdir")
 includedir=\${prefix}/include
-libb2dir=\${includedir}/blake2_c-libb2
+libb2dir=\${includedir}/vulfsjor-libb2
 
 Name: $2
 Description: BLAKE2b and BLAKE2s, proved, for $cpus$4
@@ -133,13 +140,21 @@ Cflags: -I$5
 Libs: $6
 END
 }
-write_words "$libdir/pkgconfig/blake2_c.pc" blake2_c "$version" "" '${includedir}' \
-    '-L${libdir} -lblake2_c'
-write_words "$libdir/pkgconfig/blake2_c-static.pc" blake2_c-static "$version" \
-    ", linked statically" '${includedir}' '${libdir}/libblake2_c.a'
-write_words "$libdir/pkgconfig/blake2_c-threads.pc" blake2_c-threads "$version" \
+write_words "$libdir/pkgconfig/vulfsjor.pc" vulfsjor "$version" "" '${includedir}' \
+    '-L${libdir} -lvulfsjor'
+write_words "$libdir/pkgconfig/vulfsjor-static.pc" vulfsjor-static "$version" \
+    ", linked statically" '${includedir}' '-L${libdir} -lvulfsjor-static'
+write_words "$libdir/pkgconfig/vulfsjor-threads.pc" vulfsjor-threads "$version" \
     ", with trees by several threads" '${includedir}' \
-    '-L${libdir} -l:libblake2_c-threads.a -l:libblake2_c.a -pthread'
+    '-L${libdir} -lvulfsjor-threads -lvulfsjor-static -pthread'
 write_words "$beside/pkgconfig/libb2.pc" libb2 0.98.1 ", a drop-in replacement for libb2" \
-    '${libb2dir}' '-L${libdir}/blake2_c-libb2 -lb2'
+    '${libb2dir}' '-L${libdir}/vulfsjor-libb2 -lb2'
+
+# Writes a file of the package for CMake, which finds the folders in the same way.
+headers=$(realpath -ms --relative-to="$package" "$include")
+for name in vulfsjor-config.cmake vulfsjor-config-version.cmake; do
+    text=$(<"$here/$name.in")
+    text=${text//@VERSION@/"$version"}
+    install -m 644 /dev/stdin "$root$package/$name" <<<"${text//@INCLUDEDIR@/"$headers"}"
+done
 echo "install.sh: installed under $root$folder" >&2

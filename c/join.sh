@@ -5,18 +5,19 @@
 #                                               run time
 #   c/join.sh FOLDER ONE.s                      one build, for x86-64 or aarch64
 #
-#   FOLDER/libblake2_c.a
-#   FOLDER/libblake2_c.so.VERSION, with the links libblake2_c.so.0 and libblake2_c.so
-#   FOLDER/libblake2_c-libb2.a               the first, with libb2's functions by their own names
-#   FOLDER/libblake2_c-threads.a             roots of trees by several threads, over either of the
+#   FOLDER/libvulfsjor.a
+#   FOLDER/libvulfsjor.so.VERSION, with the links libvulfsjor.so.0 and libvulfsjor.so
+#   FOLDER/libvulfsjor-libb2.a               the first, with libb2's functions by their own names
+#   FOLDER/libvulfsjor-threads.a             roots of trees by several threads, over either of the
 #                                            first two
 #
-# The functions are those that include/blake2_c.h declares: assembly, or choose.c, with one more or
+# The functions are those that include/vulfsjor.h declares: assembly, or choose.c, with one more or
 # one less is refused. choose.c says how a call goes, and what --test is. It needs a C compiler (CC,
-# or cc if that is not set), which may be one for another machine, and its binutils.
+# or cc if that is not set), which may have several words and be one for another machine, and its
+# binutils.
 set -eu
 here=$(dirname "$(readlink -f "$0")")
-cc=${CC:-cc}
+read -ra cc <<<"${CC:-cc}"
 words=()
 if [ $# -ge 2 ] && [ "$1" = --test ]; then
     words=("-DCHOOSE_TEST=$2")
@@ -29,24 +30,24 @@ fi
 folder=$1
 shift
 # The version, as the header has it.
-version=$(sed -n 's/^#define VULFSJOR_VERSION "\(.*\)"$/\1/p' "$here/include/blake2_c.h")
+version=$(sed -n 's/^#define VULFSJOR_VERSION "\(.*\)"$/\1/p' "$here/include/vulfsjor.h")
 work=$(mktemp -d)
 trap 'rm -rf "$work"' EXIT
 
-compile() { "$cc" -std=c99 -O2 -fPIC -ffunction-sections -c "$@"; }
+compile() { "${cc[@]}" -std=c99 -O2 -fPIC -ffunction-sections -c "$@"; }
 
 # An archive of these objects, by the compiler's binutils.
-archive() { "$("$cc" -print-prog-name=ar)" rcsD "$@"; }
+archive() { "$("${cc[@]}" -print-prog-name=ar)" rcsD "$@"; }
 
 # Whether these functions, from standard input, are those of the header.
 are_functions() {
     LC_ALL=C sort | diff "$work/names" - >&2 || {
-        echo "join.sh: blake2_c.h and $1 have different functions, as shown above" >&2
+        echo "join.sh: vulfsjor.h and $1 have different functions, as shown above" >&2
         exit 1
     }
 }
 
-grep -o 'blake2_c_[a-z0-9_]* *(' "$here/include/blake2_c.h" | tr -d ' (' |
+grep -o 'vulfsjor_ffi_[a-z0-9_]* *(' "$here/include/vulfsjor.h" | tr -d ' (' |
     LC_ALL=C sort -u >"$work/names"
 sed -n 's/^CALL("\(.*\)")$/\1/p' "$here/choose.c" | are_functions choose.c
 objects=()
@@ -54,7 +55,7 @@ for text; do
     # After each function's name come the version and the build.
     sed -n "s/^\t\.globl\t\(.*\)_${version//./_}_[a-z0-9]*\$/\1/p" "$text" | are_functions "$text"
     objects+=("$work/build_${#objects[@]}.o")
-    "$cc" -c "$text" -o "${objects[-1]}"
+    "${cc[@]}" -c "$text" -o "${objects[-1]}"
 done
 if [ $# -eq 1 ]; then
     one=$(sed -n 's/^\t\.globl\t.*_//p;T;q' "$1")
@@ -65,15 +66,15 @@ compile -I"$here/include" "${words[@]}" "$here/choose.c" -o "$work/choose.o"
 compile -I"$here/include" "${words[@]}" -DCHOOSE_SHOWN "$here/choose.c" -o "$work/shown.o"
 compile "$here/libb2/libb2.c" -o "$work/libb2.o"
 compile -pthread -I"$here/include" "$here/threads.c" -o "$work/threads.o"
-rm -f "$folder"/libblake2_c*.a
-archive "$folder/libblake2_c.a" "$work/choose.o" "${objects[@]}"
-archive "$folder/libblake2_c-libb2.a" "$work/libb2.o" "$work/choose.o" "${objects[@]}"
-archive "$folder/libblake2_c-threads.a" "$work/threads.o"
+rm -f "$folder"/libvulfsjor*.a
+archive "$folder/libvulfsjor.a" "$work/choose.o" "${objects[@]}"
+archive "$folder/libvulfsjor-libb2.a" "$work/libb2.o" "$work/choose.o" "${objects[@]}"
+archive "$folder/libvulfsjor-threads.a" "$work/threads.o"
 
-{ echo 'BLAKE2_C_0 {' && echo 'global:' && sed 's/$/;/' "$work/names" &&
+{ echo 'VULFSJOR_0 {' && echo 'global:' && sed 's/$/;/' "$work/names" &&
     echo 'local: *; };'; } >"$work/versions"
-"$cc" -shared -o "$folder/libblake2_c.so.$version" "$work/shown.o" "${objects[@]}" \
-    -Wl,-soname,libblake2_c.so.0 -Wl,--version-script="$work/versions" -Wl,-z,defs -Wl,-z,relro \
+"${cc[@]}" -shared -o "$folder/libvulfsjor.so.$version" "$work/shown.o" "${objects[@]}" \
+    -Wl,-soname,libvulfsjor.so.0 -Wl,--version-script="$work/versions" -Wl,-z,defs -Wl,-z,relro \
     -Wl,-z,now -Wl,-z,noexecstack
-ln -sf "libblake2_c.so.$version" "$folder/libblake2_c.so.0"
-ln -sf libblake2_c.so.0 "$folder/libblake2_c.so"
+ln -sf "libvulfsjor.so.$version" "$folder/libvulfsjor.so.0"
+ln -sf libvulfsjor.so.0 "$folder/libvulfsjor.so"

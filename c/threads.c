@@ -1,9 +1,9 @@
-/* See include/blake2_threads.h. The functions of the library are proved, and so is that the joined
- * digests of ranges have the root of the message, however it is cut. That this file cuts a message
+/* See include/vulfsjor_threads.h. The functions of the library are proved, and so is that the
+ * joined digests of ranges have the root of the message, however it is cut. That this file cuts a message
  * without a gap, stores each digest where it belongs and waits for its threads is tested
  * (tests/threads.c, tests/thread_faults.c). */
 #define _GNU_SOURCE
-#include "blake2_threads.h"
+#include "vulfsjor_threads.h"
 
 #include <errno.h>
 #include <fcntl.h>

@@ -4,7 +4,10 @@
  * Input is a `Uint8Array`, any other view or an `ArrayBuffer`; digests are new `Uint8Array`s. A
  * string is refused: `utf8(text)` encodes it. Values of another type, unknown options and further
  * arguments throw a `TypeError`; lengths and numbers out of bounds throw a `RangeError`. A call
- * that is refused changes nothing.
+ * that is refused changes nothing. Further arguments are ignored by `hex`, `fromHex` and `utf8`, so
+ * that `map` can call them, and by `wipe` and `load`.
+ *
+ * These types need `es2018`, and neither `dom` nor the types of node.
  */
 
 declare global {
@@ -85,8 +88,8 @@ export interface LeavesOptions {
 /** How many workers hash. */
 export interface ThreadsOptions {
   /**
-   * The maximum number of workers, 1 to 256. The default 1 hashes on the calling thread, as do
-   * leaves longer than 64 MiB.
+   * The maximum number of workers, up to 256; 0 is one for each processor. The default 1 hashes on
+   * the calling thread, as do leaves longer than 64 MiB.
    */
   threads?: number | undefined;
 }
@@ -99,11 +102,36 @@ export interface StreamOptions {
    */
   onProgress?: ((bytes: number, total: number | undefined) => void) | undefined;
   /** Stops the call: the promise rejects with the signal's reason. */
-  signal?: AbortSignal | undefined;
+  signal?: AbortSignalLike | undefined;
+}
+
+/** An `AbortSignal`. */
+export interface AbortSignalLike {
+  readonly aborted: boolean;
+  addEventListener(type: "abort", listener: () => void): void;
+  removeEventListener(type: "abort", listener: () => void): void;
+}
+
+/** A `Blob`, such as a `File`. */
+export interface BlobLike {
+  readonly size: number;
+  readonly type: string;
+  slice(start?: number, end?: number): BlobLike;
+  arrayBuffer(): Promise<ArrayBuffer>;
+}
+
+/** A `ReadableStream` of bytes. */
+export interface ReadableStreamLike {
+  readonly locked: boolean;
+  getReader(): {
+    read(): Promise<{ done: boolean; value?: Bytes | undefined }>;
+    cancel(reason?: unknown): Promise<void>;
+    releaseLock(): void;
+  };
 }
 
 /** A source of bytes: a file, the body of a response, or a stream of node. */
-export type Source = Blob | ReadableStream<Bytes> | AsyncIterable<Bytes>;
+export type Source = BlobLike | ReadableStreamLike | AsyncIterable<Bytes>;
 
 /** Returns the BLAKE2b digest of a message. */
 export function blake2b(message: Bytes, options?: NodeOptions): Uint8Array;
@@ -158,7 +186,7 @@ export function blake2sStream(
 ): Promise<Uint8Array>;
 /**
  * Returns the `treeRoot` of everything that a source contains, which is read as by `blake2bStream`.
- * With `threads` above 1, workers hash the leaves, and the promise rejects if one of them fails.
+ * If `threads` is not 1, workers hash the leaves, and the promise rejects if one of them fails.
  * The digests of all leaves are in memory until the end, 64 bytes each.
  */
 export function treeRootStream(
@@ -223,8 +251,8 @@ export function fromHex(text: string): Uint8Array;
 export function utf8(text: string): Uint8Array;
 
 /**
- * Compiles the library in advance, off the calling thread. Otherwise the first call compiles it,
- * which takes 10 to 30 ms.
+ * Compiles the library in advance, off the calling thread. Otherwise the first call compiles it on
+ * its own thread.
  */
 export function load(): Promise<void>;
 

@@ -11,18 +11,18 @@ from setuptools import Extension, setup
 from setuptools.command.build_ext import build_ext
 
 COPIES = {
-    "src/blake2_c.h": "../c/include/blake2_c.h",
+    "src/vulfsjor.h": "../c/include/vulfsjor.h",
     "src/choose.c": "../c/choose.c",
-    "src/aarch64/blake2_c.s": "../dist/aarch64/blake2_c.s",
-    "src/x86_64/blake2_c-v2.s": "../dist/x86_64/blake2_c-v2.s",
-    "src/x86_64/blake2_c-v3.s": "../dist/x86_64/blake2_c-v3.s",
+    "src/aarch64/vulfsjor.s": "../dist/aarch64/vulfsjor.s",
+    "src/x86_64/vulfsjor-v2.s": "../dist/x86_64/vulfsjor-v2.s",
+    "src/x86_64/vulfsjor-v3.s": "../dist/x86_64/vulfsjor-v3.s",
 }
 
 # The texts of the library by platform. choose.c has its functions by their own names; on x86-64 a
 # call goes to the build that the processor runs.
 TEXTS = {
-    "linux-x86_64": ["src/x86_64/blake2_c-v2.s", "src/x86_64/blake2_c-v3.s"],
-    "linux-aarch64": ["src/aarch64/blake2_c.s"],
+    "linux-x86_64": ["src/x86_64/vulfsjor-v2.s", "src/x86_64/vulfsjor-v3.s"],
+    "linux-aarch64": ["src/aarch64/vulfsjor.s"],
 }
 
 
@@ -40,6 +40,10 @@ if platform not in TEXTS or sys.maxsize < 2**32:
     platforms = " and ".join(TEXTS)
     sys.exit(f"setup.py: vulfsjor is assembly for {platforms}, and has none for {platform}")
 if not pathlib.Path("PKG-INFO").exists():
+    for needed in COPIES.values():
+        if not pathlib.Path(needed).exists():
+            sys.exit(f"setup.py: {needed} is missing: build in a clone of the repository, since the "
+                     "package shares files with c/ and dist/, or from a source distribution")
     try:
         refresh_copies()
     except OSError as error:
@@ -61,7 +65,7 @@ setup(
         "vulfsjor._library",
         ["src/library.c", "src/trees.c", "src/choose.c", *TEXTS[platform]],
         include_dirs=["src"],
-        depends=["src/library.h", "src/blake2_c.h"],
+        depends=["src/library.h", "src/vulfsjor.h"],
         # Clang warns of each option that means nothing for assembly. LTO loses the assembly of
         # choose.c.
         extra_compile_args=["-std=c99", "-Wall", "-Wextra", "-fvisibility=hidden", "-fno-lto",

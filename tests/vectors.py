@@ -27,12 +27,10 @@ import random
 import struct
 import sys
 
-HERE = os.path.dirname(os.path.abspath(__file__))
-sys.path.append(os.path.join(HERE, "..", "tools"))
-from blake2_kinds import FAMILIES, Parser, at_least  # noqa: E402
-from oracle import WORDS, Tree, parameter_words, range_digests, root_of_leaves, tree_root  # noqa: E402
+from blake2_kinds import FAMILIES, Parser, at_least
+from oracle import WORDS, Tree, parameter_words, range_digests, root_of_leaves, tree_root
 
-FILE = os.path.join(HERE, "vectors.json")
+FILE = os.path.join(os.path.dirname(os.path.abspath(__file__)), "vectors.json")
 NUMBERS = ("fanout", "depth", "leaf_size", "node_offset", "node_depth", "inner_size", "last_node")
 STARTS = {"key": 2, "salt": 3, "person": 5}
 CHUNK = bytes((i + i // 256) % 256 for i in range(1 << 16))
@@ -40,7 +38,7 @@ CHUNK = bytes((i + i // 256) % 256 for i in range(1 << 16))
 
 def filler(start, length):
     """The pattern of this length."""
-    chunks = (CHUNK.translate(bytes((start + i + byte) % 256 for byte in range(256)))
+    chunks = (CHUNK[:length].translate(bytes((start + i + byte) % 256 for byte in range(256)))
               for i in range(-(-length // len(CHUNK))))
     return b"".join(chunks)[:length]
 

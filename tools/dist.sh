@@ -12,13 +12,12 @@
 # toolchain and less than a second.
 #
 # `check` needs the tools whose hash MANIFEST has, of the kit that it names or of another. With other
-# tools, or none, it does what `current` does and says so. Its last line is 'N passed, M failed, K
-# skipped'. The status is 1 if something failed.
+# tools, or none, it does what `current` does and says so.
 set -euo pipefail
-source "$(dirname "$(readlink -f "$0")")/checks.sh"
+source "$(dirname "$(readlink -f "$0")")/../tests/tap.sh"
 manifest=$top/dist/MANIFEST
-files=(aarch64/b2.s aarch64/blake2_c.s wasm/blake2_c.wasm
-    x86_64/b2-v2.s x86_64/b2-v3.s x86_64/blake2_c-v2.s x86_64/blake2_c-v3.s)
+files=(aarch64/b2.s aarch64/vulfsjor.s wasm/vulfsjor.wasm
+    x86_64/b2-v2.s x86_64/b2-v3.s x86_64/vulfsjor-v2.s x86_64/vulfsjor-v3.s)
 source "$top/tools/kit.sh"
 
 stop() {
@@ -28,11 +27,14 @@ stop() {
 
 usage() { sed -n '2,/^set /{/^set /d;s/^#\{0,1\} \{0,1\}//;p}' "$0"; }
 
+# The crate that a file of dist/ is made of.
+crate_of() { case ${1##*/} in b2*) echo b2 ;; *) echo blake2_ffi ;; esac; }
+
 # A hash of all that decides what is compiled except the toolchain. A line that is a comment decides
 # nothing.
 sources() {
     local folders
-    mapfile -t folders < <(crates_of blake2_c b2 | sort -u | sed 's|.*|crates/&/src|')
+    mapfile -t folders < <(crates_of blake2_ffi b2 | sort -u | sed 's|.*|crates/&/src|')
     cd "$top"
     {
         find "${folders[@]}" -name '*.rt' | LC_ALL=C sort | while IFS= read -r file; do
@@ -62,8 +64,8 @@ has_same_tools() { [ "$(said tools)" = "$(hash_of_tools)" ]; }
 # chain of them. aarch64_attributes.csv names the functions for LLVM. A name in it that is not in
 # the code makes clang print a line, and then the build fails.
 build() {
-    local to=$1/$2 file=$2 crate=$3 room=$work/$3 kind=(--crate-type staticlib) more=() target cpu \
-        end
+    local to=$1/$2 file=$2 crate kind=(--crate-type staticlib) more=() room target cpu end
+    crate=$(crate_of "$file") room=$work/$crate
     case $file in
         x86_64/*-v[23].s) target=x86_64-unknown-linux-gnu cpu=x86-64-${file: -4:2} \
             end=${file: -4:2} ;;
@@ -100,14 +102,13 @@ build() {
 make() {
     local folder=$1 crate file lane lanes=() status=0
     shift
-    for crate in blake2_c b2; do
-        [[ " $*" == */"$crate"[-.]* ]] || continue
+    for crate in $(for file; do crate_of "$file"; done | sort -ur); do
         mkdir "$work/$crate"
         prove_libraries "$crate" "$work/log" || stop "the crates below $crate are not proved"
     done
-    for crate in blake2_c b2; do
+    for crate in blake2_ffi b2; do
         for file; do
-            [[ $file != */"$crate"[-.]* ]] || build "$folder" "$file" "$crate"
+            [ "$(crate_of "$file")" != "$crate" ] || build "$folder" "$file"
         done &
         lanes+=($!)
     done

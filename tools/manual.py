@@ -10,7 +10,7 @@ import shutil
 import subprocess
 import sys
 
-from blake2_kinds import TOP, read, version
+from sources import TOP, read, version
 
 MANUAL = os.path.join(TOP, "docs", "b2.1")
 DATE = "2026-11-25"
@@ -47,7 +47,7 @@ def manual():
     """The man page."""
     made = [f'.\\" Made from docs/PROGRAM.md by tools/manual.py.\n.TH B2 1 {DATE} "Vulfsjor {version()}"',
             f".SH NAME\n{NAME}"]
-    for section in re.split(r"^## ", read("docs", "PROGRAM.md"), flags=re.MULTILINE)[1:]:
+    for section in re.split(r"^## ", read("docs/PROGRAM.md"), flags=re.MULTILINE)[1:]:
         title, text = section.split("\n", 1)
         if title not in LEFT_OUT:
             parts = [part for part in re.split(r"\n\n+", text.strip("\n"))]

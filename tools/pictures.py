@@ -35,11 +35,12 @@ text { font: 14px system-ui, sans-serif; fill: #1f2328 }
 LAYERS = [
     ("yours", "Your program", "C, C++, Rust, Python, JavaScript"),
     ("tested", "Packages and threads", "rust/, python/, js/, c/threads.c: check arguments, cut ranges, start threads"),
-    ("tested", "C header", "blake2_c.h, for C, C++ and Python: checks for null pointers, calls the exports"),
-    ("tested", "Chooser", "choose.c, and processor.rs for Rust: pick the code for x86-64-v2 or -v3 at run time"),
-    ("proved", "Exports", "blake2_c: one contract for each function that C, Rust or JavaScript calls"),
-    ("proved", "Hashers, MACs, trees", "blake2, blake2_tree, blake2_plain: any sequence of calls"),
-    ("proved", "Compression", "blake2_words, blake2_rows: F, parameter block, SIMD"),
+    ("tested", "C header", "vulfsjor.h, for C, C++ and Python: checks for null pointers, calls the exports"),
+    ("tested", "Chooser", "c/choose.c, and processor.rs for Rust: pick the code for x86-64-v2 or -v3 at run time"),
+    ("tested", "Rewriter of WebAssembly", "js/tools/lower.mjs, for JavaScript: from a 64-bit to a 32-bit memory"),
+    ("proved", "Exports", "blake2_ffi: one contract for each function that C, Rust or JavaScript calls"),
+    ("proved", "Hashers, MACs, trees", "blake2, blake2_tree, blake2_state: any sequence of calls"),
+    ("proved", "Compression", "blake2_compress, blake2_simd: F, parameter block, SIMD"),
     ("standard", "Definitions", "specs/: BLAKE2 in the terms of the standard; the contracts cite them"),
     ("yours", "RFC 7693 and the BLAKE2 document", "the standard"),
 ]

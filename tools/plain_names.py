@@ -3,8 +3,8 @@
 
     tools/plain_names.py _0_1_0_v3 <module.s >file.s
 
-Rattle's names stand in quotes, as "blake2_words::many::blake2b::outputs::<=64>", which not every assembler takes. This one
-becomes blake2_words..many..blake2b..outputs..64_0_1_0_v3. Exported names and local labels get the end too, so that several
+Rattle's names stand in quotes, as "blake2_compress::many::blake2b::outputs::<=64>", which not every assembler takes. This one
+becomes blake2_compress..many..blake2b..outputs..64_0_1_0_v3. Exported names and local labels get the end too, so that several
 such texts can stand in one program, and in one run of an assembler. Exported names are hidden: a program's objects see
 them, and a shared library that is linked from them does not export them. Nothing else changes: the instructions stay as
 they are, and so do the names of functions elsewhere, such as memcpy.

@@ -4,20 +4,17 @@
 An item of crates/NAME/src/ is shown with its doc comment, its signature and its clauses, and a
 definition of crates/NAME/specs/ with its comment. Links lead to the definitions that they name.
 The sources are read in the layout of `rt fmt`. A public item without a doc comment is an error,
-and so is a public definition without a comment.
+and so is a public definition without a comment. Nothing is written then.
 
-usage: tools/reference.py [--check]
-
-  --check  writes nothing, but prints one line for each page that is not current
+usage: tools/reference.py
 """
-import glob
 import os
 import re
+import shutil
 import sys
 from itertools import groupby, takewhile
 
-from blake2_kinds import TOP, Parser
-from sources import Definitions, anchor, exported, modules, read
+from sources import TOP, Definitions, Unreadable, anchor, exported, modules, read
 
 FOLDER = "docs/reference"
 NOTE = "<!-- Written by tools/reference.py from the sources: do not edit. -->"
@@ -59,7 +56,11 @@ class Page:
         impls = {}
         for item in module.items:
             if item.kind == "impl":
-                trait, name = IMPL.match(" ".join(item.head)).groups()
+                match = IMPL.match(" ".join(item.head))
+                if not match:
+                    raise Unreadable(f"{module.file}:{item.number}: tools/reference.py finds no type in "
+                                     f"{item.head[0]!r}")
+                trait, name = match.groups()
                 path = self.paths.get((module.path, name)) or types.get(name)
                 if trait and path:
                     impls.setdefault(f"Traits of `{path}`", []).append(item)
@@ -185,36 +186,31 @@ def index(pages, definitions):
             yield f"- {letter}: {', '.join(links)}"
 
 
-def write(texts, others):
-    """Writes the pages, and removes the others of the folder."""
-    os.makedirs(f"{TOP}/{FOLDER}", exist_ok=True)
-    for name in others:
-        os.remove(f"{TOP}/{FOLDER}/{name}")
+def pages():
+    """The pages of the crates, and the definitions of all."""
+    crates = re.findall(r"^(\w+).*:", read("crates.txt"), re.MULTILINE)
+    definitions = Definitions(crates)
+    return [page for page in (Page(crate, definitions) for crate in crates) if page.titles], definitions
+
+
+def main():
+    if sys.argv[1:]:
+        sys.exit("usage: tools/reference.py")
+    try:
+        found, definitions = pages()
+    except Unreadable as error:
+        sys.exit(str(error))
+    wrong = [line for page in found for line in page.wrong]
+    if wrong:
+        sys.exit("\n".join(wrong))
+    texts = {f"{page.crate}.md": page.text(found) for page in found}
+    texts["README.md"] = "\n".join(index(found, definitions)) + "\n"
+    shutil.rmtree(f"{TOP}/{FOLDER}", ignore_errors=True)
+    os.makedirs(f"{TOP}/{FOLDER}")
     for name, text in texts.items():
         with open(f"{TOP}/{FOLDER}/{name}", "w", encoding="utf-8") as file:
             file.write(text)
 
 
-def main():
-    parser = Parser(description=__doc__.split("\n\n")[0])
-    parser.add_argument("--check", action="store_true",
-                        help="write nothing, but say which pages are not current")
-    given = parser.parse_args()
-    crates = re.findall(r"^(\w+).*:", read("crates.txt"), re.MULTILINE)
-    definitions = Definitions(crates)
-    pages = [page for page in (Page(crate, definitions) for crate in crates) if page.titles]
-    texts = {f"{page.crate}.md": page.text(pages) for page in pages}
-    texts["README.md"] = "\n".join(index(pages, definitions)) + "\n"
-    others = sorted(set(glob.glob("*", root_dir=f"{TOP}/{FOLDER}")) - set(texts))
-    wrong = [line for page in pages for line in page.wrong]
-    if not given.check and not wrong:
-        write(texts, others)
-    elif given.check:
-        stale = [name for name, text in texts.items() if read(f"{FOLDER}/{name}") != text] + others
-        wrong += [f"{FOLDER}/{name} is not current: run tools/reference.py" for name in stale]
-    print("\n".join(wrong) if wrong else f"{len(texts)} pages of reference are current")
-    return 1 if wrong else 0
-
-
 if __name__ == "__main__":
-    sys.exit(main())
+    main()

@@ -1,16 +1,21 @@
-"""Reads items of .rt files, in the layout of `rt fmt`, and definitions of specs/. No program."""
+"""Reads the files of the repository: items of .rt files, in the layout of `rt fmt`, and definitions of specs/. Not a
+program.
+"""
 import functools
 import os
 import re
 from dataclasses import dataclass
 
-from blake2_kinds import TOP
-
+TOP = os.path.dirname(os.path.dirname(os.path.abspath(__file__)))
 ITEM = re.compile(r'(?:pub(?:\(\w+\))? )?(?:unsafe |extern "C" |const (?=fn))*(\w+)(?: (\w+))?')
 DEFINITION = re.compile(r"(?:abbrev |unfoldable )*(pub )?(data |record )?([\w-]+)")
 IMPORT = re.compile(r"^ *(?:ghost |unfoldable |pub )*use Rattle\.(\w+)\.specs\.(\w+)"
                     r"(?:\.\{([^}]*)\}| as (\w+))?;?$", re.MULTILINE)
 NAME = re.compile(r"[A-Za-z_][\w-]*(?:\.[A-Za-z_][\w-]*)?")
+
+
+class Unreadable(Exception):
+    """A source is in another form than this file knows."""
 
 
 @functools.cache
@@ -20,6 +25,14 @@ def read(path):
         return ""
     with open(os.path.join(TOP, path), encoding="utf-8") as file:
         return file.read()
+
+
+def version():
+    """The version, which is at the top of CHANGELOG.md."""
+    match = re.search(r"^## ([0-9.]+)", read("CHANGELOG.md"), re.MULTILINE)
+    if not match:
+        raise Unreadable("CHANGELOG.md: no heading is a version")
+    return match[1]
 
 
 def anchor(title):
@@ -35,7 +48,10 @@ class Item:
     number: int
 
     def __post_init__(self):
-        self.kind, self.name = ITEM.match(self.lines[0]).groups()
+        match = ITEM.match(self.lines[0])
+        if not match:
+            raise Unreadable(f"line {self.number}: tools/sources.py finds no item in {self.lines[0]!r}")
+        self.kind, self.name = match.groups()
         self.doc = [line[4:] for line in self.above if line.startswith("///")]
         self.is_public = self.lines[0].startswith("pub ")
         self.is_export = "#[unsafe(no_mangle)]" in self.above
@@ -89,7 +105,10 @@ class Module:
     def __init__(self, file, path):
         self.file, self.path, self.text = file, path, read(file)
         self.doc = [line[4:] for line in self.text.splitlines() if line.startswith("//!")]
-        self.items = list(items(self.text.splitlines()))
+        try:
+            self.items = list(items(self.text.splitlines()))
+        except Unreadable as error:
+            raise Unreadable(f"{file}, {error}") from None
 
     def re_exports(self):
         """The lines that make items of other crates public here."""
@@ -143,7 +162,11 @@ def words_of(crate):
             comment = [line[3:] for line in part.splitlines() if line.startswith("--")]
             lines = [line for line in part.splitlines() if not line.startswith("--")]
             if lines and not re.match(r"(?:unfoldable |pub )*use ", lines[0]):
-                public, kind, name = DEFINITION.match(lines[0]).groups("")
+                match = DEFINITION.match(lines[0])
+                if not match:
+                    raise Unreadable(f"crates/{crate}/specs/{file}.antt: tools/sources.py finds no definition in "
+                                     f"{lines[0]!r}")
+                public, kind, name = match.groups("")
                 yield Word(crate, file, bool(public), kind, name, comment, lines)
 
 

@@ -14,7 +14,7 @@ enum { MOST_MESSAGES = 8, MOST_BYTES = 1 << 20 };
 static uint8_t bytes[MOST_BYTES + MOST_MESSAGES], out[MOST_MESSAGES * 64];
 
 #if defined(OURS)
-#include <blake2_c.h>
+#include <vulfsjor.h>
 
 static void hash(int wide, const uint8_t *message, size_t length, uint8_t *digest)
 {

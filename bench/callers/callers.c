@@ -1,5 +1,5 @@
 // This project's digests in memory, in one call and in pieces, by the functions of its header for C.
-#include <blake2_c.h>
+#include <vulfsjor.h>
 
 static size_t piece_length;
 

@@ -1,6 +1,6 @@
 // The longest digests of several messages of one length, which stand one behind the other: each by a call of its own
 // (each_), and all by one call (several_).
-#include "../../c/include/blake2_c.h"
+#include "../../c/include/vulfsjor.h"
 
 #include <stdlib.h>
 
@@ -11,13 +11,13 @@ static const uint8_t none;
 void each_blake2b512(const uint8_t *messages, size_t length, uint8_t *out)
 {
     for (size_t j = 0; j < 4; j++)
-        blake2_c_blake2b(out + 64 * j, 64, messages + j * (length / 4), length / 4, &none, 0);
+        vulfsjor_ffi_blake2b(out + 64 * j, 64, messages + j * (length / 4), length / 4, &none, 0);
 }
 
 void each_blake2s256(const uint8_t *messages, size_t length, uint8_t *out)
 {
     for (size_t j = 0; j < 8; j++)
-        blake2_c_blake2s(out + 32 * j, 32, messages + j * (length / 8), length / 8, &none, 0);
+        vulfsjor_ffi_blake2s(out + 32 * j, 32, messages + j * (length / 8), length / 8, &none, 0);
 }
 
 static void cut(vulfsjor_message *given, size_t count, const uint8_t *messages, size_t length)
@@ -30,7 +30,7 @@ void several_blake2b512(const uint8_t *messages, size_t length, uint8_t *out)
 {
     vulfsjor_message given[MOST];
     cut(given, 4, messages, length);
-    if (blake2_c_blake2b_many(out, 4 * 64, 64, given, 4, &none, 0, &none, 0, &none, 0))
+    if (vulfsjor_ffi_blake2b_many(out, 4 * 64, 64, given, 4, &none, 0, &none, 0, &none, 0))
         abort();
 }
 
@@ -38,6 +38,6 @@ void several_blake2s256(const uint8_t *messages, size_t length, uint8_t *out)
 {
     vulfsjor_message given[MOST];
     cut(given, 8, messages, length);
-    if (blake2_c_blake2s_many(out, 8 * 32, 32, given, 8, &none, 0, &none, 0, &none, 0))
+    if (vulfsjor_ffi_blake2s_many(out, 8 * 32, 32, given, 8, &none, 0, &none, 0, &none, 0))
         abort();
 }

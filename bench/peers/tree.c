@@ -1,5 +1,5 @@
-// The root of the tree of blake2_c with leaves of so many bytes, as a digest of a message.
-#include "../../c/include/blake2_c.h"
+// The root of the tree of vulfsjor with leaves of so many bytes, as a digest of a message.
+#include "../../c/include/vulfsjor.h"
 
 static uint32_t leaf_length = 1;
 
@@ -12,5 +12,5 @@ void set_leaf(size_t length)
 void tree_blake2b512(const uint8_t *message, size_t length, uint8_t *out)
 {
     static const uint8_t none;
-    blake2_c_tree_root(out, 64, message, length, &none, 0, &none, 0, leaf_length);
+    vulfsjor_ffi_tree_root(out, 64, message, length, &none, 0, &none, 0, leaf_length);
 }

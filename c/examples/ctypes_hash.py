@@ -1,12 +1,12 @@
 """BLAKE2b of the shared library by ctypes, without the package in python/: ctypes_hash.py LIBRARY
 
-LIBRARY is the path of libblake2_c.so, with a slash. The functions blake2_c_* accept no null pointer.
+LIBRARY is the path of libvulfsjor.so, with a slash. The functions vulfsjor_ffi_* accept no null pointer.
 """
 import ctypes
 import sys
 
 library = ctypes.CDLL(sys.argv[1])
-library.blake2_c_blake2b.argtypes = [ctypes.c_char_p, ctypes.c_size_t] * 3
+library.vulfsjor_ffi_blake2b.argtypes = [ctypes.c_char_p, ctypes.c_size_t] * 3
 
 
 def blake2b(message, size=64, key=b""):
@@ -16,7 +16,7 @@ def blake2b(message, size=64, key=b""):
     """
     message, key = bytes(memoryview(message)), bytes(memoryview(key))
     out = ctypes.create_string_buffer(size)
-    if library.blake2_c_blake2b(out, size, message, len(message), key, len(key)):
+    if library.vulfsjor_ffi_blake2b(out, size, message, len(message), key, len(key)):
         raise ValueError("a length that BLAKE2b does not have")
     return out.raw
 

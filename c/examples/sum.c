@@ -1,11 +1,11 @@
 /* Prints the BLAKE2b-512 digest of each file that is named, or of standard input if none is, as
  * b2sum does. It reads files in pieces, in constant memory.
  *
- *   cc -O2 sum.c $(pkg-config --cflags --libs blake2_c-static) -o sum
+ *   cc -O2 sum.c $(pkg-config --cflags --libs vulfsjor-static) -o sum
  *   ./sum FILE..
  *
  * The status is 1 if a file can't be read. */
-#include <blake2_c.h>
+#include <vulfsjor.h>
 #include <stdio.h>
 
 /* Writes the digest of the rest of the file. Returns 0, or -1 if it can't be read. */

@@ -1,7 +1,7 @@
 /* The root of a file as a tree of hashes, in parts, for whatever runs programs: GNU parallel, make,
  * a queue of jobs, or several machines with one file system.
  *
- *   cc -O2 tree_parts.c $(pkg-config --cflags --libs blake2_c-static) -o tree_parts
+ *   cc -O2 tree_parts.c $(pkg-config --cflags --libs vulfsjor-static) -o tree_parts
  *   ./tree_parts leaves FILE FIRST COUNT     writes the digests of COUNT leaves, from leaf FIRST on
  *   ./tree_parts root FILE                   reads those of all leaves, in order; prints the root
  *
@@ -17,7 +17,7 @@
  * The status is 1 if FILE can't be read, has no leaf FIRST, or digests are missing, and 2 for other
  * arguments. */
 #define _GNU_SOURCE
-#include <blake2_c.h>
+#include <vulfsjor.h>
 #include <errno.h>
 #include <fcntl.h>
 #include <inttypes.h>

@@ -1,7 +1,7 @@
 /* Prints the root of each file as a tree of hashes, hashed by all processors, or else of standard
  * input, as b2sum and b3sum print digests:
  *
- *   cc -O2 tree_sum.c $(pkg-config --cflags --libs blake2_c-threads) -o tree_sum
+ *   cc -O2 tree_sum.c $(pkg-config --cflags --libs vulfsjor-threads) -o tree_sum
  *   ./tree_sum [--threads N] [--leaf BYTES] [FILE..]
  *
  * FILE - is standard input. N is the number of threads, 0 for all processors, as without the
@@ -10,7 +10,7 @@
  *
  * The status is 1 if a file can't be read or the output not be written, and 2 for other
  * arguments. */
-#include <blake2_threads.h>
+#include <vulfsjor_threads.h>
 #include <errno.h>
 #include <getopt.h>
 #include <stdio.h>

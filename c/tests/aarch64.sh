@@ -1,5 +1,6 @@
-# Part of c/run_tests.sh: the library and the program for aarch64, by a compiler for it and on an
-# emulated processor.
+#!/usr/bin/env bash
+# Tests the library and the program for aarch64, by a compiler for it and on an emulated processor.
+source "$(dirname "$(readlink -f "$0")")/installed.sh"
 . "$tests/languages.sh"
 . "$tests/threads.sh"
 . "$tests/installing.sh"
@@ -26,14 +27,13 @@ linked_for_arm() {
 
 libb2_for_arm() {
     cc -std=c99 -O1 "${warnings[@]}" $(family_words "$family") -o "$work/libb2" "$tests/libb2.c" \
-        "$prefix/lib/libblake2_c-libb2.a" && "$work/libb2" "$cases/$family"
+        "$prefix/lib/libvulfsjor-libb2.a" && "$work/libb2" "$cases/$family"
 }
 
 # The program of dist/ for aarch64, by so many cases of each command.
 program_for_arm() {
-    cc -O2 "${warnings[@]}" -DMAIN="$(main_of "$dist/aarch64/b2.s")" -o "$work/b2" "$here/b2.c" \
-        "$dist/aarch64/b2.s" &&
-        python3 "$top/tools/check_specification.py" --program "$work/b2" --cases "$1"
+    assemble "$dist/aarch64/b2.s" "$work/b2" "${warnings[@]}" &&
+        python3 "$top/tests/specification.py" --program "$work/b2" --cases "$1"
 }
 
 test_aarch64() {
@@ -42,22 +42,22 @@ test_aarch64() {
         skip "the library for aarch64" "no $arm, no qemu-aarch64 or no python3"
         return
     fi
-    # test.c takes every tenth case, since the emulated processor is slow. edges.c and key_scan.c
+    # test.c takes every eleventh case, since emulation is slow. edges.c and key_scan.c
     # run whole.
     all=$cases cases=$work/cases
     mkdir "$cases"
-    for family in b s; do awk 'NR % 10 == 1' "$all/$family" >"$cases/$family"; done
-    prefix=$work/prefix include=$work/prefix/include libb2=$work/prefix/include/blake2_c-libb2
-    archive=$prefix/lib/libblake2_c.a shared=$prefix/lib/libblake2_c.so
+    for family in b s; do awk 'NR % 11 == 1' "$all/$family" >"$cases/$family"; done
+    prefix=$work/prefix include=$work/prefix/include libb2=$work/prefix/include/vulfsjor-libb2
+    archive=$prefix/lib/libvulfsjor.a shared=$prefix/lib/libvulfsjor.so
     check "install.sh with CC=$arm" env "CC=$arm" "$here/install.sh" --from "$dist" "$prefix" ||
         return
     for family in b s; do
         check "test.c, blake2$family, for aarch64" compile_and_run "$work/test" -O2 \
             $(family_words $family) "$archive"
         check "test.c, blake2$family, for aarch64, with the shared library" with_shared_library
-        check "edges.c, blake2$family, for aarch64" compare_lines edges "" -O2 -I"$include"
+        check "edges.c, blake2$family, for aarch64" compare_lines edges -O2 -I"$include"
         check "key_scan.c, blake2$family, for aarch64" scan_for_keys
-        check "libb2_header.c, blake2$family, for aarch64" compare_lines libb2_header "" -O2 \
+        check "libb2_header.c, blake2$family, for aarch64" compare_lines libb2_header -O2 \
             -I"$libb2"
         check "libb2's names, blake2$family, for aarch64" libb2_for_arm
     done
@@ -70,3 +70,5 @@ test_aarch64() {
     check "a project with the files by hand, for aarch64" vendored_by_hand
     check "b2 for aarch64" program_for_arm 40
 }
+
+part test_aarch64 cases

@@ -1,7 +1,7 @@
-/* Calls libb2 and this library in one program, which includes libb2's own header and blake2_c.h.
+/* Calls libb2 and this library in one program, which includes libb2's own header and vulfsjor.h.
  * Returns 0 if both have the same digests. */
 #include <blake2.h>
-#include <blake2_c.h>
+#include <vulfsjor.h>
 
 int main(void) {
     uint8_t theirs[64], ours[64];

@@ -2,13 +2,13 @@
 """Reads the lines of edges.c, parts.c and libb2_header.c from standard input and compares each digest with Python's hashlib.
 
 Answers 0 where all agree, the line `end` came, and there were 20 others. A parameter block that hashlib can't say (a
-depth of 0, reserved bytes) is hashed by tools/oracle.py, which is first compared with hashlib.
+depth of 0, reserved bytes) is hashed by tests/oracle.py, which is first compared with hashlib.
 """
 import os
 import struct
 import sys
 
-sys.path.append(os.path.join(os.path.dirname(os.path.abspath(__file__)), "..", "..", "tools"))
+sys.path.append(os.path.join(os.path.dirname(os.path.abspath(__file__)), "..", "..", "tests"))
 from blake2_kinds import FAMILIES  # noqa: E402
 from oracle import WORDS, Step, compress, tree_node, tree_root  # noqa: E402
 
@@ -62,22 +62,13 @@ def leaf_line(saltlen, personalen, leaf, offset, is_last, start, length):
                      last_node=is_last == "1")
 
 
-def zeros_line(family, length):
-    """A message of zeros."""
-    run, left, piece = FAMILIES[family].function(), int(length), bytes(2**24)
-    while left:
-        run.update(piece[:left])
-        left -= min(left, len(piece))
-    return run.digest()
-
-
 def block_line(family, block):
     """A hash from a parameter block as it stands."""
     return of_block(family, bytes.fromhex(block), BYTES[:20])
 
 
 KINDS = {"hash": hash_line, "last": last_line, "node": node_line, "root": root_line, "leaf": leaf_line,
-         "zeros": zeros_line, "block": block_line}
+         "block": block_line}
 
 
 def wanted(line):

@@ -1,5 +1,5 @@
 /* Tests ../choose.c with functions of this file instead of the two builds, so that it sees which
- * level is chosen and which arguments are passed. c/run_tests.sh compiles this file without
+ * level is chosen and which arguments are passed. choosing.sh compiles this file without
  * PROCESSOR and with it.
  *
  *   choose           prints `begun`, and then the level that is chosen on this processor, 2 or 3:
@@ -17,8 +17,10 @@
 
 #include "check.h"
 
+#include <signal.h>
 #include <stdint.h>
 #include <string.h>
+#include <sys/wait.h>
 
 /* The sum of the arguments that a build was given, each multiplied by a different prime. The build
  * adds its level. A function of the library has at most fifteen arguments. These have sixteen, six
@@ -57,10 +59,10 @@ static void check_arguments(int level) {
                  wanted = told(big, 2, 3, 4, 5, big, 7, 8, 9, 10, 11, 12, big, 14, 15, 16) + level;
 
     for (int asked = 0; asked < 2; asked++) {
-        if (!asked) blake2_c_level = 0;
+        if (!asked) vulfsjor_ffi_level = 0;
         CHECK(probe_arguments(big, 2, 3, 4, 5, big, 7, 8, 9, 10, 11, 12, big, 14, 15, 16) ==
               wanted);
-        CHECK(blake2_c_level == level);
+        CHECK(vulfsjor_ffi_level == level);
     }
 }
 
@@ -68,9 +70,29 @@ static void check_arguments(int level) {
 /* The level that is chosen, by the function and by a call. */
 static int chosen(void) {
     int found = level_here();
-    blake2_c_level = 0;
-    if (found) CHECK(probe() == found && blake2_c_level == found && probe() == found);
+    vulfsjor_ffi_level = 0;
+    if (found) CHECK(probe() == found && vulfsjor_ffi_level == found && probe() == found);
     return found;
+}
+
+/* Below x86-64-v2 the first call writes this line to standard error, no other byte, and aborts. */
+static void refuses_processor(void) {
+    static const char line[] =
+        "vulfsjor: this processor is below x86-64-v2, which the library needs\n";
+    char said[2 * sizeof line];
+    int ends[2], status;
+
+    CHECK(!pipe(ends));
+    if (!fork()) {
+        dup2(ends[1], STDERR_FILENO);
+        made_up.first = vulfsjor_ffi_level = 0;
+        _exit(probe());
+    }
+    close(ends[1]);
+    CHECK(wait(&status) > 0 && WIFSIGNALED(status) && WTERMSIG(status) == SIGABRT);
+    CHECK(read(ends[0], said, sizeof said) == sizeof line - 1 &&
+          !memcmp(said, line, sizeof line - 1));
+    close(ends[0]);
 }
 
 int main(void) {
@@ -125,6 +147,7 @@ int main(void) {
     made_up = all;
     made_up.last_extended = 0x80000000u;
     CHECK(chosen() == 0);
+    refuses_processor();
     return fails != 0;
 }
 #else

@@ -1,13 +1,15 @@
-# Part of c/run_tests.sh: the choice between the two builds, and what the libraries show.
+#!/usr/bin/env bash
+# Tests the choice between the two builds, and what the libraries show.
+source "$(dirname "$(readlink -f "$0")")/installed.sh"
 
 # The texts of both builds.
-both=("$dist/x86_64/blake2_c-v2.s" "$dist/x86_64/blake2_c-v3.s")
+both=("$dist/x86_64/vulfsjor-v2.s" "$dist/x86_64/vulfsjor-v3.s")
 here_texts=("${both[@]}")
-is_x86 || here_texts=("$dist/aarch64/blake2_c.s")
+is_x86 || here_texts=("$dist/aarch64/vulfsjor.s")
 
-# The functions that blake2_c.h declares, by the compiler's reading of it.
+# The functions that vulfsjor.h declares, by the compiler's reading of it.
 names_of_header() {
-    echo '#include <blake2_c.h>' | cc -E -I"$include" - | grep -o '\bblake2_c_[a-z0-9_]* *(' |
+    echo '#include <vulfsjor.h>' | cc -E -I"$include" - | grep -o '\bvulfsjor_ffi_[a-z0-9_]* *(' |
         tr -d ' (' |
         LC_ALL=C sort -u
 }
@@ -18,40 +20,40 @@ names_of_object() {
 
 # Names that an archive has for itself: those of the builds, which have the version in them, and
 # those of choose.c.
-without_own() { sed "/_$(version _)_[a-z0-9]*\$/d;/^blake2_c_\(ask\|find\|level\)\$/d"; }
+without_own() { sed "/_$(version _)_[a-z0-9]*\$/d;/^vulfsjor_ffi_\(ask\|find\|level\)\$/d"; }
 
 # Header, archive and shared library have the same functions, and show nothing else.
 names_are_one() {
     names_of_header >"$work/names" && [ "$(wc -l <"$work/names")" -ge 29 ] || return 1
     names_of_object -g --defined-only "$archive" | without_own | diff "$work/names" - || return 1
-    names_of_object -D --defined-only "$shared" | sed '/^BLAKE2_C_0$/d' | diff "$work/names" -
+    names_of_object -D --defined-only "$shared" | sed '/^VULFSJOR_0$/d' | diff "$work/names" -
 }
 
 # One function more in the header, or one less in a text, is refused before anything is made.
 join_refuses_a_difference() {
     local copy=$work/copy
     mkdir -p "$copy" && cp -R "$here"/{choose.c,threads.c,join.sh,include,libb2} "$copy" &&
-        echo 'void blake2_c_forgotten(void);' >>"$copy/include/blake2_c.h" || return 1
+        echo 'void vulfsjor_ffi_forgotten(void);' >>"$copy/include/vulfsjor.h" || return 1
     ! "$copy/join.sh" "$work/refused" "${both[@]}" 2>"$work/said" &&
-        grep -q '^< blake2_c_forgotten$' "$work/said" &&
-        [ ! -e "$work/refused/libblake2_c.a" ]
+        grep -q '^< vulfsjor_ffi_forgotten$' "$work/said" &&
+        [ ! -e "$work/refused/libvulfsjor.a" ]
 }
 
 # The shared library: its name, the version of its functions, what it needs, and that no page of it
 # is written and run.
 shared_library_is_right() {
     local file
-    file=$prefix/lib/libblake2_c.so.$(version)
+    file=$prefix/lib/libvulfsjor.so.$(version)
     readelf -dW "$file" >"$work/dynamic" && readelf -lW "$file" >"$work/segments" || return 1
     cat "$work/dynamic"
-    grep -q 'SONAME.*\[libblake2_c\.so\.0\]' "$work/dynamic" && ! grep -q TEXTREL "$work/dynamic" &&
+    grep -q 'SONAME.*\[libvulfsjor\.so\.0\]' "$work/dynamic" && ! grep -q TEXTREL "$work/dynamic" &&
         grep -q BIND_NOW "$work/dynamic" && ! grep NEEDED "$work/dynamic" | grep -v 'libc\.' &&
         grep -q GNU_RELRO "$work/segments" && grep -q 'GNU_STACK .* RW ' "$work/segments" &&
         ! grep -q 'LOAD.*RWE' "$work/segments" || return 1
-    [ "$(readelf --dyn-syms -W "$file" | grep -c ' FUNC  *GLOBAL .*@@BLAKE2_C_0$')" -eq \
+    [ "$(readelf --dyn-syms -W "$file" | grep -c ' FUNC  *GLOBAL .*@@VULFSJOR_0$')" -eq \
         "$(names_of_header | wc -l)" ] &&
-        [ "$(readlink "$shared")" = libblake2_c.so.0 ] &&
-        [ "$(readlink "$prefix/lib/libblake2_c.so.0")" = "libblake2_c.so.$(version)" ] &&
+        [ "$(readlink "$shared")" = libvulfsjor.so.0 ] &&
+        [ "$(readlink "$prefix/lib/libvulfsjor.so.0")" = "libvulfsjor.so.$(version)" ] &&
         ! nm -D --undefined-only "$file" |
         grep -vE ' (w|U) (_ITM_|__cxa_finalize|__gmon|abort|write|mem(cpy|move|set))'
 }
@@ -76,7 +78,7 @@ texts_stand_together() {
 # Somebody else's shared library, linked with one of the archives, shows none of its functions.
 names_are_hidden() {
     local archive=$1
-    printf '%s\n' '#include <blake2_c.h>' \
+    printf '%s\n' '#include <vulfsjor.h>' \
         'int theirs(void *out) { return vulfsjor_blake2b(out, 64, 0, 0, 0, 0); }' \
         >"$work/theirs.c"
     cc -fPIC -shared -I"$include" "$work/theirs.c" -Wl,--whole-archive "$archive" \
@@ -84,14 +86,24 @@ names_are_hidden() {
         [ "$(names_of_object -D --defined-only "$work/libtheirs.so")" = theirs ]
 }
 
+# All archives in a shared library, by a compiler that is not one for PIE by itself.
+archives_for_shared_library() {
+    local folder=$work/no_pie
+    mkdir -p "$folder" && printf '#!/bin/sh\nexec cc -fno-pie "$@"\n' >"$folder/cc" &&
+        chmod +x "$folder/cc" &&
+        CC=$folder/cc "$here/join.sh" "$folder/lib" "${here_texts[@]}" &&
+        cc -shared -Wl,-z,text -Wl,--whole-archive "$folder/lib"/libvulfsjor-{libb2,threads}.a \
+            -Wl,--no-whole-archive -pthread -o "$folder/all.so"
+}
+
 # A program takes of the archives what it calls, if the linker leaves out the rest.
 programs_take_what_they_call() {
     local lib=$prefix/lib section
     block_of c/README.md c >"$work/hello.c"
     cc -O2 -I"$include" "$work/hello.c" "$archive" -Wl,--gc-sections -o "$work/hello" &&
-        nm "$work/hello" >"$work/names" && grep -q ' blake2_c_blake2b_update$' "$work/names" &&
-        ! grep 'blake2_c_\(tree\|blake2s\|blake2b_many\)' "$work/names" || return 1
-    readelf -SW "$lib/libblake2_c-libb2.a" "$lib/libblake2_c-threads.a" >"$work/sections"
+        nm "$work/hello" >"$work/names" && grep -q ' vulfsjor_ffi_blake2b_update$' "$work/names" &&
+        ! grep 'vulfsjor_ffi_\(tree\|blake2s\|blake2b_many\)' "$work/names" || return 1
+    readelf -SW "$lib/libvulfsjor-libb2.a" "$lib/libvulfsjor-threads.a" >"$work/sections"
     for section in blake2b_init blake2s_final vulfsjor_tree_root_fd; do
         grep -q " \.text\.$section " "$work/sections" || return 1
     done
@@ -121,7 +133,7 @@ joined_by() {
         "$1" -std=gnu99 "${warnings[@]}" -O1 -DPROCESSOR -I"$work" -I"$include" -I"$tests" \
             -o "$work/made_up_by" "$tests/choose.c" &&
         "$work/made_up_by" && "$1" -std=c99 -I"$include" "$tests/linked.c" \
-            "$work/by_$1/libblake2_c.a" -o "$work/linked_by" -pthread && "$work/linked_by"
+            "$work/by_$1/libvulfsjor.a" -o "$work/linked_by" -pthread && "$work/linked_by"
 }
 
 # What the choice says on this processor or an emulated one: the level, 3 or 2, or 0 for an end with
@@ -135,7 +147,7 @@ chooses_level() {
     grep -qx begun "$work/said" || return 1
     if [ "$wanted" = 0 ]; then
         [ $status -eq 134 ] && [ "$(wc -l <"$work/said")" -eq 1 ] &&
-            [ "$(grep -cxF 'blake2_c: this processor is below x86-64-v2, which the library needs' \
+            [ "$(grep -cxF 'vulfsjor: this processor is below x86-64-v2, which the library needs' \
                 "$work/error")" -eq 1 ]
     else
         [ $status -eq 0 ] && [ "$(sed -n 2p "$work/said")" = "$wanted $wanted" ] || return 1
@@ -153,7 +165,7 @@ example_runs_on() {
     cat "$work/error"
     if [ "$wanted" = 0 ]; then
         [ $status -eq 134 ] && [ ! -s "$work/said" ] &&
-            grep -q '^blake2_c: this processor is below' "$work/error"
+            grep -q '^vulfsjor: this processor is below' "$work/error"
     else
         [ $status -eq 0 ] && diff "$work/said" <(wanted_of_readme)
     fi
@@ -210,12 +222,12 @@ make_build() { "$here/join.sh" --test "$1" "$work/build_$1" "${both[@]}"; }
 
 test_of_build() {
     cc -std=c99 -O2 -I"$include" -o "$work/test_build" "$tests/test.c" \
-        "$work/build_$1/libblake2_c.a" $(family_words "$2") && "$work/test_build" "$cases/$2"
+        "$work/build_$1/libvulfsjor.a" $(family_words "$2") && "$work/test_build" "$cases/$2"
 }
 
 keys_of_build() {
     cc -std=gnu99 -O2 -Wl,-z,now -I"$include" -o "$work/keys_build" "$tests/key_scan.c" \
-        "$work/build_$1/libblake2_c.a" $(family_words "$2") && "$work/keys_build"
+        "$work/build_$1/libvulfsjor.a" $(family_words "$2") && "$work/keys_build"
 }
 
 # Two modules, each with one build, and a program whose runs cross between them.
@@ -223,7 +235,7 @@ runs_cross() {
     local build
     for build in 2 3; do
         cc -std=c99 -O2 "${warnings[@]}" -fPIC -shared -fvisibility=hidden -DMODULE -I"$include" \
-            "$tests/cross.c" "$work/build_$build/libblake2_c.a" -o "$work/cross_$build.so" ||
+            "$tests/cross.c" "$work/build_$build/libvulfsjor.a" -o "$work/cross_$build.so" ||
             return 1
     done
     cc -std=c99 -O2 "${warnings[@]}" -I"$include" "$tests/cross.c" -o "$work/cross" -ldl &&
@@ -264,18 +276,25 @@ instructions() {
         sed -n 's/.*Collected : \([0-9]*\)$/\1/p'
 }
 
-# A task of count.c takes at most 15 instructions a call more than the build for this processor
-# alone, and no fewer: the other build has other counts.
-costs_little() {
-    local task=$1 level chosen direct
+# count.c over the library, and over one with only the build for this processor, which takes one
+# jump where the first one chooses: the other build has other counts.
+compile_count() {
+    local level
     level=$(valgrind -q "$work/choose" | sed -n '2s/ .*//p')
     cc -O2 -I"$include" "$tests/count.c" "$archive" -o "$work/count_chosen" &&
-        "$here/join.sh" "$work/direct" "$dist/x86_64/blake2_c-v$level.s" &&
-        cc -O2 -I"$include" "$tests/count.c" "$work/direct/libblake2_c.a" -o "$work/count_direct" &&
-        chosen=$(instructions "$work/count_chosen" "$task" 1000) &&
+        "$here/join.sh" "$work/direct" "$dist/x86_64/vulfsjor-v$level.s" &&
+        cc -O2 -I"$include" "$tests/count.c" "$work/direct/libvulfsjor.a" -o "$work/count_direct"
+}
+
+# A task of count.c takes as many instructions a call for dispatch as c/README.md says.
+costs_little() {
+    local task=$1 chosen direct
+    chosen=$(instructions "$work/count_chosen" "$task" 1000) &&
         direct=$(instructions "$work/count_direct" "$task" 1000) || return 1
-    echo "build $level: $chosen instructions chosen, $direct directly"
-    [ "$((chosen - direct))" -ge 1000 ] && [ "$((chosen - direct))" -le 16000 ]
+    echo "$chosen instructions chosen, $direct directly"
+    [[ $(<"$here/README.md") =~ Dispatch\ costs\ ([0-9]+)\ or\ ([0-9]+)\ instructions ]] &&
+        [ $(((chosen - direct) / 1000 + 1)) -ge "${BASH_REMATCH[1]}" ] &&
+        [ $(((chosen - direct) / 1000 + 1)) -le "${BASH_REMATCH[2]}" ]
 }
 
 test_cost() {
@@ -284,9 +303,10 @@ test_cost() {
         skip "what the choice costs" "no valgrind"
         return
     fi
-    check "choose.c for valgrind" compile_choose choose -O2 $(compiler_knows) || return
+    check "choose.c for valgrind" compile_choose choose -O2 $(compiler_knows) &&
+        check "count.c" compile_count || return
     for task in 0 1 4 7 10 11; do
-        check "at most 15 instructions a call more, task $task" costs_little $task
+        check "what dispatch costs, task $task" costs_little $task
     done
 }
 
@@ -295,9 +315,10 @@ test_choosing() {
         check "one list of functions" names_are_one
         check "the shared library's form" shared_library_is_right
         check "the assembly with that of another version" texts_stand_together "${here_texts[@]}"
+        check "the archives in a shared library" archives_for_shared_library
         check "what a program takes of the library" programs_take_what_they_call
-        check "hidden names, libblake2_c.a" names_are_hidden "$archive"
-        check "hidden names, libblake2_c-libb2.a" names_are_hidden "$prefix/lib/libblake2_c-libb2.a"
+        check "hidden names, libvulfsjor.a" names_are_hidden "$archive"
+        check "hidden names, libvulfsjor-libb2.a" names_are_hidden "$prefix/lib/libvulfsjor-libb2.a"
     else
         skip "the names of the libraries" "no nm or no readelf"
     fi
@@ -321,3 +342,5 @@ test_choosing() {
     test_emulated
     test_cost
 }
+
+part test_choosing cases

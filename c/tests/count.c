@@ -1,6 +1,6 @@
 /* Makes the call of a task TIMES times, so that its instructions can be counted:
  * count TASK TIMES. */
-#include "blake2_c.h"
+#include "vulfsjor.h"
 
 #include <stdlib.h>
 

@@ -2,7 +2,7 @@
  * and digests as a run in one build. It loads two modules, each of which is this file compiled with
  * MODULE and linked with a library of one build: cross V2.so V3.so. */
 #define _GNU_SOURCE /* for RTLD_LOCAL in C99 */
-#include "blake2_c.h"
+#include "vulfsjor.h"
 
 enum { BLAKE2B, BLAKE2S, TREE, KINDS };
 enum { INIT, INIT_NODE, UPDATE, SET_LAST_NODE, RESET, FINAL, VERIFY, OPERATIONS };

@@ -1,18 +1,13 @@
-/* Tests the edges of each function of blake2_c.h: each pointer null with length 0 and 1, every size
+/* Tests the edges of each function of vulfsjor.h: each pointer null with length 0 and 1, every size
  * from 0 to 65, counts near 2^64 and 2^58, flags, parameter blocks, states that are not ready, what
  * is left of a key, several messages, constants, and the state's fields. Prints a line for each
  * digest that check_lines.py compares with Python's hashlib. Returns 0 if every other check passes.
  *
  *   cc -std=c99 -Wall -Wextra -Wpedantic -Werror -I FOLDER/include edges.c ARCHIVE -o edges
  *   cc the same with -DTEST_S                   the same for BLAKE2s, without the tree
- *   ./edges | python3 check_lines.py            status 0 if every digest is that of hashlib
- *   ./edges 4294967396                          also hashes a message of this many zeros, in 11 s
- *                                               for BLAKE2b; skips it if there are no 4 GiB of
- *                                               address space */
+ *   ./edges | python3 check_lines.py            status 0 if every digest is that of hashlib */
 #include "check.h"
 #include "family.h"
-
-#include <stdlib.h>
 
 /* Bytes that count up from a start, which check_lines.py makes in the same way. */
 static uint8_t bytes[8 * BLOCK + 64];
@@ -454,7 +449,7 @@ static void blocks(void) {
         uint8_t raw[sizeof param + 1] = {0};
         memcpy(raw, &plain, sizeof plain);
         memset(&state, 0x5a, sizeof state);
-        CHECK(LIBRARY(init_block)(&state, raw, length) == (length == sizeof param ? 0 : -1));
+        CHECK(LIBRARY(init_param)(&state, raw, length) == (length == sizeof param ? 0 : -1));
         CHECK(length == sizeof param || is_zero(&state, sizeof state));
     }
 }
@@ -595,26 +590,6 @@ static void constants(void) {
     CHECK(state.first[0] == state.chain[0] && state.start_length == 0 && state.last_node == 0);
     CHECK(BLAKE(update)(&state, bytes, 9) == 0 && state.pending_length == 9 &&
           !memcmp(state.pending, bytes, 9));
-}
-
-/* ---- a message of more than 2^32 bytes, in one call and in one update */
-
-static void long_message(size_t length) {
-    uint8_t *zeros = calloc(length, 1);
-    uint8_t out[MAX], again[MAX];
-    state_t state;
-    if (!zeros) {
-        fprintf(stderr, "skipped: a message of %zu bytes (no memory)\n", length);
-        return;
-    }
-    CHECK(ONE_CALL(out, MAX, zeros, length, 0, 0) == 0);
-    CHECK(BLAKE(init)(&state, MAX) == 0 && BLAKE(update)(&state, zeros, length) == 0);
-    CHECK(state.counter + state.pending_length == length && BLAKE(final)(&state, again, MAX) == 0);
-    CHECK(!memcmp(out, again, MAX));
-    printf("zeros %s %zu ", FAMILY, length);
-    print_hex(out, MAX);
-    putchar('\n');
-    free(zeros);
 }
 
 #ifndef TEST_S
@@ -765,7 +740,7 @@ static void long_trees(void) {
     CHECK(is_zero(made.persona + 4, 12) && made.leaf.output_size == 64 &&
           made.root.output_size == MAX);
     CHECK(sizeof made.salt == 16 && sizeof made.persona == 16 &&
-          blake2_c_tree_state_size() == sizeof made);
+          vulfsjor_ffi_tree_state_size() == sizeof made);
     CHECK(sizeof made == 2 * sizeof(state_t) + 4 * 8 + 32);
     uint64_t most = (((uint64_t)1 << 58) - 1) / 1000;
     for (size_t left = 0; left < 5; left++) {
@@ -785,7 +760,7 @@ static void long_trees(void) {
 }
 #endif
 
-int main(int argc, char **argv) {
+int main(void) {
     fill_all();
     every_size();
     every_length();
@@ -808,7 +783,6 @@ int main(int argc, char **argv) {
     unready_trees();
     long_trees();
 #endif
-    if (argc > 1) long_message((size_t)strtoull(argv[1], NULL, 10));
     printf("end\n");
     fprintf(stderr, "%d checks, %d failures\n", checks, fails);
     return fails != 0;

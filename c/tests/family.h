@@ -1,6 +1,6 @@
 /* The names and numbers of the family that a test program tests: BLAKE2s if TEST_S is defined, and
  * otherwise BLAKE2b. LANES is how many messages are hashed in parallel. */
-#include <blake2_c.h>
+#include <vulfsjor.h>
 
 #ifdef TEST_S
 #define MAX 32
@@ -9,7 +9,7 @@
 #define LANES 8
 #define FAMILY "s"
 #define BLAKE(name) vulfsjor_blake2s_##name
-#define LIBRARY(name) blake2_c_blake2s_##name
+#define LIBRARY(name) vulfsjor_ffi_blake2s_##name
 #define CONSTANT(name) VULFSJOR_BLAKE2S_##name
 #define ONE_CALL vulfsjor_blake2s
 typedef uint32_t word;
@@ -20,7 +20,7 @@ typedef uint32_t word;
 #define LANES 4
 #define FAMILY "b"
 #define BLAKE(name) vulfsjor_blake2b_##name
-#define LIBRARY(name) blake2_c_blake2b_##name
+#define LIBRARY(name) vulfsjor_ffi_blake2b_##name
 #define CONSTANT(name) VULFSJOR_BLAKE2B_##name
 #define ONE_CALL vulfsjor_blake2b
 typedef uint64_t word;

@@ -1,4 +1,6 @@
-# Part of c/run_tests.sh: what c/install.sh puts where.
+#!/usr/bin/env bash
+# Tests what c/install.sh puts where.
+source "$(dirname "$(readlink -f "$0")")/installed.sh"
 
 install_into() { "$here/install.sh" "${cpu[@]}" --from "$dist" "$@"; }
 
@@ -7,12 +9,14 @@ files_below() { (cd "$1" && find . -type f -o -type l | sed 's/^\.\///' | LC_ALL
 
 # The files of an installation, with this in the place of lib/.
 wanted_files() {
-    printf '%s\n' include/blake2_c-libb2/blake2.h include/blake2_c.h "$1libblake2_c.a" \
-        "$1libblake2_c.so" "$1libblake2_c.so.0" "$1libblake2_c.so.$(version)" \
-        "$1libblake2_c-libb2.a" \
-        "$1pkgconfig/blake2_c.pc" "$1pkgconfig/blake2_c-static.pc" "$1blake2_c-libb2/libb2.a" \
-        "$1blake2_c-libb2/pkgconfig/libb2.pc" "$1libblake2_c-threads.a" \
-        "$1pkgconfig/blake2_c-threads.pc" include/blake2_threads.h |
+    printf '%s\n' include/vulfsjor-libb2/blake2.h include/vulfsjor.h "$1libvulfsjor.a" \
+        "$1libvulfsjor.so" "$1libvulfsjor.so.0" "$1libvulfsjor.so.$(version)" \
+        "$1libvulfsjor-libb2.a" \
+        "$1pkgconfig/vulfsjor.pc" "$1pkgconfig/vulfsjor-static.pc" "$1vulfsjor-libb2/libb2.a" \
+        "$1vulfsjor-libb2/pkgconfig/libb2.pc" "$1libvulfsjor-threads.a" \
+        "$1pkgconfig/vulfsjor-threads.pc" include/vulfsjor_threads.h "$1libvulfsjor-static.a" \
+        "$1cmake/vulfsjor/vulfsjor-config.cmake" \
+        "$1cmake/vulfsjor/vulfsjor-config-version.cmake" |
         LC_ALL=C sort
 }
 
@@ -20,9 +24,10 @@ wanted_files() {
 # found.
 program_by_words() {
     local folder=$1 name=$2 libraries=$3 words
-    printf '%s\n' '#ifdef LIBB2' '#include <blake2.h>' \
+    printf '%s\n' '#ifdef LIBB2' '#include <blake2.h>' '#ifndef VULFSJOR_LIBB2_BLAKE2_H' \
+        '#error "the blake2.h of another library"' '#endif' \
         '#define vulfsjor_blake2b(o, n, i, m, k, l) blake2b(o, i, k, n, m, l)' '#else' \
-        '#include <blake2_c.h>' '#endif' 'int main(void) { unsigned char out[64];' \
+        '#include <vulfsjor.h>' '#endif' 'int main(void) { unsigned char out[64];' \
         'return vulfsjor_blake2b(out, 64, 0, 0, 0, 0) || out[0] != 0x78 || out[63] != 0xce; }' \
         >"$work/program.c"
     words=$(PKG_CONFIG_PATH=$folder pkg-config --cflags --libs "$name")
@@ -34,12 +39,12 @@ program_by_words() {
 # A program with threads, over the static library and over the shared one.
 program_with_threads() {
     local libraries=$2 one two
-    printf '%s\n' '#include <blake2_threads.h>' 'int main(void) { unsigned char out[64];' \
-        'return vulfsjor_tree_root_threads(out, 64, 0, 0, 0, 0, 0, 0, 1, 0); }' >"$work/program.c"
-    one=$(PKG_CONFIG_PATH=$1 pkg-config --cflags --libs blake2_c-threads)
-    two=$(PKG_CONFIG_PATH=$1 pkg-config --cflags --libs blake2_c)
+    write_threads "$work/program.c"
+    one=$(PKG_CONFIG_PATH=$1 pkg-config --cflags --libs vulfsjor-threads)
+    [[ " $one " == *" -pthread "* ]] || return 1 # glibc before 2.34 needs it
+    two=$(PKG_CONFIG_PATH=$1 pkg-config --cflags --libs vulfsjor)
     eval "cc '$work/program.c' $one -o '$work/program'" && "$work/program" &&
-        two="'$libraries/libblake2_c-threads.a' $two -pthread" &&
+        two="'$libraries/libvulfsjor-threads.a' $two -pthread" &&
         eval "cc '$work/program.c' $two -o '$work/program'" &&
         LD_LIBRARY_PATH=$libraries "$work/program"
 }
@@ -48,11 +53,11 @@ program_with_threads() {
 words_work() {
     local lib=$1
     has pkg-config || return 0
-    program_by_words "$lib/pkgconfig" blake2_c "$lib" &&
-        program_by_words "$lib/pkgconfig" blake2_c-static /nowhere &&
-        program_by_words "$lib/blake2_c-libb2/pkgconfig" libb2 /nowhere &&
+    program_by_words "$lib/pkgconfig" vulfsjor "$lib" &&
+        program_by_words "$lib/pkgconfig" vulfsjor-static /nowhere &&
+        program_by_words "$lib/vulfsjor-libb2/pkgconfig" libb2 /nowhere &&
         program_with_threads "$lib/pkgconfig" "$lib" &&
-        [ "$(PKG_CONFIG_PATH=$lib/pkgconfig pkg-config --modversion blake2_c)" = "$(version)" ]
+        [ "$(PKG_CONFIG_PATH=$lib/pkgconfig pkg-config --modversion vulfsjor)" = "$(version)" ]
 }
 
 # A folder with a space; then moved as a whole; then uninstalled, where other files stay.
@@ -65,7 +70,7 @@ folder_with_a_space() {
     touch "$folder/lib/theirs" "$folder/include/theirs.h" &&
         "$here/install.sh" --uninstall "$folder" &&
         files_below "$folder" | diff <(printf '%s\n' include/theirs.h lib/theirs) - &&
-        [ ! -e "$folder/lib/blake2_c-libb2" ] && [ ! -e "$folder/include/blake2_c-libb2" ] &&
+        [ ! -e "$folder/lib/vulfsjor-libb2" ] && [ ! -e "$folder/include/vulfsjor-libb2" ] &&
         "$here/install.sh" --uninstall "$folder"
 }
 
@@ -77,7 +82,7 @@ package() {
         ! grep -rlF "$root" "$root" && ! grep -rlF "$work" "$root" &&
         words_work "$root$work/usr/lib/x86_64-linux-gnu" || return 1
     DESTDIR=$root LIBDIR=$work/lib64 install_into "$work/usr" && words_work "$root$work/lib64" &&
-        [ "$(files_below "$root$work/lib64" | wc -l)" -eq 11 ] || return 1
+        [ "$(files_below "$root$work/lib64" | wc -l)" -eq 14 ] || return 1
     DESTDIR=$root LIBDIR=$work/lib64 "$here/install.sh" --uninstall "$work/usr" &&
         DESTDIR=$root LIBDIR=lib/x86_64-linux-gnu "$here/install.sh" --uninstall "$work/usr" &&
         [ -z "$(files_below "$root")" ]
@@ -88,17 +93,17 @@ one_build() {
     local folder=$work/one
     "$here/install.sh" --cpu x86-64-v2 --from "$dist" "$folder" &&
         files_below "$folder" | diff <(wanted_files lib/) - &&
-        words_work "$folder/lib" && ! nm "$folder/lib/libblake2_c.a" | grep -q blake2_c_level &&
-        nm -g --defined-only "$folder/lib/libblake2_c.a" |
-        sed -n 's/.* T \(blake2_c_[a-z0-9_]*[a-z]\)$/\1/p' | LC_ALL=C sort |
+        words_work "$folder/lib" && ! nm "$folder/lib/libvulfsjor.a" | grep -q vulfsjor_ffi_level &&
+        nm -g --defined-only "$folder/lib/libvulfsjor.a" |
+        sed -n 's/.* T \(vulfsjor_ffi_[a-z0-9_]*[a-z]\)$/\1/p' | LC_ALL=C sort |
             diff - <(sed -n 's/^CALL("\(.*\)")$/\1/p' "$here/choose.c" | LC_ALL=C sort)
 }
 
 # A second installation takes the place of the first, and of what another left there.
 installs_again() {
     local folder=$work/again
-    install_into "$folder" && echo old >"$folder/lib/libblake2_c.a" &&
-        ln -sf nowhere "$folder/lib/libblake2_c.so" &&
+    install_into "$folder" && echo old >"$folder/lib/libvulfsjor.a" &&
+        ln -sf nowhere "$folder/lib/libvulfsjor.so" &&
         install_into "$folder" && words_work "$folder/lib" &&
         files_below "$folder" | diff <(wanted_files lib/) -
 }
@@ -106,40 +111,199 @@ installs_again() {
 # A project of its own that has the library's files as a part, by hand: the header, choose.c and the
 # texts in one folder, compiled together with its program, also with link-time optimization.
 vendored_by_hand() {
-    local folder=$work/by_hand words texts=("$dist"/x86_64/blake2_c-v[23].s)
-    is_x86 || texts=("$dist/aarch64/blake2_c.s")
-    mkdir -p "$folder" && cp "$here/include/blake2_c.h" "$here/choose.c" "${texts[@]}" "$folder/" &&
+    local folder=$work/by_hand words texts=("$dist"/x86_64/vulfsjor-v[23].s)
+    is_x86 || texts=("$dist/aarch64/vulfsjor.s")
+    mkdir -p "$folder" && cp "$here/include/vulfsjor.h" "$here/choose.c" "${texts[@]}" "$folder/" &&
         write_program "$folder/program.c" && cd "$folder" || return 1
     for words in -O0 -O2 "-O2 -static" "-O2 -fPIC -shared"; do
         # shellcheck disable=SC2086
-        cc $words "${warnings[@]}" -std=gnu99 program.c choose.c blake2_c*.s -o program || return 1
+        cc $words "${warnings[@]}" -std=gnu99 program.c choose.c vulfsjor*.s -o program || return 1
         [[ $words == *-shared ]] || ./program || return 1
     done
-    [ "$(nm -D --defined-only program | awk 'NF == 3 { print $3 }' | grep -c blake2_c)" -eq 0 ]
+    [ "$(nm -D --defined-only program | awk 'NF == 3 { print $3 }' | grep -c vulfsjor)" -eq 0 ]
 }
 
-# The same by CMake, from the repository.
-vendored_by_cmake() {
-    local folder=$work/by_cmake
-    mkdir -p "$folder" && write_program "$folder/program.c" &&
+# A project for CMake that gets the library by these lines, with a program and one with threads that
+# link these targets, and a shared library: LINES TARGET TARGET [LANGUAGE]. Both programs run, and
+# need these of our shared libraries (in the file `needed`).
+project_by_cmake() {
+    local folder build language=${4:-C}
+    folder=$(mktemp -d "$work/project.XXXX") && build=$folder/build
+    write_program "$folder/program.c" && write_threads "$folder/threads.c" &&
         cat >"$folder/CMakeLists.txt" <<END || return 1
 cmake_minimum_required(VERSION 3.13)
-project(program LANGUAGES C)
-set(CMAKE_INTERPROCEDURAL_OPTIMIZATION ON)
+project(project LANGUAGES $language)
+$1
+set_source_files_properties(program.c threads.c PROPERTIES LANGUAGE $language)
+add_executable(program program.c)
+target_link_libraries(program PRIVATE $2)
+add_executable(threads threads.c)
+target_link_libraries(threads PRIVATE $3)
+add_library(shared SHARED threads.c)
+target_link_libraries(shared PRIVATE $3)
+target_link_options(shared PRIVATE -Wl,-z,defs -Wl,-z,text)
+END
+    cmake -S "$folder" -B "$build" -DCMAKE_BUILD_TYPE=Release &&
+        cmake --build "$build" && "$build/program" && "$build/threads" || return 1
+    readelf -d "$build/program" "$build/threads" "$build/libshared.so" |
+        sed -n 's/.*NEEDED.*\[\(libvulfsjor.*\)\]/\1/p' >"$work/needed"
+}
+needs_nothing() { [ ! -s "$work/needed" ]; }
+needs_shared() { [ "$(paste -sd ' ' "$work/needed")" = "$(printf 'libvulfsjor.so.0 %.0s' 1 2 3 |
+    sed 's/ $//')" ]; }
+shared_is_on="set(BUILD_SHARED_LIBS ON)"
+
+# The repository as a part of a project.
+vendored_by_cmake() {
+    local add="add_subdirectory(\"$here\" vulfsjor)" odd
+    odd="set(CMAKE_INTERPROCEDURAL_OPTIMIZATION ON)
 set(CMAKE_C_FLAGS -fno-pie)
 set(CMAKE_C_STANDARD 90)
 set(CMAKE_C_EXTENSIONS OFF)
-add_subdirectory("$here" blake2_c)
+$add
 set(CMAKE_C_FLAGS)
-set(CMAKE_C_STANDARD)
-add_executable(program program.c)
-target_link_libraries(program PRIVATE vulfsjor::blake2_c)
-add_library(shared SHARED program.c)
-target_link_libraries(shared PRIVATE vulfsjor::blake2_c)
+set(CMAKE_C_STANDARD)"
+    project_by_cmake "$odd" vulfsjor::vulfsjor vulfsjor::threads && needs_nothing &&
+        project_by_cmake "$shared_is_on
+$add" vulfsjor::vulfsjor vulfsjor::threads && needs_shared
+}
+
+# The package of an installation: by another LIBDIR, static by default, for C++ too, found twice,
+# and in no other version than these; and moved, shared by BUILD_SHARED_LIBS.
+installed_for_cmake() {
+    local found=$work/found find="find_package(vulfsjor"
+    LIBDIR=$found/other/lib install_into "$work/found by libdir" &&
+        project_by_cmake "list(APPEND CMAKE_PREFIX_PATH \"$found/other\")
+foreach(request 0.1.99 0.0 0.2 1.1)
+  $find \${request} QUIET)
+  if(vulfsjor_FOUND OR NOT vulfsjor_CONSIDERED_VERSIONS STREQUAL \"$(version)\")
+    message(FATAL_ERROR \"version \${request}\")
+  endif()
+endforeach()
+$find $(version) EXACT REQUIRED)
+$find REQUIRED)" vulfsjor::vulfsjor vulfsjor::threads CXX && needs_nothing &&
+        install_into "$work/found here" && mv "$work/found here" "$found/here" &&
+        project_by_cmake "list(APPEND CMAKE_PREFIX_PATH \"$found/here\")
+$shared_is_on
+$find 0.1 REQUIRED)" vulfsjor::vulfsjor vulfsjor::threads && needs_shared
+}
+
+# `cmake --install`, of the static library and of the shared one, which has only its functions.
+installed_by_cmake() {
+    local shared folder find wanted
+    for shared in OFF ON; do
+        folder=$work/cmake_$shared
+        cmake -S "$here" -B "$folder.build" -DBUILD_SHARED_LIBS=$shared \
+            -DCMAKE_INSTALL_LIBDIR=lib &&
+            cmake --build "$folder.build" && cmake --install "$folder.build" --prefix "$folder" &&
+            find="list(APPEND CMAKE_PREFIX_PATH \"$folder\")
+find_package(vulfsjor 0.1 REQUIRED)" &&
+            project_by_cmake "$find" vulfsjor::vulfsjor vulfsjor::threads || return 1
+        wanted=libvulfsjor.a
+        [ $shared = OFF ] || wanted="libvulfsjor.so libvulfsjor.so.0 libvulfsjor.so.$(version)"
+        # shellcheck disable=SC2086
+        { printf 'lib/%s\n' $wanted && wanted_files lib/ |
+            grep -E 'include/vulfsjor(_threads)?[.]h$|cmake|threads.a'; } | LC_ALL=C sort |
+            diff <(files_below "$folder") - || return 1
+    done
+    needs_shared && diff <(shown_functions "$folder") <(shown_functions "$prefix")
+}
+shown_functions() {
+    nm -D --defined-only "$1/lib/libvulfsjor.so" | cut -d ' ' -f 2- | LC_ALL=C sort
+}
+
+# The modules for pkg-config in CMake and in meson.
+modules_by_cmake() {
+    local of=PkgConfig:: find
+    find="set(ENV{PKG_CONFIG_PATH} \"$prefix/lib/pkgconfig:$prefix/lib/vulfsjor-libb2/pkgconfig\")
+find_package(PkgConfig REQUIRED)
+pkg_check_modules(static REQUIRED IMPORTED_TARGET vulfsjor-static)
+pkg_check_modules(shared REQUIRED IMPORTED_TARGET vulfsjor)
+pkg_check_modules(threads REQUIRED IMPORTED_TARGET vulfsjor-threads)"
+    project_by_cmake "$find" ${of}static ${of}threads && needs_nothing &&
+        project_by_cmake "$find" ${of}shared "${of}threads" &&
+        [ "$(cat "$work/needed")" = libvulfsjor.so.0 ]
+}
+modules_by_meson() {
+    local folder=$work/meson
+    mkdir "$folder" && write_program "$folder/program.c" && write_threads "$folder/threads.c" &&
+        cat >"$folder/meson.build" <<'END' || return 1
+project('project', 'c')
+static = dependency('vulfsjor-static', version : '>=0.1')
+executable('static', 'program.c', dependencies : static)
+executable('shared', 'program.c', dependencies : dependency('vulfsjor'))
+executable('threads', 'threads.c', dependencies : dependency('vulfsjor-threads'))
 END
-    cmake -S "$folder" -B "$folder/build" -DCMAKE_BUILD_TYPE=Release &&
-        cmake --build "$folder/build" &&
-        "$folder/build/program"
+    PKG_CONFIG_PATH=$prefix/lib/pkgconfig meson setup "$folder/build" "$folder" &&
+        meson compile -C "$folder/build" && "$folder/build/static" && "$folder/build/threads" &&
+        LD_LIBRARY_PATH=$prefix/lib "$folder/build/shared"
+}
+
+# What pkg-config prints for each module, from the folder of its file: MODULE FOLDER INCLUDES ROOM
+# LIBRARIES.
+words_are_these() {
+    local module folder includes room libraries
+    while read -r module folder includes room libraries; do
+        folder=$prefix/lib/$folder
+        diff <(echo "-IHERE/$includes -LHERE/$room $libraries") <(PKG_CONFIG_PATH=$folder pkg-config --cflags --libs "$module" |
+            sed "s|$folder|HERE|g;s/ *$//") || return 1
+    done <<'END'
+vulfsjor pkgconfig ../../include .. -lvulfsjor
+vulfsjor-static pkgconfig ../../include .. -lvulfsjor-static
+vulfsjor-threads pkgconfig ../../include .. -lvulfsjor-threads -lvulfsjor-static -pthread
+libb2 vulfsjor-libb2/pkgconfig ../../../include/vulfsjor-libb2 ../../vulfsjor-libb2 -lb2
+END
+}
+
+# A program with a name of the first drafts fails when it is compiled, configured or linked, and no
+# file of the installation has one.
+old_names() {
+    local call='int blake2_c_blake2b(void); int main(void) { return blake2_c_blake2b(); }'
+    echo '#include <blake2_c.h>' >"$work/header.c" && echo "$call" >"$work/call.c" &&
+        refuses 1 'blake2_c\.h' cc -c "$work/header.c" -I"$include" -o "$work/old" &&
+        refuses 1 blake2_c_blake2b cc "$work/call.c" "$archive" -o "$work/old" &&
+        refuses 1 blake2_c_blake2b cc "$work/call.c" "$shared" -o "$work/old" &&
+        refuses 1 -lblake2_c cc "$empty" -L"$prefix/lib" -lblake2_c -o "$work/old" &&
+        ! grep -rE 'blake2_(c([^a-z]|$)|threads)' "$prefix" && [ ! -e "$work/old" ] || return 1
+    ! has cmake || refuses 1 vulfsjor::blake2_c project_by_cmake "set(vulfsjor_DIR
+\"$prefix/lib/cmake/vulfsjor\")
+find_package(vulfsjor REQUIRED)" vulfsjor::blake2_c vulfsjor::threads || return 1
+    ! has pkg-config || refuses 1 blake2_c words_for blake2_c
+}
+
+# Compilers of several words; and one that makes no position-independent programs by default, whose
+# libraries become a part of a shared library all the same.
+compilers_of_words() {
+    local folder=$work/words
+    mkdir -p "$folder/bin" && printf '#!/bin/sh\necho "$*" >>"%s/calls"\nexec "$@"\n' "$folder" \
+        >"$folder/bin/ccache" && chmod +x "$folder/bin/ccache" &&
+        PATH=$folder/bin:$PATH CC="ccache cc" install_into "$folder" && words_work "$folder/lib" &&
+        [ "$(grep -c -- ' -c ' "$folder/calls")" -ge 5 ] && ! grep -v '^cc ' "$folder/calls" &&
+        CC="cc -fno-pie" install_into "$folder" && cc -shared -Wl,-z,defs -Wl,-z,text \
+        -Wl,--whole-archive "$folder/lib/libvulfsjor-threads.a" -Wl,--no-whole-archive \
+        "$folder/lib/libvulfsjor.a" -pthread -o "$folder/shared.so"
+}
+
+# `make install` and `make uninstall`, below DESTDIR.
+made_by_make() {
+    local root="$work/made here" files=(bin/b2 share/bash-completion/completions/b2
+        share/fish/vendor_completions.d/b2.fish share/man/man1/b2.1 share/zsh/site-functions/_b2)
+    (umask 077 && make -C "$top" install PREFIX="/opt/a b" DESTDIR="$root" CC="cc -O1") &&
+        files_below "$root/opt/a b" |
+        diff <({ printf '%s\n' "${files[@]}" && wanted_files lib/; } | LC_ALL=C sort) - &&
+        [ "$(cd "$root/opt/a b" && find . -type f -perm 755 | sort | paste -sd ' ')" = \
+            "./bin/b2 ./lib/libvulfsjor.so.$(version)" ] &&
+        [ -z "$(find "$root" ! -type l ! -perm 755 ! -perm 644)" ] &&
+        [ "$(printf abc | "$root/opt/a b/bin/b2" sum b512)" = "$(printf abc | b2sum | cut -c-128)" ] &&
+        cmp "$root/opt/a b/share/man/man1/b2.1" "$top/docs/b2.1" &&
+        cmp "$root/opt/a b/${files[1]}" "$top/completions/b2.bash" &&
+        cmp "$root/opt/a b/${files[2]}" "$top/completions/b2.fish" &&
+        cmp "$root/opt/a b/${files[4]}" "$top/completions/_b2" &&
+        touch "$root/opt/a b/bin/other" &&
+        make -C "$top" uninstall PREFIX="/opt/a b" DESTDIR="$root" &&
+        [ "$(files_below "$root")" = "opt/a b/bin/other" ] &&
+        refuses 2 "PREFIX must be an absolute path" make -C "$top" install PREFIX=opt &&
+        make -C "$top" -n install | grep -qxF 'c/install.sh "/usr/local"'
 }
 
 # Has CMake choose the code for a system and a processor, and prints the names of its files.
@@ -150,18 +314,18 @@ choose_by_cmake() {
         cmake -S "$here" -B "$build" -DCMAKE_SYSTEM_NAME="$1" -DCMAKE_SYSTEM_PROCESSOR="$2" \
             -DCMAKE_TRY_COMPILE_TARGET_TYPE=STATIC_LIBRARY "${@:3}" >"$work/configured" 2>&1 ||
         { cat "$work/configured" && return 1; }
-    grep -rhoE 'dist/[a-z0-9_]+/blake2_c[v0-9-]*\.s' "$build" | LC_ALL=C sort -u
+    grep -rhoE 'dist/[a-z0-9_]+/vulfsjor[v0-9-]*\.s' "$build" | LC_ALL=C sort -u
 }
 
 # What CMake chooses by each name of a processor, and where it has nothing to choose.
 chosen_by_cmake() {
-    local name refusal="blake2_c has no code for"
+    local name refusal="vulfsjor has no code for"
     for name in x86_64 AMD64 amd64; do
-        choose_by_cmake Linux $name | diff <(printf 'dist/x86_64/blake2_c-v%s.s\n' 2 3) - ||
+        choose_by_cmake Linux $name | diff <(printf 'dist/x86_64/vulfsjor-v%s.s\n' 2 3) - ||
             return 1
     done
     for name in aarch64 arm64; do
-        choose_by_cmake Linux $name | diff <(echo dist/aarch64/blake2_c.s) - || return 1
+        choose_by_cmake Linux $name | diff <(echo dist/aarch64/vulfsjor.s) - || return 1
     done
     refuses 1 "$refusal FreeBSD on x86_64" choose_by_cmake FreeBSD x86_64 &&
         refuses 1 "$refusal Linux on aarch64_be" choose_by_cmake Linux aarch64_be || return 1
@@ -170,9 +334,12 @@ chosen_by_cmake() {
 }
 
 write_program() {
-    printf '%s\n' '#include <blake2_c.h>' 'int main(void) { unsigned char out[64];' \
+    printf '%s\n' '#include "vulfsjor.h"' 'int main(void) { unsigned char out[64];' \
         'return vulfsjor_blake2b(out, 64, 0, 0, 0, 0) || out[0] != 0x78 || out[63] != 0xce; }' >"$1"
-    sed -i "s/<blake2_c.h>/\"blake2_c.h\"/" "$1"
+}
+write_threads() {
+    printf '%s\n' '#include <vulfsjor_threads.h>' 'int main(void) { unsigned char out[64];' \
+        'return vulfsjor_tree_root_threads(out, 64, 0, 0, 0, 0, 0, 0, 1, 0); }' >"$1"
 }
 
 # A folder that is named from the current one, with the words of c/README.md, from elsewhere
@@ -181,7 +348,7 @@ relative_folder() {
     mkdir -p "$work/here" && cd "$work/here" && install_into ./some/folder &&
         files_below some/folder |
         diff <(wanted_files lib/) - && write_program program.c &&
-        cc -O2 program.c -Isome/folder/include some/folder/lib/libblake2_c.a -o program && cd / &&
+        cc -O2 program.c -Isome/folder/include some/folder/lib/libvulfsjor.a -o program && cd / &&
         "$work/here/program" && words_work "$work/here/some/folder/lib" && cd "$work/here" &&
         "$here/install.sh" --uninstall some/folder && [ -z "$(files_below some/folder)" ]
 }
@@ -207,7 +374,7 @@ comes_from() {
         "$tree/c/install.sh" --cpu x86-64-v3 --prove "$tree/proved" &&
         words_work "$tree/proved/lib" &&
         sed 's| /.*/dist | DIST |' "$tree/calls" |
-        diff - <(printf '%s\n' current 'make DIST x86_64/blake2_c-v3.s') &&
+        diff - <(printf '%s\n' current 'make DIST x86_64/vulfsjor-v3.s') &&
         touch "$tree/refuse" || return 1
     refuses 1 'dist/ was not made from these sources' "$tree/c/install.sh" "$tree/not_made" &&
         ! "$tree/c/install.sh" --prove "$tree/not_made" && [ ! -e "$tree/not_made" ]
@@ -244,11 +411,20 @@ test_installing() {
     check "what install.sh refuses" refusals
     check "a folder named from the current one" relative_folder
     check "a project with the files by hand" vendored_by_hand
+    check "compilers of several words" compilers_of_words
+    check "names of the first drafts" old_names
     if has cmake; then
         check "a project with the files by CMake" vendored_by_cmake
         check "what CMake chooses by the processor" chosen_by_cmake
+        check "find_package of an installation" installed_for_cmake
+        check "find_package after cmake --install" installed_by_cmake
     else
-        skip "a project with the files by CMake, and what that chooses" "no cmake"
+        skip "the files and the package by CMake" "no cmake"
+    fi
+    if has make; then
+        check "make install and make uninstall" made_by_make
+    else
+        skip "make install and make uninstall" "no make"
     fi
     if is_x86; then
         check "an installation with only one build" one_build
@@ -257,5 +433,21 @@ test_installing() {
         skip "an installation with only one build, and where the library comes from" \
             "the processor is not x86-64"
     fi
-    has pkg-config || skip "the words for pkg-config" "no pkg-config"
+    if has pkg-config; then
+        check "the words of pkg-config" words_are_these
+    else
+        skip "the words of pkg-config" "no pkg-config"
+    fi
+    if has pkg-config && has cmake; then
+        check "the modules of pkg-config in CMake" modules_by_cmake
+    else
+        skip "the modules of pkg-config in CMake" "no pkg-config, or no cmake"
+    fi
+    if has pkg-config && has meson; then
+        check "the modules of pkg-config in meson" modules_by_meson
+    else
+        skip "the modules of pkg-config in meson" "no pkg-config, or no meson"
+    fi
 }
+
+part test_installing

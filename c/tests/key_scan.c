@@ -1,4 +1,4 @@
-/* Looks for copies of a key once a keyed call of blake2_c.h has returned: for each piece of 8 bytes
+/* Looks for copies of a key once a keyed call of vulfsjor.h has returned: for each piece of 8 bytes
  * of it, in 64 KiB of the dead stack below the caller. Prints for each call how many were found,
  * the largest number over messages of several lengths. A call that leaves one fails. So does a
  * state that is not zero, byte by byte, after final, verify and wipe, and a search that misses a
@@ -6,6 +6,7 @@
  *
  *   cc -std=gnu99 -O2 -Wl,-z,now -I FOLDER/include key_scan.c ARCHIVE -o key_scan
  *   cc the same with -DTEST_S       the same of BLAKE2s
+ *   cc the same with -DLIBB2_NAMES and ARCHIVE-libb2        the calls by libb2's names
  *
  * With -z now no call goes by the dynamic linker, which would save vector registers on the
  * stack. */
@@ -14,15 +15,19 @@
 #include <stdio.h>
 #include <string.h>
 
+#ifdef LIBB2_NAMES
+#include "libb2_names.h"
+#undef BLAKE
+#define BLAKE(name) X(_##name)
+#define state_t X(_state)
+#endif
+
 enum { DEPTH = 64 * 1024, PIECE = 8, LONGEST = 1000 };
 
-
 /* What the calls are given, none of it on the stack. */
-static uint8_t key[MAX], message[LONGEST], salt[2 * MAX], tag[MAX], wrong[MAX],
-    out[(LANES + 1) * MAX];
+static uint8_t key[MAX], message[LONGEST], tag[MAX], wrong[MAX], out[(LANES + 1) * MAX];
 static state_t state;
 static vulfsjor_message messages[LANES + 1];
-static vulfsjor_tree tree = {3, 4096, 2, 2, 0, MAX}, no_tree = {3, 4096, 2, 0, 0, MAX};
 static size_t length;
 
 /* What was on the dead stack. */
@@ -51,6 +56,18 @@ static void start_and_take(void) {
 
 static int call_init_key(void) { return BLAKE(init_key)(&state, MAX, key, MAX); }
 
+static int call_refused_size(void) { return !BLAKE(init_key)(&state, MAX + 1, key, MAX); }
+
+static int call_update(void) { return BLAKE(update)(&state, message, length); }
+
+static int call_final(void) { return BLAKE(final)(&state, out, MAX); }
+
+#ifdef LIBB2_NAMES
+static int call_one_call(void) { return BLAKE2(out, message, key, MAX, length, MAX); }
+#else
+static uint8_t salt[2 * MAX];
+static vulfsjor_tree tree = {3, 4096, 2, 2, 0, MAX}, no_tree = {3, 4096, 2, 0, 0, MAX};
+
 static int call_init_salt(void) {
     return BLAKE(init_salt_personal)(&state, MAX, key, MAX, salt, MAX / 4, salt, MAX / 4);
 }
@@ -58,8 +75,6 @@ static int call_init_salt(void) {
 static int call_init_tree(void) {
     return BLAKE(init_tree)(&state, MAX, key, MAX, salt, MAX / 4, salt, MAX / 4, &tree);
 }
-
-static int call_refused_size(void) { return !BLAKE(init_key)(&state, MAX + 1, key, MAX); }
 
 static int call_refused_salt(void) {
     return !BLAKE(init_salt_personal)(&state, MAX, key, MAX, salt, MAX / 4 + 1, salt, 0);
@@ -71,6 +86,15 @@ static int call_refused_depth(void) {
 
 static int call_one_call(void) { return ONE_CALL(out, MAX, message, length, key, MAX); }
 
+static int call_refused(void) {
+    return BLAKE(refused)(MAX, key, MAX, salt, MAX / 4, salt, MAX / 4, &no_tree) !=
+           VULFSJOR_ARGUMENT_DEPTH;
+}
+
+static int call_refused_null(void) {
+    return BLAKE(refused)(MAX, key, MAX, NULL, 1, NULL, 0, NULL) != VULFSJOR_ARGUMENT_SALT;
+}
+
 static int call_many_one(void) { return BLAKE(many)(out, MAX, messages, 1, key, MAX, 0, 0, 0, 0); }
 
 static int call_many_lanes(void) {
@@ -81,11 +105,7 @@ static int call_many_more(void) {
     return BLAKE(many)(out, MAX, messages, LANES + 1, key, MAX, 0, 0, 0, 0);
 }
 
-static int call_update(void) { return BLAKE(update)(&state, message, length); }
-
 static int call_set_last_node(void) { return BLAKE(set_last_node)(&state, 1); }
-
-static int call_final(void) { return BLAKE(final)(&state, out, MAX); }
 
 static int call_verify_right(void) { return BLAKE(verify)(&state, tag, MAX); }
 
@@ -99,6 +119,7 @@ static int call_wipe(void) {
     BLAKE(wipe)(&state);
     return 0;
 }
+#endif
 
 /* ---- The search. */
 
@@ -210,24 +231,28 @@ static const struct {
     const char *name;
 } CALLED[] = {
     {call_init_key, nothing, 0, "init_key"},
+    {call_refused_size, start, 1, "init_key, refused for its digest's length"},
+    {call_one_call, nothing, 0, "the hash in one call"},
+    {call_update, start, 0, "update"},
+    {call_update, start_and_take, 0, "update, after an update"},
+    {call_final, start_and_take, 1, "final"},
+#ifndef LIBB2_NAMES
     {call_init_salt, nothing, 0, "init_salt_personal with a key"},
     {call_init_tree, nothing, 0, "init_tree with a key"},
-    {call_refused_size, start, 1, "init_key, refused for its digest's length"},
     {call_refused_salt, start, 1, "init_salt_personal, refused for its salt"},
     {call_refused_depth, start, 1, "init_tree, refused for its depth"},
-    {call_one_call, nothing, 0, "the hash in one call"},
+    {call_refused, nothing, 0, "which argument of a keyed call is refused, its depth"},
+    {call_refused_null, nothing, 0, "which argument of a keyed call is refused, a null salt"},
     {call_many_one, nothing, 0, "many, one message"},
     {call_many_lanes, nothing, 0, "many, as many as are hashed at once"},
     {call_many_more, nothing, 0, "many, one more, of another length"},
-    {call_update, start, 0, "update"},
-    {call_update, start_and_take, 0, "update, after an update"},
     {call_set_last_node, start_and_take, 0, "set_last_node"},
-    {call_final, start_and_take, 1, "final"},
     {call_verify_right, start_and_take, 1, "verify, a right tag"},
     {call_verify_wrong, start_and_take, 1, "verify, a wrong tag"},
     {call_verify_short, start_and_take, 1, "verify, a tag of another length"},
     {call_reset, start_and_take, 0, "reset"},
     {call_wipe, start_and_take, 1, "wipe"},
+#endif
 };
 
 /* Sets the length of the message of all calls. */

@@ -1,4 +1,6 @@
-# Part of c/run_tests.sh: the library from C and C++, and the examples of c/README.md.
+#!/usr/bin/env bash
+# Tests the library from C and C++, and the examples of c/README.md.
+source "$(dirname "$(readlink -f "$0")")/installed.sh"
 
 # Compiles test.c to this program with these words.
 compile() {
@@ -38,20 +40,58 @@ header_compiles_as_cpp() {
     c++ -std=c++11 "${warnings[@]}" -I"$include" -I"$libb2" -c "$work/header.cpp" -o /dev/null
 }
 
-# A test program of a family, with these words, whose digests Python's hashlib has to have too; WORD
-# is given to the program.
-compare_lines() {
-    local source=$1 word=$2
-    shift 2
-    cc -std=c99 -g "${warnings[@]}" $(family_words "$family") -o "$work/$source" \
-        "$tests/$source.c" "$@" "$archive" &&
-        "$work/$source" $word >"$work/lines" && python3 "$tests/check_lines.py" <"$work/lines"
+# A program that ignores a status has a warning, except for the inits, which make later calls fail
+# too, reset and set_last_node.
+ignored_statuses_warn() {
+    python3 - "$include" >"$work/ignored.c" <<'END' &&
+import re, sys
+names = ("vulfsjor.h", "vulfsjor_threads.h")
+print(*(f"#include <{name}>" for name in names), "void ignore(void) {", sep="\n")
+for name, words in re.findall(r"\bint\s+(vulfsjor_\w+)\(([^)]*)\)",
+                              "".join(open(f"{sys.argv[1]}/{name}").read() for name in names)):
+    print(name + "(" + ", ".join("0" for word in words.split(",")) + ");")
+print("}")
+END
+        cc -I"$include" -c "$work/ignored.c" -o "$work/ignored.o" 2>"$work/ignored.log" &&
+        grep -o "[a-z0-9_]*.* declared with attribute .\?warn_unused_result" "$work/ignored.log" |
+        grep -o 'vulfsjor_[a-z0-9_]*' |
+        diff <(sed -nE '/_(init|reset|set_last_node)/!s/^(vulfsjor_.*)\(.*/\1/p' \
+            "$work/ignored.c") - &&
+        [ "$(grep -c '^vulfsjor' "$work/ignored.c")" -gt 30 ]
 }
 
-# A program in C++ over both headers.
+# A test program of a family, with these words, whose digests Python's hashlib has to have too.
+compare_lines() {
+    local source=$1
+    shift
+    cc -std=c99 -g "${warnings[@]}" $(family_words "$family") -o "$work/$source" \
+        "$tests/$source.c" "$@" "$archive" &&
+        "$work/$source" >"$work/lines" && python3 "$tests/check_lines.py" <"$work/lines"
+}
+
+# What the inline functions pass to the library, which is a part of the test.
+passes() {
+    cc -std=c99 -O1 "${warnings[@]}" $(family_words "$1") -I"$include" -I"$libb2" \
+        "$tests/passes.c" -o "$work/passes" && "$work/passes"
+}
+
+# Which argument is refused.
+refused_arguments() {
+    cc -std=c99 -O1 "${warnings[@]}" $(family_words "$1") -I"$include" "$tests/refused.c" \
+        "$archive" -o "$work/refused" && "$work/refused"
+}
+
+# Buffers of more than 2^32 bytes. VULFSJOR_TEST_HUGE in the environment adds those that take long.
+long_buffers() {
+    cc -std=gnu99 -O2 "${warnings[@]}" $(family_words "$1") -I"$include" "$tests/lengths.c" \
+        "$prefix/lib/libvulfsjor-threads.a" "$archive" -pthread -o "$work/lengths" &&
+        "$work/lengths"
+}
+
+# A program in C++ over all headers.
 cpp_links() {
-    c++ -std=c++11 "${warnings[@]}" -I"$include" -o "$work/link" "$tests/link.cpp" "$archive" &&
-        "$work/link"
+    c++ -std=c++11 "${warnings[@]}" -I"$include" -o "$work/link" "$tests/link.cpp" \
+        "$prefix/lib/libvulfsjor-threads.a" "$archive" -pthread && "$work/link"
 }
 
 # The example in C by a compiler, with the library of this name.
@@ -68,7 +108,7 @@ c_example() {
 # be read.
 sum_example() {
     local length sum=$work/sum
-    cc -O2 "${warnings[@]}" "$here/examples/sum.c" $(words_for blake2_c-static) -o "$sum" &&
+    cc -O2 "${warnings[@]}" "$here/examples/sum.c" $(words_for vulfsjor-static) -o "$sum" &&
         mkdir -p "$work/sums" &&
         cd "$work/sums" || return 1
     for length in 0 1 128 129 65536 65537 200000; do
@@ -79,15 +119,21 @@ sum_example() {
     ! "$sum" file_1 absent . file_0 >said && sums_by_hashlib file_1 file_0 | diff said -
 }
 
-# The benchmark of the README, one turn of it: a table for each family, with a time in each row.
+# The benchmark of the README, one turn of it: a table for each family, with a time in each row, and
+# in brackets that time divided by ours.
 bench_runs() {
     local words=() theirs=()
     links -lb2 && [ -e /usr/include/blake2.h ] && words+=(-DWITH_LIBB2) && theirs+=(-lb2)
     links -lcrypto && [ -e /usr/include/openssl/evp.h ] && words+=(-DWITH_OPENSSL) &&
         theirs+=(-lcrypto)
-    cc -O2 "${warnings[@]}" "${words[@]}" "$here/bench.c" $(words_for blake2_c-static) \
+    cc -O2 "${warnings[@]}" "${words[@]}" "$top/bench/calls.c" $(words_for vulfsjor-static) \
         "${theirs[@]}" -o "$work/bench" &&
-        "$work/bench" 1 >"$work/said" && [ "$(grep -c '^| [a-z].* | [0-9]' "$work/said")" -eq 14 ]
+        "$work/bench" 1 >"$work/said" && cat "$work/said" &&
+        [ "$(grep -c '^| [a-z].* | [0-9]' "$work/said")" -eq 14 ] &&
+        awk -F'[|()]' '/\)/ { for (i = 4; i < NF; i += 3) if ($(i + 1) != "") { rows++
+            differs = $(i + 1) - $i / $3
+            wrong += differs ^ 2 > (0.01 + 0.03 * $(i + 1)) ^ 2 } }
+            END { exit wrong || rows < '${#theirs[@]}' * 10 }' "$work/said"
 }
 
 # The example in Python, and what it accepts and refuses.
@@ -104,18 +150,16 @@ test_family() {
     check "test.c, blake2$family" compile_and_run "$work/test_$family" -O2 $(family_words $family) \
         "$archive"
     check "test.c, blake2$family, with the shared library" with_shared_library
-    check "edges.c, blake2$family" compare_lines edges "" -O2 -I"$include"
-    check "a message of more than 2^32 bytes, blake2$family" compare_lines edges 4294967396 -O2 \
-        -I"$include"
+    check "edges.c, blake2$family" compare_lines edges -O2 -I"$include"
     for level in 0 2; do
-        check "libb2_header.c, blake2$family, -O$level" compare_lines libb2_header "" -O$level \
+        check "libb2_header.c, blake2$family, -O$level" compare_lines libb2_header -O$level \
             -I"$libb2"
     done
     if links -fsanitize=address,undefined && "$work/linked"; then
         check "test.c, blake2$family, with sanitizers" compile_and_run "$work/test_san_$family" \
             -O1 -fsanitize=address,undefined -fno-sanitize-recover=all $(family_words $family) \
             "$archive"
-        check "edges.c, blake2$family, with sanitizers" compare_lines edges "" -O1 -I"$include" \
+        check "edges.c, blake2$family, with sanitizers" compare_lines edges -O1 -I"$include" \
             -fsanitize=address,undefined -fno-sanitize-recover=all
     else
         skip "test.c, blake2$family, with sanitizers" "cc has none"
@@ -140,23 +184,23 @@ test_keys() {
 }
 
 test_examples() {
-    check "the example in C of c/README.md" c_example cc blake2_c-static c
-    check "the example in C with the shared library" c_example cc blake2_c c
+    check "the example in C of c/README.md" c_example cc vulfsjor-static c
+    check "the example in C with the shared library" c_example cc vulfsjor c
     if has c++; then
-        check "the example in C++" c_example c++ blake2_c-static c++
+        check "the example in C++" c_example c++ vulfsjor-static c++
     else
         skip "the example in C++" "no C++ compiler c++"
     fi
     check "the program c/examples/sum.c" sum_example
-    check "the benchmark c/bench.c" bench_runs
+    check "the benchmark bench/calls.c" bench_runs
     check "the example c/examples/ctypes_hash.py" python_example
 }
 
 test_languages() {
     local header
-    for header in blake2_c.h blake2.h; do check "$header in C" headers_compile $header; done
+    for header in vulfsjor.h blake2.h; do check "$header in C" headers_compile $header; done
     if has c++; then
-        for header in blake2_c.h blake2.h; do
+        for header in vulfsjor.h blake2.h; do
             check "$header in C++" header_compiles_as_cpp $header
         done
         check "link.cpp" cpp_links
@@ -164,13 +208,19 @@ test_languages() {
         skip "the headers in C++" "no C++ compiler c++"
     fi
     test_keys
+    for family in b s; do
+        check "passes.c, blake2$family" passes $family
+        check "refused.c, blake2$family" refused_arguments $family
+        check "lengths.c, blake2$family" long_buffers $family
+    done
+    [ -n "${VULFSJOR_TEST_HUGE-}" ] || skip "lengths.c, every call" "VULFSJOR_TEST_HUGE is not set"
     if has python3; then
         for family in b s; do test_family $family; done
-        # The comparison of a wrong tag has the same number of instructions wherever the tag
-        # differs. Leaves and messages are hashed in parallel.
-        run_script "$top/tools/count_instructions.sh" "$prefix"
+        check "a status that is ignored" ignored_statuses_warn
         test_examples
     else
         skip "the test vectors and the examples" "no python3"
     fi
 }
+
+part test_languages cases

@@ -1,55 +1,26 @@
 /* Tests libb2's functions by their own names: what c/LIBB2.md says of them and of libb2, row by
- * row, and the hashes of tests/vectors.json. c/run_tests.sh links it with libblake2_c-libb2.a and,
+ * row, and the hashes of tests/vectors.json. libb2.sh links it with libvulfsjor-libb2.a and,
  * if libb2 is installed, with libb2 itself under LIBB2, so that what the page says of libb2 is
  * tested too.
  *
  *   libb2 CASES
  *
- * TEST_S is for BLAKE2s. OWN_HEADER takes libb2's own <blake2.h>; without it the functions are
- * declared here. */
+ * TEST_S is for BLAKE2s. libb2_names.h declares the functions. VULFSJOR_TEST_HUGE in the
+ * environment adds a message of more than 2^32 bytes. */
 #define _POSIX_C_SOURCE 200112L
 #include "check.h"
+#include "libb2_names.h"
 
 #include <signal.h>
-#include <stddef.h>
-#include <stdint.h>
 #include <stdlib.h>
 #include <string.h>
 #include <sys/wait.h>
 #include <unistd.h>
 
 #ifdef TEST_S
-#define X(name) blake2s##name
-#define BLAKE2 blake2s
-typedef uint32_t word;
-enum { BLOCK = 64, LONGEST = 32, SALTS = 8, SIZE = 182 };
+enum { BLOCK = 64, LONGEST = 32, SIZE = 182 };
 #else
-#define X(name) blake2b##name
-#define BLAKE2 blake2b
-typedef uint64_t word;
-enum { BLOCK = 128, LONGEST = 64, SALTS = 16, SIZE = 358 };
-#endif
-
-#ifdef OWN_HEADER
-#include <blake2.h>
-#else
-typedef struct __attribute__((packed)) state {
-    word h[8], t[2], f[2];
-    uint8_t buf[2 * BLOCK];
-    uint32_t buflen;
-    uint8_t outlen, last_node;
-} X(_state);
-typedef struct param {
-    uint8_t digest_length, key_length, fanout, depth, rest[2 * SALTS - 4];
-    uint8_t salt[SALTS], personal[SALTS];
-} X(_param);
-int X(_init)(X(_state) *S, size_t outlen);
-int X(_init_key)(X(_state) *S, size_t outlen, const void *key, size_t keylen);
-int X(_init_param)(X(_state) *S, const X(_param) *P);
-int X(_update)(X(_state) *S, const uint8_t *in, size_t inlen);
-int X(_final)(X(_state) *S, uint8_t *out, size_t outlen);
-int BLAKE2(uint8_t *out, const void *in, const void *key, size_t outlen, size_t inlen,
-           size_t keylen);
+enum { BLOCK = 128, LONGEST = 64, SIZE = 358 };
 #endif
 
 #ifdef LIBB2
@@ -91,11 +62,9 @@ static int is_zero(const void *bytes, size_t length) {
 
 static size_t from_hex(const char *digits, uint8_t *bytes) {
     size_t length = digits[0] == '-' ? 0 : strlen(digits) / 2;
-    for (size_t i = 0; i < length; i++) {
-        unsigned byte;
-        if (sscanf(digits + 2 * i, "%2x", &byte) != 1) abort();
-        bytes[i] = (uint8_t)byte;
-    }
+    /* Not by sscanf, which looks for the end of all digits each time. */
+    for (size_t i = 0; i < length; i++)
+        bytes[i] = (uint8_t)strtoul((char[]){digits[2 * i], digits[2 * i + 1], 0}, NULL, 16);
     return length;
 }
 
@@ -232,14 +201,17 @@ static void no_run(void) {
 
 /* A state that holds more than a block is refused and stays; libb2 may hold two. */
 static void refused_states(void) {
+    static const uint32_t lengths[] = {BLOCK + 1, 256, 65536, (uint32_t)1 << 31, UINT32_MAX};
     X(_state) S, before;
-    CHECK(X(_init)(&S, LONGEST) == 0);
-    S.buflen = BLOCK + 1;
-    S.f[0] = 9;
-    memset(S.buf + BLOCK, 7, BLOCK);
-    before = S;
-    CHECK(X(_update)(&S, message, 1) == -1 && X(_final)(&S, out, LONGEST) == -1);
-    CHECK(!memcmp(&S, &before, sizeof S));
+    for (size_t i = 0; i < sizeof lengths / sizeof *lengths; i++) {
+        CHECK(X(_init)(&S, LONGEST) == 0);
+        S.buflen = lengths[i];
+        S.f[0] = 9;
+        memset(S.buf + BLOCK, 7, BLOCK);
+        before = S;
+        CHECK(X(_update)(&S, message, 1) == -1 && X(_final)(&S, out, LONGEST) == -1);
+        CHECK(!memcmp(&S, &before, sizeof S));
+    }
 }
 
 /* A count that would pass 2^64 is refused, and the state stays. */
@@ -250,6 +222,42 @@ static void long_message(void) {
     before = S;
     CHECK(X(_update)(&S, message, 3 * BLOCK) == ROW(0, -1) &&
           (IS_LIBB2 || !memcmp(&S, &before, sizeof S)));
+}
+
+/* The two words of the counter are one number. BLAKE2s needs the second from 2^32 bytes on. */
+static void counter_words(void) {
+    const uint64_t begun = ((uint64_t)1 << 32) - BLOCK, more = 3 * BLOCK + 1;
+    uint64_t count;
+    X(_state) S;
+
+    for (int turn = 0; turn < 2; turn++) {
+        CHECK(X(_init)(&S, LONGEST) == 0);
+        count = begun + (turn ? (uint64_t)7 << 32 : 0);
+        memcpy(S.t, &count, sizeof count);
+        CHECK(X(_update)(&S, message, more) == 0);
+        memcpy(&count, S.t, sizeof count);
+        CHECK(count + S.buflen == begun + more + (turn ? (uint64_t)7 << 32 : 0));
+    }
+}
+
+/* 2^32 + 100 zeros, whose digest hashlib has too:
+ * hashed = hashlib.blake2b()
+ * for n in [2**22] * 1024 + [100]: hashed.update(bytes(n)) */
+static void long_input(void) {
+#ifdef TEST_S
+    static const uint8_t wanted_bytes[] = {0x1f, 0x45, 0xae, 0xa8, 0x24, 0x53, 0xd6, 0x0d};
+#else
+    static const uint8_t wanted_bytes[] = {0xb0, 0xcc, 0x7b, 0xaa, 0x8d, 0x7a, 0xcf, 0x1d};
+#endif
+    const size_t length = ((size_t)1 << 32) + 100;
+    uint8_t *zeros = calloc(length, 1);
+    X(_state) S;
+
+    CHECK(zeros && BLAKE2(out, zeros, NULL, LONGEST, length, 0) == 0);
+    CHECK(!memcmp(out, wanted_bytes, sizeof wanted_bytes));
+    CHECK(X(_init)(&S, LONGEST) == 0 && X(_update)(&S, zeros, length) == 0);
+    CHECK(X(_final)(&S, out, LONGEST) == 0 && !memcmp(out, wanted_bytes, sizeof wanted_bytes));
+    free(zeros);
 }
 
 /* The fields that libb2's header names, and the digest over its own input or key. */
@@ -268,7 +276,7 @@ static void alike(void) {
 static void last_node(void) {
     X(_state) S;
     CHECK(X(_init)(&S, LONGEST) == 0 && X(_final)(&S, wanted, LONGEST) == 0);
-    for (int value = 1; value < 256; value = value * 2 + 1) {
+    for (int value = 1; value < 256; value++) {
         CHECK(X(_init)(&S, LONGEST) == 0);
         S.last_node = (uint8_t)value;
         CHECK(X(_update)(&S, NULL, 0) == 0 && S.last_node == value &&
@@ -289,6 +297,8 @@ int main(int count, char **names) {
     no_run();
     if (!IS_LIBB2) refused_states();
     long_message();
+    counter_words();
+    if (!IS_LIBB2 && getenv("VULFSJOR_TEST_HUGE")) long_input();
     alike();
     last_node();
     printf("%d cases, %d checks, %d failures\n", cases, checks, fails);

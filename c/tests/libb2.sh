@@ -1,7 +1,8 @@
-# Part of c/run_tests.sh: libb2's functions by their own names, its own tests, and a program of
-# others.
+#!/usr/bin/env bash
+# Tests libb2's functions by their own names, and runs its own tests and a program of others.
+source "$(dirname "$(readlink -f "$0")")/installed.sh"
 
-beside=$prefix/lib/libblake2_c-libb2.a
+beside=$prefix/lib/libvulfsjor-libb2.a
 
 # libb2.c with these words behind it.
 names_of_libb2() {
@@ -12,6 +13,12 @@ names_of_libb2() {
         "$work/libb2_names" "$cases/$family"
 }
 
+# What calls by libb2's names leave of a key on the dead stack.
+keys_of_names() {
+    cc -std=gnu99 -O2 "${warnings[@]}" -Wl,-z,now -I"$include" -DLIBB2_NAMES \
+        $(family_words "$1") -o "$work/key_scan" "$tests/key_scan.c" "$beside" && "$work/key_scan"
+}
+
 # What a configure script does to find libb2: a program that names one function and has no header of
 # it.
 configure_finds() {
@@ -20,10 +27,10 @@ configure_finds() {
         blake2b_final blake2s blake2s_init blake2s_init_key blake2s_init_param blake2s_update \
         blake2s_final; do
         echo "char $name(void); int main(void) { return $name(); }" >"$work/conftest.c"
-        cc -w -fno-builtin -o "$work/conftest" "$work/conftest.c" -L"$prefix/lib/blake2_c-libb2" \
+        cc -w -fno-builtin -o "$work/conftest" "$work/conftest.c" -L"$prefix/lib/vulfsjor-libb2" \
             -Wl,-Bstatic -lb2 -Wl,-Bdynamic || return 1
     done
-    ! has pkg-config || PKG_CONFIG_PATH=$prefix/lib/blake2_c-libb2/pkgconfig pkg-config \
+    ! has pkg-config || PKG_CONFIG_PATH=$prefix/lib/vulfsjor-libb2/pkgconfig pkg-config \
         --exists 'libb2 >= 0.98'
 }
 
@@ -34,6 +41,60 @@ beside_libb2() {
         cc "${warnings[@]}" -I"$include" "$tests/both.c" $words -o "$work/both" &&
             LD_LIBRARY_PATH=$prefix/lib "$work/both" || return 1
     done
+}
+
+# Two parts of a program that share states, one of them compiled with the header here and the other
+# with libb2's own: each allocates, and each makes every other call. Nothing after a state changes.
+shared_states() {
+    local part
+    cat >"$work/part.c" <<'END'
+#include <blake2.h>
+#include <string.h>
+static struct { blake2b_state b; uint8_t after_b[256]; blake2s_state s; uint8_t after_s[256]; } own;
+void *PART(own)(void) { return memset(&own, 0xaa, sizeof own); }
+int PART(is_whole)(void) {
+    for (int i = 0; i < 256; i++) if (own.after_b[i] != 0xaa || own.after_s[i] != 0xaa) return 0;
+    return 1;
+}
+int PART(init)(void *b, void *s) { return blake2b_init(b, 64) | blake2s_init_key(s, 32, "k", 1); }
+int PART(update)(void *b, void *s, const uint8_t *in, size_t n) {
+    return blake2b_update(b, in, n) | blake2s_update(s, in, n);
+}
+int PART(final)(void *b, void *s, uint8_t *out) {
+    return blake2b_final(b, out, 64) | blake2s_final(s, out + 64, 32);
+}
+void *PART(s)(void) { return &own.s; }
+END
+    cat >"$work/parts.c" <<'END'
+#include <stdint.h>
+#include <stdio.h>
+#define PART(x) void *x##_own(void), *x##_s(void); int x##_is_whole(void), \
+    x##_init(void *, void *), x##_final(void *, void *, uint8_t *), \
+    x##_update(void *, void *, const uint8_t *, size_t);
+PART(a) PART(b)
+int main(void) {
+    uint8_t out[96], in[300] = {0};
+    for (int own = 0; own < 2; own++) for (int turn = 0; turn < 2; turn++) {
+        void *b = own ? b_own() : a_own(), *s = own ? b_s() : a_s();
+        int bad = (turn ? b_init : a_init)(b, s);
+        for (int i = 0; i < 5; i++) bad |= (i % 2 == turn ? b_update : a_update)(b, s, in, 299);
+        bad |= (turn ? a_final : b_final)(b, s, out);
+        if (bad || !(own ? b_is_whole : a_is_whole)()) return 1;
+        for (int i = 0; i < 96; i++) printf("%02x", out[i]);
+        putchar('\n');
+    }
+    return 0;
+}
+END
+    for part in a b; do
+        cc -O1 -c "-DPART(x)=${part}_##x" "$work/part.c" -o "$work/part_$part.o" \
+            $([ $part = b ] || echo "-I$libb2") || return 1
+    done
+    cc "$work/parts.c" "$work"/part_[ab].o "$beside" -o "$work/parts" &&
+        diff <("$work/parts") <(python3 -c 'import hashlib
+for turn in range(4):
+    data = bytes(1495)
+    print(hashlib.blake2b(data).hexdigest() + hashlib.blake2s(data, key=b"k").hexdigest())')
 }
 
 has_libb2() { links -lb2 && echo '#include <blake2.h>' | cc -fsyntax-only -x c - 2>/dev/null; }
@@ -87,9 +148,9 @@ librsync_tests() {
     local headers=$1 build=$work/librsync
     rm -rf "$build"
     cmake -S "$work/fetched/librsync" -B "$build" -DUSE_LIBB2=ON -DCMAKE_BUILD_TYPE=Debug \
-        -DCMAKE_LIBRARY_PATH="$prefix/lib/blake2_c-libb2" -DCMAKE_INCLUDE_PATH="$headers" &&
+        -DCMAKE_LIBRARY_PATH="$prefix/lib/vulfsjor-libb2" -DCMAKE_INCLUDE_PATH="$headers" &&
         cmake --build "$build" --parallel 2 &&
-        nm "$build/librsync.so" | grep -q ' t blake2_c_blake2b_update$' &&
+        nm "$build/librsync.so" | grep -q ' t vulfsjor_ffi_blake2b_update$' &&
         ! readelf -d "$build/librsync.so" | grep -q 'libb2\.so' && cd "$build" &&
         ctest --output-on-failure
 }
@@ -116,7 +177,7 @@ test_sources() {
     else
         check "librsync's own tests over the header" librsync_tests "$libb2"
         mkdir -p "$work/own" && cp "$work/fetched/libb2/src/blake2.h" "$work/own/" &&
-            check "librsync's own tests over libb2's header" librsync_tests "$work/own"
+            check_huge "librsync's own tests over libb2's header" librsync_tests "$work/own"
     fi
 }
 
@@ -125,9 +186,14 @@ test_libb2() {
     check "libb2.c without a warning" cc -std=c99 -O2 "${warnings[@]}" -c "$here/libb2/libb2.c" \
         -o "$work/libb2.o"
     check "a configure script finds libb2" configure_finds
+    for family in b s; do
+        check "key_scan.c by libb2's names, blake2$family" keys_of_names $family
+    done
     if has python3; then
         for family in b s; do
             check "libb2's names, blake2$family" names_of_libb2 $family "$beside"
+            check "libb2's names by the header here, blake2$family" names_of_libb2 $family \
+                -DOWN_HEADER -I"$libb2" "$archive"
         done
     else
         skip "libb2's names" "no python3 for the known answers"
@@ -140,8 +206,11 @@ test_libb2() {
                 -DOWN_HEADER -DLIBB2 -w -lb2
         done
         check "this library and libb2 in one program" beside_libb2
+        check "states that both headers share" shared_states
     else
         skip "what is said of libb2 itself" "no libb2"
     fi
     test_sources
 }
+
+part test_libb2 cases

@@ -1,9 +1,11 @@
-// A program in C++ that calls a function of each kind in blake2_c.h and in libb2/blake2.h, and is
-// linked. It answers 0 where the digests of the same bytes by both headers, in one call, in pieces
-// and among several, are those of RFC 7693, appendices A and B.
+// A program in C++ that calls a function of each kind in vulfsjor.h, vulfsjor_threads.h and
+// libb2/blake2.h, and is linked. It returns 0 if the digests of the same bytes by the headers, in
+// one call, in pieces and among several, are those of RFC 7693, appendices A and B.
 //
-//   c++ -std=c++11 -Wall -Wextra -Wpedantic -Werror -I FOLDER/include link.cpp ARCHIVE -o link
-#include "blake2_c-libb2/blake2.h"
+//   c++ -std=c++11 -Wall -Wextra -Wpedantic -Werror -I FOLDER/include link.cpp ARCHIVE-threads.a
+//       ARCHIVE.a -pthread -o link
+#include "vulfsjor-libb2/blake2.h"
+#include "vulfsjor_threads.h"
 
 #include <cstring>
 
@@ -49,6 +51,11 @@ int main() {
     good = good && !vulfsjor_tree_final(&tree, all, 64) &&
            !vulfsjor_tree_root(b, 64, "abc", 3, nullptr, 0, nullptr, 0, 2);
     good = good && is(b, all);
+    good = good && !vulfsjor_tree_root_threads(b, 64, "abc", 3, nullptr, 0, nullptr, 0, 2, 2) &&
+           is(b, all);
+    good = good && vulfsjor_tree_root_file(b, 64, "", nullptr, 0, nullptr, 0, 2, 2) == -1 &&
+           vulfsjor_tree_root_fd(b, 64, -1, nullptr, 0, nullptr, 0, 2, 2) == -1 &&
+           vulfsjor_tree_update_threads(nullptr, "abc", 3, 2) == -1;
     blake2b_state libb2_run;
     good = good && !blake2b_init(&libb2_run, BLAKE2B_OUTBYTES) &&
            !blake2b_update(&libb2_run, (const uint8_t *)"abc", 3);

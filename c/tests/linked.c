@@ -2,7 +2,7 @@
  * the same time. FIRST_BY_THREADS leaves out the constructor. Returns 0 if all digests are
  * right. */
 #define _POSIX_C_SOURCE 200112L
-#include "blake2_c.h"
+#include "vulfsjor.h"
 
 #include <pthread.h>
 #include <stdio.h>

@@ -1,4 +1,4 @@
-/* The edges of the functions of blake2_c.h that hash a tree in parts, and of counts: each pointer
+/* The edges of the functions of vulfsjor.h that hash a tree in parts, and of counts: each pointer
  * null with length 0 and 1, wrong lengths, leaves of no bytes, every kind of flag, places at the
  * limits, what stays unchanged, and random cuts, orders and changes. Prints a line for digests that
  * Python's hashlib has to have, as check_lines.py reads them; returns 0 if all else is as it should
@@ -7,7 +7,7 @@
  *   cc -std=c99 -Wall -Wextra -Wpedantic -Werror -I FOLDER/include parts.c ARCHIVE -o parts
  *   ./parts [TURNS] | python3 check_lines.py    status 0 if every digest is hashlib's; TURNS is how
  *                                               many random messages are cut, 20,000 without it */
-#include "blake2_c.h"
+#include "vulfsjor.h"
 #include "check.h"
 
 #include <limits.h>

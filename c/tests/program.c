@@ -12,6 +12,7 @@
 #include <stdlib.h>
 #include <string.h>
 #include <sys/types.h>
+#include <unistd.h>
 
 struct tried {
     bool is_there;
@@ -73,6 +74,7 @@ static void check_arguments(void) {
     check_argument(2, "two words");
     check_argument(3, "");
     CHECK(rattle_arg(4, bytes, 1) == -1 && rattle_arg(SIZE_MAX, bytes, 1) == -1 && bytes[0] == '#');
+    CHECK(rattle_arg(((size_t)1 << 32) + 1, bytes, 1) == -1 && bytes[0] == '#');
 }
 
 static void check_errno(void) {
@@ -113,12 +115,31 @@ static void check_memory(void) {
     refuses = true;
     block = rattle_realloc(more.place, 4, 1 << 20, 1);
     CHECK(!block.is_there && block.place && !memcmp(more.place, "kept", 4));
-    block = rattle_alloc(4, 1);
-    CHECK(!block.is_there && block.place);
+    block = rattle_realloc(more.place, 4, ((size_t)1 << 40) + 5, 1);
+    CHECK(!block.is_there && asked == ((size_t)1 << 40) + 5);
+    block = rattle_alloc(((size_t)1 << 32) + 4, 1);
+    CHECK(!block.is_there && block.place && asked == ((size_t)1 << 32) + 4);
     refuses = false;
     rattle_dealloc(more.place);
     CHECK(last_freed == more.place);
 }
+
+#ifndef __GLIBC__
+ssize_t __write(int file, const void *bytes, size_t size);
+
+/* The name that glibc has for write. */
+static void check_write(void) {
+    char said[4] = "####";
+    int ends[2];
+
+    CHECK(!pipe(ends) && __write(ends[1], "abcd", 3) == 3);
+    CHECK(read(ends[0], said, 4) == 3 && !memcmp(said, "abc#", 4));
+    errno = 0;
+    CHECK(__write(ends[0], "a", 1) == -1 && errno == EBADF);
+}
+#else
+static void check_write(void) {}
+#endif
 
 #ifdef HAS_LEAVES
 struct leaf {
@@ -171,6 +192,7 @@ int checks(void) {
     check_arguments();
     check_errno();
     check_memory();
+    check_write();
     check_leaves();
     return fails ? 1 : 7;
 }

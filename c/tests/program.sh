@@ -1,5 +1,7 @@
-# Part of c/run_tests.sh: the C of the program b2, function by function. The whole program is run by
-# tools/check_program.sh.
+#!/usr/bin/env bash
+# Tests the C of the program b2, function by function. The whole program is run by
+# tests/program.sh.
+source "$(dirname "$(readlink -f "$0")")/installed.sh"
 
 # ../b2.c over tests in the place of a text of dist/, with these arguments for the compiler.
 functions_of_program() {
@@ -25,6 +27,16 @@ leaves_are_there_once() {
         [ "$(grep -c ' T __x86_get_cpuid_feature_leaf' "$work/names")" -eq 1 ]
 }
 
+# The same functions, and the program, with another C library than glibc.
+program_by_musl() {
+    local text=$dist/x86_64/b2-v2.s
+    cc() { musl-gcc -static "$@"; }
+    functions_of_program && cc -O2 "-DMAIN=$(main_of "$text")" "$here/b2.c" "$text" \
+        -o "$work/b2_musl" && printf abc >"$work/abc" &&
+        "$work/b2_musl" sum b512 <"$work/abc" |
+        diff - <(sums_by_hashlib "$work/abc" | sed 's/ .*//')
+}
+
 # The program, at most ten seconds, over an input whose first read fails.
 program_reads() {
     local text=$dist/x86_64/b2-v2.s
@@ -36,7 +48,7 @@ program_reads() {
         '    if (file == 0 && calls++ == 0) { errno = atoi(getenv("FIRST_READ")); return -1; }' \
         '    return next(file, bytes, size);' '}' >"$work/read.c" &&
         cc -shared -fPIC -O1 "$work/read.c" -o "$work/read.so" -ldl &&
-        cc -O2 "-DMAIN=$(main_of "$text")" "$here/b2.c" "$text" -o "$work/b2" || return 1
+        assemble "$text" "$work/b2" || return 1
     # 5 is EIO.
     printf abc | LD_PRELOAD=$work/read.so FIRST_READ=5 timeout 10 "$work/b2" sum b512 >"$work/said"
     [ "${PIPESTATUS[1]}" -eq 1 ] && [ "$(cat "$work/said")" = "b2: read failed" ]
@@ -54,6 +66,13 @@ test_program() {
         check "what it says of processors that are made up" leaves_of_program
         check "what it says of this processor" functions_of_program -DHAS_LEAVES=0
         check "who says it" leaves_are_there_once
+        if has musl-gcc && has python3; then
+            check "the program with musl" program_by_musl
+        else
+            skip "the program with musl" "no musl-gcc or no python3"
+        fi
     fi
     check "the program after a read that fails" program_reads
 }
+
+part test_program

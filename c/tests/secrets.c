@@ -36,11 +36,9 @@ static void require(int holds, const char *what) {
 static void read_text(text *read, const char *digits) {
     read->length = digits[0] == '-' ? 0 : strlen(digits) / 2;
     if (read->length > sizeof read->bytes) abort();
-    for (size_t i = 0; i < read->length; i++) {
-        unsigned byte;
-        sscanf(digits + 2 * i, "%2x", &byte);
-        read->bytes[i] = (uint8_t)byte;
-    }
+    for (size_t i = 0; i < read->length; i++)
+        read->bytes[i] =
+            (uint8_t)strtoul((char[]){digits[2 * i], digits[2 * i + 1], 0}, NULL, 16);
 }
 
 static void hide(text *secret) { (void)VALGRIND_MAKE_MEM_UNDEFINED(secret->bytes, secret->length); }

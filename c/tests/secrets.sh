@@ -1,5 +1,6 @@
-# Part of c/run_tests.sh: whether a branch or an address depends on a key or a message, by
-# valgrind's memcheck.
+#!/usr/bin/env bash
+# Tests whether a branch or an address depends on a key or a message, by valgrind's memcheck.
+source "$(dirname "$(readlink -f "$0")")/installed.sh"
 
 # Compiles secrets.c over a library, and runs it with these words.
 secrets_run() {
@@ -27,9 +28,9 @@ test_secrets() {
     done
     for build in $builds; do
         if [ "$build" != none ]; then
-            library=$work/build_$build/libblake2_c.a
+            library=$work/build_$build/libvulfsjor.a
             check "a library with only build $build, for secrets" "$here/join.sh" --test "$build" \
-                "$work/build_$build" "$dist/x86_64/blake2_c-v2.s" "$dist/x86_64/blake2_c-v3.s" ||
+                "$work/build_$build" "$dist/x86_64/vulfsjor-v2.s" "$dist/x86_64/vulfsjor-v3.s" ||
                 return
         fi
         for family in b s; do
@@ -40,3 +41,5 @@ test_secrets() {
     check "memcheck reports a branch by a key" secrets_reports "$library" branch
     check "memcheck reports an address by a key" secrets_reports "$library" address
 }
+
+part test_secrets cases

@@ -22,11 +22,9 @@ static text copy_of(const uint8_t *bytes, size_t length) {
 static text from_hex(const char *digits) {
     text made = {NULL, digits[0] == '-' ? 0 : strlen(digits) / 2};
     made.bytes = malloc(made.length ? made.length : 1);
-    for (size_t i = 0; i < made.length; i++) {
-        unsigned byte;
-        sscanf(digits + 2 * i, "%2x", &byte);
-        made.bytes[i] = (uint8_t)byte;
-    }
+    /* Not by sscanf, which looks for the end of all digits each time. */
+    for (size_t i = 0; i < made.length; i++)
+        made.bytes[i] = (uint8_t)strtoul((char[]){digits[2 * i], digits[2 * i + 1], 0}, NULL, 16);
     return made;
 }
 

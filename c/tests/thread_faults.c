@@ -1,6 +1,6 @@
-/* The functions of blake2_threads.h over a system that fails: memory that is refused, threads that
- * do not start, reads that are short, interrupted, or fail, files that grow or shrink meanwhile,
- * and a library that refuses. After each failure the answer, errno and the output are compared, and
+/* The functions of vulfsjor_threads.h over a system that fails: memory that is refused, threads
+ * that do not start, reads that are short, interrupted, or fail, files that grow or shrink
+ * meanwhile, and a library that refuses. After each failure the answer, errno and the output are compared, and
  * nothing is left: no memory, no thread, no descriptor. Returns 0 if all is as it should be.
  *
  *   cc -std=gnu99 -DLEAST_BYTES=1 -I FOLDER/include thread_faults.c threads.c ARCHIVE -pthread
@@ -9,7 +9,8 @@
  *   ./thread_faults FOLDER       makes its file in this folder
  *   cc the same without -DLEAST_BYTES=1       tests only what depends on that length */
 #define _GNU_SOURCE
-#include "blake2_threads.h"
+#include "vulfsjor_threads.h"
+#include "limit.h"
 
 #include <dirent.h>
 #include <errno.h>
@@ -64,22 +65,31 @@ static int fails_now(const char *call) {
 }
 
 /* How reads differ from what is requested: at most `most` bytes each, an interruption before each,
- * a pause after the first, and another size of the file at call `resized_at`. */
+ * and another size of the file from call `resized_at` on, for which later calls wait. With `waits`
+ * the first read waits for a second one, and all others wait until a thread has no more to do. */
 static struct {
     size_t most;
-    int interrupted, pause, resized_at;
+    int interrupted, waits, resized_at;
     off_t size;
-    int file, calls;
+    int file, calls, resized, ended;
     int inherited; /* whether a program that is started meanwhile would have a file that was read */
 } reads;
+
+static void wait_for(int *counter, int n) {
+    while (value(counter) < n) usleep(100);
+}
 
 /* Whether this read is interrupted. */
 static int is_interrupted(int file) {
     int call = __atomic_add_fetch(&reads.calls, 1, __ATOMIC_SEQ_CST);
 
     if (!(fcntl(file, F_GETFD) & FD_CLOEXEC)) reads.inherited = 1;
-    if (reads.pause && call > 1) usleep(10000);
-    if (call == reads.resized_at && ftruncate(reads.file, reads.size)) abort();
+    if (call == reads.resized_at) {
+        if (ftruncate(reads.file, reads.size)) abort();
+        add(&reads.resized, 1);
+    }
+    if (reads.resized_at && call > reads.resized_at) wait_for(&reads.resized, 1);
+    if (reads.waits) wait_for(call == 1 ? &reads.calls : &reads.ended, call == 1 ? 2 : 1);
     if (!reads.interrupted || call % 2 == 0) return 0;
     errno = EINTR;
     return 1;
@@ -93,35 +103,36 @@ static size_t shortened(size_t n) { return reads.most && n > reads.most ? reads.
     type __wrap_##name parameters;                       \
     type __wrap_##name parameters { return fails_now(#name) ? failed : __real_##name arguments; }
 
-WRAP(int32_t, blake2_c_tree_leaves, -1,
-     (uint8_t *o, size_t on, uint64_t f, uint32_t e, const uint8_t *i, size_t n, const uint8_t *s,
+WRAP(int32_t, vulfsjor_ffi_tree_leaves, -1,
+     (uint8_t * o, size_t on, uint64_t f, uint32_t e, const uint8_t *i, size_t n, const uint8_t *s,
       size_t sn, const uint8_t *p, size_t pn, uint32_t l),
      (o, on, f, e, i, n, s, sn, p, pn, l))
-WRAP(int32_t, blake2_c_tree_root_of_leaves, -1,
-     (uint8_t *o, size_t on, const uint8_t *d, size_t n, const uint8_t *s, size_t sn,
+WRAP(int32_t, vulfsjor_ffi_tree_root_of_leaves, -1,
+     (uint8_t * o, size_t on, const uint8_t *d, size_t n, const uint8_t *s, size_t sn,
       const uint8_t *p, size_t pn, uint32_t l),
      (o, on, d, n, s, sn, p, pn, l))
-WRAP(int32_t, blake2_c_tree_root, -1,
-     (uint8_t *o, size_t on, const uint8_t *i, size_t n, const uint8_t *s, size_t sn,
+WRAP(int32_t, vulfsjor_ffi_tree_root, -1,
+     (uint8_t * o, size_t on, const uint8_t *i, size_t n, const uint8_t *s, size_t sn,
       const uint8_t *p, size_t pn, uint32_t l),
      (o, on, i, n, s, sn, p, pn, l))
-WRAP(int32_t, blake2_c_tree_update, -1, (vulfsjor_tree_state *s, const uint8_t *i, size_t n),
+WRAP(int32_t, vulfsjor_ffi_tree_update, -1, (vulfsjor_tree_state * s, const uint8_t *i, size_t n),
      (s, i, n))
-WRAP(int32_t, blake2_c_tree_next_leaves, -1,
+WRAP(int32_t, vulfsjor_ffi_tree_next_leaves, -1,
      (const vulfsjor_tree_state *s, uint8_t *o, size_t on, uint64_t k, const uint8_t *i, size_t n),
      (s, o, on, k, i, n))
-WRAP(int32_t, blake2_c_tree_update_leaves, -1,
-     (vulfsjor_tree_state *s, const uint8_t *d, size_t dn, const uint8_t *i, size_t n),
+WRAP(int32_t, vulfsjor_ffi_tree_update_leaves, -1,
+     (vulfsjor_tree_state * s, const uint8_t *d, size_t dn, const uint8_t *i, size_t n),
      (s, d, dn, i, n))
-WRAP(int32_t, blake2_c_tree_final, -1, (vulfsjor_tree_state *s, uint8_t *o, size_t n), (s, o, n))
-WRAP(int32_t, blake2_c_blake2b_init_node, -1,
-     (vulfsjor_blake2b_state *t, size_t o, const uint8_t *k, size_t kn, const uint8_t *s,
+WRAP(int32_t, vulfsjor_ffi_tree_final, -1, (vulfsjor_tree_state * s, uint8_t *o, size_t n),
+     (s, o, n))
+WRAP(int32_t, vulfsjor_ffi_blake2b_init_tree, -1,
+     (vulfsjor_blake2b_state * t, size_t o, const uint8_t *k, size_t kn, const uint8_t *s,
       size_t sn, const uint8_t *p, size_t pn, uint8_t f, uint8_t d, uint32_t l, uint64_t n,
       uint8_t nd, uint8_t i),
      (t, o, k, kn, s, sn, p, pn, f, d, l, n, nd, i))
-WRAP(int32_t, blake2_c_blake2b_update, -1, (vulfsjor_blake2b_state *s, const uint8_t *i, size_t n),
-     (s, i, n))
-WRAP(int32_t, blake2_c_blake2b_final, -1, (vulfsjor_blake2b_state *s, uint8_t *o, size_t n),
+WRAP(int32_t, vulfsjor_ffi_blake2b_update, -1,
+     (vulfsjor_blake2b_state * s, const uint8_t *i, size_t n), (s, i, n))
+WRAP(int32_t, vulfsjor_ffi_blake2b_final, -1, (vulfsjor_blake2b_state * s, uint8_t *o, size_t n),
      (s, o, n))
 
 WRAP(off_t, lseek, -1, (int f, off_t from, int w), (f, from, w))
@@ -136,10 +147,15 @@ WRAP(int, fstat, -1, (int f, struct stat *s), (f, s))
     type __wrap_##name parameters;   \
     type __wrap_##name parameters
 
+/* The largest block since this was set to 0. */
+static size_t largest;
+
 WRAP(void *, malloc, (size_t n)) {
     void *block = fails_now("malloc") ? NULL : __real_malloc(n);
 
-    if (block) add(&allocated, 1);
+    if (n > __atomic_load_n(&largest, __ATOMIC_RELAXED))
+        __atomic_store_n(&largest, n, __ATOMIC_RELAXED);
+    if (block) add(&allocated, 1), memset(block, 0x5a, n); /* no digests of the call before */
     return block;
 }
 
@@ -148,14 +164,28 @@ WRAP(void, free, (void *block)) {
     __real_free(block);
 }
 
+/* What threads.c has each thread do, which is one function for all. */
+static void *(*hash)(void *);
+static void *hash_and_end(void *given) {
+    void *answer = hash(given);
+
+    add(&reads.ended, 1);
+    return answer;
+}
+
 WRAP(int, pthread_create, (pthread_t *t, const pthread_attr_t *a, void *(*f)(void *), void *x)) {
-    int error = fails_now("pthread_create") ? fault.error : __real_pthread_create(t, a, f, x);
+    int error;
+
+    if (!hash) hash = f; /* before the first thread, since all read it */
+    error = fails_now("pthread_create") ? fault.error
+                                        : __real_pthread_create(t, a, hash_and_end, x);
 
     if (!error) add(&running, 1), add(&started, 1);
     return error;
 }
 
 WRAP(int, pthread_join, (pthread_t t, void **x)) {
+    add(&reads.ended, 1); /* the caller's thread has no more to do */
     add(&running, -1);
     return __real_pthread_join(t, x);
 }
@@ -193,7 +223,7 @@ static void wish(const char *call, int at, int error) {
     fault.at = at;
     fault.error = error;
     fault.counted = 0;
-    reads.calls = 0;
+    reads.calls = reads.resized = reads.ended = 0;
     started = 0;
 }
 
@@ -229,13 +259,13 @@ static int root_of_updates(void) {
     int status, error;
 
     if (vulfsjor_tree_init(&state, 64, 0, 0, 0, 0, leaf) ||
-        __real_blake2_c_tree_update(&state, message, 1000))
+        __real_vulfsjor_ffi_tree_update(&state, message, 1000))
         exit(3);
     before = state;
     status = vulfsjor_tree_update_threads(&state, message + 1000, length - 1000, asked);
     error = errno;
     CHECK(!status || !memcmp(&state, &before, sizeof state));
-    if (!status && __real_blake2_c_tree_final(&state, root, 64)) exit(3);
+    if (!status && __real_vulfsjor_ffi_tree_final(&state, root, 64)) exit(3);
     errno = error;
     return status;
 }
@@ -346,22 +376,22 @@ static void threads_do_not_start(void) {
 
 static void library_refuses(void) {
     take(FEW, 4096, 4);
-    each_fails(root_of_bytes, "blake2_c_tree_leaves", 0, EINVAL, 4);
-    each_fails(root_of_bytes, "blake2_c_tree_root_of_leaves", 0, EINVAL, 1);
-    each_fails(root_of_file, "blake2_c_tree_leaves", 0, EINVAL, 4);
-    each_fails(root_of_file, "blake2_c_tree_root_of_leaves", 0, EINVAL, 1);
-    each_fails(root_of_updates, "blake2_c_tree_next_leaves", 0, EINVAL, 4);
-    each_fails(root_of_updates, "blake2_c_tree_update_leaves", 0, EINVAL, 1);
-    each_fails(root_of_updates, "blake2_c_tree_update", 0, EINVAL, 1);
-    each_fails(root_of_pipe, "blake2_c_tree_update", 0, EFBIG, 1);
-    each_fails(root_of_pipe, "blake2_c_tree_final", 0, EINVAL, 1);
+    each_fails(root_of_bytes, "vulfsjor_ffi_tree_leaves", 0, EINVAL, 4);
+    each_fails(root_of_bytes, "vulfsjor_ffi_tree_root_of_leaves", 0, EINVAL, 1);
+    each_fails(root_of_file, "vulfsjor_ffi_tree_leaves", 0, EINVAL, 4);
+    each_fails(root_of_file, "vulfsjor_ffi_tree_root_of_leaves", 0, EINVAL, 1);
+    each_fails(root_of_updates, "vulfsjor_ffi_tree_next_leaves", 0, EINVAL, 4);
+    each_fails(root_of_updates, "vulfsjor_ffi_tree_update_leaves", 0, EINVAL, 1);
+    each_fails(root_of_updates, "vulfsjor_ffi_tree_update", 0, EINVAL, 1);
+    each_fails(root_of_pipe, "vulfsjor_ffi_tree_update", 0, EFBIG, 1);
+    each_fails(root_of_pipe, "vulfsjor_ffi_tree_final", 0, EINVAL, 1);
     asked = 1;
-    each_fails(root_of_bytes, "blake2_c_tree_root", 0, EINVAL, 1);
-    each_fails(root_of_updates, "blake2_c_tree_update", 0, EINVAL, 1);
+    each_fails(root_of_bytes, "vulfsjor_ffi_tree_root", 0, EINVAL, 1);
+    each_fails(root_of_updates, "vulfsjor_ffi_tree_update", 0, EINVAL, 1);
     take(BYTES, 17 << 20, 2);
-    each_fails(root_of_file, "blake2_c_blake2b_init_node", 0, EINVAL, 2);
-    each_fails(root_of_file, "blake2_c_blake2b_final", 0, EINVAL, 2);
-    wish("blake2_c_blake2b_update", 20, 0);
+    each_fails(root_of_file, "vulfsjor_ffi_blake2b_init_tree", 0, EINVAL, 2);
+    each_fails(root_of_file, "vulfsjor_ffi_blake2b_final", 0, EINVAL, 2);
+    wish("vulfsjor_ffi_blake2b_update", 20, 0);
     expect(root_of_file, EINVAL);
 }
 
@@ -378,12 +408,13 @@ static void reads_fail(void) {
     expect(root_of_file, EIO);
     wish("pread", 30, ENXIO);
     expect(root_of_file, ENXIO);
-    /* The first error stays, and the other threads see it and stop. */
+    /* The first error stays, and the other threads see it and stop after the read that each is
+     * in. */
     take(BYTES, 65536, 4);
-    reads.pause = 1;
+    reads.waits = 1;
     wish("pread", 1, ENXIO);
     expect(root_of_file, ENXIO);
-    CHECK(reads.calls < 20);
+    CHECK(reads.calls >= 2 && reads.calls <= 4);
     wish("pread", 1, ENXIO);
     reads.resized_at = 1;
     reads.file = open(path, O_RDWR);
@@ -496,22 +527,43 @@ static void least_bytes(void) {
     resize(1, 1 << 17, 0);
 }
 
+/* What vulfsjor_threads.h says of memory: 64 bytes for each leaf, and for each thread that reads a
+ * file a buffer of 1 MiB or four leaves, whichever is more, or of 16 MiB at most. */
+static void memory_is_as_said(void) {
+    enum { MIB = 1 << 20 };
+    static const size_t rows[][2] = {{65536, MIB},     {MIB / 4, MIB},       {MIB, 4 * MIB},
+                                     {4 * MIB, 16 * MIB}, {4 * MIB + 1, 4 * MIB + 1},
+                                     {16 * MIB, 16 * MIB}, {16 * MIB + 1, MIB}};
+
+    take(FEW * 6, 100, 2);
+    largest = 0;
+    expect(root_of_bytes, 0);
+    CHECK(largest == 64 * (FEW * 6 / 100));
+    for (size_t i = 0; i < sizeof rows / sizeof *rows; i++) {
+        take(BYTES, (uint32_t)rows[i][0], 2);
+        largest = 0;
+        expect(root_of_file, 0);
+        CHECK(largest == rows[i][1]);
+    }
+}
+
 int main(int count, char **words) {
     if (count < 2 || !(message = __real_malloc(BYTES))) return 2;
     snprintf(path, sizeof path, "%s/message", words[1]);
     memset(blank, 0xaa, sizeof blank);
     for (size_t i = 0; i < BYTES; i++) message[i] = (unsigned char)(i * i >> 9 ^ i);
     if (EACH_BYTE) {
-        memory_is_refused();
-        threads_do_not_start();
-        library_refuses();
-        reads_fail();
-        reads_are_short();
-        files_change();
-        numbers_of_threads();
-        more_processors_than_the_set_has();
+        RUN(memory_is_refused());
+        RUN(threads_do_not_start());
+        RUN(library_refuses());
+        RUN(reads_fail());
+        RUN(reads_are_short());
+        RUN(files_change());
+        RUN(numbers_of_threads());
+        RUN(more_processors_than_the_set_has());
     } else {
-        least_bytes();
+        RUN(least_bytes());
+        RUN(memory_is_as_said());
     }
     unlink(path);
     __real_free(message);

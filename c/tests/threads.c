@@ -1,4 +1,4 @@
-/* Tests the functions of blake2_threads.h. Compares roots of bytes, files and descriptors with
+/* Tests the functions of vulfsjor_threads.h. Compares roots of bytes, files and descriptors with
  * vulfsjor_tree_root of the same bytes (whose values edges.c compares with hashlib), for any number
  * of threads. Tests files of every kind, each refusal with its errno, signals, cancellation, and
  * calls at the same time. Returns 0 if all is as it should be.
@@ -8,7 +8,8 @@
  *
  * It is also run over threads.c compiled with -DLEAST_BYTES=1, so few bytes have many threads. */
 #define _GNU_SOURCE
-#include "blake2_threads.h"
+#include "vulfsjor_threads.h"
+#include "limit.h"
 
 #include <dirent.h>
 #include <errno.h>
@@ -83,6 +84,17 @@ static void write_file(const char *name, size_t length) {
 
 /* ---- roots */
 
+/* Fills the memory that the next call gets for its digests, so that none of the last call is
+ * there. */
+static void forget(size_t length, uint32_t leaf) {
+    size_t size = 64 * vulfsjor_tree_leaf_count(length, leaf);
+    void *block = malloc(size);
+
+    memset(block, 0x5a, size);
+    __asm__ volatile("" ::"r"(block) : "memory");
+    free(block);
+}
+
 /* Compares the roots of the message and of the file that has it with vulfsjor_tree_root. */
 static void compare(size_t length, size_t outlen, uint32_t leaf, unsigned threads) {
     const void *in = length ? message : NULL;
@@ -91,13 +103,16 @@ static void compare(size_t length, size_t outlen, uint32_t leaf, unsigned thread
     memcpy(wanted, blank, 64);
     CHECK(!vulfsjor_tree_root(wanted, outlen, in, length, "salt", 4, "pers", 4, leaf));
     memcpy(root, blank, 64);
+    forget(length, leaf);
     CHECK(
         !vulfsjor_tree_root_threads(root, outlen, in, length, "salt", 4, "pers", 4, leaf, threads));
     CHECK(!memcmp(root, wanted, 64));
     memcpy(root, blank, 64);
+    forget(length, leaf);
     CHECK(!vulfsjor_tree_root_file(root, outlen, path, "salt", 4, "pers", 4, leaf, threads));
     CHECK(!memcmp(root, wanted, 64));
     memcpy(root, blank, 64);
+    forget(length, leaf);
     CHECK(!vulfsjor_tree_root_fd(root, outlen, file, "salt", 4, "pers", 4, leaf, threads));
     CHECK(!memcmp(root, wanted, 64) && lseek(file, 0, SEEK_CUR) == (off_t)length);
     close(file);
@@ -131,9 +146,9 @@ static void roots_at_edges(void) {
     }
 }
 
-/* Leaves of which a buffer has no room for four, or not for one. */
+/* Leaves of which a buffer has just room for four or for one, or no room. */
 static void roots_of_long_leaves(void) {
-    static const uint32_t leaves[] = {(4 << 20) + 1, 16 << 20, (16 << 20) + 1,
+    static const uint32_t leaves[] = {4 << 20, (4 << 20) + 1, 16 << 20, (16 << 20) + 1,
                                       17 << 20,      BYTES,    UINT32_MAX};
 
     write_file(path, BYTES);
@@ -367,6 +382,20 @@ static void refused_arguments_of_files(void) {
     close(ends[1]);
 }
 
+/* The file is closed again if its descriptor is 0, as in a program without standard input. */
+static void descriptor_zero(void) {
+    int input = dup(0);
+
+    write_file(path, 1 << 20);
+    CHECK(!vulfsjor_tree_root(wanted, 64, message, 1 << 20, 0, 0, 0, 0, 4096));
+    close(0);
+    CHECK(!vulfsjor_tree_root_file(root, 64, path, 0, 0, 0, 0, 4096, 2));
+    CHECK(!memcmp(root, wanted, 64) && fcntl(0, F_GETFD) == -1);
+    CHECK(vulfsjor_tree_root_file(root, 64, "/", 0, 0, 0, 0, 4096, 2) == -1 && errno == EISDIR);
+    CHECK(fcntl(0, F_GETFD) == -1);
+    if (input >= 0) CHECK(dup2(input, 0) == 0 && !close(input));
+}
+
 /* Refuses the descriptor with this error, and closes it. */
 static void refused_file(int error, int file) {
     REFUSED(error, vulfsjor_tree_root_fd(root, 64, file, 0, 0, 0, 0, 4, 2));
@@ -490,6 +519,7 @@ static void expect_handler(int number, const void *bytes) {
         int status = 0;
         pid_t child = fork();
         if (!child) {
+            alarm(LIMIT);
             signal(number, exit_in_handler);
             _exit(vulfsjor_tree_root_threads(root, 64, bytes, 1 << 20, 0, 0, 0, 0, 65536, 4));
         }
@@ -540,25 +570,26 @@ int main(int count, char **words) {
     snprintf(other, sizeof other, "%s/other", words[1]);
     memset(blank, 0xaa, sizeof blank);
     for (size_t i = 0; i < BYTES; i++) message[i] = (unsigned char)(random_below(256));
-    calls_at_the_same_time();
+    RUN(calls_at_the_same_time());
     usleep(100000);
     files = entries("/proc/self/fd");
     threads = entries("/proc/self/task"); /* a sanitizer has one more, from the first thread on */
-    random_roots(turns);
-    roots_at_edges();
-    roots_of_long_leaves();
-    updates();
-    updates_at_leaves();
-    refused_updates();
-    position_of_descriptor();
-    streams();
-    special_files();
-    refused_arguments();
-    refused_arguments_of_files();
-    refused_files();
-    signals_while_hashing();
-    cancellation();
-    faults_of_memory();
+    RUN(random_roots(turns));
+    RUN(roots_at_edges());
+    RUN(roots_of_long_leaves());
+    RUN(updates());
+    RUN(updates_at_leaves());
+    RUN(refused_updates());
+    RUN(position_of_descriptor());
+    RUN(streams());
+    RUN(descriptor_zero());
+    RUN(special_files());
+    RUN(refused_arguments());
+    RUN(refused_arguments_of_files());
+    RUN(refused_files());
+    RUN(signals_while_hashing());
+    RUN(cancellation());
+    RUN(faults_of_memory());
     CHECK(entries("/proc/self/fd") == files && has_threads(threads));
     unlink(path);
     free(message);

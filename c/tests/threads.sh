@@ -1,5 +1,6 @@
-# Part of c/run_tests.sh: a tree in parts, by threads, and the programs of c/examples that hash
-# trees.
+#!/usr/bin/env bash
+# Tests a tree in parts, by threads, and the programs of c/examples that hash trees.
+source "$(dirname "$(readlink -f "$0")")/installed.sh"
 
 # The words of the linker by which the calls that thread_faults.c replaces go to it.
 replaced_calls() {
@@ -25,7 +26,7 @@ parts_with() {
 
 # threads.c with these words, over the installed archive.
 threads_installed() {
-    compile_threads "$work/threads" -O2 "$tests/threads.c" "$prefix/lib/libblake2_c-threads.a" &&
+    compile_threads "$work/threads" -O2 "$tests/threads.c" "$prefix/lib/libvulfsjor-threads.a" &&
         "$work/threads" "$work/files" 200
 }
 
@@ -38,6 +39,23 @@ threads_with() {
         compile_threads "$work/faults" "$@" "$tests/thread_faults.c" "$here/threads.c" \
             $(replaced_calls) &&
         "$work/faults" "$work/files"
+}
+
+# The numbers in the comment of vulfsjor_threads.h are those of threads.c.
+numbers_of_header() {
+    local text least part buffer threads said
+    text=$(tr -s ' *\n' ' ' <"$here/include/vulfsjor_threads.h")
+    least=$(sed -n 's/^#define LEAST_BYTES (1 << \([0-9]*\))$/\1/p' "$here/threads.c")
+    part=$(sed -n 's/^ *PART_BYTES = 1 << \([0-9]*\),.*/\1/p' "$here/threads.c")
+    buffer=$(sed -n 's/^ *MOST_BUFFER_BYTES = 1 << \([0-9]*\),.*/\1/p' "$here/threads.c")
+    threads=$(sed -n 's/^ *MOST_THREADS = \([0-9]*\)$/\1/p' "$here/threads.c")
+    for said in "with the caller's: at most $threads, and 0 is" \
+        "at most one thread for each $((1 << (least - 10))) KiB of input" \
+        "A regular file of at least $((1 << (least - 10))) KiB is read by all threads" \
+        "a buffer: up to $((1 << (part - 20))) MiB or four leaves, whichever is more," \
+        "and at most $((1 << (buffer - 20))) MiB."; do
+        [[ $text == *"$said"* ]] || { echo "not in vulfsjor_threads.h: $said"; return 1; }
+    done
 }
 
 # The same with a sanitizer, where memory that is not there is refused as without one.
@@ -70,7 +88,7 @@ refuses_with() {
 
 tree_sum_example() {
     local sum=$work/tree_sum threads leaf
-    compile_example tree_sum blake2_c-threads && make_files || return 1
+    compile_example tree_sum vulfsjor-threads && make_files || return 1
     roots_by_hashlib 65536 file_* >wanted && "$sum" file_* | diff wanted - || return 1
     for threads in 0 1 3; do
         "$sum" --threads $threads file_* | diff wanted - || return 1
@@ -108,7 +126,7 @@ in_parts() {
 
 tree_parts_example() {
     local parts=$work/tree_parts name
-    compile_example tree_parts blake2_c-static && make_files || return 1
+    compile_example tree_parts vulfsjor-static && make_files || return 1
     for name in file_*; do
         for count in 1 7 16 100; do
             in_parts "$name" $count | diff <(roots_by_hashlib 65536 "$name") - || return 1
@@ -167,6 +185,7 @@ test_threads() {
     check "parts.c" parts_with 20000 -O2
     check "threads.c, with the installed library" threads_installed
     check "threads.c and thread_faults.c" threads_with -O2
+    check "the numbers in vulfsjor_threads.h" numbers_of_header
     for kind in thread address,undefined; do
         if links "-fsanitize=$kind" && "$work/linked"; then
             check "threads.c and thread_faults.c, with the sanitizer $kind" sanitized "$kind"
@@ -189,3 +208,5 @@ test_threads() {
         skip "tree_parts.c with GNU parallel" "no parallel"
     fi
 }
+
+part test_threads

@@ -150,7 +150,7 @@ export function flagOf(value, caller, what) {
 function isPlain(value) {
   if (typeof value !== "object" || value === null) return false;
   const prototype = Object.getPrototypeOf(value);
-  return prototype === null || (Object.getPrototypeOf(prototype) === null && !Array.isArray(value));
+  return prototype === null || Object.getPrototypeOf(prototype) === null;
 }
 
 /**
@@ -228,12 +228,11 @@ export function settingsOf(kind, options, caller, known = OPTIONS[kind.isTree ? 
   return [settings, read];
 }
 
-/** Refuses further arguments: other libraries accept a key or a length there. */
-export function refuseMore(rest, caller, count) {
+/** Refuses further arguments: other libraries accept a key, a length or an encoding there. */
+export function refuseMore(rest, caller, count, hint = "key, length and so on are options") {
   if (rest.length > 0) {
     throw new TypeError(
-      `${caller}: too many arguments, ${count + rest.length} instead of at most ${count}; ` +
-        "key, length and so on are options",
+      `${caller}: too many arguments, ${count + rest.length} instead of at most ${count}; ${hint}`,
     );
   }
 }

@@ -73,15 +73,17 @@ class Engine {
     this.bytes = new Uint8Array(exports.memory.buffer);
     this.view = new DataView(exports.memory.buffer);
     this.isBusy = false;
-    this.isSame = exports.blake2_c_is_same;
+    this.isSame = exports.vulfsjor_ffi_is_same;
+    this.leafCount = exports.vulfsjor_ffi_tree_leaf_count;
     const functionsOf = (name, calls) =>
-      Object.fromEntries(calls.map((call) => [call, exports[`blake2_c_${name}_${call}`]]));
+      Object.fromEntries(calls.map((call) => [call, exports[`vulfsjor_ffi_${name}_${call}`]]));
     const calls = [
-      "init", "init_node", "update", "final", "verify", "set_last_node", "reset", "many",
+      "init_salt_personal", "init_tree", "update", "final", "verify", "set_last_node", "reset",
+      "many",
     ];
     this.calls = {
-      blake2b: { ...functionsOf("blake2b", calls), one: exports.blake2_c_blake2b },
-      blake2s: { ...functionsOf("blake2s", calls), one: exports.blake2_c_blake2s },
+      blake2b: { ...functionsOf("blake2b", calls), one: exports.vulfsjor_ffi_blake2b },
+      blake2s: { ...functionsOf("blake2s", calls), one: exports.vulfsjor_ffi_blake2s },
       tree: functionsOf("tree", ["init", "update", "final", "leaves", "root_of_leaves"]),
     };
     this.slots = {};
@@ -125,9 +127,9 @@ class Engine {
     }
     const key = this.put(settings.key, KEY);
     if (tree === undefined) {
-      return granted(calls.init(this.at.state, size, this.at.key, key, ...labels));
+      return granted(calls.init_salt_personal(this.at.state, size, this.at.key, key, ...labels));
     }
-    granted(calls.init_node(
+    granted(calls.init_tree(
       this.at.state, size, this.at.key, key, ...labels, tree.fanout, tree.depth, tree.leafLength,
       tree.nodeOffset, tree.nodeDepth, tree.innerLength));
     if (tree.lastNode) granted(calls.set_last_node(this.at.state, 1));
@@ -342,8 +344,7 @@ function hashBatch(kind, messages, settings) {
     granted(engine.calls[kind.name].many(
       engine.at.outs, BigInt(digestLength * messages.length), BigInt(digestLength),
       engine.at.records, BigInt(messages.length), engine.at.key, engine.put(settings.key, KEY),
-      engine.at.salt, engine.put(settings.salt, SALT),
-      engine.at.personalization, engine.put(settings.personalization, PERSONALIZATION)));
+      ...engine.putLabels(settings)));
     const digests = messages.map((_, i) => engine.read(OUTS + digestLength * i, digestLength));
     engine.clean(kind, 0, DEEP);
     engine.bytes.fill(0, engine.base + RECORDS, engine.base + at);
@@ -374,7 +375,7 @@ function hashLongLeaves(settings, { first, ends }, message, digests) {
 function hashShortLeaves(settings, { first, ends }, message) {
   return withEngine((engine) => {
     const length = lengthOf(message);
-    const room = LEAF_DIGEST * leafCount(length, settings.leafLength);
+    const room = LEAF_DIGEST * Number(engine.leafCount(BigInt(length), settings.leafLength));
     const source = engine.at.window + BigInt(room);
     granted(engine.calls.tree.leaves(
       engine.at.window, BigInt(room), first, ends ? 1 : 0, source,
@@ -385,11 +386,6 @@ function hashShortLeaves(settings, { first, ends }, message) {
   });
 }
 
-/** How many leaves a message or a range of this length has, at least one. */
-export function leafCount(length, leafLength) {
-  return Math.max(1, Math.ceil(length / leafLength));
-}
-
 /**
  * The digests of a range of leaves, LEAF_DIGEST bytes each. The range is the number of its first
  * leaf, a BigInt, and whether it ends the message. The message is whole leaves unless it ends, and
@@ -398,7 +394,8 @@ export function leafCount(length, leafLength) {
 export function hashLeaves(settings, { first, ends }, message) {
   const { leafLength } = settings;
   const length = lengthOf(message);
-  const digests = new Uint8Array(LEAF_DIGEST * leafCount(length, leafLength));
+  const count = withEngine((engine) => engine.leafCount(BigInt(length), leafLength));
+  const digests = new Uint8Array(LEAF_DIGEST * Number(count));
   const atOnce = Math.floor(WINDOW_LENGTH / (leafLength + LEAF_DIGEST));
   if (atOnce === 0) {
     hashLongLeaves(settings, { first, ends }, message, digests);

@@ -99,7 +99,7 @@ class Hasher {
   }
 
   digest(...rest) {
-    refuseMore(rest, `${this.#name}.digest`, 0);
+    refuseMore(rest, `${this.#name}.digest`, 0, "use hex() for hexadecimal digits");
     return engine.final(this.#kind, this.#last("digest"), this.#digestLength);
   }
 
@@ -116,13 +116,15 @@ class Hasher {
     return engine.verify(this.#kind, this.#last("verify"), this.#digestLength, bytes);
   }
 
-  copy() {
+  copy(...rest) {
+    refuseMore(rest, `${this.#name}.copy`, 0);
     const state = this.#open("copy").slice();
     const copied = new Copied(state, this.#digestLength, this.#settings, this.#isKeyed);
     return Reflect.construct(Hasher, [this.#kind, this.#name, copied], this.constructor);
   }
 
-  reset() {
+  reset(...rest) {
+    refuseMore(rest, `${this.#name}.reset`, 0);
     const state = this.#open("reset");
     if (this.#kind.isTree) state.set(engine.begin(this.#kind, this.#settings));
     else engine.reset(this.#kind, state);

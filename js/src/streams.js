@@ -3,11 +3,10 @@
 import {
   OPTIONS, bytesOf, integerOf, kindOf, lengthOf, refuseMore, settingsOf,
 } from "./arguments.js";
-import { LONGEST_LEAF, TreeThreads } from "./threads.js";
+import { LONGEST_LEAF, MOST_THREADS, TreeThreads, processorCount } from "./threads.js";
 
 // How much of a blob is read at a time.
 const SLICE = 4 * 1024 * 1024;
-const MOST_THREADS = 256;
 
 // The slices of a blob. The next is read while one is hashed.
 async function* slicesOf(blob) {
@@ -87,7 +86,7 @@ export async function hashStream(kind, Hasher, caller, source, options, rest) {
   const { onProgress, signal, threads, ...own } = read;
   callbackOf(onProgress, caller);
   signalOf(signal, caller);
-  const count = integerOf(threads, caller, "threads", 1, MOST_THREADS, 1);
+  const count = integerOf(threads, caller, "threads", 0, MOST_THREADS, 1) || processorCount();
   const reader = open(source, caller);
   const control = new AbortController(); // aborts with the signal, or if a worker fails
   const follow = () => control.abort(signal.reason);

@@ -7,11 +7,22 @@ import { moduleOf, rootOfLeaves } from "./engine.js";
 const RANGE = 4 * 1024 * 1024;
 /** Leaves longer than this are hashed on the calling thread, since a range is held in memory. */
 export const LONGEST_LEAF = 64 * 1024 * 1024;
+/** The maximum number of workers of a call. */
+export const MOST_THREADS = 256;
+
+// A module of node, or undefined in a browser.
+const ofNode = (name) => globalThis.process?.getBuiltinModule?.(`node:${name}`);
+
+/** The number of processors that this process may use, at most MOST_THREADS. */
+export function processorCount() {
+  const count = ofNode("os")?.availableParallelism() ?? globalThis.navigator?.hardwareConcurrency;
+  return Math.min(count ?? 1, MOST_THREADS);
+}
 
 // Starts a worker of node or of the browser. It calls onDigests with each result, and onFault with
 // the error if the worker fails.
 function startWorker(onDigests, onFault) {
-  const node = globalThis.process?.getBuiltinModule?.("node:worker_threads");
+  const node = ofNode("worker_threads");
   if (node === undefined) {
     const worker = new Worker(new URL("./worker.js", import.meta.url), { type: "module" });
     worker.onmessage = ({ data }) => onDigests(data);

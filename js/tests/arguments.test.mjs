@@ -6,7 +6,7 @@ import test from "node:test";
 import vm from "node:vm";
 import {
   Blake2b, Blake2s, TreeHash, blake2b, blake2bMany, blake2bStream, blake2s, blake2sMany,
-  blake2sStream, equal, fromHex, hex, treeRoot, treeRootStream, utf8,
+  blake2sStream, equal, fromHex, hex, load, treeRoot, treeRootStream, utf8,
 } from "../index.js";
 import { memory } from "../src/engine.js";
 import { assertClean, hexOf } from "./common.mjs";
@@ -106,6 +106,23 @@ test("memory that was taken away is refused", () => {
       "blake2b: the memory of message is detached or has shrunk");
   }
   assert.deepEqual(blake2b(follows), blake2b(new Uint8Array(6)));
+});
+
+test("a SharedArrayBuffer is bytes, wherever bytes are expected", async () => {
+  const shared = new SharedArrayBuffer(3);
+  new Uint8Array(shared).set(M);
+  const chunks = (async function* () { yield shared; })();
+  for (const digest of [
+    blake2b(shared), new Blake2b().update(shared).digest(), blake2bMany([shared])[0],
+    await blake2bStream(chunks),
+  ]) {
+    assert.deepEqual(digest, blake2b(M));
+  }
+  for (const what of ["key", "salt", "personalization"]) {
+    assert.deepEqual(blake2s(M, { [what]: shared }), blake2s(M, { [what]: M }));
+  }
+  assert.ok(equal(shared, M) && equal(M, shared) && hex(shared) === "616263");
+  assert.deepEqual(treeRoot(shared, { leafLength: 2 }), treeRoot(M, { leafLength: 2 }));
 });
 
 test("bytes of other realms, of subclasses, and of objects that lie about themselves", () => {
@@ -237,7 +254,9 @@ for (const [name, hash, Hasher, most, short, offset] of FAMILIES) {
     refuses(() => new Hasher({}, 1), TypeError,
       `new ${Hasher.name}: ${tooMany(2, 1)}`);
     refuses(() => new Hasher().digest("hex"), TypeError,
-      `${Hasher.name}.digest: ${tooMany(1, 0)}`);
+      `${Hasher.name}.digest: too many arguments, 1 instead of at most 0; ` +
+        "use hex() for hexadecimal digits");
+    refuses(() => new Hasher().hex("hex"), TypeError, `${Hasher.name}.hex: ${tooMany(1, 0)}`);
     refuses(() => new Hasher().update(M, "utf8"), TypeError,
       `${Hasher.name}.update: ${tooMany(2, 1)}`);
     assert.throws(() => Hasher({}), TypeError);
@@ -328,6 +347,33 @@ test("several messages", () => {
         "known are digestLength, key, salt, personalization");
     refuses(() => many([M], {}, 1), TypeError, `${many.name}: ${tooMany(3, 2)}`);
   }
+});
+
+test("one argument more is refused, except by five calls that ignore it", async () => {
+  const tree = { leafLength: 1 };
+  const run = new Blake2b();
+  const methods = ["update", "digest", "verify", "copy", "reset"].map((name) =>
+    [(...words) => run[name](...words), `Blake2b.${name}`, "uv".includes(name[0]) ? [M] : []]);
+  for (const [call, name, words] of [
+    [blake2b, "blake2b", [M, {}]], [blake2s, "blake2s", [M, {}]], [equal, "equal", [M, M]],
+    [blake2bMany, "blake2bMany", [[], {}]], [blake2sMany, "blake2sMany", [[], {}]],
+    [treeRoot, "treeRoot", [M, tree]], ...methods,
+  ]) {
+    const text = tooMany(words.length + 1, words.length).split(";")[0];
+    assert.throws(() => call(...words, undefined), (fault) =>
+      fault instanceof TypeError && fault.message.startsWith(`${name}: ${text}; `), name);
+  }
+  for (const stream of [blake2bStream, blake2sStream, treeRootStream]) {
+    await assert.rejects(stream(new Blob(), tree, 1),
+      { name: "TypeError", message: `${stream.name}: ${tooMany(3, 2)}` });
+  }
+  for (const Hasher of [Blake2b, Blake2s, TreeHash]) {
+    assert.throws(() => new Hasher(tree, 1),
+      { name: "TypeError", message: `new ${Hasher.name}: ${tooMany(2, 1)}` });
+  }
+  assert.equal(hex(M, 1), "616263");
+  assert.deepEqual([utf8("abc", 1), fromHex("616263", 1)], [M, M]);
+  assert.deepEqual([await load(1), run.wipe(1)], [undefined, undefined]);
 });
 
 test("streams reject what calls refuse", async () => {

@@ -42,17 +42,17 @@ function someCall() {
   const state = BigInt(STATE);
   const out = [BigInt(OUT), BigInt(most)];
   const message = text(MESSAGES, randomInt(10) === 0 ? 400000 : 1000);
-  const call = (name, ...words) => [`blake2_c_${family}${name}`, words];
+  const call = (name, ...words) => [`vulfsjor_ffi_${family}${name}`, words];
   const messages = randomInt(20);
-  const tree = (name, ...words) => [`blake2_c_tree${name}`, words];
+  const tree = (name, ...words) => [`vulfsjor_ffi_tree${name}`, words];
   return [
     () => call("", BigInt(OUT), size, ...message, ...key),
-    () => call("_init", state, size, ...key, ...salts),
+    () => call("_init_salt_personal", state, size, ...key, ...salts),
     () => call("_init_key", state, size, ...key),
     () => call(
-      "_init_node", state, size, ...key, ...salts, randomInt(256), randomInt(256),
+      "_init_tree", state, size, ...key, ...salts, randomInt(256), randomInt(256),
       randomInt(2 ** 32), BigInt(randomInt(2 ** 47)), randomInt(256), randomInt(most + 1)),
-    () => call("_init_block", state, BigInt(MESSAGES), BigInt(most)),
+    () => call("_init_param", state, BigInt(MESSAGES), BigInt(most)),
     () => call("_update", state, ...message),
     () => call("_update", state, ...message),
     () => call("_final", state, ...out),
@@ -89,8 +89,8 @@ function someCall() {
       "_root_of_leaves", BigInt(OUT), size, BigInt(MESSAGES),
       BigInt(64 * randomInt(8) + (randomInt(5) === 0 ? 1 : 0)),
       ...salts, randomInt(9)),
-    () => ["blake2_c_is_same", [...message, BigInt(MESSAGES + randomInt(2)), message[1]]],
-    () => ["blake2_c_version", []],
+    () => ["vulfsjor_ffi_is_same", [...message, BigInt(MESSAGES + randomInt(2)), message[1]]],
+    () => ["vulfsjor_ffi_version", []],
   ][randomInt(30)]();
 }
 

@@ -1,5 +1,6 @@
 // The page in Chromium, opened as a file, as a user has it.
 import assert from "node:assert/strict";
+import { execFileSync } from "node:child_process";
 import { createHash } from "node:crypto";
 import {
   createReadStream, mkdtempSync, readFileSync, rmSync, truncateSync, writeFileSync,
@@ -12,11 +13,12 @@ import { fileURLToPath, pathToFileURL } from "node:url";
 import { hex, treeRootStream } from "../index.js";
 import { startChromium } from "./chromium.mjs";
 
-const PAGE = pathToFileURL(fileURLToPath(new URL("../demo/index.html", import.meta.url))).href;
+const BUILD = fileURLToPath(new URL("../tools/build.mjs", import.meta.url));
 const FILES = { "empty.txt": 0, "one byte": 1, "käse & <b>.bin": 70_001, "video.mp4": 60_000_000 };
 const KINDS = ["BLAKE2b-512", "BLAKE2b-256", "BLAKE2s-256", "tree root"];
 
 let folder;
+let PAGE; // its address
 let chromium;
 let missing;
 
@@ -28,6 +30,8 @@ function makeEmpty(name) {
 
 before(async () => {
   folder = mkdtempSync(join(tmpdir(), "vulfsjor-demo-"));
+  PAGE = pathToFileURL(join(folder, "index.html")).href;
+  execFileSync(process.execPath, [BUILD, "--page", join(folder, "index.html")]);
   for (const [name, size] of Object.entries(FILES)) {
     writeFileSync(join(folder, name), Buffer.alloc(size, name));
   }
@@ -475,6 +479,12 @@ test("the page's policy forbids connections and other scripts", async (t) => {
   } finally {
     server.close();
   }
+  assert.equal(await page.evaluate(`{
+    const base = document.createElement("base");
+    base.href = "${url}/base/";
+    document.head.append(base);
+    document.baseURI;
+  }`), PAGE);
   assert.equal(await page.evaluate(`{
     const script = document.createElement("script");
     script.textContent = "window.ran = true";

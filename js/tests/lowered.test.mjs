@@ -1,6 +1,7 @@
 // The module of the package: made from that of dist/wasm, and doing the same.
 import assert from "node:assert/strict";
 import { execFileSync, spawnSync } from "node:child_process";
+import { createHash } from "node:crypto";
 import { cpSync, mkdtempSync, readFileSync, rmSync, writeFileSync } from "node:fs";
 import { tmpdir } from "node:os";
 import { join } from "node:path";
@@ -10,54 +11,64 @@ import { decode } from "../src/wasm.js";
 import { lower } from "../tools/lower.mjs";
 
 const here = (path) => fileURLToPath(new URL(path, import.meta.url));
-const MODULE = here("../../dist/wasm/blake2_c.wasm");
+const MODULE = here("../../dist/wasm/vulfsjor.wasm");
 
-test("src/wasm.js and demo/index.html are what tools/build.mjs makes", () => {
+test("src/wasm.js is what tools/build.mjs makes", () => {
   // As a command, as `make dist` runs it.
   execFileSync(here("../tools/build.mjs"), ["--check"]);
 });
 
-test("tools/build.mjs writes both files, compares them, and refuses a page that breaks", () => {
+test("tools/build.mjs writes and compares src/wasm.js, and writes the page", (t) => {
   const folder = mkdtempSync(join(tmpdir(), "vulfsjor-build-"));
+  t.after(() => rmSync(folder, { recursive: true }));
   const file = (path) => join(folder, path);
   const build = (...words) => {
     const { status, stderr } = spawnSync(
       process.execPath, [file("js/tools/build.mjs"), ...words], { encoding: "utf8" });
     return [status, stderr];
   };
-  const unlike = (paths) =>
-    [1, paths.map((path) => `build: ${file(path)} is not what this script makes\n`).join("")];
-  try {
-    for (const path of ["index.js", "package.json", "src", "tools", "demo"]) {
-      cpSync(here(`../${path}`), file(`js/${path}`), { recursive: true });
-    }
-    cpSync(MODULE, file("dist/wasm/blake2_c.wasm"));
-    const made = ["js/src/wasm.js", "js/demo/index.html"];
-    const texts = made.map((path) => readFileSync(file(path), "utf8"));
-    assert.deepEqual(build("--check"), [0, ""]);
-    for (const [i, path] of made.entries()) {
-      writeFileSync(file(path), `${texts[i]} `);
-      assert.deepEqual(build("--check"), unlike(made.slice(i))); // the page contains wasm.js
-      assert.deepEqual(build(), [0, ""]);
-      assert.equal(readFileSync(file(path), "utf8"), texts[i]);
-    }
-    for (const [path, text, message] of [
-      ["js/demo/page.css", "</STYLE>", "build: the page's style would end too early"],
-      ["js/demo/page.js", "// <!--", "build: the page's script would end too early"],
-      ["js/demo/worker.js", "// </script>", "build: the page's worker would end too early"],
-      ["js/demo/worker.js", "export default 5;", "bundle: an unknown form in "],
-      ["js/src/streams.js", 'import "./more.js";', "bundle: an unknown form in "],
-      ["js/src/streams.js", "import.meta.dirname;", "bundle: an unknown form in "],
-    ]) {
-      const before = readFileSync(file(path));
-      writeFileSync(file(path), `${before}\n${text}\n`);
-      const [status, stderr] = build();
-      assert.equal(status, 1);
-      assert.ok(stderr.includes(`Error: ${message}`), stderr);
-      writeFileSync(file(path), before);
-    }
-  } finally {
-    rmSync(folder, { recursive: true });
+  for (const path of ["index.js", "package.json", "src", "tools", "demo"]) {
+    cpSync(here(`../${path}`), file(`js/${path}`), { recursive: true });
+  }
+  cpSync(MODULE, file("dist/wasm/vulfsjor.wasm"));
+  const made = file("js/src/wasm.js");
+  const text = readFileSync(made, "utf8");
+  assert.deepEqual(build("--check"), [0, ""]);
+  writeFileSync(made, `${text} `);
+  assert.deepEqual(build("--check"), [1, `build: ${made} is not what this script makes\n`]);
+  assert.equal(readFileSync(made, "utf8"), `${text} `);
+  assert.deepEqual(build(), [0, ""]);
+  assert.equal(readFileSync(made, "utf8"), text);
+  writeFileSync(made, "");
+  const { scripts, version } = JSON.parse(readFileSync(here("../package.json"), "utf8"));
+  const script = (name) => execFileSync("sh", ["-c", scripts[name]], { cwd: file("js") });
+  script("build");
+  assert.equal(readFileSync(made, "utf8"), text);
+  script("page");
+  for (const words of [["--page"], ["--pages", "x"], ["other"]]) {
+    assert.deepEqual(build(...words), [2, "usage: tools/build.mjs [--check | --page FILE]\n"]);
+  }
+  const page = file("page.html");
+  assert.deepEqual(build("--page", page), [0, ""]);
+  assert.deepEqual(readFileSync(page), readFileSync(file("js/demo/index.html")));
+  const hash = createHash("sha256").update(readFileSync(MODULE)).digest("hex");
+  for (const part of [`vulfsjor ${version}, made from`, hash, "script-src 'sha256-"]) {
+    assert.ok(readFileSync(page, "utf8").includes(part), part);
+  }
+  for (const [path, added, message] of [
+    ["js/demo/page.css", "</STYLE>", "build: the page's style would end too early"],
+    ["js/demo/page.js", "// <!--", "build: the page's script would end too early"],
+    ["js/demo/worker.js", "// </script>", "build: the page's worker would end too early"],
+    ["js/demo/worker.js", "export default 5;", "bundle: an unknown form in "],
+    ["js/src/streams.js", 'import "./more.js";', "bundle: an unknown form in "],
+    ["js/src/streams.js", "import.meta.dirname;", "bundle: an unknown form in "],
+  ]) {
+    const before = readFileSync(file(path));
+    writeFileSync(file(path), `${before}\n${added}\n`);
+    const [status, stderr] = build("--page", page);
+    assert.equal(status, 1);
+    assert.ok(stderr.includes(`Error: ${message}`), stderr);
+    writeFileSync(file(path), before);
   }
 });
 
@@ -77,12 +88,12 @@ test("10,000 random calls of both modules return the same and leave the same mem
   // each function was called, and each that refuses was seen to do both
   assert.equal(new Set(Object.keys(answers).map((each) => each.split(" ")[0])).size, 42);
   for (const name of [
-    "blake2b", "blake2s_init", "blake2b_update", "blake2s_final", "blake2b_many", "tree_update",
-    "tree_leaves", "tree_root_of_leaves", "is_same",
+    "blake2b", "blake2s_init_salt_personal", "blake2b_update", "blake2s_final", "blake2b_many",
+    "tree_update", "tree_leaves", "tree_root_of_leaves", "is_same",
   ]) {
     assert.ok(
-      answers[`blake2_c_${name} 0`] > 10 && answers[`blake2_c_${name} -1`] > 3,
-      `${name} ${answers[`blake2_c_${name} 0`]} ${answers[`blake2_c_${name} -1`]}`);
+      answers[`vulfsjor_ffi_${name} 0`] > 10 && answers[`vulfsjor_ffi_${name} -1`] > 3,
+      `${name} ${answers[`vulfsjor_ffi_${name} 0`]} ${answers[`vulfsjor_ffi_${name} -1`]}`);
   }
 });
 

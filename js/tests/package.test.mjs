@@ -1,7 +1,9 @@
 // The package as npm packs it, and its types.
 import assert from "node:assert/strict";
 import { execFileSync, spawnSync } from "node:child_process";
-import { cpSync, mkdirSync, mkdtempSync, readFileSync, rmSync, writeFileSync } from "node:fs";
+import {
+  cpSync, mkdirSync, mkdtempSync, readFileSync, rmSync, symlinkSync, writeFileSync,
+} from "node:fs";
 import { tmpdir } from "node:os";
 import { join } from "node:path";
 import test from "node:test";
@@ -35,11 +37,12 @@ test("npm packs and installs it, and programs import it by its name", (t) => {
     const print = 'console.log(hex(blake2b(utf8("abc"))).slice(0, 8));';
     const program = `import { blake2b, hex, utf8 } from "vulfsjor"; ${print}`;
     assert.equal(run(process.execPath, "--input-type=module", "-e", program), "ba80a53f\n");
-    const old = `const { blake2b, hex, utf8 } = require("vulfsjor"); ${print}`;
-    const flags = Number(process.versions.node.split(".")[0]) < 22
-      ? ["--experimental-require-module"] : [];
-    if (spawnSync(process.execPath, [...flags, "-e", ""]).status === 0) {
-      assert.equal(run(process.execPath, ...flags, "--no-warnings", "-e", old), "ba80a53f\n");
+    // from CommonJS: in each version by a call, and by require in those that can
+    const inCommon = (from) => `(async () => {
+      const { blake2b, hex, utf8 } = ${from}("vulfsjor"); ${print} })();`;
+    const forms = process.features.require_module ? ["await import", "require"] : ["await import"];
+    for (const from of forms) {
+      assert.equal(run(process.execPath, "--no-warnings", "-e", inCommon(from)), "ba80a53f\n");
     }
   });
 });
@@ -51,13 +54,28 @@ test("the types say what the functions accept", (t) => {
     for (const file of ["package.json", "index.d.ts", "index.js"]) {
       cpSync(join(top, file), join(folder, "node_modules/vulfsjor", file));
     }
-    cpSync(join(top, "tests/types/right.ts"), join(folder, "right.mts"));
+    cpSync(join(top, "tests/types"), folder, { recursive: true });
     writeFileSync(join(folder, "package.json"), '{"type": "module"}');
-    const { status, stdout } = spawnSync(
-      "tsc", ["--noEmit", "--strict", "--exactOptionalPropertyTypes", "--target",
-      "es2022", "--module", "node16", "--lib", "es2022,dom,dom.iterable", "right.mts"],
-      { cwd: folder, encoding: "utf8" });
-    assert.equal(status, 0, stdout);
+    for (const [lib, ...files] of [
+      ["es2022,dom,dom.iterable", "right.ts", "common.cts"], ["es2018", "plain.ts"],
+    ]) {
+      const { status, stdout } = spawnSync(
+        "tsc", ["--noEmit", "--strict", "--exactOptionalPropertyTypes", "--target", "es2022",
+        "--module", "node16", "--lib", lib, ...files], { cwd: folder, encoding: "utf8" });
+      assert.equal(status, 0, stdout);
+    }
+  });
+});
+
+test("run_tests.sh skips all tests if there is no node", () => {
+  inFolder((folder) => {
+    for (const tool of ["bash", "dirname", "readlink"]) {
+      const { stdout } = spawnSync("sh", ["-c", `command -v ${tool}`], { encoding: "utf8" });
+      symlinkSync(stdout.trim(), join(folder, tool));
+    }
+    const { stdout, status } = spawnSync(
+      join(top, "run_tests.sh"), { env: { PATH: folder }, encoding: "utf8" });
+    assert.deepEqual([stdout, status], ["1..0 # SKIP no node 20.16 or later\n", 0]);
   });
 });
 
@@ -65,6 +83,6 @@ test("the version is that of the library", async () => {
   const { version } = JSON.parse(readFileSync(join(top, "package.json")));
   const { decode } = await import("../src/wasm.js");
   const { exports } = new WebAssembly.Instance(new WebAssembly.Module(decode()));
-  const number = exports.blake2_c_version();
+  const number = exports.vulfsjor_ffi_version();
   assert.equal(`${number >> 16}.${(number >> 8) & 255}.${number & 255}`, version);
 });

@@ -1,17 +1,83 @@
-// The examples of the README print what the comments after them say.
+// The pages: each example prints what the comments after its lines say, and the numbers are those
+// of the code.
 import assert from "node:assert/strict";
 import { execFileSync } from "node:child_process";
 import { readFileSync } from "node:fs";
 import test from "node:test";
+import { fileURLToPath } from "node:url";
+import { hashRow, rootRow } from "../../bench/javascript.mjs";
+import { blake2b } from "../index.js";
+import { BLAKE2B, BLAKE2S, LEAF_DIGEST, TREE, memory } from "../src/engine.js";
+import { LONGEST_LEAF, MOST_THREADS } from "../src/threads.js";
 
-test("the README's examples", () => {
-  const text = readFileSync(new URL("../README.md", import.meta.url), "utf8");
-  const program = [...text.matchAll(/```js\n([^`]*)```/g)].map(([, block]) => block).join("");
-  const wanted = [...program.matchAll(/; \/\/ (.*)$/gm)].map(([, line]) => line);
-  assert.ok(wanted.length >= 5);
-  const here = program.replaceAll(
-    '"vulfsjor"', JSON.stringify(new URL("../index.js", import.meta.url).href));
-  const got = execFileSync(
-    process.execPath, ["--input-type=module", "-e", here], { encoding: "utf8" });
-  assert.deepEqual(got.trim().split("\n"), wanted);
+const cwd = fileURLToPath(new URL("..", import.meta.url));
+const read = (path) => readFileSync(new URL(path, import.meta.url), "utf8");
+
+for (const [page, count] of [["js/README.md", 4], ["README.md", 1]]) {
+  test(`each example of ${page} runs alone`, () => {
+    const blocks = [...read(`../../${page}`).matchAll(/```js\n([^`]*)```/g)];
+    assert.equal(blocks.length, count);
+    for (const [, block] of blocks) {
+      const wanted = [...block.matchAll(/; \/\/ (.*)$/gm)].map(([, line]) => line);
+      assert.ok(wanted.length > 0, block);
+      const got = execFileSync(
+        process.execPath, ["--input-type=module", "-e", block], { cwd, encoding: "utf8" });
+      assert.deepEqual(got.trim().split("\n"), wanted);
+    }
+  });
+}
+
+test("the numbers in index.d.ts and README.md are those of the code", () => {
+  const [b, s] = [BLAKE2B, BLAKE2S];
+  const power = (max) => `2^${max.toString(2).length}`;
+  const numeral = { 4: "Four", 8: "Eight" };
+  blake2b(new Uint8Array(0)); // so that there is a memory
+  const types = read("../index.d.ts").replace(/\s+(\* )?/g, " ");
+  const page = read("../README.md").replace(/\s+/g, " ");
+  for (const [text, part, count] of [
+    [types, `digest in bytes: 1 to ${b.digestLength}, BLAKE2s 1 to ${s.digestLength}.`, 1],
+    [types, `A key of 1 to ${b.keyLength} bytes, BLAKE2s 1 to ${s.keyLength}.`, 1],
+    [types, `Up to ${b.saltLength} bytes, BLAKE2s up to ${s.saltLength}.`, 2],
+    [types, `Up to ${TREE.saltLength} bytes. Trailing`, 2],
+    [types, `below ${power(b.maxNodeOffset)}, BLAKE2s ${power(s.maxNodeOffset)}.`, 1],
+    [types, `digests in bytes, up to ${b.digestLength}, BLAKE2s ${s.digestLength}.`, 1],
+    [types, `The length of the root in bytes, 1 to ${TREE.digestLength}.`, 1],
+    [types, `a block in bytes: ${b.blockLength}, BLAKE2s ${s.blockLength}.`, 1],
+    [types, `${numeral[b.atOnce]} messages in a row`, 1],
+    [types, `${numeral[s.atOnce]} messages in a row`, 1],
+    [types, `number of workers, up to ${MOST_THREADS};`, 1],
+    [types, `longer than ${LONGEST_LEAF / 2 ** 20} MiB`, 1],
+    [types, `${LEAF_DIGEST} bytes each`, 2],
+    [page, `(1 to ${b.digestLength}, BLAKE2s to ${s.digestLength}), \`key\``, 1],
+    [page, `\`key\` (1 to ${b.keyLength} bytes, BLAKE2s to ${s.keyLength})`, 1],
+    [page, `(up to ${b.saltLength} bytes, BLAKE2s ${s.saltLength})`, 1],
+    [page, `memory is ${memory().length / 2 ** 20} MiB`, 1],
+    [page, `until the end, ${LEAF_DIGEST} bytes each`, 1],
+    [page, `node ${JSON.parse(read("../package.json")).engines.node.slice(2)} and later`, 1],
+  ]) {
+    assert.equal(text.split(part).length - 1, count, part);
+  }
+});
+
+test("bench/javascript.mjs divides our speed by the other one, and so does docs/SPEED.md", () => {
+  assert.equal(hashRow("hash", 64, [2, 3]), "| hash | 64 | 2000 ns | 3000 ns | 1.50 |\n");
+  assert.equal(
+    hashRow("hash", 65536, [64, 128]), "| hash | 65536 | 1.02 GB/s | 0.51 GB/s | 2.00 |\n");
+  assert.equal(
+    rootRow(1, [2, 1, 4]), "| 1 MiB | 0.52 GB/s | 1.05 GB/s | 2.00 | 0.26 GB/s | 0.50 |\n");
+  const [, measured] = read("../../docs/SPEED.md").split(/<!-- .*bench\/javascript\.mjs.* -->/);
+  const rows = [...measured.matchAll(/^\| [^-].*[\d.]+ \|$/gm)].map(([row]) => row.split(" | "));
+  assert.equal(rows.length, 15);
+  // whether a quotient of rounded numbers may be this one
+  const isRatio = (ratio, over, under) => {
+    const [a, b] = [over, under].map((cell) => Number.parseFloat(cell));
+    const slack = 0.5 / 100 + (a / b) * (over.endsWith("ns") ? 0.001 : 0.006 / a + 0.006 / b);
+    return Math.abs(Number.parseFloat(ratio) - a / b) <= slack;
+  };
+  for (const [what, first, ...cells] of rows) {
+    const pairs = cells.length === 3
+      ? [[cells[2], ...(cells[0].endsWith("ns") ? [cells[1], cells[0]] : cells)]]
+      : [[cells[1], cells[0], first], [cells[3], cells[2], first]];
+    for (const pair of pairs) assert.ok(isRatio(...pair), `${what}: ${pair}`);
+  }
 });

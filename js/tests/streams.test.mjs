@@ -120,6 +120,22 @@ test("an abort ends it, before and on the way", async () => {
     blake2bStream((async function* () {})(), { signal: AbortSignal.abort(fault) }), fault);
 });
 
+test("what fails after the first failure is not reported", async (t) => {
+  const unhandled = [];
+  const note = (fault) => unhandled.push(fault);
+  process.on("unhandledRejection", note);
+  t.after(() => process.off("unhandledRejection", note));
+  const fault = new Error("progress");
+  const blob = new Blob([MESSAGE]);
+  const { slice } = Blob.prototype;
+  blob.slice = (from, to) => (from === 0
+    ? slice.call(blob, from, to) : { arrayBuffer: async () => { throw new Error("gone"); } });
+  await assert.rejects(blake2bStream(blob, { onProgress() { throw fault; } }), fault);
+  await new Promise((resolve) => setTimeout(resolve, 20));
+  assert.deepEqual(unhandled, []);
+  await assert.rejects(blake2bStream(blob), { message: "gone" });
+});
+
 test("no listener is left at the signal", async () => {
   const { signal } = new AbortController();
   await blake2bStream(new Blob([MESSAGE]), { signal });

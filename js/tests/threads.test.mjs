@@ -2,9 +2,12 @@
 import assert from "node:assert/strict";
 import { execFileSync } from "node:child_process";
 import { randomBytes, randomInt } from "node:crypto";
-import test from "node:test";
+import { EventEmitter } from "node:events";
+import os from "node:os";
+import test, { after } from "node:test";
 import workerThreads from "node:worker_threads";
 import { hex, treeLeaves, treeRoot, treeRootOfLeaves, treeRootStream, utf8 } from "../index.js";
+import { processorCount } from "../src/threads.js";
 import { assertClean } from "./common.mjs";
 
 const MESSAGE = new Uint8Array(randomBytes(9_000_001));
@@ -67,35 +70,10 @@ test("only a leaf that changed is hashed again", () => {
     hex(treeRootOfLeaves(digests, { leafLength: 64 })), rootOf(message, { leafLength: 64 }));
 });
 
-test("leaves and root are the nodes that hashlib computes", (t) => {
-  const program = `
-import hashlib, sys
-message, size = bytes(range(256)) * 3, 100
-def node(data, **more):
-    return hashlib.blake2b(
-        data, fanout=0, depth=2, leaf_size=size, inner_size=64, salt=b"a salt", **more)
-def leaf(i, first):
-    data = message[i * size:i * size + size]
-    return node(data, node_offset=first + i, last_node=i == 7).digest()
-print(b"".join(leaf(i, 2**45) for i in range(8)).hex())
-leaves = b"".join(leaf(i, 0) for i in range(8)) * 1009
-print(node(leaves, node_depth=1, last_node=True, digest_size=20).hexdigest())
-sys.stdout.flush(); sys.stdout.buffer.write(leaves.hex().encode())`;
-  let lines;
-  try {
-    lines = execFileSync("python3", ["-c", program], { encoding: "utf8", maxBuffer: 2 ** 24 })
-      .split("\n");
-  } catch (fault) {
-    if (fault.code === "ENOENT") return t.skip("no python3");
-    throw fault;
-  }
-  const message = Uint8Array.from({ length: 768 }, (_, i) => i);
-  const far = treeLeaves(message, { leafLength: 100, first: 2n ** 45n, ends: true, salt: SALT });
-  assert.equal(hex(far), lines[0]);
-  // more digests than the window holds
-  const digests = Buffer.from(lines[2], "hex");
-  assert.equal(
-    hex(treeRootOfLeaves(digests, { leafLength: 100, salt: SALT, digestLength: 20 })), lines[1]);
+test("a root over more digests than the window holds", () => {
+  const digests = Uint8Array.from({ length: 64 * 8065 }, (_, i) => i * 7);
+  const root = treeRootOfLeaves(digests, { leafLength: 100, salt: SALT, digestLength: 20 });
+  assert.equal(hex(root), "6e33308fe87960cdcbd98ffd738f6f3cbc76674d"); // hashlib's
 });
 
 test("what is not a range of leaves is refused", () => {
@@ -189,6 +167,11 @@ async function withWorkers(Class, work) {
   }
 }
 
+// Waits until workers have exited. One that is left is an error, and ends the process at the end.
+const ended = (begun) => Promise.race([Promise.all(begun), new Promise((_, reject) =>
+  setTimeout(reject, 20_000, new Error("a worker is left")).unref())]);
+after(() => setTimeout(() => process.exit(1), 20_000).unref());
+
 // Counts the workers that were started and have exited.
 function counted(begun = [], make = (...words) => words) {
   return class extends workerThreads.Worker {
@@ -206,7 +189,7 @@ test("as many workers as there are ranges start, and all of them are stopped", a
     await withWorkers(
       counted(begun), () => byThreads(new Blob([MESSAGE]), { leafLength: 65536, threads }));
     assert.equal(begun.length, count);
-    await Promise.all(begun);
+    await ended(begun);
   }
   const begun = [];
   await withWorkers(
@@ -250,13 +233,89 @@ test("ranges and digests are transferred, not copied", async () => {
   assert.deepEqual(sent, [[digests, [digests.buffer]]]);
 });
 
-test("threads is an integer from 1 to 256, of the tree alone", async () => {
+test("threads 0 means all processors, and 256 at most", async (t) => {
+  const { availableParallelism } = os;
+  t.after(() => (os.availableParallelism = availableParallelism));
+  for (const [processors, count] of [[1, 0], [2, 2]]) {
+    os.availableParallelism = () => processors;
+    const begun = [];
+    const root = await withWorkers(
+      counted(begun), () => byThreads(new Blob([MESSAGE]), { leafLength: 65536, threads: 0 }));
+    assert.equal(root, rootOf(MESSAGE, { leafLength: 65536 }));
+    assert.equal(begun.length, count);
+  }
+  for (const [processors, count] of [[255, 255], [256, 256], [257, 256]]) {
+    os.availableParallelism = () => processors;
+    assert.equal(processorCount(), count);
+  }
+});
+
+// Runs the work as a browser would, whose Worker is this class, on a number of processors.
+async function inBrowser(Worker, hardwareConcurrency, work) {
+  const names = ["Worker", "navigator"];
+  const before = names.map((name) => Object.getOwnPropertyDescriptor(globalThis, name));
+  const { getBuiltinModule } = process;
+  process.getBuiltinModule = () => undefined;
+  [Worker, { hardwareConcurrency }].forEach((value, i) =>
+    Object.defineProperty(globalThis, names[i], { value, configurable: true }));
+  try {
+    return await work();
+  } finally {
+    process.getBuiltinModule = getBuiltinModule;
+    names.forEach((name, i) => {
+      if (before[i]) Object.defineProperty(globalThis, name, before[i]);
+      else delete globalThis[name];
+    });
+  }
+}
+
+test("a browser says how many processors there are, or nothing", async () => {
+  for (const [processors, count] of [[3, 3], [300, 256], [undefined, 1]]) {
+    assert.equal(await inBrowser(undefined, processors, processorCount), count);
+  }
+});
+
+test("what a worker of node or of a browser reports is an error of the call", async () => {
+  const fault = new Error("cannot be read");
+  const options = { leafLength: 65536 };
+  for (const [event, value, message] of [
+    ["messageerror", fault, "cannot be read"], ["error", fault, "cannot be read"],
+    ["exit", 5, "it exited with code 5"],
+  ]) {
+    const Class = class extends EventEmitter {
+      postMessage() { setImmediate(() => this.emit(event, value)); }
+      terminate() {}
+    };
+    await assert.rejects(withWorkers(Class, () => byThreads(new Blob([MESSAGE]), options)),
+      { message: `treeRootStream: a worker failed: ${message}` });
+  }
+  for (const [event, value, message] of [
+    ["messageerror", {}, "its result could not be read"],
+    ["error", {}, "it could not be started"], ["error", { message: "no" }, "no"],
+  ]) {
+    let stopped = 0;
+    const Class = class {
+      constructor(url, words) {
+        assert.match(url.href, /\/src\/worker\.js$/);
+        assert.deepEqual(words, { type: "module" });
+      }
+      postMessage() { setImmediate(() => this[`on${event}`](value)); }
+      terminate() { stopped++; }
+    };
+    await assert.rejects(
+      inBrowser(Class, 4, () => byThreads(new Blob([MESSAGE]), { ...options, threads: 2 })),
+      { message: `treeRootStream: a worker failed: ${message}` });
+    assert.equal(stopped, 2);
+  }
+});
+
+test("threads is an integer from 0 to 256, of the tree alone", async () => {
   const rejects = (options, name, message) =>
     assert.rejects(treeRootStream(new Blob([]), { leafLength: 5, ...options }), { name, message });
-  for (const threads of [0, 257, 1.5, -1, NaN]) {
+  for (const threads of [257, 1.5, -1, NaN]) {
     await rejects(
       { threads }, "RangeError",
-      `treeRootStream: threads must be an integer from 1 to 256, not ${threads}`);
+      `treeRootStream: threads must be an integer from 0 to 256, not ${threads}`);
   }
   await rejects(
     { threads: "4" }, "TypeError", "treeRootStream: threads must be a number, not a string");
@@ -278,6 +337,10 @@ test("progress counts what the workers have hashed", async () => {
     new Blob([MESSAGE]), { leafLength: 1000, onProgress: (count) => counts.push(count) });
   const lengths = counts.map((count, i) => count - (counts[i - 1] ?? 0));
   assert.deepEqual(lengths.sort((a, b) => a - b), [612_001, 4_194_000, 4_194_000]);
+  counts.length = 0; // a range of a leaf that is longer than a range
+  await byThreads(
+    new Blob([MESSAGE]), { leafLength: 5_000_000, onProgress: (count) => counts.push(count) });
+  assert.equal(counts.length, 2);
   await byThreads(new Blob([]), { leafLength: 1, onProgress: (...both) => counts.push(both) });
   assert.deepEqual(counts.at(-1), [0, 0]);
 });
@@ -309,7 +372,7 @@ test("an abort, or progress that throws, ends it and stops the workers", async (
     assert.equal(source.stream.locked, false);
     assert.equal(count, 3);
     assert.equal(begun.length, 3);
-    await Promise.all(begun);
+    await ended(begun);
   }
   const begun = [];
   const call = () =>
@@ -333,7 +396,7 @@ test("a worker that fails is an error, and nothing hangs", async () => {
       await assert.rejects(withWorkers(Class, () => byThreads(source, { leafLength: 65536 })), {
         name: "Error", message: `treeRootStream: a worker failed: ${cause}`,
       });
-      await Promise.all(begun);
+      await ended(begun);
     }
   }
   const refusing = class { constructor() { throw new Error("no room"); } };

@@ -1,10 +1,10 @@
 #!/usr/bin/env node
-// Writes the two generated files from dist/wasm/blake2_c.wasm, the module that the proved source
-// compiles to: src/wasm.js, the module with a 32-bit memory (lower.mjs) in base64 and the hashes of
-// both; and demo/index.html, the page in one file, from src/ and the other files of demo/.
+// Writes what is made from dist/wasm/vulfsjor.wasm, the module that the proved source compiles to:
 //
-//   tools/build.mjs                           writes both
-//   tools/build.mjs --check                   compares both with the files instead
+//   tools/build.mjs                writes src/wasm.js: the module with a 32-bit memory (lower.mjs)
+//                                  in base64, and the hashes of both
+//   tools/build.mjs --check        compares src/wasm.js with that instead
+//   tools/build.mjs --page FILE    writes the page in one file, from src/ and the files of demo/
 import { createHash } from "node:crypto";
 import { readFileSync, writeFileSync } from "node:fs";
 import { fileURLToPath } from "node:url";
@@ -12,12 +12,12 @@ import { bundle } from "./bundle.mjs";
 import { lower } from "./lower.mjs";
 
 const here = (path) => fileURLToPath(new URL(path, import.meta.url));
-const MODULE = here("../../dist/wasm/blake2_c.wasm");
+const MODULE = here("../../dist/wasm/vulfsjor.wasm");
 const sha256 = (bytes, encoding = "hex") => createHash("sha256").update(bytes).digest(encoding);
 
 function wasmOf(module) {
   const lowered = lower(module);
-  return `// Made by tools/build.mjs from dist/wasm/blake2_c.wasm. Do not edit.
+  return `// Made by tools/build.mjs from dist/wasm/vulfsjor.wasm. Do not edit.
 // sha256 of that module:       ${sha256(module)}
 // sha256 of the lowered one:   ${sha256(lowered)}
 
@@ -61,14 +61,18 @@ function pageOf() {
   return read("page.html").replace(/@(\w+)@/g, (_, name) => values[name]);
 }
 
-const isCheck = process.argv[2] === "--check";
-
-function write(target, text) {
-  if (!isCheck) return writeFileSync(target, text);
-  if (readFileSync(target, "utf8") === text) return undefined;
+function check(target, text) {
+  if (readFileSync(target, "utf8") === text) return;
   console.error(`build: ${target} is not what this script makes`);
   process.exitCode = 1;
 }
 
-write(here("../src/wasm.js"), wasmOf(readFileSync(MODULE)));
-write(here("../demo/index.html"), pageOf());
+const TARGET = here("../src/wasm.js");
+const [option, file] = process.argv.slice(2);
+if (option === undefined) writeFileSync(TARGET, wasmOf(readFileSync(MODULE)));
+else if (option === "--check") check(TARGET, wasmOf(readFileSync(MODULE)));
+else if (option === "--page" && file !== undefined) writeFileSync(file, pageOf());
+else {
+  console.error("usage: tools/build.mjs [--check | --page FILE]");
+  process.exitCode = 2;
+}

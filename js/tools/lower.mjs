@@ -61,14 +61,11 @@ const unsigned = (value) => {
   return [...out, value];
 };
 
+// A number that is not negative, in the form of signed ones.
 const signed = (value) => {
   const out = [];
-  for (;;) {
-    const byte = Number(value & 0x7fn);
-    value >>= 7n;
-    if ((value === 0n && byte < 0x40) || (value === -1n && byte >= 0x40)) return [...out, byte];
-    out.push(byte | 0x80);
-  }
+  for (; value >= 0x40n; value >>= 7n) out.push(Number(value & 0x7fn) | 0x80);
+  return [...out, Number(value)];
 };
 
 // The bytes of a rewritten function body.

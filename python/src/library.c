@@ -1,6 +1,10 @@
 /* BLAKE2b and BLAKE2s for Python, with the interface of hashlib, by the proved functions of the
- * library blake2_c, whose assembly is linked with this file. */
+ * library vulfsjor, whose assembly is linked with this file. */
 #include "library.h"
+
+#ifdef __x86_64__
+#include <cpuid.h>
+#endif
 
 /* ---- The families */
 
@@ -533,18 +537,26 @@ static int add_version(PyObject *module) {
     return status;
 }
 
-/* A processor that the library does not run on is refused here, where its first call would end the
- * program. */
+#ifdef __x86_64__
+/* Whether the processor has all of x86-64-v2. Where it has not, the first call of the library would
+ * end the program (choose.c). */
+static int is_supported(void) {
+    const unsigned v2 =
+        bit_SSE3 | bit_SSSE3 | bit_CMPXCHG16B | bit_SSE4_1 | bit_SSE4_2 | bit_POPCNT;
+    unsigned a, b, first, extended, d;
+    return __get_cpuid(1, &a, &b, &first, &d) && (first & v2) == v2 &&
+           __get_cpuid(0x80000001u, &a, &b, &extended, &d) && extended & bit_LAHF_LM;
+}
+#else
+static int is_supported(void) { return 1; }
+#endif
+
 static int ask_processor(PyObject *module) {
     (void)module;
-#ifdef __x86_64__
-    if (!__builtin_cpu_supports("sse4.2") || !__builtin_cpu_supports("popcnt")) {
-        PyErr_SetString(PyExc_ImportError,
-                        "vulfsjor needs a processor of x86-64-v2, with SSE4.2 and POPCNT");
-        return -1;
-    }
-#endif
-    return 0;
+    if (is_supported()) return 0;
+    PyErr_SetString(PyExc_ImportError,
+                    "vulfsjor needs a processor of x86-64-v2, with SSE4.2 and POPCNT");
+    return -1;
 }
 
 static int fill(PyObject *module) {

@@ -7,7 +7,7 @@
 #define Py_LIMITED_API 0x030b0000
 #include <Python.h>
 
-#include "blake2_c.h"
+#include "vulfsjor.h"
 
 /* The pointer and the length of a buffer, as arguments of a call. */
 #define TEXT(buffer) (buffer)->buf, (size_t)(buffer)->len

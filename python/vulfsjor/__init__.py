@@ -18,16 +18,17 @@ Several messages in one call, and the root of a tree of two levels:
     >>> vulfsjor.tree_root(b"hello world", leaf_size=4096, digest_size=8).hex()
     '15312d2d5f65d53e'
 """
+# `as` says to type checkers that these are names of this package too.
 from vulfsjor._library import (
-    BLAKE2B_MAX_DIGEST_SIZE,
-    BLAKE2B_MAX_KEY_SIZE,
-    BLAKE2B_PERSON_SIZE,
-    BLAKE2B_SALT_SIZE,
-    BLAKE2S_MAX_DIGEST_SIZE,
-    BLAKE2S_MAX_KEY_SIZE,
-    BLAKE2S_PERSON_SIZE,
-    BLAKE2S_SALT_SIZE,
-    __version__,
+    BLAKE2B_MAX_DIGEST_SIZE as BLAKE2B_MAX_DIGEST_SIZE,
+    BLAKE2B_MAX_KEY_SIZE as BLAKE2B_MAX_KEY_SIZE,
+    BLAKE2B_PERSON_SIZE as BLAKE2B_PERSON_SIZE,
+    BLAKE2B_SALT_SIZE as BLAKE2B_SALT_SIZE,
+    BLAKE2S_MAX_DIGEST_SIZE as BLAKE2S_MAX_DIGEST_SIZE,
+    BLAKE2S_MAX_KEY_SIZE as BLAKE2S_MAX_KEY_SIZE,
+    BLAKE2S_PERSON_SIZE as BLAKE2S_PERSON_SIZE,
+    BLAKE2S_SALT_SIZE as BLAKE2S_SALT_SIZE,
+    __version__ as __version__,
     blake2b,
     blake2b_many,
     blake2s,

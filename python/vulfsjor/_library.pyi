@@ -3,7 +3,7 @@ from typing import ClassVar, SupportsIndex, final
 
 # An object with bytes: bytes, bytearray, memoryview and others. Type checkers know this module in
 # stubs; no program imports it.
-from typing_extensions import Buffer as _Bytes
+from _typeshed import ReadableBuffer as _Bytes
 
 __version__: str
 

@@ -20,7 +20,7 @@ from vulfsjor import _library
 
 if TYPE_CHECKING:
     from _typeshed import FileDescriptorOrPath
-    from typing_extensions import Buffer
+    from _typeshed import ReadableBuffer as Buffer
 
 # A thread is started for this number of bytes at least: for fewer it costs what it saves.
 _LEAST_BYTES = 1 << 20
@@ -100,8 +100,8 @@ def _in_order(call: Callable[[int], bytes], count: int, threads: int,
 class _Tree:
     """The parameters of a tree. The constructor raises what _library.tree_root does."""
 
-    def __init__(self, leaf_size: int, digest_size: SupportsIndex, salt: "Buffer",
-                 person: "Buffer"):
+    def __init__(self, leaf_size: int, *, digest_size: SupportsIndex = 64,
+                 salt: "Buffer" = b"", person: "Buffer" = b""):
         _library.tree_root(b"", leaf_size, digest_size=digest_size, salt=salt, person=person)
         self.leaf_size, self.digest_size = leaf_size, digest_size
         self.shared: dict[str, Any] = dict(salt=bytes(salt), person=bytes(person))
@@ -166,7 +166,7 @@ def tree_root(data: "Buffer", /, leaf_size: int, *, digest_size: SupportsIndex =
     if view is None or threads <= 1:
         return _library.tree_root(data, leaf_size, digest_size=digest_size, salt=salt,
                                   person=person)
-    tree = _Tree(leaf_size, digest_size, salt, person)
+    tree = _Tree(leaf_size, digest_size=digest_size, salt=salt, person=person)
     whole = view
     return tree.root(lambda start, end: whole[start:end], len(whole), threads, _MOST_BYTES)
 
@@ -195,11 +195,13 @@ class TreeHasher(_library.TreeHasher):
         view = None if threads == 1 else memoryview(_library.plain_bytes(data))
         if view is None or len(view) < 2 * _LEAST_BYTES:
             return super().update(data)
-        whole, fresh, count = view, self.copy(), self.count
-        head = min(-fresh.count % self.leaf_size, len(view))
+        # The count is that of the copy: self may absorb more at any time.
+        whole, fresh = view, self.copy()
+        count = fresh.count
+        head = min(-count % self.leaf_size, len(view))
         end = len(view) - (len(view) - head - 1) % self.leaf_size - 1 if head < len(view) else head
         super(TreeHasher, fresh).update(view[:head])
-        tree = _Tree(self.leaf_size, 64, b"", b"")
+        tree = _Tree(self.leaf_size)
         threads = min(threads, len(view) // _LEAST_BYTES)
         part = tree.part(end - head, threads, _MOST_BYTES)
 
@@ -283,7 +285,7 @@ def tree_root_file(path: "FileDescriptorOrPath", /, leaf_size: int, *,
     raises, or at KeyboardInterrupt, the threads stop and the exception is raised.
     """
     threads = _thread_count(threads)
-    tree = _Tree(leaf_size, digest_size, salt, person)
+    tree = _Tree(leaf_size, digest_size=digest_size, salt=salt, person=person)
     if progress is not None and not callable(progress):
         raise TypeError("progress must be callable")
     with io.FileIO(path, closefd=not isinstance(path, int)) as opened:

@@ -1,5 +1,5 @@
-//! Compares a tag with bytes that differ from it at one place, 2,000 times. run_tests.sh counts the
-//! instructions with valgrind, and the count must not depend on the place.
+//! Compares a tag with bytes that differ from it at one place, 2,000 times. tests/programs.rs counts
+//! the instructions with valgrind, and the count must not depend on the place.
 //!
 //!     equal_time digest|verify PLACE
 use vulfsjor::Blake2bMac;

@@ -1,8 +1,8 @@
-use core::{fmt, mem};
-
 use crate::digest::Digest;
+use crate::error::{check_equal, check_range};
 use crate::library::{self, Blake2bState, Blake2sState, Text};
-use crate::{InvalidLength, MacError, Params, Tree};
+use crate::params::Limits;
+use crate::{InvalidArgument, MacError, Params};
 
 // The number of messages that one call of the library gets in `digest_many`. Their pointers are on
 // the stack.
@@ -12,12 +12,14 @@ const PART: usize = 16;
 macro_rules! family {
     (
         $family:literal, $at_once:literal, $hasher:ident, $mac:ident, $make:ident, $state:ident,
-        $max:literal, $one_call:ident, $many:ident, $init_node:ident, $update:ident, $end:ident,
+        $max:literal, $limits:expr, $one_call:ident, $many:ident, $init_tree:ident, $update:ident,
+        $end:ident,
         $verify:ident, $set_last_node:ident, $reset:ident, $wipe:ident, $digest_size:ident,
         $count:ident
     ) => {
         #[doc = concat!("A ", $family, " hash in progress. It is wiped when it is dropped.")]
-        #[derive(Clone)]
+        ///
+        /// A clone is independent: each absorbs its own further input.
         pub struct $hasher {
             pub(crate) state: $state,
         }
@@ -33,16 +35,16 @@ macro_rules! family {
             ///
             /// # Errors
             ///
-            /// [`InvalidLength`] exactly if a length or a tree parameter is out of the family's
+            /// [`InvalidArgument`] exactly if a length or a tree parameter is out of the family's
             /// range.
-            pub fn with_params(params: &Params<'_>) -> Result<Self, InvalidLength> {
+            pub fn with_params(params: &Params<'_>) -> Result<Self, InvalidArgument> {
                 let Params { output_size, key, salt, persona, tree, last_node } = *params;
                 library::need_a_build();
                 let mut hasher = $hasher { state: $state::ZEROS };
                 // Safety: the pointers come from slices of these lengths, and none is null. The
                 // state overlaps none of them.
                 let status = unsafe {
-                    library::$init_node(
+                    library::$init_tree(
                         &mut hasher.state,
                         output_size.unwrap_or($max),
                         key.as_ptr(),
@@ -59,7 +61,7 @@ macro_rules! family {
                         tree.inner_length,
                     )
                 };
-                InvalidLength::unless_zero(status)?;
+                InvalidArgument::unless_zero(status, || params.check(&$limits))?;
                 if last_node {
                     hasher.set_last_node(true);
                 }
@@ -72,7 +74,7 @@ macro_rules! family {
             }
 
             // The digest under a key, or without one if that is empty.
-            fn one_call(message: &[u8], key: &[u8]) -> Result<Digest, InvalidLength> {
+            fn one_call(message: &[u8], key: &[u8]) -> Result<Digest, InvalidArgument> {
                 let mut digest = Digest::zeros($max);
                 // Safety: the pointers come from slices of these lengths. The output overlaps none
                 // of them and has 64 bytes, which is at least what the call writes.
@@ -86,7 +88,8 @@ macro_rules! family {
                         key.len(),
                     )
                 };
-                InvalidLength::unless_zero(status).map(|()| digest)
+                let explain = || check_range("key.len()", key.len() as u64, 1, $max);
+                InvalidArgument::unless_zero(status, explain).map(|()| digest)
             }
 
             /// Writes the digests of several messages under these parameters, each of `N` bytes.
@@ -107,26 +110,26 @@ macro_rules! family {
             #[doc = concat!("let mut hasher = params.", stringify!($make), "()?;")]
             /// hasher.update(b"six");
             /// assert_eq!(hasher.finalize(), digests[2]);
-            /// # Ok::<(), vulfsjor::InvalidLength>(())
+            /// # Ok::<(), vulfsjor::InvalidArgument>(())
             /// ```
             ///
             /// # Errors
             ///
-            /// [`InvalidLength`] exactly if a length is out of the family's range, the parameters
+            /// [`InvalidArgument`] exactly if a length is out of the family's range, the parameters
             /// set another size than `N` (they need not set one), tree parameters or the last-node
             /// flag, or there are more or fewer digests than messages. No digest is then written.
+            /// The error's `output_size` is `N` if the parameters set none.
             pub fn digest_many<const N: usize>(
                 params: &Params<'_>,
                 messages: &[impl AsRef<[u8]>],
                 digests: &mut [[u8; N]],
-            ) -> Result<(), InvalidLength> {
-                let is_plain = params.tree == Tree::SEQUENTIAL && !params.last_node;
-                let is_of_size = params.output_size.unwrap_or(N) == N;
-                if !is_plain || !is_of_size || messages.len() != digests.len() {
-                    return Err(InvalidLength);
-                }
+            ) -> Result<(), InvalidArgument> {
+                check_equal("digests.len()", digests.len() as u64, messages.len() as u64)?;
+                check_equal("output_size", params.output_size.unwrap_or(N) as u64, N as u64)?;
+                params.check_sequential()?;
+                let params = &params.output_size(N);
                 if messages.is_empty() {
-                    return Self::with_params(&params.output_size(N)).map(|_| ());
+                    return Self::with_params(params).map(|_| ());
                 }
                 let mut parts = messages.chunks(PART).zip(digests.chunks_mut(PART));
                 parts.try_for_each(|(part, digests)| Self::digest_part(params, part, digests))
@@ -137,7 +140,7 @@ macro_rules! family {
                 params: &Params<'_>,
                 messages: &[impl AsRef<[u8]>],
                 digests: &mut [[u8; N]],
-            ) -> Result<(), InvalidLength> {
+            ) -> Result<(), InvalidArgument> {
                 let Params { key, salt, persona, .. } = *params;
                 let mut texts = [Text::of(b""); PART];
                 for (text, message) in texts.iter_mut().zip(messages) {
@@ -160,7 +163,7 @@ macro_rules! family {
                         persona.len(),
                     )
                 };
-                InvalidLength::unless_zero(status)
+                InvalidArgument::unless_zero(status, || params.check(&$limits))
             }
 
             /// Absorbs the input after all earlier input.
@@ -179,21 +182,32 @@ macro_rules! family {
                 self
             }
 
-            /// Returns the digest of all input since the last reset.
-            pub fn finalize(mut self) -> Digest {
+            /// Returns the digest of all input since the last reset. The hasher is unchanged, and
+            /// can absorb more input.
+            ///
+            /// ```
+            #[doc = concat!("use vulfsjor::", stringify!($hasher), ";")]
+            ///
+            #[doc = concat!("let digest = ", stringify!($hasher), "::digest(b\"abc\");")]
+            #[doc = concat!(
+                "assert_eq!(", stringify!($hasher), "::new().update(b\"abc\").finalize(), digest);"
+            )]
+            /// ```
+            pub fn finalize(&self) -> Digest {
+                let mut copy = $hasher { state: $state::ZEROS };
+                copy.state.0.copy_from_slice(&self.state.0);
                 // Safety: the state has initialized bytes.
-                let mut digest = Digest::zeros(unsafe { library::$digest_size(&self.state) });
+                let mut digest = Digest::zeros(unsafe { library::$digest_size(&copy.state) });
                 // Safety: the output has this length, and does not overlap the state.
                 let status =
-                    unsafe { library::$end(&mut self.state, digest.bytes.as_mut_ptr(), 64) };
+                    unsafe { library::$end(&mut copy.state, digest.bytes.as_mut_ptr(), 64) };
                 assert_eq!(status, 0, "a state that new has made");
-                mem::forget(self); // the call has wiped it
                 digest
             }
 
             /// Returns the digest of all input, and [resets](Self::reset) the hasher.
             pub fn finalize_reset(&mut self) -> Digest {
-                let digest = self.clone().finalize();
+                let digest = self.finalize();
                 self.reset();
                 digest
             }
@@ -217,6 +231,14 @@ macro_rules! family {
             pub fn count(&self) -> u64 {
                 // Safety: the state has initialized bytes.
                 unsafe { library::$count(&self.state) }
+            }
+        }
+
+        impl Clone for $hasher {
+            fn clone(&self) -> Self {
+                let mut copy = $hasher { state: $state::ZEROS };
+                copy.state.0.copy_from_slice(&self.state.0);
+                copy
             }
         }
 
@@ -248,9 +270,9 @@ macro_rules! family {
             ///
             /// # Errors
             ///
-            /// [`InvalidLength`] exactly if the key does not have
+            /// [`InvalidArgument`] exactly if the key does not have
             #[doc = concat!("1 to ", stringify!($max), " bytes.")]
-            pub fn new(key: &[u8]) -> Result<Self, InvalidLength> {
+            pub fn new(key: &[u8]) -> Result<Self, InvalidArgument> {
                 Self::with_params(&Params::new().key(key))
             }
 
@@ -258,12 +280,10 @@ macro_rules! family {
             ///
             /// # Errors
             ///
-            /// [`InvalidLength`] exactly if there is no key, or a length or a tree parameter is out
-            /// of the family's range.
-            pub fn with_params(params: &Params<'_>) -> Result<Self, InvalidLength> {
-                if params.key.is_empty() {
-                    return Err(InvalidLength);
-                }
+            /// [`InvalidArgument`] exactly if there is no key, or a length or a tree parameter is
+            /// out of the family's range.
+            pub fn with_params(params: &Params<'_>) -> Result<Self, InvalidArgument> {
+                check_range("key.len()", params.key.len() as u64, 1, $max)?;
                 $hasher::with_params(params).map($mac)
             }
 
@@ -271,12 +291,10 @@ macro_rules! family {
             ///
             /// # Errors
             ///
-            /// [`InvalidLength`] exactly if the key does not have
+            /// [`InvalidArgument`] exactly if the key does not have
             #[doc = concat!("1 to ", stringify!($max), " bytes.")]
-            pub fn tag(key: &[u8], message: impl AsRef<[u8]>) -> Result<Digest, InvalidLength> {
-                if key.is_empty() {
-                    return Err(InvalidLength);
-                }
+            pub fn tag(key: &[u8], message: impl AsRef<[u8]>) -> Result<Digest, InvalidArgument> {
+                check_range("key.len()", key.len() as u64, 1, $max)?;
                 $hasher::one_call(message.as_ref(), key)
             }
 
@@ -291,8 +309,9 @@ macro_rules! family {
                 self
             }
 
-            /// Returns the tag of all input since the last reset.
-            pub fn finalize(self) -> Digest {
+            /// Returns the tag of all input since the last reset. The MAC is unchanged, and can
+            /// absorb more input.
+            pub fn finalize(&self) -> Digest {
                 self.0.finalize()
             }
 
@@ -302,16 +321,18 @@ macro_rules! family {
             }
 
             /// Returns `Ok` exactly if the tag is the whole tag of all input. All bytes of a tag
-            /// of the same length are compared, wherever they differ.
+            /// of the same length are compared, wherever they differ. The MAC is unchanged.
             ///
             /// # Errors
             ///
             /// [`MacError`] for any other tag.
-            pub fn verify(mut self, tag: &[u8]) -> Result<(), MacError> {
+            pub fn verify(&self, tag: &[u8]) -> Result<(), MacError> {
+                let mut copy = $hasher { state: $state::ZEROS };
+                copy.state.0.copy_from_slice(&self.0.state.0);
                 // Safety: the pointer comes from a slice of this length, which the state cannot
                 // overlap.
                 let status =
-                    unsafe { library::$verify(&mut self.0.state, tag.as_ptr(), tag.len()) };
+                    unsafe { library::$verify(&mut copy.state, tag.as_ptr(), tag.len()) };
                 if status == 0 { Ok(()) } else { Err(MacError) }
             }
 
@@ -338,9 +359,10 @@ family!(
     blake2b,
     Blake2bState,
     64,
+    Limits::BLAKE2B,
     blake2b,
     blake2b_many,
-    blake2b_init_node,
+    blake2b_init_tree,
     blake2b_update,
     blake2b_final,
     blake2b_verify,
@@ -359,9 +381,10 @@ family!(
     blake2s,
     Blake2sState,
     32,
+    Limits::BLAKE2S,
     blake2s,
     blake2s_many,
-    blake2s_init_node,
+    blake2s_init_tree,
     blake2s_update,
     blake2s_final,
     blake2s_verify,

@@ -1,20 +1,19 @@
 //! BLAKE2b and BLAKE2s (RFC 7693): safe bindings to formally verified functions. The crate contains
 //! the assembly that the proved source compiles to. It has no dependencies, and allocates memory
-//! only in the calls that use several threads. The Rust code of the crate is tested, not proved.
+//! only in the calls that use several threads or read. The Rust code of the crate is tested, not
+//! proved.
 //!
 //! It runs on Linux on 64-bit ARM and on x86-64 from x86-64-v2 on (SSE4.2 and POPCNT), and uses
 //! AVX2 if the processor has it. On an older x86-64 processor the first call panics.
 //!
-//! A digest of a message, in pieces or in one call:
+//! A digest of a message, in one call or in pieces:
 //!
 //! ```
 //! use vulfsjor::Blake2b;
 //!
-//! let mut hasher = Blake2b::new();
-//! hasher.update(b"hello ");
-//! hasher.update(b"world");
-//! assert_eq!(hasher.finalize(), Blake2b::digest(b"hello world"));
-//! assert!(Blake2b::digest(b"abc").to_string().starts_with("ba80a53f981c4d0d"));
+//! let digest = Blake2b::digest(b"hello world");
+//! assert_eq!(Blake2b::new().update(b"hello ").update(b"world").finalize(), digest);
+//! assert!(Blake2b::digest(b"abc").to_hex().starts_with("ba80a53f981c4d0d"));
 //! ```
 //!
 //! Another digest length, a salt and a personalization (`persona`):
@@ -23,11 +22,12 @@
 //! use vulfsjor::Params;
 //!
 //! let params = Params::new().output_size(16).salt(b"salt").persona(b"my program");
-//! let mut hasher = params.blake2b()?;
-//! hasher.update(b"abc");
-//! assert_eq!(hasher.finalize().as_bytes().len(), 16);
-//! assert!(params.output_size(65).blake2b().is_err());
-//! # Ok::<(), vulfsjor::InvalidLength>(())
+//! let digest = params.blake2b_hash(b"abc")?;
+//! assert_eq!(digest.as_bytes().len(), 16);
+//! assert_eq!(params.blake2b()?.update(b"a").update(b"bc").finalize(), digest);
+//! let error = params.output_size(65).blake2b().unwrap_err();
+//! assert_eq!(error.to_string(), "output_size is 65, and must be 1 to 64");
+//! # Ok::<(), vulfsjor::InvalidArgument>(())
 //! ```
 //!
 //! A message authentication code under a random key of 32 bytes. `verify` compares all bytes of
@@ -40,10 +40,10 @@
 //! let params = Params::new().key(&key).output_size(32).persona(b"invoices");
 //! let mut mac = Blake2bMac::with_params(&params)?;
 //! mac.update(b"message");
-//! let tag = mac.clone().finalize();
-//! assert!(mac.clone().verify(tag.as_bytes()).is_ok());
+//! let tag = mac.finalize();
+//! assert!(mac.verify(tag.as_bytes()).is_ok());
 //! assert!(mac.verify(b"another tag").is_err());
-//! # Ok::<(), vulfsjor::InvalidLength>(())
+//! # Ok::<(), vulfsjor::InvalidArgument>(())
 //! ```
 //!
 //! Several messages in one call:
@@ -54,7 +54,7 @@
 //! let mut digests = [[0; 32]; 2];
 //! Blake2s::digest_many(&Params::new(), &["abc", "xyz"], &mut digests)?;
 //! assert_eq!(Blake2s::digest(b"xyz"), digests[1]);
-//! # Ok::<(), vulfsjor::InvalidLength>(())
+//! # Ok::<(), vulfsjor::InvalidArgument>(())
 //! ```
 //!
 //! A node of a tree of hashes, here the last of its level:
@@ -65,34 +65,41 @@
 //! let place = Tree {
 //!     fanout: 2, depth: 2, leaf_length: 4096, node_offset: 1, node_depth: 0, inner_length: 64,
 //! };
-//! let mut leaf = Params::new().tree(place).last_node(true).blake2b()?;
-//! leaf.update(b"the second leaf");
-//! assert_eq!(leaf.finalize().as_bytes().len(), 64);
-//! # Ok::<(), vulfsjor::InvalidLength>(())
+//! let leaf = Params::new().tree(place).last_node(true).blake2b_hash(b"the second leaf")?;
+//! assert_eq!(leaf.as_bytes().len(), 64);
+//! # Ok::<(), vulfsjor::InvalidArgument>(())
 //! ```
 //!
-//! The root of a message in a tree of two levels, in pieces. It is not a BLAKE2b digest of the
-//! message:
+//! The root of a message in a tree of two levels, in one call or in pieces. It is not a BLAKE2b
+//! digest of the message:
 //!
 //! ```
-//! use vulfsjor::{tree_root, TreeHasher};
+//! use vulfsjor::TreeParams;
 //!
-//! let mut hasher = TreeHasher::new(b"", b"files", 1 << 16)?;
-//! hasher.update(b"hello ").update(b"world");
-//! assert_eq!(hasher.finalize(), tree_root(b"hello world", b"", b"files", 1 << 16)?);
-//! # Ok::<(), vulfsjor::InvalidLength>(())
+//! let params = TreeParams::new(1 << 16).persona(b"files");
+//! let root = params.root(b"hello world")?;
+//! assert_eq!(params.hasher()?.update(b"hello ").update(b"world").finalize(), root);
+//! # Ok::<(), vulfsjor::InvalidArgument>(())
 //! ```
 //!
-//! [`tree_root_threads`] computes the same root on all processors, and
-//! [`TreeHasher::update_threads`] does so in pieces. [`tree_leaves`] and [`tree_root_of_leaves`]
-//! compute it in parts, on any threads, processes or machines.
+//! With the feature `std`, `TreeParams::root_threads` computes the same root on all processors,
+//! `TreeParams::root_file` that of a file, and `TreeHasher::update_threads` absorbs a piece with
+//! several threads. [`TreeParams::leaves`] and [`TreeParams::root_of_leaves`] compute it in parts,
+//! on any threads, processes or machines.
 //!
-//! A stream, through [`std::io::Write`]:
+//! A stream, with the feature `std`: a hasher reads from an `io::Read`, and is an `io::Write`.
 //!
 //! ```
-//! let mut hasher = vulfsjor::Blake2s::new();
-//! std::io::copy(&mut &b"abc"[..], &mut hasher)?;
-//! assert!(hasher.finalize().to_string().starts_with("508c5e8c327c14e2"));
+//! # #[cfg(feature = "std")] {
+//! use std::io::Write;
+//! use vulfsjor::Blake2s;
+//!
+//! let digest = Blake2s::new().update_reader(&b"abc"[..])?.finalize();
+//! assert!(digest.to_hex().starts_with("508c5e8c327c14e2"));
+//! let mut hasher = Blake2s::new();
+//! write!(hasher, "a{}", "bc")?;
+//! assert_eq!(hasher.finalize(), digest);
+//! # }
 //! # Ok::<(), std::io::Error>(())
 //! ```
 //!
@@ -110,8 +117,9 @@
 //!
 //! # Features
 //!
-//! `std`, which is on by default, adds `std::io::Write` for hashers, `std::error::Error` for
-//! errors, and the calls that use several threads. Without it the crate is `no_std`.
+//! `std`, which is on by default, adds `std::io::Write` and `update_reader` for hashers,
+//! `std::error::Error` for errors, comparisons with `Vec<u8>`, and the calls that use several
+//! threads or read files. Without it the crate is `no_std` and does not allocate.
 #![no_std]
 #![deny(missing_docs, unsafe_op_in_unsafe_fn)]
 
@@ -129,56 +137,43 @@ compile_error!(
 #[cfg(any(feature = "std", test))]
 extern crate std;
 
-use core::fmt;
-
-/// The error of a length, or a tree parameter, that a call does not accept. Each call says which.
-#[derive(Clone, Copy, Debug, PartialEq, Eq)]
-pub struct InvalidLength;
-
-impl InvalidLength {
-    // The result of a call of the library that returned this status.
-    fn unless_zero(status: i32) -> Result<(), Self> {
-        match status {
-            0 => Ok(()),
-            _ => Err(InvalidLength),
-        }
-    }
-}
-
-/// The error of a tag that is not the message's.
-#[derive(Clone, Copy, Debug, PartialEq, Eq)]
-pub struct MacError;
-
-impl fmt::Display for InvalidLength {
-    fn fmt(&self, f: &mut fmt::Formatter<'_>) -> fmt::Result {
-        f.write_str("a length that BLAKE2 does not accept")
-    }
-}
-
-impl fmt::Display for MacError {
-    fn fmt(&self, f: &mut fmt::Formatter<'_>) -> fmt::Result {
-        f.write_str("a wrong tag")
-    }
-}
-
-#[cfg(feature = "std")]
-impl std::error::Error for InvalidLength {}
-
-#[cfg(feature = "std")]
-impl std::error::Error for MacError {}
-
-// What all types that absorb input in pieces have: `std::io::Write`, and a `Debug` that shows
-// nothing.
+// What all types that absorb input in pieces have: `update_reader`, `std::io::Write`, and a `Debug`
+// that shows nothing.
 macro_rules! of_stream {
     ($type:ident) => {
         /// Shows no byte of the state, since that may hold a key.
-        impl fmt::Debug for $type {
-            fn fmt(&self, f: &mut fmt::Formatter<'_>) -> fmt::Result {
+        impl core::fmt::Debug for $type {
+            fn fmt(&self, f: &mut core::fmt::Formatter<'_>) -> core::fmt::Result {
                 f.write_str(concat!(stringify!($type), " { .. }"))
             }
         }
 
-        /// Absorbs all that is written.
+        #[cfg(feature = "std")]
+        impl $type {
+            /// Absorbs all bytes of the reader, to its end, through a buffer of 1 MiB.
+            ///
+            /// A read that was interrupted is repeated.
+            ///
+            /// # Errors
+            ///
+            /// An error of the reader. All bytes that were read before it are absorbed.
+            ///
+            /// # Panics
+            ///
+            /// As [`update`](Self::update).
+            pub fn update_reader(
+                &mut self,
+                reader: impl std::io::Read,
+            ) -> std::io::Result<&mut Self> {
+                crate::stream::read_all(reader, |bytes| {
+                    self.update(bytes);
+                    Ok(())
+                })?;
+                Ok(self)
+            }
+        }
+
+        /// Absorbs all that is written. A write never fails.
         #[cfg(feature = "std")]
         impl std::io::Write for $type {
             fn write(&mut self, bytes: &[u8]) -> std::io::Result<usize> {
@@ -194,8 +189,10 @@ macro_rules! of_stream {
 }
 
 mod digest;
+mod error;
 mod family;
-mod leaves;
+#[cfg(feature = "std")]
+mod file;
 #[cfg(all(
     any(target_arch = "x86_64", target_arch = "aarch64"),
     target_os = "linux",
@@ -206,16 +203,18 @@ mod library;
 mod params;
 #[cfg(target_arch = "x86_64")]
 mod processor;
+#[cfg(feature = "std")]
+mod stream;
 #[cfg(test)]
 mod tests;
 #[cfg(feature = "std")]
 mod threads;
 mod tree;
+mod tree_params;
 
-pub use digest::Digest;
+pub use digest::{Digest, HexString};
+pub use error::{Bounds, InvalidArgument, MacError};
 pub use family::{Blake2b, Blake2bMac, Blake2s, Blake2sMac};
-pub use leaves::{tree_leaf_count, tree_leaves, tree_root_of_leaves};
 pub use params::{Params, Tree};
-#[cfg(feature = "std")]
-pub use threads::tree_root_threads;
-pub use tree::{tree_root, tree_root_with_output_size, TreeHasher};
+pub use tree::TreeHasher;
+pub use tree_params::TreeParams;

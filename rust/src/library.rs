@@ -1,4 +1,4 @@
-//! The states and the functions of the proved library, as `c/include/blake2_c.h` declares them.
+//! The states and the functions of the proved library, as `c/include/vulfsjor.h` declares them.
 //! The functions are the assembly text in `dist/`, which becomes a part of this crate. Only the
 //! other modules call what is here.
 
@@ -21,7 +21,6 @@ pub(crate) fn need_a_build() {
 macro_rules! state {
     ($state:ident, $words:literal) => {
         #[repr(C)]
-        #[derive(Clone)]
         pub(crate) struct $state(pub(crate) [u64; $words]);
 
         impl $state {
@@ -72,7 +71,7 @@ macro_rules! symbol {
 macro_rules! text_symbol {
     ($name:ident, $build:ident) => {
         concat!(
-            "blake2_c_",
+            "vulfsjor_ffi_",
             stringify!($name),
             "_",
             env!("CARGO_PKG_VERSION_MAJOR"),
@@ -174,11 +173,11 @@ macro_rules! calls {
 macro_rules! functions {
     ($($function:tt)+) => {
         #[cfg(target_arch = "x86_64")]
-        build!(v2, "../../dist/x86_64/blake2_c-v2.s", (att_syntax, raw), $($function)+);
+        build!(v2, "../../dist/x86_64/vulfsjor-v2.s", (att_syntax, raw), $($function)+);
         #[cfg(target_arch = "x86_64")]
-        build!(v3, "../../dist/x86_64/blake2_c-v3.s", (att_syntax, raw), $($function)+);
+        build!(v3, "../../dist/x86_64/vulfsjor-v3.s", (att_syntax, raw), $($function)+);
         #[cfg(target_arch = "aarch64")]
-        build!(arm, "../../dist/aarch64/blake2_c.s", (raw), $($function)+);
+        build!(arm, "../../dist/aarch64/vulfsjor.s", (raw), $($function)+);
         calls!($($function)+);
     };
 }
@@ -206,7 +205,7 @@ functions! {
         persona: *const u8,
         persona_length: usize,
     ) -> i32;
-    fn blake2b_init_node(
+    fn blake2b_init_tree(
         state: &mut Blake2bState,
         output_size: usize,
         key: *const u8,
@@ -254,7 +253,7 @@ functions! {
         persona: *const u8,
         persona_length: usize,
     ) -> i32;
-    fn blake2s_init_node(
+    fn blake2s_init_tree(
         state: &mut Blake2sState,
         output_size: usize,
         key: *const u8,

@@ -1,6 +1,27 @@
 use core::fmt;
 
-use crate::{Blake2b, Blake2s, InvalidLength};
+use crate::error::{check_equal, check_range};
+use crate::{Blake2b, Blake2s, Digest, InvalidArgument};
+
+// The largest lengths of a family, in bytes, and its last node offset.
+pub(crate) struct Limits {
+    output_size: u64, // and of a key and an inner node's digest
+    salt: u64,        // and of a persona
+    node_offset: u64,
+}
+
+impl Limits {
+    pub(crate) const BLAKE2B: Self = Limits {
+        output_size: 64,
+        salt: 16,
+        node_offset: u64::MAX,
+    };
+    pub(crate) const BLAKE2S: Self = Limits {
+        output_size: 32,
+        salt: 8,
+        node_offset: (1 << 48) - 1,
+    };
+}
 
 /// Tree parameters: which node of a tree of hashes a hash is (the BLAKE2 document, 2.10).
 ///
@@ -115,18 +136,97 @@ impl<'a> Params<'a> {
     ///
     /// # Errors
     ///
-    /// [`InvalidLength`] exactly if a length or a tree parameter is out of BLAKE2b's range.
-    pub fn blake2b(&self) -> Result<Blake2b, InvalidLength> {
+    /// [`InvalidArgument`] exactly if a length or a tree parameter is out of BLAKE2b's range.
+    pub fn blake2b(&self) -> Result<Blake2b, InvalidArgument> {
         Blake2b::with_params(self)
+    }
+
+    /// Returns the BLAKE2b digest of a message under these parameters.
+    ///
+    /// ```
+    /// use vulfsjor::Params;
+    ///
+    /// let digest = Params::new().output_size(20).persona(b"program").blake2b_hash("message")?;
+    /// assert_eq!(digest.to_hex().len(), 40);
+    /// # Ok::<(), vulfsjor::InvalidArgument>(())
+    /// ```
+    ///
+    /// # Errors
+    ///
+    /// [`InvalidArgument`] exactly if a length or a tree parameter is out of BLAKE2b's range.
+    pub fn blake2b_hash(&self, message: impl AsRef<[u8]>) -> Result<Digest, InvalidArgument> {
+        Ok(self.blake2b()?.update(message).finalize())
     }
 
     /// Returns a BLAKE2s hasher with these parameters.
     ///
     /// # Errors
     ///
-    /// [`InvalidLength`] exactly if a length or a tree parameter is out of BLAKE2s's range.
-    pub fn blake2s(&self) -> Result<Blake2s, InvalidLength> {
+    /// [`InvalidArgument`] exactly if a length or a tree parameter is out of BLAKE2s's range.
+    pub fn blake2s(&self) -> Result<Blake2s, InvalidArgument> {
         Blake2s::with_params(self)
+    }
+
+    /// Returns the BLAKE2s digest of a message under these parameters.
+    ///
+    /// ```
+    /// use vulfsjor::Params;
+    ///
+    /// let digest = Params::new().output_size(20).persona(b"program").blake2s_hash("message")?;
+    /// assert_eq!(digest.to_hex().len(), 40);
+    /// # Ok::<(), vulfsjor::InvalidArgument>(())
+    /// ```
+    ///
+    /// # Errors
+    ///
+    /// [`InvalidArgument`] exactly if a length or a tree parameter is out of BLAKE2s's range.
+    pub fn blake2s_hash(&self, message: impl AsRef<[u8]>) -> Result<Digest, InvalidArgument> {
+        Ok(self.blake2s()?.update(message).finalize())
+    }
+
+    // Why a family with these limits refuses the parameters.
+    pub(crate) fn check(&self, limits: &Limits) -> Result<(), InvalidArgument> {
+        let Limits {
+            output_size: max,
+            salt,
+            node_offset,
+        } = *limits;
+        check_range(
+            "output_size",
+            self.output_size.map_or(max, |size| size as u64),
+            1,
+            max,
+        )?;
+        check_range("key.len()", self.key.len() as u64, 0, max)?;
+        check_range("salt.len()", self.salt.len() as u64, 0, salt)?;
+        check_range("persona.len()", self.persona.len() as u64, 0, salt)?;
+        check_range("tree.depth", self.tree.depth.into(), 1, 255)?;
+        check_range("tree.node_offset", self.tree.node_offset, 0, node_offset)?;
+        check_range("tree.inner_length", self.tree.inner_length.into(), 0, max)
+    }
+
+    // An error unless the hash is sequential and not the last node of a level.
+    pub(crate) fn check_sequential(&self) -> Result<(), InvalidArgument> {
+        let (tree, wanted) = (self.tree, Tree::SEQUENTIAL);
+        check_equal("tree.fanout", tree.fanout.into(), wanted.fanout.into())?;
+        check_equal("tree.depth", tree.depth.into(), wanted.depth.into())?;
+        check_equal(
+            "tree.leaf_length",
+            tree.leaf_length.into(),
+            wanted.leaf_length.into(),
+        )?;
+        check_equal("tree.node_offset", tree.node_offset, wanted.node_offset)?;
+        check_equal(
+            "tree.node_depth",
+            tree.node_depth.into(),
+            wanted.node_depth.into(),
+        )?;
+        check_equal(
+            "tree.inner_length",
+            tree.inner_length.into(),
+            wanted.inner_length.into(),
+        )?;
+        check_equal("last_node", self.last_node.into(), 0)
     }
 }
 

@@ -3,7 +3,7 @@
 use std::format;
 use std::mem::size_of;
 use std::panic::{catch_unwind, AssertUnwindSafe};
-use std::string::String;
+use std::string::{String, ToString};
 
 use crate::library::{self, Blake2bState, Blake2sState, TreeState};
 use crate::*;
@@ -39,7 +39,7 @@ macro_rules! family {
             use super::*;
 
             // A hasher that has compressed this number of blocks less than 2^64 bytes.
-            // c/include/blake2_c.h names the word of the counter and the next, the number of
+            // c/include/vulfsjor.h names the word of the counter and the next, the number of
             // pending bytes.
             fn near_the_end(hasher: $hasher, blocks: u64) -> $hasher {
                 let mut hasher = hasher;
@@ -50,7 +50,9 @@ macro_rules! family {
 
             #[test]
             fn a_state_that_no_init_has_made_is_refused() {
-                let none = || $hasher { state: $state::ZEROS };
+                let none = || $hasher {
+                    state: $state::ZEROS,
+                };
                 assert_eq!(none().count(), 0);
                 assert!(panic_of(|| none().update(b"").count()).contains("an input of 2^64 bytes"));
                 assert!(panic_of(|| none().finalize()).contains("a state that new has made"));
@@ -101,23 +103,25 @@ fn a_tree_that_no_init_has_made_is_refused() {
     assert!(panic_of(|| none().finalize()).contains("a state that new has made"));
     assert_eq!((none().count(), none().leaf_length()), (0, 0));
     let mut digests = [0; 64];
+    let said = "leaf_length() is 0, and must be 1 to 4294967295";
+    let error = none().next_leaves(0, b"x", &mut digests).unwrap_err();
+    assert_eq!(error.to_string(), said);
     assert_eq!(
-        none().next_leaves(0, b"x", &mut digests),
-        Err(InvalidLength)
-    );
-    assert_eq!(
-        none().update_leaves(&digests, b"x").err(),
-        Some(InvalidLength)
+        none()
+            .update_leaves(&digests, b"x")
+            .unwrap_err()
+            .to_string(),
+        said
     );
 }
 
 // A hasher of a tree with leaves of 1 KiB that has absorbed this number of leaves less than 2^58
 // bytes, and one byte more, which is in the open leaf. The words are those of `closed` and of the
-// root's counter in c/include/blake2_c.h.
+// root's counter in c/include/vulfsjor.h.
 fn tree_near_the_end(leaves: u64) -> TreeHasher {
     const CLOSED: usize = 2 * 53;
     const ROOT_COUNTER: usize = 53 + 16;
-    let mut hasher = TreeHasher::new(b"", b"", 1 << 10).unwrap();
+    let mut hasher = TreeParams::new(1 << 10).hasher().unwrap();
     hasher.update([7; 1 << 10]).update([7; 1]);
     assert_eq!((hasher.state.0[CLOSED], hasher.count()), (1, 1025));
     hasher.state.0[CLOSED] = (1 << 48) - leaves;
@@ -140,8 +144,11 @@ fn inputs_of_a_tree_end_before_2_to_the_58() {
 #[cfg(feature = "std")]
 mod threads {
     use super::*;
-    use crate::threads::{hash_parts, thread_count, LEAST_BYTES, PART_BYTES};
+    use crate::file::MOST_BUFFER_BYTES;
+    use crate::stream::BUFFER_BYTES;
+    use crate::threads::{hash_parts, thread_count, Cut, LEAST_BYTES, PART_BYTES};
     use std::collections::HashSet;
+    use std::ops::Range;
     use std::sync::Mutex;
     use std::time::{Duration, Instant};
     use std::vec::Vec;
@@ -169,12 +176,14 @@ mod threads {
     fn a_thread_has_256_kib_and_a_leaf() {
         let least = LEAST_BYTES;
         assert_eq!(least, 256 << 10);
+        assert_eq!(MOST_BUFFER_BYTES, 16 << 20);
         assert_eq!(thread_count(3, 10 * least, 100), 3);
         assert_eq!(thread_count(3, 2 * least, 100), 2);
         assert_eq!(thread_count(3, 2 * least - 1, 100), 1);
         assert_eq!(thread_count(3, 10 * least, 2), 2);
         assert_eq!(thread_count(1, 10 * least, 100), 1);
         assert_eq!(thread_count(usize::MAX, 1 << 40, 1 << 20), 1 << 20);
+        assert_eq!(thread_count(3, 1 << 50, 1 << 40), 3);
         assert_eq!(thread_count(5, 0, 0), 1);
         let all = thread::available_parallelism().unwrap().get();
         assert_eq!(thread_count(0, 1 << 40, 1 << 20), all);
@@ -183,7 +192,8 @@ mod threads {
     // The parts in order: the first leaf, the bytes and the digests of each.
     fn parts_of(length: usize, leaf_length: usize, threads: usize) -> Vec<(usize, usize, usize)> {
         let bytes = vec![0; length];
-        let count = tree_leaf_count(length as u64, leaf_length as u32) as usize;
+        let leaf_length = leaf_length as u32;
+        let count = TreeParams::new(leaf_length).leaf_count(length as u64) as usize;
         let mut digests = vec![0; 64 * count];
         let parts = Mutex::new(Vec::new());
         hash_parts(
@@ -193,9 +203,12 @@ mod threads {
             threads,
             |first, part, out| {
                 let start = part.as_ptr() as usize - bytes.as_ptr() as usize;
-                assert_eq!(start, first * leaf_length);
+                assert_eq!(start as u64, first * u64::from(leaf_length));
                 out.fill(1);
-                parts.lock().unwrap().push((first, part.len(), out.len()));
+                parts
+                    .lock()
+                    .unwrap()
+                    .push((first as usize, part.len(), out.len()));
             },
         );
         assert!(digests.iter().all(|byte| *byte == 1));
@@ -220,24 +233,92 @@ mod threads {
         assert_eq!(parts_of(6 * leaf, leaf, 3), all(&[6]));
         assert_eq!(parts_of(40 * leaf, leaf, 2), all(&[16, 16, 8]));
         assert_eq!(parts_of(20 * leaf, leaf, 4), all(&[5, 5, 5, 5]));
-        assert_eq!(PART_BYTES, 16 * leaf);
+        assert_eq!((PART_BYTES, BUFFER_BYTES), (16 * leaf as u64, 16 * leaf));
         let share = |first: usize, count: usize| (first, count * 4 * leaf, 64 * count);
         assert_eq!(parts_of(20 * leaf, 4 * leaf, 2), [share(0, 3), share(3, 2)]);
         let four = |first: usize| (first, 12 * leaf, 256);
-        assert_eq!(parts_of(36 * leaf, 3 * leaf, 2), [four(0), four(4), four(8)]);
+        assert_eq!(
+            parts_of(36 * leaf, 3 * leaf, 2),
+            [four(0), four(4), four(8)]
+        );
         let long = 12 * leaf;
         let parts = parts_of(9 * long - 5, long, 2);
         let wanted = [(0, 4 * long, 256), (4, 4 * long, 256), (8, long - 5, 64)];
         assert_eq!(parts, wanted);
     }
 
+    // The leaves of each part, if a part has at most 16 MiB.
+    fn parts_of_file(leaves: u64, leaf_length: u64, threads: usize) -> Vec<usize> {
+        let (length, most) = (leaves * leaf_length, MOST_BUFFER_BYTES);
+        let cut = Cut {
+            length,
+            leaf_length,
+            threads,
+            most,
+        };
+        let parts = Mutex::new(Vec::new());
+        let mut digests = vec![0; 64 * leaves as usize];
+        let hash = |_, range: Range<u64>, out: &mut [u8], _: &mut Vec<u8>| {
+            assert_eq!(
+                (range.end - range.start) / leaf_length,
+                out.len() as u64 / 64
+            );
+            parts.lock().unwrap().push(out.len() / 64);
+            Ok::<(), ()>(())
+        };
+        cut.hash(&mut digests, hash, |_| Ok(())).unwrap();
+        parts.into_inner().unwrap()
+    }
+
+    #[test]
+    fn parts_of_a_file_fit_into_a_buffer() {
+        assert_eq!(parts_of_file(8, 4 << 20, 2), [4, 4]);
+        assert_eq!(parts_of_file(8, (4 << 20) + 1, 2), [1; 8]);
+        assert_eq!(parts_of_file(3, 16 << 20, 2), [1; 3]);
+        assert_eq!(parts_of_file(3, 64 << 20, 2), [1; 3]);
+    }
+
+    // After an error of one thread, or of the report, no part is begun: the 4,096 parts of a
+    // millisecond are not all begun.
+    #[test]
+    fn errors_stop_the_threads() {
+        let (length, leaf_length) = (1 << 34, 1 << 20);
+        let cut = Cut {
+            length,
+            leaf_length,
+            threads: 3,
+            most: u64::MAX,
+        };
+        let begun = Mutex::new(0);
+        let run = |wrong: u64, report: &dyn Fn() -> Result<(), &'static str>| {
+            *begun.lock().unwrap() = 0;
+            let hash = |first, _: Range<u64>, _: &mut [u8], _: &mut Vec<u8>| {
+                *begun.lock().unwrap() += 1;
+                thread::sleep(Duration::from_millis(1));
+                if first == wrong {
+                    Err("a part")
+                } else {
+                    Ok(())
+                }
+            };
+            cut.hash(&mut vec![0; 64 << 14], hash, |_| report())
+        };
+        assert_eq!(run(20, &|| Ok(())), Err("a part"));
+        assert!(*begun.lock().unwrap() < 4096);
+        assert_eq!(run(1, &|| Err("a report")), Err("a report"));
+        assert!(*begun.lock().unwrap() < 4096);
+        assert_eq!(panic_of(|| run(1, &|| panic!("a report"))), "a report");
+        assert!(*begun.lock().unwrap() < 4096);
+    }
+
     // Whether this number of threads hash at the same time: each part waits for the others.
     fn meet(threads: usize) -> bool {
-        let bytes = vec![0; threads * LEAST_BYTES];
+        let least = LEAST_BYTES as u32;
+        let bytes = vec![0; threads * least as usize];
         let mut digests = vec![0; 64 * threads];
         let seen = Mutex::new(HashSet::new());
         let start = Instant::now();
-        hash_parts(&bytes, LEAST_BYTES, &mut digests, threads, |_, _, _| {
+        hash_parts(&bytes, least, &mut digests, threads, |_, _, _| {
             seen.lock().unwrap().insert(thread::current().id());
             while seen.lock().unwrap().len() < threads && start.elapsed() < Duration::from_secs(20)
             {
@@ -260,8 +341,9 @@ mod choice {
     use super::*;
     use crate::processor::{level, level_here};
     use std::is_x86_feature_detected as has;
+    use std::process::Command;
 
-    // Or the level that rust/run_tests.sh sets for a processor that qemu emulates.
+    // Or the level that the next test sets for a processor that qemu emulates.
     #[test]
     fn the_level_is_that_of_the_standard_library() {
         let v2 =
@@ -276,6 +358,42 @@ mod choice {
         if wanted > 1 {
             library::need_a_build();
             assert_eq!(level(), wanted);
+        }
+    }
+
+    // Each feature that a level requires is looked at. The functions for AVX2 of the C library need
+    // BMI1 and do not check it, so they are turned off.
+    #[test]
+    #[ignore = "needs qemu-x86_64"]
+    fn the_level_of_other_processors() {
+        let has_level = |level: &str, processor: &str| {
+            let mut qemu = Command::new("qemu-x86_64");
+            qemu.args(["-cpu", processor])
+                .arg(std::env::current_exe().unwrap());
+            qemu.args(["the_level_is_that", "--test-threads=1"])
+                .env("VULFSJOR_LEVEL", level);
+            if processor.ends_with("-bmi1") {
+                qemu.env("GLIBC_TUNABLES", "glibc.cpu.hwcaps=-AVX2");
+            }
+            let output = qemu.output().unwrap();
+            let said = String::from_utf8_lossy(&output.stdout).into_owned();
+            assert!(
+                output.status.success() && said.contains("1 passed"),
+                "{processor}: {said}"
+            );
+        };
+        has_level("3", "Haswell");
+        has_level("2", "Nehalem");
+        has_level("1", "core2duo");
+        for feature in [
+            "sse3", "ssse3", "cx16", "sse4.1", "sse4.2", "popcnt", "lahf-lm",
+        ] {
+            has_level("1", &format!("Haswell,-{feature}"));
+        }
+        for feature in [
+            "fma", "movbe", "xsave", "avx", "f16c", "avx2", "bmi2", "abm", "bmi1",
+        ] {
+            has_level("2", &format!("Haswell,-{feature}"));
         }
     }
 

@@ -1,112 +1,26 @@
-use core::{fmt, mem};
-
 use crate::digest::Digest;
+use crate::error::{check, check_equal, check_range, Bounds};
 use crate::library::{self, TreeState};
-use crate::InvalidLength;
+use crate::tree_params::MOST_BYTES;
+use crate::InvalidArgument;
 
-/// Returns the root of a message in a tree of hashes with two levels over BLAKE2b, in 64 bytes.
-///
-/// The message is cut into leaves of `leaf_length` bytes, and the root hashes their digests of 64
-/// bytes. All nodes have the salt and the persona, fanout 0, depth 2, this leaf length and inner
-/// length 64. The last leaf and the root have the last-node flag (the BLAKE2 document, section
-/// 2.10). The root is not a BLAKE2b digest of the message.
-///
-/// # Errors
-///
-/// [`InvalidLength`] exactly if `leaf_length` is 0, the salt or the persona has more than 16
-/// bytes, or the message has 2^58 bytes or more.
-pub fn tree_root(
-    message: impl AsRef<[u8]>,
-    salt: &[u8],
-    persona: &[u8],
-    leaf_length: u32,
-) -> Result<Digest, InvalidLength> {
-    tree_root_with_output_size(64, message, salt, persona, leaf_length)
-}
-
-/// Returns the root of [`tree_root`] in this number of bytes, 1 to 64.
-///
-/// # Errors
-///
-/// [`InvalidLength`] exactly if [`tree_root`] returns it, and for any other size.
-pub fn tree_root_with_output_size(
-    bytes: usize,
-    message: impl AsRef<[u8]>,
-    salt: &[u8],
-    persona: &[u8],
-    leaf_length: u32,
-) -> Result<Digest, InvalidLength> {
-    let message = message.as_ref();
-    let mut root = Digest::zeros(bytes);
-    let out = root.bytes.get_mut(..bytes).ok_or(InvalidLength)?;
-    // Safety: the pointers come from slices of these lengths, and the output overlaps none of
-    // them.
-    let status = unsafe {
-        library::tree_root(
-            out.as_mut_ptr(),
-            out.len(),
-            message.as_ptr(),
-            message.len(),
-            salt.as_ptr(),
-            salt.len(),
-            persona.as_ptr(),
-            persona.len(),
-            leaf_length,
-        )
-    };
-    InvalidLength::unless_zero(status).map(|()| root)
-}
-
-/// The tree of [`tree_root`] over a message that comes in pieces.
+/// The root of a message that comes in pieces. [`TreeParams::hasher`](crate::TreeParams::hasher)
+/// makes one.
 ///
 /// It allocates no memory. Whole leaves after the open one are hashed four at a time, if more
 /// input follows them, so pieces of several leaves suit it best. A hasher is wiped when it is
 /// dropped.
-#[derive(Clone)]
 pub struct TreeHasher {
     pub(crate) state: TreeState,
 }
 
 impl TreeHasher {
-    /// Returns a hasher with a root of 64 bytes.
-    ///
-    /// # Errors
-    ///
-    /// [`InvalidLength`] exactly if `leaf_length` is 0, or the salt or the persona has more than
-    /// 16 bytes.
-    pub fn new(salt: &[u8], persona: &[u8], leaf_length: u32) -> Result<Self, InvalidLength> {
-        Self::with_output_size(64, salt, persona, leaf_length)
-    }
-
-    /// Returns a hasher with a root of this number of bytes, 1 to 64.
-    ///
-    /// # Errors
-    ///
-    /// [`InvalidLength`] exactly if [`TreeHasher::new`] returns it, and for any other size.
-    pub fn with_output_size(
-        bytes: usize,
-        salt: &[u8],
-        persona: &[u8],
-        leaf_length: u32,
-    ) -> Result<Self, InvalidLength> {
+    // A hasher that refuses every call, before the library initializes it.
+    pub(crate) fn of_no_tree() -> Self {
         library::need_a_build();
-        let mut hasher = TreeHasher {
+        TreeHasher {
             state: TreeState::ZEROS,
-        };
-        // Safety: the pointers come from slices of these lengths, and none is null. The state
-        // overlaps none of them.
-        let status = unsafe {
-            library::tree_init(
-                &mut hasher.state,
-                bytes,
-                salt.as_ptr(),
-                salt.len(),
-                persona.as_ptr(),
-                persona.len(),
-                leaf_length,
-            )
-        };
-        InvalidLength::unless_zero(status).map(|()| hasher)
+        }
     }
 
     /// Absorbs the input after all earlier input.
@@ -132,15 +46,15 @@ impl TreeHasher {
     ///
     /// # Errors
     ///
-    /// [`InvalidLength`] exactly if the hasher is not at a leaf boundary, `leaves` is empty or not
-    /// whole leaves, `digests` does not have 64 bytes for each leaf, or the leaves do not end
+    /// [`InvalidArgument`] exactly if the hasher is not at a leaf boundary, `leaves` is empty or
+    /// not whole leaves, `digests` does not have 64 bytes for each leaf, or the leaves do not end
     /// within the first 2^58 - 1 bytes of the message. Nothing is then written.
     pub fn next_leaves(
         &self,
         skip: u64,
         leaves: &[u8],
         digests: &mut [u8],
-    ) -> Result<(), InvalidLength> {
+    ) -> Result<(), InvalidArgument> {
         // Safety: the pointers come from slices of these lengths, and the output overlaps neither
         // the leaves nor the state.
         let status = unsafe {
@@ -153,7 +67,9 @@ impl TreeHasher {
                 leaves.len(),
             )
         };
-        InvalidLength::unless_zero(status)
+        InvalidArgument::unless_zero(status, || {
+            self.check_next(skip, leaves.len() as u64, digests.len() as u64)
+        })
     }
 
     /// Absorbs whole leaves, given by their digests, and then the input.
@@ -166,14 +82,14 @@ impl TreeHasher {
     ///
     /// # Errors
     ///
-    /// [`InvalidLength`] exactly if the length of `digests` is not a multiple of 64, if there are
+    /// [`InvalidArgument`] exactly if the length of `digests` is not a multiple of 64, if there are
     /// digests but the hasher is not at a leaf boundary or the input is empty, or if all input
     /// would have 2^58 bytes or more. The hasher is then unchanged.
     pub fn update_leaves(
         &mut self,
         digests: &[u8],
         input: impl AsRef<[u8]>,
-    ) -> Result<&mut Self, InvalidLength> {
+    ) -> Result<&mut Self, InvalidArgument> {
         let input = input.as_ref();
         // Safety: the pointers come from slices of these lengths, which the state cannot overlap.
         let status = unsafe {
@@ -185,17 +101,20 @@ impl TreeHasher {
                 input.len(),
             )
         };
-        InvalidLength::unless_zero(status).map(|()| self)
+        InvalidArgument::unless_zero(status, || {
+            self.check_update(digests.len() as u64, input.len() as u64)
+        })?;
+        Ok(self)
     }
 
-    /// Returns the root of all input.
-    pub fn finalize(mut self) -> Digest {
+    /// Returns the root of all input. The hasher is unchanged, and can absorb more input.
+    pub fn finalize(&self) -> Digest {
+        let mut copy = self.clone();
         // Safety: the state has initialized bytes.
-        let mut root = Digest::zeros(unsafe { library::tree_digest_size(&self.state) });
+        let mut root = Digest::zeros(unsafe { library::tree_digest_size(&copy.state) });
         // Safety: the output has this length, and does not overlap the state.
-        let status = unsafe { library::tree_final(&mut self.state, root.bytes.as_mut_ptr(), 64) };
+        let status = unsafe { library::tree_final(&mut copy.state, root.bytes.as_mut_ptr(), 64) };
         assert_eq!(status, 0, "a state that new has made");
-        mem::forget(self); // the call has wiped it
         root
     }
 
@@ -209,6 +128,52 @@ impl TreeHasher {
     pub fn leaf_length(&self) -> u32 {
         // Safety: the state has initialized bytes.
         unsafe { library::tree_leaf_length(&self.state) }
+    }
+
+    // An error unless the hasher is at a leaf boundary. Otherwise the number of bytes that more
+    // input may have.
+    fn check_boundary(&self) -> Result<u64, InvalidArgument> {
+        let leaf_length = u64::from(self.leaf_length());
+        check_range("leaf_length()", leaf_length, 1, u32::MAX.into())?;
+        check("count()", self.count(), Bounds::Multiple(leaf_length))?;
+        Ok(MOST_BYTES - self.count())
+    }
+
+    // Why `next_leaves` refuses this.
+    fn check_next(&self, skip: u64, length: u64, room: u64) -> Result<(), InvalidArgument> {
+        let leaf_length = u64::from(self.leaf_length());
+        let rest = self.check_boundary()?;
+        check(
+            "leaves.len()",
+            length,
+            Bounds::PositiveMultiple(leaf_length),
+        )?;
+        check_equal("digests.len()", room, length / leaf_length * 64)?;
+        check_range("leaves.len()", length, leaf_length, rest)?;
+        check_range("skip", skip, 0, (rest - length) / leaf_length)
+    }
+
+    // Why `update_leaves` refuses this.
+    fn check_update(&self, digests: u64, length: u64) -> Result<(), InvalidArgument> {
+        check("digests.len()", digests, Bounds::Multiple(64))?;
+        if digests == 0 {
+            return check_range("input.len()", length, 0, MOST_BYTES - self.count());
+        }
+        let rest = self.check_boundary()?;
+        let leaf_length = u64::from(self.leaf_length());
+        let most = rest.saturating_sub(1) / leaf_length;
+        check_range("digests.len()", digests, 0, most.saturating_mul(64))?;
+        check_range("input.len()", length, 1, rest - digests / 64 * leaf_length)
+    }
+}
+
+impl Clone for TreeHasher {
+    fn clone(&self) -> Self {
+        let mut copy = TreeHasher {
+            state: TreeState::ZEROS,
+        };
+        copy.state.0.copy_from_slice(&self.state.0);
+        copy
     }
 }
 

@@ -31,6 +31,37 @@ fn hash_of(value: impl Hash) -> u64 {
     hasher.finish()
 }
 
+// The bytes of the stack that calls before this one have used.
+#[inline(never)]
+fn dead_stack() -> Vec<u8> {
+    let room = MaybeUninit::<[u8; 1 << 16]>::uninit();
+    let start = room.as_ptr().cast::<u8>();
+    // Safety: the bytes are the frame's, and are only looked at.
+    (0..1 << 16)
+        .map(|i| unsafe { start.add(i).read_volatile() })
+        .collect()
+}
+
+// Calls below 2 KiB of the stack, so that the frame of `dead_stack` overwrites nothing of the call.
+#[inline(never)]
+fn deeper(call: &dyn Fn()) {
+    let mut room = [0; 2048];
+    // Safety: both are a byte of the array.
+    unsafe { room.as_mut_ptr().write_volatile(7u8) };
+    call();
+    assert_eq!(unsafe { room.as_ptr().read_volatile() }, 7);
+}
+
+// How many of the 8 bytes' pieces of the key are on the stack after the call, in a new thread.
+fn pieces_left(key: &[u8], call: &(dyn Fn() + Sync)) -> usize {
+    let left = || {
+        deeper(call);
+        let stack = dead_stack();
+        key.chunks(8).filter(|piece| holds(&stack, piece)).count()
+    };
+    std::thread::scope(|scope| scope.spawn(left).join().unwrap())
+}
+
 // The digest of a file that is written in pieces of this length.
 fn written<W: Write>(mut to: W, message: &[u8], piece: usize) -> W {
     for piece in message.chunks(piece) {
@@ -42,44 +73,79 @@ fn written<W: Write>(mut to: W, message: &[u8], piece: usize) -> W {
 
 macro_rules! family {
     (
-        $test:ident, $hasher:ident, $mac:ident, $make:ident, $max:literal, $small:literal,
-        $bits:literal
+        $test:ident, $hasher:ident, $mac:ident, $make:ident, $hash:ident, $max:literal,
+        $small:literal, $bits:literal
     ) => {
         mod $test {
             use super::*;
 
-            // Whether a hasher and a MAC of these are refused; both are, or none is.
-            fn is_refused(params: Params) -> bool {
+            // What a hasher, a MAC and the hash in one call are refused with; all are, or none is.
+            fn error(params: Params) -> Option<String> {
                 let has_key = !format!("{params:?}").contains("key_length: 0,");
                 let keyed = if has_key { params } else { params.key(b"k") };
-                let refused = params.$make().err();
-                assert_eq!($hasher::with_params(&params).err(), refused);
-                assert_eq!($mac::with_params(&keyed).err(), refused);
-                refused == Some(InvalidLength)
+                let error = params.$make().err();
+                assert_eq!($hasher::with_params(&params).err(), error);
+                assert_eq!(params.$hash(b"x").err(), error);
+                let of_mac = $mac::with_params(&keyed)
+                    .err()
+                    .map(|error| error.to_string());
+                let error = error.map(|error| error.to_string());
+                let at_least_1 = |text: String| text.replace("be 0 to", "be 1 to");
+                match &error {
+                    Some(text) if text.starts_with("key.len()") => {
+                        assert_eq!(of_mac, error.clone().map(at_least_1));
+                    }
+                    _ => assert_eq!(of_mac, error),
+                }
+                error
+            }
+
+            // The same text, if it is one.
+            fn text_if(
+                is_refused: bool,
+                argument: &str,
+                value: usize,
+                bounds: &str,
+            ) -> Option<String> {
+                is_refused.then(|| format!("{argument} is {value}, and must be {bounds}"))
             }
 
             #[test]
             fn sizes_and_lengths() {
-                let long = [1; 99];
-                for length in 0..=70 {
+                let long = [1; 300];
+                let key_or_none = format!("0 to {}", $max);
+                let key = format!("1 to {}", $max);
+                let small = format!("0 to {}", $small);
+                for length in (0..=70).chain([256, 300]) {
                     let text = &long[..length];
-                    let is_no_size = length == 0 || length > $max;
-                    assert_eq!(is_refused(Params::new().output_size(length)), is_no_size);
-                    assert_eq!(is_refused(Params::new().key(text)), length > $max);
-                    assert_eq!(is_refused(Params::new().salt(text)), length > $small);
-                    assert_eq!(is_refused(Params::new().persona(text)), length > $small);
-                    let is_no_key = length == 0 || length > $max;
-                    assert_eq!($mac::new(text).err(), is_no_key.then_some(InvalidLength));
-                    assert_eq!($mac::tag(text, b"").err(), is_no_key.then_some(InvalidLength));
+                    let new = Params::new;
+                    let refused =
+                        text_if(length == 0 || length > $max, "output_size", length, &key);
+                    assert_eq!(error(new().output_size(length)), refused);
+                    let refused = text_if(length > $max, "key.len()", length, &key_or_none);
+                    assert_eq!(error(new().key(text)), refused);
+                    let refused = text_if(length > $small, "salt.len()", length, &small);
+                    assert_eq!(error(new().salt(text)), refused);
+                    let refused = text_if(length > $small, "persona.len()", length, &small);
+                    assert_eq!(error(new().persona(text)), refused);
+                    let refused = text_if(length == 0 || length > $max, "key.len()", length, &key);
+                    let text_of = |error: InvalidArgument| error.to_string();
+                    assert_eq!($mac::new(text).err().map(text_of), refused);
+                    assert_eq!($mac::tag(text, b"").err().map(text_of), refused);
                 }
-                assert!(is_refused(Params::new().output_size(usize::MAX)));
+                for size in [1 << 32, (1 << 32) + 1, usize::MAX] {
+                    let refused = text_if(true, "output_size", size, &key);
+                    assert_eq!(error(Params::new().output_size(size)), refused);
+                }
                 let no_key = Params::new().output_size(1).persona(b"p");
-                assert_eq!($mac::with_params(&no_key).err(), Some(InvalidLength));
+                let error = $mac::with_params(&no_key).unwrap_err();
+                assert_eq!((error.argument(), error.value()), ("key.len()", 0));
+                assert_eq!(error.bounds(), Bounds::Range { min: 1, max: $max });
             }
 
             #[test]
             fn places_in_a_tree() {
-                let at = |tree| is_refused(Params::new().tree(tree));
+                let at = |tree| error(Params::new().tree(tree));
                 let most = u64::MAX >> (64 - $bits);
                 let all = Tree {
                     fanout: 255,
@@ -89,29 +155,52 @@ macro_rules! family {
                     node_depth: 255,
                     inner_length: $max,
                 };
-                assert!(!at(all));
-                assert!(!at(Tree { fanout: 0, ..Tree::default() }));
-                assert!(at(Tree { depth: 0, ..Tree::default() }));
-                assert!(at(Tree { depth: 0, ..all }));
+                assert_eq!(at(all), None);
+                assert_eq!(
+                    at(Tree {
+                        fanout: 0,
+                        ..Tree::default()
+                    }),
+                    None
+                );
+                let refused = text_if(true, "tree.depth", 0, "1 to 255");
+                assert_eq!(
+                    at(Tree {
+                        depth: 0,
+                        ..Tree::default()
+                    }),
+                    refused
+                );
+                assert_eq!(at(Tree { depth: 0, ..all }), refused);
                 for inner_length in $max + 1..=255 {
-                    assert!(at(Tree { inner_length, ..Tree::default() }));
+                    let bounds = format!("0 to {}", $max);
+                    let refused = text_if(true, "tree.inner_length", inner_length.into(), &bounds);
+                    assert_eq!(
+                        at(Tree {
+                            inner_length,
+                            ..Tree::default()
+                        }),
+                        refused
+                    );
                 }
                 for node_offset in [u64::MAX, 1 << 48, (1 << 48) - 1] {
-                    assert_eq!(at(Tree { node_offset, ..all }), node_offset > most);
+                    let (is_refused, bounds) = (node_offset > most, format!("0 to {most}"));
+                    let value = node_offset as usize;
+                    let refused = text_if(is_refused, "tree.node_offset", value, &bounds);
+                    assert_eq!(at(Tree { node_offset, ..all }), refused);
                 }
             }
 
-            // What is refused of several messages, with digests that stay as they were.
-            fn is_refused_many<const N: usize>(
+            // What several messages are refused with. Their digests then stay as they were.
+            fn error_of_many<const N: usize>(
                 params: Params,
                 messages: &[&[u8]],
                 count: usize,
-            ) -> bool {
+            ) -> Option<String> {
                 let mut digests = vec![[7; N]; count];
-                let answer = $hasher::digest_many(&params, messages, &mut digests);
-                let is_as_before = digests == vec![[7; N]; count];
-                assert!(answer.is_ok() || (answer == Err(InvalidLength) && is_as_before));
-                answer.is_err()
+                let made = $hasher::digest_many(&params, messages, &mut digests);
+                assert!(made.is_ok() || digests == vec![[7; N]; count]);
+                made.err().map(|error| error.to_string())
             }
 
             #[test]
@@ -120,28 +209,80 @@ macro_rules! family {
                 let long = [1; $max + 1];
                 for count in [0, 1, 16, 17, 40] {
                     let messages = &vec![&b"x"[..]; count][..];
-                    assert!(!is_refused_many::<$max>(new(), messages, count));
-                    assert!(!is_refused_many::<1>(new().output_size(1), messages, count));
-                    assert!(is_refused_many::<1>(new(), messages, count + 1));
-                    assert!(count == 0 || is_refused_many::<1>(new(), messages, count - 1));
-                    assert!(is_refused_many::<0>(new(), messages, count));
-                    assert!(is_refused_many::<{ $max + 1 }>(new(), messages, count));
-                    assert!(is_refused_many::<1>(new().output_size(2), messages, count));
-                    assert!(is_refused_many::<1>(new().last_node(true), messages, count));
-                    let tree = Tree { fanout: 2, ..Tree::SEQUENTIAL };
-                    assert!(is_refused_many::<1>(new().tree(tree), messages, count));
-                    assert!(is_refused_many::<1>(new().key(&long), messages, count));
-                    assert!(is_refused_many::<1>(new().salt(&long[..$small + 1]), messages, count));
-                    let persona = &long[..$small + 1];
-                    assert!(is_refused_many::<1>(new().persona(persona), messages, count));
+                    let of_one = |params| error_of_many::<1>(params, messages, count);
+                    assert_eq!(error_of_many::<$max>(new(), messages, count), None);
+                    assert_eq!(of_one(new().output_size(1)), None);
+                    for other in [count + 1, count.saturating_sub(1), count + 256] {
+                        let refused =
+                            text_if(other != count, "digests.len()", other, &count.to_string());
+                        assert_eq!(error_of_many::<1>(new(), messages, other), refused);
+                    }
+                    let bounds = format!("1 to {}", $max);
+                    let refused = |size| text_if(true, "output_size", size, &bounds);
+                    assert_eq!(error_of_many::<0>(new(), messages, count), refused(0));
+                    let found = error_of_many::<{ $max + 1 }>(new(), messages, count);
+                    assert_eq!(found, refused($max + 1));
+                    let refused = text_if(true, "output_size", 2, "1");
+                    assert_eq!(of_one(new().output_size(2)), refused);
+                    let refused = text_if(true, "last_node", 1, "0");
+                    assert_eq!(of_one(new().last_node(true)), refused);
+                    let tree = Tree::SEQUENTIAL;
+                    for (tree, name, value, wanted) in [
+                        (Tree { fanout: 2, ..tree }, "tree.fanout", 2, "1"),
+                        (Tree { depth: 3, ..tree }, "tree.depth", 3, "1"),
+                        (
+                            Tree {
+                                leaf_length: 4,
+                                ..tree
+                            },
+                            "tree.leaf_length",
+                            4,
+                            "0",
+                        ),
+                        (
+                            Tree {
+                                node_offset: 5,
+                                ..tree
+                            },
+                            "tree.node_offset",
+                            5,
+                            "0",
+                        ),
+                        (
+                            Tree {
+                                node_depth: 6,
+                                ..tree
+                            },
+                            "tree.node_depth",
+                            6,
+                            "0",
+                        ),
+                        (
+                            Tree {
+                                inner_length: 7,
+                                ..tree
+                            },
+                            "tree.inner_length",
+                            7,
+                            "0",
+                        ),
+                    ] {
+                        assert_eq!(of_one(new().tree(tree)), text_if(true, name, value, wanted));
+                    }
+                    let refused = text_if(true, "key.len()", $max + 1, &format!("0 to {}", $max));
+                    assert_eq!(of_one(new().key(&long)), refused);
+                    let (text, bounds) = (&long[..$small + 1], format!("0 to {}", $small));
+                    let refused = |name| text_if(true, name, $small + 1, &bounds);
+                    assert_eq!(of_one(new().salt(text)), refused("salt.len()"));
+                    assert_eq!(of_one(new().persona(text)), refused("persona.len()"));
                 }
             }
 
             #[test]
             fn flags_are_kept_and_clones_are_apart() {
                 let params = Params::new().last_node(true).key(b"key");
-                let wanted = params.$make().unwrap().update(b"x").clone().finalize();
-                let off = params.last_node(false).$make().unwrap().update(b"x").clone().finalize();
+                let wanted = params.$hash(b"x").unwrap();
+                let off = params.last_node(false).$hash(b"x").unwrap();
                 assert!(wanted != off && off == $mac::tag(b"key", b"x").unwrap());
                 let mut hasher = params.$make().unwrap();
                 let mut mac = $mac::with_params(&params).unwrap();
@@ -156,6 +297,30 @@ macro_rules! family {
                 hasher.set_last_node(false);
                 assert_eq!(hasher.update(b"x").finalize_reset(), off);
                 assert_eq!(hasher.update(b"x").finalize_reset(), off);
+            }
+
+            // Calls that copy a state leave no copy of the key that is in it.
+            #[test]
+            fn nothing_of_a_key_is_left_on_the_stack() {
+                let key: Vec<u8> = (0..$max).map(|i| 100 + 2 * i as u8).collect();
+                let hasher = Box::new(Params::new().key(&key).$make().unwrap());
+                let mac = Box::new($mac::new(&key).unwrap());
+                let tag = mac.finalize();
+                let left = |call: &(dyn Fn() + Sync)| pieces_left(&key, call);
+                assert_eq!(left(&|| assert_eq!(hasher.finalize(), tag)), 0);
+                assert_eq!(left(&|| assert_eq!(mac.finalize(), tag)), 0);
+                assert_eq!(left(&|| assert!(mac.verify(tag.as_bytes()).is_ok())), 0);
+                assert_eq!(left(&|| assert!(mac.verify(b"wrong").is_err())), 0);
+                // The test sees a copy.
+                let copy = || {
+                    let mut copy = [0u8; $max];
+                    for (to, byte) in copy.iter_mut().zip(&key) {
+                        // Safety: it is a byte of the array.
+                        unsafe { (to as *mut u8).write_volatile(*byte) };
+                    }
+                    assert_eq!(copy[..], key);
+                };
+                assert!(left(&copy) > 0);
             }
 
             #[test]
@@ -206,7 +371,10 @@ macro_rules! family {
                      node_depth: 0, inner_length: 0 }, last_node: true }";
                 assert_eq!(format!("{params:?}"), shown);
                 let hasher = params.$make().unwrap();
-                assert_eq!(format!("{hasher:?}"), concat!(stringify!($hasher), " { .. }"));
+                assert_eq!(
+                    format!("{hasher:?}"),
+                    concat!(stringify!($hasher), " { .. }")
+                );
                 let mac = $mac::with_params(&params).unwrap();
                 assert_eq!(format!("{mac:?}"), concat!(stringify!($mac), " { .. }"));
                 assert_eq!(format!("{mac:#?}"), concat!(stringify!($mac), " { .. }"));
@@ -229,12 +397,34 @@ macro_rules! family {
                 for length in 0..$max {
                     assert!(digest != bytes[..length]);
                     let params = Params::new().output_size(length.max(1));
-                    assert!(digest != params.$make().unwrap().update(b"abc").clone().finalize());
+                    assert!(digest != params.$hash(b"abc").unwrap());
                 }
                 assert!(digest != [bytes.clone(), vec![0]].concat()[..]);
                 assert!(digest != $hasher::digest(b"abd"));
-                assert_eq!(<[u8; $max - 1]>::try_from(digest), Err(InvalidLength));
-                assert_eq!(<[u8; $max + 1]>::try_from(digest), Err(InvalidLength));
+                let error = <[u8; $max - 1]>::try_from(digest).unwrap_err().to_string();
+                let max = $max.to_string();
+                assert_eq!(
+                    Some(error),
+                    text_if(true, "the array's length", $max - 1, &max)
+                );
+                let error = <[u8; $max + 1]>::try_from(digest).unwrap_err().to_string();
+                assert_eq!(
+                    Some(error),
+                    text_if(true, "the array's length", $max + 1, &max)
+                );
+                assert!(bytes[..] == digest && &bytes[..] == digest && array == digest);
+                assert!(&array == digest && digest == &array && bytes == digest && digest == bytes);
+                let other = $hasher::digest(b"abd");
+                let of_other = other.as_bytes().to_vec();
+                assert!(of_other[..] != digest && of_other != digest && digest != of_other);
+                assert_eq!(digest.cmp(&other), bytes.cmp(&of_other));
+                assert_eq!(other.partial_cmp(&digest), of_other.partial_cmp(&bytes));
+                assert_eq!(digest.cmp(&copy), std::cmp::Ordering::Equal);
+                let first = |size| Params::new().output_size(size).$hash(b"x").unwrap();
+                for size in 2..=$max {
+                    let (a, b) = (first(size), first(size - 1));
+                    assert_eq!(a.cmp(&b), a.as_bytes().cmp(b.as_bytes()));
+                }
                 assert_eq!(hash_of(digest), hash_of(&bytes[..]));
                 assert_ne!(hash_of(digest), hash_of($hasher::digest(b"abd")));
             }
@@ -249,54 +439,70 @@ macro_rules! family {
                 assert_eq!(format!("{digest:x}"), small);
                 assert_eq!(format!("{digest:X}"), small.to_uppercase());
                 assert_eq!(format!("{digest:#x}"), format!("0x{small}"));
-                assert_eq!(format!("{digest:#X}"), format!("0x{}", small.to_uppercase()));
+                assert_eq!(
+                    format!("{digest:#X}"),
+                    format!("0x{}", small.to_uppercase())
+                );
                 assert_eq!(format!("{digest:>6}"), format!("  {small}"));
                 assert_eq!(format!("{digest:.3}"), small[..3]);
                 let long = $hasher::digest(b"abc");
                 let digits = long.as_bytes().iter().map(|byte| format!("{byte:02x}"));
                 let digits: String = digits.collect();
                 assert_eq!(long.to_string(), digits);
+                let hex = long.to_hex();
+                assert!(hex == *digits && hex == digits.as_str() && hex != "y" && hex != *"x");
+                assert_eq!(
+                    (hex.as_str(), hex.as_ref(), hex.len()),
+                    (&*digits, &*digits, 2 * $max)
+                );
+                assert_eq!(
+                    format!("{hex}, {hex:.3}, {hex:?}"),
+                    format!("{digits}, {digits:.3}, {digits:?}")
+                );
+                assert!(hex == hex.clone() && hex != digest.to_hex());
                 assert_eq!(format!("{long:X}"), digits.to_uppercase());
             }
         }
     };
 }
 
-family!(blake2b, Blake2b, Blake2bMac, blake2b, 64, 16, 64);
-family!(blake2s, Blake2s, Blake2sMac, blake2s, 32, 8, 48);
-
-#[test]
-fn roots_are_refused() {
-    let long = [0; 17];
-    for length in 0..=17 {
-        let (text, refused) = (&long[..length], (length > 16).then_some(InvalidLength));
-        assert_eq!(tree_root(b"x", text, b"", 1).err(), refused);
-        assert_eq!(tree_root(b"x", b"", text, 1).err(), refused);
-        assert_eq!(TreeHasher::new(text, b"", 1).err(), refused);
-        assert_eq!(TreeHasher::new(b"", text, 1).err(), refused);
-    }
-    assert_eq!(tree_root(b"x", b"", b"", 0), Err(InvalidLength));
-    assert_eq!(TreeHasher::new(b"", b"", 0).err(), Some(InvalidLength));
-    for size in (0..=70).chain([usize::MAX]) {
-        let refused = (size == 0 || size > 64).then_some(InvalidLength);
-        let root = tree_root_with_output_size(size, b"x", b"", b"", 1);
-        assert_eq!(root.err(), refused);
-        let hasher = TreeHasher::with_output_size(size, b"", b"", 1);
-        assert_eq!(hasher.err(), refused);
-    }
-}
+family!(
+    blake2b,
+    Blake2b,
+    Blake2bMac,
+    blake2b,
+    blake2b_hash,
+    64,
+    16,
+    64
+);
+family!(
+    blake2s,
+    Blake2s,
+    Blake2sMac,
+    blake2s,
+    blake2s_hash,
+    32,
+    8,
+    48
+);
 
 #[test]
 fn trees_are_written_wiped_and_shown() {
     let message: Vec<u8> = (0..100_000u32).map(|i| (i % 253) as u8).collect();
-    let new = || TreeHasher::new(b"salt of the tree", b"persona of 16 b.", 1000).unwrap();
-    let wanted = tree_root(&message, b"salt of the tree", b"persona of 16 b.", 1000).unwrap();
+    let params = TreeParams::new(1000)
+        .salt(b"salt of the tree")
+        .persona(b"persona of 16 b.");
+    let new = || params.hasher().unwrap();
+    let wanted = params.root(&message).unwrap();
     for piece in [1, 999, 4097, 65_537, 100_000] {
         let hasher = written(new(), &message, piece);
         assert_eq!(hasher.count(), 100_000);
-        assert_eq!(hasher.clone().finalize(), wanted);
         assert_eq!(hasher.finalize(), wanted);
+        assert_eq!(hasher.clone().finalize(), wanted);
     }
+    let half = written(new(), &message[..50_000], 999).clone();
+    assert_eq!(written(half, &message[50_000..], 4097).finalize(), wanted);
     let [before, after] = bytes_around_drop(written(new(), &message, 999));
     assert!(holds(&before, b"salt of the tree") && before.len() >= 900);
     assert!(after.iter().all(|byte| *byte == 0));
@@ -306,9 +512,12 @@ fn trees_are_written_wiped_and_shown() {
 #[test]
 fn errors_and_defaults() {
     let shown = |error: &dyn Error| error.to_string();
+    let error = Params::new().output_size(0).blake2b().unwrap_err();
+    assert_eq!(shown(&error), "output_size is 0, and must be 1 to 64");
+    let of_io = io::Error::from(error);
     assert_eq!(
-        shown(&InvalidLength),
-        "a length that BLAKE2 does not accept"
+        (of_io.kind(), of_io.to_string()),
+        (io::ErrorKind::InvalidInput, shown(&error))
     );
     assert_eq!(shown(&MacError), "a wrong tag");
     assert_eq!(Tree::default(), Tree::SEQUENTIAL);

@@ -5,8 +5,7 @@ mod common;
 use common::{bytes, cases, lines, Case};
 use std::io::Write;
 use vulfsjor::{
-    tree_root, tree_root_with_output_size, Blake2b, Blake2bMac, Blake2s, Blake2sMac, Digest,
-    InvalidLength, MacError, Params, TreeHasher,
+    Blake2b, Blake2bMac, Blake2s, Blake2sMac, Digest, MacError, Params, TreeHasher, TreeParams,
 };
 
 // The root of a message that comes in pieces of this length, and that of the first half of them.
@@ -16,7 +15,7 @@ fn roots_of_pieces(mut hasher: TreeHasher, message: &[u8], length: usize) -> [Di
         hasher.update(piece);
     }
     assert_eq!(hasher.count(), first.len() as u64);
-    let half = hasher.clone().finalize();
+    let half = hasher.finalize();
     for piece in second.chunks(length) {
         hasher.write_all(piece).unwrap();
     }
@@ -31,23 +30,23 @@ fn roots() {
     for (i, fields) in lines.iter().enumerate() {
         let [salt, persona, message, wanted] = [1, 2, 4, 5].map(|field| bytes(&fields[field]));
         let (size, leaf_length) = (fields[0].parse().unwrap(), fields[3].parse().unwrap());
-        let hasher = TreeHasher::with_output_size(size, &salt, &persona, leaf_length).unwrap();
-        let [half, root] = roots_of_pieces(hasher, &message, 1 + i % 200);
+        let params = TreeParams::new(leaf_length).salt(&salt).persona(&persona);
+        let sized = params.output_size(size);
+        let [half, root] = roots_of_pieces(sized.hasher().unwrap(), &message, 1 + i % 200);
         assert_eq!(root.as_bytes(), wanted);
-        let root_of =
-            |message| tree_root_with_output_size(size, message, &salt, &persona, leaf_length);
-        assert_eq!(root_of(&message[..]), Ok(root));
-        assert_eq!(root_of(&message[..message.len() / 2]), Ok(half));
+        assert_eq!(sized.root(&message), Ok(root));
+        assert_eq!(sized.root(&message[..message.len() / 2]), Ok(half));
         if size == 64 {
-            assert_eq!(tree_root(&message, &salt, &persona, leaf_length), Ok(root));
-            let hasher = TreeHasher::new(&salt, &persona, leaf_length).unwrap();
+            assert_eq!(params.root(&message), Ok(root));
+            let hasher = params.hasher().unwrap();
             assert_eq!(roots_of_pieces(hasher, &message, 5000), [half, root]);
         }
     }
 }
 
 macro_rules! family {
-    ($test:ident, $letter:literal, $hasher:ident, $mac:ident, $make:ident, $max:literal) => {
+    ($test:ident, $letter:literal, $hasher:ident, $mac:ident, $make:ident, $hash:ident,
+     $max:literal) => {
         mod $test {
             use super::*;
 
@@ -69,12 +68,18 @@ macro_rules! family {
                 assert_eq!(hasher.count(), 0);
                 hasher.set_last_node(!last_node);
                 hasher.write_all(message).unwrap();
-                assert_ne!(hasher.clone().finalize().as_bytes(), wanted);
+                assert_ne!(hasher.finalize(), *wanted);
                 hasher.set_last_node(*last_node);
-                assert_eq!(hasher.clone().finalize().as_bytes(), wanted);
+                assert_eq!(hasher.finalize(), *wanted);
+                assert_eq!(hasher.finalize(), *wanted);
                 hasher.reset();
                 assert_eq!(hasher.update(message).finalize_reset().as_bytes(), wanted);
                 assert_eq!(hasher.update(message).clone().finalize().as_bytes(), wanted);
+                assert_eq!(
+                    case.params().$make().unwrap().update(message).finalize(),
+                    *wanted
+                );
+                assert_eq!(case.params().$hash(message).unwrap(), *wanted);
             }
 
             // The tag of the case, if it has a key: after a reset, and compared.
@@ -86,7 +91,9 @@ macro_rules! family {
                     ..
                 } = case;
                 if case.key.is_empty() {
-                    assert_eq!($mac::with_params(&case.params()).err(), Some(InvalidLength));
+                    let error = $mac::with_params(&case.params()).unwrap_err().to_string();
+                    let wanted = concat!("key.len() is 0, and must be 1 to ", $max);
+                    assert_eq!(error, wanted);
                     return;
                 }
                 let mut mac = $mac::with_params(&case.params()).unwrap();
@@ -96,16 +103,20 @@ macro_rules! family {
                 assert_eq!(mac.update(message).count(), message.len() as u64);
                 assert_eq!(mac.finalize_reset().as_bytes(), wanted);
                 mac.write_all(message).unwrap();
-                assert_eq!(mac.clone().finalize().as_bytes(), wanted);
-                assert_eq!(mac.clone().verify(wanted), Ok(()));
+                assert_eq!(mac.finalize(), *wanted);
+                assert_eq!(mac.verify(wanted), Ok(()));
                 let mut wrong = wanted.clone();
                 wrong[at % size] ^= 1 << at % 8;
-                assert_eq!(mac.clone().verify(&wrong), Err(MacError));
-                assert_eq!(
-                    mac.clone().verify(&[&wanted[..], b"\0"].concat()),
-                    Err(MacError)
-                );
+                assert_eq!(mac.verify(&wrong), Err(MacError));
+                assert_eq!(mac.verify(&[&wanted[..], b"\0"].concat()), Err(MacError));
                 assert_eq!(mac.verify(&wanted[..size - 1]), Err(MacError));
+                assert_eq!(mac.count(), message.len() as u64);
+                assert_eq!(mac.verify(wanted), Ok(()));
+                let mac = $mac::with_params(&case.params())
+                    .unwrap()
+                    .update(message)
+                    .finalize();
+                assert_eq!(mac, *wanted);
             }
 
             // The case in one call, if there is one for it. Whether there is.
@@ -121,26 +132,14 @@ macro_rules! family {
                 }
                 if key.is_empty() {
                     assert_eq!($hasher::digest(message).as_bytes(), wanted);
-                    assert_eq!(
-                        $hasher::new().update(message).finalize_reset().as_bytes(),
-                        wanted
-                    );
-                    assert_eq!(
-                        $hasher::default()
-                            .update(message)
-                            .finalize_reset()
-                            .as_bytes(),
-                        wanted
-                    );
+                    assert_eq!($hasher::new().update(message).finalize(), *wanted);
+                    assert_eq!($hasher::default().update(message).finalize(), *wanted);
                 } else {
                     assert_eq!($mac::tag(key, message).unwrap().as_bytes(), wanted);
+                    assert_eq!($mac::new(key).unwrap().update(message).finalize(), *wanted);
                     assert_eq!(
-                        $mac::new(key)
-                            .unwrap()
-                            .update(message)
-                            .finalize_reset()
-                            .as_bytes(),
-                        wanted
+                        $mac::new(key).unwrap().update(message).verify(wanted),
+                        Ok(())
                     );
                 }
                 true
@@ -178,8 +177,8 @@ macro_rules! family {
                         digests
                     };
                     let all = digests(params, 40);
-                    let hash = Params::new().output_size(32).blake2b();
-                    assert_eq!(hash.unwrap().update(all.concat()).finalize_reset(), wanted[..]);
+                    let hash = Params::new().output_size(32).blake2b_hash(all.concat());
+                    assert_eq!(hash.unwrap(), wanted);
                     for count in [0, 1, 2, 3, 4, 5, 7, 8, 9, 15, 16, 17, 40] {
                         assert_eq!(digests(params, count), all[..count]);
                         assert_eq!(digests(params.output_size(N), count), all[..count]);
@@ -200,5 +199,5 @@ macro_rules! family {
     };
 }
 
-family!(blake2b, "b", Blake2b, Blake2bMac, blake2b, 64);
-family!(blake2s, "s", Blake2s, Blake2sMac, blake2s, 32);
+family!(blake2b, "b", Blake2b, Blake2bMac, blake2b, blake2b_hash, 64);
+family!(blake2s, "s", Blake2s, Blake2sMac, blake2s, blake2s_hash, 32);

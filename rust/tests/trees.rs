@@ -38,28 +38,32 @@ fn ranges() -> Vec<Range> {
 }
 
 impl Range {
-    fn hash(&self, out: &mut [u8]) -> Result<(), InvalidLength> {
-        let Range { first, ends, .. } = *self;
-        tree_leaves(
-            &self.bytes,
-            first,
-            ends,
-            &self.salt,
-            &self.persona,
-            self.leaf,
-            out,
-        )
+    fn params(&self) -> TreeParams<'_> {
+        let params = TreeParams::new(self.leaf)
+            .salt(&self.salt)
+            .persona(&self.persona);
+        params.output_size(self.root.len())
+    }
+
+    fn hash(&self, out: &mut [u8]) -> Result<(), InvalidArgument> {
+        self.params()
+            .leaves(&self.bytes, self.first, self.ends, out)
     }
 
     // Refused, with nothing written, for room of this length.
     fn is_refused(&self, room: usize) -> bool {
         let mut out = vec![7; room];
-        self.hash(&mut out) == Err(InvalidLength) && out.iter().all(|byte| *byte == 7)
+        self.hash(&mut out).is_err() && out.iter().all(|byte| *byte == 7)
+    }
+
+    // What it is refused with, for room of this length.
+    fn error(&self, room: usize) -> String {
+        assert!(self.is_refused(room));
+        self.hash(&mut vec![0; room]).unwrap_err().to_string()
     }
 
     fn hasher(&self) -> TreeHasher {
-        let size = self.root.len();
-        TreeHasher::with_output_size(size, &self.salt, &self.persona, self.leaf).unwrap()
+        self.params().hasher().unwrap()
     }
 }
 
@@ -68,14 +72,12 @@ fn ranges_are_those_of_hashlib() {
     let ranges = ranges();
     assert_eq!(ranges.len(), 1268);
     for range in &ranges {
-        let count = tree_leaf_count(range.bytes.len() as u64, range.leaf) as usize;
+        let count = range.params().leaf_count(range.bytes.len() as u64) as usize;
         assert_eq!(64 * count, range.digests.len());
         let mut out = vec![0; 64 * count];
         assert_eq!(range.hash(&mut out), Ok(()));
         assert_eq!(out, range.digests);
-        let Range { salt, persona, .. } = range;
-        let root = tree_root_of_leaves(range.root.len(), &out, salt, persona, range.leaf);
-        assert_eq!(root.unwrap().as_bytes(), range.root);
+        assert_eq!(range.params().root_of_leaves(&out).unwrap(), range.root);
         let is_last = range.first == (1 << 58) / u64::from(range.leaf);
         if !range.ends && !is_last {
             let mut next = vec![0; 64 * count];
@@ -88,10 +90,7 @@ fn ranges_are_those_of_hashlib() {
         }
         if range.first == 0 && range.ends {
             let message = &range.bytes;
-            assert_eq!(
-                range.hasher().update(message).clone().finalize().as_bytes(),
-                range.root
-            );
+            assert_eq!(range.hasher().update(message).finalize(), range.root);
         }
     }
 }
@@ -100,7 +99,7 @@ fn ranges_are_those_of_hashlib() {
 fn leaf_counts() {
     for leaf in [1, 2, 64, 1000, u32::MAX] {
         let length = u64::from(leaf);
-        let count = |message| tree_leaf_count(message, leaf);
+        let count = |message| TreeParams::new(leaf).leaf_count(message);
         assert_eq!([0, 1, length].map(count), [1; 3]);
         assert_eq!(count(length + 1), 2);
         assert_eq!(
@@ -113,7 +112,7 @@ fn leaf_counts() {
         );
     }
     assert_eq!(
-        [0, 1, u64::MAX].map(|length| tree_leaf_count(length, 0)),
+        [0, 1, u64::MAX].map(|length| TreeParams::new(0).leaf_count(length)),
         [0; 3]
     );
 }
@@ -216,33 +215,140 @@ fn empty_ranges_and_those_too_far() {
     }
 }
 
+// Checks that a call with wrong parameters of a tree is refused, with the name, the value and the
+// bounds of each.
+fn refuses_parameters<R>(call: impl Fn(TreeParams) -> Result<R, InvalidArgument>) {
+    let new = TreeParams::new;
+    let error = |params| call(params).err().map(|error| error.to_string());
+    for size in (0..=70).chain([1 << 32, (1 << 32) + 64, usize::MAX]) {
+        let said = format!("output_size is {size}, and must be 1 to 64");
+        let is_right = (1..=64).contains(&size);
+        assert_eq!(error(new(1).output_size(size)), (!is_right).then_some(said));
+    }
+    let long = [0; 300];
+    for length in (0..=20).chain([256, 300]) {
+        let text = &long[..length];
+        let said = |name| format!("{name}.len() is {length}, and must be 0 to 16");
+        let error_of = |name| (length > 16).then_some(said(name));
+        assert_eq!(error(new(1).salt(text)), error_of("salt"));
+        assert_eq!(error(new(1).persona(text)), error_of("persona"));
+    }
+    let said = "leaf_length is 0, and must be 1 to 4294967295";
+    assert_eq!(error(new(0)).as_deref(), Some(said));
+    assert_eq!(error(new(u32::MAX)), None);
+}
+
+#[test]
+fn parameters_are_refused() {
+    refuses_parameters(|params| params.root(b"x"));
+    refuses_parameters(|params| params.hasher());
+    refuses_parameters(|params| params.root_of_leaves(&[0; 64]));
+    for threads in [0, 1, 3] {
+        refuses_parameters(|params| params.root_threads([0; 99], threads));
+    }
+    refuses_parameters(|params| {
+        let root = params.root_file(concat!(env!("CARGO_MANIFEST_DIR"), "/Cargo.toml"), 1);
+        root.map_err(|error| {
+            assert_eq!(error.kind(), std::io::ErrorKind::InvalidInput);
+            *error
+                .into_inner()
+                .unwrap()
+                .downcast::<InvalidArgument>()
+                .unwrap()
+        })
+    });
+}
+
 #[test]
 fn roots_of_leaves_are_refused() {
     let digests = [0; 192];
-    let root = |size, length, leaf| tree_root_of_leaves(size, &digests[..length], b"", b"", leaf);
     for length in 0..=192 {
-        assert_eq!(root(64, length, 1).is_ok(), length > 0 && length % 64 == 0);
-    }
-    for size in (0..=70).chain([usize::MAX]) {
-        assert_eq!(root(size, 128, 1).is_ok(), (1..=64).contains(&size));
-    }
-    assert_eq!(root(64, 64, 0), Err(InvalidLength));
-    for length in 0..=17 {
-        let text = &digests[..length];
+        let root = TreeParams::new(1).root_of_leaves(&digests[..length]);
+        let said = format!("digests.len() is {length}, and must be a positive multiple of 64");
+        let is_refused = length == 0 || length % 64 != 0;
         assert_eq!(
-            tree_root_of_leaves(64, &digests, text, b"", 1).is_ok(),
-            length <= 16
-        );
-        assert_eq!(
-            tree_root_of_leaves(64, &digests, b"", text, 1).is_ok(),
-            length <= 16
+            root.err().map(|error| error.to_string()),
+            is_refused.then_some(said)
         );
     }
 }
 
+#[test]
+fn errors_of_ranges() {
+    let most = (1u64 << 58) - 1;
+    let of = Range::of;
+    let said = "bytes.len() is 8, and must be a positive multiple of 9";
+    assert_eq!(of(9, 0, false, 8).error(64), said);
+    let said = "bytes.len() is 0, and must be a positive multiple of 9";
+    assert_eq!(of(9, 0, false, 0).error(64), said);
+    let said = "digests.len() is 65, and must be 192";
+    assert_eq!(of(9, 0, true, 20).error(65), said);
+    let said = format!("first is {most}, and must be 0 to {}", most - 1);
+    assert_eq!(of(1, most, true, 1).error(64), said);
+    assert_eq!(of(1, most, true, 0).error(64), said);
+    let said = format!("first is {}, and must be 0 to {}", u64::MAX, most / 9);
+    assert_eq!(of(9, u64::MAX, true, 1).error(64), said);
+    let said = format!("bytes.len() is 0, and must be 1 to {}", most - 9);
+    assert_eq!(of(9, 1, true, 0).error(64), said);
+    assert_eq!(
+        of(0, 1, true, 0).error(64),
+        "leaf_length is 0, and must be 1 to 4294967295"
+    );
+    let long = Range {
+        salt: vec![0; 17],
+        ..of(9, 0, true, 9)
+    };
+    assert_eq!(long.error(64), "salt.len() is 17, and must be 0 to 16");
+    let long = Range {
+        persona: vec![0; 256],
+        ..of(9, 0, true, 9)
+    };
+    assert_eq!(long.error(64), "persona.len() is 256, and must be 0 to 16");
+}
+
+#[test]
+fn errors_of_hashers() {
+    let mut hasher = TreeParams::new(100).hasher().unwrap();
+    let next = |hasher: &TreeHasher, skip, length, room| {
+        let error = hasher.next_leaves(skip, &vec![0; length], &mut vec![0; room]);
+        error.unwrap_err().to_string()
+    };
+    let update = |hasher: &mut TreeHasher, room, length| {
+        let error = hasher.update_leaves(&vec![0; room], vec![0; length]);
+        error.unwrap_err().to_string()
+    };
+    for length in [0, 1, 101] {
+        let said = format!("leaves.len() is {length}, and must be a positive multiple of 100");
+        assert_eq!(next(&hasher, 0, length, 64), said);
+    }
+    assert_eq!(
+        next(&hasher, 0, 200, 64),
+        "digests.len() is 64, and must be 128"
+    );
+    let most = ((1u64 << 58) - 1) / 100 - 2;
+    let said = format!("skip is {}, and must be 0 to {most}", most + 1);
+    assert_eq!(next(&hasher, most + 1, 200, 128), said);
+    assert!(hasher.next_leaves(most, &[0; 200], &mut [0; 128]).is_ok());
+    let said = "digests.len() is 65, and must be a multiple of 64";
+    assert_eq!(update(&mut hasher, 65, 1), said);
+    let said = format!(
+        "input.len() is 0, and must be 1 to {}",
+        (1u64 << 58) - 1 - 200
+    );
+    assert_eq!(update(&mut hasher, 128, 0), said);
+    hasher.update([0; 101]);
+    let said = "count() is 101, and must be a multiple of 100";
+    assert_eq!(next(&hasher, 0, 100, 64), said);
+    assert_eq!(update(&mut hasher, 64, 1), said);
+}
+
+fn params() -> TreeParams<'static> {
+    TreeParams::new(100).salt(b"salt").persona(b"persona")
+}
+
 // A hasher that absorbs this number of bytes of the message before the leaves, by their digests.
 fn with_leaves(message: &[u8], before: usize, leaves: usize) -> TreeHasher {
-    let mut hasher = TreeHasher::new(b"salt", b"persona", 100).unwrap();
+    let mut hasher = params().hasher().unwrap();
     hasher.update(&message[..before]);
     let end = before + 100 * leaves;
     let mut digests = vec![0; 64 * leaves];
@@ -264,7 +370,7 @@ fn with_leaves(message: &[u8], before: usize, leaves: usize) -> TreeHasher {
 #[test]
 fn leaves_by_their_digests() {
     let message: Vec<u8> = (0..2000u32).map(|i| (i * i % 253) as u8).collect();
-    let wanted = tree_root(&message, b"salt", b"persona", 100);
+    let wanted = params().root(&message);
     for before in [0, 1, 2, 7] {
         for leaves in [0, 1, 2, 3, 4, 5, 8, 9, 12] {
             let hasher = with_leaves(&message, 100 * before, leaves);
@@ -284,9 +390,9 @@ fn leaves_by_their_digests_are_refused() {
         (100, true),
         (101, false),
     ] {
-        let mut hasher = TreeHasher::new(b"salt", b"persona", 100).unwrap();
+        let mut hasher = params().hasher().unwrap();
         hasher.update(vec![1; count]);
-        let before = hasher.clone().finalize();
+        let before = hasher.finalize();
         for (length, room) in [
             (0, 0),
             (0, 64),
@@ -326,7 +432,7 @@ fn leaves_by_their_digests_are_refused() {
             hasher.update_leaves(b"", b"").unwrap().count(),
             count as u64
         );
-        assert_eq!(hasher.clone().finalize(), before);
+        assert_eq!(hasher.finalize(), before);
         let more = hasher.update_leaves(b"", b"xyz").unwrap();
         assert_eq!(more.count(), count as u64 + 3);
     }
@@ -339,7 +445,9 @@ fn long_messages() -> Vec<Long> {
     let message = |fields: &Vec<String>| {
         let [salt, persona, root] = [2, 3, 5].map(|i| bytes(&fields[i]));
         let length: usize = fields[1].parse().unwrap();
-        let message = (0..length).map(|i| (i + i / 256 + i / 65536) as u8).collect();
+        let message = (0..length)
+            .map(|i| (i + i / 256 + i / 65536) as u8)
+            .collect();
         (fields[0].parse().unwrap(), message, salt, persona, root)
     };
     lines("b", "y").iter().map(message).collect()
@@ -351,18 +459,18 @@ fn roots_by_threads_are_those_of_hashlib() {
     assert_eq!(messages.len(), 12);
     for (leaf, message, salt, persona, root) in messages {
         for threads in [0, 1, 2, 3, 4, 7, 300] {
-            let size = root.len();
-            let found = tree_root_threads(size, &message, &salt, &persona, leaf, threads);
-            assert_eq!(found.unwrap().as_bytes(), root);
+            let params = TreeParams::new(leaf).salt(&salt).persona(&persona);
+            let params = params.output_size(root.len());
+            assert_eq!(params.root_threads(&message, threads).unwrap(), root);
             for cut in [0, 1, leaf as usize, 300_001, message.len()] {
                 let (first, second) = message.split_at(cut.min(message.len()));
-                let mut hasher = TreeHasher::with_output_size(size, &salt, &persona, leaf).unwrap();
+                let mut hasher = params.hasher().unwrap();
                 hasher.update_threads(first, threads);
                 assert_eq!(hasher.count(), first.len() as u64);
                 hasher
                     .update_threads(second, threads)
                     .update_threads(b"", threads);
-                assert_eq!(hasher.finalize().as_bytes(), root);
+                assert_eq!(hasher.finalize(), root);
             }
         }
     }
@@ -371,7 +479,7 @@ fn roots_by_threads_are_those_of_hashlib() {
 #[test]
 fn updates_by_threads_mix_with_others() {
     let message: Vec<u8> = (0..3_000_000).map(|i| (i % 251) as u8).collect();
-    let mut hasher = TreeHasher::new(b"", b"", 4096).unwrap();
+    let mut hasher = TreeParams::new(4096).hasher().unwrap();
     hasher
         .update(&message[..4096])
         .update_threads(&message[4096..2_000_000], 3);
@@ -380,26 +488,8 @@ fn updates_by_threads_mix_with_others() {
         .update(&message[2_000_000..2_000_001])
         .update_threads(&message[2_000_001..], 2);
     other.update_threads(&message[2_000_000..], 0);
-    let wanted = tree_root(&message, b"", b"", 4096);
+    let wanted = TreeParams::new(4096).root(&message);
     assert_eq!([Ok(hasher.finalize()), Ok(other.finalize())], [wanted; 2]);
-}
-
-#[test]
-fn roots_by_threads_are_refused() {
-    let long = [0; 17];
-    for threads in [0, 1, 3] {
-        let root = |size, salt, persona, leaf| {
-            tree_root_threads(size, [0; 99], salt, persona, leaf, threads).is_ok()
-        };
-        for size in (0..=70).chain([usize::MAX]) {
-            assert_eq!(root(size, b"", b"", 1), (1..=64).contains(&size));
-        }
-        for length in 0..=17 {
-            assert_eq!(root(64, &long[..length], b"", 1), length <= 16);
-            assert_eq!(root(64, b"", &long[..length], 1), length <= 16);
-        }
-        assert!(!root(64, b"", b"", 0) && root(64, b"", b"", u32::MAX));
-    }
 }
 
 // Where the system starts no thread, since their stacks are too large for it, the caller's thread
@@ -416,12 +506,10 @@ fn no_thread_can_be_started() {
     }
     assert!(std::thread::Builder::new().spawn(|| ()).is_err());
     let message = vec![7; 1 << 22];
-    let wanted = tree_root(&message, b"", b"", 1 << 14);
-    assert_eq!(
-        tree_root_threads(64, &message, b"", b"", 1 << 14, 4),
-        wanted
-    );
-    let mut hasher = TreeHasher::new(b"", b"", 1 << 14).unwrap();
+    let params = TreeParams::new(1 << 14);
+    let wanted = params.root(&message);
+    assert_eq!(params.root_threads(&message, 4), wanted);
+    let mut hasher = params.hasher().unwrap();
     hasher.update_threads(&message, 4);
     assert_eq!(Ok(hasher.finalize()), wanted);
 }

@@ -1,8 +1,12 @@
 /* The names of libb2, for programs that were written for it. Put this folder before the others in
  * which the compiler looks for headers, so that `#include <blake2.h>` finds this file, and link
- * libblake2_c instead of libb2. The functions do what blake2_c.h says of the functions with
+ * libvulfsjor instead of libb2. The functions do what vulfsjor.h says of the functions with
  * vulfsjor_ in front of their names, with one addition: the digest that blake2b, blake2s or blake2
  * writes may overlap the input and the key.
+ *
+ * A state has libb2's fields, size and alignment, and each call copies it. So code that was
+ * compiled with this header, code that was compiled with libb2's own, and the functions of
+ * libvulfsjor-libb2.a may share a state.
  *
  * Stricter than libb2:
  *   - Null pointers: libb2 ends the program for most of them; here the call returns -1. So does an
@@ -11,16 +15,13 @@
  *     on, and returns a digest without meaning. A zeroed state is refused from the first call on.
  *   - init_param returns -1 for a digest of 0 bytes or of more than 64 (BLAKE2s: 32), and for a key
  *     of more than 64 (32). libb2 accepts them.
- *   - A state has other fields and is larger (424 and 232 bytes, not 358 and 182), and its
- *     alignment is 8. Its only field with libb2's name is last_node, a size_t: set it to 1 before
- *     final.
  *
  * Not here: blake2sp, blake2bp, BLAKE2_API, and the tags of libb2's structs. c/LIBB2.md of the
  * repository has the complete list. */
 #ifndef VULFSJOR_LIBB2_BLAKE2_H
 #define VULFSJOR_LIBB2_BLAKE2_H
 
-#include "../blake2_c.h"
+#include "../vulfsjor.h"
 
 enum blake2s_constant {
     BLAKE2S_BLOCKBYTES = 64,
@@ -38,81 +39,101 @@ enum blake2b_constant {
     BLAKE2B_PERSONALBYTES = 16
 };
 
-typedef vulfsjor_blake2b_state blake2b_state;
 typedef vulfsjor_blake2b_param blake2b_param;
-
-static inline int blake2b_init(blake2b_state *S, size_t outlen) {
-    return vulfsjor_blake2b_init(S, outlen);
-}
-
-static inline int blake2b_init_key(blake2b_state *S, size_t outlen, const void *key,
-                                   size_t keylen) {
-    return vulfsjor_blake2b_init_key(S, outlen, key, keylen);
-}
-
-static inline int blake2b_init_param(blake2b_state *S, const blake2b_param *P) {
-    return vulfsjor_blake2b_init_param(S, P);
-}
-
-static inline int blake2b_update(blake2b_state *S, const uint8_t *in, size_t inlen) {
-    return vulfsjor_blake2b_update(S, in, inlen);
-}
-
-/* Writes the digest, as vulfsjor_blake2b_final does, and wipes the state. outlen must be the length
- * of the digest: otherwise it returns -1, and the state is unchanged, as in libb2. */
-static inline int blake2b_final(blake2b_state *S, uint8_t *out, size_t outlen) {
-    if (!S || S->output_size != outlen) return -1;
-    return vulfsjor_blake2b_final(S, out, outlen);
-}
-
-/* Writes the digest of the input to out, as vulfsjor_blake2b does. out may overlap the input and
- * the key. Returns -1 and writes nothing if a length is out of range. */
-static inline int blake2b(uint8_t *out, const void *in, const void *key, size_t outlen,
-                          size_t inlen, size_t keylen) {
-    uint8_t digest[BLAKE2B_OUTBYTES];
-    if (!out || outlen > sizeof digest) return -1;
-    if (vulfsjor_blake2b(digest, outlen, in, inlen, key, keylen)) return -1;
-    memcpy(out, digest, outlen);
-    return 0;
-}
-
-typedef vulfsjor_blake2s_state blake2s_state;
 typedef vulfsjor_blake2s_param blake2s_param;
 
-static inline int blake2s_init(blake2s_state *S, size_t outlen) {
-    return vulfsjor_blake2s_init(S, outlen);
-}
+/* How the functions are declared: libb2/libb2.c of the repository defines them for linking. */
+#ifndef VULFSJOR_LIBB2_FUNCTION
+#define VULFSJOR_LIBB2_FUNCTION static inline
+#endif
 
-static inline int blake2s_init_key(blake2s_state *S, size_t outlen, const void *key,
-                                   size_t keylen) {
-    return vulfsjor_blake2s_init_key(S, outlen, key, keylen);
-}
+/* The functions of one family, named x, with words of this type, and a state of `size` bytes.
+ * libb2's counter has two words, which are one number with the low bytes first; 64 bits are in
+ * use. */
+#define VULFSJOR_LIBB2_FAMILY(x, word, block, longest, size)                                       \
+    typedef struct __attribute__((packed)) x##_state {                                             \
+        word h[8], t[2], f[2];                                                                     \
+        uint8_t buf[2 * block];                                                                    \
+        uint32_t buflen;                                                                           \
+        uint8_t outlen, last_node;                                                                 \
+    } x##_state;                                                                                   \
+    typedef char vulfsjor_libb2_##x##_layout[sizeof(x##_state) == size ? 1 : -1];                  \
+                                                                                                   \
+    /* Makes our state from libb2's, which does not say whether its first block is a key's: ours   \
+     * says so, and a call that compresses that block overwrites its part of the stack. */         \
+    static inline void vulfsjor_libb2_##x##_load(vulfsjor_##x##_state *run, const x##_state *S) {  \
+        memset(run, 0, sizeof *run);                                                               \
+        memcpy(run->chain, S->h, sizeof run->chain);                                               \
+        memcpy(&run->counter, S->t, sizeof run->counter);                                          \
+        memcpy(run->pending, S->buf, sizeof run->pending);                                         \
+        run->pending_length = S->buflen;                                                           \
+        run->start_length = block;                                                                 \
+        run->output_size = S->outlen;                                                              \
+        run->last_node = S->last_node;                                                             \
+    }                                                                                              \
+                                                                                                   \
+    /* Copies our state back, unless a call failed that leaves it unchanged, and wipes ours. */    \
+    static inline int vulfsjor_libb2_##x##_store(x##_state *S, vulfsjor_##x##_state *run,          \
+                                                 int status, int goes_on) {                        \
+        if (!status || !goes_on) {                                                                 \
+            memset(S, 0, sizeof *S);                                                               \
+            memcpy(S->h, run->chain, sizeof run->chain);                                           \
+            memcpy(S->t, &run->counter, sizeof run->counter);                                      \
+            memcpy(S->buf, run->pending, sizeof run->pending);                                     \
+            S->buflen = (uint32_t)run->pending_length;                                             \
+            S->outlen = (uint8_t)run->output_size;                                                 \
+            S->last_node = (uint8_t)run->last_node;                                                \
+        }                                                                                          \
+        vulfsjor_##x##_wipe(run);                                                                  \
+        return status;                                                                             \
+    }                                                                                              \
+                                                                                                   \
+    VULFSJOR_LIBB2_FUNCTION int x##_init(x##_state *S, size_t outlen) {                            \
+        vulfsjor_##x##_state run;                                                                  \
+        if (!S) return -1;                                                                         \
+        return vulfsjor_libb2_##x##_store(S, &run, vulfsjor_##x##_init(&run, outlen), 0);          \
+    }                                                                                              \
+    VULFSJOR_LIBB2_FUNCTION int x##_init_key(x##_state *S, size_t outlen, const void *key,         \
+                                             size_t keylen) {                                      \
+        vulfsjor_##x##_state run;                                                                  \
+        if (!S) return -1;                                                                         \
+        return vulfsjor_libb2_##x##_store(                                                         \
+            S, &run, vulfsjor_##x##_init_key(&run, outlen, key, keylen), 0);                       \
+    }                                                                                              \
+    VULFSJOR_LIBB2_FUNCTION int x##_init_param(x##_state *S, const x##_param *P) {                 \
+        vulfsjor_##x##_state run;                                                                  \
+        if (!S) return -1;                                                                         \
+        return vulfsjor_libb2_##x##_store(S, &run, vulfsjor_##x##_init_param(&run, P), 0);         \
+    }                                                                                              \
+    VULFSJOR_LIBB2_FUNCTION int x##_update(x##_state *S, const uint8_t *in, size_t inlen) {        \
+        vulfsjor_##x##_state run;                                                                  \
+        if (!S) return -1;                                                                         \
+        vulfsjor_libb2_##x##_load(&run, S);                                                        \
+        return vulfsjor_libb2_##x##_store(S, &run, vulfsjor_##x##_update(&run, in, inlen), 1);     \
+    }                                                                                              \
+                                                                                                   \
+    /* Writes the digest and wipes the state. outlen must be the length of the digest: otherwise   \
+     * it returns -1, and the state is unchanged, as in libb2. */                                  \
+    VULFSJOR_LIBB2_FUNCTION int x##_final(x##_state *S, uint8_t *out, size_t outlen) {             \
+        vulfsjor_##x##_state run;                                                                  \
+        if (!S || outlen != S->outlen) return -1;                                                  \
+        vulfsjor_libb2_##x##_load(&run, S);                                                        \
+        return vulfsjor_libb2_##x##_store(S, &run, vulfsjor_##x##_final(&run, out, outlen), 1);    \
+    }                                                                                              \
+                                                                                                   \
+    /* Writes the digest of the input to out, which may overlap the input and the key. Returns -1  \
+     * and writes nothing if a length is out of range. */                                          \
+    VULFSJOR_LIBB2_FUNCTION int x(uint8_t *out, const void *in, const void *key, size_t outlen,    \
+                                  size_t inlen, size_t keylen) {                                   \
+        uint8_t digest[longest];                                                                   \
+        if (!out || outlen > sizeof digest) return -1;                                             \
+        if (vulfsjor_##x(digest, outlen, in, inlen, key, keylen)) return -1;                       \
+        memcpy(out, digest, outlen);                                                               \
+        return 0;                                                                                  \
+    }
 
-static inline int blake2s_init_param(blake2s_state *S, const blake2s_param *P) {
-    return vulfsjor_blake2s_init_param(S, P);
-}
-
-static inline int blake2s_update(blake2s_state *S, const uint8_t *in, size_t inlen) {
-    return vulfsjor_blake2s_update(S, in, inlen);
-}
-
-/* Writes the digest, as vulfsjor_blake2s_final does, and wipes the state. outlen must be the length
- * of the digest: otherwise it returns -1, and the state is unchanged, as in libb2. */
-static inline int blake2s_final(blake2s_state *S, uint8_t *out, size_t outlen) {
-    if (!S || S->output_size != outlen) return -1;
-    return vulfsjor_blake2s_final(S, out, outlen);
-}
-
-/* Writes the digest of the input to out, as vulfsjor_blake2s does. out may overlap the input and
- * the key. Returns -1 and writes nothing if a length is out of range. */
-static inline int blake2s(uint8_t *out, const void *in, const void *key, size_t outlen,
-                          size_t inlen, size_t keylen) {
-    uint8_t digest[BLAKE2S_OUTBYTES];
-    if (!out || outlen > sizeof digest) return -1;
-    if (vulfsjor_blake2s(digest, outlen, in, inlen, key, keylen)) return -1;
-    memcpy(out, digest, outlen);
-    return 0;
-}
+VULFSJOR_LIBB2_FAMILY(blake2b, uint64_t, BLAKE2B_BLOCKBYTES, BLAKE2B_OUTBYTES, 358)
+VULFSJOR_LIBB2_FAMILY(blake2s, uint32_t, BLAKE2S_BLOCKBYTES, BLAKE2S_OUTBYTES, 182)
 
 /* The same as blake2b. */
 static inline int blake2(uint8_t *out, const void *in, const void *key, size_t outlen, size_t inlen,

@@ -1,6 +1,6 @@
 /* Random calls for the programs of this folder: each compares this library with another one, by
  * compare(number), and says how many cases were wrong: PROGRAM CASES. */
-#include <blake2_c.h>
+#include <vulfsjor.h>
 
 #include <stdio.h>
 #include <stdlib.h>

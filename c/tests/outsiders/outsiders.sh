@@ -4,14 +4,12 @@
 #   c/tests/outsiders/outsiders.sh [CASES]
 #
 # CASES are those of each library on each build of dist/ and on the installed choice (20,000). It
-# needs these packages of Debian; a library that is absent is skipped, and a line says so:
+# needs these packages of Debian; a library that is absent is skipped:
 #
 #   libsodium-dev, libgcrypt20-dev, libbotan-2-dev, libssl-dev (of OpenSSL 3)
-#
-# The last line has the counts, and the status is 0 if no test failed.
 set -u
 here=$(dirname "$(readlink -f "$0")")
-source "$here/../../../tools/checks.sh"
+source "$here/../../../tests/tap.sh"
 if [ $# -gt 1 ]; then
     echo "usage: c/tests/outsiders/outsiders.sh [CASES]" >&2
     exit 2
@@ -37,10 +35,10 @@ compare() {
 
 run_calls() {
     cc -std=gnu99 -O2 -Wall -Wextra -Werror -I"$top/c/include" "$here/$1.c" \
-        "$work/$2/libblake2_c.a" "${@:3}" -o "$work/$1" && "$work/$1" "$cases"
+        "$work/$2/libvulfsjor.a" "${@:3}" -o "$work/$1" && "$work/$1" "$cases"
 }
 
-texts=("$top"/dist/x86_64/blake2_c-v[23].s)
+texts=("$top"/dist/x86_64/vulfsjor-v[23].s)
 join=$top/c/join.sh
 "$join" "$work/x86-64-v2" "${texts[0]}" && "$join" "$work/x86-64-v3" "${texts[1]}" &&
     "$join" "$work/chosen" "${texts[@]}" || exit 2

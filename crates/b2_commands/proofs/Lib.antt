@@ -4,7 +4,7 @@ mod Filling
 mod Hashing
 mod LineLemmas
 mod Printing
-mod Rooting
+mod PrintedRoot
 mod ScriptLemmas
 mod Statuses
 mod WordLemmas

@@ -1,7 +1,7 @@
 -- The lines of a script, a line at a time.
 use Rattle.std.proofs.Common.{◌≡◌, ℕ, ◌+◌, List, [], ◌∷◌, ◌++◌, append_assoc, Result, Ok, Err, refl}
 use Rattle.std.proofs.Common.{sym, ap, ◌∙◌}
-use Rattle.blake2_runs.specs.declared.calls.Call.{Call}
+use Rattle.blake2_replay.specs.declared.calls.Call.{Call}
 use Rattle.b2_commands.specs.declared.fault.Fault.{Fault}
 use Rattle.b2_commands.specs.Scripts.{call_at, calls_from}
 use Rattle.b2_commands.specs.Words.{and_then}

@@ -6,11 +6,11 @@ use Rattle.std.specs.List.{flat_map}
 use Rattle.std.specs.Io.KnownBytes.{Appends, Keeps}
 use Rattle.blake2.specs.Play.{Slots, Outcome, after, followed_by, play_call, play_from, play_fresh}
 use Rattle.blake2.specs.Play.{fresh_meaning}
-use Rattle.blake2_runs.specs.declared.calls.Call.{Call}
-use Rattle.blake2_runs.specs.declared.calls.Call.TheVariants.{Update, Clone, Reset, Finalize}
-use Rattle.blake2_runs.specs.declared.calls.Call.TheVariants.{FinalizeReset}
-use Rattle.blake2_runs.specs.declared.calls.ReplayFault.{ReplayFault}
-use Rattle.blake2_runs.specs.declared.calls.ReplayFault.TheVariants.{NoSuchSlot, TooLong, Memory}
+use Rattle.blake2_replay.specs.declared.calls.Call.{Call}
+use Rattle.blake2_replay.specs.declared.calls.Call.TheVariants.{Update, Clone, Reset, Finalize}
+use Rattle.blake2_replay.specs.declared.calls.Call.TheVariants.{FinalizeReset}
+use Rattle.blake2_replay.specs.declared.calls.ReplayFault.{ReplayFault}
+use Rattle.blake2_replay.specs.declared.calls.ReplayFault.TheVariants.{NoSuchSlot, TooLong, Memory}
 use Rattle.blake2.specs.Streams.{line_of}
 use Rattle.b2_commands.specs.declared.fault.Fault.{Fault}
 use Rattle.b2_commands.specs.declared.fault.Fault.TheVariants.{WriteFailed}

@@ -5,12 +5,12 @@ use Rattle.b2_commands.specs.declared.fault.Fault.TheVariants.{WrongLine, NoMemo
 use Rattle.b2_commands.specs.declared.lines.ScriptCall.{ScriptCall}
 use Rattle.b2_commands.specs.declared.lines.ScriptCall.TheVariants as script
 use Rattle.b2_commands.specs.Scripts.{slice_of}
-use Rattle.blake2_runs.specs.declared.calls.Call.{Call}
-use Rattle.blake2_runs.specs.declared.calls.Call.TheVariants.{Update, Clone, Reset, Finalize}
-use Rattle.blake2_runs.specs.declared.calls.Call.TheVariants.{FinalizeReset}
-use Rattle.blake2_runs.specs.declared.calls.ReplayFault.{ReplayFault}
-use Rattle.blake2_runs.specs.declared.calls.ReplayFault.TheVariants.{NoSuchSlot as NoSuchSlotAt}
-use Rattle.blake2_runs.specs.declared.calls.ReplayFault.TheVariants.{TooLong as TooLongAt, Memory}
+use Rattle.blake2_replay.specs.declared.calls.Call.{Call}
+use Rattle.blake2_replay.specs.declared.calls.Call.TheVariants.{Update, Clone, Reset, Finalize}
+use Rattle.blake2_replay.specs.declared.calls.Call.TheVariants.{FinalizeReset}
+use Rattle.blake2_replay.specs.declared.calls.ReplayFault.{ReplayFault}
+use Rattle.blake2_replay.specs.declared.calls.ReplayFault.TheVariants.{NoSuchSlot as NoSuchSlotAt}
+use Rattle.blake2_replay.specs.declared.calls.ReplayFault.TheVariants.{TooLong as TooLongAt, Memory}
 
 -- The call that the program has read.
 abbrev pub call_value : ScriptCall → Call

@@ -7,12 +7,12 @@ use Rattle.std.specs.Option.{option_and_then, option_map}
 use Rattle.std.specs.Result.{result_map_both}
 use Rattle.std.specs.Str.{bytes_eq}
 use Rattle.blake2.specs.Play.{play_fresh}
-use Rattle.blake2_runs.specs.declared.calls.Call.{Call}
-use Rattle.blake2_runs.specs.declared.calls.Call.TheVariants.{Update, Clone, Reset, Finalize}
-use Rattle.blake2_runs.specs.declared.calls.Call.TheVariants.{FinalizeReset}
-use Rattle.blake2_runs.specs.declared.calls.ReplayFault.{ReplayFault}
-use Rattle.blake2_runs.specs.declared.calls.ReplayFault.TheVariants.{NoSuchSlot as NoSuchSlotAt}
-use Rattle.blake2_runs.specs.declared.calls.ReplayFault.TheVariants.{TooLong as TooLongAt, Memory}
+use Rattle.blake2_replay.specs.declared.calls.Call.{Call}
+use Rattle.blake2_replay.specs.declared.calls.Call.TheVariants.{Update, Clone, Reset, Finalize}
+use Rattle.blake2_replay.specs.declared.calls.Call.TheVariants.{FinalizeReset}
+use Rattle.blake2_replay.specs.declared.calls.ReplayFault.{ReplayFault}
+use Rattle.blake2_replay.specs.declared.calls.ReplayFault.TheVariants.{NoSuchSlot as NoSuchSlotAt}
+use Rattle.blake2_replay.specs.declared.calls.ReplayFault.TheVariants.{TooLong as TooLongAt, Memory}
 use Rattle.b2_commands.specs.declared.fault.Fault.{Fault}
 use Rattle.b2_commands.specs.declared.fault.Fault.TheVariants.{WrongLine, NoSuchSlot, LineTooLong}
 use Rattle.b2_commands.specs.declared.fault.Fault.TheVariants.{NoMemory}

@@ -1,5 +1,5 @@
 //! Tests that run the commands over memory. Expected digests are from `hashlib`, and those that
-//! stand for many lines come from `tools/expected_values.py`.
+//! stand for many lines come from `tests/expected_values.py`.
 //!
 //! The checks assert by themselves, with the arguments of the command as message, so that the
 //! tests have no errors to return: each of those would be one more way out of a test to prove.

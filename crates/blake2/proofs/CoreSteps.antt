@@ -2,8 +2,8 @@
 use Rattle.std.proofs.Common.{◌≡◌, ℕ, ◌+◌, ◌*◌, ◌<◌, List, [], ◌∷◌, length, take, get_or, sym, ap}
 use Rattle.std.proofs.Common.{◌∙◌, arith}
 use Rattle.std.proofs.lemmas.List.{take_more}
-use Rattle.blake2_rows.specs.Family.{Family, block_bytes}
-use Rattle.blake2_words.specs.Hash.{Flags, inner, final, padded, compress, chain}
+use Rattle.blake2_simd.specs.Family.{Family, block_bytes}
+use Rattle.blake2_compress.specs.Hash.{Flags, inner, final, padded, compress, chain}
 use Rattle.blake2.specs.Cores.{CoreState, absorbed, completed}
 use Rattle.blake2.specs.CoreLaws.{absorbed-append}
 

@@ -4,10 +4,10 @@ use Rattle.std.proofs.Common.{◌≡◌, ℕ, ◌+◌, ◌-◌, ◌*◌, ◌^◌
 use Rattle.std.proofs.Common.{Bool, Option, Some, None, refl, sym, ap, ◌∙◌, arith, zero-add}
 use Rattle.std.proofs.Common.{append-nil, append_assoc, length-append}
 use Rattle.std.proofs.lemmas.List.{take_all}
-use Rattle.blake2_rows.specs.Family.{Family, blake2b, blake2s, block_bytes, key_bytes}
-use Rattle.blake2_words.specs.Hash.{Tree, final, cut, chain, last_chain, block_count, key_size}
-use Rattle.blake2_words.specs.Hash.{key_block, digest}
-use Rattle.blake2_words.proofs.ByteSizes.{length-padded}
+use Rattle.blake2_simd.specs.Family.{Family, blake2b, blake2s, block_bytes, key_bytes}
+use Rattle.blake2_compress.specs.Hash.{Tree, final, cut, chain, last_chain, block_count, key_size}
+use Rattle.blake2_compress.specs.Hash.{key_block, digest}
+use Rattle.blake2_compress.proofs.ByteSizes.{length-padded}
 use Rattle.blake2_digest.specs.Blocks.{handed_on, held_back}
 use Rattle.blake2_digest.specs.States.{Meaning, Updated, Fresh, NodeSet}
 use Rattle.blake2_digest.proofs.Cutting.{handed_and_held, length-handed_on, length-held_back}

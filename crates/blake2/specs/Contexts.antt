@@ -1,7 +1,7 @@
 -- The states that contexts hold, each with the start block that its holder keeps, and their
 -- meaning.
 use Rattle.std.specs.Prelude.{ℕ, List}
-use Rattle.blake2_rows.specs.Family.{blake2b, blake2s}
+use Rattle.blake2_simd.specs.Family.{blake2b, blake2s}
 use Rattle.blake2.specs.declared.contexts.blake2b.Blake2bContext.{Blake2bContext}
 use Rattle.blake2.specs.declared.contexts.blake2s.Blake2sContext.{Blake2sContext}
 use Rattle.blake2.specs.States.{State, Meaning, meaning_by}

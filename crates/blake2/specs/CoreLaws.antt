@@ -1,9 +1,9 @@
 -- What every block core must guarantee: it absorbs two lists of blocks as it absorbs both joined,
 -- and it counts each block.
 use Rattle.std.proofs.Common.{◌≡◌, ℕ, ◌+◌, ◌*◌, List, [], ◌++◌, length, refl, arith, length-append}
-use Rattle.blake2_rows.specs.Family.{Family, block_bytes}
-use Rattle.blake2_words.specs.Hash.{chain}
-use Rattle.blake2_words.proofs.Streaming.{chain-append}
+use Rattle.blake2_simd.specs.Family.{Family, block_bytes}
+use Rattle.blake2_compress.specs.Hash.{chain}
+use Rattle.blake2_compress.proofs.Streaming.{chain-append}
 use Rattle.blake2.specs.Cores.{CoreState, absorbed}
 
 -- A core absorbs two lists in turn as it absorbs both joined.

@@ -1,8 +1,8 @@
 -- What a block core holds, and how it changes. Section numbers are those of RFC 7693.
 use Rattle.std.specs.Prelude.{ℕ, ◌+◌, ◌*◌, Bool, false, List, length, replicate}
-use Rattle.blake2_rows.specs.Family.{Family, block_bytes}
-use Rattle.blake2_words.specs.Hash.{Parameters, Tree, final, padded, bytes_of, compress, chain}
-use Rattle.blake2_words.specs.Hash.{start}
+use Rattle.blake2_simd.specs.Family.{Family, block_bytes}
+use Rattle.blake2_compress.specs.Hash.{Parameters, Tree, final, padded, bytes_of, compress, chain}
+use Rattle.blake2_compress.specs.Hash.{start}
 
 -- A core: the chaining words h, the words h that it started from (eight words each), the number of
 -- bytes that it has counted since, and the last-node flag (the BLAKE2 document, 2.10).

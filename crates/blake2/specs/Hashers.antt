@@ -1,6 +1,6 @@
 -- The states that hashers and MACs hold, and their meaning.
 use Rattle.std.specs.Prelude.{ℕ, []}
-use Rattle.blake2_rows.specs.Family.{blake2b, blake2s}
+use Rattle.blake2_simd.specs.Family.{blake2b, blake2s}
 use Rattle.blake2_digest.specs.States.{Meaning}
 use Rattle.blake2.specs.declared.hashers.blake2b.Blake2b.{Blake2b}
 use Rattle.blake2.specs.declared.hashers.blake2s.Blake2s.{Blake2s}

@@ -1,6 +1,6 @@
 -- Which keys, salts and personalizations a MAC accepts, and how many bytes a key counts for.
 use Rattle.std.specs.Prelude.{ℕ, ◌≤◌, ⊤, List, length, Option, Some, None}
-use Rattle.blake2_rows.specs.Family.{Family, block_bytes, key_bytes, salt_bytes}
+use Rattle.blake2_simd.specs.Family.{Family, block_bytes, key_bytes, salt_bytes}
 
 -- The number of bytes that a key counts for: a block, or 0 without a key (RFC 7693, 3.3).
 abbrev pub key_count : Family → Option (List ℕ) → ℕ

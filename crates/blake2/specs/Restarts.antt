@@ -1,7 +1,7 @@
 -- A reset satisfies its contract: the digests are those from the start.
 use Rattle.std.specs.Prelude.{◌≡◌, ℕ, Bool, List, length, refl}
 use Rattle.std.proofs.Common.{ap, ◌∙◌, zero-add}
-use Rattle.blake2_rows.specs.Family.{Family}
+use Rattle.blake2_simd.specs.Family.{Family}
 use Rattle.blake2_digest.specs.States.{Meaning, StartedAgain}
 use Rattle.blake2.specs.States.{State, future, started, count, start_count, meaning_by, unflagged}
 use Rattle.blake2.specs.States.{restarted, IsRestarted}

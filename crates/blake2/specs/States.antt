@@ -1,9 +1,9 @@
 -- What the state of a hasher or a MAC means: the digests that it will return.
 use Rattle.std.specs.Prelude.{◌≡◌, ℕ, ◌+◌, Bool, false, List, ◌++◌, length, take, replicate}
 use Rattle.std.specs.Prelude.{Option}
-use Rattle.blake2_rows.specs.Family.{Family}
-use Rattle.blake2_words.specs.Hash.{Flags, final, bytes_of, last_chain, Parameters, key_block}
-use Rattle.blake2_words.specs.Hash.{Input, Tree, digest, sequential}
+use Rattle.blake2_simd.specs.Family.{Family}
+use Rattle.blake2_compress.specs.Hash.{Flags, final, bytes_of, last_chain, Parameters, key_block}
+use Rattle.blake2_compress.specs.Hash.{Input, Tree, digest, sequential}
 use Rattle.blake2.specs.Cores.{CoreState, core_made, core_restarted, core_node_set, core_wiped}
 pub use Rattle.blake2_digest.specs.States.{Fresh, Meaning, NodeSet, digest_after}
 

@@ -35,18 +35,18 @@
 mod contexts;
 mod cores;
 mod hashers;
+pub mod laws;
 mod macs;
 pub mod many;
 pub mod steps;
 #[cfg(test)]
 mod tests;
 
+pub use blake2_compress::params::Tree;
 pub use blake2_digest as digest;
 pub use blake2_digest::{Digest, LastNode};
-pub use blake2_rows::rows;
-pub use blake2_runs::{calls, engine};
-pub use blake2_words::laws;
-pub use blake2_words::params::Tree;
+pub use blake2_replay::{calls, engine};
+pub use blake2_simd::rows;
 pub use cores::blake2b::Blake2bVarCore;
 pub use cores::blake2s::Blake2sVarCore;
 pub use hashers::blake2b::Blake2b;

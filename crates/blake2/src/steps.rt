@@ -4,4 +4,6 @@
 mod blake2b;
 mod blake2s;
 
-pub use blake2_words::steps::{Entry, Input, Reading, Step, Transcript, Tree};
+pub use blake2_compress::inputs::Input;
+pub use blake2_compress::params::Tree;
+pub use blake2_transcript::steps::{Entry, Reading, Step, Transcript};

@@ -9,7 +9,7 @@ use crate::calls::{Call, ReplayFault, replay};
 use crate::digest::{CustomizedInit, Duplicate, FixedOutput, FixedOutputReset, Reset, Update};
 use crate::engine::{SliceSink, SliceSource, StreamFault, hash_stream};
 use crate::{Blake2b, Blake2b128, Blake2b512, Blake2s, Blake2s256, Digest};
-use blake2_words::consts::{BLAKE2B_IV, BLAKE2S_IV};
+use blake2_compress::consts::{BLAKE2B_IV, BLAKE2S_IV};
 use scalar::compress;
 use std::process::Abort;
 

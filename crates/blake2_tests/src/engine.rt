@@ -4,7 +4,7 @@
 ghost use Rattle.std.specs.Prelude.{◌≡◌, ◌+◌, ◌*◌, ◌%◌, ◌^◌, ◌≤◌, false, fold, IfOk};
 ghost use Rattle.std.proofs.Common.{arith};
 ghost use Rattle.std.specs.Int.{to_be_bytes, w32};
-ghost use Rattle.blake2_runs.specs.Streams.{line_of};
+ghost use Rattle.blake2_replay.specs.Streams.{line_of};
 
 use blake2::digest::{FixedOutput, Update};
 use blake2::engine::{

@@ -28,6 +28,11 @@ pub(crate) fn reads(bytes: &[u8], digits: &str) -> bool {
     }
 }
 
+/// Checks that these digits are the bytes, as `reads` returns.
+pub(crate) fn check_digits(rt: &impl Abort, bytes: &[u8], digits: &str) {
+    assert!(rt; reads(bytes, digits), "not {digits}");
+}
+
 /// An input of these parts, of a hash that is the whole tree, with the last-node flag off.
 pub(crate) fn input<'a>(
     key: Option<&'a [u8]>,

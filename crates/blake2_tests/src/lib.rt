@@ -1,7 +1,7 @@
 //! Tests of what has no worked values: the derives of plain values, several messages in parallel,
-//! states of plain numbers, and streams of a small state that only these tests have, over devices
-//! that fail. Digests are those of Python's `hashlib`. `blake2_vectors` has the worked values: two
-//! crates of tests are proved in parallel.
+//! states of plain numbers, streams of a small state that only these tests have, over devices that
+//! fail, and what generic code may promise over the traits. Digests are those of Python's
+//! `hashlib`. `blake2_kat` has the worked values: two crates of tests are proved in parallel.
 
 #![tactic(auto)]
 
@@ -14,4 +14,6 @@ mod inputs;
 #[cfg(test)]
 mod many;
 #[cfg(test)]
-mod plain;
+mod state;
+#[cfg(test)]
+mod traits;

@@ -1,6 +1,6 @@
 -- Four whole leaves in parallel: with more after them, or the last of a message.
 use Rattle.blake2_tree.specs.Nodes.{node_digest, four_digests}
-use Rattle.blake2_words.proofs.Pieces.{piece-zero, piece-more}
+use Rattle.blake2_compress.proofs.Pieces.{piece-zero, piece-more}
 use Rattle.std.proofs.Common.{◌≡◌, ℕ, ◌+◌, ◌-◌, ◌*◌, ◌<◌, ◌≤◌, Bool}
 use Rattle.std.proofs.Common.{false, List, [], ◌++◌, length, take, drop, refl, sym, ap, ◌∙◌}
 use Rattle.std.proofs.Common.{arith, append-nil, length-drop, drop-drop}

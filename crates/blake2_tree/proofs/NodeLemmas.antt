@@ -3,15 +3,15 @@ use Rattle.std.proofs.Common.{◌≡◌, ◌≢◌, ◌↔◌, ℕ, suc, ◌+◌
 use Rattle.std.proofs.Common.{◌++◌, length, refl, sym, ap, ◌∙◌, arith, append-nil}
 use Rattle.std.proofs.Math.Nat.{eq_of_mul-eq-mul_right}
 use Rattle.std.specs.List.{flat_map, range_with_len}
-use Rattle.blake2_rows.specs.Family.{blake2b}
-use Rattle.blake2_words.specs.Hash.{AreBytes, key_block, digest}
-use Rattle.blake2_words.specs.Inputs.{Accepts}
-use Rattle.blake2_words.proofs.RunSizes.{length-digest}
+use Rattle.blake2_simd.specs.Family.{blake2b}
+use Rattle.blake2_compress.specs.Hash.{AreBytes, key_block, digest}
+use Rattle.blake2_compress.specs.Inputs.{Accepts}
+use Rattle.blake2_compress.proofs.RunSizes.{length-digest}
 use Rattle.blake2.specs.declared.hashers.blake2b.Blake2b.{Blake2b}
 use Rattle.blake2_digest.specs.States.{digest_now, Updated, Fresh, NodeSet}
 use Rattle.blake2.specs.Hashers.{blake2b_meaning}
-use Rattle.blake2_words.specs.Witness.{Collide}
-use Rattle.blake2_words.specs.Pieces.{IsFirstDifference}
+use Rattle.blake2_transcript.specs.Witness.{Collide}
+use Rattle.blake2_compress.specs.Pieces.{IsFirstDifference}
 use Rattle.blake2_tree.specs.TreeRoot.{TreeParameters, leaf_count, leaf, node, leaf_input}
 use Rattle.blake2_tree.specs.TreeRoot.{leaf_digests, root_over, root_input, tree_root}
 use Rattle.blake2_tree.specs.TreeWitnesses.{RootsCollide}

@@ -4,8 +4,8 @@ use Rattle.std.proofs.Common.{false, List, [], ◌++◌, length, take, drop, ref
 use Rattle.std.proofs.Common.{arith, length-append}
 use Rattle.std.proofs.lemmas.Bool.{cases_lt, le-leb, lt-leb}
 use Rattle.std.proofs.Math.Seq.{take-append-add, drop-append-add}
-use Rattle.blake2_rows.specs.Family.{blake2b}
-use Rattle.blake2_words.specs.Hash.{digest}
+use Rattle.blake2_simd.specs.Family.{blake2b}
+use Rattle.blake2_compress.specs.Hash.{digest}
 use Rattle.blake2_tree.specs.TreeRoot.{TreeParameters, node}
 use Rattle.blake2_tree.specs.Ranges.{range_digests}
 use Rattle.blake2_tree.specs.OpenTrees.{digests_to_come}

@@ -8,9 +8,9 @@ use Rattle.std.proofs.lemmas.List.{take-append-le, drop-append-le, length-take-l
 use Rattle.std.proofs.Math.Nat.{le-div_iff_mul-le}
 use Rattle.std.proofs.lemmas.Bool.{false≢true}
 use Rattle.std.specs.List.{All, concat}
-use Rattle.blake2_rows.specs.Family.{blake2b}
-use Rattle.blake2_words.specs.Hash.{digest}
-use Rattle.blake2_words.proofs.RunSizes.{length-digest}
+use Rattle.blake2_simd.specs.Family.{blake2b}
+use Rattle.blake2_compress.specs.Hash.{digest}
+use Rattle.blake2_compress.proofs.RunSizes.{length-digest}
 use Rattle.blake2_tree.specs.TreeRoot.{TreeParameters, leaf_count, node, leaf_digests, root_over}
 use Rattle.blake2_tree.specs.TreeRoot.{tree_root}
 use Rattle.blake2_tree.specs.Ranges.{range_leaf, range_digests, AreWhole, IsCut, cut_digests}

@@ -1,5 +1,6 @@
 -- An open tree that absorbs whole leaves by their joined digests, which were computed elsewhere.
-use Rattle.std.specs.Prelude.{◌≡◌, ℕ, ◌+◌, ◌*◌, ◌/◌, ◌%◌, ◌^◌, ◌<◌, ◌⊎◌, false, List, [], ◌++◌, length}
+use Rattle.std.specs.Prelude.{◌≡◌, ℕ, ◌+◌, ◌*◌, ◌/◌, ◌%◌, ◌^◌, ◌<◌, ◌⊎◌, false, List, [], ◌++◌}
+use Rattle.std.specs.Prelude.{length}
 use Rattle.blake2_tree.specs.OpenTrees.{OpenTree, Took, count}
 use Rattle.blake2_tree.specs.Ranges.{IsRange, AreWhole, range_digests}
 

@@ -1,8 +1,8 @@
 -- The nodes of a tree, as the code has them.
 use Rattle.std.specs.Prelude.{◌≡◌, ℕ, ◌+◌, Bool, false, List, [], ◌∷◌}
 use Rattle.blake2_digest.specs.States.{Meaning}
-use Rattle.blake2_rows.specs.Family.{blake2b}
-use Rattle.blake2_words.specs.Hash.{digest}
+use Rattle.blake2_simd.specs.Family.{blake2b}
+use Rattle.blake2_compress.specs.Hash.{digest}
 use Rattle.blake2_tree.specs.declared.nodes.Nodes.{Nodes}
 use Rattle.blake2_tree.specs.TreeRoot.{TreeParameters, leaf, node}
 

@@ -1,10 +1,11 @@
 -- A range of a message's leaves that is hashed separately, and its digests. If a message is cut
 -- into ranges, their digests, joined in order, are those of all its leaves.
-use Rattle.std.specs.Prelude.{◌≡◌, ℕ, ◌+◌, ◌*◌, ◌/◌, ◌%◌, ◌^◌, ◌<◌, ◌≤◌, ◌⊎◌, nat_eq, Bool, true, false}
+use Rattle.std.specs.Prelude.{◌≡◌, ℕ, ◌+◌, ◌*◌, ◌/◌, ◌%◌, ◌^◌, ◌<◌, ◌≤◌, ◌⊎◌, nat_eq, Bool, true}
+use Rattle.std.specs.Prelude.{false}
 use Rattle.std.specs.Prelude.{◌&&◌, List, [], ◌∷◌, ◌++◌, length, take, drop}
 use Rattle.std.specs.List.{All, flat_map, range_with_len, concat}
-use Rattle.blake2_rows.specs.Family.{blake2b}
-use Rattle.blake2_words.specs.Hash.{Input, digest}
+use Rattle.blake2_simd.specs.Family.{blake2b}
+use Rattle.blake2_compress.specs.Hash.{Input, digest}
 use Rattle.blake2_tree.specs.TreeRoot.{TreeParameters, leaf_count, leaf, node, leaf_digests}
 use Rattle.blake2_tree.specs.TreeRoot.{tree_root}
 

@@ -1,10 +1,10 @@
 -- What two different messages with one root lead to.
 use Rattle.std.specs.Prelude.{◌≡◌, ◌≢◌, ℕ, List}
-use Rattle.blake2_rows.specs.Family.{blake2b}
-use Rattle.blake2_words.specs.Hash.{Step}
-use Rattle.blake2_words.specs.Pieces.{IsFirstDifference}
-use Rattle.blake2_words.specs.Views.{step_of}
-use Rattle.blake2_words.specs.Witness.{IsWitness}
+use Rattle.blake2_simd.specs.Family.{blake2b}
+use Rattle.blake2_compress.specs.Hash.{Step}
+use Rattle.blake2_compress.specs.Pieces.{IsFirstDifference}
+use Rattle.blake2_transcript.specs.StepViews.{step_of}
+use Rattle.blake2_transcript.specs.Witness.{IsWitness}
 use Rattle.blake2_tree.specs.declared.witness.TreeWitness.{TreeWitness}
 use Rattle.blake2_tree.specs.declared.witness.TreeWitness.TheVariants.{Root, Leaf}
 use Rattle.blake2_tree.specs.TreeRoot.{TreeParameters, leaf_input, leaf_digests, root_input}

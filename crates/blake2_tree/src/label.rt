@@ -1,7 +1,7 @@
 //! A salt or a persona that is kept.
 
 ghost use Rattle.std.specs.Prelude.{◌≡◌, ℕ, ◌≤◌, List, length, take};
-ghost use Rattle.blake2_words.specs.Hash.{AreBytes};
+ghost use Rattle.blake2_compress.specs.Hash.{AreBytes};
 
 use crate::limits::LABEL_BYTES;
 use blake2_digest::padded;

@@ -3,9 +3,9 @@
 ghost use Rattle.std.specs.Prelude.{◌≡◌, ◌+◌, ◌*◌, ◌^◌, ◌<◌, ◌≤◌, length, IfOk, true};
 ghost use Rattle.blake2.specs.Hashers.{blake2b_meaning};
 ghost use Rattle.blake2_digest.specs.States.{Fresh};
-ghost use Rattle.blake2_rows.specs.Family.{blake2b};
-ghost use Rattle.blake2_words.specs.Inputs.{Accepts};
-ghost use Rattle.blake2_words.specs.Views.{tree_of, input_of};
+ghost use Rattle.blake2_simd.specs.Family.{blake2b};
+ghost use Rattle.blake2_compress.specs.Inputs.{Accepts};
+ghost use Rattle.blake2_compress.specs.Views.{tree_of, input_of};
 ghost use Rattle.blake2_tree.specs.TreeRoot.{place, node, leaf_count, leaf_digests, leaf_input};
 ghost use Rattle.blake2_tree.specs.TreeRoot.{root_over, tree_parameters};
 ghost use Rattle.blake2_tree.specs.Ranges.{IsRange, range_digests, with_part};

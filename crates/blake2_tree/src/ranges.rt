@@ -3,8 +3,8 @@
 //! change only the changed leaf is hashed.
 
 ghost use Rattle.std.specs.Prelude.{◌≡◌, ◌*◌, ◌^◌, ◌<◌, ◌≤◌, ◌↔◌, length, IsTrue};
-ghost use Rattle.blake2_rows.specs.Family.{blake2b};
-ghost use Rattle.blake2_words.specs.Hash.{digest};
+ghost use Rattle.blake2_simd.specs.Family.{blake2b};
+ghost use Rattle.blake2_compress.specs.Hash.{digest};
 ghost use Rattle.blake2_tree.specs.TreeRoot.{leaf_count, root_over, tree_parameters};
 ghost use Rattle.blake2_tree.specs.Ranges.{IsRange, range_digests, ArePartOfAll};
 ghost use Rattle.blake2_tree.specs.Ranges.{IsRootOfCuts, IsRootOfChanges};

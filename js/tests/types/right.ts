@@ -16,7 +16,7 @@ const isSame: boolean = equal(digest, fromHex(hex(digest))) && copy.verify(utf8(
 const roots: Uint8Array[] = [
   treeRoot(digest, { leafLength: 5 }), new TreeHash({ leafLength: 5 }).digest(),
 ];
-const many: Uint8Array[] = blake2bMany(new Set<Bytes>([digest]));
+const many: Uint8Array[] = blake2bMany(new Set<Bytes>([digest, new SharedArrayBuffer(3)]));
 async function all(file: Blob, signal: AbortSignal): Promise<Uint8Array[]> {
   await load();
   return [
@@ -29,6 +29,17 @@ async function all(file: Blob, signal: AbortSignal): Promise<Uint8Array[]> {
   ];
 }
 console.log(isSame, roots, many, all, new Blake2b()[Symbol.dispose]);
+
+// a source and a signal of a browser
+declare const fetched: Response, file: File, strings: ReadableStream<string>;
+if (fetched.body) blake2bStream(fetched.body, { signal: new AbortController().signal });
+blake2bStream(file.stream());
+// @ts-expect-error a stream of strings
+blake2bStream(strings);
+// @ts-expect-error bytes are no source
+blake2bStream(digest);
+// @ts-expect-error a signal, and not its controller
+blake2bStream(file, { signal: new AbortController() });
 
 // @ts-expect-error a string is not bytes
 blake2b("abc");

@@ -1,5 +1,5 @@
 //! Inputs of more than a MiB, and scripts of ten thousand lines. The lines and digests over the
-//! input come from `tools/expected_values.py`, under `large`.
+//! input come from `tests/expected_values.py`, under `large`.
 
 use super::script::check_wrong;
 use super::{check_command, is_digest_of, output_of, text_of};

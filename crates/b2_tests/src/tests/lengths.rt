@@ -1,6 +1,6 @@
 //! Inputs that end near the ends of pieces of 4,096 bytes, and keys, salts and personas that are
 //! absent, of one byte and of the maximum length. The digests come from
-//! `tools/expected_values.py`, under `texts` and `options`.
+//! `tests/expected_values.py`, under `texts` and `options`.
 
 use super::{add_output, is_digest_of, text_of};
 use std::alloc::{AllocError, Global};

@@ -2,7 +2,7 @@
 
 ghost use Rattle.std.specs.Prelude.{◌≡◌, ℕ, ◌+◌, ◌-◌, ◌*◌, ◌^◌, ◌<◌, ◌≤◌, List, [], length, take};
 ghost use Rattle.std.specs.Prelude.{replicate};
-ghost use Rattle.blake2_rows.specs.Family.{blake2b};
+ghost use Rattle.blake2_simd.specs.Family.{blake2b};
 ghost use Rattle.blake2_digest.specs.Blocks.{chunk_count};
 ghost use Rattle.blake2.specs.Cores.{completed, last_output, core_restarted, core_node_set};
 ghost use Rattle.blake2.specs.Cores.{core_wiped};

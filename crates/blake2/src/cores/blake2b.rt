@@ -2,21 +2,21 @@
 
 ghost use Rattle.std.specs.Prelude.{◌≡◌, ⊤, ℕ, ◌+◌, ◌^◌, ◌<◌, ◌≤◌, ◌↔◌, false, List, [], ◌∷◌};
 ghost use Rattle.std.specs.Prelude.{length, IfOk, IsErr, IsTrue};
-ghost use Rattle.blake2_rows.specs.Family.{blake2b};
-ghost use Rattle.blake2_words.specs.Hash.{AdmitsTree, parameters_of};
-ghost use Rattle.blake2_words.specs.Views.{tree_of};
+ghost use Rattle.blake2_simd.specs.Family.{blake2b};
+ghost use Rattle.blake2_compress.specs.Hash.{AdmitsTree, parameters_of};
+ghost use Rattle.blake2_compress.specs.Views.{tree_of};
 ghost use Rattle.blake2.specs.Cores.{CoreState, absorbed, completed, last_output, core_made};
 ghost use Rattle.blake2.specs.Cores.{node_parameters, core_restarted, core_node_set, core_wiped};
 ghost use Rattle.blake2.specs.CoreLaws.{absorbed-append, absorbed-nil, count-absorbed};
 
+use blake2_compress::params::{Parameters, Tree, blake2b as params};
+use blake2_compress::words::{Flags, blake2b as words};
 use blake2_digest::{
     AlgorithmName, BlockSizeUser, BufferKindUser, Duplicate, HashMarker, InvalidOutputSize,
     LastNode, Lazy, LazyBuffer, OutputSizeUser, Reset, TruncSide, UpdateCore, VariableOutputCore,
     VariableOutputCoreCustomized, Wipe, ZeroizeOnDrop,
 };
-use blake2_rows::rows::u64x4;
-use blake2_words::params::{Parameters, Tree, blake2b as params};
-use blake2_words::words::{Flags, blake2b as words};
+use blake2_simd::rows::u64x4;
 use std::alloc::AllocError;
 use std::fmt::Write;
 use std::marker::Model;
@@ -34,7 +34,7 @@ pub struct Blake2bVarCore {
 }
 
 impl Model for Blake2bVarCore {
-    ghost use Rattle.blake2_rows.specs.Rows.{eight};
+    ghost use Rattle.blake2_simd.specs.Rows.{eight};
     ghost use Rattle.blake2.specs.Cores.{CoreState};
 
     ghost Value = { CoreState };

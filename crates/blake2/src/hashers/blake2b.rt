@@ -2,18 +2,18 @@
 
 ghost use Rattle.std.specs.Prelude.{◌≡◌, ⊤, ◌≤◌, [], length, None};
 ghost use Rattle.std.proofs.Common.{arith};
-ghost use Rattle.blake2_rows.specs.Family.{blake2b};
-ghost use Rattle.blake2_words.specs.Hash.{AdmitsTree, sequential};
-ghost use Rattle.blake2_words.specs.Views.{tree_of};
+ghost use Rattle.blake2_simd.specs.Family.{blake2b};
+ghost use Rattle.blake2_compress.specs.Hash.{AdmitsTree, sequential};
+ghost use Rattle.blake2_compress.specs.Views.{tree_of};
 ghost use Rattle.blake2.specs.States.{node_digest_of};
 
 use crate::contexts::blake2b::Blake2bContext;
 use crate::cores::blake2b::Blake2bVarCore;
+use blake2_compress::params::Tree;
 use blake2_digest::{
     BlockSizeUser, CustomizedInit, Digest, Duplicate, FixedOutput, FixedOutputReset, HashMarker,
     LastNode, LazyBuffer, OutputSizeUser, Reset, TreeNode, Update, Wipe, ZeroizeOnDrop,
 };
-use blake2_words::params::Tree;
 use std::alloc::AllocError;
 
 /// BLAKE2b with digests of `N` bytes, at most 64, as the unkeyed hash function.

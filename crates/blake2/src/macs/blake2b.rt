@@ -3,9 +3,9 @@
 ghost use Rattle.std.specs.Prelude.{◌≡◌, ⊤, ℕ, ◌+◌, ◌-◌, ◌*◌, ◌^◌, ◌<◌, ◌≤◌, ◌↔◌, ◌⊎◌, List, []};
 ghost use Rattle.std.specs.Prelude.{length, false, None, Some, IfOk, IsErr};
 ghost use Rattle.std.proofs.Common.{arith};
-ghost use Rattle.blake2_rows.specs.Family.{blake2b};
-ghost use Rattle.blake2_words.specs.Hash.{sequential};
-ghost use Rattle.blake2_words.specs.Views.{key_of};
+ghost use Rattle.blake2_simd.specs.Family.{blake2b};
+ghost use Rattle.blake2_compress.specs.Hash.{sequential};
+ghost use Rattle.blake2_compress.specs.Views.{key_of};
 ghost use Rattle.blake2.specs.Keys.{key_count, IsRefused};
 ghost use Rattle.blake2.specs.States.{node_digest_of};
 

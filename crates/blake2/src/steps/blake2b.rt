@@ -1,17 +1,19 @@
 //! The steps of BLAKE2b.
 
 ghost use Rattle.std.specs.Prelude.{◌≡◌, ◌≤◌, ◌↔◌, map, IsTrue, IsOk, IsSome, IfOk, IfErr, IfSome};
-ghost use Rattle.blake2_rows.specs.Family.{blake2b};
-ghost use Rattle.blake2_words.specs.Hash.{steps};
-ghost use Rattle.blake2_words.specs.Inputs.{Accepts};
-ghost use Rattle.blake2_words.specs.Transcript.{entry, IsOfSomeInput, IsTranscript, ReadsOnly};
-ghost use Rattle.blake2_words.specs.Views.{input_of, entries_of, reading_of, step_of};
-ghost use Rattle.blake2_words.specs.Witness.{Collide, IsWitness};
+ghost use Rattle.blake2_simd.specs.Family.{blake2b};
+ghost use Rattle.blake2_compress.specs.Hash.{steps};
+ghost use Rattle.blake2_compress.specs.Inputs.{Accepts};
+ghost use Rattle.blake2_transcript.specs.Transcript.{entry, IsOfSomeInput, IsTranscript, ReadsOnly};
+ghost use Rattle.blake2_compress.specs.Views.{input_of};
+ghost use Rattle.blake2_transcript.specs.StepViews.{entries_of, reading_of, step_of};
+ghost use Rattle.blake2_transcript.specs.Witness.{Collide, IsWitness};
 
 use super::{Input, Reading, Step, Transcript};
 use crate::cores::blake2b::Blake2bVarCore;
-use blake2_words::compare::blake2b as compare;
-use blake2_words::steps::blake2b as run;
+use blake2_compress::inputs::blake2b as inputs;
+use blake2_transcript::compare::blake2b as compare;
+use blake2_transcript::steps::blake2b as run;
 use std::alloc::{AllocError, Global};
 
 impl Blake2bVarCore {
@@ -22,7 +24,7 @@ impl Blake2bVarCore {
     pub fn accepts(input: &Input<'_>) -> bool
         ensures { IsTrue result ↔ Accepts blake2b (input_of input.now) }
     {
-        run::accepts(input)
+        inputs::accepts(input)
     }
 
     /// Returns the transcript of an input at a digest of `output_size` bytes, at most 64: the

@@ -1,17 +1,19 @@
 //! The steps of BLAKE2s.
 
 ghost use Rattle.std.specs.Prelude.{◌≡◌, ◌≤◌, ◌↔◌, map, IsTrue, IsOk, IsSome, IfOk, IfErr, IfSome};
-ghost use Rattle.blake2_rows.specs.Family.{blake2s};
-ghost use Rattle.blake2_words.specs.Hash.{steps};
-ghost use Rattle.blake2_words.specs.Inputs.{Accepts};
-ghost use Rattle.blake2_words.specs.Transcript.{entry, IsOfSomeInput, IsTranscript, ReadsOnly};
-ghost use Rattle.blake2_words.specs.Views.{input_of, entries_of, reading_of, step_of};
-ghost use Rattle.blake2_words.specs.Witness.{Collide, IsWitness};
+ghost use Rattle.blake2_simd.specs.Family.{blake2s};
+ghost use Rattle.blake2_compress.specs.Hash.{steps};
+ghost use Rattle.blake2_compress.specs.Inputs.{Accepts};
+ghost use Rattle.blake2_transcript.specs.Transcript.{entry, IsOfSomeInput, IsTranscript, ReadsOnly};
+ghost use Rattle.blake2_compress.specs.Views.{input_of};
+ghost use Rattle.blake2_transcript.specs.StepViews.{entries_of, reading_of, step_of};
+ghost use Rattle.blake2_transcript.specs.Witness.{Collide, IsWitness};
 
 use super::{Input, Reading, Step, Transcript};
 use crate::cores::blake2s::Blake2sVarCore;
-use blake2_words::compare::blake2s as compare;
-use blake2_words::steps::blake2s as run;
+use blake2_compress::inputs::blake2s as inputs;
+use blake2_transcript::compare::blake2s as compare;
+use blake2_transcript::steps::blake2s as run;
 use std::alloc::{AllocError, Global};
 
 impl Blake2sVarCore {
@@ -22,7 +24,7 @@ impl Blake2sVarCore {
     pub fn accepts(input: &Input<'_>) -> bool
         ensures { IsTrue result ↔ Accepts blake2s (input_of input.now) }
     {
-        run::accepts(input)
+        inputs::accepts(input)
     }
 
     /// Returns the transcript of an input at a digest of `output_size` bytes, at most 32: the

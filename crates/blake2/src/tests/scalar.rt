@@ -1,7 +1,7 @@
 //! BLAKE2s over plain words, as RFC 7693, 3.1 and 3.2, writes it: for digests that no caller
 //! reaches in a test's time.
 
-use blake2_words::consts::{BLAKE2S_IV, SIGMA};
+use blake2_compress::consts::{BLAKE2S_IV, SIGMA};
 
 // G: mixes four words with two of the block (3.1).
 fn mix(a: u32, b: u32, c: u32, d: u32, x: u32, y: u32) -> [u32; 4] {

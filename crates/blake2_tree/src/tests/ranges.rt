@@ -54,7 +54,7 @@ fn check_ranges(rt: &impl Abort, leaf_length: u32, wanted: [u128; 2])
     check_digest(rt, &all.finalize(), &wanted);
 }
 
-// The expected digests are those of `tools/expected_values.py`, under `ranges`, for each length of
+// The expected digests are those of `tests/expected_values.py`, under `ranges`, for each length of
 // a leaf.
 #[test]
 fn digests_of_ranges(rt: HostRuntime) {

@@ -1,5 +1,5 @@
 //! Roots of `tree_root` and `TreeHasher`. The values in hexadecimal are those of `hashlib`, as
-//! `tools/expected_values.py` prints them.
+//! `tests/expected_values.py` prints them.
 
 ghost use Rattle.std.specs.Prelude.{◌≡◌, ◌≤◌, length};
 
@@ -150,7 +150,7 @@ fn check_roots(rt: &impl Abort, leaf_length: u32, wanted: [u128; 2])
     check_digest(rt, &roots.finalize(), &wanted);
 }
 
-// The expected digests are those of `tools/expected_values.py`, under `trees`, for each length of
+// The expected digests are those of `tests/expected_values.py`, under `trees`, for each length of
 // a leaf.
 #[test]
 fn roots_around_each_number_of_leaves(rt: HostRuntime) {

@@ -1,4 +1,5 @@
-use Rattle.std.proofs.Common.{◌≡◌, ◌≤◌, ◌⊎◌, ℕ, ◌+◌, ◌-◌, ◌*◌, ◌/◌, ◌%◌, ◌<◌, max, inr, rules, arith}
+use Rattle.std.proofs.Common.{◌≡◌, ◌≤◌, ◌⊎◌, ℕ, ◌+◌, ◌-◌, ◌*◌, ◌/◌, ◌%◌, ◌<◌, max, inr, rules}
+use Rattle.std.proofs.Common.{arith}
 use Rattle.blake2_tree.proofs.PieceLengths.{piece-usual, piece-longest, piece-exact}
 use Rattle.blake2_tree.proofs.limits.best_piece_length.Goals as goal
 

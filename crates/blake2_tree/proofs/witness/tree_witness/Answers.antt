@@ -1,5 +1,5 @@
 use Rattle.std.proofs.Common.{◌≡◌, ◌≢◌, ◌<◌, length, rules, arith, IsSome}
-use Rattle.blake2_words.specs.Views.{input_of}
+use Rattle.blake2_compress.specs.Views.{input_of}
 use Rattle.blake2_tree.specs.TreeRoot.{leaf_count, leaf_digests, leaf_input, root_input}
 use Rattle.blake2_tree.specs.TreeRoot.{tree_parameters}
 use Rattle.blake2_tree.proofs.NodeLemmas.{leaf_count-same, RootsCollide-root, Collide-leaf}

@@ -1,6 +1,6 @@
 use Rattle.std.proofs.Common.{◌∙◌, take, length, sym, ap, subst, rules}
 use Rattle.blake2_digest.proofs.Texts.{take-padded}
-use Rattle.blake2_words.specs.Hash.{AreBytes}
+use Rattle.blake2_compress.specs.Hash.{AreBytes}
 use Rattle.blake2_tree.proofs.label.Label.new.Goals as goal
 
 pub invariant_of-result : goal.invariant_of-result

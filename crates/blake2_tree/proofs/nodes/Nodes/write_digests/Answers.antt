@@ -4,7 +4,8 @@ use Rattle.std.specs.List.{concat}
 use Rattle.blake2_tree.specs.Ranges.{range_digests}
 use Rattle.blake2_tree.specs.Nodes.{shared_parameters, four_digests}
 use Rattle.blake2_tree.proofs.FourLeaves.{range_digests-four}
-use Rattle.blake2_tree.proofs.RangeWrites.{room-left, place-left, written-more, room-many, place-fits}
+use Rattle.blake2_tree.proofs.RangeWrites.{room-left, place-left, written-more, room-many}
+use Rattle.blake2_tree.proofs.RangeWrites.{place-fits}
 use Rattle.blake2_tree.proofs.nodes.Nodes.write_digests.Goals as goal
 
 pub write_at-requires : goal.write_at-requires

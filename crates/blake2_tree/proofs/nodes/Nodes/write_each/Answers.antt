@@ -1,4 +1,5 @@
-use Rattle.std.proofs.Common.{◌≡◌, ℕ, ◌+◌, ◌*◌, ◌<◌, ◌≤◌, ◌++◌, List, length, take, drop, Bool, false}
+use Rattle.std.proofs.Common.{◌≡◌, ℕ, ◌+◌, ◌*◌, ◌<◌, ◌≤◌, ◌++◌, List, length, take, drop, Bool}
+use Rattle.std.proofs.Common.{false}
 use Rattle.std.proofs.Common.{sym, ap, ◌∙◌, rules, arith}
 use Rattle.blake2_tree.specs.Ranges.{range_digests, with_part}
 use Rattle.blake2_tree.specs.Nodes.{shared_parameters, node_digest}

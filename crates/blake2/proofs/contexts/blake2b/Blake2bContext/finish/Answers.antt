@@ -1,5 +1,5 @@
 use Rattle.std.proofs.Common.{◌∙◌}
-use Rattle.blake2_rows.specs.Family.{blake2b}
+use Rattle.blake2_simd.specs.Family.{blake2b}
 use Rattle.blake2.specs.Contexts.{blake2b_context_state}
 use Rattle.blake2.proofs.StateLaws.{future-nothing}
 use Rattle.blake2.proofs.contexts.blake2b.Blake2bContext.finish.Goals as goal

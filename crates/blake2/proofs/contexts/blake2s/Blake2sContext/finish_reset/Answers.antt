@@ -1,5 +1,5 @@
 use Rattle.std.proofs.Common.{◌∙◌}
-use Rattle.blake2_rows.specs.Family.{blake2s}
+use Rattle.blake2_simd.specs.Family.{blake2s}
 use Rattle.blake2.specs.Contexts.{blake2s_context_state}
 use Rattle.blake2.proofs.StateLaws.{future-nothing}
 use Rattle.blake2.proofs.contexts.blake2s.Blake2sContext.finish_reset.Goals as goal

@@ -1,6 +1,6 @@
 use Rattle.std.proofs.Common.{[], get_or, sym, ap, ◌∙◌, arith}
-use Rattle.blake2_rows.specs.Family.{blake2b}
-use Rattle.blake2_rows.specs.Rows.{eight}
+use Rattle.blake2_simd.specs.Family.{blake2b}
+use Rattle.blake2_simd.specs.Rows.{eight}
 use Rattle.blake2.specs.CoreLaws.{absorbed-nil}
 use Rattle.blake2.specs.Cores.{CoreState}
 use Rattle.blake2.proofs.CoreSteps.{absorbed-one, absorbed-next}

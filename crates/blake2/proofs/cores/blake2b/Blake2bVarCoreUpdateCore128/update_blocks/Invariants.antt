@@ -1,6 +1,6 @@
 use Rattle.std.proofs.Common.{◌≡◌, ◌+◌, ◌*◌, take}
-use Rattle.blake2_rows.specs.Family.{blake2b}
-use Rattle.blake2_rows.specs.Rows.{eight}
+use Rattle.blake2_simd.specs.Family.{blake2b}
+use Rattle.blake2_simd.specs.Rows.{eight}
 use Rattle.blake2.specs.Cores.{CoreState, absorbed}
 use Rattle.blake2.proofs.cores.blake2b.Blake2bVarCoreUpdateCore128.update_blocks.Given as goal
 

@@ -1,6 +1,6 @@
 use Rattle.std.proofs.Common.{◌≡◌, ◌+◌, ◌*◌, take}
-use Rattle.blake2_rows.specs.Family.{blake2s}
-use Rattle.blake2_rows.specs.Rows.{eight}
+use Rattle.blake2_simd.specs.Family.{blake2s}
+use Rattle.blake2_simd.specs.Rows.{eight}
 use Rattle.blake2.specs.Cores.{CoreState, absorbed}
 use Rattle.blake2.proofs.cores.blake2s.Blake2sVarCoreUpdateCore64.update_blocks.Given as goal
 

@@ -1,7 +1,7 @@
 use Rattle.std.proofs.Common.{ap, ◌∙◌}
-use Rattle.blake2_rows.specs.Family.{blake2s}
-use Rattle.blake2_rows.specs.Rows.{eight}
-use Rattle.blake2_words.specs.Hash.{bytes_of}
+use Rattle.blake2_simd.specs.Family.{blake2s}
+use Rattle.blake2_simd.specs.Rows.{eight}
+use Rattle.blake2_compress.specs.Hash.{bytes_of}
 use Rattle.blake2.specs.Cores.{CoreState, completed}
 use Rattle.blake2.proofs.CoreSteps.{completed-by}
 use Rattle.blake2.proofs.cores.blake2s.Blake2sVarCoreVariableOutputCore6432.finalize_variable_core.Goals as goal

@@ -1,7 +1,7 @@
 use Rattle.std.proofs.Common.{[], None, refl, ◌∙◌}
-use Rattle.blake2_rows.specs.Family.{blake2b}
-use Rattle.blake2_words.specs.Hash.{key_block}
-use Rattle.blake2_words.specs.Views.{tree_of}
+use Rattle.blake2_simd.specs.Family.{blake2b}
+use Rattle.blake2_compress.specs.Hash.{key_block}
+use Rattle.blake2_compress.specs.Views.{tree_of}
 use Rattle.blake2.specs.Hashers.{blake2b_state}
 use Rattle.blake2.proofs.StateLaws.{Fresh_by}
 use Rattle.blake2.proofs.hashers.blake2b.Blake2b.new_with_tree.Goals as goal

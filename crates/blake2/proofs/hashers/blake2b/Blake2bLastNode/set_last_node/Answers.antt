@@ -1,5 +1,5 @@
 use Rattle.std.proofs.Common.{[]}
-use Rattle.blake2_rows.specs.Family.{blake2b}
+use Rattle.blake2_simd.specs.Family.{blake2b}
 use Rattle.blake2.specs.Hashers.{blake2b_state}
 use Rattle.blake2.proofs.StateLaws.{NodeSet_by}
 use Rattle.blake2.proofs.hashers.blake2b.Blake2bLastNode.set_last_node.Goals as goal

@@ -1,5 +1,5 @@
 use Rattle.std.proofs.Common.{[]}
-use Rattle.blake2_rows.specs.Family.{blake2s}
+use Rattle.blake2_simd.specs.Family.{blake2s}
 use Rattle.blake2.specs.Hashers.{blake2s_state}
 use Rattle.blake2.proofs.StateLaws.{NodeSet_by}
 use Rattle.blake2.proofs.hashers.blake2s.Blake2sLastNode.set_last_node.Goals as goal

@@ -1,6 +1,6 @@
 use Rattle.std.proofs.Common.{◌≡◌, Some, ◌∙◌}
-use Rattle.blake2_rows.specs.Family.{blake2b}
-use Rattle.blake2_words.specs.Hash.{key_block, sequential}
+use Rattle.blake2_simd.specs.Family.{blake2b}
+use Rattle.blake2_compress.specs.Hash.{key_block, sequential}
 use Rattle.blake2.specs.Hashers.{blake2b_mac_state}
 use Rattle.blake2.proofs.StateLaws.{Fresh_by, Fresh_unflagged, length-key_block_some}
 use Rattle.blake2.proofs.macs.blake2b.Blake2bMac.under_key.Goals as goal

@@ -1,6 +1,6 @@
 use Rattle.std.proofs.Common.{◌≡◌, Some, ◌∙◌}
-use Rattle.blake2_rows.specs.Family.{blake2s}
-use Rattle.blake2_words.specs.Hash.{key_block, sequential}
+use Rattle.blake2_simd.specs.Family.{blake2s}
+use Rattle.blake2_compress.specs.Hash.{key_block, sequential}
 use Rattle.blake2.specs.Hashers.{blake2s_mac_state}
 use Rattle.blake2.proofs.StateLaws.{Fresh_by, Fresh_unflagged, length-key_block_some}
 use Rattle.blake2.proofs.macs.blake2s.Blake2sMac.under_key.Goals as goal

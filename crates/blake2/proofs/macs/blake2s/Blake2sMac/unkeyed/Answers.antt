@@ -1,6 +1,6 @@
 use Rattle.std.proofs.Common.{None, refl, ◌∙◌}
-use Rattle.blake2_rows.specs.Family.{blake2s}
-use Rattle.blake2_words.specs.Hash.{key_block, sequential}
+use Rattle.blake2_simd.specs.Family.{blake2s}
+use Rattle.blake2_compress.specs.Hash.{key_block, sequential}
 use Rattle.blake2.specs.Hashers.{blake2s_mac_state}
 use Rattle.blake2.proofs.StateLaws.{Fresh_by, Fresh_unflagged}
 use Rattle.blake2.proofs.macs.blake2s.Blake2sMac.unkeyed.Goals as goal

@@ -1,0 +1,947 @@
+/* BLAKE2b and BLAKE2s (RFC 7693): hashes, message authentication codes and trees of hashes. For C99
+ * and later, and for C++11 and later.
+ *
+ *     unsigned char digest[32];
+ *     vulfsjor_blake2b_state state;
+ *     if (vulfsjor_blake2b_init(&state, sizeof digest)) abort();
+ *     if (vulfsjor_blake2b_update(&state, "hello ", 6)) abort();
+ *     if (vulfsjor_blake2b_update(&state, "world", 5)) abort();
+ *     if (vulfsjor_blake2b_final(&state, digest, sizeof digest)) abort();
+ *
+ * Call the functions vulfsjor_blake2b* and the like. They are inline: each checks for null pointers
+ * and then makes one call of a function vulfsjor_ffi_* of the library. The functions vulfsjor_ffi_*
+ * are proved to do what this file says, provided that the caller meets the preconditions. The inline
+ * functions are tested, not proved. Other languages call vulfsjor_ffi_* directly.
+ *
+ * Lengths are in bytes. A pointer may be null if its length is 0.
+ *
+ * Return value: 0, or -1 if the call fails. The comment of each function says when it fails. The
+ * last part of this file lists what -1 can mean, call by call, and has functions that return which
+ * argument was refused. Every function with a status also returns -1 if a pointer to a state, an
+ * output, a parameter block or tree parameters is null, or if any other pointer is null and its
+ * length is not 0. A call that fails writes nothing and leaves the state unchanged, with two
+ * exceptions:
+ *   - An init that fails sets the state to zero.
+ *   - verify returns -1 for a wrong tag, and then wipes the state too.
+ *
+ * A state is ready after an init that returned 0, until final, verify or wipe sets it to zero.
+ * Calls with a status return -1 for a state that is not ready, except the inits.
+ *
+ * Preconditions, which no call can check: each pointer points to memory of at least the length that
+ * is passed with it. The memory that a call writes (the state, the output) overlaps no other
+ * argument.
+ *
+ * Memory and threads: no function allocates or frees memory, takes a lock, or keeps a pointer after
+ * it returns. Threads may call at the same time, each with its own states. Several threads may use
+ * one state at the same time only in functions that accept a pointer to const.
+ *
+ * Secrets: final and verify wipe the state. A call that is passed a key, or that compresses the
+ * key's block (the first update, or a final or verify of an empty message), overwrites its part of
+ * the stack before it returns. Registers are not wiped. docs/WIPING.md says what was found and
+ * tested. */
+#ifndef VULFSJOR_H
+#define VULFSJOR_H
+
+#include <stddef.h>
+#include <stdint.h>
+#include <string.h>
+
+#ifdef __cplusplus
+extern "C" {
+#endif
+
+/* The version of this header: as a string, as three numbers, and as the number that
+ * vulfsjor_version returns for the library. That number is 65,536 times the first, plus 256 times
+ * the second, plus the third. */
+#define VULFSJOR_VERSION "0.1.0"
+#define VULFSJOR_VERSION_MAJOR 0
+#define VULFSJOR_VERSION_MINOR 1
+#define VULFSJOR_VERSION_PATCH 0
+#define VULFSJOR_VERSION_NUMBER 0x000100
+
+/* For functions whose failure would otherwise go unnoticed. init, reset and set_last_node are not
+ * marked: if they fail, every later call on the state fails too. */
+#if defined(__GNUC__)
+#define VULFSJOR_MUST_USE __attribute__((warn_unused_result))
+#else
+#define VULFSJOR_MUST_USE
+#endif
+
+/* Lengths in bytes: of a block, of the longest digest and key, and of the longest salt and
+ * personalization. */
+enum {
+    VULFSJOR_BLAKE2B_BLOCKBYTES = 128,
+    VULFSJOR_BLAKE2B_OUTBYTES = 64,
+    VULFSJOR_BLAKE2B_KEYBYTES = 64,
+    VULFSJOR_BLAKE2B_SALTBYTES = 16,
+    VULFSJOR_BLAKE2B_PERSONALBYTES = 16,
+    VULFSJOR_BLAKE2S_BLOCKBYTES = 64,
+    VULFSJOR_BLAKE2S_OUTBYTES = 32,
+    VULFSJOR_BLAKE2S_KEYBYTES = 32,
+    VULFSJOR_BLAKE2S_SALTBYTES = 8,
+    VULFSJOR_BLAKE2S_PERSONALBYTES = 8
+};
+
+/* A state of BLAKE2b. Keep it in any memory with the alignment of its type. Copy it by assignment;
+ * copies are independent. Do not access its fields. The inits vulfsjor_* accept memory with any
+ * contents, initialized or not. All other functions, and all functions vulfsjor_ffi_*, require that
+ * every byte was written. No contents are unsafe: if no init wrote them, calls fail or return a
+ * digest without meaning.
+ *
+ * A version that changes the size, the fields or their meaning also changes the soname of the
+ * shared library. Do not write states to files: a later version need not read them. */
+typedef struct vulfsjor_blake2b_state {
+    uint64_t chain[8];       /* the chaining words */
+    uint64_t first[8];       /* the chaining words before the first block */
+    uint64_t counter;        /* the bytes of the blocks that were compressed */
+    size_t pending_length;   /* the bytes that are pending, 0 to 128 */
+    size_t start_length;     /* the same after a reset: 128 with a key, otherwise 0 */
+    size_t output_size;      /* the bytes of the digest, 1 to 64; 0 in a wiped state */
+    size_t last_node;        /* the last-node flag: 0 is off */
+    uint8_t pending[128];    /* starts with the pending bytes */
+    uint8_t start_block[128]; /* the same after a reset */
+} vulfsjor_blake2b_state;
+
+/* A state of BLAKE2s. What the comment on vulfsjor_blake2b_state says holds for it too. */
+typedef struct vulfsjor_blake2s_state {
+    uint32_t chain[8];       /* the chaining words */
+    uint32_t first[8];       /* the chaining words before the first block */
+    uint64_t counter;        /* the bytes of the blocks that were compressed */
+    size_t pending_length;   /* the bytes that are pending, 0 to 64 */
+    size_t start_length;     /* the same after a reset: 64 with a key, otherwise 0 */
+    size_t output_size;      /* the bytes of the digest, 1 to 32; 0 in a wiped state */
+    size_t last_node;        /* the last-node flag: 0 is off */
+    uint8_t pending[64];     /* starts with the pending bytes */
+    uint8_t start_block[64]; /* the same after a reset */
+} vulfsjor_blake2s_state;
+
+/* The parameter block of BLAKE2b (the BLAKE2 document, 2.8), with the field names of the reference
+ * code. Without a tree, fanout and depth are 1, and node_offset, leaf_length, node_depth and
+ * inner_length are 0. */
+typedef struct vulfsjor_blake2b_param {
+    uint8_t digest_length; /* 1 to 64 */
+    uint8_t key_length;    /* 0 to 64 */
+    uint8_t fanout;
+    uint8_t depth;
+    uint32_t leaf_length;
+    uint64_t node_offset;
+    uint8_t node_depth;
+    uint8_t inner_length;
+    uint8_t reserved[14];
+    uint8_t salt[16];
+    uint8_t personal[16];
+} vulfsjor_blake2b_param;
+
+/* The parameter block of BLAKE2s (the BLAKE2 document, 2.8), with the field names of the reference
+ * code. Without a tree, fanout and depth are 1, and node_offset, leaf_length, node_depth and
+ * inner_length are 0. */
+typedef struct vulfsjor_blake2s_param {
+    uint8_t digest_length; /* 1 to 32 */
+    uint8_t key_length;    /* 0 to 32 */
+    uint8_t fanout;
+    uint8_t depth;
+    uint32_t leaf_length;
+    uint8_t node_offset[6];
+    uint8_t node_depth;
+    uint8_t inner_length;
+    uint8_t salt[8];
+    uint8_t personal[8];
+} vulfsjor_blake2s_param;
+
+/* Tree parameters: which node of a tree of hashes a state hashes (the BLAKE2 document, 2.10).
+ * Without a tree, fanout and depth are 1 and all other fields are 0. */
+typedef struct vulfsjor_tree {
+    uint64_t node_offset; /* the index of this node in its level, from 0; below 2^48 in BLAKE2s */
+    uint32_t leaf_length; /* the maximum length of a leaf; 0 is unlimited */
+    uint8_t fanout;       /* the maximum number of children of a node; 0 is unlimited */
+    uint8_t depth;        /* the number of levels of the tree, 1 to 255 */
+    uint8_t node_depth;   /* the level of this node; leaves have 0 */
+    uint8_t inner_length; /* the length of an inner node's digest, up to 64 (BLAKE2s: 32) */
+} vulfsjor_tree;
+
+/* A message for the functions _many. bytes is never null, even if length is 0. */
+typedef struct vulfsjor_message {
+    const void *bytes;
+    size_t length;
+} vulfsjor_message;
+
+/* A state of the tree of two levels over BLAKE2b. What the comment on vulfsjor_blake2b_state says
+ * holds for it too. */
+typedef struct vulfsjor_tree_state {
+    vulfsjor_blake2b_state leaf; /* the open leaf, full or not */
+    vulfsjor_blake2b_state root; /* the root, which has absorbed the digests of the closed leaves */
+    uint64_t closed;             /* the number of closed leaves */
+    uint64_t leaf_length;        /* the bytes of a leaf, 1 to 2^32 - 1 */
+    size_t salt_length;          /* the bytes of the salt, 0 to 16 */
+    size_t persona_length;       /* the bytes of the personalization, 0 to 16 */
+    uint8_t salt[16];            /* starts with the salt */
+    uint8_t persona[16];         /* starts with the personalization */
+} vulfsjor_tree_state;
+
+/* The library requires a 64-bit platform and these layouts. */
+typedef char vulfsjor_layouts[sizeof(size_t) == 8 && sizeof(vulfsjor_blake2b_state) == 424 &&
+                              sizeof(vulfsjor_blake2s_state) == 232 &&
+                              sizeof(vulfsjor_tree_state) == 912 &&
+                              sizeof(vulfsjor_message) == 16 &&
+                              sizeof(vulfsjor_blake2b_param) == 64 &&
+                              sizeof(vulfsjor_blake2s_param) == 32 ? 1 : -1];
+
+/* ---- The functions of the library, for other languages. Preconditions: no pointer is null, and
+ * every byte of a state was written. Each function does what is said below of the function with its
+ * name, with these exceptions:
+ *   - many fails if out_length is not count times output_size.
+ *   - is_same accepts two lengths; buffers of different lengths differ.
+ *   - state_size returns the length of a state. */
+
+uint32_t vulfsjor_ffi_version(void);
+int32_t vulfsjor_ffi_is_same(const uint8_t *a, size_t a_length, const uint8_t *b, size_t b_length);
+
+int32_t vulfsjor_ffi_blake2b(uint8_t *out, size_t out_length, const uint8_t *input,
+                             size_t input_length, const uint8_t *key, size_t key_length);
+int32_t vulfsjor_ffi_blake2b_many(uint8_t *out, size_t out_length, size_t output_size,
+                                  const vulfsjor_message *messages, size_t count,
+                                  const uint8_t *key, size_t key_length, const uint8_t *salt,
+                                  size_t salt_length, const uint8_t *persona,
+                                  size_t persona_length);
+int32_t vulfsjor_ffi_blake2b_init_salt_personal(vulfsjor_blake2b_state *state, size_t output_size,
+                                                const uint8_t *key, size_t key_length,
+                                                const uint8_t *salt, size_t salt_length,
+                                                const uint8_t *persona, size_t persona_length);
+int32_t vulfsjor_ffi_blake2b_init_key(vulfsjor_blake2b_state *state, size_t output_size,
+                                      const uint8_t *key, size_t key_length);
+int32_t vulfsjor_ffi_blake2b_init_tree(vulfsjor_blake2b_state *state, size_t output_size,
+                                       const uint8_t *key, size_t key_length, const uint8_t *salt,
+                                       size_t salt_length, const uint8_t *persona,
+                                       size_t persona_length, uint8_t fanout, uint8_t depth,
+                                       uint32_t leaf_length, uint64_t node_offset,
+                                       uint8_t node_depth, uint8_t inner_length);
+int32_t vulfsjor_ffi_blake2b_init_param(vulfsjor_blake2b_state *state, const uint8_t *block,
+                                        size_t block_length);
+int32_t vulfsjor_ffi_blake2b_update(vulfsjor_blake2b_state *state, const uint8_t *input,
+                                    size_t input_length);
+int32_t vulfsjor_ffi_blake2b_final(vulfsjor_blake2b_state *state, uint8_t *out, size_t out_length);
+int32_t vulfsjor_ffi_blake2b_verify(vulfsjor_blake2b_state *state, const uint8_t *tag,
+                                    size_t tag_length);
+int32_t vulfsjor_ffi_blake2b_set_last_node(vulfsjor_blake2b_state *state, uint32_t on);
+int32_t vulfsjor_ffi_blake2b_reset(vulfsjor_blake2b_state *state);
+void vulfsjor_ffi_blake2b_wipe(vulfsjor_blake2b_state *state);
+size_t vulfsjor_ffi_blake2b_digest_size(const vulfsjor_blake2b_state *state);
+uint64_t vulfsjor_ffi_blake2b_count(const vulfsjor_blake2b_state *state);
+size_t vulfsjor_ffi_blake2b_state_size(void);
+
+int32_t vulfsjor_ffi_blake2s(uint8_t *out, size_t out_length, const uint8_t *input,
+                             size_t input_length, const uint8_t *key, size_t key_length);
+int32_t vulfsjor_ffi_blake2s_many(uint8_t *out, size_t out_length, size_t output_size,
+                                  const vulfsjor_message *messages, size_t count,
+                                  const uint8_t *key, size_t key_length, const uint8_t *salt,
+                                  size_t salt_length, const uint8_t *persona,
+                                  size_t persona_length);
+int32_t vulfsjor_ffi_blake2s_init_salt_personal(vulfsjor_blake2s_state *state, size_t output_size,
+                                                const uint8_t *key, size_t key_length,
+                                                const uint8_t *salt, size_t salt_length,
+                                                const uint8_t *persona, size_t persona_length);
+int32_t vulfsjor_ffi_blake2s_init_key(vulfsjor_blake2s_state *state, size_t output_size,
+                                      const uint8_t *key, size_t key_length);
+int32_t vulfsjor_ffi_blake2s_init_tree(vulfsjor_blake2s_state *state, size_t output_size,
+                                       const uint8_t *key, size_t key_length, const uint8_t *salt,
+                                       size_t salt_length, const uint8_t *persona,
+                                       size_t persona_length, uint8_t fanout, uint8_t depth,
+                                       uint32_t leaf_length, uint64_t node_offset,
+                                       uint8_t node_depth, uint8_t inner_length);
+int32_t vulfsjor_ffi_blake2s_init_param(vulfsjor_blake2s_state *state, const uint8_t *block,
+                                        size_t block_length);
+int32_t vulfsjor_ffi_blake2s_update(vulfsjor_blake2s_state *state, const uint8_t *input,
+                                    size_t input_length);
+int32_t vulfsjor_ffi_blake2s_final(vulfsjor_blake2s_state *state, uint8_t *out, size_t out_length);
+int32_t vulfsjor_ffi_blake2s_verify(vulfsjor_blake2s_state *state, const uint8_t *tag,
+                                    size_t tag_length);
+int32_t vulfsjor_ffi_blake2s_set_last_node(vulfsjor_blake2s_state *state, uint32_t on);
+int32_t vulfsjor_ffi_blake2s_reset(vulfsjor_blake2s_state *state);
+void vulfsjor_ffi_blake2s_wipe(vulfsjor_blake2s_state *state);
+size_t vulfsjor_ffi_blake2s_digest_size(const vulfsjor_blake2s_state *state);
+uint64_t vulfsjor_ffi_blake2s_count(const vulfsjor_blake2s_state *state);
+size_t vulfsjor_ffi_blake2s_state_size(void);
+
+int32_t vulfsjor_ffi_tree_root(uint8_t *out, size_t out_length, const uint8_t *input,
+                               size_t input_length, const uint8_t *salt, size_t salt_length,
+                               const uint8_t *persona, size_t persona_length, uint32_t leaf_length);
+int32_t vulfsjor_ffi_tree_init(vulfsjor_tree_state *state, size_t output_size, const uint8_t *salt,
+                               size_t salt_length, const uint8_t *persona, size_t persona_length,
+                               uint32_t leaf_length);
+int32_t vulfsjor_ffi_tree_update(vulfsjor_tree_state *state, const uint8_t *input,
+                                 size_t input_length);
+int32_t vulfsjor_ffi_tree_final(vulfsjor_tree_state *state, uint8_t *out, size_t out_length);
+void vulfsjor_ffi_tree_wipe(vulfsjor_tree_state *state);
+size_t vulfsjor_ffi_tree_digest_size(const vulfsjor_tree_state *state);
+uint64_t vulfsjor_ffi_tree_count(const vulfsjor_tree_state *state);
+uint32_t vulfsjor_ffi_tree_leaf_length(const vulfsjor_tree_state *state);
+size_t vulfsjor_ffi_tree_state_size(void);
+uint64_t vulfsjor_ffi_tree_leaf_count(uint64_t message_length, uint32_t leaf_length);
+int32_t vulfsjor_ffi_tree_leaves(uint8_t *out, size_t out_length, uint64_t first, uint32_t ends,
+                                 const uint8_t *input, size_t input_length, const uint8_t *salt,
+                                 size_t salt_length, const uint8_t *persona, size_t persona_length,
+                                 uint32_t leaf_length);
+int32_t vulfsjor_ffi_tree_root_of_leaves(uint8_t *out, size_t out_length, const uint8_t *digests,
+                                         size_t digests_length, const uint8_t *salt,
+                                         size_t salt_length, const uint8_t *persona,
+                                         size_t persona_length, uint32_t leaf_length);
+int32_t vulfsjor_ffi_tree_next_leaves(const vulfsjor_tree_state *state, uint8_t *out,
+                                      size_t out_length, uint64_t skip, const uint8_t *input,
+                                      size_t input_length);
+int32_t vulfsjor_ffi_tree_update_leaves(vulfsjor_tree_state *state, const uint8_t *digests,
+                                        size_t digests_length, const uint8_t *input,
+                                        size_t input_length);
+
+/* ---- For C and C++ */
+
+/* Internal: returns the pointer, or a pointer that is not null if it is null. */
+static inline const uint8_t *vulfsjor_text(const void *text) {
+    return text ? (const uint8_t *)text : (const uint8_t *)"";
+}
+
+/* Returns the version of the library, to compare with VULFSJOR_VERSION_NUMBER of this header. */
+static inline uint32_t vulfsjor_version(void) {
+    return vulfsjor_ffi_version();
+}
+
+/* Returns 0 if the first length bytes of a and b are equal, and -1 otherwise. All bytes are
+ * compared, so use it for tags. */
+VULFSJOR_MUST_USE static inline int vulfsjor_is_same(const void *a, const void *b, size_t length) {
+    if ((!a || !b) && length) return -1;
+    return vulfsjor_ffi_is_same(vulfsjor_text(a), length, vulfsjor_text(b), length);
+}
+
+/* Returns the index of the first message whose bytes are null, or count if there is none. */
+static inline size_t vulfsjor_null_message(const vulfsjor_message *messages, size_t count) {
+    size_t i;
+    for (i = 0; i < count && messages[i].bytes; i++) continue;
+    return i;
+}
+
+/* -- BLAKE2b */
+
+/* Initializes a state for BLAKE2b digests of outlen bytes, 1 to 64. The key has 0 to 64 bytes;
+ * without a key keylen is 0. With a key the digest is a message authentication code. The salt and
+ * the personalization have 0 to 16 bytes each, and trailing zeros in them change nothing. Use a
+ * different personalization for each purpose. Returns -1 and sets the state to zero if a length is
+ * out of range. */
+static inline int vulfsjor_blake2b_init_salt_personal(
+    vulfsjor_blake2b_state *S, size_t outlen, const void *key, size_t keylen, const void *salt,
+    size_t saltlen, const void *personal, size_t personallen) {
+    if (!S) return -1;
+    memset(S, 0, sizeof *S);
+    if ((!key && keylen) || (!salt && saltlen) || (!personal && personallen)) return -1;
+    return vulfsjor_ffi_blake2b_init_salt_personal(S, outlen, vulfsjor_text(key), keylen,
+                                                   vulfsjor_text(salt), saltlen,
+                                                   vulfsjor_text(personal), personallen);
+}
+
+/* Initializes a state for BLAKE2b digests of outlen bytes, 1 to 64, without key, salt and
+ * personalization. Returns -1 and sets the state to zero if outlen is out of range. */
+static inline int vulfsjor_blake2b_init(vulfsjor_blake2b_state *S, size_t outlen) {
+    return vulfsjor_blake2b_init_salt_personal(S, outlen, 0, 0, 0, 0, 0, 0);
+}
+
+/* Initializes a state for BLAKE2b digests of outlen bytes, 1 to 64, under a key of 1 to 64 bytes,
+ * without salt and personalization. Returns -1 and sets the state to zero if a length is out of
+ * range. A key of 0 bytes is refused here. */
+static inline int vulfsjor_blake2b_init_key(vulfsjor_blake2b_state *S, size_t outlen,
+                                            const void *key, size_t keylen) {
+    if (!S) return -1;
+    memset(S, 0, sizeof *S);
+    if (!key) return -1;
+    return vulfsjor_ffi_blake2b_init_key(S, outlen, (const uint8_t *)key, keylen);
+}
+
+/* Initializes a state for a node of a tree of hashes with these tree parameters (the BLAKE2
+ * document, 2.10). The other arguments are those of vulfsjor_blake2b_init_salt_personal. The
+ * last-node flag is off. Returns -1 and sets the state to zero if a length is out of range, if
+ * tree->depth is 0, or if tree->inner_length is more than 64. */
+static inline int vulfsjor_blake2b_init_tree(
+    vulfsjor_blake2b_state *S, size_t outlen, const void *key, size_t keylen, const void *salt,
+    size_t saltlen, const void *personal, size_t personallen, const vulfsjor_tree *tree) {
+    if (!S) return -1;
+    memset(S, 0, sizeof *S);
+    if (!tree || (!key && keylen) || (!salt && saltlen) || (!personal && personallen)) return -1;
+    return vulfsjor_ffi_blake2b_init_tree(S, outlen, vulfsjor_text(key), keylen,
+                                          vulfsjor_text(salt), saltlen, vulfsjor_text(personal),
+                                          personallen, tree->fanout, tree->depth, tree->leaf_length,
+                                          tree->node_offset, tree->node_depth, tree->inner_length);
+}
+
+/* Initializes a state from a parameter block, whose bytes are xored into the IV as they are. If
+ * P->key_length is not 0, the first 128 bytes of input must be the key followed by zeros. Returns
+ * -1 and sets the state to zero if P->digest_length is not 1 to 64, or if P->key_length is more
+ * than 64. No other field is checked. */
+static inline int vulfsjor_blake2b_init_param(vulfsjor_blake2b_state *S,
+                                              const vulfsjor_blake2b_param *P) {
+    if (!S) return -1;
+    memset(S, 0, sizeof *S);
+    if (!P) return -1;
+    return vulfsjor_ffi_blake2b_init_param(S, (const uint8_t *)P, sizeof *P);
+}
+
+/* Absorbs inlen bytes of input. The digest does not depend on how the input is split into calls.
+ * Returns -1 if the state is not ready, or if the bytes absorbed since the init or the last reset,
+ * with a key's block of 128 bytes, would be 2^64 or more. The state is then unchanged. */
+VULFSJOR_MUST_USE static inline int vulfsjor_blake2b_update(vulfsjor_blake2b_state *S,
+                                                            const void *in, size_t inlen) {
+    if (!S || (!in && inlen)) return -1;
+    return vulfsjor_ffi_blake2b_update(S, vulfsjor_text(in), inlen);
+}
+
+/* Writes the digest of all input to the beginning of out, and wipes the state. outlen is the room
+ * in out. It may be more than the length of the digest; the remaining bytes are unchanged. Returns
+ * -1 if the state is not ready or the digest is longer than outlen. Then out and the state are
+ * unchanged. */
+VULFSJOR_MUST_USE static inline int vulfsjor_blake2b_final(vulfsjor_blake2b_state *S, void *out,
+                                                           size_t outlen) {
+    if (!S || !out) return -1;
+    return vulfsjor_ffi_blake2b_final(S, (uint8_t *)out, outlen);
+}
+
+/* Returns 0 if tag is the whole digest of all input, and -1 otherwise. It wipes the state in either
+ * case, so copy the state first to try another tag. All bytes of a tag of the right length are
+ * compared. The state is unchanged if it was not ready, or if tag is null and taglen is not 0. */
+VULFSJOR_MUST_USE static inline int vulfsjor_blake2b_verify(vulfsjor_blake2b_state *S,
+                                                            const void *tag, size_t taglen) {
+    if (!S || (!tag && taglen)) return -1;
+    return vulfsjor_ffi_blake2b_verify(S, vulfsjor_text(tag), taglen);
+}
+
+/* Sets the last-node flag, or clears it if on is 0. The flag marks the last node on its level of a
+ * tree of hashes (the BLAKE2 document, 2.10). You may call it at any time before final or verify.
+ * Returns -1 if the state is not ready. */
+static inline int vulfsjor_blake2b_set_last_node(vulfsjor_blake2b_state *S, int on) {
+    if (!S) return -1;
+    return vulfsjor_ffi_blake2b_set_last_node(S, (uint32_t)on);
+}
+
+/* Discards all input. Digest length, key, salt, personalization, tree parameters and last-node flag
+ * are kept. After init_param the key's block is input, so pass it again. Returns -1 if the state is
+ * not ready. */
+static inline int vulfsjor_blake2b_reset(vulfsjor_blake2b_state *S) {
+    if (!S) return -1;
+    return vulfsjor_ffi_blake2b_reset(S);
+}
+
+/* Sets every byte of the state to zero, whether it is ready or not. Does nothing if S is null. */
+static inline void vulfsjor_blake2b_wipe(vulfsjor_blake2b_state *S) {
+    if (S) vulfsjor_ffi_blake2b_wipe(S);
+}
+
+/* Returns the length of the state's digest, 1 to 64; 0 if the state is null or not ready. */
+static inline size_t vulfsjor_blake2b_digest_size(const vulfsjor_blake2b_state *S) {
+    return S ? vulfsjor_ffi_blake2b_digest_size(S) : 0;
+}
+
+/* Returns the number of bytes of input absorbed since the init or the last reset; 0 if the state is
+ * null or not ready. A key's block is counted only if it was passed as input after init_param. */
+static inline uint64_t vulfsjor_blake2b_count(const vulfsjor_blake2b_state *S) {
+    return S ? vulfsjor_ffi_blake2b_count(S) : 0;
+}
+
+/* Writes the BLAKE2b digest of the input to out: outlen bytes, 1 to 64, under a key of 0 to 64
+ * bytes; without a key keylen is 0. Returns -1 and writes nothing if a length is out of range, or
+ * if the input and a key's block of 128 bytes have 2^64 bytes or more. */
+VULFSJOR_MUST_USE static inline int vulfsjor_blake2b(void *out, size_t outlen, const void *in,
+                                                     size_t inlen, const void *key, size_t keylen) {
+    if (!out || (!in && inlen) || (!key && keylen)) return -1;
+    return vulfsjor_ffi_blake2b((uint8_t *)out, outlen, vulfsjor_text(in), inlen,
+                                vulfsjor_text(key), keylen);
+}
+
+/* Writes the digests of count messages to out, which has room for count * outlen bytes. Digest i is
+ * at out + i * outlen. All have the same digest length, key, salt and personalization, with the
+ * lengths of vulfsjor_blake2b_init_salt_personal. Four messages in a row that have the same length
+ * are hashed in parallel. Built for x86-64-v3, that needs fewer instructions than one after another
+ * (docs/SPEED.md has times). Returns -1 and writes nothing if a length is out of range, if a
+ * message and a key's block have 2^64 bytes or more, or if out, messages or the bytes of a message
+ * are null, even if count or the length is 0. */
+VULFSJOR_MUST_USE static inline int vulfsjor_blake2b_many(
+    void *out, size_t outlen, const vulfsjor_message *messages, size_t count, const void *key,
+    size_t keylen, const void *salt, size_t saltlen, const void *personal, size_t personallen) {
+    if (!out || !messages || vulfsjor_null_message(messages, count) < count) return -1;
+    if ((!key && keylen) || (!salt && saltlen) || (!personal && personallen)) return -1;
+    return vulfsjor_ffi_blake2b_many((uint8_t *)out, count * outlen, outlen, messages, count,
+                                     vulfsjor_text(key), keylen, vulfsjor_text(salt), saltlen,
+                                     vulfsjor_text(personal), personallen);
+}
+
+/* -- BLAKE2s */
+
+/* Initializes a state for BLAKE2s digests of outlen bytes, 1 to 32. The key has 0 to 32 bytes;
+ * without a key keylen is 0. With a key the digest is a message authentication code. The salt and
+ * the personalization have 0 to 8 bytes each, and trailing zeros in them change nothing. Use a
+ * different personalization for each purpose. Returns -1 and sets the state to zero if a length is
+ * out of range. */
+static inline int vulfsjor_blake2s_init_salt_personal(
+    vulfsjor_blake2s_state *S, size_t outlen, const void *key, size_t keylen, const void *salt,
+    size_t saltlen, const void *personal, size_t personallen) {
+    if (!S) return -1;
+    memset(S, 0, sizeof *S);
+    if ((!key && keylen) || (!salt && saltlen) || (!personal && personallen)) return -1;
+    return vulfsjor_ffi_blake2s_init_salt_personal(S, outlen, vulfsjor_text(key), keylen,
+                                                   vulfsjor_text(salt), saltlen,
+                                                   vulfsjor_text(personal), personallen);
+}
+
+/* Initializes a state for BLAKE2s digests of outlen bytes, 1 to 32, without key, salt and
+ * personalization. Returns -1 and sets the state to zero if outlen is out of range. */
+static inline int vulfsjor_blake2s_init(vulfsjor_blake2s_state *S, size_t outlen) {
+    return vulfsjor_blake2s_init_salt_personal(S, outlen, 0, 0, 0, 0, 0, 0);
+}
+
+/* Initializes a state for BLAKE2s digests of outlen bytes, 1 to 32, under a key of 1 to 32 bytes,
+ * without salt and personalization. Returns -1 and sets the state to zero if a length is out of
+ * range. A key of 0 bytes is refused here. */
+static inline int vulfsjor_blake2s_init_key(vulfsjor_blake2s_state *S, size_t outlen,
+                                            const void *key, size_t keylen) {
+    if (!S) return -1;
+    memset(S, 0, sizeof *S);
+    if (!key) return -1;
+    return vulfsjor_ffi_blake2s_init_key(S, outlen, (const uint8_t *)key, keylen);
+}
+
+/* Initializes a state for a node of a tree of hashes with these tree parameters (the BLAKE2
+ * document, 2.10). The other arguments are those of vulfsjor_blake2s_init_salt_personal. The
+ * last-node flag is off. Returns -1 and sets the state to zero if a length is out of range, if
+ * tree->depth is 0, if tree->inner_length is more than 32, or if tree->node_offset is 2^48 or
+ * more. */
+static inline int vulfsjor_blake2s_init_tree(
+    vulfsjor_blake2s_state *S, size_t outlen, const void *key, size_t keylen, const void *salt,
+    size_t saltlen, const void *personal, size_t personallen, const vulfsjor_tree *tree) {
+    if (!S) return -1;
+    memset(S, 0, sizeof *S);
+    if (!tree || (!key && keylen) || (!salt && saltlen) || (!personal && personallen)) return -1;
+    return vulfsjor_ffi_blake2s_init_tree(S, outlen, vulfsjor_text(key), keylen,
+                                          vulfsjor_text(salt), saltlen, vulfsjor_text(personal),
+                                          personallen, tree->fanout, tree->depth, tree->leaf_length,
+                                          tree->node_offset, tree->node_depth, tree->inner_length);
+}
+
+/* Initializes a state from a parameter block, whose bytes are xored into the IV as they are. If
+ * P->key_length is not 0, the first 64 bytes of input must be the key followed by zeros. Returns -1
+ * and sets the state to zero if P->digest_length is not 1 to 32, or if P->key_length is more than
+ * 32. No other field is checked. */
+static inline int vulfsjor_blake2s_init_param(vulfsjor_blake2s_state *S,
+                                              const vulfsjor_blake2s_param *P) {
+    if (!S) return -1;
+    memset(S, 0, sizeof *S);
+    if (!P) return -1;
+    return vulfsjor_ffi_blake2s_init_param(S, (const uint8_t *)P, sizeof *P);
+}
+
+/* Absorbs inlen bytes of input. The digest does not depend on how the input is split into calls.
+ * Returns -1 if the state is not ready, or if the bytes absorbed since the init or the last reset,
+ * with a key's block of 64 bytes, would be 2^64 or more. The state is then unchanged. */
+VULFSJOR_MUST_USE static inline int vulfsjor_blake2s_update(vulfsjor_blake2s_state *S,
+                                                            const void *in, size_t inlen) {
+    if (!S || (!in && inlen)) return -1;
+    return vulfsjor_ffi_blake2s_update(S, vulfsjor_text(in), inlen);
+}
+
+/* Writes the digest of all input to the beginning of out, and wipes the state. outlen is the room
+ * in out. It may be more than the length of the digest; the remaining bytes are unchanged. Returns
+ * -1 if the state is not ready or the digest is longer than outlen. Then out and the state are
+ * unchanged. */
+VULFSJOR_MUST_USE static inline int vulfsjor_blake2s_final(vulfsjor_blake2s_state *S, void *out,
+                                                           size_t outlen) {
+    if (!S || !out) return -1;
+    return vulfsjor_ffi_blake2s_final(S, (uint8_t *)out, outlen);
+}
+
+/* Returns 0 if tag is the whole digest of all input, and -1 otherwise. It wipes the state in either
+ * case, so copy the state first to try another tag. All bytes of a tag of the right length are
+ * compared. The state is unchanged if it was not ready, or if tag is null and taglen is not 0. */
+VULFSJOR_MUST_USE static inline int vulfsjor_blake2s_verify(vulfsjor_blake2s_state *S,
+                                                            const void *tag, size_t taglen) {
+    if (!S || (!tag && taglen)) return -1;
+    return vulfsjor_ffi_blake2s_verify(S, vulfsjor_text(tag), taglen);
+}
+
+/* Sets the last-node flag, or clears it if on is 0. The flag marks the last node on its level of a
+ * tree of hashes (the BLAKE2 document, 2.10). You may call it at any time before final or verify.
+ * Returns -1 if the state is not ready. */
+static inline int vulfsjor_blake2s_set_last_node(vulfsjor_blake2s_state *S, int on) {
+    if (!S) return -1;
+    return vulfsjor_ffi_blake2s_set_last_node(S, (uint32_t)on);
+}
+
+/* Discards all input. Digest length, key, salt, personalization, tree parameters and last-node flag
+ * are kept. After init_param the key's block is input, so pass it again. Returns -1 if the state is
+ * not ready. */
+static inline int vulfsjor_blake2s_reset(vulfsjor_blake2s_state *S) {
+    if (!S) return -1;
+    return vulfsjor_ffi_blake2s_reset(S);
+}
+
+/* Sets every byte of the state to zero, whether it is ready or not. Does nothing if S is null. */
+static inline void vulfsjor_blake2s_wipe(vulfsjor_blake2s_state *S) {
+    if (S) vulfsjor_ffi_blake2s_wipe(S);
+}
+
+/* Returns the length of the state's digest, 1 to 32; 0 if the state is null or not ready. */
+static inline size_t vulfsjor_blake2s_digest_size(const vulfsjor_blake2s_state *S) {
+    return S ? vulfsjor_ffi_blake2s_digest_size(S) : 0;
+}
+
+/* Returns the number of bytes of input absorbed since the init or the last reset; 0 if the state is
+ * null or not ready. A key's block is counted only if it was passed as input after init_param. */
+static inline uint64_t vulfsjor_blake2s_count(const vulfsjor_blake2s_state *S) {
+    return S ? vulfsjor_ffi_blake2s_count(S) : 0;
+}
+
+/* Writes the BLAKE2s digest of the input to out: outlen bytes, 1 to 32, under a key of 0 to 32
+ * bytes; without a key keylen is 0. Returns -1 and writes nothing if a length is out of range, or
+ * if the input and a key's block of 64 bytes have 2^64 bytes or more. */
+VULFSJOR_MUST_USE static inline int vulfsjor_blake2s(void *out, size_t outlen, const void *in,
+                                                     size_t inlen, const void *key, size_t keylen) {
+    if (!out || (!in && inlen) || (!key && keylen)) return -1;
+    return vulfsjor_ffi_blake2s((uint8_t *)out, outlen, vulfsjor_text(in), inlen,
+                                vulfsjor_text(key), keylen);
+}
+
+/* Writes the digests of count messages to out, which has room for count * outlen bytes. Digest i is
+ * at out + i * outlen. All have the same digest length, key, salt and personalization, with the
+ * lengths of vulfsjor_blake2s_init_salt_personal. Eight messages in a row that have the same length
+ * are hashed in parallel. Built for x86-64-v3, that needs fewer instructions than one after another
+ * (docs/SPEED.md has times). Returns -1 and writes nothing if a length is out of range, if a
+ * message and a key's block have 2^64 bytes or more, or if out, messages or the bytes of a message
+ * are null, even if count or the length is 0. */
+VULFSJOR_MUST_USE static inline int vulfsjor_blake2s_many(
+    void *out, size_t outlen, const vulfsjor_message *messages, size_t count, const void *key,
+    size_t keylen, const void *salt, size_t saltlen, const void *personal, size_t personallen) {
+    if (!out || !messages || vulfsjor_null_message(messages, count) < count) return -1;
+    if ((!key && keylen) || (!salt && saltlen) || (!personal && personallen)) return -1;
+    return vulfsjor_ffi_blake2s_many((uint8_t *)out, count * outlen, outlen, messages, count,
+                                     vulfsjor_text(key), keylen, vulfsjor_text(salt), saltlen,
+                                     vulfsjor_text(personal), personallen);
+}
+
+/* -- The tree of two levels over BLAKE2b (the BLAKE2 document, 2.10). The message is cut into
+ * leaves of leaf_length bytes, the last of which may be shorter. The root hashes their digests of
+ * 64 bytes. All nodes have the salt and the personalization, fanout 0, depth 2, this leaf length
+ * and inner length 64. The last leaf and the root have the last-node flag. The root is not the
+ * BLAKE2b digest of the message. */
+
+/* Writes the root of the input's tree to out: outlen bytes, 1 to 64. leaf_length is at least 1, and
+ * the salt and the personalization have 0 to 16 bytes each. Returns -1 and writes nothing if a
+ * length is out of range, or if the input has 2^58 bytes or more. */
+VULFSJOR_MUST_USE static inline int vulfsjor_tree_root(void *out, size_t outlen, const void *in,
+                                                       size_t inlen, const void *salt,
+                                                       size_t saltlen, const void *personal,
+                                                       size_t personallen, uint32_t leaf_length) {
+    if (!out || (!in && inlen) || (!salt && saltlen) || (!personal && personallen)) return -1;
+    return vulfsjor_ffi_tree_root((uint8_t *)out, outlen, vulfsjor_text(in), inlen,
+                                  vulfsjor_text(salt), saltlen, vulfsjor_text(personal),
+                                  personallen, leaf_length);
+}
+
+/* Initializes a state for a root of outlen bytes, 1 to 64. The other arguments are those of
+ * vulfsjor_tree_root. Returns -1 and sets the state to zero if a length is out of range. */
+static inline int vulfsjor_tree_init(vulfsjor_tree_state *S, size_t outlen, const void *salt,
+                                     size_t saltlen, const void *personal, size_t personallen,
+                                     uint32_t leaf_length) {
+    if (!S) return -1;
+    memset(S, 0, sizeof *S);
+    if ((!salt && saltlen) || (!personal && personallen)) return -1;
+    return vulfsjor_ffi_tree_init(S, outlen, vulfsjor_text(salt), saltlen, vulfsjor_text(personal),
+                                  personallen, leaf_length);
+}
+
+/* Absorbs inlen bytes of input. The root does not depend on how the input is split into calls.
+ * Pieces of several leaves are fastest: whole leaves after the open one are hashed four in
+ * parallel, if more input follows them. Returns -1 if the state is not ready, or if it would have
+ * absorbed 2^58 bytes or more. The state is then unchanged. */
+VULFSJOR_MUST_USE static inline int vulfsjor_tree_update(vulfsjor_tree_state *S, const void *in,
+                                                         size_t inlen) {
+    if (!S || (!in && inlen)) return -1;
+    return vulfsjor_ffi_tree_update(S, vulfsjor_text(in), inlen);
+}
+
+/* Writes the root of all input to the beginning of out, and wipes the state. outlen is the room in
+ * out. It may be more than the length of the root; the remaining bytes are unchanged. Returns -1 if
+ * the state is not ready or the root is longer than outlen. Then out and the state are
+ * unchanged. */
+VULFSJOR_MUST_USE static inline int vulfsjor_tree_final(vulfsjor_tree_state *S, void *out,
+                                                        size_t outlen) {
+    if (!S || !out) return -1;
+    return vulfsjor_ffi_tree_final(S, (uint8_t *)out, outlen);
+}
+
+/* Sets every byte of the state to zero, whether it is ready or not. Does nothing if S is null. */
+static inline void vulfsjor_tree_wipe(vulfsjor_tree_state *S) {
+    if (S) vulfsjor_ffi_tree_wipe(S);
+}
+
+/* Returns the length of the state's root, 1 to 64; 0 if the state is null or not ready. */
+static inline size_t vulfsjor_tree_digest_size(const vulfsjor_tree_state *S) {
+    return S ? vulfsjor_ffi_tree_digest_size(S) : 0;
+}
+
+/* Returns the number of bytes of input that the state has absorbed; 0 if it is null or not
+ * ready. */
+static inline uint64_t vulfsjor_tree_count(const vulfsjor_tree_state *S) {
+    return S ? vulfsjor_ffi_tree_count(S) : 0;
+}
+
+/* Returns the length of a leaf of the state's tree, 1 to 2^32 - 1; 0 if the state is null or not
+ * ready. */
+static inline uint32_t vulfsjor_tree_leaf_length(const vulfsjor_tree_state *S) {
+    return S ? vulfsjor_ffi_tree_leaf_length(S) : 0;
+}
+
+/* -- The same tree in parts, for threads, processes or machines. The digests of a range of leaves
+ * need only the bytes of that range. Hash ranges in any order and at the same time, and join their
+ * digests in the order of the leaves. vulfsjor_tree_root_of_leaves of all digests is
+ * vulfsjor_tree_root of the message. If leaves have changed, hash a range that contains them again,
+ * replace its digests, and compute the root again. */
+
+/* Returns the number of leaves of a message of inlen bytes, which is at least 1; 0 if leaf_length
+ * is 0. */
+static inline uint64_t vulfsjor_tree_leaf_count(uint64_t inlen, uint32_t leaf_length) {
+    return vulfsjor_ffi_tree_leaf_count(inlen, leaf_length);
+}
+
+/* Writes the digests of a range of leaves to out, 64 bytes each. The input is the bytes of these
+ * leaves, and first is the index of the first one, counted from 0. ends is whether the message ends
+ * with the input (0 if not). If it does, the last leaf may be shorter; if not, all leaves must be
+ * whole. No call can check ends: a wrong value on whole leaves makes a wrong root. outlen must be
+ * 64 times vulfsjor_tree_leaf_count(inlen, leaf_length). Returns -1 and writes nothing
+ *
+ *   - if outlen is another number, leaf_length is 0, or the salt or the personalization has more
+ *     than 16 bytes;
+ *   - if ends is 0 and the input is empty or not whole leaves;
+ *   - if ends is not 0 and the input is empty, unless first is 0 (an empty message has one leaf);
+ *   - if the range ends at byte 2^58 of the message or after it. */
+VULFSJOR_MUST_USE static inline int vulfsjor_tree_leaves(void *out, size_t outlen, uint64_t first,
+                                                         int ends, const void *in, size_t inlen,
+                                                         const void *salt, size_t saltlen,
+                                                         const void *personal, size_t personallen,
+                                                         uint32_t leaf_length) {
+    if (!out || (!in && inlen) || (!salt && saltlen) || (!personal && personallen)) return -1;
+    return vulfsjor_ffi_tree_leaves((uint8_t *)out, outlen, first, ends != 0, vulfsjor_text(in),
+                                    inlen, vulfsjor_text(salt), saltlen, vulfsjor_text(personal),
+                                    personallen, leaf_length);
+}
+
+/* Writes the root over the digests of all leaves, 64 bytes each, in their order, to out: outlen
+ * bytes, 1 to 64. The other arguments are those of vulfsjor_tree_root. Returns -1 and writes
+ * nothing if digestslen is 0 or not a multiple of 64, or if another length is out of range. */
+VULFSJOR_MUST_USE static inline int
+vulfsjor_tree_root_of_leaves(void *out, size_t outlen, const void *digests, size_t digestslen,
+                             const void *salt, size_t saltlen, const void *personal,
+                             size_t personallen, uint32_t leaf_length) {
+    if (!out || !digests || (!salt && saltlen) || (!personal && personallen)) return -1;
+    return vulfsjor_ffi_tree_root_of_leaves((uint8_t *)out, outlen, (const uint8_t *)digests,
+                                            digestslen, vulfsjor_text(salt), saltlen,
+                                            vulfsjor_text(personal), personallen, leaf_length);
+}
+
+/* -- The same tree as a stream whose leaves are hashed by threads. A state is at a leaf boundary if
+ * vulfsjor_tree_count is a multiple of vulfsjor_tree_leaf_length. Then threads hash the next leaves
+ * with next_leaves, which only reads the state. One call of update_leaves absorbs the digests of
+ * all of them, in order, and the input that follows. */
+
+/* Writes the digests of whole leaves of the state's tree to out, 64 bytes each. The input is the
+ * bytes of these leaves. The first is skip leaves after the next leaf of the state, and none of
+ * them is the last leaf of the message. outlen must be 64 times the number of leaves. Returns -1
+ * and writes nothing if the state is not ready or not at a leaf boundary, if the input is empty or
+ * not whole leaves, if outlen is another number, or if the leaves end at byte 2^58 of the message
+ * or after it. */
+VULFSJOR_MUST_USE static inline int vulfsjor_tree_next_leaves(const vulfsjor_tree_state *S,
+                                                              void *out, size_t outlen,
+                                                              uint64_t skip, const void *in,
+                                                              size_t inlen) {
+    if (!S || !out || (!in && inlen)) return -1;
+    return vulfsjor_ffi_tree_next_leaves(S, (uint8_t *)out, outlen, skip, vulfsjor_text(in), inlen);
+}
+
+/* Absorbs whole leaves, given by the digests that next_leaves wrote from skip 0 on, and then inlen
+ * bytes of input. The state is then the one that vulfsjor_tree_update would make of the leaves'
+ * bytes and the input. If there are digests, the state must be at a leaf boundary and inlen at
+ * least 1, since the last leaf of a message has another digest. Without digests (digestslen 0) this
+ * is vulfsjor_tree_update. Returns -1 if the state is not ready, if digestslen is not a multiple of
+ * 64, if there are digests but the state is not at a leaf boundary or the input is empty, or if the
+ * state would have absorbed 2^58 bytes or more. The state is then unchanged. */
+VULFSJOR_MUST_USE static inline int vulfsjor_tree_update_leaves(vulfsjor_tree_state *S,
+                                                                const void *digests,
+                                                                size_t digestslen, const void *in,
+                                                                size_t inlen) {
+    if (!S || (!digests && digestslen) || (!in && inlen)) return -1;
+    return vulfsjor_ffi_tree_update_leaves(S, vulfsjor_text(digests), digestslen, vulfsjor_text(in),
+                                           inlen);
+}
+
+/* -- What -1 means, call by call. A null pointer is a reason in every call: to a state, an output,
+ * digests for tree_root_of_leaves, messages, a parameter block or tree parameters, and any other if
+ * its length is not 0. The other reasons are:
+ *
+ *   is_same                        the bytes differ
+ *   BLAKE2b and BLAKE2s:
+ *   _init, _init_salt_personal,    an argument that _refused returns
+ *   _init_tree
+ *   _init_key                      an argument that _refused returns, or a key of 0 bytes
+ *   _init_param                    a field that _param_refused returns
+ *   the hash in one call           an argument that _refused returns, or input and a key's block of
+ *                                  2^64 bytes or more
+ *   _many                          the same of any message, or one with null bytes, which
+ *                                  vulfsjor_null_message returns
+ *   _update                        the state is not ready (_digest_size returns 0 for it), or it
+ *                                  would have absorbed 2^64 bytes or more
+ *   _final                         the state is not ready, or outlen is less than _digest_size
+ *   _verify                        the tag or its length is another, or the state was not ready
+ *   _set_last_node, _reset         the state is not ready
+ *   The tree of two levels:
+ *   tree_init                      an argument that vulfsjor_tree_refused returns
+ *   tree_root                      the same, or input of 2^58 bytes or more
+ *   tree_update                    the state is not ready (tree_digest_size returns 0 for it), or
+ *                                  it would have absorbed 2^58 bytes or more
+ *   tree_final                     the state is not ready, or outlen is less than tree_digest_size
+ *   tree_leaves                    salt, personal or leaf_length, which vulfsjor_tree_refused
+ *                                  returns, outlen, or a range that its comment excludes
+ *   tree_root_of_leaves            an argument that vulfsjor_tree_refused returns, or digestslen
+ *   tree_next_leaves,              the state is not ready or not at a leaf boundary, or a length
+ *   tree_update_leaves             that their comments exclude
+ *
+ * The functions below make scratch states from one argument at a time, so the proved checks decide.
+ * They write nothing else, and leave nothing of a key on the stack. */
+
+/* The arguments that an init may refuse, in the order in which they are tried. */
+typedef enum vulfsjor_argument {
+    VULFSJOR_ARGUMENT_NONE = 0, /* no argument is refused */
+    VULFSJOR_ARGUMENT_PARAM,    /* the parameter block is null */
+    VULFSJOR_ARGUMENT_OUTLEN,   /* the length of the digest is out of range */
+    VULFSJOR_ARGUMENT_KEY,      /* keylen is out of range, or key is null and keylen is not 0 */
+    VULFSJOR_ARGUMENT_SALT,     /* the same of salt and saltlen */
+    VULFSJOR_ARGUMENT_PERSONAL, /* the same of personal and personallen */
+    VULFSJOR_ARGUMENT_NODE_OFFSET,  /* tree->node_offset is out of range */
+    VULFSJOR_ARGUMENT_DEPTH,        /* tree->depth is 0 */
+    VULFSJOR_ARGUMENT_INNER_LENGTH, /* tree->inner_length is out of range */
+    VULFSJOR_ARGUMENT_LEAF_LENGTH   /* leaf_length is 0, for the tree of two levels */
+} vulfsjor_argument;
+
+/* Returns the name of an argument for a message, such as "outlen" or "tree->depth"; "no argument"
+ * for VULFSJOR_ARGUMENT_NONE and for any other number. */
+static inline const char *vulfsjor_argument_name(vulfsjor_argument argument) {
+    switch (argument) {
+        case VULFSJOR_ARGUMENT_PARAM: return "P";
+        case VULFSJOR_ARGUMENT_OUTLEN: return "outlen";
+        case VULFSJOR_ARGUMENT_KEY: return "key";
+        case VULFSJOR_ARGUMENT_SALT: return "salt";
+        case VULFSJOR_ARGUMENT_PERSONAL: return "personal";
+        case VULFSJOR_ARGUMENT_NODE_OFFSET: return "tree->node_offset";
+        case VULFSJOR_ARGUMENT_DEPTH: return "tree->depth";
+        case VULFSJOR_ARGUMENT_INNER_LENGTH: return "tree->inner_length";
+        case VULFSJOR_ARGUMENT_LEAF_LENGTH: return "leaf_length";
+        default: return "no argument";
+    }
+}
+
+/* Returns the first of these arguments, in this order, that an init of BLAKE2b refuses, or
+ * VULFSJOR_ARGUMENT_NONE. They are those of vulfsjor_blake2b_init_tree; tree is null for the other
+ * inits, the hash in one call and _many. */
+static inline vulfsjor_argument vulfsjor_blake2b_refused(size_t outlen, const void *key,
+                                                          size_t keylen, const void *salt,
+                                                          size_t saltlen, const void *personal,
+                                                          size_t personallen,
+                                                          const vulfsjor_tree *tree) {
+    vulfsjor_tree one = {0, 0, 1, 1, 0, 0};
+    vulfsjor_blake2b_state S;
+    int refused;
+    if (vulfsjor_blake2b_init(&S, outlen)) return VULFSJOR_ARGUMENT_OUTLEN;
+    refused = vulfsjor_blake2b_init_salt_personal(&S, 1, key, keylen, 0, 0, 0, 0);
+    vulfsjor_blake2b_wipe(&S);
+    if (refused) return VULFSJOR_ARGUMENT_KEY;
+    if (vulfsjor_blake2b_init_salt_personal(&S, 1, 0, 0, salt, saltlen, 0, 0))
+        return VULFSJOR_ARGUMENT_SALT;
+    if (vulfsjor_blake2b_init_salt_personal(&S, 1, 0, 0, 0, 0, personal, personallen))
+        return VULFSJOR_ARGUMENT_PERSONAL;
+    if (!tree) return VULFSJOR_ARGUMENT_NONE;
+    one.node_offset = tree->node_offset;
+    if (vulfsjor_blake2b_init_tree(&S, 1, 0, 0, 0, 0, 0, 0, &one))
+        return VULFSJOR_ARGUMENT_NODE_OFFSET;
+    one.depth = tree->depth;
+    if (vulfsjor_blake2b_init_tree(&S, 1, 0, 0, 0, 0, 0, 0, &one)) return VULFSJOR_ARGUMENT_DEPTH;
+    one.inner_length = tree->inner_length;
+    if (vulfsjor_blake2b_init_tree(&S, 1, 0, 0, 0, 0, 0, 0, &one))
+        return VULFSJOR_ARGUMENT_INNER_LENGTH;
+    return VULFSJOR_ARGUMENT_NONE;
+}
+
+/* Returns what vulfsjor_blake2b_init_param refuses: VULFSJOR_ARGUMENT_PARAM if P is null,
+ * VULFSJOR_ARGUMENT_OUTLEN for its digest_length, VULFSJOR_ARGUMENT_KEY for its key_length, or
+ * VULFSJOR_ARGUMENT_NONE. */
+static inline vulfsjor_argument vulfsjor_blake2b_param_refused(const vulfsjor_blake2b_param *P) {
+    vulfsjor_blake2b_param one;
+    vulfsjor_blake2b_state S;
+    if (!P) return VULFSJOR_ARGUMENT_PARAM;
+    one = *P;
+    one.key_length = 0;
+    if (vulfsjor_blake2b_init_param(&S, &one)) return VULFSJOR_ARGUMENT_OUTLEN;
+    return vulfsjor_blake2b_init_param(&S, P) ? VULFSJOR_ARGUMENT_KEY : VULFSJOR_ARGUMENT_NONE;
+}
+
+/* Returns the first of these arguments, in this order, that an init of BLAKE2s refuses, or
+ * VULFSJOR_ARGUMENT_NONE. They are those of vulfsjor_blake2s_init_tree; tree is null for the other
+ * inits, the hash in one call and _many. */
+static inline vulfsjor_argument vulfsjor_blake2s_refused(size_t outlen, const void *key,
+                                                          size_t keylen, const void *salt,
+                                                          size_t saltlen, const void *personal,
+                                                          size_t personallen,
+                                                          const vulfsjor_tree *tree) {
+    vulfsjor_tree one = {0, 0, 1, 1, 0, 0};
+    vulfsjor_blake2s_state S;
+    int refused;
+    if (vulfsjor_blake2s_init(&S, outlen)) return VULFSJOR_ARGUMENT_OUTLEN;
+    refused = vulfsjor_blake2s_init_salt_personal(&S, 1, key, keylen, 0, 0, 0, 0);
+    vulfsjor_blake2s_wipe(&S);
+    if (refused) return VULFSJOR_ARGUMENT_KEY;
+    if (vulfsjor_blake2s_init_salt_personal(&S, 1, 0, 0, salt, saltlen, 0, 0))
+        return VULFSJOR_ARGUMENT_SALT;
+    if (vulfsjor_blake2s_init_salt_personal(&S, 1, 0, 0, 0, 0, personal, personallen))
+        return VULFSJOR_ARGUMENT_PERSONAL;
+    if (!tree) return VULFSJOR_ARGUMENT_NONE;
+    one.node_offset = tree->node_offset;
+    if (vulfsjor_blake2s_init_tree(&S, 1, 0, 0, 0, 0, 0, 0, &one))
+        return VULFSJOR_ARGUMENT_NODE_OFFSET;
+    one.depth = tree->depth;
+    if (vulfsjor_blake2s_init_tree(&S, 1, 0, 0, 0, 0, 0, 0, &one)) return VULFSJOR_ARGUMENT_DEPTH;
+    one.inner_length = tree->inner_length;
+    if (vulfsjor_blake2s_init_tree(&S, 1, 0, 0, 0, 0, 0, 0, &one))
+        return VULFSJOR_ARGUMENT_INNER_LENGTH;
+    return VULFSJOR_ARGUMENT_NONE;
+}
+
+/* Returns what vulfsjor_blake2s_init_param refuses: VULFSJOR_ARGUMENT_PARAM if P is null,
+ * VULFSJOR_ARGUMENT_OUTLEN for its digest_length, VULFSJOR_ARGUMENT_KEY for its key_length, or
+ * VULFSJOR_ARGUMENT_NONE. */
+static inline vulfsjor_argument vulfsjor_blake2s_param_refused(const vulfsjor_blake2s_param *P) {
+    vulfsjor_blake2s_param one;
+    vulfsjor_blake2s_state S;
+    if (!P) return VULFSJOR_ARGUMENT_PARAM;
+    one = *P;
+    one.key_length = 0;
+    if (vulfsjor_blake2s_init_param(&S, &one)) return VULFSJOR_ARGUMENT_OUTLEN;
+    return vulfsjor_blake2s_init_param(&S, P) ? VULFSJOR_ARGUMENT_KEY : VULFSJOR_ARGUMENT_NONE;
+}
+
+/* Returns the first argument, in this order, that vulfsjor_tree_init with these arguments refuses,
+ * or VULFSJOR_ARGUMENT_NONE. */
+static inline vulfsjor_argument vulfsjor_tree_refused(size_t outlen, const void *salt,
+                                                      size_t saltlen, const void *personal,
+                                                      size_t personallen, uint32_t leaf_length) {
+    vulfsjor_tree_state S;
+    if (vulfsjor_tree_init(&S, outlen, 0, 0, 0, 0, 1)) return VULFSJOR_ARGUMENT_OUTLEN;
+    if (vulfsjor_tree_init(&S, 1, salt, saltlen, 0, 0, 1)) return VULFSJOR_ARGUMENT_SALT;
+    if (vulfsjor_tree_init(&S, 1, 0, 0, personal, personallen, 1))
+        return VULFSJOR_ARGUMENT_PERSONAL;
+    if (vulfsjor_tree_init(&S, 1, 0, 0, 0, 0, leaf_length)) return VULFSJOR_ARGUMENT_LEAF_LENGTH;
+    return VULFSJOR_ARGUMENT_NONE;
+}
+
+#ifdef __cplusplus
+}
+#endif
+#endif

@@ -1,0 +1,88 @@
+# What the parts of the tests of the C library share; a part reads it by `source` and ends with
+# `part FUNCTION`, or `part FUNCTION cases` if it needs the test vectors. It installs the library in
+# a temporary folder:
+#
+#   c/tests/PART.sh [--cpu CPU] [--from DIST]
+#
+# c/install.sh explains the options. Without DIST the library is that of dist/.
+declare -F part >/dev/null && return
+set -u
+source "$(dirname "$(readlink -f "${BASH_SOURCE[0]}")")/../../tests/tap.sh"
+here=$top/c
+tests=$here/tests
+prefix=$work/installed
+dist=$top/dist
+cases=$work/vectors
+cpu=()
+while [ $# -gt 0 ]; do
+    case $1,$# in
+        --cpu,[2-9]) cpu=(--cpu "$2") ;;
+        --from,[2-9]) dist=$(readlink -f "$2") ;;
+        *) echo "usage: $0 [--cpu CPU] [--from DIST]" >&2 && exit 2 ;;
+    esac
+    shift 2
+done
+
+include=$prefix/include
+libb2=$include/vulfsjor-libb2
+archive=$prefix/lib/libvulfsjor.a
+shared=$prefix/lib/libvulfsjor.so
+warnings=(-Wall -Wextra -Wpedantic -Werror)
+empty=$work/empty.c
+echo 'int main(void) { return 0; }' >"$empty"
+
+# The level of the processor here, if it is an x86-64.
+level=$("$top/tools/processor.sh")
+level=${level#x86-64-v}
+
+# Whether the library here is for x86-64, and whether it holds both builds, and so chooses.
+is_x86() { [[ $(cc -dumpmachine) == x86_64-* ]]; }
+chooses() { is_x86 && [ ${#cpu[@]} -eq 0 ]; }
+
+# Whether the compiler links a program with these words.
+links() { cc -o "$work/linked" "$empty" "$@" >/dev/null 2>&1; }
+
+# The words of a test program for a family.
+family_words() { [ "$1" = s ] && echo -DTEST_S; }
+
+# The words that pkg-config has for one of its names, or those that do the same.
+words_for() {
+    if has pkg-config; then
+        PKG_CONFIG_PATH=$prefix/lib/pkgconfig pkg-config --cflags --libs "$1"
+        return
+    fi
+    case $1 in
+        vulfsjor) echo "-I$include -L$prefix/lib -lvulfsjor" ;;
+        vulfsjor-static) echo "-I$include $archive" ;;
+        vulfsjor-threads)
+            echo "-I$include $prefix/lib/libvulfsjor-threads.a $archive -pthread"
+            ;;
+    esac
+}
+
+wanted_of_readme() {
+    python3 -c 'import hashlib
+print(hashlib.blake2b(b"hello world", digest_size=32, key=b"key").hexdigest())'
+}
+
+# The test vectors of the families, a line each.
+write_cases() {
+    local family
+    mkdir "$cases"
+    for family in b s; do
+        python3 "$top/tests/vectors.py" --lines $family >"$work/lines" &&
+            grep '^[hnrt] ' "$work/lines" >"$cases/$family" || return 1
+    done
+}
+
+# Runs the tests of a part, unless its file is read by another part for its functions.
+part() {
+    [ "${BASH_SOURCE[1]}" = "$0" ] || return 0
+    if ! has cc; then
+        skip "all tests" "no C compiler cc"
+    elif check "install.sh" "$here/install.sh" "${cpu[@]}" --from "$dist" "$prefix" &&
+        { [ $# -eq 1 ] || ! has python3 || check "tests/vectors.json in lines" write_cases; }; then
+        "$1"
+    fi
+    finish
+}

@@ -1,0 +1,282 @@
+/* Tests what the inline functions of vulfsjor.h and of libb2/blake2.h pass to the library, for
+ * lengths beyond 2^32 and 2^63: functions of this file stand for the library, note their arguments
+ * and return the status that a test chooses. Nothing is hashed. Returns 0 if all checks pass.
+ *
+ *   cc -std=c99 -Wall -Wextra -Wpedantic -Werror -I FOLDER/include
+ *       -I FOLDER/include/vulfsjor-libb2 passes.c -o passes
+ *   cc the same with -DTEST_S                the same for BLAKE2s, without the tree */
+#include "check.h"
+#include "family.h"
+
+#include <blake2.h>
+
+/* ---- the library */
+
+#define Z(x) (uint64_t)(uintptr_t)(x)
+#define Z1(a) Z(a)
+#define Z2(a, ...) Z(a), Z1(__VA_ARGS__)
+#define Z3(a, ...) Z(a), Z2(__VA_ARGS__)
+#define Z4(a, ...) Z(a), Z3(__VA_ARGS__)
+#define Z5(a, ...) Z(a), Z4(__VA_ARGS__)
+#define Z6(a, ...) Z(a), Z5(__VA_ARGS__)
+#define Z7(a, ...) Z(a), Z6(__VA_ARGS__)
+#define Z8(a, ...) Z(a), Z7(__VA_ARGS__)
+#define Z9(a, ...) Z(a), Z8(__VA_ARGS__)
+#define Z10(a, ...) Z(a), Z9(__VA_ARGS__)
+#define Z11(a, ...) Z(a), Z10(__VA_ARGS__)
+#define Z12(a, ...) Z(a), Z11(__VA_ARGS__)
+#define Z13(a, ...) Z(a), Z12(__VA_ARGS__)
+#define Z14(a, ...) Z(a), Z13(__VA_ARGS__)
+
+/* The last call of the library, and what it returns; and the call before it. */
+static struct {
+    const char *name;
+    size_t count;
+    uint64_t given[14], answer;
+} last, before;
+
+static uint64_t note(const char *name, size_t count, const uint64_t *given) {
+    before = last;
+    last.name = name;
+    last.count = count;
+    memcpy(last.given, given, count * sizeof *given);
+    return last.answer;
+}
+
+/* How often a state of a hash was wiped. */
+static int wipes;
+
+/* A function of the library with N parameters. */
+#define NOTE(type, name, n, parameters, names)                            \
+    type name parameters {                                                \
+        return (type)note(#name, n, (const uint64_t[]){Z##n names});      \
+    }
+#define BYTES(name) const uint8_t *name, size_t name##_length
+#define OUT uint8_t *o, size_t n
+#define MORE BYTES(s), BYTES(p)
+#define FAMILY_NOTES(x)                                                                            \
+    NOTE(int32_t, vulfsjor_ffi_##x, 6, (OUT, BYTES(i), BYTES(k)),                                  \
+         (o, n, i, i_length, k, k_length))                                                         \
+    NOTE(int32_t, vulfsjor_ffi_##x##_many, 11,                                                     \
+         (OUT, size_t z, const vulfsjor_message *m, size_t c, BYTES(k), MORE),                     \
+         (o, n, z, m, c, k, k_length, s, s_length, p, p_length))                                   \
+    NOTE(int32_t, vulfsjor_ffi_##x##_init_salt_personal, 8,                                        \
+         (vulfsjor_##x##_state * S, size_t n, BYTES(k), MORE),                                     \
+         (S, n, k, k_length, s, s_length, p, p_length))                                            \
+    NOTE(int32_t, vulfsjor_ffi_##x##_init_key, 4, (vulfsjor_##x##_state * S, size_t n, BYTES(k)),  \
+         (S, n, k, k_length))                                                                      \
+    NOTE(int32_t, vulfsjor_ffi_##x##_init_tree, 14,                                                \
+         (vulfsjor_##x##_state * S, size_t n, BYTES(k), MORE, uint8_t f, uint8_t d, uint32_t l,    \
+          uint64_t at, uint8_t nd, uint8_t il),                                                    \
+         (S, n, k, k_length, s, s_length, p, p_length, f, d, l, at, nd, il))                       \
+    NOTE(int32_t, vulfsjor_ffi_##x##_init_param, 3, (vulfsjor_##x##_state * S, BYTES(b)),          \
+         (S, b, b_length))                                                                         \
+    NOTE(int32_t, vulfsjor_ffi_##x##_update, 3, (vulfsjor_##x##_state * S, BYTES(i)),              \
+         (S, i, i_length))                                                                         \
+    NOTE(int32_t, vulfsjor_ffi_##x##_final, 3, (vulfsjor_##x##_state * S, OUT), (S, o, n))         \
+    NOTE(int32_t, vulfsjor_ffi_##x##_verify, 3, (vulfsjor_##x##_state * S, BYTES(t)),              \
+         (S, t, t_length))                                                                         \
+    NOTE(int32_t, vulfsjor_ffi_##x##_set_last_node, 2, (vulfsjor_##x##_state * S, uint32_t on),    \
+         (S, on))                                                                                  \
+    NOTE(int32_t, vulfsjor_ffi_##x##_reset, 1, (vulfsjor_##x##_state * S), (S))                    \
+    NOTE(size_t, vulfsjor_ffi_##x##_digest_size, 1, (const vulfsjor_##x##_state *S), (S))          \
+    NOTE(uint64_t, vulfsjor_ffi_##x##_count, 1, (const vulfsjor_##x##_state *S), (S))              \
+    void vulfsjor_ffi_##x##_wipe(vulfsjor_##x##_state *S) {                                        \
+        wipes++;                                                                                   \
+        note("vulfsjor_ffi_" #x "_wipe", 1, (const uint64_t[]){Z(S)});                             \
+    }
+FAMILY_NOTES(blake2b)
+FAMILY_NOTES(blake2s)
+
+NOTE(int32_t, vulfsjor_ffi_is_same, 4, (BYTES(a), BYTES(b)), (a, a_length, b, b_length))
+NOTE(int32_t, vulfsjor_ffi_tree_root, 9, (OUT, BYTES(i), MORE, uint32_t l),
+     (o, n, i, i_length, s, s_length, p, p_length, l))
+NOTE(int32_t, vulfsjor_ffi_tree_init, 7, (vulfsjor_tree_state *S, size_t n, MORE, uint32_t l),
+     (S, n, s, s_length, p, p_length, l))
+NOTE(int32_t, vulfsjor_ffi_tree_update, 3, (vulfsjor_tree_state *S, BYTES(i)), (S, i, i_length))
+NOTE(int32_t, vulfsjor_ffi_tree_final, 3, (vulfsjor_tree_state *S, OUT), (S, o, n))
+NOTE(size_t, vulfsjor_ffi_tree_digest_size, 1, (const vulfsjor_tree_state *S), (S))
+NOTE(uint64_t, vulfsjor_ffi_tree_count, 1, (const vulfsjor_tree_state *S), (S))
+NOTE(uint32_t, vulfsjor_ffi_tree_leaf_length, 1, (const vulfsjor_tree_state *S), (S))
+NOTE(uint64_t, vulfsjor_ffi_tree_leaf_count, 2, (uint64_t n, uint32_t l), (n, l))
+NOTE(int32_t, vulfsjor_ffi_tree_leaves, 11,
+     (OUT, uint64_t f, uint32_t e, BYTES(i), MORE, uint32_t l),
+     (o, n, f, e, i, i_length, s, s_length, p, p_length, l))
+NOTE(int32_t, vulfsjor_ffi_tree_root_of_leaves, 9, (OUT, BYTES(d), MORE, uint32_t l),
+     (o, n, d, d_length, s, s_length, p, p_length, l))
+NOTE(int32_t, vulfsjor_ffi_tree_next_leaves, 6,
+     (const vulfsjor_tree_state *S, OUT, uint64_t k, BYTES(i)), (S, o, n, k, i, i_length))
+NOTE(int32_t, vulfsjor_ffi_tree_update_leaves, 5, (vulfsjor_tree_state *S, BYTES(d), BYTES(i)),
+     (S, d, d_length, i, i_length))
+void vulfsjor_ffi_tree_wipe(vulfsjor_tree_state *S) {
+    note("vulfsjor_ffi_tree_wipe", 1, (const uint64_t[]){Z(S)});
+}
+uint32_t vulfsjor_ffi_version(void) {
+    return (uint32_t)note("vulfsjor_ffi_version", 0, last.given);
+}
+
+/* ---- the tests */
+
+/* Stands for a pointer that is not null and may point anywhere. */
+#define ANY ((void *)0x5eed)
+
+/* Whether the last call was this one. It is then forgotten. */
+static int is_call(const char *name, size_t count, const uint64_t *wanted) {
+    int is = last.name && !strcmp(last.name, name) && last.count == count;
+
+    for (size_t i = 0; is && i < count; i++)
+        is = wanted[i] == Z(ANY) ? last.given[i] != 0 : last.given[i] == wanted[i];
+    last.name = NULL;
+    return is;
+}
+
+/* The call passes these N arguments to this function, and returns what that returns. */
+#define PASSES(call, name, n, arguments)                                               \
+    do {                                                                               \
+        for (int i = 0; i >= -1; i--) {                                                \
+            last.answer = (uint64_t)i;                                                 \
+            CHECK((call) == i);                                                        \
+            CHECK(is_call(name, n, (const uint64_t[]){Z##n arguments}));               \
+        }                                                                              \
+    } while (0)
+/* The same for a call that returns a number of this type. */
+#define COUNTS(type, call, name, n, arguments)                                          \
+    do {                                                                                \
+        last.answer = UINT64_MAX / 3;                                                   \
+        CHECK((call) == (type)last.answer);                                             \
+        CHECK(is_call(name, n, (const uint64_t[]){Z##n arguments}));                    \
+    } while (0)
+/* The inline function has the name and the arguments of that of the library. */
+#define SAME(x, n, arguments) PASSES(vulfsjor_##x arguments, "vulfsjor_ffi_" #x, n, arguments)
+
+#ifdef TEST_S
+#define NAME(name) "vulfsjor_ffi_blake2s_" #name
+#define WHOLE "vulfsjor_ffi_blake2s"
+#define B(name) blake2s_##name
+#define HASH blake2s
+#else
+#define NAME(name) "vulfsjor_ffi_blake2b_" #name
+#define WHOLE "vulfsjor_ffi_blake2b"
+#define B(name) blake2b_##name
+#define HASH blake2b
+#endif
+
+/* Lengths beyond 2^32, and bytes that nothing reads. */
+#define L1 (((size_t)1 << 32) + 1)
+#define L2 (((size_t)1 << 40) + MAX)
+#define L3 ((size_t)1 << 63)
+#define L4 (~(size_t)0)
+static uint8_t in[1], out[1], key[1], salt[1], persona[1];
+static state_t state;
+static const vulfsjor_tree place = {~(uint64_t)1, ~(uint32_t)2, 3, 4, 5, 6};
+
+static void inits(void) {
+    param_t param = {0};
+
+    PASSES(BLAKE(init)(&state, L1), NAME(init_salt_personal), 8,
+           (&state, L1, ANY, 0, ANY, 0, ANY, 0));
+    PASSES(BLAKE(init_key)(&state, L1, key, L2), NAME(init_key), 4, (&state, L1, key, L2));
+    PASSES(BLAKE(init_salt_personal)(&state, L1, key, L2, salt, L3, persona, L4),
+           NAME(init_salt_personal), 8, (&state, L1, key, L2, salt, L3, persona, L4));
+    PASSES(BLAKE(init_salt_personal)(&state, L1, 0, 0, 0, 0, 0, 0), NAME(init_salt_personal), 8,
+           (&state, L1, ANY, 0, ANY, 0, ANY, 0));
+    PASSES(BLAKE(init_tree)(&state, L1, key, L2, salt, L3, persona, L4, &place), NAME(init_tree),
+           14,
+           (&state, L1, key, L2, salt, L3, persona, L4, 3, 4, ~(uint32_t)2, ~(uint64_t)1, 5, 6));
+    PASSES(BLAKE(init_param)(&state, &param), NAME(init_param), 3, (&state, &param, MAX));
+}
+
+static void calls(void) {
+    vulfsjor_message messages[3] = {{in, L1}, {in, L2}, {in, 0}};
+
+    PASSES(BLAKE(update)(&state, in, L1), NAME(update), 3, (&state, in, L1));
+    PASSES(BLAKE(update)(&state, NULL, 0), NAME(update), 3, (&state, ANY, 0));
+    PASSES(BLAKE(final)(&state, out, L1), NAME(final), 3, (&state, out, L1));
+    PASSES(BLAKE(verify)(&state, in, L2), NAME(verify), 3, (&state, in, L2));
+    PASSES(BLAKE(set_last_node)(&state, -2), NAME(set_last_node), 2, (&state, 0xfffffffe));
+    PASSES(BLAKE(reset)(&state), NAME(reset), 1, (&state));
+    COUNTS(size_t, BLAKE(digest_size)(&state), NAME(digest_size), 1, (&state));
+    COUNTS(uint64_t, BLAKE(count)(&state), NAME(count), 1, (&state));
+    BLAKE(wipe)(&state);
+    CHECK(is_call(NAME(wipe), 1, (const uint64_t[]){Z(&state)}));
+    last.answer = 0;
+    wipes = 0; /* the scratch state of the key is wiped */
+    CHECK(!BLAKE(refused)(1, key, 1, 0, 0, 0, 0, 0) && wipes == 1);
+    PASSES(ONE_CALL(out, L1, in, L2, key, L3), WHOLE, 6, (out, L1, in, L2, key, L3));
+    PASSES(BLAKE(many)(out, L3 / 4, messages, 3, key, L1, salt, L2, persona, L4), NAME(many), 11,
+           (out, L3 / 4 * 3, L3 / 4, messages, 3, key, L1, salt, L2, persona, L4));
+}
+
+/* The same for a call by one of libb2's names, which wipes its copy of the state afterwards. */
+#define COPIES(call, name, n, arguments)                                               \
+    do {                                                                               \
+        for (int i = 0; i >= -1; i--) {                                                \
+            last.answer = (uint64_t)i;                                                 \
+            CHECK((call) == i);                                                        \
+            CHECK(is_call(NAME(wipe), 1, (const uint64_t[]){Z(ANY)}));                 \
+            last = before;                                                             \
+            CHECK(is_call(name, n, (const uint64_t[]){Z##n arguments}));               \
+        }                                                                              \
+    } while (0)
+
+/* The names of libb2. */
+static void names_of_libb2(void) {
+    param_t param = {0};
+    B(state) other = {0};
+    uint8_t digest[MAX];
+
+    COPIES(B(init)(&other, L1), NAME(init_salt_personal), 8, (ANY, L1, ANY, 0, ANY, 0, ANY, 0));
+    COPIES(B(init_key)(&other, L1, key, L2), NAME(init_key), 4, (ANY, L1, key, L2));
+    COPIES(B(init_param)(&other, &param), NAME(init_param), 3, (ANY, &param, MAX));
+    COPIES(B(update)(&other, in, L1), NAME(update), 3, (ANY, in, L1));
+    other.outlen = MAX;
+    COPIES(B(final)(&other, out, MAX), NAME(final), 3, (ANY, out, MAX));
+    CHECK(B(final)(&other, out, L1 + MAX - 1) == -1 && !last.name);
+    PASSES(HASH(digest, in, key, MAX, L1, L2), WHOLE, 6, (ANY, MAX, in, L1, key, L2));
+    CHECK(HASH(digest, in, key, L1, 1, 1) == -1 && !last.name);
+#ifndef TEST_S
+    PASSES(blake2(digest, in, key, MAX, L1, L2), WHOLE, 6, (ANY, MAX, in, L1, key, L2));
+#endif
+}
+
+#ifndef TEST_S
+static void trees(void) {
+    vulfsjor_tree_state tree;
+    const uint32_t leaf = ~(uint32_t)6;
+
+    PASSES(vulfsjor_is_same(in, key, L2), "vulfsjor_ffi_is_same", 4, (in, L2, key, L2));
+    last.answer = 0x01020304;
+    CHECK(vulfsjor_version() == 0x01020304 && is_call("vulfsjor_ffi_version", 0, last.given));
+    SAME(tree_root, 9, (out, L1, in, L2, salt, L3, persona, L4, leaf));
+    SAME(tree_init, 7, (&tree, L1, salt, L2, persona, L3, leaf));
+    SAME(tree_update, 3, (&tree, in, L2));
+    SAME(tree_final, 3, (&tree, out, L1));
+    COUNTS(size_t, vulfsjor_tree_digest_size(&tree), "vulfsjor_ffi_tree_digest_size", 1, (&tree));
+    COUNTS(uint64_t, vulfsjor_tree_count(&tree), "vulfsjor_ffi_tree_count", 1, (&tree));
+    COUNTS(uint32_t, vulfsjor_tree_leaf_length(&tree), "vulfsjor_ffi_tree_leaf_length", 1, (&tree));
+    COUNTS(uint64_t, vulfsjor_tree_leaf_count(L4, leaf), "vulfsjor_ffi_tree_leaf_count", 2,
+           (L4, leaf));
+    PASSES(vulfsjor_tree_leaves(out, L1, L4, -2, in, L2, salt, L3, persona, L4, leaf),
+           "vulfsjor_ffi_tree_leaves", 11, (out, L1, L4, 1, in, L2, salt, L3, persona, L4, leaf));
+    PASSES(vulfsjor_tree_leaves(out, L1, L4, 0, 0, 0, 0, 0, 0, 0, leaf), "vulfsjor_ffi_tree_leaves",
+           11, (out, L1, L4, 0, ANY, 0, ANY, 0, ANY, 0, leaf));
+    SAME(tree_root_of_leaves, 9, (out, L1, in, L2, salt, L3, persona, L4, leaf));
+    SAME(tree_next_leaves, 6, (&tree, out, L1, L2, in, L3));
+    SAME(tree_update_leaves, 5, (&tree, in, L1, key, L2));
+    PASSES(vulfsjor_tree_update_leaves(&tree, 0, 0, 0, 0), "vulfsjor_ffi_tree_update_leaves", 5,
+           (&tree, ANY, 0, ANY, 0));
+    vulfsjor_tree_wipe(&tree);
+    CHECK(is_call("vulfsjor_ffi_tree_wipe", 1, (const uint64_t[]){Z(&tree)}));
+}
+#endif
+
+int main(void) {
+    inits();
+    calls();
+    names_of_libb2();
+#ifndef TEST_S
+    trees();
+#endif
+    fprintf(stderr, "%d checks, %d failures\n", checks, fails);
+    return fails != 0;
+}

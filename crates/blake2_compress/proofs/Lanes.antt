@@ -1,0 +1,251 @@
+-- Several messages side by side: their words, and the result of the last step of a compression.
+use Rattle.std.proofs.Common.{false, ◌≡◌, ℕ, zero, suc, ◌+◌, ◌-◌, ◌*◌, ◌<◌, ◌≤◌, List, [], ◌∷◌}
+use Rattle.std.proofs.Common.{length, get_or, slice_index, slice_index_or, bit_xor, replicate, map}
+use Rattle.std.proofs.Common.{take, drop, refl, sym, ap, subst, ◌∙◌, arith, below_more, slice_set}
+use Rattle.std.proofs.lemmas.List.{ext_get_or, get_or-map, get_or_default, length-map}
+use Rattle.std.proofs.lemmas.List.{get_or-set_other, get_or-set_same}
+use Rattle.std.specs.Borrow.{Bor}
+use Rattle.blake2_simd.specs.Family.{Family, block_bytes}
+use Rattle.blake2_simd.specs.Rows.{eight, lane}
+use Rattle.blake2_simd.proofs.Lanes.{lane_of, lanes}
+use Rattle.blake2_simd.proofs.Words.{cells, cells-drop}
+use Rattle.blake2_compress.specs.Hash.{Flags, Input, block_count, blocks}
+use Rattle.blake2_compress.specs.Hash.{chain, compress, inner, input_data}
+use Rattle.blake2_compress.specs.Hash.{last_chain, xor_words}
+use Rattle.blake2_simd.specs.Lanes.{in_lane}
+use Rattle.blake2_compress.specs.Lanes.{after_blocks, block_lists, flags_at, texts}
+
+-- Word k of the state in a lane.
+pub lane_word : (rows : List (List ℕ)) (j k : ℕ) (d : List ℕ) → k < length rows
+    → slice_index (get_or rows k d) j ≡ slice_index (in_lane j rows) k
+lane_word rows j k d h = sym (get_or-map (λ (row : List ℕ). slice_index row j) rows k d 0 h)
+
+-- The words of a lane, word by word.
+pub lane_is : (n j : ℕ) (rows : List (List ℕ)) (words : List ℕ) → length rows ≡ n
+    → length words ≡ n
+    → ((k : ℕ) → k < n → slice_index (slice_index_or rows k []) j ≡ slice_index words k)
+    → in_lane j rows ≡ words
+lane_is n j rows words long many at =
+    let word : List ℕ → ℕ = λ row. slice_index row j in
+    let as_many : length (in_lane j rows) ≡ length rows = length-map rows word in
+    ext_get_or 0 (in_lane j rows) words (as_many ∙ long ∙ sym many)
+    (λ k lt. get_or-map word rows k [] 0 (omega (arith, as_many))
+    ∙ at k (omega (arith, as_many)))
+
+-- Block j of several.
+pub text_at : (blocks : List (Bor (List ℕ))) (j : ℕ) (d : Bor (List ℕ)) → j < length blocks
+    → (get_or blocks j d).now ≡ slice_index_or (texts blocks) j []
+text_at blocks j d h = sym (get_or-map (λ b. b.now) blocks j d [] h)
+
+-- The blocks of message j, of several.
+pub blocks_at : (lists : List (Bor (List (List ℕ)))) (j : ℕ) (d : Bor (List (List ℕ)))
+    → j < length lists → (get_or lists j d).now ≡ slice_index_or (block_lists lists) j []
+blocks_at lists j d h = sym (get_or-map (λ b. b.now) lists j d [] h)
+
+-- The default for an index that a list of references to blocks does not have.
+abbrev pub no_blocks : Bor (List (List ℕ))
+no_blocks = record { ref_ptr = (0, 0); now = [] }
+
+-- What holds for the blocks that each of n references points to holds for their list.
+pub in_lists : (P : ℕ → List (List ℕ) → Type 0) (lists : List (Bor (List (List ℕ)))) (n i : ℕ)
+    → length lists ≡ n → n ≤ i → ((k : ℕ) → k < i → P k (slice_index_or lists k no_blocks).now)
+    → (k : ℕ) → k < n → P k (slice_index_or (block_lists lists) k [])
+in_lists P lists n i long all each k lt =
+    subst (P k) (blocks_at lists k no_blocks (omega arith)) (each k (omega arith))
+
+-- n blocks of an input's data from the second on.
+abbrev pub AreLater : Family → Input → ℕ → List (List ℕ) → Type 0
+AreLater f a n later = (length later ≡ n) × ((i : ℕ) → i < n
+    → slice_index_or later i [] ≡ slice_index_or (blocks f (input_data f a)) (i + 1) [])
+
+-- Block i of message j.
+pub block_in_list : (lists : List (Bor (List (List ℕ)))) (j i : ℕ) (d : Bor (List (List ℕ)))
+    (e : List ℕ) → j < length lists → i < length (get_or lists j d).now
+    → get_or (get_or lists j d).now i e
+    ≡ slice_index_or (slice_index_or (block_lists lists) j []) i []
+block_in_list lists j i d e here within =
+    get_or_default (get_or lists j d).now i e [] within
+    ∙ ap (λ l. slice_index_or l i []) (blocks_at lists j d here)
+
+-- What holds for the elements below j, and for one that is put there, holds for those below j + 1.
+pub set_more : {X : Type 0} (P : ℕ → X → Type 0) (xs : List X) (j : ℕ) (x d : X) → j < length xs
+    → ((k : ℕ) → k < j → P k (slice_index_or xs k d)) → P j x
+    → (k : ℕ) → k < j + 1 → P k (slice_index_or (slice_set xs j x) k d)
+set_more P xs j x d within before here =
+    below_more (λ k. P k (slice_index_or (slice_set xs j x) k d)) j
+    (λ k lt. subst (P k) (sym (get_or-set_other xs j k x d (λ e. absurd (omega arith))))
+    (before k lt)) (subst (P j) (sym (get_or-set_same xs j x d within)) here)
+
+-- No block yet.
+pub none_after : (f : Family) (h : List ℕ) (d : List (List ℕ)) (t : ℕ) (flags : Flags)
+    → h ≡ after_blocks f h d t flags 0
+unfolding after_blocks
+none_after f h d t flags = refl
+
+-- One more block, of several under the same flags.
+pub one_more_after : (f : Family) (h : List ℕ) (d : List (List ℕ)) (t : ℕ) (flags : Flags)
+    (i u : ℕ) (old new block : List ℕ) → old ≡ after_blocks f h d t flags i
+    → new ≡ compress f old block u flags → block ≡ slice_index_or d i []
+    → u ≡ t + i * block_bytes f → new ≡ after_blocks f h d t flags (i + 1)
+unfolding after_blocks
+one_more_after f h d t flags i u old new block before compressed is_block counted =
+    let next : suc i ≡ i + 1 = omega arith in
+    compressed ∙ (λ k. compress f (before k) (is_block k) (counted k) flags)
+    ∙ ap (after_blocks f h d t flags) next
+
+-- A single block.
+pub single_after : (f : Family) (h block : List ℕ) (t : ℕ) (flags : Flags)
+    → after_blocks f h (block ∷ []) t flags 1 ≡ compress f h block t flags
+unfolding after_blocks
+single_after f h block t flags = ap (λ (u : ℕ). compress f h block u flags) (omega arith)
+
+-- The first block and then all others are all blocks.
+pub later_after : (f : Family) (h first : List ℕ) (d later : List (List ℕ)) (n : ℕ)
+    → first ≡ chain f h 0 d 1
+    → ((i : ℕ) → i < n → slice_index_or later i [] ≡ slice_index_or d (i + 1) [])
+    → after_blocks f first later (2 * block_bytes f) inner n ≡ chain f h 0 d (n + 1)
+unfolding after_blocks chain
+later_after f h first d later zero begun same = begun
+later_after f h first d later (suc n) begun same =
+    let before = later_after f h first d later n begun (λ i lt. same i (omega arith)) in
+    let next : suc (n + 1) ≡ suc n + 1 = omega arith in
+    let counted : 2 * block_bytes f + n * block_bytes f ≡ 0 + (n + 1 + 1) * block_bytes f =
+    omega arith in
+    (λ k. compress f (before k) (same n (omega arith) k) (counted k) inner)
+    ∙ ap (chain f h 0 d) next
+
+-- Eight words xored with both halves of sixteen.
+pub xored : (h v : List ℕ) → length h ≡ 8 → length v ≡ 16
+    → (let x : ℕ → ℕ = λ k. bit_xor (bit_xor (slice_index h k) (slice_index v k))
+    (slice_index v (8 + k)) in
+    x 0 ∷ x 1 ∷ x 2 ∷ x 3 ∷ x 4 ∷ x 5 ∷ x 6 ∷ x 7 ∷ [])
+    ≡ xor_words (xor_words h (take 8 v)) (drop 8 v)
+unfolding xor_words
+xored h v lh lv =
+    (λ i. xor_words (xor_words (cells h 0 8) (take 8 (cells v 0 16))) (drop 8 (cells v 0 16)))
+    ∙ (λ i. xor_words (xor_words (cells-drop h 0 8 lh i) (take 8 (cells-drop v 0 16 lv i)))
+    (drop 8 (cells-drop v 0 16 lv i)))
+
+-- Word k of lane j of h, xored with those of both halves of v.
+abbrev pub xor_at : List (List ℕ) → List (List ℕ) → ℕ → ℕ → ℕ
+xor_at h v j k =
+    bit_xor (bit_xor (slice_index (slice_index_or h k []) j)
+    (slice_index (slice_index_or v k []) j))
+    (slice_index (slice_index_or v (8 + k) []) j)
+
+-- The default of a list changes no word that is read.
+pub xor_read : (h v : List (List ℕ)) (j k : ℕ) (a b c : List ℕ) → k < length h → k < length v
+    → 8 + k < length v
+    → bit_xor (bit_xor (slice_index (get_or h k a) j) (slice_index (get_or v k b) j))
+    (slice_index (get_or v (8 + k) c) j) ≡ xor_at h v j k
+xor_read h v j k a b c hk vk vl = λ i. bit_xor
+    (bit_xor (slice_index (get_or_default h k a [] hk i) j)
+    (slice_index (get_or_default v k b [] vk i) j))
+    (slice_index (get_or_default v (8 + k) c [] vl i) j)
+
+-- The eight words of such a lane.
+pub xored_lanes : (h v out : List (List ℕ)) (j : ℕ) → length h ≡ 8 → length v ≡ 16
+    → length out ≡ 8
+    → ((k : ℕ) → k < 8 → slice_index (slice_index_or out k []) j ≡ xor_at h v j k)
+    → in_lane j out ≡ xor_words (xor_words (in_lane j h) (take 8 (in_lane j v)))
+    (drop 8 (in_lane j v))
+xored_lanes h v out j lh lv long at =
+    let word : List ℕ → ℕ = λ row. slice_index row j in
+    let x : ℕ → ℕ = λ k. bit_xor (bit_xor (slice_index (in_lane j h) k)
+    (slice_index (in_lane j v) k)) (slice_index (in_lane j v) (8 + k)) in
+    lane_is 8 j out (lanes 8 x) long refl
+    (λ k lt. at k lt
+    ∙ (λ i. bit_xor (bit_xor (lane_word h j k [] (omega (arith, lh)) i)
+    (lane_word v j k [] (omega (arith, lv)) i)) (lane_word v j (8 + k) [] (omega (arith, lv)) i))
+    ∙ sym (lane_of 8 x k lt))
+    ∙ xored (in_lane j h) (in_lane j v) (length-map h word ∙ lh) (length-map v word ∙ lv)
+
+-- Word k of column j of some rows is the word in lane j of row k, which is row p of h.
+pub column_word : (h rows columns : List (List ℕ)) (p j k : ℕ) (d : List ℕ)
+    → lane columns j k ≡ lane rows k j → slice_index_or rows k [] ≡ slice_index_or h p []
+    → j < length columns → p < length h
+    → slice_index (get_or columns j d) k ≡ slice_index (in_lane j h) p
+column_word h rows columns p j k d turned is_row here within =
+    ap (λ l. slice_index l k) (get_or_default columns j d [] here) ∙ turned
+    ∙ ap (λ l. slice_index l j) is_row ∙ lane_word h j p [] within
+
+-- The words of column j, from all rows in one list of columns.
+pub whole_column : (h columns : List (List ℕ)) (j : ℕ) (d w : List ℕ) → w ≡ get_or columns j d
+    → length w ≡ 8 → length h ≡ 8 → j < length columns
+    → ((k : ℕ) → k < 8 → lane columns j k ≡ lane h k j) → w ≡ in_lane j h
+whole_column h columns j d w e long long_h here turned =
+    let at : (k : ℕ) → k < 8 → slice_index w k ≡ slice_index (in_lane j h) k =
+    λ k lt. ap (λ l. slice_index l k) e
+    ∙ column_word h h columns k j k d (turned k lt) refl here (omega arith) in
+    sym (cells-drop w 0 8 long)
+    ∙ (λ i. at 0 (omega arith) i ∷ at 1 (omega arith) i ∷ at 2 (omega arith) i
+    ∷ at 3 (omega arith) i ∷ at 4 (omega arith) i ∷ at 5 (omega arith) i ∷ at 6 (omega arith) i
+    ∷ at 7 (omega arith) i ∷ [])
+    ∙ cells-drop (in_lane j h) 0 8 (length-map h (λ (row : List ℕ). slice_index row j) ∙ long_h)
+
+-- And from columns of the first four rows and of the last four.
+pub two_columns : (h first last columns more : List (List ℕ)) (j : ℕ) (d e : List ℕ)
+    → length h ≡ 8 → length columns ≡ 4 → length more ≡ 4 → j < 4
+    → ((k : ℕ) → k < 4 → lane columns j k ≡ lane first k j)
+    → ((k : ℕ) → k < 4 → lane more j k ≡ lane last k j)
+    → ((k : ℕ) → k < 4 → slice_index_or first k [] ≡ slice_index_or h k [])
+    → ((k : ℕ) → k < 4 → slice_index_or last k [] ≡ slice_index_or h (4 + k) [])
+    → eight (get_or columns j d ∷ get_or more j e ∷ []) ≡ in_lane j h
+two_columns h first last columns more j d e long long_c long_m here turned turned_m is_first
+    is_last =
+    let at : (k : ℕ) → k < 4
+    → slice_index (get_or columns j d) k ≡ slice_index (in_lane j h) k =
+    λ k lt. column_word h first columns k j k d (turned k lt) (is_first k lt) (omega arith)
+    (omega arith) in
+    let after : (k : ℕ) → k < 4
+    → slice_index (get_or more j e) k ≡ slice_index (in_lane j h) (4 + k) =
+    λ k lt. column_word h last more (4 + k) j k e (turned_m k lt) (is_last k lt) (omega arith)
+    (omega arith) in
+    (λ i. at 0 (omega arith) i ∷ at 1 (omega arith) i ∷ at 2 (omega arith) i ∷ at 3 (omega arith) i
+    ∷ after 0 (omega arith) i ∷ after 1 (omega arith) i ∷ after 2 (omega arith) i
+    ∷ after 3 (omega arith) i ∷ [])
+    ∙ cells-drop (in_lane j h) 0 8 (length-map h (λ (row : List ℕ). slice_index row j) ∙ long)
+
+-- The flags of a block that others follow are off, whichever the message.
+pub inner_at : (n j : ℕ) → flags_at (replicate n (record { last = false; last_node = false })) j
+    ≡ inner
+inner_at zero j = refl
+inner_at (suc n) zero = refl
+inner_at (suc n) (suc j) = inner_at n j
+
+-- A run before its first block.
+pub no_block : (f : Family) (h : List ℕ) (d : List (List ℕ)) (n : ℕ) → n ≡ 0 → h ≡ chain f h 0 d n
+unfolding chain
+no_block f h d n e = sym (ap (chain f h 0 d) e)
+
+-- One more block.
+pub block_more : (f : Family) (h : List ℕ) (d : List (List ℕ)) (i t : ℕ) (old new block : List ℕ)
+    → old ≡ chain f h 0 d i
+    → new ≡ compress f old block t inner → block ≡ slice_index_or d i []
+    → t ≡ (i + 1) * block_bytes f → new ≡ chain f h 0 d (i + 1)
+unfolding chain
+block_more f h d i t old new block before compressed is_block counted =
+    let next : suc i ≡ i + 1 = omega arith in
+    let at : t ≡ 0 + (i + 1) * block_bytes f = omega arith in
+    compressed ∙ (λ k. compress f (before k) (is_block k) (at k) inner) ∙ ap (chain f h 0 d) next
+
+-- The last block.
+pub run_end : (f : Family) (h z : List ℕ) (n t : ℕ) (old new block : List ℕ) (flags : Flags)
+    → old ≡ chain f h 0 (blocks f z) n → n ≡ block_count f (length z) - 1
+    → new ≡ compress f old block t flags → block ≡ slice_index_or (blocks f z) n [] → t ≡ length z
+    → new ≡ last_chain f h 0 z flags
+unfolding last_chain
+run_end f h z n t old new block flags before last compressed is_block counted =
+    let at : t ≡ 0 + length z = omega arith in
+    compressed ∙ (λ k. compress f (before k) (is_block k) (at k) flags)
+    ∙ ap (λ m. compress f (chain f h 0 (blocks f z) m) (slice_index_or (blocks f z) m [])
+    (0 + length z) flags) last
+
+-- n items, each mapped.
+pub mapped : {X : Type 0} (n : ℕ) (g : X → List ℕ) (d : X) (xs : List X) (ys : List (List ℕ))
+    → length xs ≡ n → length ys ≡ n
+    → ((j : ℕ) → j < n → slice_index_or ys j [] ≡ g (slice_index_or xs j d)) → ys ≡ map g xs
+mapped n g d xs ys long many at =
+    let as_many : length (map g xs) ≡ n = length-map xs g ∙ long in
+    ext_get_or [] ys (map g xs) (many ∙ sym as_many)
+    (λ j lt. at j (omega (arith, many)) ∙ sym (get_or-map g xs j d [] (omega (arith, many, long))))

@@ -1,0 +1,5 @@
+use Rattle.blake2_simd.specs.Family.{blake2s}
+use Rattle.blake2_compress.proofs.inputs.blake2s.accepts.Given as goal
+
+abbrev pub ghost-accepts : goal.ghost-accepts
+ghost-accepts a = blake2s

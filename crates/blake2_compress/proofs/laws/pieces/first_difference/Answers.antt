@@ -1,0 +1,23 @@
+use Rattle.std.proofs.Common.{◌≡◌, ℕ, ◌<◌, length, slice_index_or, [], sym, ◌∙◌, arith}
+use Rattle.blake2_compress.specs.Pieces.{piece_count, pieces}
+use Rattle.blake2_compress.proofs.Pieces.{length-pieces, pieces-at, pieces_determine}
+use Rattle.blake2_compress.proofs.Pieces.{no_pair_differs}
+use Rattle.blake2_compress.proofs.laws.pieces.first_difference.Goals as goal
+
+-- No pair differs, so the pieces are the same, and they determine the messages.
+pub returns : goal.returns
+returns c =
+    let size = c.args.size in
+    let a = c.args.a.now in
+    let b = c.args.b.now in
+    let number : piece_count size (length a) ≡ piece_count size (length b) =
+    c.requires.equally_many in
+    let same : (i : ℕ) → i < length (pieces size a)
+    → slice_index_or (pieces size a) i [] ≡ slice_index_or (pieces size b) i [] =
+    λ i below.
+    let in_a : i < piece_count size (length a) = omega (arith, length-pieces size a) in
+    pieces-at size a i in_a ∙ c.loop-i.invariant i (omega arith)
+    ∙ sym (pieces-at size b i (omega (arith, number))) in
+    pieces_determine size a b c.requires.size
+    (no_pair_differs (pieces size a) (pieces size b)
+    (length-pieces size a ∙ number ∙ sym (length-pieces size b)) same)

@@ -1,0 +1,5 @@
+use Rattle.blake2_simd.specs.Family.{blake2s}
+use Rattle.blake2_compress.proofs.params.blake2s.parameters_in.Given as goal
+
+abbrev pub ghost-tree_in : goal.ghost-tree_in
+ghost-tree_in a = blake2s

@@ -1,0 +1,11 @@
+pub use Rattle.blake2_simd.specs.Family
+pub use Rattle.blake2_simd.specs.Round
+pub use Rattle.blake2_simd.specs.Rows
+pub mod Hash
+pub mod Inputs
+pub mod ParameterBlock
+pub mod Views
+pub mod Run
+pub mod Laws
+pub mod Lanes
+pub mod Pieces

@@ -1,0 +1,411 @@
+//! Four messages of BLAKE2b: eight rows hold their chaining words, row k having word k of each.
+
+ghost use Rattle.std.specs.Prelude.{◌≡◌, ◌↔◌, ◌<◌, ◌≤◌, ◌+◌, ◌-◌, ◌*◌, ◌^◌, ◌%◌, ℕ, List, []};
+ghost use Rattle.std.specs.Prelude.{◌++◌, IsTrue, length, bit_xor, map, take, drop};
+ghost use Rattle.std.specs.Prelude.{slice_index, slice_index_or};
+ghost use Rattle.blake2_simd.specs.Family.{blake2b, output_bytes, sigma};
+ghost use Rattle.blake2_simd.specs.Lanes.{in_lane};
+ghost use Rattle.blake2_simd.specs.Round;
+ghost use Rattle.blake2_simd.specs.Rows.{eight, lane};
+ghost use Rattle.blake2_compress.specs.Hash;
+ghost use Rattle.blake2_compress.specs.Hash.{after_rounds, before_rounds, blocks, bytes_of, chain};
+ghost use Rattle.blake2_compress.specs.Hash.{digest};
+ghost use Rattle.blake2_compress.specs.Hash.{input_data, input_flags, input_start, last_chain};
+ghost use Rattle.blake2_compress.specs.Hash.{words_of, xor_words};
+ghost use Rattle.blake2_compress.specs.Inputs.{Accepts};
+ghost use Rattle.blake2_compress.specs.Lanes.{AcceptsAtOnce, after_blocks, block_lists, flags_at};
+ghost use Rattle.blake2_compress.specs.Lanes.{input_at, texts};
+ghost use Rattle.blake2_compress.specs.Run;
+ghost use Rattle.blake2_compress.specs.Views.{given_flags, input_of};
+
+use super::later_blocks;
+use crate::consts::{BLAKE2B_IV, SIGMA};
+use crate::inputs::Input;
+use crate::inputs::blake2b::accepts;
+use crate::inputs::blocks::{block_at, counted, input_parameters, step_count};
+use crate::params::blake2b::start_words;
+use crate::words::Flags;
+use crate::words::blake2b::{block_words, to_bytes};
+use blake2_simd::rows::u64x4;
+
+// The row of word k of each of four messages.
+#[inline(always)]
+fn row(words: &[[u64; 8]; 4], k: usize) -> u64x4
+    requires { k < 8 }
+    ensures { (j : ℕ) → j < 4
+        → slice_index result j ≡ slice_index (slice_index_or words.now j []) k }
+{
+    u64x4::new(words[0][k], words[1][k], words[2][k], words[3][k])
+}
+
+// The rows of the words of four messages.
+#[inline(always)]
+fn rows_of(words: &[[u64; 8]; 4]) -> [u64x4; 8]
+    ensures { (j k : ℕ) → j < 4 → k < 8
+        → lane result k j ≡ slice_index (slice_index_or words.now j []) k }
+{
+    [
+        row(words, 0),
+        row(words, 1),
+        row(words, 2),
+        row(words, 3),
+        row(words, 4),
+        row(words, 5),
+        row(words, 6),
+        row(words, 7),
+    ]
+}
+
+// The four words of a block from word k on.
+#[inline(always)]
+fn four_words(words: &[u64; 16], k: usize) -> u64x4
+    requires { k ≤ 12 }
+    ensures { (i : ℕ) → i < 4 → slice_index result i ≡ slice_index words.now (k + i) }
+{
+    u64x4::new(words[k], words[k + 1], words[k + 2], words[k + 3])
+}
+
+// Row i of the result has the words k + i of four blocks.
+#[inline(always)]
+fn rows_from(words: &[[u64; 16]; 4], k: usize) -> [u64x4; 4]
+    requires { k ≤ 12 }
+    ensures { (i j : ℕ) → i < 4 → j < 4
+        → lane result i j ≡ slice_index (slice_index_or words.now j []) (k + i) }
+{
+    u64x4::transpose([
+        four_words(&words[0], k),
+        four_words(&words[1], k),
+        four_words(&words[2], k),
+        four_words(&words[3], k),
+    ])
+}
+
+// The rows of the words of four blocks.
+#[inline(always)]
+fn block_rows(blocks: &[&[u8; 128]; 4]) -> [u64x4; 16]
+    ensures { (j : ℕ) → j < 4
+        → in_lane j result ≡ words_of blake2b 16 (slice_index_or (texts blocks.now) j []) }
+{
+    let m = [
+        block_words(blocks[0]),
+        block_words(blocks[1]),
+        block_words(blocks[2]),
+        block_words(blocks[3]),
+    ];
+    let a = rows_from(&m, 0);
+    let b = rows_from(&m, 4);
+    let c = rows_from(&m, 8);
+    let d = rows_from(&m, 12);
+    [
+        a[0], a[1], a[2], a[3], b[0], b[1], b[2], b[3], c[0], c[1], c[2], c[3], d[0], d[1], d[2],
+        d[3],
+    ]
+}
+
+// The words 8 to 15 before the first round: IV with the counter xored into its fifth and sixth
+// word, which for 64 bits is only into the fifth, with all ones xored into its seventh if the
+// final flag is on, and into its eighth if the last-node flag is on.
+#[tactic(auto, unfolding(crate::specs::Hash::before_rounds, crate::specs::Hash::xor_words))]
+#[inline(always)]
+fn last_words(counter: u64, flags: Flags) -> [u64; 8]
+    ensures { (h : List ℕ) → h ++ result ≡ before_rounds blake2b h counter (given_flags flags) }
+{
+    let [v8, v9, v10, v11, v12, v13, v14, v15] = BLAKE2B_IV;
+    let last = if flags.last { u64::MAX } else { 0 };
+    let last_node = if flags.last_node { u64::MAX } else { 0 };
+    [
+        v8,
+        v9,
+        v10,
+        v11,
+        v12 ^ counter,
+        v13,
+        v14 ^ last,
+        v15 ^ last_node,
+    ]
+}
+
+// The rows before the first round: the chaining words, and in each lane the last words under its
+// flags.
+#[inline(always)]
+fn begin(h: &[u64x4; 8], counter: u64, flags: &[Flags; 4]) -> [u64x4; 16]
+    ensures { (j : ℕ) → j < 4
+        → in_lane j result
+        ≡ before_rounds blake2b (in_lane j h.now) counter (flags_at flags.now j) }
+{
+    let last = [
+        last_words(counter, flags[0]),
+        last_words(counter, flags[1]),
+        last_words(counter, flags[2]),
+        last_words(counter, flags[3]),
+    ];
+    let w = rows_of(&last);
+    [
+        h[0], h[1], h[2], h[3], h[4], h[5], h[6], h[7], w[0], w[1], w[2], w[3], w[4], w[5], w[6],
+        w[7],
+    ]
+}
+
+// The round that comes after `i` others, which uses the words of the blocks in the order of a row
+// of SIGMA (RFC 7693, 2.7).
+#[inline(always)]
+fn round_at(v: &mut [u64x4; 16], m: &[u64x4; 16], i: usize)
+    ensures { (j : ℕ) → j < 4 → in_lane j v.new
+        ≡ Round.round blake2b (in_lane j v.old) (in_lane j m.now)
+        (slice_index_or sigma (i % 10) []) }
+{
+    u64x4::round_each(v, m, &SIGMA[i % 10]);
+}
+
+// The twelve rounds. They are written out, since a loop would look up the index of each word in
+// SIGMA at run time, and work on a copy of the rows, which stays in registers.
+#[inline(always)]
+fn rounds(v: &mut [u64x4; 16], m: &[u64x4; 16])
+    ensures { (j : ℕ) → j < 4
+        → in_lane j v.new ≡ after_rounds blake2b (in_lane j v.old) (in_lane j m.now) 12 }
+{
+    let mut rows = *v;
+    round_at(&mut rows, m, 0);
+    round_at(&mut rows, m, 1);
+    round_at(&mut rows, m, 2);
+    round_at(&mut rows, m, 3);
+    round_at(&mut rows, m, 4);
+    round_at(&mut rows, m, 5);
+    round_at(&mut rows, m, 6);
+    round_at(&mut rows, m, 7);
+    round_at(&mut rows, m, 8);
+    round_at(&mut rows, m, 9);
+    round_at(&mut rows, m, 10);
+    round_at(&mut rows, m, 11);
+    *v = rows;
+}
+
+// The exclusive or of three rows.
+#[inline(always)]
+fn xor(a: u64x4, b: u64x4, c: u64x4) -> u64x4
+    ensures { (j : ℕ) → j < 4 → slice_index result j
+        ≡ bit_xor (bit_xor (slice_index a j) (slice_index b j)) (slice_index c j) }
+{
+    a ^ b ^ c
+}
+
+// The chaining words with both halves of the rows xored into them.
+#[inline(always)]
+fn finish(h: &[u64x4; 8], v: &[u64x4; 16]) -> [u64x4; 8]
+    ensures { (j : ℕ) → j < 4 → in_lane j result
+        ≡ xor_words (xor_words (in_lane j h.now) (take 8 (in_lane j v.now)))
+        (drop 8 (in_lane j v.now)) }
+{
+    let mut result = *h;
+    for k in 0..8 {
+        result[k] = xor(h[k], v[k], v[8 + k]);
+    }
+    result
+}
+
+/// Computes F, the compression (RFC 7693, 3.2), of four messages in parallel. `h` holds their
+/// chaining words, block j is the next 128 bytes of message j, and its flags are `flags[j]`.
+/// `counter` is the number of bytes counted for each message up to and including this block,
+/// without padding.
+#[inline]
+pub fn compress(h: &mut [u64x4; 8], blocks: &[&[u8; 128]; 4], counter: u64, flags: &[Flags; 4])
+    ensures { (j : ℕ) → j < 4 → in_lane j h.new
+        ≡ Hash.compress blake2b (in_lane j h.old) (slice_index_or (texts blocks.now) j [])
+        counter (flags_at flags.now j) }
+{
+    let m = block_rows(blocks);
+    let mut v = begin(h, counter, flags);
+    rounds(&mut v, &m);
+    *h = finish(h, &v);
+}
+
+// The chaining words that the inputs start from, at digests of `output_size` bytes.
+fn start(output_size: usize, inputs: &[Input<'_>; 4]) -> [u64x4; 8]
+    requires size { output_size ≤ output_bytes blake2b }
+    requires accepted { (j : ℕ) → j < 4 → Accepts blake2b (input_at inputs.now j) }
+    ensures { (j : ℕ) → j < 4
+        → in_lane j result ≡ input_start blake2b output_size (input_at inputs.now j) }
+{
+    let mut words = [[0; 8]; 4];
+    for j in 0..4 {
+        words[j] = start_words(&input_parameters(&inputs[j], output_size));
+    }
+    rows_of(&words)
+}
+
+// Compresses blocks of each of four messages, one after another, the same number of each, with
+// flags j for message j. `counter` bytes are counted with the first of them, 128 more with each
+// that follows, and less than 2^64 with the last. `counted` says so with 128 more on each side, and
+// so for no blocks too. The loop has the only call of `compress`, so that the compiler lays it out
+// there. It works on a copy of the rows, so that what is the same for all blocks is computed once.
+fn compress_blocks(h: &mut [u64x4; 8], blocks: &[&[[u8; 128]]; 4], counter: u64, flags: &[Flags; 4])
+    requires same_number { (j : ℕ) → j < 4
+        → length (slice_index_or (block_lists blocks.now) j [])
+        ≡ length (slice_index_or (block_lists blocks.now) 0 []) }
+    requires counted { counter + 128 * length (slice_index_or (block_lists blocks.now) 0 [])
+        ≤ 2 ^ 64 + 127 }
+    ensures { (j : ℕ) → j < 4 → in_lane j h.new
+        ≡ after_blocks blake2b (in_lane j h.old) (slice_index_or (block_lists blocks.now) j [])
+        counter (flags_at flags.now j) (length (slice_index_or (block_lists blocks.now) 0 [])) }
+{
+    let [p0, p1, p2, p3] = *blocks;
+    let mut rows = *h;
+    for i in 0..p0.len() {
+        let here = [&p0[i], &p1[i], &p2[i], &p3[i]];
+        compress(&mut rows, &here, counter + 128 * i as u64, flags);
+    }
+    *h = rows;
+}
+
+// Compresses block i of each of four inputs.
+fn compress_at(
+    h: &mut [u64x4; 8],
+    inputs: &[Input<'_>; 4],
+    i: usize,
+    counter: u64,
+    flags: &[Flags; 4],
+)
+    requires accepted { (j : ℕ) → j < 4 → Accepts blake2b (input_at inputs.now j) }
+    requires within { (j : ℕ) → j < 4 → i < Run.step_count blake2b (input_at inputs.now j) }
+    ensures { (j : ℕ) → j < 4 → in_lane j h.new
+        ≡ Hash.compress blake2b (in_lane j h.old)
+        (slice_index_or (blocks blake2b (input_data blake2b (input_at inputs.now j))) i [])
+        counter (flags_at flags.now j) }
+{
+    let b0 = [block_at(&inputs[0], i)];
+    let b1 = [block_at(&inputs[1], i)];
+    let b2 = [block_at(&inputs[2], i)];
+    let b3 = [block_at(&inputs[3], i)];
+    compress_blocks(h, &[&b0[..], &b1[..], &b2[..], &b3[..]], counter, flags);
+}
+
+// Compresses all blocks of four inputs except the last. Those from the second on are read from
+// the messages without a copy.
+fn absorb_inner(h: &mut [u64x4; 8], inputs: &[Input<'_>; 4])
+    requires accepted { (j : ℕ) → j < 4 → Accepts blake2b (input_at inputs.now j) }
+    requires same_number { (j : ℕ) → j < 4
+        → Run.step_count blake2b (input_at inputs.now j)
+        ≡ Run.step_count blake2b (input_at inputs.now 0) }
+    ensures { (j : ℕ) → j < 4 → in_lane j h.new
+        ≡ chain blake2b (in_lane j h.old) 0
+        (blocks blake2b (input_data blake2b (input_at inputs.now j)))
+        (Run.step_count blake2b (input_at inputs.now 0) - 1) }
+{
+    let count = step_count::<128>(&inputs[0]) as usize;
+    if count == 1 {
+        return;
+    }
+    let flags = [Flags::INNER; 4];
+    compress_at(h, inputs, 0, 128, &flags);
+    let mut later: [&[[u8; 128]]; 4] = [&[]; 4];
+    for j in 0..4 {
+        later[j] = later_blocks(&inputs[j], count - 2);
+    }
+    compress_blocks(h, &later, 256, &flags);
+}
+
+// The flags of the last compression of four inputs.
+fn last_flags(inputs: &[Input<'_>; 4]) -> [Flags; 4]
+    ensures { (j : ℕ) → j < 4 → flags_at result j ≡ input_flags (input_at inputs.now j) }
+{
+    [
+        Flags::last_block(inputs[0].last_node),
+        Flags::last_block(inputs[1].last_node),
+        Flags::last_block(inputs[2].last_node),
+        Flags::last_block(inputs[3].last_node),
+    ]
+}
+
+// Compresses all blocks of four inputs.
+fn absorb(h: &mut [u64x4; 8], inputs: &[Input<'_>; 4])
+    requires accepted { (j : ℕ) → j < 4 → Accepts blake2b (input_at inputs.now j) }
+    requires same_count { (j : ℕ) → j < 4
+        → length (input_data blake2b (input_at inputs.now j))
+        ≡ length (input_data blake2b (input_at inputs.now 0)) }
+    ensures { (j : ℕ) → j < 4 → in_lane j h.new
+        ≡ last_chain blake2b (in_lane j h.old) 0 (input_data blake2b (input_at inputs.now j))
+        (input_flags (input_at inputs.now j)) }
+{
+    absorb_inner(h, inputs);
+    let last = step_count::<128>(&inputs[0]) as usize - 1;
+    let flags = last_flags(inputs);
+    compress_at(h, inputs, last, counted::<128>(&inputs[0]), &flags);
+}
+
+// The first N bytes of the chaining words of a message.
+fn output<const N: usize>(h: &[u64x4; 2]) -> [u8; N]
+    requires { N ≤ output_bytes blake2b }
+    ensures { result ≡ take N (bytes_of blake2b (eight h.now)) }
+{
+    let whole = to_bytes(h);
+    let mut bytes = [0; N];
+    let out = &mut bytes[..];
+    out.copy_from_slice(&whole[..N]);
+    bytes
+}
+
+// The first N bytes of the last chaining words of each of four inputs, at digests of
+// `output_size` bytes.
+fn outputs<const N: usize>(output_size: usize, inputs: &[Input<'_>; 4]) -> [[u8; N]; 4]
+    requires room { N ≤ output_bytes blake2b }
+    requires size { output_size ≤ output_bytes blake2b }
+    requires accepted { AcceptsAtOnce blake2b 4 inputs.now }
+    ensures { (j : ℕ) → j < 4 → slice_index_or result j []
+        ≡ take N (bytes_of blake2b (last_chain blake2b
+        (input_start blake2b output_size (input_at inputs.now j)) 0
+        (input_data blake2b (input_at inputs.now j)) (input_flags (input_at inputs.now j)))) }
+{
+    let mut h = start(output_size, inputs);
+    absorb(&mut h, inputs);
+    let low = u64x4::transpose([h[0], h[1], h[2], h[3]]);
+    let high = u64x4::transpose([h[4], h[5], h[6], h[7]]);
+    let mut outputs = [[0; N]; 4];
+    for j in 0..4 {
+        outputs[j] = output(&[low[j], high[j]]);
+    }
+    outputs
+}
+
+/// Returns whether `hash_four` accepts these inputs: `accepts` returns true for each, and the
+/// same number of bytes is counted for each, those of its message and 128 if it has a key.
+pub fn accepts_four(inputs: &[Input<'_>; 4]) -> bool
+    ensures { IsTrue result ↔ AcceptsAtOnce blake2b 4 inputs.now }
+{
+    if !accepts(&inputs[0]) {
+        return false;
+    }
+    let count = counted::<128>(&inputs[0]);
+    for j in 1..4 {
+        if !accepts(&inputs[j]) {
+            return false;
+        }
+        if counted::<128>(&inputs[j]) != count {
+            return false;
+        }
+    }
+    true
+}
+
+/// Returns the digests of four inputs, in their order, of N bytes each, at most 64 (RFC 7693,
+/// 3.3). The inputs must be such that `accepts_four` returns true: each is accepted, and the same
+/// number of bytes is counted for each. The call allocates nothing.
+pub fn hash_four<const N: usize>(inputs: &[Input<'_>; 4]) -> [[u8; N]; 4]
+    requires size { N ≤ output_bytes blake2b }
+    requires accepted { AcceptsAtOnce blake2b 4 inputs.now }
+    ensures { result ≡ map (λ input. digest blake2b N (input_of input)) inputs.now }
+{
+    outputs(N, inputs)
+}
+
+/// Returns the same digests with a size that is chosen at run time: the first `output_size`
+/// bytes, at most 64, of each array are the digest of its input. The remaining bytes are the rest
+/// of the last chaining words. They are not part of the digest, and the contract promises nothing
+/// about them. The inputs must be such that `accepts_four` returns true.
+pub fn hash_four_sized(output_size: usize, inputs: &[Input<'_>; 4]) -> [[u8; 64]; 4]
+    requires size { output_size ≤ output_bytes blake2b }
+    requires accepted { AcceptsAtOnce blake2b 4 inputs.now }
+    ensures { map (take output_size) result
+        ≡ map (λ input. digest blake2b output_size (input_of input)) inputs.now }
+{
+    outputs(output_size, inputs)
+}

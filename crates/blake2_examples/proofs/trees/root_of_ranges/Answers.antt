@@ -1,0 +1,46 @@
+use Rattle.std.proofs.Common.{◌≡◌, ℕ, ◌+◌, ◌-◌, ◌*◌, ◌/◌, inl, true, false, List, [], ◌∷◌}
+use Rattle.std.proofs.Common.{◌++◌, length, drop, ap, ◌∙◌, append-nil, arith, rules}
+use Rattle.std.proofs.Common.{length-append, length-drop}
+use Rattle.std.proofs.lemmas.List.{take_at, drop_at, drop_all}
+use borrow.Rule.Slice.PartMut.{put_mid}
+use Rattle.blake2_tree.specs.TreeRoot.{TreeParameters, tree_parameters, leaf_count, tree_root}
+use Rattle.blake2_tree.specs.Ranges.{range_digests, cut_digests, IsCut}
+use Rattle.blake2_tree.proofs.RangeLaws.{leaf_count-is, length-range_digests}
+use Rattle.blake2_examples.proofs.trees.root_of_ranges.Goals as goal
+
+-- The end of a list is overwritten.
+put_mid-end : (at : ℕ) (a b d : List ℕ) → length a ≡ at → length b ≡ length d
+    → put_mid at (length (a ++ d) - at) (a ++ d) b ≡ a ++ b
+put_mid-end at a b d size same =
+    let behind : drop (length (a ++ d) - at) (drop at (a ++ d)) ≡ [] =
+    ap (drop (length (a ++ d) - at)) (drop_at a d at size)
+    ∙ drop_all (length (a ++ d) - at) d (omega (arith, length-append a d)) in
+    (λ i. take_at a d at size i ++ (b ++ behind i)) ∙ ap (λ r. a ++ r) (append-nil b)
+
+pub returns : goal.returns
+returns c =
+    let p : TreeParameters = tree_parameters [] [] 65536 in
+    let front : List ℕ = c.args.front.now in
+    let last : List ℕ = c.args.last.now in
+    let count : ℕ = c.leaf_count-count.result in
+    let at : ℕ = 64 * count in
+    let d : List ℕ = c.args.digests.now in
+    let a : List ℕ = c.hash_leaves.new.digests in
+    let b : List ℕ = c.hash_leaves-2.new.digests in
+    let long : length a ≡ at = search rules in
+    let size : length b ≡ leaf_count 65536 (length last) * 64 =
+    ap length c.hash_leaves-2.ensures.digests ∙ length-range_digests p count true last in
+    let same : length b ≡ length (drop at d) = omega (arith, size, length-drop at d) in
+    let next : count ≡ 0 + length front / 65536 =
+    omega (arith, c.leaf_count-count.ensures, leaf_count-is 65536 front (omega arith) c.requires.whole) in
+    let cut : IsCut 65536 (front ∷ []) last = record {
+      whole = search (rules, c.requires.whole);
+      some = inl c.requires.some;
+    } in
+    let joined : put_mid at (length (a ++ drop at d) - at) (a ++ drop at d) b
+    ≡ cut_digests p 0 (front ∷ []) last =
+    put_mid-end at a b (drop at d) long same
+    ∙ (λ i. c.hash_leaves.ensures.digests i ++ c.hash_leaves-2.ensures.digests i)
+    ∙ ap (λ n. range_digests p 0 false front ++ range_digests p n true last) next in
+    c.root_of_leaves.ensures.cuts (front ∷ []) last cut joined
+    ∙ ap (λ f. tree_root 64 p (f ++ last)) (append-nil front)

@@ -1,0 +1,63 @@
+-- Digests that are written one after the other.
+use Rattle.std.proofs.Common.{◌≡◌, ℕ, zero, suc, ◌+◌, ◌-◌, ◌≤◌, List, [], ◌∷◌, ◌++◌, length, map}
+use Rattle.std.proofs.Common.{take, drop, slice_index_or, refl, sym, ap, ap₂, ◌∙◌, append-nil}
+use Rattle.std.proofs.Common.{append_assoc, length-append, arith}
+use Rattle.std.specs.List.{concat, flat_map}
+use Rattle.std.proofs.lemmas.Grind.{flat_map-append}
+use Rattle.std.proofs.lemmas.List.{take-append-drop, take-take, drop-take, take_all, drop_all}
+use Rattle.std.proofs.lemmas.List.{take_at, drop_at, drop-drop, length-drop}
+use borrow.Rule.Slice.PartMut.{put_mid}
+use Rattle.blake2_simd.proofs.Lanes.{lanes}
+
+-- What a list maps to, one after the other.
+flat_is : {X : Type 0} (g : X → List ℕ) (xs : List X) → flat_map g xs ≡ concat (map g xs)
+flat_is g [] = refl
+flat_is g (x ∷ xs) = ap (λ l. g x ++ l) (flat_is g xs)
+
+-- Two lists that map to the same.
+pub same_flat : {X Y : Type 0} (g : X → List ℕ) (h : Y → List ℕ) (xs : List X) (ys : List Y)
+    → map g xs ≡ map h ys → flat_map g xs ≡ flat_map h ys
+same_flat g h xs ys e = flat_is g xs ∙ ap concat e ∙ sym (flat_is h ys)
+
+-- The first n items of a list, each mapped.
+pub firsts : {X : Type 0} (n : ℕ) (g : X → List ℕ) (d : X) (xs : List X) → n ≤ length xs
+    → lanes n (λ j. g (slice_index_or xs j d)) ≡ map g (take n xs)
+firsts zero g d xs h = refl
+firsts (suc n) g d [] h = absurd (omega arith)
+firsts (suc n) g d (x ∷ xs) h = λ i. g x ∷ firsts n g d xs (omega arith) i
+
+-- The first items, and then the next.
+pub flat_more : {X : Type 0} (g : X → List ℕ) (n m : ℕ) (xs : List X)
+    → flat_map g (take (n + m) xs) ≡ flat_map g (take n xs) ++ flat_map g (take m (drop n xs))
+flat_more g n m xs =
+    let split : take (n + m) xs ≡ take n xs ++ take m (drop n xs) =
+    sym (take-append-drop n (take (n + m) xs))
+    ∙ ap₂ (λ a b. a ++ b) (take-take n (n + m) xs (omega arith)) (drop-take n m xs) in
+    ap (flat_map g) split ∙ flat_map-append g (take n xs) (take m (drop n xs))
+
+-- What is written after the first a bytes, if these are known and the rest is as it was.
+pub put_more : (a m : ℕ) (was xs ys front more : List ℕ) → a ≤ length was
+    → length xs ≡ length was → xs ≡ front ++ drop a was
+    → ys ≡ more ++ drop m (take (length xs - a) (drop a xs))
+    → put_mid a (length xs - a) xs ys ≡ (front ++ more) ++ drop (a + m) was
+put_more a m was xs ys front more fits same begun e =
+    let long : length front ≡ a =
+    omega (
+      arith,
+      fits,
+      same,
+      ap length begun,
+      length-append front (drop a was),
+      length-drop a was,
+    ) in
+    let left : take a xs ≡ front = ap (take a) begun ∙ take_at front (drop a was) a long in
+    let right : drop a xs ≡ drop a was = ap (drop a) begun ∙ drop_at front (drop a was) a long in
+    let size = length-drop a xs in
+    let whole : take (length xs - a) (drop a xs) ≡ drop a xs =
+    take_all (length xs - a) (drop a xs) (omega (arith, size)) in
+    let rest : drop (length xs - a) (drop a xs) ≡ [] =
+    drop_all (length xs - a) (drop a xs) (omega (arith, size)) in
+    let written : ys ≡ more ++ drop (a + m) was =
+    e ∙ ap (λ l. more ++ drop m l) (whole ∙ right) ∙ ap (λ l. more ++ l) (drop-drop m a was) in
+    (λ i. left i ++ (written i ++ rest i)) ∙ ap (λ l. front ++ l) (append-nil _)
+    ∙ sym (append_assoc front more (drop (a + m) was))

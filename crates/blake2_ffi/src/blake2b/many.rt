@@ -1,0 +1,152 @@
+//! Several messages of BLAKE2b.
+
+ghost use Rattle.std.specs.Prelude.{◌≡◌, ◌*◌, ◌≤◌, ◌++◌, [], length, take, drop, pos, negsuc};
+ghost use Rattle.std.specs.Prelude.{false};
+ghost use Rattle.blake2.specs.Family.{blake2b};
+ghost use Rattle.blake2.specs.States as Held;
+ghost use Rattle.blake2_compress.specs.Views.{input_of};
+ghost use Rattle.blake2_compress.specs.Hash.{sequential};
+ghost use Rattle.blake2_state.specs.Arguments.{given_key, given_count, digest_given};
+ghost use Rattle.blake2_state.specs.Arguments.{IsRefusedGiven};
+ghost use Rattle.blake2_ffi.specs.Many.{AreCounted, IsRefusedMany, digests_of};
+ghost use Rattle.blake2_ffi.specs.Status.{Returns, IsTooLong};
+
+use crate::Text;
+use crate::many::{are_counted, is_room_for, write_digests};
+use blake2::Tree;
+use blake2::many::blake2b::{accepts_four, hash_four_sized};
+use blake2::steps::Input;
+use blake2_digest::scrub_stack;
+use blake2_state::StateParameters;
+use blake2_state::blake2b::State;
+
+// Bytes of the stack that `write_all` reaches with all that it calls, rounded up, as built by LLVM
+// for x86-64-v2 and for x86-64-v3.
+const WRITE_BYTES: usize = 5632;
+
+// The input of a message under these.
+fn input<'a>(key: &'a [u8], salt: &'a [u8], persona: &'a [u8], message: &'a [u8]) -> Input<'a>
+    ensures { input_of result
+        ≡ Held.input salt.now persona.now (given_key key.now) message.now }
+{
+    Input {
+        salt,
+        persona,
+        key: if key.is_empty() { None } else { Some(key) },
+        tree: Tree::sequential(),
+        last_node: false,
+        message,
+    }
+}
+
+// Writes the digest of one message at the beginning of `out`.
+fn write_one(out: &mut [u8], given: &StateParameters<'_>, message: &[u8])
+    requires taken { ¬ IsRefusedGiven blake2b given.now }
+    requires counted { ¬ IsTooLong (given_count blake2b given.now.key.now) (length message.now) }
+    requires room { given.now.output_size ≤ length out.old }
+    ensures { out.new
+        ≡ digest_given blake2b given.now sequential false message.now
+        ++ drop given.now.output_size out.old }
+{
+    match State::init_salt_personal(given) {
+        Ok(mut run) => {
+            run.update(message);
+            run.write_digest(out);
+        }
+        // Never run: `taken` says that these lengths are not refused.
+        Err(_) => {}
+    }
+}
+
+// Writes the digests of the first messages at the beginning of `out`, 4 if these are hashed in
+// parallel, otherwise one, and returns how many.
+fn write_next(out: &mut [u8], given: &StateParameters<'_>, messages: &[Text<'_>]) -> usize
+    requires taken { ¬ IsRefusedGiven blake2b given.now }
+    requires counted { AreCounted blake2b given.now.key.now messages.now }
+    requires some { 1 ≤ length messages.now }
+    requires room { length messages.now * given.now.output_size ≤ length out.old }
+    ensures some { 1 ≤ result }
+    ensures most { result ≤ length messages.now }
+    ensures digests { out.new
+        ≡ digests_of blake2b given.now.output_size given.now.key.now given.now.salt.now
+        given.now.persona.now (take result messages.now)
+        ++ drop (result * given.now.output_size) out.old }
+{
+    if messages.len() >= 4 {
+        let StateParameters {
+            output_size,
+            key,
+            salt,
+            persona,
+        } = *given;
+        let inputs = [
+            input(key, salt, persona, messages[0].bytes),
+            input(key, salt, persona, messages[1].bytes),
+            input(key, salt, persona, messages[2].bytes),
+            input(key, salt, persona, messages[3].bytes),
+        ];
+        if accepts_four(&inputs) {
+            write_digests(out, output_size, &hash_four_sized(output_size, &inputs));
+            return 4;
+        }
+    }
+    write_one(out, given, messages[0].bytes);
+    1
+}
+
+/// Writes the digests of the messages, each as `vulfsjor_ffi_blake2b` would with this size and key,
+/// and with a salt and a persona of up to 16 bytes each, one after the other. Four messages in a
+/// row that have one length are hashed in parallel. Returns 0, or -1 if a length is not one that
+/// BLAKE2b accepts, a message and the key's block have 2^64 bytes or more, or `out` does not have
+/// exactly `output_size` bytes for each message; nothing is then written.
+#[unsafe(no_mangle)]
+pub extern "C" fn vulfsjor_ffi_blake2b_many(
+    out: &mut [u8],
+    output_size: usize,
+    messages: &[Text<'_>],
+    key: &[u8],
+    salt: &[u8],
+    persona: &[u8],
+) -> i32
+    ensures status { Returns result (IsRefusedMany blake2b (length out.old) output_size key.now
+        salt.now persona.now messages.now) }
+    ensures digests { result ≡ pos 0 → out.new
+        ≡ digests_of blake2b output_size key.now salt.now persona.now messages.now }
+    ensures nothing { result ≡ negsuc 0 → out.new ≡ out.old }
+{
+    let given = StateParameters {
+        output_size,
+        key,
+        salt,
+        persona,
+    };
+    let counted = match State::init_salt_personal(&given) {
+        Ok(run) => run.counted(),
+        Err(_) => return -1,
+    };
+    if !is_room_for(out.len(), messages.len(), output_size) || !are_counted(counted, messages) {
+        return -1;
+    }
+    write_all(out, &given, messages);
+    if !key.is_empty() {
+        scrub_stack::<WRITE_BYTES>();
+    }
+    0
+}
+
+// Writes the digests of the messages, in a separate frame: if there is a key, the caller scrubs
+// it.
+#[inline(never)]
+fn write_all(out: &mut [u8], given: &StateParameters<'_>, messages: &[Text<'_>])
+    requires taken { ¬ IsRefusedGiven blake2b given.now }
+    requires counted { AreCounted blake2b given.now.key.now messages.now }
+    requires room { length out.old ≡ length messages.now * given.now.output_size }
+    ensures { out.new ≡ digests_of blake2b given.now.output_size given.now.key.now
+        given.now.salt.now given.now.persona.now messages.now }
+{
+    let mut done = 0;
+    while done < messages.len() {
+        let place = &mut out[done * given.output_size..];
+        done += write_next(place, given, &messages[done..]);
+    }
+}

@@ -1,5 +1,0 @@
-use Rattle.std.proofs.Common.{rules}
-use Rattle.blake2_plain.proofs.blake2b.State.wipe.Goals as goal
-
-pub returns : goal.returns
-returns c = search rules

@@ -1,7 +1,0 @@
-use Rattle.std.proofs.Common.{refl}
-use Rattle.blake2_rows.specs.Family.{blake2s}
-use Rattle.blake2_rows.proofs.Bytes.{lanes_read}
-use Rattle.blake2_rows.proofs.rows.u32_lanes.u32x4.from_le_bytes.Goals as goal
-
-pub returns : goal.returns
-returns c = lanes_read blake2s 16 c.args.bytes.now refl c.requires c.type_inv.bytes

@@ -1,0 +1,17 @@
+use Rattle.std.proofs.Common.{◌∙◌, [], sym, arith}
+use Rattle.blake2_state.specs.Blake2b.{meaning}
+use Rattle.blake2_state.specs.TreeStates.{parameters}
+use Rattle.blake2_tree.proofs.Roots.{future-closed, future-took}
+use Rattle.blake2_state.proofs.tree.TreeState.close_full.Goals as goal
+
+pub returns-clause-future : goal.returns-clause-future
+returns-clause-future c = λ y more.
+    let old = c.args.self.now in
+    let full = c.set_last_node.new.self in
+    let inner = c.set_last_node.ensures.set in
+    future-closed meaning meaning (parameters old) old.closed old.root c.update.new.self full
+    c.node_state-self.result y c.requires.ready.lengths.some (omega (arith, inner.count, c.requires.full))
+    inner.last_node (rw c.digest_of.ensures at c.update.ensures.updated)
+    (rw (sym c.nodes-nodes.ensures) c.node_state-self.ensures.fresh) more
+    ∙ future-took meaning meaning (parameters old) old.closed old.root old.leaf full [] y
+    inner.future (omega (arith, inner.count)) (omega arith)

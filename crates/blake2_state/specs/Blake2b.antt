@@ -1,0 +1,44 @@
+-- What a plain state of BLAKE2b means.
+use Rattle.std.specs.Prelude.{◌+◌, ◌^◌, ◌<◌, ◌≤◌, take, replicate}
+use Rattle.blake2_simd.specs.Family.{blake2b}
+use Rattle.blake2_digest.specs.States.{Meaning}
+use Rattle.blake2.specs.States as Held
+use Rattle.blake2_state.specs.declared.blake2b.State.{State}
+use Rattle.blake2_state.specs.States.{is_on, meaning_sized}
+
+-- The state that a plain state holds. The pending bytes are at the beginning of their field, and so
+-- are those of the start block.
+abbrev pub state_of : State → Held.State
+state_of s = record {
+  core = record { h = s.chain; start = s.first; count = s.counter; last_node = is_on s.last_node };
+  pending = take s.pending_length s.pending;
+  start_block = take s.start_length s.start_block;
+}
+
+-- The meaning of a plain state: the digests that it will return, of the length that it holds, its
+-- last-node flag, and the bytes that it counts.
+abbrev pub meaning : Meaning State
+meaning = meaning_sized blake2b (λ s. s.output_size) state_of
+
+-- The state returns digests: its digest length is one of BLAKE2b's, its pending bytes and its start
+-- block are at most a block, and the count is below 2^64.
+pub record IsReady (s : State) : Type 0 where
+  pub least : 1 ≤ s.output_size
+  pub most : s.output_size ≤ 64
+  pub pending : s.pending_length ≤ 128
+  pub start : s.start_length ≤ 128
+  pub counted : s.counter + s.pending_length < 2 ^ 64
+
+-- The zeroed state, which returns no digests.
+abbrev pub zeros : State
+zeros = record {
+  chain = replicate 8 0;
+  first = replicate 8 0;
+  counter = 0;
+  pending_length = 0;
+  start_length = 0;
+  output_size = 0;
+  last_node = 0;
+  pending = replicate 128 0;
+  start_block = replicate 128 0;
+}

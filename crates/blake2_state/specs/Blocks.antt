@@ -1,0 +1,23 @@
+-- Runs from a parameter block that is given as bytes, whatever its fields are.
+use Rattle.std.specs.Prelude.{◌≡◌, ℕ, ◌*◌, ◌<◌, ◌≢◌, ◌⊎◌, Bool, List, length, take, slice_index}
+use Rattle.blake2_simd.specs.Family.{Family, word_bytes, output_bytes, key_bytes, iv}
+use Rattle.blake2_compress.specs.Hash.{words_of, xor_words, bytes_of, last_chain, final}
+
+-- h[0..7] before the first block: the words of the parameter block xored into the IV (RFC 7693,
+-- 3.3).
+abbrev pub block_start : Family → List ℕ → List ℕ
+block_start f block = xor_words (iv f) (words_of f 8 block)
+
+-- The digest of the data z, which begins with the key's block if there is a key, under this
+-- last-node flag. Its length is the first byte of the parameter block.
+abbrev pub block_digest : Family → List ℕ → Bool → List ℕ → List ℕ
+block_digest f block last_node z =
+    take (slice_index block 0)
+    (bytes_of f (last_chain f (block_start f block) 0 z (final last_node)))
+
+-- The parameter block does not have eight words, or it names a length of the output or of the key
+-- that the family does not accept (the BLAKE2 document, 2.8).
+abbrev pub IsRefusedBlock : Family → List ℕ → Type 0
+IsRefusedBlock f block =
+    (length block ≢ 8 * word_bytes f) ⊎ (slice_index block 0 ≡ 0)
+    ⊎ (output_bytes f < slice_index block 0) ⊎ (key_bytes f < slice_index block 1)

@@ -1,0 +1,394 @@
+//! BLAKE2b, with a state of plain numbers.
+
+ghost use Rattle.std.specs.Prelude.{◌≡◌, ℕ, ◌+◌, ◌*◌, ◌^◌, ◌<◌, ◌≤◌, ◌↔◌, List, [], ◌∷◌, ◌++◌};
+ghost use Rattle.std.specs.Prelude.{length, take, drop, slice_index, None, Some, IfOk, IsErr};
+ghost use Rattle.std.specs.Prelude.{IsTrue};
+ghost use Rattle.blake2_simd.specs.Family.{blake2b};
+ghost use Rattle.blake2_compress.specs.Hash.{AdmitsTree, sequential};
+ghost use Rattle.blake2_compress.specs.Views.{tree_of};
+ghost use Rattle.blake2_digest.specs.States.{Fresh, NodeSet, Updated, StartedAgain, digest_now};
+ghost use Rattle.blake2.specs.Cores.{CoreState};
+ghost use Rattle.blake2.specs.States.{node_digest_of};
+ghost use Rattle.blake2_state.specs.Arguments.{given_count, IsRefusedGiven, digest_given};
+ghost use Rattle.blake2_state.specs.Blocks.{block_start, block_digest, IsRefusedBlock};
+ghost use Rattle.blake2_state.specs.Blake2b.{IsReady, meaning, zeros};
+ghost use Rattle.blake2_state.specs.States.{is_on};
+
+use crate::StateParameters;
+use blake2::{Blake2bVarCore, Tree};
+use blake2_compress::params::blake2b::start_of;
+use blake2_compress::words::blake2b::to_words;
+use blake2_digest::{
+    InvalidLength, LastNode, LazyBuffer, UpdateCore, VariableOutputCore, digest_into, is_same,
+    padded,
+};
+
+/// A state of BLAKE2b as plain numbers. All values of the fields are states, and none is unsafe.
+/// A state returns digests if it is ready ([`State::is_ready`]), as all are that
+/// `init_salt_personal`, `init_tree` and `init_param` have made.
+#[repr(C)]
+#[derive(Drop)]
+pub struct State {
+    /// The chaining words.
+    pub chain: [u64; 8],
+    /// The words that the run started from.
+    pub first: [u64; 8],
+    /// The number of bytes of the blocks that were compressed.
+    pub counter: u64,
+    /// The number of pending bytes, 0 to 128.
+    pub pending_length: usize,
+    /// The number of bytes that a start leaves pending: 128 of a key's block, or none.
+    pub start_length: usize,
+    /// The number of bytes of the digest, 1 to 64.
+    pub output_size: usize,
+    /// The last-node flag (the BLAKE2 document, 2.10): 0 is off, and all else on.
+    pub last_node: usize,
+    /// The pending bytes, at the beginning.
+    pub pending: [u8; 128],
+    /// The bytes that a start leaves pending, at the beginning.
+    pub start_block: [u8; 128],
+}
+
+impl State {
+    /// Returns whether the state returns digests.
+    pub fn is_ready(&self) -> bool
+        ensures { IsTrue result ↔ IsReady self.now }
+    {
+        self.output_size >= 1
+            && self.output_size <= 64
+            && self.pending_length <= 128
+            && self.start_length <= 128
+            && self.counter <= u64::MAX - self.pending_length as u64
+    }
+
+    /// Returns the zeroed state, which is not ready.
+    pub fn zeros() -> Self
+        ensures { result ≡ zeros }
+    {
+        State {
+            chain: [0; 8],
+            first: [0; 8],
+            counter: 0,
+            pending_length: 0,
+            start_length: 0,
+            output_size: 0,
+            last_node: 0,
+            pending: [0; 128],
+            start_block: [0; 128],
+        }
+    }
+
+    /// Overwrites everything with zeros. The state is then not ready.
+    pub fn wipe(&mut self)
+        ensures { self.new ≡ zeros }
+    {
+        *self = Self::zeros();
+    }
+
+    // A state from these words that has absorbed nothing, under no key.
+    fn starting_from(first: [u64; 8], output_size: usize) -> Self
+        ensures { result
+            ≡ record zeros { chain = first; first = first; output_size = output_size } }
+    {
+        State {
+            chain: first,
+            first,
+            counter: 0,
+            pending_length: 0,
+            start_length: 0,
+            output_size,
+            last_node: 0,
+            pending: [0; 128],
+            start_block: [0; 128],
+        }
+    }
+
+    // A state of these parameters that has absorbed nothing, under no key.
+    fn unkeyed(given: &StateParameters<'_>, tree: &Tree) -> Self
+        requires least { 1 ≤ given.now.output_size }
+        requires most { given.now.output_size ≤ 64 }
+        requires salt { length given.now.salt.now ≤ 16 }
+        requires persona { length given.now.persona.now ≤ 16 }
+        requires tree { AdmitsTree blake2b (tree_of tree.now) }
+        ensures ready { IsReady result }
+        ensures size { result.output_size ≡ given.now.output_size }
+        ensures fresh { Fresh meaning
+            (node_digest_of blake2b given.now.output_size given.now.salt.now given.now.persona.now
+            None (tree_of tree.now))
+            0 result }
+    {
+        let StateParameters {
+            output_size,
+            key: _,
+            salt,
+            persona,
+        } = *given;
+        let core = Blake2bVarCore::new_with_tree(salt, persona, 0, output_size, tree);
+        Self::starting_from(core.first_words(), output_size)
+    }
+
+    // A state under this key that has absorbed nothing else.
+    fn under_key(given: &StateParameters<'_>, tree: &Tree) -> Self
+        requires least { 1 ≤ given.now.output_size }
+        requires most { given.now.output_size ≤ 64 }
+        requires key { length given.now.key.now ≤ 64 }
+        requires salt { length given.now.salt.now ≤ 16 }
+        requires persona { length given.now.persona.now ≤ 16 }
+        requires tree { AdmitsTree blake2b (tree_of tree.now) }
+        ensures ready { IsReady result }
+        ensures size { result.output_size ≡ given.now.output_size }
+        ensures fresh { Fresh meaning
+            (node_digest_of blake2b given.now.output_size given.now.salt.now given.now.persona.now
+            (Some given.now.key.now) (tree_of tree.now))
+            128 result }
+    {
+        let StateParameters {
+            output_size,
+            key,
+            salt,
+            persona,
+        } = *given;
+        let core = Blake2bVarCore::new_with_tree(salt, persona, key.len(), output_size, tree);
+        let first = core.first_words();
+        let block = padded::<128>(key);
+        State {
+            chain: first,
+            first,
+            counter: 0,
+            pending_length: 128,
+            start_length: 128,
+            output_size,
+            last_node: 0,
+            pending: block,
+            start_block: block,
+        }
+    }
+
+    /// Returns a state of these parameters that has absorbed no message: a digest of 1 to 64
+    /// bytes, a key of up to 64 (no bytes mean no key), a salt and a persona of up to 16 each.
+    /// The last-node flag is off. The error is `InvalidLength`, exactly for other lengths.
+    pub fn init_salt_personal(given: &StateParameters<'_>) -> Result<Self, InvalidLength>
+        ensures refused { IsErr result ↔ IsRefusedGiven blake2b given.now }
+        ensures ready { IfOk result (λ s. IsReady s) }
+        ensures size { IfOk result (λ s. s.output_size ≡ given.now.output_size) }
+        ensures fresh { IfOk result (λ s. Fresh meaning
+            (digest_given blake2b given.now sequential) (given_count blake2b given.now.key.now) s) }
+    {
+        Self::init_tree(given, &Tree::sequential())
+    }
+
+    /// Returns whether BLAKE2b accepts these tree parameters: at least one level and an inner
+    /// node's digest of at most 64 bytes (the BLAKE2 document, 2.8 and 2.10).
+    pub fn admits_tree(tree: &Tree) -> bool
+        ensures { IsTrue result ↔ AdmitsTree blake2b (tree_of tree.now) }
+    {
+        Blake2bVarCore::admits_tree(tree)
+    }
+
+    /// Returns a state of a node of a tree of hashes that has absorbed no message, with the
+    /// parameters of `init_salt_personal` and these tree parameters, which `admits_tree` must
+    /// accept (the BLAKE2 document, 2.10). The last-node flag is off. The error is
+    /// `InvalidLength`, exactly for the lengths that `init_salt_personal` refuses.
+    // Inlined, so that under a key no frame reaches below the zeros that `blake2_ffi` writes over
+    // the stack (docs/WIPING.md).
+    #[inline]
+    pub fn init_tree(given: &StateParameters<'_>, tree: &Tree) -> Result<Self, InvalidLength>
+        requires tree { AdmitsTree blake2b (tree_of tree.now) }
+        ensures refused { IsErr result ↔ IsRefusedGiven blake2b given.now }
+        ensures ready { IfOk result (λ s. IsReady s) }
+        ensures size { IfOk result (λ s. s.output_size ≡ given.now.output_size) }
+        ensures fresh { IfOk result (λ s. Fresh meaning
+            (digest_given blake2b given.now (tree_of tree.now))
+            (given_count blake2b given.now.key.now) s) }
+    {
+        if given.output_size == 0 || given.output_size > 64 {
+            return Err(InvalidLength);
+        }
+        if given.key.len() > 64 || given.salt.len() > 16 || given.persona.len() > 16 {
+            return Err(InvalidLength);
+        }
+        if given.key.is_empty() {
+            return Ok(Self::unkeyed(given, tree));
+        }
+        Ok(Self::under_key(given, tree))
+    }
+
+    /// Returns the state of a parameter block (the BLAKE2 document, 2.8) that has absorbed
+    /// nothing, with a digest of the size that the block names. If the block names a key, the
+    /// caller passes the key's block, padded with zeros to 128 bytes, as the first input. The
+    /// error is `InvalidLength`, exactly for a block that does not have 64 bytes, and for one
+    /// that names a digest of 0 or more than 64 bytes or a key of more than 64.
+    pub fn init_param(block: &[u8]) -> Result<Self, InvalidLength>
+        ensures refused { IsErr result ↔ IsRefusedBlock blake2b block.now }
+        ensures ready { IfOk result (λ s. IsReady s) }
+        ensures size { IfOk result (λ s. s.output_size ≡ slice_index block.now 0) }
+        ensures fresh { IfOk result (λ s. Fresh meaning (block_digest blake2b block.now) 0 s) }
+    {
+        if block.len() != 64 {
+            return Err(InvalidLength);
+        }
+        if block[0] == 0 || block[0] > 64 || block[1] > 64 {
+            return Err(InvalidLength);
+        }
+        Ok(Self::starting_from(to_words(&start_of(block)), block[0] as usize))
+    }
+
+    // The core that the state holds.
+    #[inline]
+    fn core(&self) -> Blake2bVarCore
+        ensures { result ≡ record {
+          h = self.now.chain;
+          start = self.now.first;
+          count = self.now.counter;
+          last_node = is_on self.now.last_node;
+        } }
+    {
+        let mut core = Blake2bVarCore::from_words(&self.chain, &self.first, self.counter);
+        core.set_last_node(self.last_node != 0);
+        core
+    }
+
+    /// Sets the last-node flag, which says that this is the last node of its level in a tree of
+    /// hashes (the BLAKE2 document, 2.10). The state must be ready. The flag can be set at any
+    /// time before the digest, and a reset keeps it.
+    pub fn set_last_node(&mut self, on: bool)
+        requires { IsReady self.old }
+        ensures ready { IsReady self.new }
+        ensures size { self.new.output_size ≡ self.old.output_size }
+        ensures set { NodeSet meaning self.old on self.new }
+    {
+        self.last_node = if on { 1 } else { 0 };
+    }
+
+    /// Returns how many bytes the state has counted since its last start, including those that
+    /// are pending and those of a key's block. The state must be ready.
+    pub fn counted(&self) -> u64
+        requires { IsReady self.now }
+        ensures { result ≡ meaning.count self.now }
+    {
+        self.counter + self.pending_length as u64
+    }
+
+    // Absorbs one byte that the pending block has room for.
+    #[inline(always)]
+    fn keep_byte(&mut self, byte: u8)
+        requires ready { IsReady self.old }
+        requires room { self.old.pending_length < 128 }
+        requires counted { meaning.count self.old + 1 < 2 ^ 64 }
+        ensures ready { IsReady self.new }
+        ensures size { self.new.output_size ≡ self.old.output_size }
+        ensures updated { Updated meaning self.old (byte ∷ []) self.new }
+    {
+        let pos = self.pending_length;
+        self.pending[pos] = byte;
+        self.pending_length = pos + 1;
+    }
+
+    // Absorbs an input that the pending block has room for.
+    fn keep(&mut self, input: &[u8])
+        requires ready { IsReady self.old }
+        requires room { self.old.pending_length + length input.now ≤ 128 }
+        requires counted { meaning.count self.old + length input.now < 2 ^ 64 }
+        ensures ready { IsReady self.new }
+        ensures size { self.new.output_size ≡ self.old.output_size }
+        ensures updated { Updated meaning self.old input.now self.new }
+    {
+        let pos = self.pending_length;
+        let end = pos + input.len();
+        self.pending[pos..end].copy_from_slice(input);
+        self.pending_length = end;
+    }
+
+    // Absorbs any input.
+    fn absorb(&mut self, input: &[u8])
+        requires ready { IsReady self.old }
+        requires counted { meaning.count self.old + length input.now < 2 ^ 64 }
+        ensures ready { IsReady self.new }
+        ensures size { self.new.output_size ≡ self.old.output_size }
+        ensures updated { Updated meaning self.old input.now self.new }
+    {
+        let mut core = self.core();
+        let pos = self.pending_length;
+        let held = digest_into(&mut self.pending, pos, input, &mut core);
+        self.pending_length = held;
+        self.chain = core.chain_words();
+        self.counter = core.counted();
+    }
+
+    // Absorbs any input, by the shorter way if the pending block has room for it: that needs no
+    // core, whose words would move to rows and back. It stays a separate call, so that `update`
+    // saves no registers if one byte comes.
+    #[inline(never)]
+    fn take(&mut self, input: &[u8])
+        requires ready { IsReady self.old }
+        requires counted { meaning.count self.old + length input.now < 2 ^ 64 }
+        ensures ready { IsReady self.new }
+        ensures size { self.new.output_size ≡ self.old.output_size }
+        ensures updated { Updated meaning self.old input.now self.new }
+    {
+        if input.len() <= 128 - self.pending_length {
+            self.keep(input);
+        } else {
+            self.absorb(input);
+        }
+    }
+
+    /// Absorbs the input after all that was absorbed before. The state must be ready. Fewer than
+    /// 2^64 bytes may be counted in all; `counted` returns the count so far.
+    pub fn update(&mut self, input: &[u8])
+        requires ready { IsReady self.old }
+        requires counted { meaning.count self.old + length input.now < 2 ^ 64 }
+        ensures ready { IsReady self.new }
+        ensures size { self.new.output_size ≡ self.old.output_size }
+        ensures updated { Updated meaning self.old input.now self.new }
+    {
+        // To copy a single byte by a call would cost more than all the rest.
+        if input.len() == 1 && self.pending_length < 128 {
+            self.keep_byte(input[0]);
+        } else {
+            self.take(input);
+        }
+    }
+
+    /// Goes back to the start: parameters, key and last-node flag are kept. The state must be
+    /// ready.
+    pub fn reset(&mut self)
+        requires { IsReady self.old }
+        ensures ready { IsReady self.new }
+        ensures size { self.new.output_size ≡ self.old.output_size }
+        ensures reset { StartedAgain meaning self.old self.new }
+    {
+        self.chain = self.first;
+        self.counter = 0;
+        self.pending_length = self.start_length;
+        self.pending = self.start_block;
+    }
+
+    /// Writes the digest of what was absorbed since the last start at the beginning of `out`,
+    /// which must have at least `output_size` bytes. Those after the digest stay as they are. The
+    /// state must be ready. It stays as it is, and can absorb more.
+    pub fn write_digest(&self, out: &mut [u8])
+        requires ready { IsReady self.now }
+        requires room { self.now.output_size ≤ length out.old }
+        ensures { out.new ≡ digest_now meaning self.now ++ drop self.now.output_size out.old }
+    {
+        let mut core = self.core();
+        let mut buffer = LazyBuffer::<128>::new(&self.pending[..self.pending_length]);
+        let mut whole = [0; 64];
+        core.finalize_variable_core(&mut buffer, &mut whole);
+        let size = self.output_size;
+        out[..size].copy_from_slice(&whole[..size]);
+    }
+
+    /// Returns whether the tag is the whole digest of what was absorbed since the last start. All
+    /// bytes of a tag of its length are compared, wherever it differs. The state must be ready,
+    /// and stays as it is.
+    pub fn is_digest(&self, tag: &[u8]) -> bool
+        requires { IsReady self.now }
+        ensures { IsTrue result ↔ (tag.now ≡ digest_now meaning self.now) }
+    {
+        let mut whole = [0; 64];
+        self.write_digest(&mut whole);
+        is_same(tag, &whole[..self.output_size])
+    }
+}

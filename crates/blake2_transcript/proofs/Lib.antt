@@ -1,0 +1,12 @@
+pub mod Cancelled
+pub mod ParametersTold
+pub mod Determined
+pub mod Pairs
+pub mod Transcripts
+pub mod RunEntries
+pub mod GivenEntries
+pub mod ParametersNamed
+pub mod KeyAndMessage
+pub mod Readable
+pub mod Front
+pub mod EqualTranscripts

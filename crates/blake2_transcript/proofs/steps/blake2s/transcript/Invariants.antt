@@ -1,0 +1,5 @@
+use Rattle.blake2_simd.specs.Family.{blake2s}
+use Rattle.blake2_transcript.proofs.steps.blake2s.transcript.Given as goal
+
+abbrev pub ghost-entries : goal.ghost-entries
+ghost-entries a = blake2s

@@ -1,0 +1,4 @@
+pub mod Transcript
+pub mod StepViews
+pub mod Witness
+pub mod Reader

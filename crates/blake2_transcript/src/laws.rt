@@ -1,0 +1,4 @@
+//! Laws of transcripts, each the contract of a small function that shows it at work.
+
+pub mod blake2b;
+pub mod blake2s;

@@ -1,9 +1,0 @@
-use Rattle.blake2_rows.specs.Family.{blake2b}
-use Rattle.blake2_words.proofs.ParameterTexts.{zeros_leave_digests}
-use Rattle.blake2_words.proofs.laws.blake2b.padded_text.Goals as goal
-
-pub returns : goal.returns
-returns c = record {
-  padding = c.padded.ensures;
-  law = zeros_leave_digests blake2b;
-}

@@ -1,5 +1,0 @@
-use Rattle.blake2_rows.specs.Family.{blake2b}
-use Rattle.blake2_words.proofs.many.blake2b.compress_at.Given as goal
-
-abbrev pub ghost-block_at : goal.ghost-block_at
-ghost-block_at a = blake2b

@@ -1,5 +1,0 @@
-use Rattle.blake2_words.proofs.Sigma.{sigma_below}
-use Rattle.blake2_words.proofs.many.blake2b.round_at.Goals as goal
-
-pub round_each-requires : goal.round_each-requires
-round_each-requires c = λ j _. sigma_below _ j

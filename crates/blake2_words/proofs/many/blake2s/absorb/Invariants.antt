@@ -1,8 +1,0 @@
-use Rattle.blake2_rows.specs.Family.{blake2s}
-use Rattle.blake2_words.proofs.many.blake2s.absorb.Given as goal
-
-abbrev pub ghost-step_count : goal.ghost-step_count
-ghost-step_count a = blake2s
-
-abbrev pub ghost-counted : goal.ghost-counted
-ghost-counted a = blake2s

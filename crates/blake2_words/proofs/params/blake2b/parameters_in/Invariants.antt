@@ -1,5 +1,0 @@
-use Rattle.blake2_rows.specs.Family.{blake2b}
-use Rattle.blake2_words.proofs.params.blake2b.parameters_in.Given as goal
-
-abbrev pub ghost-tree_in : goal.ghost-tree_in
-ghost-tree_in a = blake2b

@@ -1,5 +1,0 @@
-use Rattle.blake2_rows.specs.Family.{blake2s}
-use Rattle.blake2_words.proofs.params.blake2s.block_of.Given as goal
-
-abbrev pub ghost-parameter_block : goal.ghost-parameter_block
-ghost-parameter_block a = blake2s

@@ -1,5 +1,0 @@
-use Rattle.blake2_rows.specs.Family.{blake2b}
-use Rattle.blake2_words.proofs.steps.blake2b.read_transcript.Given as goal
-
-abbrev pub ghost-reading : goal.ghost-reading
-ghost-reading a = blake2b

@@ -1,8 +1,0 @@
-use Rattle.blake2_rows.specs.Family.{blake2b}
-use Rattle.blake2_words.proofs.Transcripts.{transcript_from}
-use Rattle.blake2_words.proofs.steps.blake2b.transcript.Goals as goal
-
-pub returns-clause-transcript : goal.returns-clause-transcript
-returns-clause-transcript c =
-    transcript_from blake2b c.args.output_size _ _ _ _ c.input_parameters.ensures
-    c.parameter_words-words.ensures (c.in_ok-entries.ensures c.args.output_size)

@@ -1,5 +1,0 @@
-use Rattle.blake2_rows.specs.Family.{blake2b}
-use Rattle.blake2_words.proofs.steps.blake2b.transcript.Given as goal
-
-abbrev pub ghost-entries : goal.ghost-entries
-ghost-entries a = blake2b

@@ -1,5 +1,0 @@
-use Rattle.blake2_rows.specs.Family.{blake2s}
-use Rattle.blake2_words.proofs.steps.blake2s.transcript.Given as goal
-
-abbrev pub ghost-entries : goal.ghost-entries
-ghost-entries a = blake2s

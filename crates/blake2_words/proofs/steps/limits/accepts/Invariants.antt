@@ -1,4 +1,0 @@
-use Rattle.blake2_words.proofs.steps.limits.accepts.Given as goal
-
-abbrev pub ghost-key_fits : goal.ghost-key_fits
-ghost-key_fits g a = g.f

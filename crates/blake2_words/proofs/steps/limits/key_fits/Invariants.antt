@@ -1,4 +1,0 @@
-use Rattle.blake2_words.proofs.steps.limits.key_fits.Given as goal
-
-abbrev pub ghost-given_key_fits : goal.ghost-given_key_fits
-ghost-given_key_fits g a = g.f

@@ -1,4 +1,0 @@
-use Rattle.blake2_words.proofs.steps.reader.reading.Given as goal
-
-abbrev pub ghost-key_and_message : goal.ghost-key_and_message
-ghost-key_and_message g a = g.f

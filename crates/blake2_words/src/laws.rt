@@ -1,6 +1,0 @@
-//! Laws of the definitions, each the contract of a small function that shows it at work.
-
-pub mod blake2b;
-pub mod blake2s;
-pub mod pieces;
-pub mod transcripts;

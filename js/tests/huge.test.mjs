@@ -1,0 +1,118 @@
+// Messages of 2^32 bytes and more: in memory, in pieces, and as files. They take minutes, so they
+// run only if VULFSJOR_TEST_HUGE is set. Memory and files are sparse.
+import assert from "node:assert/strict";
+import { createReadStream, mkdtempSync, openSync, readSync, rmSync, writeSync } from "node:fs";
+import { tmpdir } from "node:os";
+import { join } from "node:path";
+import test from "node:test";
+import {
+  Blake2b, Blake2s, TreeHash, blake2b, blake2bMany, blake2bStream, blake2s, blake2sStream, equal,
+  hex, treeLeaves, treeRoot, treeRootOfLeaves, treeRootStream,
+} from "../index.js";
+import { assertClean } from "./common.mjs";
+
+const SIZE = 2 ** 32; // the longest array of node 20
+const ENDS = [[1, 0, 100], [2, SIZE - 100, 100], [3, SIZE, 1000]]; // a byte, where, and how often
+const options = { digestLength: 32 };
+const [SMALL, LARGE, LONG] = [2 ** 22, 2 ** 26, 2 ** 31 + 5]; // leaves; LONG exceeds a signed word
+// By hashlib: of the first SIZE bytes, and of all.
+const WANTED = {
+  blake2b: [
+    "5b63e3a50bb35c10fbb61c1d9d2c0c9d459b7ce8ac281f197dbbd1dcea668a29",
+    "40094b75cca9302c0d1af7271481946321d76dfc9efaac5df37e73b2405971b0",
+  ],
+  blake2s: [
+    "81876b6cacf6c29c7d293198dd66e86cc48a8c54f7a0537382ad22aacf5245f5",
+    "95b840b29803c6af9f8bd7f99f4f3b19c3ad8826b5c17757ef25803f0c44973a",
+  ],
+  [SMALL]: [
+    "cb4a2836fb4cf366a314046a81de843ff870f96a8d04186d55a7c98c154501ae",
+    "230dfe3db62ebed052d062e1f13bc48ae32a53453781fefff81222466f6e9364",
+  ],
+  [LARGE]: [
+    "4f576d85eda3765b926aa5c5d952abfcb327e8a04c2956cd4addd82e1a03f9cf",
+    "d4ad1b11591ffcae1c7020b8f7aaafb44d5bc396db8136a426c23460a067307c",
+  ],
+  [LONG]: [
+    "41b8e0587204103cc4a7309d101722f364a51b11cb74949277c37ddc227abd98",
+    "e3415c50dcd25703fb87200775c0a698a262f16f287b6a319e968dd5f3a58da5",
+  ],
+  root: "4ad5f8337f5b5822d2d176944d068bf17335acb8797a1f97f0cdf89af9f11e60", // over the first SIZE bytes, as digests
+};
+
+function sparse() {
+  const bytes = new Uint8Array(SIZE);
+  for (const [byte, at, count] of ENDS.slice(0, 2)) bytes.fill(byte, at, at + count);
+  return bytes;
+}
+
+// A file as browsers have it. The blobs of node 20 have fewer than 2^32 bytes.
+function blobOf(descriptor) {
+  const slice = (from, to) => ({
+    arrayBuffer: async () => {
+      const { buffer } = new Uint8Array(Math.min(to, SIZE + 1000) - from);
+      readSync(descriptor, new Uint8Array(buffer), 0, buffer.byteLength, from);
+      return buffer;
+    },
+  });
+  return Object.defineProperties(
+    new Blob(), { size: { value: SIZE + 1000 }, slice: { value: slice } });
+}
+
+const skip = process.env.VULFSJOR_TEST_HUGE ? false : "VULFSJOR_TEST_HUGE is not set";
+
+test("messages of 2^32 bytes and more", { skip }, async (t) => {
+  const message = sparse();
+  const tail = new Uint8Array(1000).fill(3);
+  const treeOf = (leafLength) => ({ leafLength, ...options });
+  const folder = mkdtempSync(join(tmpdir(), "vulfsjor-"));
+  t.after(() => rmSync(folder, { recursive: true }));
+  const file = join(folder, "file");
+  const descriptor = openSync(file, "w+");
+  for (const [byte, at, count] of ENDS) {
+    writeSync(descriptor, Buffer.alloc(count, byte), 0, count, at);
+  }
+  const counts = [];
+  const onProgress = (...both) => counts.push(both);
+  const calls = {
+    blake2b: [WANTED.blake2b[0], () => blake2b(message, options)],
+    blake2s: [WANTED.blake2s[0], () => blake2s(message, options)],
+    blake2bMany: [WANTED.blake2b[0], () => blake2bMany([tail, message], options)[1]],
+    treeRoot: [WANTED[SMALL][0], () => treeRoot(message, treeOf(SMALL))],
+    "treeLeaves, long": [WANTED[LONG][0], () => treeRootOfLeaves(
+      treeLeaves(message, { leafLength: LONG, first: 0, ends: true }), treeOf(LONG))],
+    "treeLeaves, short": [WANTED[SMALL][0], () => treeRootOfLeaves(
+      treeLeaves(message, { leafLength: SMALL, first: 0, ends: true }), treeOf(SMALL))],
+    treeRootOfLeaves: [WANTED.root, () => treeRootOfLeaves(message, treeOf(5))],
+    "blake2bStream of a blob": [WANTED.blake2b[1], () =>
+      blake2bStream(blobOf(descriptor), { ...options, onProgress })],
+    "blake2sStream of a file": [WANTED.blake2s[1], () =>
+      blake2sStream(createReadStream(file, { highWaterMark: 2 ** 24 }), options)],
+    ...Object.fromEntries([SMALL, LARGE, LONG].map((leafLength) =>
+      [`treeRootStream, leaves of ${leafLength}`, [WANTED[leafLength][1], () =>
+        treeRootStream(blobOf(descriptor), { ...treeOf(leafLength), threads: 0 })]])),
+  };
+  for (const [name, [wanted, call]] of Object.entries(calls)) {
+    await t.test(name, async () => {
+      assert.equal(hex(await call()), wanted);
+      assertClean(name);
+    });
+  }
+  assert.deepEqual(counts.at(-1), [SIZE + 1000, SIZE + 1000]);
+  for (const [Hasher, more, [first, all]] of [
+    [Blake2b, {}, WANTED.blake2b], [Blake2s, {}, WANTED.blake2s],
+    [TreeHash, { leafLength: LARGE }, WANTED[LARGE]],
+  ]) {
+    await t.test(`${Hasher.name}.update`, () => {
+      const run = new Hasher({ ...options, ...more }).update(message);
+      assert.equal(run.copy().hex(), first);
+      assert.equal(run.update(tail).hex(), all);
+    });
+  }
+  await t.test("equal", () => {
+    const other = sparse();
+    assert.equal(equal(message, other), true);
+    other[SIZE - 1] ^= 1;
+    assert.equal(equal(message, other), false);
+  });
+});

@@ -1,0 +1,93 @@
+#!/usr/bin/env python3
+"""What the tests share: the package, and copies of its sources.
+
+The tests import the package from the folder VULFSJOR_PACKAGE. If that is not set, they build it
+first, in a folder that is removed when they end.
+
+usage: support.py FOLDER      builds the package in FOLDER. Status 77: a tool is missing
+"""
+import atexit
+import contextlib
+import importlib.util
+import os
+import shutil
+import subprocess
+import sys
+import sysconfig
+import tempfile
+import unittest
+
+HERE = os.path.dirname(os.path.abspath(__file__))
+TOP = os.path.dirname(os.path.dirname(HERE))
+COPIES = ("vulfsjor.h", "choose.c", "aarch64/vulfsjor.s", "x86_64/vulfsjor-v2.s",
+          "x86_64/vulfsjor-v3.s")
+
+
+def absent(*modules, tools=()):
+    """What is missing of these modules and programs, as a reason to skip a test, or ''."""
+    found = [name for name in tools if not shutil.which(name)]
+    for name in modules:
+        with contextlib.suppress(ModuleNotFoundError):  # of the package that has the module
+            if importlib.util.find_spec(name):
+                continue
+        found.append(name)
+    return " and ".join(f"no {name}" for name in found)
+
+
+def cannot_build():
+    """Why this interpreter can't build the package, or ''."""
+    header = os.path.join(sysconfig.get_path("include"), "Python.h")
+    return absent("setuptools", tools=["cc"]) or ("" if os.path.exists(header) else "no Python.h")
+
+
+def run(*words, **named):
+    """Runs a program, and returns what it has printed and its status."""
+    return subprocess.run(words, stdout=subprocess.PIPE, stderr=subprocess.STDOUT, text=True,
+                          check=False, **named)
+
+
+def copy_sources(folder):
+    """Copies the part of the repository that the package is built from, as a clone has it, and
+    returns the folder of the package."""
+    for name in ("c", "dist", "python"):
+        shutil.copytree(os.path.join(TOP, name), os.path.join(folder, name),
+                        ignore=shutil.ignore_patterns("build", "*.egg-info", "__pycache__"))
+    for name in COPIES:
+        path = os.path.join(folder, "python", "src", name)
+        if os.path.exists(path):
+            os.remove(path)
+    return os.path.join(folder, "python")
+
+
+def build(folder, **environment):
+    """Builds the package in a folder, from a copy of the sources, and without a warning of the
+    compiler. Returns what setup.py has printed and its status."""
+    with tempfile.TemporaryDirectory() as source:
+        flags = f"-Werror {environment.pop('CFLAGS', '')}"
+        return run(sys.executable, "setup.py", "build", "--build-lib", folder,
+                   cwd=copy_sources(source), env={**os.environ, "CFLAGS": flags, **environment})
+
+
+def package():
+    """The folder with the package."""
+    if "VULFSJOR_PACKAGE" not in os.environ:
+        if cannot_build():
+            raise unittest.SkipTest(cannot_build())
+        folder = tempfile.mkdtemp()
+        atexit.register(shutil.rmtree, folder)
+        done = build(folder)
+        if done.returncode:
+            raise RuntimeError(f"setup.py failed:\n{done.stdout}")
+        os.environ["VULFSJOR_PACKAGE"] = folder
+    return os.path.abspath(os.environ["VULFSJOR_PACKAGE"])
+
+
+if __name__ == "__main__":
+    if cannot_build():
+        print(cannot_build())
+        sys.exit(77)
+    DONE = build(os.path.abspath(sys.argv[1]))
+    print(DONE.stdout)
+    sys.exit(DONE.returncode)
+FOLDER = package()
+sys.path[:0] = [FOLDER, os.path.join(TOP, "tests")]

@@ -1,0 +1,241 @@
+"""Compares the package with Python's own BLAKE2 over random calls, refused ones among them, and
+over a list of calls at the edges. Both have to return the same digests or raise the same exception.
+VULFSJOR_TEST_CALLS is the number of random calls.
+"""
+import array
+import ctypes
+import itertools
+import mmap
+import os
+import random
+import threading
+import unittest
+
+import _blake2
+import support  # noqa: F401
+import vulfsjor
+
+DICE = random.Random(7693)
+FAMILIES = (("blake2b", 64), ("blake2s", 32))
+
+
+def parameters(longest):
+    """Random parameters, now and then one that is refused."""
+    def beyond():
+        return DICE.random() < 0.05
+
+    choices = {
+        "digest_size": lambda: (
+            DICE.randint(-1, longest + 2) if beyond() else DICE.randint(1, longest)
+        ),
+        "key": lambda: DICE.randbytes(longest + 1 if beyond() else DICE.randint(0, longest)),
+        "salt": lambda: DICE.randbytes(DICE.randint(0, longest // 4 + beyond())),
+        "person": lambda: DICE.randbytes(DICE.randint(0, longest // 4 + beyond())),
+        "fanout": lambda: DICE.randint(0, 255 + beyond()),
+        "depth": lambda: DICE.randint(0, 256) if beyond() else DICE.randint(1, 255),
+        "leaf_size": lambda: DICE.choice([-1, 2**32]) if beyond() else DICE.getrandbits(32),
+        "node_offset": lambda: (
+            DICE.choice([-1, 2**48, 2**64]) if beyond() else DICE.getrandbits(48)
+        ),
+        "node_depth": lambda: DICE.randint(0, 255 + beyond()),
+        "inner_size": lambda: DICE.randint(0, longest + beyond()),
+        "last_node": lambda: DICE.choice([True, False, 1, 0]),
+        "usedforsecurity": lambda: DICE.choice([True, False]),
+    }
+    return {name: make() for name, make in choices.items() if DICE.random() < 0.3}
+
+
+def answer(make, words, message, cut):
+    """Digests after each step, or the exception's name."""
+    try:
+        hasher = make(message[:cut], **words)
+        hasher.update(memoryview(bytearray(message[cut:])))
+        copy = hasher.copy()
+        first = hasher.digest()
+        hasher.update(b"more")
+        facts = hasher.digest_size, hasher.block_size, hasher.name
+        return first, copy.hexdigest(), copy.digest(), hasher.digest(), facts
+    except (ValueError, OverflowError, TypeError) as fault:
+        return type(fault).__name__
+
+
+def compare_random_calls(count):
+    """Random calls. How many of them both refuse."""
+    refused = 0
+    for _ in range(count):
+        name, longest = DICE.choice(FAMILIES)
+        length = DICE.choice([0, 1, 63, 64, 65, 127, 128, 129, 2047, 2048, DICE.randint(0, 5000)])
+        words, message = parameters(longest), DICE.randbytes(length)
+        cut = DICE.randint(0, len(message))
+        ours, theirs = (
+            answer(getattr(module, name), words, message, cut) for module in (vulfsjor, _blake2)
+        )
+        assert ours == theirs, (name, words, message, cut, ours, theirs)
+        refused += isinstance(ours, str)
+    return refused
+
+
+def edge_parameters(longest):
+    """Each parameter by itself, at its edges, beyond them, and of other types."""
+    small, bits = longest // 4, 64 if longest == 64 else 48
+    numbers = {
+        "digest_size": (1, longest),
+        "fanout": (0, 255),
+        "depth": (1, 255),
+        "leaf_size": (0, 2**32 - 1),
+        "node_offset": (0, 2**bits - 1),
+        "node_depth": (0, 255),
+        "inner_size": (0, longest),
+    }
+    for name, (least, most) in numbers.items():
+        near = [bound + step for bound in (least, most) for step in (-2, -1, 0, 1, 2)]
+        far = [2**power + step for power in (8, 31, 32, 48, 63, 64, 100) for step in (-1, 0, 1)]
+        for value in near + far + [-number for number in far]:
+            yield {name: value}
+        for value in (
+            None, 1.0, "1", b"1", True, type("Index", (), {"__index__": lambda self: 2})()
+        ):
+            yield {name: value}
+    for name, most in {"key": longest, "salt": small, "person": small}.items():
+        for length in (0, 1, most - 1, most, most + 1, 2 * most, 1000):
+            yield {name: bytes(length)}
+            yield {name: bytes(range(1, 256))[:length]}
+        for value in (
+            None,
+            1,
+            "text",
+            bytearray(b"12"),
+            memoryview(b"12"),
+            memoryview(b"1234")[::2],
+            array.array("H", [1, 2]),
+            [1],
+        ):
+            yield {name: value}
+    for name in ("last_node", "usedforsecurity"):
+        for value in (0, 1, 2, None, "", "x", True, False):
+            yield {name: value}
+    yield {"data": b"x"}
+    yield {"size": 1}
+    refused = {
+        "digest_size": 0,
+        "salt": bytes(99),
+        "person": bytes(99),
+        "fanout": -1,
+        "depth": 0,
+        "leaf_size": 2**32,
+        "node_offset": 2**64,
+        "node_depth": -1,
+        "inner_size": -1,
+        "key": bytes(99),
+    }
+    for first, second in itertools.combinations(refused, 2):  # which of two is refused first
+        yield {first: refused[first], second: refused[second]}
+
+
+def outcome(act):
+    """The result of a call, or the name and the message of its exception: None for the two
+    messages that differ."""
+    try:
+        return act()
+    except Exception as fault:  # whatever is raised is compared
+        text = str(fault).replace("vulfsjor.", "_blake2.")
+        differs = isinstance(fault, OverflowError) or text.startswith("inner_size")
+        return type(fault).__name__, None if differs else text
+
+
+def edges_of(module, name, longest):
+    """The outcome of every call at the edges."""
+    make = getattr(module, name)
+    for words in edge_parameters(longest):
+        yield words, outcome(lambda: make(b"message", **words).hexdigest())
+    yield "two", outcome(lambda: make(b"a", b"b"))
+    for data in inputs():
+        yield data, outcome(lambda: make(data).hexdigest())
+        yield data, outcome(lambda: make().update(data))
+    yield "none", outcome(lambda: make().update())
+    yield "digest", outcome(lambda: make().digest(1))
+    yield "subclass", outcome(lambda: type("Sub", (make,), {}))
+    yield "attribute", outcome(lambda: setattr(make(), "other", 1))
+    for field in ("name", "block_size", "digest_size"):
+        yield field, outcome(lambda: setattr(make(), field, 1))[0]
+    for constant in ("MAX_DIGEST_SIZE", "MAX_KEY_SIZE", "SALT_SIZE", "PERSON_SIZE"):
+        yield constant, getattr(make, constant), getattr(module, f"{name.upper()}_{constant}")
+        yield constant, outcome(lambda: setattr(make, constant, 1))[0]
+        yield constant, outcome(lambda: delattr(make, constant))[0]
+
+
+def inputs():
+    """Objects to hash, and objects that are refused."""
+    mapped = mmap.mmap(-1, 5000, access=mmap.ACCESS_READ)
+    yield from (
+        b"", b"abc", bytearray(b"abc"), memoryview(b"abc"), memoryview(b"abcdef")[1:4], mapped
+    )
+    yield from (
+        memoryview(b"abcdef")[::2],
+        array.array("I", [1, 2, 3]),
+        (ctypes.c_char * 8)(),
+        ctypes.c_uint64(7),
+    )
+    yield from (
+        ((ctypes.c_char * 3) * 4)(),
+        memoryview(bytes(12)).cast("B", (3, 4)),
+        bytes(4096),
+        bytearray(4096),
+    )
+    yield from ("text", "", 1, None, [1, 2], object(), 1.5)
+
+
+def compare_edges():
+    """All calls at the edges. How many they were."""
+    count = 0
+    for name, longest in FAMILIES:
+        for ours, theirs in zip(
+            edges_of(vulfsjor, name, longest), edges_of(_blake2, name, longest), strict=True
+        ):
+            assert ours[1:] == theirs[1:], (name, ours, theirs)
+            count += 1
+    return count
+
+
+def share_among_threads(make):
+    """Many threads update one hasher with long and short pieces of one message, and copy it
+    meanwhile. Each copy has hashed a prefix of the message, since all pieces are whole periods."""
+    piece, hasher, prefixes = b"12345678" * 1000, make(), make()
+    pieces, digests, beginnings = [piece[:1000], piece], [], {make().digest()}
+
+    def work():
+        for turn in range(200):
+            hasher.update(pieces[turn % 2])
+            digests.append(hasher.copy().digest())
+            digests.append(hasher.digest())
+            assert not hasher.verify(b"")
+
+    threads = [threading.Thread(target=work) for _ in range(4)]
+    for thread in threads:
+        thread.start()
+    for thread in threads:
+        thread.join()
+    for _ in range(4 * 100 * 9):
+        prefixes.update(piece[:1000])
+        beginnings.add(prefixes.digest())
+    assert hasher.digest() == prefixes.digest() == make(piece * 450).digest()
+    assert len(digests) == 1600 and set(digests) <= beginnings
+
+
+class Compare(unittest.TestCase):
+    """All comparisons."""
+
+    def test_random_calls(self):
+        count = int(os.environ.get("VULFSJOR_TEST_CALLS", 20000))
+        self.assertGreater(compare_random_calls(count), count // 50)
+
+    def test_edges(self):
+        self.assertGreater(compare_edges(), 1000)
+
+    def test_threads_share_an_object(self):
+        for make in (vulfsjor.blake2b, vulfsjor.blake2s):
+            share_among_threads(make)
+
+
+if __name__ == "__main__":
+    unittest.main()

@@ -1,0 +1,540 @@
+"""Tests of what test_compare.py can't compare: verify, several messages, the tree root, what is
+left of a key, threads, views that are let go, and the names and signatures of the package."""
+import ast
+import collections
+import ctypes
+import doctest
+import hashlib
+import inspect
+import mmap
+import operator
+import os
+import random
+import re
+import sys
+import tempfile
+import threading
+import time
+import tracemalloc
+import unittest
+
+from support import HERE
+import oracle
+import vectors
+import vulfsjor
+
+DICE = random.Random(1)
+FAMILIES = (("blake2b", vulfsjor.blake2b, hashlib.blake2b, vulfsjor.blake2b_many, 64),
+            ("blake2s", vulfsjor.blake2s, hashlib.blake2s, vulfsjor.blake2s_many, 32))
+LONG = bytes(1 << 26)
+
+
+class KnownAnswers(unittest.TestCase):
+    """The cases of tests/vectors.json."""
+
+    def test_all(self):
+        met = collections.Counter()
+        for case in vectors.cases():
+            words = vectors.arguments(case)
+            if case["kind"] == "hash":
+                found = getattr(vulfsjor, case["hash"])(vectors.message(case), **words).digest()
+            elif case["kind"] == "many":
+                digests = getattr(vulfsjor, case["hash"] + "_many")(vectors.messages(case), **words)
+                found = vectors.hash_of(b"".join(digests))
+            elif case["kind"] == "root":
+                found = vulfsjor.tree_root(vectors.message(case), **words)
+            else:
+                continue
+            self.assertEqual(found.hex(), case["digest"], case)
+            met[case["kind"]] += 1
+        self.assertEqual(met, {"hash": 1744, "many": 60, "root": 207})
+
+
+class Verify(unittest.TestCase):
+    """The comparison of tags."""
+
+    def test_every_size_and_every_bit(self):
+        for _, make, theirs, _, longest in FAMILIES:
+            for size in range(1, longest + 1):
+                mac = make(b"message", key=b"key", digest_size=size)
+                tag = theirs(b"message", key=b"key", digest_size=size).digest()
+                self.assertIs(mac.verify(tag), True)
+                for bit in range(8 * size):
+                    wrong = (int.from_bytes(tag, "big") ^ 1 << bit).to_bytes(size, "big")
+                    self.assertIs(mac.verify(wrong), False)
+                for other in (tag[:-1], tag + b"\0", b"", tag + tag, tag[1:]):
+                    self.assertIs(mac.verify(other), False)
+
+    def test_it_does_not_end_the_run(self):
+        for _, make, theirs, _, _ in FAMILIES:
+            mac = make(b"a", key=b"key")
+            self.assertTrue(mac.verify(theirs(b"a", key=b"key").digest()))
+            self.assertFalse(mac.verify(b"wrong"))
+            mac.update(b"b")
+            self.assertTrue(mac.verify(bytearray(theirs(b"ab", key=b"key").digest())))
+            self.assertTrue(mac.verify(memoryview(mac.digest())))
+
+    def test_what_is_no_bytes_is_refused(self):
+        for _, make, _, _, _ in FAMILIES:
+            for tag in ("text", None, 1, [1], make().hexdigest()):
+                self.assertRaises(TypeError, make().verify, tag)
+            self.assertRaises(TypeError, make().verify)
+            self.assertRaises(BufferError, make().verify, memoryview(bytes(64))[::2])
+
+
+class Many(unittest.TestCase):
+    """Several messages in one call."""
+
+    def test_digests_are_those_of_hashlib(self):
+        for _, _, theirs, many, longest in FAMILIES:
+            for count in (0, 1, 2, 3, 4, 5, 7, 8, 9, 16, 33):
+                for length in (0, 1, 64, 128, 129, 1000, None):
+                    lengths = [
+                        DICE.choice([0, 1, 200]) if length is None else length for _ in range(count)
+                    ]
+                    messages = [DICE.randbytes(length) for length in lengths]
+                    self.assertEqual(
+                        many(messages), [theirs(message).digest() for message in messages]
+                    )
+                    words = dict(
+                        digest_size=DICE.randint(1, longest),
+                        key=DICE.randbytes(DICE.randint(0, longest)),
+                        salt=DICE.randbytes(longest // 4),
+                        person=DICE.randbytes(DICE.randint(0, 8)),
+                    )
+                    wanted = [theirs(message, **words).digest() for message in messages]
+                    self.assertEqual(many(messages, **words), wanted)
+
+    def test_any_iterable_of_any_buffers(self):
+        for _, _, theirs, many, _ in FAMILIES:
+            wanted = [theirs(b"ab").digest()] * 3
+            self.assertEqual(many((b"ab", bytearray(b"ab"), memoryview(b"xabx")[1:3])), wanted)
+            self.assertEqual(many(b"ab" for _ in range(3)), wanted)
+
+    def test_refusals(self):
+        for _, _, _, many, longest in FAMILIES:
+            for words in ({"digest_size": 0}, {"digest_size": longest + 1}, {"digest_size": -1},
+                          {"key": bytes(longest + 1)}, {"salt": bytes(longest // 4 + 1)},
+                          {"person": bytes(longest // 4 + 1)}):
+                for messages in ([], [b"x"]):
+                    self.assertRaises(ValueError, many, messages, **words)
+            for messages in (None, 1, ["text"], [b"a", None], [1], "text", b"bytes"):
+                self.assertRaises(TypeError, many, messages)
+            for words in ({"key": "text"}, {"digest_size": "1"}, {"other": 1}, {"messages": []}):
+                self.assertRaises(TypeError, many, [b"x"], **words)
+            self.assertRaises(TypeError, many)
+            self.assertRaises(TypeError, many, [b"x"], 32)
+            self.assertRaises(BufferError, many, [b"x", memoryview(b"abcd")[::2]])
+
+
+class TreeRoot(unittest.TestCase):
+    """The root of a tree of two levels."""
+
+    def test_roots_are_those_of_hashlib(self):
+        for leaf_size in (1, 7, 128, 1000, 4096, 2**32 - 1):
+            for length in (0, 1, 6, 7, 8, 128, 129, 1000, 5000, 9001):
+                data, salt, person = (
+                    DICE.randbytes(n) for n in (length, DICE.randint(0, 16), DICE.randint(0, 16))
+                )
+                wanted = oracle.tree_root(data, leaf_size)
+                self.assertEqual(vulfsjor.tree_root(data, leaf_size), wanted)
+                size = DICE.randint(1, 64)
+                words = dict(leaf_size=leaf_size, digest_size=size, salt=salt, person=person)
+                wanted = oracle.tree_root(data, **words)
+                self.assertEqual(vulfsjor.tree_root(bytearray(data), **words), wanted)
+        for size in range(1, 65):
+            wanted = oracle.tree_root(b"abc", 2, size)
+            self.assertEqual(vulfsjor.tree_root(memoryview(b"abc"), 2, digest_size=size), wanted)
+
+    def test_refusals(self):
+        root = vulfsjor.tree_root
+        for words in ({"leaf_size": 0}, {"leaf_size": -1}, {"leaf_size": 1, "digest_size": 0},
+                      {"leaf_size": 1, "digest_size": 65}, {"leaf_size": 1, "salt": bytes(17)},
+                      {"leaf_size": 1, "person": bytes(17)}, {"leaf_size": -(2**70)}):
+            self.assertRaises(ValueError, root, b"x", **words)
+        for leaf_size in (2**32, 2**32 + 1, 2**63 + 1, 2**64, 2**64 + 1, 2**70 + 1):
+            self.assertRaises(OverflowError, root, b"x", leaf_size)
+        for words in ({}, {"leaf_size": None}, {"leaf_size": 1.0}, {"leaf_size": 1, "salt": "text"},
+                      {"leaf_size": 1, "key": b"k"}):
+            self.assertRaises(TypeError, root, b"x", **words)
+        for data in ("text", None, 1):
+            self.assertRaises(TypeError, root, data, 1)
+        self.assertRaises(TypeError, root)
+        self.assertRaises(BufferError, root, memoryview(b"abcd")[::2], 1)
+
+
+# Room for a copy of a region of the memory. It is shared, so that places_of does not search it.
+COPY = mmap.mmap(-1, 1 << 28)
+
+
+def places_of(text):
+    """The addresses of the copies of `text` in the memory that this process can write."""
+    found = set()
+    with open("/proc/self/maps") as maps, open("/proc/self/mem", "rb", 0) as memory:
+        for line in maps.read().splitlines():
+            start, end = (int(word, 16) for word in line.split()[0].split("-"))
+            if "rw-p" not in line.split()[1] or end - start > len(COPY):
+                continue
+            memory.seek(start)
+            try:
+                read = memory.readinto(memoryview(COPY)[:end - start])
+            except OSError:  # a part that the kernel keeps for itself
+                continue
+            place = COPY.find(text, 0, read)
+            while place >= 0:
+                found.add(start + place)
+                place = COPY.find(text, place + 1, read)
+    return found
+
+
+def deep(call, levels=60):
+    """What a call returns. Its frames in C are far below those of later calls, which would
+    otherwise overwrite them."""
+    return call() if levels == 0 else next(map(deep, [call], [levels - 1]))
+
+
+class Secrets(unittest.TestCase):
+    """What is left of a key."""
+
+    def test_a_dead_object_has_no_byte_of_its_state(self):
+        for _, make, _, _, longest in FAMILIES:
+            key = bytes(range(1, longest + 1))
+            mac = make(b"message", key=key)
+            address, size, head = id(mac), mac.__sizeof__(), object.__basicsize__ + 16
+            self.assertEqual(size, head + (424 if longest == 64 else 232))
+            alive, dead = (ctypes.create_string_buffer(size) for _ in range(2))
+            ctypes.memmove(alive, address, size)
+            del mac
+            ctypes.memmove(dead, address, size)
+            self.assertIn(key, alive.raw)
+            self.assertEqual(dead.raw[head:], bytes(size - head))
+
+    def test_an_object_that_is_refused_half_way_too(self):
+        for _, make, _, _, longest in FAMILIES:
+            self.assertRaises(TypeError, make, "text", key=bytes(range(longest)))
+
+    def test_digests_leave_no_copy_of_a_state(self):
+        for _, make, _, _, longest in FAMILIES:
+            key = os.urandom(longest)
+            before = places_of(key)
+            mac = make(b"message", key=key)
+            for call in (
+                mac.digest,
+                mac.hexdigest,
+                lambda: mac.verify(b"x"),
+                lambda: mac.verify(mac.digest()),
+                lambda: mac.copy().digest(),
+            ):
+                deep(call)
+                new = places_of(key) - before
+                self.assertTrue(new)
+                self.assertEqual(
+                    [place for place in new if not 0 <= place - id(mac) < mac.__sizeof__()], []
+                )
+            del mac
+            self.assertEqual(places_of(key) - before, set())
+
+
+class Counts(unittest.TestCase):
+    """Inputs end before 2^64 bytes: a state whose count is set near there takes no more."""
+
+    def test_an_input_that_is_too_long_is_refused(self):
+        for (_, make, _, _, longest), chain in zip(FAMILIES, (128, 64)):
+            for length in (300, 3000):
+                hasher, head = make(), object.__basicsize__ + 16
+                count = ctypes.c_uint64.from_address(id(hasher) + head + chain)
+                hasher.update(bytes(200))
+                self.assertEqual(count.value, 128 if longest == 64 else 192)
+                count.value = 2**64 - 256
+                hasher.update(bytes(100))
+                before = hasher.digest()
+                self.assertRaises(OverflowError, hasher.update, bytes(length))
+                self.assertEqual(hasher.digest(), before)
+
+
+class Views(unittest.TestCase):
+    """A call lets go of its arguments, whether it succeeds or fails: a bytearray can then grow."""
+
+    def grows(self, call, names, **words):
+        """Calls once for each name, with a bytearray as that argument, which can then grow."""
+        for name in names:
+            array = bytearray(b"12345678")
+            try:
+                call(**{**words, name: array})
+            except (ValueError, TypeError, OverflowError):
+                pass
+            array.append(1)
+
+    def test_hashes(self):
+        for _, make, _, many, _ in FAMILIES:
+            for words in (
+                {}, {"digest_size": 0}, {"depth": 0}, {"leaf_size": -1}, {"leaf_size": "x"}
+            ):
+                self.grows(
+                    lambda **words: make(words.pop("data", b"x"), **words),
+                    ("data", "key", "salt", "person"),
+                    **words,
+                )
+                self.grows(
+                    lambda **words: make("text", **words), ("key", "salt", "person"), **words
+                )
+            self.grows(lambda data: make().update(data), ("data",))
+            self.grows(lambda data: make().verify(data), ("data",))
+            for words in ({}, {"digest_size": 0}):
+                self.grows(lambda **words: many([b"x", words.pop("data", b"x")], **words),
+                           ("data", "key", "salt", "person"), **words)
+                self.grows(
+                    lambda **words: many([words.pop("data"), None], **words), ("data",), **words
+                )
+
+    def test_roots(self):
+        for words in ({"leaf_size": 1}, {"leaf_size": 0}, {"leaf_size": 1, "digest_size": 0}):
+            self.grows(lambda **words: vulfsjor.tree_root(words.pop("data", b"x"), **words),
+                       ("data", "salt", "person"), **words)
+            self.grows(
+                lambda **words: vulfsjor.tree_root("text", **words), ("salt", "person"), **words
+            )
+
+    def test_nothing_is_kept(self):
+        def work():
+            for _, make, _, many, _ in FAMILIES:
+                for _ in range(400):
+                    hasher = make(b"x", key=b"key")
+                    hasher.copy().update(bytes(3000))
+                    hasher.digest(), hasher.hexdigest(), hasher.verify(b"x"), many([b"x"] * 5)
+                    for call in (
+                        lambda: make("x"),
+                        lambda: many([b"x", "x"]),
+                        lambda: make(depth=0),
+                        lambda: make(leaf_size=-1),
+                        lambda: vulfsjor.tree_root("x", 1),
+                    ):
+                        self.assertRaises((TypeError, ValueError), call)
+                    vulfsjor.tree_root(b"x", 1)
+
+        work()
+        references = [sys.getrefcount(make) for _, make, _, _, _ in FAMILIES]
+        tracemalloc.start()
+        before = tracemalloc.get_traced_memory()[0]
+        work()
+        grown = tracemalloc.get_traced_memory()[0] - before
+        tracemalloc.stop()
+        self.assertLess(grown, 8000)
+        self.assertEqual([sys.getrefcount(make) for _, make, _, _, _ in FAMILIES], references)
+
+
+class Threads(unittest.TestCase):
+    """Other threads run during long calls. Here, threads switch only when one releases the GIL."""
+
+    def setUp(self):
+        self.interval, self.turns, self.ended = sys.getswitchinterval(), 0, False
+        sys.setswitchinterval(1000)
+        self.other = threading.Thread(target=self.count)
+        self.other.start()
+
+    def tearDown(self):
+        self.ended = True
+        sys.setswitchinterval(self.interval)
+        self.other.join()
+
+    def count(self):
+        """Counts turns, and releases the GIL after each."""
+        while not self.ended:
+            self.turns += 1
+            time.sleep(0)
+
+    def turns_during(self, call):
+        """How many turns the other thread has during a call."""
+        before = self.turns
+        call()
+        return self.turns - before
+
+    def test_long_inputs_let_others_run(self):
+        for _, make, _, many, _ in FAMILIES:
+            hasher = make()
+            for call in (lambda: hasher.update(LONG), lambda: make(LONG), lambda: many([LONG])):
+                self.assertGreater(self.turns_during(call), 10)
+        for call in (
+            lambda: vulfsjor.tree_root(LONG, 4096),
+            lambda: vulfsjor.TreeHasher(4096).update(LONG),
+            lambda: vulfsjor.TreeHasher(4096).next_leaves(LONG),
+            lambda: vulfsjor.tree_leaves(LONG, 4096, first=0, ends=True),
+            lambda: vulfsjor.tree_root_of_leaves(LONG, 4096),
+        ):
+            self.assertGreater(self.turns_during(call), 10)
+
+    def test_others_wait_for_a_long_update(self):
+        """A call of an object sees all of an update that is under way, at least once in ten tries:
+        in a single try the update may not have started."""
+        for _, make, theirs, _, _ in FAMILIES:
+            wanted = theirs(LONG).digest()
+            for call in (
+                lambda hasher: hasher.copy().digest() == wanted,
+                lambda hasher: hasher.digest() == wanted,
+                lambda hasher: hasher.verify(wanted),
+            ):
+                self.assertTrue(any(self.is_met(call, make()) for _ in range(10)))
+
+    def is_met(self, call, hasher):
+        """The result of a call while another thread updates the object."""
+        thread = threading.Thread(target=hasher.update, args=(LONG,))
+        thread.start()
+        time.sleep(0.002)
+        answer = call(hasher)
+        thread.join()
+        return answer
+
+    def test_short_ones_do_not(self):
+        for _, make, _, _, _ in FAMILIES:
+            hasher, short = make(), bytes(2047)
+            self.assertEqual(
+                self.turns_during(lambda: [hasher.update(short) for _ in range(3000)]), 0
+            )
+
+    def test_2048_bytes_are_long(self):
+        for make in (vulfsjor.blake2b, vulfsjor.blake2s, lambda: vulfsjor.TreeHasher(4096)):
+            hasher, before, end = make(), self.turns, time.monotonic() + 20
+            while self.turns == before and time.monotonic() < end:
+                hasher.update(bytes(2048))
+            self.assertGreater(self.turns, before)
+
+
+class Words(unittest.TestCase):
+    """The names, signatures and types of the package."""
+
+    def found(self, path, pattern):
+        """What the groups of a pattern match in a file of the package."""
+        with open(os.path.join(HERE, "..", path), encoding="utf-8") as file:
+            found = re.search(pattern, " ".join(file.read().split()))
+        self.assertTrue(found, pattern)
+        return found[1] if found.re.groups == 1 else found.groups()
+
+    def test_versions_agree(self):
+        self.assertEqual(self.found("pyproject.toml", r' version = "(.*?)"'), vulfsjor.__version__)
+
+    def test_numbers_of_the_page(self):
+        """The README's numbers that no example prints. test_build.py has those of glibc and of
+        processors."""
+        self.assertEqual(self.found("README.md", r"CPython (3\.\d+) or later"),
+                         self.found("pyproject.toml", r'requires-python = ">=([\d.]+)"'))
+        self.assertEqual(self.found("README.md", r"requires glibc (2\.\d+) or later"), "2.14")
+        without = r"at least ([\d,]+) bytes are hashed without the GIL"
+        self.assertEqual(self.found("README.md", without),
+                         f"{int(self.found('src/library.h', 'LET_OTHERS_RUN_AT = ([0-9]+) ')):,}")
+        self.assertEqual(self.found("README.md", r"at most (\d+) MiB in memory for each thread"),
+                         str(vulfsjor._threads._MOST_BUFFER_BYTES >> 20))
+        self.assertIn("buffer of up to 16 MiB", " ".join(vulfsjor.tree_root_file.__doc__.split()))
+        self.assertEqual(vulfsjor._threads._MOST_BUFFER_BYTES, 16 << 20)
+        self.assertIn("less than 1 MiB for each", " ".join(vulfsjor.tree_root.__doc__.split()))
+        self.assertEqual(vulfsjor._threads._LEAST_BYTES, 1 << 20)
+
+    def test_signatures_are_those_of_hashlib(self):
+        for name, make, theirs, _, _ in FAMILIES:
+            self.assertEqual(inspect.signature(make), inspect.signature(theirs))
+            self.assertEqual(
+                (make.__module__, make.__name__, make().name), ("vulfsjor", name, name)
+            )
+            for method in ("copy", "digest", "hexdigest", "update"):
+                signature = inspect.signature(getattr(make, method))
+                self.assertEqual(signature, inspect.signature(getattr(theirs, method)))
+
+    def test_salt_and_person_are_keywords(self):
+        met = 0
+        for name in [*vulfsjor.__all__, "_threads._Tree"]:
+            thing = operator.attrgetter(name)(vulfsjor)
+            parameters = inspect.signature(thing).parameters
+            self.assertFalse({"persona", "personal", "personalization"} & set(parameters))
+            self.assertEqual("person" in parameters, "salt" in parameters)
+            for parameter in ("salt", "person", "key", "digest_size"):
+                if parameter in parameters:
+                    self.assertIs(parameters[parameter].kind, inspect.Parameter.KEYWORD_ONLY, name)
+                    met += 1
+        self.assertEqual(met, 33)
+
+    def test_all_is_documented(self):
+        self.assertTrue(vulfsjor.__doc__)
+        for name in vulfsjor.__all__:
+            thing = getattr(vulfsjor, name)
+            self.assertTrue(thing.__doc__)
+            for member in (
+                name for name in dir(thing) if inspect.isclass(thing) and name.islower()
+            ):
+                if not member.startswith("_"):
+                    self.assertTrue(getattr(thing, member).__doc__, member)
+
+    def stub(self):
+        """The declarations in the stubs, as nodes of the syntax tree."""
+        path = os.path.join(os.path.dirname(vulfsjor.__file__), "_library.pyi")
+        with open(path) as file:
+            return ast.parse(file.read()).body
+
+    def test_the_stubs_declare_what_is_there(self):
+        declared = set()
+        for node in self.stub():
+            if isinstance(node, ast.ClassDef):
+                declared.add(node.name)
+                members = {
+                    part.target.id if isinstance(part, ast.AnnAssign) else part.name
+                    for part in node.body
+                }
+                there = {
+                    name for name in dir(getattr(vulfsjor, node.name)) if not name.startswith("_")
+                }
+                self.assertEqual(members - {"_replace"}, there | {"__new__"})
+                for part in node.body:
+                    if isinstance(part, ast.FunctionDef) and not part.decorator_list:
+                        self.same_signature(part, getattr(vulfsjor._library, node.name), part.name)
+            elif isinstance(node, ast.FunctionDef):
+                declared.add(node.name)
+                self.same_signature(node, vulfsjor._library, node.name)
+            elif isinstance(node, ast.AnnAssign):
+                declared.add(node.target.id)
+        there = {
+            name
+            for name in dir(vulfsjor._library)
+            if not name.startswith("_") or name == "__version__"
+        }
+        self.assertEqual(declared, there)
+        self.assertEqual(set(vulfsjor.__all__) - declared, {"tree_root_file"})
+
+    def same_signature(self, node, owner, name):
+        """Compares the names, kinds and defaults of a function's arguments with the stub."""
+        theirs = inspect.signature(
+            owner if name == "__new__" else getattr(owner, name)
+        ).parameters.values()
+        mine, args = [], node.args
+        first = [arg.arg for arg in args.posonlyargs + args.args]
+        plain = args.posonlyargs + args.args
+        defaults = [None] * (len(plain) - len(args.defaults)) + args.defaults
+        for arg, default in zip(plain, defaults):
+            mine.append((arg.arg, None if default is None else ast.literal_eval(default)))
+        for arg, default in zip(args.kwonlyargs, args.kw_defaults):
+            mine.append((arg.arg, None if default is None else ast.literal_eval(default)))
+        names = [parameter.name for parameter in theirs]
+        if first[0] == "cls" or first[0] == "self" and "self" not in names:
+            mine = mine[1:]
+        empty = inspect.Parameter.empty
+        self.assertEqual(
+            mine,
+            [
+                (parameter.name, None if parameter.default is empty else parameter.default)
+                for parameter in theirs
+            ],
+            name,
+        )
+
+    def test_examples(self):
+        failed, tried = doctest.testmod(vulfsjor, verbose=False)
+        self.assertEqual((failed, tried > 4), (0, True))
+        here = os.getcwd()
+        with tempfile.TemporaryDirectory() as folder:
+            os.chdir(folder)
+            failed, tried = doctest.testfile(
+                os.path.join(HERE, "..", "README.md"), module_relative=False, verbose=False
+            )
+            os.chdir(here)
+        self.assertEqual((failed, tried > 20), (0, True))
+
+
+if __name__ == "__main__":
+    unittest.main()

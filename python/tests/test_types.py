@@ -1,0 +1,167 @@
+"""Tests of the types that the package declares: against its results, and by mypy (Debian's package
+mypy) where that is installed."""
+import ast
+import os
+import re
+import tempfile
+import unittest
+
+from support import FOLDER, absent, run
+import vulfsjor
+
+STUB = os.path.join(FOLDER, "vulfsjor", "_library.pyi")
+HASH = "vulfsjor.blake2{}(b'x', digest_size=4, key=b'', salt=b'', person=b'', last_node=True)"
+# Expressions and the types of their values.
+RESULTS = {
+    **{expression.format(family): kind.format(family) for family in "bs" for expression, kind in {
+        HASH: "vulfsjor.blake2{}",
+        HASH + ".copy()": "vulfsjor.blake2{}",
+        HASH + ".update(bytearray(b'x'))": "None",
+        HASH + ".digest()": "bytes",
+        HASH + ".hexdigest()": "str",
+        HASH + ".verify(memoryview(b'x'))": "bool",
+        HASH + ".name": "str",
+        HASH + ".block_size": "int",
+        HASH + ".digest_size": "int",
+        "vulfsjor.blake2{}.MAX_DIGEST_SIZE": "int",
+        "vulfsjor.blake2{}.MAX_KEY_SIZE": "int",
+        "vulfsjor.blake2{}.PERSON_SIZE": "int",
+        "vulfsjor.blake2{}.SALT_SIZE": "int",
+        "vulfsjor.blake2{}_many([b'x'], digest_size=4, key=b'', salt=b'', person=b'')":
+            "list[bytes]",
+    }.items()},
+    **{f"vulfsjor.BLAKE2{family}_{name}": "int" for family in "BS"
+       for name in ("MAX_DIGEST_SIZE", "MAX_KEY_SIZE", "PERSON_SIZE", "SALT_SIZE")},
+    "vulfsjor.__version__": "str",
+    "vulfsjor.tree_leaf_count(5, leaf_size=2)": "int",
+    "vulfsjor.tree_leaves(b'', 2, first=0, ends=True, salt=b'', person=b'')": "bytes",
+    "vulfsjor.tree_root(b'', 2, digest_size=4, salt=b'', person=b'', threads=0)": "bytes",
+    "vulfsjor.tree_root_of_leaves(bytes(64), 2, digest_size=4, salt=b'', person=b'')": "bytes",
+    "vulfsjor.tree_root_file('/dev/null', 2, threads=1, progress=print)": "bytes",
+    "vulfsjor.tree_root_file(b'/dev/null', 2, digest_size=4, salt=b'', person=b'')": "bytes",
+    "vulfsjor.TreeHasher(leaf_size=2, digest_size=4, salt=b'', person=b'')": "vulfsjor.TreeHasher",
+    "vulfsjor.TreeHasher(2).copy()": "vulfsjor.TreeHasher",
+    "vulfsjor.TreeHasher(2).count": "int",
+    "vulfsjor.TreeHasher(2).digest_size": "int",
+    "vulfsjor.TreeHasher(2).leaf_size": "int",
+    "vulfsjor.TreeHasher(2).digest()": "bytes",
+    "vulfsjor.TreeHasher(2).hexdigest()": "str",
+    "vulfsjor.TreeHasher(2).next_leaves(b'ab', skip=1)": "bytes",
+    "vulfsjor.TreeHasher(2).update(b'x', threads=3)": "None",
+    "vulfsjor.TreeHasher(2).update_leaves(b'', b'')": "None",
+}
+# What a type checker has to refuse, and the package does.
+REFUSED = (
+    "vulfsjor.blake2b('text')", "vulfsjor.blake2b(None)", "vulfsjor.blake2b(b'', b'key')",
+    "vulfsjor.blake2b(key='text')", "vulfsjor.blake2b(digest_size=1.5)",
+    "vulfsjor.blake2b(leaf_size=b'')", "vulfsjor.blake2s(data=b'')", "vulfsjor.blake2s(salt=1)",
+    "vulfsjor.blake2s().update('text')", "vulfsjor.blake2b().verify('00')",
+    "vulfsjor.blake2b_many([b'', 'text'])", "vulfsjor.blake2b_many(5)",
+    "vulfsjor.blake2s_many([], 32)", "vulfsjor.tree_root(b'')", "vulfsjor.tree_root(b'', 1, 32)",
+    "vulfsjor.tree_root(b'', 1, threads='2')", "vulfsjor.tree_root_file(1.5, 1)",
+    "vulfsjor.tree_root_file('/dev/null', 1, progress=5)", "vulfsjor.tree_root_of_leaves('', 1)",
+    "vulfsjor.tree_leaves(b'', 1)", "vulfsjor.tree_leaf_count(1.5, 1)", "vulfsjor.TreeHasher()",
+    "vulfsjor.TreeHasher(1, b'salt')", "vulfsjor.TreeHasher(1).update('text')",
+    "vulfsjor.TreeHasher(1).update_leaves(b'', None)", "vulfsjor.TreeHasher(1).next_leaves('x')",
+)
+# The types of arguments by their names.
+NAMED = {
+    **dict.fromkeys(("data", "digests", "key", "person", "salt", "tag"), "_Bytes"),
+    **dict.fromkeys(("digest_size", "fanout", "depth", "node_depth", "inner_size"),
+                    "SupportsIndex"),
+    **dict.fromkeys(("leaf_size", "node_offset", "length", "first", "skip", "count"), "int"),
+    **dict.fromkeys(("ends", "last_node", "usedforsecurity"), "bool"),
+    "messages": "Iterable[_Bytes]", "other": "TreeHasher",
+}
+
+
+class Results(unittest.TestCase):
+    """The types of values."""
+
+    def test_results(self):
+        for expression, kind in RESULTS.items():
+            value = eval(expression)  # pylint: disable=eval-used
+            whole = "list" if kind == "list[bytes]" else kind
+            wanted = type(None) if kind == "None" else eval(whole)  # pylint: disable=eval-used
+            self.assertIs(type(value), wanted, expression)
+            if kind == "list[bytes]":
+                self.assertEqual({type(each) for each in value}, {bytes})
+
+    def test_refusals(self):
+        for expression in REFUSED:
+            with self.assertRaises(TypeError, msg=expression):
+                eval(expression)  # pylint: disable=eval-used
+
+    def test_stub(self):
+        """The types that the stub declares are those of the two lists."""
+        with open(STUB, encoding="utf-8") as file:
+            tree = ast.parse(file.read())
+        seen = set()
+        for owner in [tree, *(node for node in tree.body if isinstance(node, ast.ClassDef))]:
+            prefix = f"vulfsjor.{owner.name}" if isinstance(owner, ast.ClassDef) else "vulfsjor"
+            for node in owner.body:
+                if isinstance(node, ast.AnnAssign):
+                    self.assertEqual(ast.unparse(node.annotation).replace("ClassVar[int]", "int"),
+                                     "str" if node.target.id == "__version__" else "int")
+                if not isinstance(node, ast.FunctionDef):
+                    continue
+                for each in ast.walk(node.args):
+                    if isinstance(each, ast.arg) and each.arg not in ("self", "cls"):
+                        self.assertEqual(ast.unparse(each.annotation), NAMED[each.arg], node.name)
+                if node.name in ("plain_bytes", "_replace"):
+                    continue
+                name = prefix if node.name == "__new__" else f"{prefix}.{node.name}"
+                returned = {kind for expression, kind in RESULTS.items()
+                            if re.sub(r"\((?:[^()]|\([^()]*\))*\)", "", expression) == name}
+                self.assertEqual({ast.unparse(node.returns)},
+                                 {kind.removeprefix("vulfsjor.") for kind in returned}, name)
+                seen.add(name)
+        self.assertGreater(len(seen), 25)
+
+
+@unittest.skipIf(absent(tools=["mypy", "stubtest"]), "no mypy and stubtest")
+class Mypy(unittest.TestCase):
+    """mypy, without its cache."""
+
+    def setUp(self):
+        held = tempfile.TemporaryDirectory()
+        self.addCleanup(held.cleanup)
+        self.folder = held.name
+
+    def write(self, name, text):
+        path = os.path.join(self.folder, name)
+        with open(path, "w", encoding="utf-8") as file:
+            file.write(text)
+        return path
+
+    def said(self, *words, **environment):
+        """The last line of a program, and all others."""
+        done = run(*words, cwd=self.folder,
+                   env={**os.environ, "MYPYPATH": FOLDER, "PYTHONPATH": "", **environment})
+        *lines, last = done.stdout.splitlines() or [""]
+        return last, lines
+
+    def test_stub(self):
+        """The stub next to the module. The class of the classes is not declared."""
+        allowed = self.write("allowed", "vulfsjor._library.blake2[bs]\n")
+        self.assertEqual(self.said("stubtest", "vulfsjor._library", "--allowlist", allowed,
+                                   "--mypy-config-file", self.write("config", "[mypy]\n"),
+                                   PYTHONPATH=FOLDER),
+                         ("Success: no issues found in 1 module", []))
+
+    def test_programs(self):
+        """A program's right and wrong lines. The package, which it imports, is checked too."""
+        lines = ["from typing import assert_type", "import vulfsjor"]
+        lines += [f"{expression}\nassert_type(None, None)" if kind == "None"
+                  else f"assert_type({expression}, {kind})" for expression, kind in RESULTS.items()]
+        good = "\n".join(lines).splitlines()
+        path = self.write("program.py", "\n".join([*good, *REFUSED, ""]))
+        last, errors = self.said("mypy", "--strict", "--cache-dir=/dev/null",
+                                 "--disable-error-code=func-returns-value", path)
+        places = {error.partition(": error: ")[0] for error in errors if ": error: " in error}
+        wanted = {f"program.py:{len(good) + place}" for place in range(1, len(REFUSED) + 1)}
+        self.assertEqual(places, wanted, "\n".join([*errors, last]))
+
+
+if __name__ == "__main__":
+    unittest.main()

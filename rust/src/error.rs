@@ -1,0 +1,154 @@
+use core::fmt;
+
+/// The values that a call accepts for an argument. The `Display` text follows "must be".
+#[derive(Clone, Copy, Debug, PartialEq, Eq, Hash)]
+#[non_exhaustive]
+pub enum Bounds {
+    /// A number from `min` to `max`, with both.
+    Range {
+        /// The least number.
+        min: u64,
+        /// The greatest number.
+        max: u64,
+    },
+    /// A multiple of this number, or 0.
+    Multiple(u64),
+    /// A multiple of this number, and not 0.
+    PositiveMultiple(u64),
+}
+
+impl Bounds {
+    fn accept(&self, value: u64) -> bool {
+        match *self {
+            Bounds::Range { min, max } => (min..=max).contains(&value),
+            Bounds::Multiple(of) => value % of == 0,
+            Bounds::PositiveMultiple(of) => value != 0 && value % of == 0,
+        }
+    }
+}
+
+impl fmt::Display for Bounds {
+    fn fmt(&self, f: &mut fmt::Formatter<'_>) -> fmt::Result {
+        match self {
+            Bounds::Range { min, max } if min == max => write!(f, "{min}"),
+            Bounds::Range { min, max } => write!(f, "{min} to {max}"),
+            Bounds::Multiple(of) => write!(f, "a multiple of {of}"),
+            Bounds::PositiveMultiple(of) => write!(f, "a positive multiple of {of}"),
+        }
+    }
+}
+
+/// The error of an argument that a call does not accept. If several are wrong, it names one.
+///
+/// It holds no byte of a key or a message. With the feature `std`, `?` also converts it to a
+/// [`std::io::Error`] of the kind `InvalidInput`.
+///
+/// ```
+/// use vulfsjor::{Bounds, Params};
+///
+/// let error = Params::new().output_size(65).blake2b().unwrap_err();
+/// assert_eq!(error.to_string(), "output_size is 65, and must be 1 to 64");
+/// assert_eq!((error.argument(), error.value()), ("output_size", 65));
+/// assert_eq!(error.bounds(), Bounds::Range { min: 1, max: 64 });
+/// ```
+#[derive(Clone, Copy, Debug, PartialEq, Eq, Hash)]
+pub struct InvalidArgument {
+    argument: &'static str,
+    value: u64,
+    bounds: Bounds,
+}
+
+impl InvalidArgument {
+    /// Returns the name of the argument: `output_size`, `key.len()`, `salt.len()`,
+    /// `persona.len()`, `leaf_length`, `tree.depth` and so on.
+    pub fn argument(&self) -> &'static str {
+        self.argument
+    }
+
+    /// Returns the number that was passed. A flag is 1 if it was set.
+    pub fn value(&self) -> u64 {
+        self.value
+    }
+
+    /// Returns the numbers that the call accepts, given its other arguments.
+    pub fn bounds(&self) -> Bounds {
+        self.bounds
+    }
+
+    // The result of a call of the library that returned this status. `explain` finds the argument
+    // that was refused.
+    pub(crate) fn unless_zero(
+        status: i32,
+        explain: impl FnOnce() -> Result<(), Self>,
+    ) -> Result<(), Self> {
+        match status {
+            0 => Ok(()),
+            _ => Err(explain().expect_err("the library refuses nothing else")),
+        }
+    }
+}
+
+impl fmt::Display for InvalidArgument {
+    fn fmt(&self, f: &mut fmt::Formatter<'_>) -> fmt::Result {
+        let InvalidArgument {
+            argument,
+            value,
+            bounds,
+        } = self;
+        write!(f, "{argument} is {value}, and must be {bounds}")
+    }
+}
+
+#[cfg(feature = "std")]
+impl std::error::Error for InvalidArgument {}
+
+#[cfg(feature = "std")]
+impl From<InvalidArgument> for std::io::Error {
+    fn from(error: InvalidArgument) -> Self {
+        std::io::Error::new(std::io::ErrorKind::InvalidInput, error)
+    }
+}
+
+/// The error of a tag that is not the message's.
+#[derive(Clone, Copy, Debug, PartialEq, Eq, Hash)]
+pub struct MacError;
+
+impl fmt::Display for MacError {
+    fn fmt(&self, f: &mut fmt::Formatter<'_>) -> fmt::Result {
+        f.write_str("a wrong tag")
+    }
+}
+
+#[cfg(feature = "std")]
+impl std::error::Error for MacError {}
+
+// An error unless the argument is within these bounds.
+pub(crate) fn check(
+    argument: &'static str,
+    value: u64,
+    bounds: Bounds,
+) -> Result<(), InvalidArgument> {
+    let error = InvalidArgument {
+        argument,
+        value,
+        bounds,
+    };
+    bounds.accept(value).then_some(()).ok_or(error)
+}
+
+pub(crate) fn check_range(
+    argument: &'static str,
+    value: u64,
+    min: u64,
+    max: u64,
+) -> Result<(), InvalidArgument> {
+    check(argument, value, Bounds::Range { min, max })
+}
+
+pub(crate) fn check_equal(
+    argument: &'static str,
+    value: u64,
+    wanted: u64,
+) -> Result<(), InvalidArgument> {
+    check_range(argument, value, wanted, wanted)
+}

@@ -1,0 +1,316 @@
+//! Roots of files and of readers, compared with hashlib: every kind of file, changes meanwhile,
+//! progress and errors.
+#![cfg(feature = "std")]
+use std::cell::RefCell;
+use std::fs::{self, File};
+use std::io::{self, ErrorKind, Read};
+use std::path::{Path, PathBuf};
+use std::process::Command;
+use vulfsjor::*;
+
+const MIB: usize = 1 << 20;
+
+// The leaf length, the length of the message, and the root by hashlib: all with the persona
+// `files`. Each MiB of the message has one byte, 7 times its index and 1.
+#[rustfmt::skip]
+const ROOTS: [(u32, usize, &str); 9] = [
+    (1 << 16, 0, "53a7b7b0b986868b36dd9fc28d168638f08f280360f2119420df97e996e3f151\
+        0e1fa799bb86070158345377b9b8ed04e8c190da1cf7c0d60ca36d22caa9a941"),
+    (1 << 16, 5, "01d3f8b94f1383c56984d57e790cac2150e7b727b656bf1428a5627710cc8f07\
+        5bb4b4d7ad08ef4ed37d2e0f89ecf0c690a54caf2f78b1874f26e5760045bab6"),
+    (1 << 16, MIB, "356155434c6a1e95ca84692a234a820eb9926285ffb8c5cac6f4643f478caa61\
+        3a4f9edd7862aa6973cdfe13ad62c1a3f314380fc918d6ed7894062b1eb20f6a"),
+    (1 << 16, 3 * MIB + 5, "cbabeadb941bd2931ec54a0f98deba4c5106e547414528729b509b6a0b6f551e\
+        591a02c78288ffce495006ccac4fe957cc8c44ae9f8f190792ae5ce821376b2f"),
+    (5 << 20, 40 * MIB, "1a34e78165dd349182df513906ed1bef0e12ef8289c2d27cbdda1c594a88ad73\
+        912aeb15d016fc9bf921a2534cdb4b8eb1163f9a8a64a44945108fd343862721"),
+    (1 << 16, 3 * MIB + 1, "b3469b2e80c53631214a652741cf848c01ea2ed0f57e9e899386c61fec5c399b\
+        98f470beef87dc850220ea7f8aa9db1b5a9ece4dc032f92a2ddd73443f0a1c80"),
+    (20 << 20, 40 * MIB, "f91094beef9fa28c1cb5f9b14437ec38a72979cac600a1f5431823dd34bb43e6\
+        688368124201a9cd395c48cfd32174ff3caad1d659ebcb85997f9d26537915f7"),
+    (4 << 20, 100 * MIB + 7, "4cfd3bd38ed507945fe9fddee0c1789e79515a039176d2f59bce071a85333b23\
+        84fc8749d90593c7b8d7aba9b9fabc49ce1114214362a0be37c563b824d65d61"),
+    (64 << 20, 200 * MIB + 7, "0e4728dd5c05cbe5ad87f5aef874238b171831b37d1b42692e2c5b7d540e58bb\
+        86de0cdb0fcfa5c84af6605fb4dec6bbf327930c6456cb93918ccb6a38c69392"),
+];
+
+fn message(length: usize) -> Vec<u8> {
+    let mut bytes = vec![0; length];
+    for (i, part) in bytes.chunks_mut(MIB).enumerate() {
+        part.fill((7 * i + 1) as u8);
+    }
+    bytes
+}
+
+// A file of the test of this name, which is removed at the end.
+struct Temporary(PathBuf);
+
+impl Temporary {
+    fn new(name: &str) -> Self {
+        let name = format!("files-{name}-{}", std::process::id());
+        Temporary(Path::new(env!("CARGO_TARGET_TMPDIR")).join(name))
+    }
+
+    fn with(name: &str, bytes: &[u8]) -> Self {
+        let file = Self::new(name);
+        fs::write(&file.0, bytes).unwrap();
+        file
+    }
+}
+
+impl Drop for Temporary {
+    fn drop(&mut self) {
+        let _ = fs::remove_file(&self.0);
+    }
+}
+
+fn params(leaf_length: u32) -> TreeParams<'static> {
+    TreeParams::new(leaf_length).persona(b"files")
+}
+
+#[test]
+fn roots_of_files_and_of_memory() {
+    for (i, (leaf_length, length, wanted)) in ROOTS.into_iter().enumerate() {
+        let (bytes, params) = (message(length), params(leaf_length));
+        let file = Temporary::with(&format!("roots-{i}"), &bytes);
+        let few: &[usize] = if length > 50 * MIB { &[3] } else { &[0, 1, 3] };
+        for &threads in few {
+            assert_eq!(params.root_file(&file.0, threads).unwrap().to_hex(), wanted);
+            assert_eq!(
+                params.root_threads(&bytes, threads).unwrap().to_hex(),
+                wanted
+            );
+            let mut hasher = params.hasher().unwrap();
+            hasher.update_threads(&bytes[..length / 3], threads);
+            hasher.update_threads(&bytes[length / 3..], threads);
+            assert_eq!(hasher.finalize().to_hex(), wanted);
+        }
+        assert_eq!(params.root(&bytes).unwrap().to_hex(), wanted);
+        let mut hasher = params.hasher().unwrap();
+        let reader = hasher.update_reader(File::open(&file.0).unwrap());
+        assert_eq!(reader.unwrap().finalize().to_hex(), wanted);
+    }
+}
+
+#[test]
+fn all_parameters_are_those_of_the_root() {
+    for (leaf_length, length) in [(1000, 800_000), (17 << 20, 34 << 20)] {
+        let bytes = message(length);
+        let file = Temporary::with(&format!("parameters-{leaf_length}"), &bytes);
+        let params = params(leaf_length).salt(b"salt").output_size(20);
+        for threads in [1, 2] {
+            let root = params.root_file(&file.0, threads).unwrap();
+            assert_eq!(root, params.root(&bytes).unwrap());
+            assert_ne!(root, params.salt(b"").root(&bytes).unwrap());
+        }
+    }
+}
+
+#[test]
+fn progress_is_reported() {
+    for (i, (leaf_length, length, wanted)) in ROOTS.into_iter().enumerate().take(5) {
+        let file = Temporary::with(&format!("progress-{i}"), &message(length));
+        for threads in [1, 2, 4] {
+            let mut seen = Vec::new();
+            let caller = std::thread::current().id();
+            let root = params(leaf_length).root_file_with_progress(&file.0, threads, |bytes| {
+                assert_eq!(std::thread::current().id(), caller);
+                seen.push(bytes);
+                Ok(())
+            });
+            assert_eq!(root.unwrap().to_hex(), wanted);
+            assert_eq!(seen.last(), Some(&(length as u64)));
+            assert!(seen.windows(2).all(|pair| pair[0] <= pair[1]));
+            assert!(length == 0 || seen[0] > 0);
+            if threads == 1 {
+                assert!(seen
+                    .iter()
+                    .all(|bytes| *bytes % (1 << 20) == 0 || *bytes == length as u64));
+                assert!(seen.len() > length / MIB);
+            }
+        }
+    }
+}
+
+#[test]
+fn progress_stops_the_call() {
+    let file = Temporary::with("stops", b"");
+    File::options()
+        .write(true)
+        .open(&file.0)
+        .unwrap()
+        .set_len(1 << 32)
+        .unwrap();
+    for threads in [1, 3] {
+        for last in [0, 1, 2] {
+            let mut calls = 0;
+            let root = params(1 << 16).root_file_with_progress(&file.0, threads, |_| {
+                calls += 1;
+                if calls > last {
+                    Err(io::Error::new(ErrorKind::Other, "enough"))
+                } else {
+                    Ok(())
+                }
+            });
+            let error = root.unwrap_err();
+            assert_eq!(
+                (error.kind(), error.to_string()),
+                (ErrorKind::Other, "enough".into())
+            );
+            assert_eq!(calls, last + 1);
+        }
+        let call = || params(1 << 16).root_file_with_progress(&file.0, threads, |_| panic!("why"));
+        let fault = std::panic::catch_unwind(call).unwrap_err();
+        assert_eq!(fault.downcast_ref(), Some(&"why"));
+    }
+}
+
+// Both sizes of leaf: of a part, and of a leaf that is read in pieces. A file that shrinks is long,
+// so that its end is not read before that.
+#[test]
+fn files_that_change_meanwhile() {
+    let bytes = message(40 * MIB);
+    for leaf_length in [1 << 20, 17 << 20] {
+        let file = Temporary::with(&format!("changes-{leaf_length}"), &bytes);
+        let opened = File::options().write(true).open(&file.0).unwrap();
+        let change = |length: u64| {
+            let set = |_| opened.set_len(length);
+            params(leaf_length).root_file_with_progress(&file.0, 2, set)
+        };
+        assert_eq!(
+            change(80 << 20).unwrap(),
+            params(leaf_length).root(&bytes).unwrap()
+        );
+        for shorter in [(1 << 30) - 1, 0] {
+            opened.set_len(1 << 30).unwrap();
+            assert_eq!(
+                change(shorter).unwrap_err().kind(),
+                ErrorKind::UnexpectedEof
+            );
+        }
+    }
+}
+
+#[test]
+fn other_files() {
+    let params = params(1 << 16);
+    for threads in [0, 1, 4] {
+        let root = |path: &str| params.root_file(path, threads);
+        assert_eq!(root("/dev/null").unwrap().to_hex(), ROOTS[0].2);
+        let version = fs::read("/proc/version").unwrap();
+        assert_eq!(
+            root("/proc/version").unwrap(),
+            params.root(version).unwrap()
+        );
+        assert_eq!(root("/absent").unwrap_err().kind(), ErrorKind::NotFound);
+        assert!(root("/proc").unwrap_err().to_string().contains("directory"));
+        let pipe = Temporary::new(&format!("pipe-{threads}"));
+        assert!(Command::new("mkfifo")
+            .arg(&pipe.0)
+            .status()
+            .unwrap()
+            .success());
+        std::thread::scope(|scope| {
+            scope.spawn(|| fs::write(&pipe.0, message(3 * MIB + 5)).unwrap());
+            assert_eq!(
+                params.root_file(&pipe.0, threads).unwrap().to_hex(),
+                ROOTS[3].2
+            );
+        });
+    }
+}
+
+// Sparse files, on a file system in memory that has such lengths.
+#[test]
+fn files_of_impossible_lengths() {
+    let file = Temporary(format!("/dev/shm/vulfsjor-files-{}", std::process::id()).into());
+    let opened = File::create(&file.0).unwrap();
+    opened.set_len(1 << 58).unwrap();
+    let error = params(u32::MAX).root_file(&file.0, 2).unwrap_err();
+    assert_eq!(error.kind(), ErrorKind::InvalidInput);
+    let said = "the file's length is 288230376151711744, and must be 0 to 288230376151711743";
+    assert_eq!(error.to_string(), said);
+    opened.set_len((1 << 58) - 1).unwrap();
+    let error = params(1).root_file(&file.0, 2).unwrap_err();
+    assert_eq!(error.kind(), ErrorKind::OutOfMemory);
+}
+
+// Bytes that come in pieces of these lengths, over and over, with an interrupted read before each,
+// and an error at the end if there is one.
+struct Slow<'a>(
+    &'a [u8],
+    std::iter::Cycle<std::vec::IntoIter<usize>>,
+    Option<ErrorKind>,
+);
+
+impl<'a> Slow<'a> {
+    fn new(bytes: &'a [u8], lengths: &[usize], error: Option<ErrorKind>) -> Self {
+        let lengths: Vec<usize> = lengths.iter().flat_map(|length| [0, *length]).collect();
+        Slow(bytes, lengths.into_iter().cycle(), error)
+    }
+}
+
+impl Read for Slow<'_> {
+    fn read(&mut self, buffer: &mut [u8]) -> io::Result<usize> {
+        assert_ne!(buffer.len(), 0);
+        match self.1.next().unwrap().min(buffer.len()) {
+            0 => Err(ErrorKind::Interrupted.into()),
+            _ if self.0.is_empty() && self.2.is_some() => Err(self.2.unwrap().into()),
+            length => self.0.read(&mut buffer[..length]),
+        }
+    }
+}
+
+macro_rules! readers {
+    ($test:ident, $new:expr) => {
+        #[test]
+        fn $test() {
+            for length in [0, 1, MIB - 1, MIB, MIB + 1, 2 * MIB, 3 * MIB + 5] {
+                let bytes = message(length);
+                let wanted = $new.update(&bytes).finalize();
+                for lengths in [&[1 << 30][..], &[4096], &[MIB - 1, 1, 3]] {
+                    let read = |error| {
+                        let mut hasher = $new;
+                        hasher.update(b"");
+                        let result = hasher.update_reader(Slow::new(&bytes, lengths, error));
+                        let kind = result.err().map(|error| error.kind());
+                        assert_eq!(kind, error);
+                        (hasher.count(), hasher.finalize())
+                    };
+                    assert_eq!(read(None), (length as u64, wanted));
+                    let broken = Some(ErrorKind::ConnectionReset);
+                    assert_eq!(read(broken), (length as u64, wanted));
+                }
+            }
+            let mut hasher = $new;
+            hasher.update_reader(&b"ab"[..]).unwrap().update(b"c");
+            assert_eq!(hasher.finalize(), $new.update(b"abc").finalize());
+        }
+    };
+}
+
+readers!(readers_of_blake2b, Blake2b::new());
+readers!(readers_of_blake2s, Blake2s::new());
+readers!(readers_of_blake2b_mac, Blake2bMac::new(b"key").unwrap());
+readers!(readers_of_blake2s_mac, Blake2sMac::new(b"key").unwrap());
+readers!(readers_of_trees, params(1 << 16).hasher().unwrap());
+
+// What a tree absorbs at a time is a whole buffer, whatever a read returns.
+#[test]
+fn a_reader_fills_the_buffer() {
+    let bytes = message(2 * MIB);
+    let lengths = RefCell::new(Vec::new());
+    struct Count<'a>(&'a RefCell<Vec<usize>>, &'a [u8]);
+    impl Read for Count<'_> {
+        fn read(&mut self, buffer: &mut [u8]) -> io::Result<usize> {
+            self.0.borrow_mut().push(buffer.len());
+            let room = buffer.len().min(1 << 19);
+            self.1.read(&mut buffer[..room])
+        }
+    }
+    Blake2b::new()
+        .update_reader(Count(&lengths, &bytes))
+        .unwrap();
+    let (whole, half) = (MIB, MIB / 2);
+    assert_eq!(*lengths.borrow(), [whole, half, whole, half, whole]);
+}

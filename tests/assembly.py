@@ -1,0 +1,85 @@
+#!/usr/bin/env python3
+"""Looks at the assembly files of dist/, with no toolchain: each symbol ends in the version and the build, exported
+functions are hidden, nothing is called that is not there except a few functions of the C library, and on ARM one
+message is compressed without vector registers and several messages with them.
+
+    tests/assembly.py [DIST]
+
+DIST is dist/ if it is left out.
+"""
+import os
+import re
+import sys
+
+import tap
+from blake2_kinds import TOP, version
+
+# The files, the ends of their names, and what each calls from elsewhere.
+LIBRARY = {"memcpy", "memmove", "memset"}
+TEXTS = {"x86_64/vulfsjor-v2.s": "v2", "x86_64/vulfsjor-v3.s": "v3", "aarch64/vulfsjor.s": "arm",
+         "x86_64/b2-v2.s": "v2", "x86_64/b2-v3.s": "v3", "aarch64/b2.s": "arm"}
+PROGRAM = LIBRARY | {"read", "write", "__write", "__sysv_signal", "__x86_get_cpuid_feature_leaf", "rattle_alloc",
+                     "rattle_arg", "rattle_dealloc", "rattle_errno", "rattle_realloc", "rattle_set_errno"}
+LABEL = re.compile(r"([\w.]+):")
+CALL = re.compile(r"\t(?:callq?|jmpq?|bl?|b)\t([\w.]+)(?:@PLT)?$")
+VECTOR = re.compile(r"\b[vqdshb][0-9]+\b")
+FAMILIES = ("blake2b", "blake2s")
+# The version as it is in names.
+VERSION = version().replace(".", "_")
+
+
+def functions(lines):
+    """The instructions of each function, by its name."""
+    found, own = {}, None
+    for line in lines:
+        label = LABEL.match(line)
+        if label and not line.startswith(".L"):
+            own = found.setdefault(label[1], [])
+        elif own is not None and re.match(r"\t[a-z]", line):
+            own.append(line)
+    return found
+
+
+def count_vectors(code):
+    return sum(bool(VECTOR.search(line.split("//")[0].split("\t", 2)[-1])) for line in code)
+
+
+def check_text(name, text, end):
+    """Whether each statement about a file holds, by its words."""
+    lines = text.split("\n")
+    code = functions(lines)
+    exported = [line.split("\t")[2] for line in lines if line.startswith("\t.globl\t")]
+    hidden = [line.split("\t")[2] for line in lines if line.startswith("\t.hidden\t")]
+    called = {call[1] for line in lines if (call := CALL.match(line)) and not call[1].startswith(".L")} - code.keys()
+    labels = [line[:-1] for line in lines if re.fullmatch(r"\.L[^\t]*:", line)]
+    yield "each function ends in the version and the build", code and all(it.endswith(f"_{end}") for it in code)
+    yield "so does each local label", labels and all(it.startswith(f".L{end}_") for it in labels)
+    yield "each exported function is hidden", exported and exported == hidden and set(exported) <= code.keys()
+    yield "it calls what is there, and the C library", called <= (PROGRAM if "/b2" in name else LIBRARY)
+
+
+def check_arm(name, text):
+    """Whether the compressions use the registers that they are to use."""
+    code = functions(text.split("\n"))
+    for family in FAMILIES:
+        one = [it for it in code if it.startswith(f"blake2_compress..words..{family}..compress_{VERSION}")]
+        yield (f"{family}: one message is compressed without vector registers",
+               len(one) == 1 and len(code[one[0]]) > 1000 and count_vectors(code[one[0]]) == 0)
+        several = [it for it in code if it.startswith(f"blake2_compress..many..{family}..compress_blocks_{VERSION}")]
+        if several or family == "blake2b" or "/vulfsjor" in name:
+            yield (f"{family}: several messages are compressed with them",
+                   len(several) == 1 and count_vectors(code[several[0]]) > 3000)
+
+
+def main():
+    dist = sys.argv[1] if len(sys.argv) > 1 else os.path.join(TOP, "dist")
+    for name, build in TEXTS.items():
+        with open(os.path.join(dist, name), encoding="utf-8") as file:
+            text = file.read()
+        checks = [*check_text(name, text, f"{VERSION}_{build}"), *(check_arm(name, text) if build == "arm" else [])]
+        for words, holds in checks:
+            tap.result(holds, f"{name}: {words}")
+    tap.finish()
+
+
+main()

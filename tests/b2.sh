@@ -1,0 +1,189 @@
+#!/usr/bin/env bash
+# Checks the script `b2` in a small separate repository, whose dist/ has programs that print their
+# arguments, their input and the name of their build. Then checks `make install` and the completions
+# of this repository. The last line has the counts, and the status is 1 if a check failed.
+set -u
+source "$(dirname "$(readlink -f "$0")")/tap.sh"
+shown=("$work/output" "$work/errors")
+has cc || { skip "the script b2" "no C compiler" && finish; }
+
+repository=$work/a\ repository
+mkdir -p "$repository"/{tools,c,dist/{x86_64,aarch64}} "$work/bin"
+cp "$top/b2" "$repository/"
+cp -R "$top"/c/{b2.c,choose.c,include} "$repository/c/"
+touch "$repository/dist/MANIFEST"
+printf '#!/bin/sh\n[ "$*" = current ] && [ ! -e "%s/stale" ]\n' "$work" >"$repository/tools/dist.sh"
+# The first word of compilers: one that notes each call, and fails or changes a source if it is to,
+# and one for the machine that is the second word.
+printf '%s\n' '#!/bin/sh' "cd '$work' && echo \"\$*\" >>calls" \
+    '[ ! -e refuse ] || { echo "note: refused" >&2; exit 1; }' \
+    '[ ! -e edit ] || touch "a repository/c/b2.c"' 'exec "$@"' >"$work/bin/note"
+printf '#!/bin/sh\necho "$1"\n' >"$work/bin/for"
+chmod 755 "$work" "$repository/tools/dist.sh" "$work"/bin/*
+printf '%s\n' '#include <stdio.h>' 'long rattle_arg(size_t i, char *bytes, size_t size);' \
+    'int MAIN(void) { char word[99]; long n; int c;' \
+    'for (long i = 1; (n = rattle_arg(i, word, sizeof word)) >= 0; i++)' \
+    'printf("<%.*s>", (int)n, word);' \
+    'while ((c = getchar()) != EOF) putchar(c); puts(BUILD); return 7; }' >"$work/main.c"
+# A file of the small dist/: COMPILER FILE BUILD.
+write_text() {
+    "$1" -O1 -S "-DMAIN=main_0_1_0_$3" "-DBUILD=\"$3\"" "$work/main.c" -o - |
+        sed 's/\.global\t/.globl\t/' >"$repository/dist/$2"
+}
+machine=$(uname -m) arm=aarch64-linux-gnu-gcc here=arm
+[ "$machine" = x86_64 ] || arm=cc
+[ $arm = cc ] || { write_text cc x86_64/b2-v2.s v2 && write_text cc x86_64/b2-v3.s v3; }
+[ $arm = cc ] || { here=$("$top/tools/processor.sh") && here=${here#x86-64-}; }
+! has $arm || write_text $arm aarch64/b2.s arm
+program=$repository/out/b2-$machine
+
+# Runs a command over the input `in`, with these variables before it. `b2` is the script.
+run() {
+    printf in | env PATH="$work/bin:$PATH" CC="note cc" "$@" >"$work/output" 2>"$work/errors"
+    status=$?
+}
+b2() { run "$repository/b2" "$@"; }
+# The status, the output and the number of builds of what ran last.
+ends() {
+    local builds
+    builds=$(grep -cs -- ' -o ' "$work/calls")
+    rm -f "$work/calls"
+    [ "$status,$(cat "$work/output"),${builds:-0}" = "$1,$2,$3" ]
+}
+says() { grep -qF -- "$1" "$work/errors"; }
+has_only() { [ "$(cd "$1" && find . -type f -printf '%P ')" = "$2" ]; }
+builds() { ends 7 "<sum>in$here" 1 && says "b2: built $1" && has_only "${1%/*}" "b2-$machine "; }
+# Another run, which needs no other command, prints this, and builds and says nothing.
+runs() {
+    run PATH="$work" "${@:2}"
+    ends 7 "$1in$here" 0 && [ ! -s "$work/errors" ]
+}
+stops() { ends 1 "" 0 && says "$1" && has_only "$repository/out" ""; }
+
+b2 --help
+check "--help prints the usage" ends 0 "$(sed -n "/^usage: b2/,/^END/{/^END/d;p}" "$top/b2")" 0
+b2 sum
+check "the first run builds the program and runs it" builds "$program"
+words=(sum "two words" "" "*")
+is_sealed() { readelf -d "$program" | grep -q BIND_NOW && readelf -l "$program" | grep -q RELRO; }
+check "it has no writable addresses of functions" is_sealed
+check "the next run does not" runs "<sum><two words><><*>" "$BASH" "$repository/b2" "${words[@]}"
+ln -s "$repository/b2" "$work/linked"
+run "$work/linked" sum
+check "a link to the script is the script" ends 7 "<sum>in$here" 0
+cd "$repository" && check "so is its name in its folder" runs "<sum>" "$BASH" b2 sum
+for file in b2 dist/MANIFEST dist/*/*.s c/b2.c c/choose.c c/include/vulfsjor.h; do
+    touch -d '+9 seconds' "$file" && b2 sum
+    check "after a change of $file it is built again" builds "$program"
+    touch -d '-9 seconds' "$file"
+done
+touch -d '+9 seconds' dist README.md
+check "after another change it is not" runs "<sum>" "$BASH" "$repository/b2" sum
+touch "$work/edit" && rm "$program" && b2 sum && rm "$work/edit" "$work/calls"
+b2 sum
+check "after a change during the build it is built again" builds "$program"
+
+rm "$program" && run CC="note cc -O3 -flto" "$repository/b2" sum
+check "a compiler may have many words" builds "$program"
+
+rm "$program"
+touch "$work/stale" && b2 sum && rm "$work/stale"
+check "a dist/ from other sources is refused" stops "b2: dist/ was not made from these sources: run"
+touch "$work/refuse" && b2 sum && rm "$work/refuse"
+check "a compiler that fails stops it" stops "note: refused"
+while IFS=: read -r compiler sentence; do
+    run CC="$compiler" "$repository/b2" sum
+    check "the compiler '$compiler' is refused" stops "b2: $sentence"
+done <<'END'
+none -O2:a C compiler is needed: cc, or the one that CC names
+ :a C compiler is needed
+for x86_64-linux-gnux32:there is no build for x86_64-linux-gnux32
+for aarch64-linux-gnu_ilp32:there is no build for aarch64
+for x86_64-freebsd:there is no build for x86_64-freebsd
+for riscv64-linux-gnu:there is no build for riscv64-linux-gnu
+END
+
+if [ "$machine" = x86_64 ] && has qemu-x86_64; then
+    b2 sum && rm "$work/calls"
+    for model in Nehalem,v2 Haswell,v3; do
+        run qemu-x86_64 -cpu "${model%,*}" "$program" sum
+        check "on ${model%,*} it is the build ${model#*,}" ends 7 "<sum>in${model#*,}" 0
+    done
+    run sh -c 'qemu-x86_64 -cpu core2duo "$1"; exit 1' - "$program"
+    check "on an older processor it says why it ends" says "is below x86-64-v2"
+else
+    skip "the program on other processors" "no qemu-x86_64, or another machine"
+fi
+if [ "$machine" = x86_64 ] && has $arm && has qemu-aarch64; then
+    run CC="$arm" "$repository/b2" --build "$work/for arm"
+    run qemu-aarch64 -L /usr/aarch64-linux-gnu "$work/for arm" sum
+    check "--build builds for the compiler's machine" ends 7 "<sum>inarm" 0
+    rm -f "$program" && run CC=$arm "$repository/b2" sum
+    check "a run does not" stops "b2: CC compiles for aarch64-linux-gnu, and this machine is x86_64"
+else
+    skip "the program for aarch64" "no $arm, or no qemu-aarch64"
+fi
+
+# A repository that cannot be written, not even by root.
+rm -rf "$repository/out" && chmod a-w "$repository" && chmod 777 "$work"
+user=() && [ "$(id -u)" -ne 0 ] || user=(setpriv --reuid=65534 --regid=65534 --clear-groups)
+for cache in "$work/cache" relative; do
+    folder=${cache/#relative/$work/home/.cache}/vulfsjor$repository
+    call=(XDG_CACHE_HOME="$cache" HOME="$work/home" "${user[@]}" "$repository/b2" sum)
+    run "${call[@]}"
+    check "the program is in a cache for this clone" builds "$folder/b2-$machine"
+    run "${call[@]}"
+    check "and stays there" ends 7 "<sum>in$here" 0
+done
+for cache in "" "$repository"; do
+    run XDG_CACHE_HOME="$cache" HOME= "${user[@]}" "$repository/b2" sum
+    check "or the variable to set is named" stops "b2: $repository/out cannot be written: set XDG_"
+done
+chmod u+w "$repository" && touch "$repository/out"
+run XDG_CACHE_HOME="$work/third" "$repository/b2" sum
+check "if out is a file it is in the cache too" builds "$work/third/vulfsjor$repository/b2-$machine"
+run XDG_CACHE_HOME= HOME= "$repository/b2" sum
+check "nothing is written elsewhere in the clone" stops "b2: $repository/out cannot be written"
+
+# The completions: what each shell offers for a line.
+by_bash() {
+    bash --norc -c 'source completions/b2.bash; compopt() { [ "$*" = "-o nospace" ]; }
+        COMP_WORDS=("$@") COMP_CWORD=$(($# - 1)); _b2; printf "%s\n" "${COMPREPLY[@]}"' - "$@"
+}
+by_zsh() {
+    zsh -fc 'compadd() { print -rl -- ${@:#-S} }; words=("$@") CURRENT=$#
+        complete_b2() { source completions/_b2 }; complete_b2' - "$@" | grep -e "^${!#}."
+}
+by_fish() { fish --no-config -c 'source completions/b2.fish; complete -C "$argv"' -- "$@"; }
+offers() {
+    local shell=$1 line words
+    while IFS=: read -r line words; do
+        read -ra line <<<"$line"
+        [ "${line[-1]}" != . ] || line[-1]=""
+        diff <(by_$shell "${line[@]}" | sed '/^$/d' | sort) \
+            <(printf '%s\n' $words | sed '/^$/d' | sort) || return
+    done <<'END'
+b2 .:sum script steps witness tree
+b2 st:steps
+b2 script .:b128 b256 b512 s128 s256
+b2 sum s:s128 s256
+b2 steps b1:b128
+b2 witness .:b128 b256 b512 s128 s256 b0 b8 s0 s8
+b2 witness b8 .:
+b2 tree .:b128 b256 b512
+b2 tree b512 .:
+b2 tree b512 4096 .:salt= persona=
+b2 script s256 .:key= salt= persona=
+b2 sum b512 salt=00 p:persona=
+b2 steps b512 k:key=
+b2 other .:
+END
+}
+cd "$top" && for shell in bash zsh fish; do
+    if has $shell; then
+        check "what $shell completes" offers $shell
+    else
+        skip "what $shell completes" "no $shell"
+    fi
+done
+finish

@@ -1,0 +1,195 @@
+#!/usr/bin/env bash
+# Tests tools/dist.sh and tools/plain_names.py without proving anything: in a small repository, with
+# stand-ins for the command rt, the prover and the linker. tests/proofs.sh is the test with the real
+# ones.
+set -u
+source "$(dirname "$(readlink -f "$0")")/tap.sh"
+shown=("$work/shown")
+has python3 || {
+    skip "the script that makes dist/" "no python3"
+    finish
+}
+
+# The kit. Its prover leaves assembly that holds the crate, the processor and the file `turn`.
+kit=$work/kit
+mkdir -p "$kit"/{bin,rlibs,toolchain/bin,toolchain/lib} "$work/bin"
+echo "kit 1" >"$kit/version"
+touch "$kit"/toolchain/bin/{clang,ld.lld}
+cat >"$work/bin/rt" <<END
+#!/usr/bin/env bash
+case \$1 in
+    doc) echo "$kit/page" ;;
+    version) cat "$kit/version" ;;
+    check)
+        [ ! -e "$work/refuse_check" ] || { echo "not proved below"; exit 1; }
+        echo "check \$(basename "\$PWD")" >>"$work/calls"
+        mkdir -p ../{blake2_state,b2_commands}/out/rlib
+        touch ../{blake2_state,b2_commands}/out/rlib/stamp
+        ;;
+esac
+END
+cat >"$kit/bin/rattle" <<END
+#!/usr/bin/env bash
+[ ! -e "$work/refuse" ] || { echo "not proved"; exit 1; }
+words=" \$* "
+word() { sed "s/.* \$1 \([^ ]*\).*/\1/" <<<"\$words"; }
+line="\$(word --crate-name) for \$(word --cpu), \$(cat "$work/turn" 2>/dev/null)"
+while [ "\$1" != --toolchain ]; do shift; done
+printf '\t.globl\tf\n\tcallq\tmemcpy@PLT\nf:\n\tjmp\t.L1\n.L1:\n\t.ascii\t"%s"\n' "\$line" \
+    >"\$2/module.s"
+while [ "\$1" != -o ]; do shift; done
+echo "\$line" >"\$2"
+END
+printf '#!/bin/bash\ncp "${@: -1}" "$6"\n' >"$kit/bin/rattle-link"
+chmod +x "$work/bin/rt" "$kit"/bin/*
+
+# The repository.
+repository=$work/a\ repository
+mkdir -p "$repository/tools" "$repository/tests" "$repository/dist"
+cp "$top"/tools/{dist.sh,kit.sh,plain_names.py,aarch64_attributes.csv} "$repository/tools/"
+cp "$top/tests/tap.sh" "$repository/tests/"
+printf '# Changes\n\n## 1.2.3\n\n## 0.9.0\n' >"$repository/CHANGELOG.md"
+printf '%s\n' blake2_state: b2_commands: "blake2_ffi staticlib: blake2_state" \
+    "b2: b2_commands hex" "beside: blake2_state" >"$repository/crates.txt"
+for crate in blake2_state b2_commands blake2_ffi b2 beside; do
+    mkdir -p "$repository/crates/$crate/src"
+    echo "fn $crate() {}" >"$repository/crates/$crate/src/lib.rt"
+done
+mv "$repository/crates/b2/src/lib.rt" "$repository/crates/b2/src/main.rt"
+cd "$repository" || exit 1
+
+dist() { PATH=$work/bin:$PATH tools/dist.sh "$@" >"$work/shown" 2>&1; }
+# A run with a status, that shows a line with these words: STATUS LINE ARGUMENTS..
+ends() {
+    local wanted=$1 line=$2 status
+    shift 2
+    dist "$@"
+    status=$?
+    [ "$status" -eq "$wanted" ] && grep -qF -- "$line" "$work/shown"
+}
+# How many tests `check` passes, fails and skips.
+counts() {
+    dist check
+    local status=$?
+    [ "$(grep -c '^ok [^#]*$' "$work/shown")" -eq "$1" ] &&
+        [ "$(grep -c '^not ok ' "$work/shown")" -eq "$2" ] &&
+        [ "$(grep -c '^ok .* # SKIP ' "$work/shown")" -eq "$3" ] && [ "$status" -eq $(($2 > 0)) ]
+}
+# Whether a change of a file, made by sed, is found by `current` (1) or not (0); it is taken back.
+changed() {
+    local file=$2 status
+    cp "$file" "$work/kept"
+    sed -i "$3" "$file"
+    dist current
+    status=$?
+    cp "$work/kept" "$file"
+    [ "$status" -eq "$1" ]
+}
+proves() { : >"$work/calls" && counts 9 0 0 && diff <(printf '%s' "$1") "$work/calls"; }
+both=$'check blake2_ffi\ncheck b2\n'
+
+check "make" dist make
+check "each file is made of its crate, for its processor" \
+    diff <(cd dist && grep -ao '[a-z0-9_]* for .*,' */* | LC_ALL=C sort) - <<'END'
+aarch64/b2.s:b2 for generic,
+aarch64/vulfsjor.s:blake2_ffi for generic,
+wasm/vulfsjor.wasm:blake2_ffi for lime1,
+x86_64/b2-v2.s:b2 for x86-64-v2,
+x86_64/b2-v3.s:b2 for x86-64-v3,
+x86_64/vulfsjor-v2.s:blake2_ffi for x86-64-v2,
+x86_64/vulfsjor-v3.s:blake2_ffi for x86-64-v3,
+END
+check "it is current" dist current
+check "it is what the sources compile to" counts 9 0 0
+rm crates/*/out/rlib/stamp
+check "what rt ci has left is not proved again" proves ""
+touch -d '+9 seconds' crates/blake2_state/src/lib.rt
+check "except if it is older than a source" proves "$both"
+touch crates/blake2_state/src/lib.rt
+rm -r crates/*/out
+mkdir -p crates/{blake2_state,b2_commands}/out/rlib
+touch crates/b2_commands/out/rlib/stamp
+check "and if rt check has left a stamp" proves $'check b2\n'
+check "one file in another folder" dist make "$work/some" x86_64/b2-v2.s
+check "it is the same, and there is no other" \
+    eval 'cmp "$work/some/x86_64/b2-v2.s" dist/x86_64/b2-v2.s && [ "$(ls "$work/some"/*)" = b2-v2.s ]'
+
+echo other >"$work/turn"
+check "other code is found" counts 2 7 0
+rm "$work/turn"
+for file in aarch64/b2.s wasm/vulfsjor.wasm; do
+    check "a change of $file is found" changed 1 "dist/$file" '$a\ '
+    cp "dist/$file" "$work/old"
+    echo >>"dist/$file"
+    check "by check, twice" counts 7 2 0
+    mv "$work/old" "dist/$file"
+done
+mv dist/wasm/vulfsjor.wasm "$work/old"
+check "a file that is absent is found" eval "! dist current"
+mv "$work/old" dist/wasm/vulfsjor.wasm
+check "a hash that is too short is found" changed 1 dist/MANIFEST 's|^.\(.*  aarch64/b2\.s\)$|\1|'
+for file in b2/src/main.rt b2_commands/src/lib.rt blake2_ffi/src/lib.rt blake2_state/src/lib.rt; do
+    check "a change of crates/$file is found" changed 1 "crates/$file" '$a fn more() {} // more'
+    check "not that of a line that is a comment" changed 0 "crates/$file" '1i\ \ // more'
+done
+check "nor that of another crate" changed 0 crates/beside/src/lib.rt '$a fn more() {}'
+echo "fn more() {}" >crates/b2/more.rt
+check "nor a file next to src/" dist current
+mv crates/blake2_ffi/src/lib.rt crates/blake2_ffi/src/more.rt
+check "another name of a file is found" eval "! dist current"
+mv crates/blake2_ffi/src/more.rt crates/blake2_ffi/src/lib.rt
+for file in tools/plain_names.py tools/aarch64_attributes.csv; do
+    check "a change of $file is found" changed 1 "$file" '$a # more'
+done
+check "another version is found" changed 1 CHANGELOG.md 's/1\.2\.3/1.2.4/'
+
+# Another kit, none, and what it refuses.
+for name in bin/rattle bin/rattle-link toolchain/bin/{clang,ld.lld}; do
+    echo "# 2" >>"$kit/$name"
+    check "with another $name only hashes are compared" counts 2 0 7
+    sed -i '$d' "$kit/$name"
+done
+echo "# 2" >>"$kit/bin/rattle"
+check "and the reason is told" ends 0 \
+    "x86_64/b2-v3.s is what the proofs build # SKIP it was made with another toolchain, kit 1" check
+sed -i '$d' "$kit/bin/rattle"
+echo "kit 2" >"$kit/version"
+check "another kit with the same tools compares all" counts 9 0 0
+mv "$work/bin/rt" "$work/rt"
+PATH=/usr/bin:/bin check "without a kit only hashes are compared" counts 2 0 7
+PATH=/usr/bin:/bin check "make needs rt" ends 1 "the toolchain's command rt is not on the PATH" make
+mv "$work/rt" "$work/bin/rt"
+: >"$work/refuse"
+check "a refused build is shown" ends 1 "not proved" make
+check "and MANIFEST stays" grep -qx '# kit: kit 1' dist/MANIFEST
+rm -rf "$work/refuse" crates/*/out
+: >"$work/refuse_check"
+check "a refused library is shown" ends 1 "not proved below" make
+check "help" ends 0 "tools/dist.sh current" --help
+for words in "" "make a" "check a" "what" "make $work/some x86_64/b2-v4.s"; do
+    # shellcheck disable=SC2086
+    check "the words '$words' are refused" ends 1 "dist.sh: " $words
+done
+
+# What plain_names.py makes of these lines.
+rename() { printf '%s\n' "$@" | tools/plain_names.py _1_v3; }
+check "names are plain and have the version; data and the names of others stay" diff - \
+    <(rename '	.globl	f' '	callq	free' '	callq	af' '	callq	x.L1' '	jmp	.L1' \
+        '	.section	".text.c::g::<=64>","ax"' '"c::g::<=64>":' '	.ascii	"c::f .L1"' \
+        '	.asciz	"c::f"' '	.ident	"c::f"' '	.file	"c::f"') <<'END'
+	.globl	f_1_v3
+	.hidden	f_1_v3
+	callq	free
+	callq	af
+	callq	x.L1
+	jmp	.L1_v3_1
+	.section	.text.c..g..64_1_v3,"ax"
+c..g..64_1_v3:
+	.ascii	"c::f .L1"
+	.asciz	"c::f"
+	.ident	"c::f"
+	.file	"c::f"
+END
+check "two names that would be one are refused" diff - <(rename '"a::b":' '"a:: b":' 2>&1) \
+    <<<"plain_names.py: two names would be one"
+finish

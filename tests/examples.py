@@ -1,0 +1,170 @@
+#!/usr/bin/env python3
+"""Compiles and runs every example of the README and the tutorial, or of the pages that are named, and compares what
+it prints.
+
+    tests/examples.py [--library FOLDER] [PAGE..]
+
+An example is a fenced block in c, cpp, rust, python or sh; js/tests/readme.test.mjs runs those in JavaScript. A block
+in C, C++ or Rust is a whole program. The blocks of a page run in order in one folder, which starts with a file
+`data.bin` of 100,000 bytes and a link to the script b2; what a block leaves there is the next one's. If a block in
+`text` follows an example, it is what the example prints; a line that ends with `...` is the beginning of a line.
+
+FOLDER is where c/install.sh has installed the library; without it the script installs it. The module for Python is
+built here, and the script ends with an error if that fails. An example whose tool is absent is skipped: for Python
+that is also cc, setuptools or Python's headers.
+"""
+import argparse
+import functools
+import os
+import pathlib
+import re
+import shutil
+import subprocess
+import sys
+import tempfile
+
+import tap
+
+TOP = pathlib.Path(__file__).resolve().parent.parent
+TOOLS = {"c": "cc", "cpp": "c++", "rust": "cargo", "python": "python3", "sh": "bash"}
+# Succeeds in a Python that the module can be built for.
+BUILDS_MODULES = """import os, setuptools, sys, sysconfig
+header = os.path.join(sysconfig.get_path("include"), "Python.h")
+sys.exit(sys.version_info < (3, 11) or not os.path.exists(header))"""
+
+
+def examples(page):
+    """The examples of a page: for each the line, the language, the text, and what it prints, or None."""
+    found, last = [], None
+    text = page.read_text(encoding="utf-8")
+    for block in re.finditer(r"^```(\w*)\n(.*?)^```$", text, re.M | re.S):
+        language, inside = block[1], block[2]
+        if language in TOOLS:
+            last = [text.count("\n", 0, block.start()) + 1, language, inside, None]
+            found.append(last)
+        elif language == "text" and last:
+            last[3] = inside
+            last = None
+    return found
+
+
+class Runner:
+    """Runs examples in a folder, against the installed library and the module for Python that are in other folders."""
+
+    def __init__(self, folder, library, module):
+        self.folder = folder
+        self.library = library
+        self.environment = dict(os.environ, LC_ALL="C.UTF-8", CARGO_NET_OFFLINE="true",
+                                PYTHONPATH=str(module))
+        (folder / "data.bin").write_bytes(bytes(i % 251 for i in range(100_000)))
+
+    def call(self, *words, at=None):
+        """What a program prints; it has to succeed."""
+        done = subprocess.run(words, cwd=at or self.folder, env=self.environment, capture_output=True, text=True,
+                              timeout=300, check=False)
+        if done.returncode:
+            raise RuntimeError(f"{words[0]} ended with {done.returncode}: {done.stderr.strip()[-2000:]}")
+        return done.stdout
+
+    def compiled(self, compiler, name, text, *words):
+        """Runs a program in C or C++."""
+        (self.folder / name).write_text(text)
+        library = self.library / "lib"
+        threads = [library / "libvulfsjor-threads.a"] if "vulfsjor_threads.h" in text else []
+        self.call(compiler, *words, "-O1", "-Wall", "-Wextra", "-Werror", name,
+                  f"-I{self.library / 'include'}", *threads, library / "libvulfsjor.a", "-pthread", "-o", "example")
+        return self.call("./example")
+
+    def run_c(self, text):
+        return self.compiled("cc", "example.c", text, "-std=c99", "-D_POSIX_C_SOURCE=200809L")
+
+    def run_cpp(self, text):
+        return self.compiled("c++", "example.cpp", text)
+
+    def run_rust(self, text):
+        crate = self.folder / "crate"
+        (crate / "src").mkdir(parents=True, exist_ok=True)
+        (crate / "src/main.rs").write_text(text)
+        (crate / "Cargo.toml").write_text('[package]\nname = "example"\nversion = "0.0.0"\nedition = "2021"\n'
+                                          f'[dependencies]\nvulfsjor = {{ path = "{TOP}" }}\n[workspace]\n')
+        self.call("cargo", "build", "--quiet", at=crate)
+        return self.call(str(crate / "target/debug/example"))
+
+    def run_python(self, text):
+        return self.call("python3", "-c", text)
+
+    def run_sh(self, text):
+        (self.folder / "b2").unlink(missing_ok=True)
+        (self.folder / "b2").symlink_to(TOP / "b2")
+        return self.call("bash", "-euo", "pipefail", "-c", text)
+
+
+def is_as_printed(printed, wanted):
+    """Whether the output is that of the page, whose lines may end with `...`."""
+    lines, wanted_lines = printed.splitlines(), wanted.splitlines()
+    return len(lines) == len(wanted_lines) and all(
+        line.startswith(each[:-3]) if each.endswith("...") else line == each
+        for line, each in zip(lines, wanted_lines))
+
+
+def has_tool(language):
+    """Whether the example's tool is there, and for Python what the module is built with."""
+    return bool(shutil.which(TOOLS[language])) and (language != "python" or can_build_module())
+
+
+@functools.cache
+def can_build_module():
+    """Whether there is a C compiler, and a Python with setuptools and its headers."""
+    return bool(shutil.which("cc") and shutil.which("python3")) and not subprocess.run(
+        ["python3", "-c", BUILDS_MODULES], capture_output=True, check=False).returncode
+
+
+def build_module(work):
+    """Builds the module for Python in a folder below this one, from a copy of its sources, and returns the folder."""
+    for name in ("c", "dist", "python"):
+        shutil.copytree(TOP / name, work / name)
+    done = subprocess.run(["python3", "setup.py", "-q", "build", "--build-lib", str(work / "module")],
+                          cwd=work / "python", capture_output=True, text=True, check=False)
+    if done.returncode:
+        sys.exit(f"examples.py: building the module for Python failed: {done.stderr.strip()[-2000:]}")
+    return work / "module"
+
+
+def main():
+    words = argparse.ArgumentParser(usage="tests/examples.py [--library FOLDER] [PAGE..]")
+    words.add_argument("--library", type=pathlib.Path)
+    words.add_argument("pages", nargs="*", type=pathlib.Path, default=[TOP / "README.md", TOP / "docs/TUTORIAL.md"])
+    words = words.parse_args()
+    with tempfile.TemporaryDirectory() as work:
+        work = pathlib.Path(work)
+        module = build_module(work) if can_build_module() else work
+        library = words.library or work / "installed"
+        if not words.library:
+            subprocess.run([str(TOP / "c/install.sh"), str(library)], check=True, capture_output=True)
+        for page in words.pages:
+            runner = Runner(pathlib.Path(tempfile.mkdtemp(dir=work)), library.resolve(), module)
+            for line, language, text, wanted in examples(page):
+                name = f"{page.resolve().relative_to(TOP)}, line {line}"
+                if not has_tool(language):
+                    tap.result(True, name, skipped=f"no {language} here")
+                    continue
+                why = error_of(runner, language, text, wanted)
+                tap.result(not why, name, why)
+    tap.finish()
+
+
+def error_of(runner, language, text, wanted):
+    """Runs an example, and says what is wrong: it fails, or prints other than the page says."""
+    try:
+        printed = getattr(runner, f"run_{language}")(text)
+    except (RuntimeError, subprocess.TimeoutExpired) as error:
+        return str(error)
+    if wanted is not None and not is_as_printed(printed, wanted):
+        return f"it prints\n{printed}and not\n{wanted}"
+    return ""
+
+
+if not shutil.which("cc"):
+    tap.result(True, "the examples", skipped="no C compiler")
+    tap.finish()
+main()

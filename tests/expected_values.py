@@ -1,0 +1,276 @@
+#!/usr/bin/env python3
+"""Prints the expected values that are in tables of the tests, under the name that is next to each.
+
+Digests come from Python's hashlib; words and entries of transcripts from the scalar BLAKE2 next to this
+file, which is compared with hashlib first; and what a transcript is read as from the reader below, which knows nothing of this repository's.
+"The digest of X" is BLAKE2b-256 of X.
+
+usage: tests/expected_values.py [NAME..]
+"""
+import hashlib
+import itertools
+import random
+import struct
+
+from blake2_kinds import FAMILIES, KINDS, Parser
+from oracle import (WORDS, Tree, blocks, check, hashlib_tree, parameter_words, range_digests,
+                    tree_root)
+
+ALPHABET = bytes(i % 251 for i in range(6000))
+TEXTS = {"salt": b"salt", "person": b"persona"}
+LENGTHS = [0, 1, 63, 64, 65, 127, 128, 129, 255, 256, 257]
+
+
+def digest(data):
+    """BLAKE2b-256, in hexadecimal."""
+    return hashlib.blake2b(data, digest_size=32).hexdigest()
+
+
+def blake2(family, size, message=b"", key=b"", salt=b"", persona=b""):
+    """The digest of this size."""
+    return FAMILIES[family].function(message, digest_size=size, key=key, salt=salt, person=persona).digest()
+
+
+def lines(family, size, message, key, salt, persona):
+    """The lines of a transcript: the parameter words, and each block with its counter and flag."""
+    digits = WORDS[family].bits // 4
+    words = parameter_words(family, size, key, salt, persona)
+    yield " ".join(["w", *(f"{word:0{digits}x}" for word in words)])
+    for counter, last, block in blocks(family, key, message):
+        yield f"e {counter} {int(last)} {block.hex()}"
+
+
+def transcript_text(family, size, message, key=b"", salt=b"", persona=b""):
+    """What `steps` prints."""
+    return "".join(line + "\n" for line in lines(family, size, message, key, salt, persona)).encode()
+
+
+def copies():
+    """copies: the digest of the outputs for both pieces, for each pair of lengths in their order."""
+    runs = [(kind, family, size, b"", b"", b"") for kind, (family, size) in KINDS.items()]
+    for name, family, size in (("Blake2bMac512", "b", 64), ("Blake2sMac256", "s", 32)):
+        for salt, persona in ((b"", b""), (b"salt", b"persona")):
+            runs += [(name, family, size, key, salt, persona) for key in (b"\x2a", b"")]
+    for name, family, size, key, salt, persona in runs:
+        outputs = b"".join(blake2(family, size, ALPHABET[:first + second], key, salt, persona)
+                           for first in LENGTHS for second in LENGTHS)
+        print(f"  {name} key={key.hex()} salt={salt.decode()} persona={persona.decode()}: {digest(outputs)}")
+
+
+def resets():
+    """resets: the digest of the digests of the first piece and of the second, one after the other, for each
+    pair of lengths in their order."""
+    for kind, (family, size) in KINDS.items():
+        digests = b"".join(blake2(family, size, piece) for first in LENGTHS for second in LENGTHS
+                           for piece in (ALPHABET[:first], ALPHABET[first:first + second]))
+        print(f"  {kind}: {digest(digests)}")
+
+
+def lengths():
+    """lengths: the digest of the MACs' outputs over no message, at each length that is not refused."""
+    for family, numbers in FAMILIES.items():
+        parts = list(itertools.product((0, 1, numbers.key), (0, numbers.salt), (0, numbers.salt)))
+        outputs = b"".join(blake2(family, numbers.key, b"", ALPHABET[:key], ALPHABET[:salt], ALPHABET[:persona])
+                           for key, salt, persona in parts)
+        print(f"  {family}: {len(parts)} accepted, {digest(outputs)}")
+
+
+def replays():
+    """replays: the digest of the digests of the 1,000 beginnings of 1 to 1,000 bytes."""
+    for family, numbers in FAMILIES.items():
+        digests = b"".join(blake2(family, numbers.key, ALPHABET[:length]) for length in range(1, 1001))
+        print(f"  {family}: {digest(digests)}")
+
+
+def transcripts():
+    """transcripts: the digest of all entries over 5,000 bytes, without and with a key of three bytes: for
+    each its counter in 8 bytes, low first, its flag and its block."""
+    for family in FAMILIES:
+        for key in (b"", b"key"):
+            entries = list(blocks(family, key, ALPHABET[:5000]))
+            data = b"".join(struct.pack("<QB", counter, last) + block for counter, last, block in entries)
+            print(f"  {family} key={key.decode()}: {len(entries)} entries, {digest(data)}")
+
+
+def large():
+    """large: over 1,048,577 bytes, byte i being i modulo 251: the line of `sum`, and the digest of what
+    `steps` prints; and the line of `tree b256` for each length of a leaf."""
+    message = bytes(i % 251 for i in range(2**20 + 1))
+    for kind in ("b512", "s256"):
+        family, size = KINDS[kind]
+        text = transcript_text(family, size, message)
+        print(f"  {kind}: {blake2(family, size, message).hex()}, {len(text)} bytes, {digest(text)}")
+    for leaf in (1, 64, 1000, 4096, 20000, 2**20, 2**20 + 1, 2**26):
+        print(f"  {leaf}: {tree_root(message, leaf, 32).hex()}")
+
+
+def texts():
+    """`texts`: the digest of what each command prints over inputs of 4,090 to 4,100 and of 8,186 to 8,196 bytes:
+    over that number of `a`, and for `script` over a line `u 0` of zeros and a line `f 0` with that length together."""
+    lengths_of_texts = [*range(4090, 4101), *range(8186, 8197)]
+    for kind in ("b512", "s256"):
+        family, size = KINDS[kind]
+        sums = "".join(blake2(family, size, b"a" * n).hex() + "\n" for n in lengths_of_texts)
+        scripts = "".join(blake2(family, size, bytes((n - 8) // 2)).hex() + "\n" for n in lengths_of_texts)
+        steps = b"".join(transcript_text(family, size, b"a" * n) for n in lengths_of_texts)
+        for command, text in (("sum", sums.encode()), ("script", scripts.encode()), ("steps", steps)):
+            print(f"{command} {kind}|{digest(text)}")
+    for leaf in (1, 64, 4096):
+        roots = "".join(tree_root(b"a" * n, leaf, 64).hex() + "\n" for n in lengths_of_texts)
+        print(f"tree b512 {leaf}|{digest(roots.encode())}")
+
+
+def options():
+    """options: for each KIND the digests of what `sum` and `script`, one after the other, and of what `steps`
+    prints over `abc`, under each choice of a key, a salt and a persona that are absent, of 1 byte or of
+    the maximum length: 0, 1, 2 and so on."""
+    for kind, (family, size) in KINDS.items():
+        numbers = FAMILIES[family]
+        sums, steps = b"", b""
+        for choice in itertools.product((0, 1, numbers.key), (0, 1, numbers.salt), (0, 1, numbers.salt)):
+            key, salt, persona = (ALPHABET[:length] for length in choice)
+            line = blake2(family, size, b"abc", key, salt, persona).hex() + "\n"
+            sums += 2 * line.encode()
+            steps += transcript_text(family, size, b"abc", key, salt, persona)
+        print(f"{kind}|{digest(sums)}|{digest(steps)}")
+
+
+def reading(family, words, entries):
+    """What a transcript is read as (size, key, salt, persona, message, last node), if it is of a hash which
+    is the whole tree; otherwise None."""
+    numbers = FAMILIES[family]
+    block = struct.pack("<8" + WORDS[family].code, *words)
+    size, key_size, texts = block[0], block[1], block[-2 * numbers.salt:]
+    if size > numbers.key or key_size > numbers.key or not entries:
+        return None
+    data = b"".join(block for _, _, _, block in entries)[:entries[-1][0]]
+    key, message = (data[:key_size], data[numbers.block:]) if key_size else (b"", data)
+    salt, persona = texts[:numbers.salt], texts[numbers.salt:]
+    if len(key) < key_size or parameter_words(family, size, key, salt, persona) != tuple(words):
+        return None
+    last_node = entries[-1][2]
+    if flagged(blocks(family, key, message), last_node) != entries:
+        return None
+    return size, key, salt, persona, message, last_node
+
+
+def flagged(cut, last_node):
+    """The entries of these blocks: counter, final flag, last-node flag and bytes of each."""
+    return [(counter, last, last and last_node, block) for counter, last, block in cut]
+
+
+def with_bit(number, bit):
+    """The number with this bit turned."""
+    return number ^ 1 << bit
+
+
+def changed_words(family, words, entries):
+    """How many of the changes of one bit leave a reading: of the first 16 of word 0, and of words 4 to 7."""
+    def count(places, bits):
+        return sum(reading(family, [*words[:i], with_bit(words[i], bit), *words[i + 1:]], entries) is not None
+                   for i in places for bit in range(bits))
+    return count([0], 16), count(range(4, 8), WORDS[family].bits)
+
+
+def changed_entries(family, words, entries):
+    """The same of each bit of the counters, of the flags and of the blocks."""
+    counters = flags = changed_blocks = 0
+    for place, (counter, last, last_node, block) in enumerate(entries):
+        def is_read(*entry):
+            return reading(family, words, [*entries[:place], entry, *entries[place + 1:]]) is not None
+        counters += sum(is_read(with_bit(counter, bit), last, last_node, block) for bit in range(64))
+        flags += is_read(counter, not last, last_node, block) + is_read(counter, last, not last_node, block)
+        number = int.from_bytes(block, "little")
+        changed_blocks += sum(is_read(counter, last, last_node, with_bit(number, bit).to_bytes(len(block), "little"))
+                              for bit in range(8 * len(block)))
+    return counters, flags, changed_blocks
+
+
+def forged():
+    """forged: of the transcripts with one bit changed, how many have a reading: by one of the first 16 bits
+    of word 0, by one of words 4 to 7, of a counter, of the two flags and of a block."""
+    for family, length, persona in (("b", 200, b"0123456789abcdef"), ("s", 100, b"01234567")):
+        width, size = FAMILIES[family].block, FAMILIES[family].key
+        for key, salt, persona, length in ((b"", b"", b"", width), (b"", b"", b"", width + 1),
+                                           (b"\x01", b"abc", persona, length)):
+            words = list(parameter_words(family, size, key, salt, persona))
+            entries = flagged(blocks(family, key, b"\x2a" * length), False)
+            assert reading(family, words, entries) is not None
+            sizes, texts = changed_words(family, words, entries)
+            counters, flags, changed_blocks = changed_entries(family, words, entries)
+            print(f"  {family} {len(entries)} entries: word 0 {sizes}, words 4 to 7 {texts}, "
+                  f"counters {counters}, flags {flags}, blocks {changed_blocks}")
+
+
+def tree_nodes():
+    """64 nodes of trees for each family, in their order."""
+    for family, numbers in FAMILIES.items():
+        offset_bits = 8 * int(WORDS[family].offset[0])
+        for i in range(64):
+            tree = Tree(37 * i % 256, 1 + 11 * i % 255, 0x9e3779b1 * i % 2**32,
+                        0x9e3779b97f4a7c15 * i % 2**64 >> 64 - offset_bits, 5 * i % 256, i % (numbers.key + 1))
+            salt, persona = ALPHABET[:i % (numbers.salt + 1)], ALPHABET[:2 * i % (numbers.salt + 1)]
+            yield family, salt, persona, tree, i % 3 == 0, ALPHABET[:5 * i]
+
+
+def nodes():
+    """nodes: of each family, the digest of the longest outputs of its nodes, and that of their transcripts: of
+    each the words, and then of each entry the counter, the two flags and the block; numbers low byte first."""
+    outputs, transcripts_of = {"b": b"", "s": b""}, {"b": b"", "s": b""}
+    for family, salt, persona, tree, last_node, message in tree_nodes():
+        numbers = FAMILIES[family]
+        outputs[family] += numbers.function(message, salt=salt, person=persona,
+                                            **hashlib_tree(tree, last_node)).digest()
+        words = parameter_words(family, numbers.key, b"", salt, persona, tree)
+        transcripts_of[family] += struct.pack("<8" + WORDS[family].code, *words)
+        for counter, last, is_last_node, block in flagged(blocks(family, b"", message), last_node):
+            transcripts_of[family] += struct.pack("<Q??", counter, last, is_last_node) + block
+    for family in FAMILIES:
+        print(f"  {family}: {digest(outputs[family])} {digest(transcripts_of[family])}")
+
+
+def trees():
+    """trees: the roots of 64 bytes over the beginnings of `abcdefghi`, with leaves of 4 bytes; that of `abc`
+    as one leaf of the maximum length, in 20 bytes; and the digest of the roots of 32 bytes under a salt and
+    a persona, of messages around each number of leaves, for each length of a leaf."""
+    for length in (0, 4, 5, 8, 9):
+        print(f"  {length}: {tree_root(b'abcdefghi'[:length], 4, 64).hex()}")
+    abc = tree_root(b"abc", 2**32 - 1, 20, salt=b"0123456789abcdef", person=b"fedcba9876543210")
+    print(f"  abc: {abc.hex()}")
+    for leaf in (1, 2, 3, 64, 127, 128, 129, 200):
+        roots = b"".join(tree_root(ALPHABET[:leaf * leaves + more], leaf, 32, **TEXTS)
+                         for leaves in (0, 1, 3, 4, 5, 8, 9) for more in (0, 1, leaf - 1))
+        print(f"  {leaf}: {digest(roots)}")
+
+
+def ranges():
+    """ranges: the digest of the joined digests of ranges of leaves under a salt and a persona, for each length of a
+    leaf: from places 0, 7 and 2^40 on, of whole leaves in the midst of a message, and of its end."""
+    for leaf in (1, 2, 3, 64, 127, 128, 129, 200):
+        digests = b"".join(range_digests(ALPHABET[:leaf * leaves - less], leaf, first, ends, **TEXTS)
+                           for first in (0, 7, 2**40) for leaves in (1, 3, 4, 5, 8, 9)
+                           for ends, less in ((False, 0), (True, 0), (True, leaf // 2)))
+        print(f"  {leaf}: {digest(digests)}")
+
+
+TABLES = {table.__name__: table for table in (
+    copies, resets, lengths, replays, transcripts, large, texts, options, forged, nodes, trees, ranges)}
+
+
+def main():
+    """Prints the named tables, or all."""
+    parser = Parser(description=__doc__.split("\n\n")[0])
+    parser.add_argument("names", nargs="*", metavar="NAME", help=" ".join(TABLES))
+    names = parser.parse_args().names
+    for name in names:
+        if name not in TABLES:
+            parser.error(f"no table has the name {name!r}")
+    check(random.Random(7693))
+    for name, table in TABLES.items():
+        if not names or name in names:
+            print(table.__doc__)
+            table()
+
+
+if __name__ == "__main__":
+    main()

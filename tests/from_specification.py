@@ -1,0 +1,298 @@
+#!/usr/bin/env python3
+"""The program `b2`, written only from docs/SPECIFICATION.md: no other page, no source and no other tool of the
+repository was used. Section numbers are those of that page. `tests/specification.py` compares it with `b2`.
+
+usage: tests/from_specification.py WORDS.. < INPUT
+"""
+import os
+import sys
+from collections import namedtuple
+
+# Section 2, the rows of SIGMA.
+SIGMA = [[int(number) for number in row.split()] for row in """
+0 1 2 3 4 5 6 7 8 9 10 11 12 13 14 15
+14 10 4 8 9 15 13 6 1 12 0 2 11 7 5 3
+11 8 12 0 5 2 15 13 10 14 3 6 7 1 9 4
+7 9 3 1 13 12 11 14 2 6 5 10 4 0 15 8
+9 0 5 7 2 4 10 15 14 1 11 12 6 8 3 13
+2 12 6 10 0 11 8 3 4 13 7 5 15 14 1 9
+12 5 1 15 14 13 4 10 0 7 6 3 9 2 8 11
+13 11 7 14 12 1 3 9 5 0 15 4 8 6 2 10
+6 15 14 9 11 3 0 8 12 2 13 7 1 4 10 5
+10 2 8 4 7 6 1 5 15 11 9 14 3 12 13 0
+""".strip().splitlines()]
+
+# Section 5, the eight places in v of a round's mixings, in their order.
+MIXINGS = [(0, 4, 8, 12), (1, 5, 9, 13), (2, 6, 10, 14), (3, 7, 11, 15),
+           (0, 5, 10, 15), (1, 6, 11, 12), (2, 7, 8, 13), (3, 4, 9, 14)]
+
+
+# The numbers of section 2, and the bytes of the node offset and of the reserved field (section 3).
+Family = namedtuple("Family", "w block rounds turns key digest salt offset reserved iv")
+B = Family(64, 128, 12, (32, 24, 16, 63), 64, 64, 16, 8, 14, (
+    0x6a09e667f3bcc908, 0xbb67ae8584caa73b, 0x3c6ef372fe94f82b, 0xa54ff53a5f1d36f1,
+    0x510e527fade682d1, 0x9b05688c2b3e6c1f, 0x1f83d9abfb41bd6b, 0x5be0cd19137e2179))
+S = Family(32, 64, 10, (16, 12, 8, 7), 32, 32, 8, 6, 0, (
+    0x6a09e667, 0xbb67ae85, 0x3c6ef372, 0xa54ff53a, 0x510e527f, 0x9b05688c, 0x1f83d9ab, 0x5be0cd19))
+
+# Section 3: tree parameters and an input, in sequential use unless something else is said.
+Place = namedtuple("Place", "fanout depth leaf_length node_offset node_depth inner_length")
+SEQUENTIAL = Place(1, 1, 0, 0, 0, 0)
+Input = namedtuple("Input", "message key salt persona place last_node",
+                   defaults=(None, b"", b"", SEQUENTIAL, False))
+
+
+def words_of(family, data):
+    """The words that bytes are."""
+    count = family.w // 8
+    return [int.from_bytes(data[i:i + count], "little") for i in range(0, len(data), count)]
+
+
+def bytes_of(family, words):
+    """The bytes of words."""
+    return b"".join(word.to_bytes(family.w // 8, "little") for word in words)
+
+
+def parameter_words(family, size, given):
+    """Section 3."""
+    place = given.place
+    block = (bytes([size, len(given.key or b""), place.fanout, place.depth]) + place.leaf_length.to_bytes(4, "little")
+             + place.node_offset.to_bytes(family.offset, "little") + bytes([place.node_depth, place.inner_length])
+             + bytes(family.reserved) + given.salt.ljust(family.salt, b"\0")
+             + given.persona.ljust(family.salt, b"\0"))
+    return words_of(family, block)
+
+
+def entries(family, given):
+    """Sections 4 and 7: of each block the bytes, the counter, the final flag and the last-node flag."""
+    data = given.message
+    if given.key is not None:
+        data = given.key.ljust(family.block, b"\0") + data
+    count = max(1, -(-len(data) // family.block))
+    found = []
+    for i in range(count):
+        last = i == count - 1
+        block = data[i * family.block:(i + 1) * family.block].ljust(family.block, b"\0")
+        found.append((block, len(data) if last else (i + 1) * family.block, last, last and given.last_node))
+    return found
+
+
+def mix(family, v, places, x, y):
+    """G of section 5."""
+    a, b, c, d = places
+    full = (1 << family.w) - 1
+    for word, first, second in ((x, *family.turns[:2]), (y, *family.turns[2:])):
+        v[a] = (v[a] + v[b] + word) & full
+        v[d] ^= v[a]
+        v[d] = (v[d] >> first | v[d] << family.w - first) & full
+        v[c] = (v[c] + v[d]) & full
+        v[b] ^= v[c]
+        v[b] = (v[b] >> second | v[b] << family.w - second) & full
+
+
+def compress(family, h, entry):
+    """F of section 5."""
+    block, counter, final, last_node = entry
+    full = (1 << family.w) - 1
+    v = [*h, *family.iv]
+    v[12] ^= counter & full
+    v[13] ^= counter >> family.w
+    v[14] ^= full if final else 0
+    v[15] ^= full if last_node else 0
+    m = words_of(family, block)
+    for number in range(family.rounds):
+        s = SIGMA[number % 10]
+        for i, places in enumerate(MIXINGS):
+            mix(family, v, places, m[s[2 * i]], m[s[2 * i + 1]])
+    return [h[i] ^ v[i] ^ v[i + 8] for i in range(8)]
+
+
+def steps(family, size, given):
+    """Sections 6 and 7: the steps, each its words and its entry, and the digest."""
+    h = [a ^ b for a, b in zip(family.iv, parameter_words(family, size, given))]
+    found = []
+    for entry in entries(family, given):
+        found.append((h, entry))
+        h = compress(family, h, entry)
+    return found, bytes_of(family, h)[:size]
+
+
+def read(family, words, listed):
+    """The reader of section 7: the digest length and the input, or None."""
+    p = bytes_of(family, words)
+    at = 8 + family.offset
+    size, kk, fanout, depth = p[:4]
+    texts = at + 2 + family.reserved
+    if size > family.digest or kk > family.key or depth < 1 or p[at + 1] > family.digest or any(p[at + 2:texts]):
+        return None
+    if not listed or len(listed) != max(1, -(-listed[-1][1] // family.block)):
+        return None
+    counter = listed[-1][1]
+    inner = [entry[1:] == ((i + 1) * family.block, False, False) for i, entry in enumerate(listed[:-1])]
+    z = b"".join(entry[0] for entry in listed)
+    if not all(inner) or not listed[-1][2] or any(z[counter:]):
+        return None
+    if kk and (counter < family.block or any(z[kk:family.block])):
+        return None
+    place = Place(fanout, depth, int.from_bytes(p[4:8], "little"), int.from_bytes(p[8:at], "little"), *p[at:at + 2])
+    key = z[:kk] if kk else None
+    return size, Input(z[family.block if kk else 0:counter], key, p[texts:texts + family.salt],
+                       p[texts + family.salt:], place, listed[-1][3])
+
+
+def witness(family, size, a, b):
+    """Section 8."""
+    (x, of_a), (y, of_b) = steps(family, size, a), steps(family, size, b)
+    full = [given._replace(salt=given.salt.ljust(family.salt, b"\0"), persona=given.persona.ljust(family.salt, b"\0"))
+            for given in (a, b)]
+    if full[0] == full[1] or of_a != of_b:
+        return None
+    j = 1
+    while x[-j] == y[-j]:
+        j += 1
+    return x[-j], y[-j]
+
+
+def tree_root(size, leaf_length, message, salt, persona):
+    """Section 9."""
+    def node(offset, depth, last_node, data):
+        return Input(data, None, salt, persona, Place(0, 2, leaf_length, offset, depth, 64), last_node)
+    count = max(1, -(-len(message) // leaf_length))
+    digests = [steps(B, 64, node(i, 0, i == count - 1, message[i * leaf_length:(i + 1) * leaf_length]))[1]
+               for i in range(count)]
+    return steps(B, size, node(0, 1, True, b"".join(digests)))[1]
+
+
+# ---- section 10, the program
+
+COMMON = {"b128": (B, 16), "b256": (B, 32), "b512": (B, 64), "s128": (S, 16), "s256": (S, 32)}
+KINDS = {"sum": COMMON, "script": COMMON, "steps": COMMON,
+         "witness": COMMON | {"b0": (B, 0), "b8": (B, 1), "s0": (S, 0), "s8": (S, 1)},
+         "tree": {kind: of for kind, of in COMMON.items() if of[0] is B}}
+
+
+class Fault(Exception):
+    """An error of section 10.5, by what follows `b2: `."""
+
+
+def hex_bytes(digits):
+    """The bytes of HEX."""
+    if len(digits) % 2 or not all(c in "0123456789abcdefABCDEF" for c in digits):
+        raise Fault("wrong hex")
+    return bytes.fromhex(digits)
+
+
+def message_bytes(digits):
+    """The bytes of MESSAGE."""
+    if digits == "":
+        raise Fault("wrong hex")
+    return b"" if digits == "-" else hex_bytes(digits)
+
+
+def number_of(digits, most):
+    """A decimal number without a leading zero, of at most this number of digits; otherwise None."""
+    fits = 1 <= len(digits) <= most and all(c in "0123456789" for c in digits)
+    return int(digits) if fits and (digits == "0" or digits[0] != "0") else None
+
+
+def options(words, names):
+    """The words in brackets."""
+    given = {}
+    for word in words:
+        name, equals, digits = word.partition("=")
+        if not equals or name not in names or name in given:
+            raise Fault("wrong words")
+        given[name] = hex_bytes(digits)
+    return given
+
+
+def script_calls(data):
+    """Section 10.3: the calls of a script's lines."""
+    lines = data.split(b"\n")
+    calls = []
+    for number, line in enumerate(lines[:-1] if lines[-1] == b"" else lines, 1):
+        fields = line.decode("latin-1").split(" ")
+        wrong = Fault(f"line {number}: wrong line")
+        if len(fields) != (3 if fields[0] == "u" else 2) or fields[0] not in ("u", "c", "r", "f", "d"):
+            raise wrong
+        slot = number_of(fields[1], 9)
+        if slot is None:
+            raise wrong
+        try:
+            calls.append((fields[0], slot, message_bytes(fields[2]) if fields[0] == "u" else b""))
+        except Fault:
+            raise wrong from None
+    return calls
+
+
+def script(family, size, given, data):
+    """Section 10.3: the lines that a script prints."""
+    slots, printed = [b""], []
+    for number, (name, slot, more) in enumerate(script_calls(data), 1):
+        if slot >= len(slots) or slots[slot] is None:
+            raise Fault(f"line {number}: no such slot")
+        if name in "fd":
+            printed.append(steps(family, size, given._replace(message=slots[slot]))[1].hex())
+        if name == "c":
+            slots.append(slots[slot])
+        else:
+            slots[slot] = {"u": slots[slot] + more, "r": b"", "f": None, "d": b""}[name]
+    return printed
+
+
+def fields(family, letter, words, entry=None):
+    """A line of section 10.4: words, and counter, final flag and block of an entry, if it has them."""
+    told = [letter, *(f"{word:0{family.w // 4}x}" for word in words)]
+    return " ".join(told + [str(entry[1]), str(int(entry[2])), entry[0].hex()] if entry else told)
+
+
+def lines(words, source):
+    """The lines that the arguments request; the source is a function that reads the input."""
+    if not words or words[0] not in KINDS or len(words) < 2 or words[1] not in KINDS[words[0]]:
+        raise Fault("wrong words")
+    command, (family, size), rest = words[0], KINDS[words[0]][words[1]], words[2:]
+    if command == "witness":
+        messages = [message_bytes(word) for word in rest[:2]]
+        if len(rest) != 2:
+            raise Fault("wrong words")
+        pair = witness(family, size, *(Input(message) for message in messages))
+        return [fields(family, "s", h, entry) for h, entry in pair] if pair else ["none"]
+    names = ("salt", "persona") if command == "tree" else ("key", "salt", "persona")
+    if command == "tree":
+        leaf_length = number_of(rest.pop(0), 10) if rest else None
+        if not leaf_length or leaf_length >= 2**32:
+            raise Fault("wrong words")
+    given = Input(b"", **options(rest, names))
+    if max(len(given.salt), len(given.persona)) > family.salt or given.key is not None and not (
+            1 <= len(given.key) <= family.key):
+        raise Fault("wrong length")
+    data = source()
+    if command == "script":
+        return script(family, size, given, data)
+    if command == "tree":
+        return [tree_root(size, leaf_length, data, given.salt, given.persona).hex()]
+    given = given._replace(message=data)
+    if command == "sum":
+        return [steps(family, size, given)[1].hex()]
+    told = [fields(family, "w", parameter_words(family, size, given))]
+    return told + [fields(family, "e", [], entry) for entry in entries(family, given)]
+
+
+def run(words, source):
+    """The status and the output of the program with these words, which are bytes."""
+    try:
+        words = [word.decode() for word in words]
+    except UnicodeDecodeError:
+        return 1, b"b2: no memory\n"
+    try:
+        return 0, "".join(line + "\n" for line in lines(words, source)).encode()
+    except Fault as fault:
+        return 2, f"b2: {fault}\n".encode()
+    except OSError:
+        return 1, b"b2: read failed\n"
+
+
+if __name__ == "__main__":
+    STATUS, OUTPUT = run([os.fsencode(word) for word in sys.argv[1:]], sys.stdin.buffer.read)
+    sys.stdout.buffer.write(OUTPUT)
+    sys.exit(STATUS)

@@ -1,0 +1,60 @@
+#!/usr/bin/env bash
+# Looks at what calls in Rattle leave of a secret on the stack, as they are built for a processor: a
+# key, the tag under it, and chaining words. docs/WIPING.md says what is wiped; a build in which a
+# compiler has left out the zeros fails here, and so does a search that finds nothing where nothing
+# is wiped.
+#
+# usage: tests/key_scan/run.sh [--cpu CPU]
+#
+# CPU is the current processor if it is left out: x86-64-v3 if it has AVX2 and what belongs to it,
+# x86-64-v2 otherwise. It builds the calls of keyed.txt, a crate in Rattle, over the crates as `rt
+# ci` or `rt check` has proved them, and links them to scan.c. It needs the toolchain's command rt,
+# a C compiler and python3: if one is absent it is skipped.
+set -u
+here=$(dirname "$(readlink -f "$0")")
+source "$here/../tap.sh"
+cpu=$("$top/tools/processor.sh")
+[ "${1-}" != --cpu ] || cpu=${2-}
+if ! [[ $#,$cpu =~ ^[02],x86-64-v[23]$ ]]; then
+    echo "usage: tests/key_scan/run.sh [--cpu x86-64-v2|x86-64-v3]" >&2
+    exit 2
+fi
+for tool in rt cc python3; do
+    has "$tool" || {
+        skip "copies of a secret on the stack after calls in Rattle" "no $tool"
+        finish
+    }
+done
+source "$top/tools/kit.sh"
+
+# Builds the calls over what is proved. Crates that are not proved yet are proved first.
+build() {
+    local kit
+    kit=$(kit_folder)
+    prove_libraries blake2_state "$work/proofs" && mkdir -p "$work/src" &&
+        cp "$here/keyed.txt" "$work/src/lib.rt" &&
+        build_crate "$work" keyed blake2 "$work" --crate-type staticlib --cpu "$cpu" \
+            --toolchain "$kit/toolchain" -o "$work/keyed.a"
+}
+
+# Builds and runs the search after a message of so many bytes. Without -z now the loader's first
+# look-up of a name saves vector registers on the stack.
+scan() {
+    python3 "$here/secret_values.py" "$1" >"$work/secrets.h" &&
+        cc -O1 -Wall -Wextra -Werror -march="$cpu" -fno-omit-frame-pointer -mno-red-zone \
+            -Wl,-z,now -I"$work" -o "$work/scan" "$here/scan.c" "$work/keyed.a" && "$work/scan"
+}
+
+check "the build of tests/key_scan/keyed.txt for $cpu" build || finish
+for length in 0 64 1000; do
+    scan "$length" >"$work/lines" 2>&1
+    status=$?
+    [ "$(wc -l <"$work/lines")" -eq 12 ] || fail "12 lines, and status $status" "$work/lines"
+    while IFS= read -r line; do
+        case $line in
+            "passed: "*) pass "$cpu, ${line#*: }" ;;
+            *) fail "$cpu, ${line#*: }" ;;
+        esac
+    done <"$work/lines"
+done
+finish

@@ -1,0 +1,375 @@
+#!/usr/bin/env python3
+"""Compares the pages with the sources:
+
+- All pages: each clause that they name, as in `replay: digests`, is one of that function. Each link leads to a file,
+  and to a heading of it if it names one; a link to a source whose text is a name leads to a file with that name.
+- docs/CONTRACTS.md: each must-fail edit in its table is one of that crate.
+- docs/SPECIFICATION.md: its numbers, tables, fields, KINDs, nodes and errors are those of the definitions.
+- docs/MAP.md, docs/REVIEW.md and CONTRIBUTING.md: each file that they name is there, and MAP has each crate.
+- README.md and docs/SPEED.md: the speeds above the tables are those of the tables. The digits of the first digest in
+  README.md are hashlib's.
+- docs/LARGE.md and the guides: the lengths from which threads start, and their buffers, are those of the code.
+- CHANGELOG.md: its newest version is that of the headers and packages.
+- The pages CALLING.md and the README of the crate blake2: their Rust is that of the crates that are tested.
+- The sources: each public item has a doc comment.
+
+usage: tests/pages.py
+"""
+import functools
+import glob
+import hashlib
+import os
+import re
+import subprocess
+import sys
+
+import tap
+from blake2_kinds import TOP, Unreadable, read, version
+import reference
+from sources import anchor, modules, words_of
+
+WORD = re.compile(r"`([^`]+)`")
+FUNCTION = r"^///.*?^}$"
+LANGUAGES = ("blake2b", "blake2s")
+
+
+def paths(pattern):
+    """The files that a pattern names, from the top of the repository."""
+    return sorted(glob.glob(pattern, root_dir=TOP, recursive=True))
+
+
+def pages():
+    """The documents."""
+    return paths("*.md") + paths("*/*.md") + paths("crates/*/*.md") + paths("tests/*/*.md")
+
+
+def find(pattern, text, where):
+    """The one group of the pattern's first match."""
+    match = re.search(pattern, text)
+    if not match:
+        raise Unreadable(f"{where}: nothing has the form {pattern!r}, which tests/pages.py reads")
+    return match[1]
+
+
+def clauses():
+    """The names of the clauses of each function, by its name. Functions of one name share them."""
+    found = {}
+    roots = paths("crates/*/src/lib.rt") + paths("crates/*/src/main.rt")
+    kept = [item for root in roots for module in modules(root) for item in module.items]
+    while kept:
+        item = kept.pop()
+        kept += item.members() if item.kind in ("impl", "trait") else ()
+        if item.kind == "fn":
+            names = re.findall(r"\bensures\s+(\w+)\s*\{", "\n".join(item.head))
+            found.setdefault(item.name, set()).update(names)
+    return found
+
+
+def check_clauses():
+    """The clauses that the pages name"""
+    known = clauses()
+    for page in pages():
+        for name, clause in re.findall(r"`(?:\w+::)*(\w+): (\w+)`", read(page)):
+            if clause not in known.get(name, ()) and name != "function":
+                yield f"{page}: there is no clause `{name}: {clause}`"
+
+
+def check_edits():
+    """The must-fail edits that docs/CONTRACTS.md names"""
+    edits = re.findall(r"\| `(\w+)`, `(\w+)` \|$", read("docs/CONTRACTS.md"), re.MULTILINE)
+    for crate, name in edits:
+        if not paths(f"crates/{crate}/must-fail/{name}.edit"):
+            yield f"CONTRACTS: there is no crates/{crate}/must-fail/{name}.edit"
+    if not edits:
+        yield "CONTRACTS: no must-fail edit"
+
+
+@functools.cache
+def definitions(crate):
+    """The text of each definition of a crate in one line, by its file and its name."""
+    return {(word.file, word.name): " ".join(" ".join(word.lines).split()) for word in words_of(crate)}
+
+
+def definition(crate, file, name):
+    """The text of a definition."""
+    if (file, name) not in definitions(crate):
+        raise Unreadable(f"crates/{crate}/specs/{file}.antt: tests/pages.py finds no definition {name}")
+    return definitions(crate)[file, name]
+
+
+class Values(dict):
+    """The value of each case of a definition by cases, as `name case = value` says it."""
+
+    def __init__(self, crate, file, name):
+        self.name = f"crates/{crate}/specs/{file}.antt: {name}"
+        cases = re.findall(rf"\b{name} \(?([\w.]+)[^=]*? = (.*?)(?= {name} |$)", definition(crate, file, name))
+        super().__init__(cases)
+
+    def __missing__(self, case):
+        raise Unreadable(f"{self.name}: tests/pages.py finds no case {case}")
+
+
+def listed(value):
+    """The numbers of a list in a definition."""
+    return [int(number, 0) for number in re.findall(r"0x[0-9a-f]+|[0-9]+", value)]
+
+
+def family_rows():
+    """The rows of docs/SPECIFICATION.md that have the numbers of the families."""
+    of = {name: Values("blake2_simd", "Family", name) for name in (
+        "word", "block_bytes", "rounds", "rotations", "key_bytes", "output_bytes", "salt_bytes", "iv")}
+
+    def row(label, name, told=str):
+        return f"| {label} | " + " | ".join(told(of[name][family]) for family in LANGUAGES) + " |"
+    yield row("w, bits of a word", "word", lambda width: width[1:])
+    yield row("B, bytes of a block", "block_bytes")
+    yield row("rounds of F", "rounds")
+    for i in range(4):
+        yield row(f"R{i + 1}", "rotations", lambda value, place=i: str([*listed(value), *[None] * 4][place]))
+    yield row("K, bytes of the longest key", "key_bytes")
+    yield row("M, bytes of the longest digest", "output_bytes")
+    yield row("S, bytes of salt and of persona", "salt_bytes")
+    for i, (b, s) in enumerate(zip(*(listed(of["iv"][family]) for family in LANGUAGES))):
+        yield f"| {i} | {b:016x} | {s:08x} |"
+    for i, row_of_sigma in enumerate(re.findall(r"\(([^()]*∷[^()]*)\)", definition("blake2_simd", "Family", "sigma"))):
+        yield f"| {i} | {' '.join(map(str, listed(row_of_sigma)))} |"
+
+
+def field_rows():
+    """The beginnings of the rows that have the fields of the parameter block."""
+    of = {name: Values("blake2_simd", "Family", name) for name in ("offset_bytes", "salt_bytes", "reserved_bytes")}
+    places = {}
+    for family in LANGUAGES:
+        offset, salt, reserved = (int(of[name][family]) for name in ("offset_bytes", "salt_bytes", "reserved_bytes"))
+        at = 0
+        for name, length in (("digest length", 1), ("key length", 1), ("fanout", 1), ("depth", 1), ("leaf length", 4),
+                             ("node offset", offset), ("node depth", 1), ("inner length", 1), ("reserved", reserved),
+                             ("salt", salt), ("persona", salt)):
+            places.setdefault(name, []).append(f"{at}..{at + length}" if length else "none")
+            at += length
+    for name, (b, s) in places.items():
+        yield f"| {name} | {b} | {s} |"
+
+
+def program_rows():
+    """The rows that have the KINDs and the errors."""
+    for name, of_b, of_s in (("kind_of", "all", "all except `tree`"), ("compared_kind_of", "`witness`", "`witness`")):
+        cases = definition("b2_commands", "Words", name)
+        for word, family, size in re.findall(r'codes "(\w+)"\) then Ok \(blake2([bs])_of ([0-9]+)\)', cases):
+            yield f"| `{word}` | BLAKE2{family} | {size} | {of_b if family == 'b' else of_s} |"
+    texts, status, lines = (
+        Values("b2_commands", "Faults", name) for name in ("fault_text", "status_of", "line_number"))
+    for case, text in texts.items():
+        if case != "WriteFailed":
+            place = "line N: " if lines.get(case, "").startswith("Some") else ""
+            cause = find(r'"(.*)"', text, texts.name)
+            yield f"| `b2: {place}{cause}` | {status[case]} |"
+
+
+def node_words():
+    """Sentences that have the numbers of a tree's nodes and the limits of the program."""
+    def number(crate, file, name, pattern):
+        return find(pattern, definition(crate, file, name), f"crates/{crate}/specs/{file}.antt, {name}")
+
+    def tree(name, pattern):
+        return number("blake2_tree", "TreeRoot", name, pattern)
+
+    def command(file, name, pattern):
+        return number("b2_commands", file, name, pattern)
+    fanout, depth, inner = (tree("place", rf"\b{name} = ([0-9]+);") for name in ("fanout", "depth", "inner_length"))
+    yield f"fanout {fanout}, depth {depth}, leaf length L, inner length {inner}"
+    root = (tree("root_over", form) for form in (r"node p ([0-9]+) [0-9]+ true", r"node p [0-9]+ ([0-9]+) true"))
+    yield f"| root | N | {' | '.join(root)} | on |"
+    size, depth = tree("leaf_digests", r"digest blake2b ([0-9]+) "), tree("leaf_input", r"node p i ([0-9]+) ")
+    yield f"| leaf i | {size} | i | {depth} | on only at the last leaf |"
+    limit = command("Tasks", "IsTooLongFor", r"\(to_tree [^)]*\) input = 2 \^ ([0-9]+) ≤")
+    yield f"a message of fewer than 2^{limit} bytes"
+    yield f"`tree` 2^{limit} bytes or more"
+    limit = command("Tasks", "IsTooLongBy", r"2 \^ ([0-9]+) ≤ key_count")
+    yield f"with the key's block, of 2^{limit} or more"
+    digits = command("Scripts", "slot_value", r"number_value ([0-9]+) digits")
+    yield f"1 to {digits} decimal digits with no leading zero"
+    leaf = command("Words", "some_leaf", r"nat_lt n \(2 \^ ([0-9]+)\)")
+    yield f"a decimal number of 1 to {2 ** int(leaf) - 1}"
+    yield f"a leaf length L of 1 to 2^{leaf} - 1"
+
+
+def check_specification():
+    """The numbers of docs/SPECIFICATION.md"""
+    page = " ".join(read("docs/SPECIFICATION.md").split())
+    groups = [list(rows()) for rows in (family_rows, field_rows, program_rows, node_words)]
+    for wanted, found in zip((28, 11, 18, 9), groups):
+        if len(found) != wanted:
+            yield f"tests/pages.py reads {len(found)} numbers in the definitions where it wants {wanted}: {found[:3]}.."
+    for told in sum(groups, []):
+        if told not in page:
+            yield f"SPECIFICATION: the definitions say {told!r}"
+
+
+# Where the version is, by what is before it.
+VERSIONS = (("c/include/vulfsjor.h", r"VULFSJOR_VERSION \""), ("js/package.json", r"^ *\"version\": \""), *(
+    (path, r"^version = \"") for path in ("Cargo.toml", "rust-digest/Cargo.toml", "python/pyproject.toml")))
+
+
+def check_version():
+    """The version in each package, and the kit in README.md"""
+    for path, before in VERSIONS:
+        found = re.search(before + r"([0-9]+\.[0-9]+\.[0-9]+)", read(path), re.MULTILINE)
+        if not found or found[1] != version():
+            yield f"{path}: version {found and found[1]}, and CHANGELOG.md has {version()}"
+    logic = find(r"(?m)^# kit: \S+ (logic [0-9a-f]+)$", read("dist/MANIFEST"), "dist/MANIFEST")
+    if not re.search(rf"`rt version`: \S+ {logic}\)", read("README.md")):
+        yield f"README.md: not the {logic} of `rt version` that made dist/"
+
+
+def check_files():
+    """The files and crates that the pages for contributors name"""
+    for page in ("docs/MAP.md", "docs/REVIEW.md", "CONTRIBUTING.md"):
+        for word in WORD.findall(read(page)):
+            is_file = re.fullmatch(r"[\w./-]+/[\w./-]+\.(?:rt|antt|edit|py|sh|h|svg|md)", word) and "NAME" not in word
+            places = [before + word for before in ("", "crates/", "crates/*/", "crates/*/src/")]
+            if is_file and not any(map(paths, places)):
+                yield f"{page}: there is no {word}"
+    for crate in paths("crates/*"):
+        if f"| `{os.path.basename(crate)}` |" not in read("docs/MAP.md"):
+            yield f"MAP: no row has the crate `{os.path.basename(crate)}`"
+
+
+def measured(header):
+    """The rows of a table of docs/SPEED.md whose header begins with this text: cells, by the first one."""
+    text = find(rf"(?m)^\| {header}.*\n\|.*\n((?:\|.*\n)+)", read("docs/SPEED.md"), "docs/SPEED.md")
+    rows = ([cell.strip() for cell in line.strip("|").split("|")] for line in text.splitlines())
+    return {first: cells for first, *cells in rows}
+
+
+def ratio_rows():
+    """The rows of README.md that have the ratios of speed."""
+    memory, b, s, file = map(measured, (
+        "1 MiB in memory . BLAKE2b-512, GB", "one BLAKE2b-512", "one BLAKE2s-256", "1024 MiB from a file"))
+    old, new = ("ours: `vulfsjor`, x86-64-v2", "ours: `vulfsjor`, x86-64-v3")
+    for name, *ratios in (
+            ("1 MiB in memory", memory[new][1], memory[new][3]), ("64 bytes in memory", b[new][3], s[new][3]),
+            ("1 MiB in memory, without AVX2 (the others use it)", memory[old][1], memory[old][3]),
+            ("a file of 1 GiB by `b2 sum`", f"{1 / float(file['blake2b/s_simd'][1]):.2f}", "not measured")):
+        yield f"| {name} | {' | '.join(f'**{ratio}**' if ratio < '1' else ratio for ratio in ratios)} |"
+
+
+def summary():
+    """The first table of docs/SPEED.md, and the sentences above it."""
+    memory, b, s, many_b, many_s, roots = map(measured, (
+        "1 MiB in memory . BLAKE2b-512, GB", "one BLAKE2b-512", "one BLAKE2s-256", "4 messages of",
+        "8 messages of", "16 MiB"))
+    new, several = "ours: `vulfsjor`, x86-64-v3", "ours: in parallel, x86-64-v3"
+
+    def cell(speed, ratio):
+        return f"{float(speed):.2f} GB/s, {2.5 / float(speed):.2f} cycles a byte | {ratio}"
+    one, root = memory[new], roots["ours: root, x86-64-v3"]
+    short = b[new][3], s[new][3]
+    many = [(count * 1024 / int(of[several][2]), of[several][3]) for count, of in ((4, many_b), (8, many_s))]
+    yield f"| 1 MiB in memory | {cell(*one[:2])} | {cell(*one[2:4])} |"
+    yield f"| a digest of 64 bytes | {b[new][2]} ns | {short[0]} | {s[new][2]} ns | {short[1]} |"
+    yield f"4, or 8 of BLAKE2s | {cell(*many[0])} | {cell(*many[1])} |"
+    yield f"leaves of 64 KiB | {cell(*root[2:4])} | | |"
+    percents = [[round(100 * float(ratio) - 100) for ratio in ratios] for ratios in (
+        (one[1], one[3], *short), (many[0][1], many[1][1], root[3]))]
+    yield f"the library is {min(percents[0])} to {max(percents[0])} percent faster"
+    yield f"it is between {-min(percents[1])} percent slower and {max(percents[1])} percent faster"
+
+
+def check_speeds():
+    """The speeds and the digest of README.md, and the first speeds of docs/SPEED.md"""
+    prefix = find(r"prints ([0-9a-f]+)\.\.\.", read("README.md"), "README.md")
+    if not hashlib.blake2b(b"abc").hexdigest().startswith(prefix):
+        yield f"README.md: {prefix} is not the beginning of the digest of abc"
+    for page, rows in (("README.md", ratio_rows()), ("docs/SPEED.md", summary())):
+        text = one_spaced(read(page))
+        yield from (f"{page}: the tables of docs/SPEED.md say {row!r}" for row in rows if row not in text)
+
+
+def check_threads():
+    """The lengths from which threads start, and their buffers"""
+    code, rust = read("c/threads.c"), read("rust/src/threads.rs") + read("rust/src/file.rs")
+    least, part, most = (int(find(rf"\b{name}_BYTES\b[ =(]*1 << ([0-9]+)", code, "c/threads.c"))
+                         for name in ("LEAST", "PART", "MOST_BUFFER"))
+    for name, bits in (("LEAST", least), ("PART", part), ("MOST_BUFFER", most)):
+        if f" {name}_BYTES: u64 = 1 << {bits};" not in rust:
+            yield f"rust/src/: {name}_BYTES is not that of c/threads.c"
+    one, two = (f"{1 << bits >> 10} KiB" for bits in (least, least + 1))
+    for page, words in (("docs/LARGE.md", f"one thread for each {one}, and so a second one from {two} on"),
+                        ("docs/LARGE.md", f"up to {1 << part >> 20} MiB or four leaves, whichever is more, and of at "
+                                          f"most {1 << most >> 20} MiB"),
+                        ("rust/README.md", f"It starts a second thread from {two} on")):
+        if words not in one_spaced(read(page)):
+            yield f"{page}: the code says {words!r}"
+
+
+@functools.cache
+def anchors(path):
+    """The anchors of a page's headings, as a browser of the repository makes them."""
+    text = re.sub(r"^```.*?^```$", "", read(path), flags=re.MULTILINE | re.DOTALL)
+    return set(map(anchor, re.findall(r"^#+ (.+)$", text, re.MULTILINE)))
+
+
+def check_links():
+    """The links"""
+    for page in pages():
+        for text, target, name in re.findall(r"\[([^]]*)\]\(([^)#]*)(?:#([^)]*))?\)", read(page)):
+            path = os.path.normpath(os.path.join(os.path.dirname(page), target)) if target else page
+            last = re.fullmatch(r"`(?:[\w.]+::)*(\w+)`", text)
+            if "://" in target:
+                continue
+            if not os.path.exists(os.path.join(TOP, path)):
+                yield f"{page}: there is no {target}"
+            elif name and name not in anchors(path):
+                yield f"{page}: {path} has no heading for #{name}"
+            elif path.endswith((".rt", ".antt")) and last and not re.search(rf"\b{last[1]}\b", read(path)):
+                yield f"{page}: {path} does not have {last[1]}"
+
+
+def one_spaced(text):
+    """The text, with each run of spaces as one."""
+    return " ".join(text.split())
+
+
+def check_quotes():
+    """The Rust in pages of the crates"""
+    callers, readme = ([one_spaced(read(path)) for path in paths(pattern)] for pattern in (
+        "crates/blake2_examples/src/*.rt", "crates/blake2_kat/src/readme.rt"))
+    quoting = [(page, FUNCTION, callers) for page in paths("crates/*/CALLING.md")]
+    quoting.append(("crates/blake2/README.md", rf"^use .*?;$|{FUNCTION}", readme))
+    for page, form, sources in quoting:
+        blocks = re.findall(r"^```rust\n(.*?)^```$", read(page), re.M | re.S)
+        quotes = [quote for block in blocks for quote in re.findall(form, block, re.M | re.S)]
+        for quote in quotes:
+            if not any(one_spaced(quote) in source for source in sources):
+                yield f"{page}: not in the source: {quote.splitlines()[0]}"
+        if not quotes:
+            yield f"{page}: no quote"
+
+
+def check_comments():
+    """The doc comments of public items and definitions"""
+    return [line for page in reference.pages()[0] for line in page.wrong]
+
+
+def check_symbolic_links():
+    """No symbolic link, which the toolchain refuses"""
+    done = subprocess.run(["git", "-C", TOP, "ls-files", "--stage"], stdout=subprocess.PIPE, text=True)
+    return [line for line in done.stdout.splitlines() if line.startswith("120000 ")]
+
+
+def main():
+    if sys.argv[1:]:
+        sys.exit("usage: tests/pages.py")
+    for check in (check_clauses, check_edits, check_specification, check_version, check_files, check_links,
+                  check_quotes, check_speeds, check_threads, check_comments, check_symbolic_links):
+        absent = check is check_symbolic_links and not os.path.exists(os.path.join(TOP, ".git"))
+        try:
+            wrong = [] if absent else list(check())
+        except Unreadable as error:
+            wrong = [str(error)]
+        tap.result(not wrong, check.__doc__, "\n".join(wrong), "no git repository" if absent else "")
+    tap.finish()
+
+
+main()

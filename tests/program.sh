@@ -1,0 +1,419 @@
+#!/usr/bin/env bash
+# Runs the program b2 as a shell does, and checks what no proof covers of `main`: that it passes
+# every argument and the three streams on, and ends with the status that `run` returns. Then it runs
+# each command within the memory that docs/REVIEW.md states, and checks by a count of instructions
+# that `tree` hashes four leaves in parallel.
+#
+# usage: tests/program.sh [PROGRAM..]
+#
+# Without PROGRAM it assembles those of dist/ that this processor runs; `./test --prove` adds the one
+# that `rt ci` has built. valgrind counts the instructions: if it is absent, these tests are skipped.
+set -u
+source "$(dirname "$(readlink -f "$0")")/tap.sh"
+
+# Counts a check of this name: the status, the output and the errors that the run left, against
+# those that are wanted. Standard error stays empty in every run.
+count() {
+    local name
+    name=$(cat -v <<<"$build$1")
+    if [ "$2" = "$3" ] && cmp -s "$work/output" "$work/wanted" && [ ! -s "$work/errors" ]; then
+        pass "$name"
+        return
+    fi
+    head -c 300 "$work"/{output,wanted,errors} | cat -v >"$work/log"
+    fail "$name: status $2, wanted $3" "$work/log"
+}
+
+# Checks a run over an input, which may hold escapes as printf takes them: wants STATUS and the line
+# LINE, or no output where LINE is empty.
+# usage: over INPUT STATUS LINE WORDS..
+over() {
+    local input=$1 wanted_status=$2 line=$3 status
+    shift 3
+    printf '%b' "${line:+$line\n}" >"$work/wanted"
+    printf '%b' "$input" | "$program" "$@" >"$work/output" 2>"$work/errors"
+    status=$?
+    count "b2 $* (over ${input:0:40})" "$status" "$wanted_status"
+}
+
+# Checks a run over no input.
+# usage: says STATUS LINE WORDS..
+says() {
+    over "" "$@"
+}
+
+# Checks that a run, whose status and output are told, ended with this status and printed this line,
+# or nothing where LINE is empty. usage: ended NAME STATUS WANTED LINE
+ended() {
+    printf '%b' "${4:+$4\n}" >"$work/wanted"
+    count "$1" "$2" "$3"
+}
+
+abc=ba80a53f981c4d0d6a2797b69f12f6e94c212f14685ac4b74b12bb6fdbffa2d1
+abc=${abc}7d87c5392aab792dc252d5de4533cc9518d38aa8dbf1925ab92386edd4009923
+abc_s256=508c5e8c327c14e2e1a72ba34eeb452f37458b209ed63a294d999b4c86675982
+keyed=64e477c9f5c0ba5bd0d2d41455c1fb48
+long_key=$(printf '42%.0s' {1..64})
+zeros=$(printf '00%.0s' {1..127})
+start="s 6a09e667f2bdc908 bb67ae8584caa73b 3c6ef372fe94f82b a54ff53a5f1d36f1"
+start="$start 510e527fade682d1 9b05688c2b3e6c1f 1f83d9abfb41bd6b 5be0cd19137e2179"
+root=14b0752e3ca5c2b4f5df98dcb4fab97caeda23424260d531f9b0b52310bb58ee
+root=${root}cb6e13211a8298c3e52d543a21efa545053f3006100629ff6bd181611b38f8c8
+root_of_parts=ece6ceb0305d1bf7a0dce3f6a9abe1720d59d063c8b5d7f1def3f93b0196ae44
+words="w 0000000001010040$(printf ' 0000000000000000%.0s' {1..7})"
+
+# Each command, with status 0.
+test_commands() {
+    over abc 0 "$abc" sum b512
+    over abc 0 "$abc_s256" sum s256
+    over abc 0 "$keyed" sum b128 key=0102 salt=73616c74 persona=706572736f6e61
+    over abc 0 "$keyed" sum b128 persona=706572736F6E61 key=0102 salt=73616c74
+    over 'u 0 6162\nc 0\nu 0 63\nf 0\nu 1 63\nd 1\n' 0 "$abc\n$abc" script b512
+    over 'u 0 616263\nf 0' 0 "$keyed" script b128 key=0102 salt=73616c74 persona=706572736f6e61
+    says 0 "" script s256
+    over a 0 "$words\ne 1 1 61$zeros" steps b512
+    says 0 "$start 1 1 61$zeros\n$start 1 1 62$zeros" witness b0 61 62
+    says 0 none witness b512 616263 -
+    over abcde 0 "$root" tree b512 4
+    over abcde 0 "$root_of_parts" tree b256 4 persona=70 salt=0102
+    says 0 5abb265af975bd803708b70db42bd302 tree b128 4
+}
+
+# Wrong words: none, empty ones, unknown ones, one missing, one more than are taken.
+test_arguments() {
+    says 2 "b2: wrong words"
+    says 2 "b2: wrong words" ""
+    says 2 "b2: wrong words" "" sum b512
+    says 2 "b2: wrong words" add b512
+    says 2 "b2: wrong words" SUM b512
+    says 2 "b2: wrong words" -h
+    says 2 "b2: wrong words" --help
+    for command in sum script steps; do
+        says 2 "b2: wrong words" "$command"
+        says 2 "b2: wrong words" "$command" ""
+        says 2 "b2: wrong words" "$command" b999
+        says 2 "b2: wrong words" "$command" b512 ""
+        says 2 "b2: wrong words" "$command" b512 foo
+        says 2 "b2: wrong words" "$command" b512 key
+        says 2 "b2: wrong words" "$command" b512 key=01 key=02
+        says 2 "b2: wrong words" "$command" b512 key=01 salt=02 persona=03 foo
+        says 2 "b2: wrong words" "$command" b512 key=01 salt=02 persona=03 salt=04 5 6 7
+        says 2 "b2: wrong hex" "$command" b512 key=1
+        says 2 "b2: wrong hex" "$command" b512 salt=0g
+        says 2 "b2: wrong hex" "$command" b512 key=01 salt=02 persona=03=
+        says 2 "b2: wrong length" "$command" b512 key=
+        says 2 "b2: wrong length" "$command" b512 "key=${long_key}42"
+        says 2 "b2: wrong length" "$command" s256 salt=000000000000000000
+        says 2 "b2: wrong length" "$command" b512 persona="$(printf '00%.0s' {1..17})"
+    done
+    # The first wrong word is the one that is told, wherever it stands.
+    says 2 "b2: wrong words" sum b512 key=01 salt=02 persona=03 1 2 3 4 5
+    says 2 "b2: wrong hex" sum b512 key=01 salt=02 persona=0 1 2 3 4 5
+    says 2 "b2: wrong words" tree
+    says 2 "b2: wrong words" tree s256 4
+    says 2 "b2: wrong words" tree b512
+    for leaf in 0 04 4294967296 -1 4k ""; do
+        says 2 "b2: wrong words" tree b512 "$leaf"
+    done
+    says 2 "b2: wrong words" tree b512 4 key=01
+    says 2 "b2: wrong words" tree b512 4 salt=01 salt=02
+    says 2 "b2: wrong hex" tree b512 4 salt=1
+    says 2 "b2: wrong length" tree b512 4 salt="$(printf '00%.0s' {1..17})"
+    says 2 "b2: wrong length" tree b512 4294967295 persona="$(printf '00%.0s' {1..17})"
+    says 2 "b2: wrong words" witness
+    says 2 "b2: wrong words" witness b512
+    says 2 "b2: wrong words" witness b512 61
+    says 2 "b2: wrong words" witness b9 61 61
+    says 2 "b2: wrong words" witness b512 61 62 63
+    says 2 "b2: wrong words" witness b512 61 61 61 61 61 61 61 61
+    says 2 "b2: wrong hex" witness b512 "" 61
+    says 2 "b2: wrong hex" witness b512 61 ""
+    says 2 "b2: wrong hex" witness b512 61 6g
+}
+
+# Faults of a script, with the number of the line.
+test_scripts() {
+    over 'x 0\n' 2 "b2: line 1: wrong line" script b512
+    over 'u 0 61\n\nf 0\n' 2 "b2: line 2: wrong line" script b512
+    over 'f 0\nf 0\nf 00' 2 "b2: line 3: wrong line" script s256 key=01
+    over '\0' 2 "b2: line 1: wrong line" script b512
+    over 'f 0\nu 0 61\n' 2 "b2: line 2: no such slot" script b512
+    over 'f 999999999' 2 "b2: line 1: no such slot" script s128
+    over "$(printf 'c 0\\n%.0s' {1..11})d 12\n" 2 "b2: line 12: no such slot" script b128
+}
+
+# An input that answers an error: a closed one, and a directory.
+test_inputs() {
+    for command in sum script steps; do
+        "$program" "$command" b512 <&- >"$work/output" 2>"$work/errors"
+        ended "b2 $command b512, its input closed" "$?" 1 "b2: read failed"
+        "$program" "$command" s256 key=01 <"$work" >"$work/output" 2>"$work/errors"
+        ended "b2 $command s256 key=01, its input a directory" "$?" 1 "b2: read failed"
+    done
+    "$program" tree b512 4 <&- >"$work/output" 2>"$work/errors"
+    ended "b2 tree b512 4, its input closed" "$?" 1 "b2: read failed"
+    # `witness` and wrong words read no input.
+    "$program" witness b512 61 62 <&- >"$work/output" 2>"$work/errors"
+    ended "b2 witness b512 61 62, its input closed" "$?" 0 none
+    "$program" sum b512 foo <&- >"$work/output" 2>"$work/errors"
+    ended "b2 sum b512 foo, its input closed" "$?" 2 "b2: wrong words"
+}
+
+# An output that takes nothing: a full one, and a closed one. Nothing more is printed.
+test_outputs() {
+    : >"$work/output"
+    for given in "sum b512" "script b512" "steps s256" "tree b512 4" "witness b512 61 62" \
+        "sum" "add"; do
+        # shellcheck disable=SC2086
+        printf 'f 0\n' | "$program" $given >/dev/full 2>"$work/errors"
+        ended "b2 $given, its output full" "$?" 1 ""
+        # shellcheck disable=SC2086
+        printf 'f 0\n' | "$program" $given >&- 2>"$work/errors"
+        ended "b2 $given, its output closed" "$?" 1 ""
+    done
+}
+
+# Arguments that are no text can't be read.
+test_bytes() {
+    says 1 "b2: no memory" $'\xff'
+    says 1 "b2: no memory" sum b512 $'key=\xc3('
+    says 1 "b2: no memory" sum b512 key=01 salt=02 persona=03 5 6 7 8 $'\xed\xa0\x80'
+    "$program" $'\x80' >/dev/full 2>"$work/errors" </dev/null
+    status=$?
+    : >"$work/output"
+    ended "b2 of no text, its output full" "$status" 1 ""
+}
+
+# ---- Memory, by limits of address space.
+
+# Runs the program in so many KiB, over the file `input`. The shell sets the limit in a process of
+# its own.
+run_in() {
+    local kib=$1
+    shift
+    sh -c 'ulimit -v "$0" && exec "$@"' "$kib" "$program" "$@" <"$work/input" >"$work/output" \
+        2>"$work/errors"
+}
+
+# Whether these words, which are wrong ones, are told in so many KiB.
+is_told_in() {
+    run_in "$@"
+    [ $? -eq 2 ] && [ "$(cat "$work/output")" = "b2: wrong words" ]
+}
+
+# The fewest KiB in which the program tells that these words are wrong, for which it keeps its
+# arguments alone: fewer than 16 too many, and no more than 64 MiB.
+least_for() {
+    local low=0 high=65536 middle
+    is_told_in "$high" "$@" || return 1
+    while [ $((high - low)) -gt 16 ]; do
+        middle=$(((low + high) / 2))
+        if is_told_in "$middle" "$@"; then high=$middle; else low=$middle; fi
+    done
+    echo "$high"
+}
+
+# Checks a run in so many KiB beyond `least`, over the file `input`: wants STATUS, and what the file
+# `wanted` has. usage: ends_in KIB STATUS WORDS..
+ends_in() {
+    local kib=$1 wanted_status=$2 status
+    shift 2
+    run_in $((least + kib)) "$@"
+    status=$?
+    count "b2 $1 $2${3:+ ${3:0:20}} (in $kib KiB, over $(stat -c %s "$work/input") bytes)" \
+        "$status" "$wanted_status"
+}
+
+# Checks that a run has room, and prints this line, or what the file `wanted` has where LINE is -.
+# usage: has_room KIB LINE WORDS..
+has_room() {
+    local kib=$1
+    [ "$2" = - ] || echo "$2" >"$work/wanted"
+    shift 2
+    ends_in "$kib" 0 "$@"
+}
+
+# Checks that a run has too little: so the limit is in force, and want of memory is told.
+# usage: lacks_room KIB WORDS..
+lacks_room() {
+    local kib=$1
+    shift
+    echo "b2: no memory" >"$work/wanted"
+    ends_in "$kib" 1 "$@"
+}
+
+# Makes the file `input` of so many zeros.
+take_zeros() {
+    : >"$work/input"
+    truncate -s "$1" "$work/input"
+}
+
+# A fixed amount for `sum`. For `tree` a piece of about 64 KiB, or of 17 leaves where these are
+# more, or of 13, 9 or 5 where those are more than 16 MiB, or of 64 KiB again where five leaves are.
+check_memory_of_streams() {
+    take_zeros $((64 << 20))
+    has_room 64 "$zeros_64m" sum b512
+    has_room 64 "$zeros_64m_s256" sum s256 key=0102
+    take_zeros $((40 << 20))
+    has_room 128 "$root_of_longest" tree b512 4294967295
+    has_room 128 "$root_4m" tree b512 4194304
+    has_room $((17 * 64 + 64)) "$root_64k" tree b512 65536
+    has_room $((13312 + 64)) "$root_1m" tree b512 1048576
+    has_room $((16384 + 64)) "$root_five" tree b512 3355443
+    lacks_room 8192 tree b512 3355443
+}
+
+# What the transcript of so many zeros, in whole blocks of BLAKE2b, is.
+transcript_of_zeros() {
+    echo "$words"
+    seq -f "e %.0f 0 00$zeros" 128 128 $(($1 - 128))
+    echo "e $1 1 00$zeros"
+}
+
+# The input, and the transcript, which has about as many bytes. The input is read into a list, which
+# doubles as it grows: so one byte more than a power of two may take twice as much.
+check_memory_of_steps() {
+    take_zeros $((4 << 20))
+    transcript_of_zeros $((4 << 20)) >"$work/wanted"
+    has_room $((10 << 10)) - steps b512
+    lacks_room $((4 << 10)) steps b512
+    take_zeros $(((4 << 20) + 128))
+    transcript_of_zeros $(((4 << 20) + 128)) >"$work/wanted"
+    has_room $((14 << 10)) - steps b512
+}
+
+# The input, its calls, the state of each slot and all digests: half of an update's text for its
+# bytes, 96 bytes for each call, 64 more for a digest, and 352 for a state, with a key 480.
+check_memory_of_scripts() {
+    local calls=65535
+    yes "u 0 $(printf '%04090d' 0)" | head -n 1024 | sed '$s/.*/f 0/' >"$work/input"
+    has_room $((7 << 10)) "$zeros_1023" script b512
+    lacks_room $((4 << 10)) script b512
+    : >"$work/wanted"
+    yes "r 0" | head -n $calls >"$work/input"
+    has_room $((6 << 10)) - script b512
+    yes "c 0" | head -n $calls >"$work/input"
+    has_room $((28 << 10)) - script b512
+    has_room $((36 << 10)) - script b512 "key=$long_key"
+    lacks_room $((2 << 10)) script b512
+    yes "$nothing" | head -n $calls >"$work/wanted"
+    yes "d 0" | head -n $calls >"$work/input"
+    has_room $((10 << 10)) - script b512
+}
+
+# The two messages, as long as arguments can be: 65,535 bytes.
+check_memory_of_witness() {
+    local message
+    message=$(printf '%0131070d' 0)
+    take_zeros 0
+    if least=$(least_for add b512 "$message" "$message"); then
+        has_room 512 none witness b512 "$message" "${message%0}1"
+    else
+        fail "b2 reports in 64 MiB that long words are wrong"
+    fi
+}
+
+zeros_64m=3f7d3846a5c75d2ca1ebeb0328ad85e11a015ea61ab23912f7b7314dc18d8efb
+zeros_64m=${zeros_64m}1eab781c5cd2297df734eca802f24e972d7130478a1b3dbcff1606b917c70880
+zeros_64m_s256=6fea37809ab8bb2b966175e79587e4ef4398884c70310b287c4ba5b7b4bf3e19
+zeros_1023=037872fda42f2ec5f5c8b9577527dcda3101a08fc81751f14d5d93860e5cc4d5
+zeros_1023=${zeros_1023}1907821b2affd9cb07790ea02d8901ae8117db466e3a11546b6e76b746c47d5e
+nothing=786a02f742015903c6c6fd852552d272912f4740e15847618a86e217f71f5419
+nothing=${nothing}d25e1031afee585313896444934eb04b903a685b1448b755d56f701afe9be2ce
+root_of_longest=5fb57c212ef72ebf1e0287af2f9397518028ef2257d8950cdb4865328f60b4fe
+root_of_longest=${root_of_longest}f3510e3f43963df6dca54015b59845c48ac351b80e2cc4f54ee1df1dc2038884
+root_4m=22f600948597a0a384a21df2487f973859cfebfdf914f9e16d2c1471f6d833a2
+root_4m=${root_4m}e1d57dd49a438c5bb0ce187dd9035578dee4e3f1d1d7eda3b34f58ce5a2fae61
+root_64k=30a4ea8885d81b896308f9077d26f2b16fd8ff3eb662e52d5ae8b260690c0b48
+root_64k=${root_64k}a65c70bcce1a5fa1fa3ad54c9517b13995048eb9a6302875eb4507aef96dbd2e
+root_1m=8a4058f575b1546c50913341e819716bd8326330810417d38b5de24fe4709ff9
+root_1m=${root_1m}ce5d83474ff70923cd008d70cfaff8ee956dc9e92d4a9ad38c3d82b0ae43a20a
+root_five=adc2421b484c3134c45a7044a369965a64754f0bcf4ffcf3caf9cd74b00972e0
+root_five=${root_five}c250a693d180d9e5f0ff9e735737f39211276f134cab719bd04fb59601e915d2
+# The memory of each command.
+test_memory() {
+    take_zeros 0
+    if least=$(least_for add b512); then
+        check_memory_of_streams
+        check_memory_of_steps
+        check_memory_of_scripts
+    else
+        fail "b2 reports in 64 MiB that its words are wrong"
+    fi
+    check_memory_of_witness
+}
+
+# ---- Four leaves at once, by a count of instructions.
+
+# How many of 100 instructions of the run that was counted are those of functions that hash several
+# messages at once.
+share_at_once() {
+    awk '/^fn=/ { is_one = /^fn=blake2_compress(::|[.][.])many/ }
+        /^calls=/ { getline; next }
+        /^[0-9]/ { all += $2; if (is_one) at_once += $2 }
+        END { print all ? int(100 * at_once / all) : 0 }' "$work/instructions"
+}
+
+# Checks a run of `tree` over so many zeros, of whose instructions LEAST in 100 are to be those that
+# hash leaves at once: no root tells whether they were. usage: hashes_at_once LEAST BYTES ROOT LEAF
+hashes_at_once() {
+    local least=$1 leaf=$4 \
+        name="b2 tree b512 $4, of whose instructions $1 in 100 hash leaves at once" share status
+    has valgrind || {
+        skip "$name" "no valgrind"
+        return
+    }
+    take_zeros "$2"
+    rm -f "$work/instructions"
+    valgrind --tool=callgrind --compress-strings=no --compress-pos=no \
+        --callgrind-out-file="$work/instructions" --log-file="$work/log" "$program" tree b512 \
+        "$leaf" <"$work/input" >"$work/output" 2>"$work/errors"
+    status=$?
+    share=0
+    [ ! -s "$work/instructions" ] || share=$(share_at_once)
+    if [ "$share" -lt "$least" ]; then
+        fail "$name: $share"
+    else
+        ended "$name" "$status" 0 "$3"
+    fi
+}
+
+root_4k=688d8b10b8a9ea6806c037946b17b37e4b899862b02c00621b29c19c63c42e9d
+root_4k=${root_4k}b51f87dc042d0a84b7f00c481cdc5b4f2ed5deebad397e31a9a867cb78745152
+root_64k_35=a4393e72e252b5cc20412fe4d9967129c957a3a962336a44c2a5813f8abbcd68
+root_64k_35=${root_64k_35}4114b5277d358da0cddef3d983f0d03b8fd9aa23c38e6a3f5dcc47dddc59649f
+root_1m_27=60292fe897e87b11ee029319fc7dc8e063c0e9daccdf4ba3bd6a584221943039
+root_1m_27=${root_1m_27}47f2c5d8ce2c1f6ffec38890f4d03df27110ba0dac4df87afb5404f5d42d4b60
+# Pieces of 17 leaves, and with leaves of 1 MiB of 13, of which the last is closed alone.
+test_at_once() {
+    hashes_at_once 75 $((320 * 4096 + 1)) "$root_4k" 4096
+    hashes_at_once 75 $((34 * 65536 + 1)) "$root_64k_35" 65536
+    hashes_at_once 75 $(((26 << 20) + 1)) "$root_1m_27" 1048576
+}
+
+if [ $# -eq 0 ]; then
+    if has cc; then
+        build=
+        check "the program in dist/ is assembled" assemble_all
+        set -- "$work"/b2*
+    fi
+    [ -z "${RT_CI-}" ] || set -- "$@" "$top/crates/b2/out/b2"
+    [ $# -gt 0 ] || skip "the program in dist/" "no C compiler cc"
+fi
+for program; do
+    build="${program##*/}: "
+    program=$(readlink -f "$program")
+    [ -x "$program" ] || {
+        fail "${build}there is such a program"
+        continue
+    }
+    test_commands
+    test_arguments
+    test_scripts
+    test_inputs
+    test_outputs
+    test_bytes
+    test_memory
+    test_at_once
+done
+finish

@@ -1,0 +1,39 @@
+#!/usr/bin/env bash
+# Runs the tests in Rattle without proving anything, by `rt try --test`:
+#
+#   tests/rattle.sh [CRATE..]
+#
+# Without a CRATE it runs each crate that exists only for its tests. The tests in modules named
+# `memory` fill the memory, which works only in what `rt ci` builds: they are skipped. It needs the
+# toolchain of Rattle. `./test --prove` has run `rt ci`, whose status is then in RT_CI.
+set -u
+source "$(dirname "$(readlink -f "$0")")/tap.sh"
+if [ -n "${RT_CI-}" ]; then
+    check "rt ci, which ended with status $RT_CI" [ "$RT_CI" -eq 0 ]
+    finish
+fi
+[ $# -gt 0 ] || set -- blake2_tests blake2_kat b2_tests
+has rt || {
+    skip "the tests in Rattle" "no rt"
+    finish
+}
+log=$work/rt
+for crate; do
+    (cd "$top/crates/$crate" && rt try --test --seconds 900) >"$log" 2>&1
+    count=$ended
+    while read -r name result; do
+        case $result,$name in
+            ok,*) pass "$crate, $name" ;;
+            *,memory::* | *::memory::*) skip "$crate, $name" "it fills the memory" ;;
+            *)
+                grep -a -A 12 "^test $name \.\.\. FAILED" "$log" | sed '1d;/^test /d' >"$work/why"
+                fail "$crate, $name" "$work/why"
+                ;;
+        esac
+    done < <(sed -nE 's/^test ([a-z0-9_:]+) \.\.\. (ok|FAILED).*$/\1 \2/p' "$log")
+    count=$((ended - count))
+    if [ "$count" -eq 0 ] || [ "tests: $count" != "$(grep -a '^tests: ' "$log")" ]; then
+        fail "$crate: $count tests ended" "$log"
+    fi
+done
+finish

@@ -1,0 +1,49 @@
+#!/usr/bin/env bash
+# Follows what crates/blake2/CALLING.md says to another repository: makes a separate repository with
+# the commands of that page, with the page's callers as the crate app and those of
+# crates/blake2_tree/CALLING.md as app_tree, and proves every crate in it.
+#
+# usage: tests/recipe.sh
+#
+# Work that is kept in crates/*/out is copied along, and what is not there is proved anew. The copy
+# needs about 2 GB in the folder for temporary files.
+set -u
+source "$(dirname "$(readlink -f "$0")")/tap.sh"
+has rt || {
+    fail "the steps of CALLING.md: the toolchain's command rt is not on the PATH"
+    finish
+}
+ln -s "$top" "$work/vulfsjor"
+mkdir "$work/other"
+cd "$work/other" || exit 1
+git init -q .
+
+# The blocks of a page in this language, each ended by a line of three hyphens.
+blocks() {
+    awk -v fence="\`\`\`$2" \
+        '$0 == "```" { if (inside) print "---"; inside = 0 }
+        inside { print }
+        $0 == fence { inside = 1 }' "$top/crates/$1/CALLING.md"
+}
+
+# Makes the crate of this name from a page's callers that are whole files: a module for each.
+callers() {
+    mkdir -p "crates/$1/src"
+    printf '//! The callers of a page.\n#![tactic(auto)]\n\n' >"crates/$1/src/lib.rt"
+    blocks "$2" rust | awk -v folder="crates/$1/src" '
+        /^---$/ { file = ""; next }
+        /^#!\[tactic\(auto\)\]$/ {
+            file = folder "/caller" ++count ".rt"
+            print "//! A caller." > file
+            print "pub mod caller" count ";" >> (folder "/lib.rt")
+            next
+        }
+        file != "" { print > file }'
+}
+
+blocks blake2 sh | grep -v '^---$' >../recipe.sh
+check "the commands of the page" bash -eu ../recipe.sh
+callers app blake2
+callers app_tree blake2_tree
+check "rt all check" rt all check
+finish

@@ -1,0 +1,256 @@
+#!/usr/bin/env python3
+"""Compares `b2` with tests/from_specification.py, which was written only from docs/SPECIFICATION.md, and the worked
+values of that page with what that program, hashlib and the page say. The examples of README.md and docs/PROGRAM.md
+that run `./b2` are cases too.
+
+For each command it runs random cases from one seed: arguments in random order and case, arguments that are wrong, missing or too
+many, arguments that are not UTF-8, inputs around every boundary, scripts with wrong lines and bad calls, and an input
+that can't be read. Status and output have to be the same; what `sum` and `tree` print is compared with hashlib too.
+
+usage: tests/specification.py --program PATH [--cases N] [--seed N]
+"""
+import hashlib
+import os
+import random
+import re
+import shlex
+import subprocess
+
+import tap
+from blake2_kinds import FAMILIES, KINDS, TOP, Parser, at_least, program
+from blake2_kinds import read as read_file
+from from_specification import B, S, Input, Place, entries, parameter_words, read, run
+from oracle import tree_root
+
+FUNCTIONS = {name: family.function for name, family in FAMILIES.items()}
+
+
+def lengths(source, block):
+    """A random length: small, or around a boundary of blocks."""
+    around = [block - 1, block, block + 1, 2 * block]
+    return source.choice([0, 1, source.randrange(9), *around, source.randrange(4 * block)])
+
+
+def digits(source, data, wrong=0.06):
+    """Bytes as HEX in random case, and with this probability something else."""
+    text = data.hex()
+    text = "".join(source.choice([c, c.upper()]) for c in text) if source.random() < 0.2 else text
+    if source.random() < wrong:
+        text = source.choice(
+            [text + "0", text + "0g", text[1:], "-", " " + text, text + "\u00e9", "+" + text, "0x" + text])
+    return text
+
+
+def bracketed(source, kind, names):
+    """Words in brackets, some of a length that is refused."""
+    most = {"key": 64, "salt": 16, "persona": 16}
+    half = 1 if kind.startswith("b") else 2
+    words = []
+    for name in names:
+        if source.random() < 0.5:
+            length = source.choice([0, 1, most[name] // half, source.randint(0, most[name] // half)])
+            length += source.random() < 0.04
+            words.append(f"{name}={digits(source, source.randbytes(length))}")
+    source.shuffle(words)
+    return words
+
+
+def spoiled(source, words):
+    """Words of which some are gone, repeated, changed or too many; most of the time as they were."""
+    words = list(words)
+    while source.random() < 0.12:
+        place = source.randrange(len(words) + 1)
+        other = source.choice(
+            words + ["", "foo", "key", "key=01", "salt=", "persona=00", "=", "b512", "S256", "-", "61"])
+        if source.random() < 0.4:
+            words.insert(place, other)
+        elif place < len(words):
+            words[place:place + 1] = source.choice([[], [other], [words[place].upper()], [words[place] + "="]])
+    told = [word.encode() for word in words]
+    if told and source.random() < 0.02:
+        told[source.randrange(len(told))] += source.choice([b"\xff", b"\xc3(", b"\xed\xa0\x80"])
+    return told
+
+
+def script_lines(source, block):
+    """The lines of a random script. Most calls are of live slots."""
+    slots, found = [True], []
+    for _ in range(source.randrange(25)):
+        live = [slot for slot, is_live in enumerate(slots) if is_live]
+        if not live and source.random() < 0.9:
+            break
+        slot = source.choice(live) if live and source.random() < 0.99 else source.randrange(len(slots) + 2)
+        name = source.choice("uuuucrdf")
+        data = source.randbytes(lengths(source, block))
+        found.append(f"{name} {slot}" + (f" {digits(source, data, 0.01) if data else '-'}" if name == "u" else ""))
+        if name == "c":
+            slots.append(True)
+        if name == "f" and slot < len(slots):
+            slots[slot] = False
+    if found and source.random() < 0.2:
+        place = source.randrange(len(found))
+        line = found[place]
+        found[place] = source.choice(["", line + " ", line + "\r", " " + line, line.replace(" ", "  "), "f 00", "u 0",
+                                      "u 0 ", "f 1000000000", "f 999999999", "x 0", "c -1", "r 0 0"])
+    return "\n".join(found).encode("utf-8") + (b"\n" if source.random() < 0.6 else b"")
+
+
+def sum_case(source, command):
+    """The words and the input of a `sum` or a `steps`."""
+    kind = source.choice(["b128", "b256", "b512", "s128", "s256"])
+    words = [command, kind, *bracketed(source, kind, ("key", "salt", "persona"))]
+    return words, source.randbytes(lengths(source, 128 if kind.startswith("b") else 64))
+
+
+def script_case(source, command):
+    """The words and the input of a `script`."""
+    words, _ = sum_case(source, command)
+    return words, script_lines(source, 128 if words[1].startswith("b") else 64)
+
+
+def witness_case(source, command):
+    """The words of a `witness`, often of two messages with one digest."""
+    kind = source.choice(["b0", "b8", "s0", "s8", "b128", "b256", "b512", "s128", "s256"])
+    block = 128 if kind.startswith("b") else 64
+    a = source.randbytes(lengths(source, block))
+    b = source.choice([a, a + b"\0", a[:-1], bytes(block) + a, source.randbytes(lengths(source, block))])
+    while kind.endswith("8") and len(kind) == 2 and source.random() < 0.995:
+        one = FUNCTIONS[kind[0]](a, digest_size=1).digest()
+        if a != b and one == FUNCTIONS[kind[0]](b, digest_size=1).digest():
+            break
+        b = source.randbytes(len(b)) if source.random() < 0.9 else a[:block] + source.randbytes(lengths(source, block))
+    return [command, kind, *(digits(source, message) if message else "-" for message in (a, b))], b""
+
+
+def tree_case(source, command):
+    """The words and the input of a `tree`."""
+    leaf = source.choice([1, 2, 7, 64, 127, 128, 129, 300, 4294967295])
+    message = source.randbytes(min(leaf, 300) * source.randrange(11) + source.choice([0, 0, 1, source.randrange(9)]))
+    word = str(leaf) if source.random() < 0.9 else source.choice(
+        ["0", "04", "4294967296", "-1", "+4", "4k", "", "99999999999", "\u0664", "12a"])
+    kind = source.choice(["b128", "b256", "b512", "b512", source.choice(["s256", "b0"])])
+    return [command, kind, word, *bracketed(source, "b", ("salt", "persona"))], message
+
+
+CASES = {"sum": sum_case, "steps": sum_case, "script": script_case, "witness": witness_case, "tree": tree_case}
+
+
+def unreadable():
+    """Represents an input whose reads fail."""
+    raise IsADirectoryError
+
+
+def outcome(path, words, message):
+    """The status and the output of the program; None is an input whose reads fail."""
+    if message is not None:
+        done = subprocess.run([path, *words], input=message, stdout=subprocess.PIPE)
+        return done.returncode, done.stdout
+    folder = os.open(TOP, os.O_RDONLY)
+    try:
+        done = subprocess.run([path, *words], stdin=folder, stdout=subprocess.PIPE)
+    finally:
+        os.close(folder)
+    return done.returncode, done.stdout
+
+
+def of_hashlib(words, message):
+    """The line that `sum` or `tree` prints with these words, which are right, by hashlib."""
+    words = [word.decode() for word in words]
+    given = {name: bytes.fromhex(digits) for name, digits in (word.split("=") for word in words if "=" in word)}
+    named = {"salt": given.get("salt", b""), "person": given.get("persona", b""), "digest_size": KINDS[words[1]][1]}
+    if words[0] == "tree":
+        return tree_root(message, int(words[2]), **named).hex()
+    return FUNCTIONS[words[1][0]](message, key=given.get("key", b""), **named).hexdigest()
+
+
+def worked():
+    """The worked examples of the page: where each is, and whether program, hashlib and page agree."""
+    page = " ".join(read_file("docs/SPECIFICATION.md").split())
+    digest = {kind: run([b"sum", kind], lambda: b"abc")[1].decode().strip() for kind in (b"b512", b"s256")}
+    yield "abc of BLAKE2b", digest[b"b512"] == hashlib.blake2b(b"abc").hexdigest() and digest[b"b512"] in page
+    yield "abc of BLAKE2s", digest[b"s256"] == hashlib.blake2s(b"abc").hexdigest() and digest[b"s256"] in page
+    key, persona = bytes(range(32)), b"personal"
+    keyed = run([b"sum", b"s256", b"key=" + key.hex().encode(), b"persona=" + persona.hex().encode()], lambda: b"")
+    yield "keyed", keyed[1].decode().strip() == hashlib.blake2s(key=key, person=persona).hexdigest() and (
+        keyed[1].decode().strip() in page)
+    given = Input(b"", place=Place(0, 2, 4096, 3, 0, 64))
+    found = parameter_words(B, 64, given)
+    yield "words of a place, BLAKE2b", found == [0x0000100002000040, 3, 0x4000, 0, 0, 0, 0, 0] and (
+        "0000100002000040, 3, 4000 and five zeros" in page)
+    given = Input(b"", place=Place(2, 3, 7, 2**32 + 5, 1, 32))
+    yield "words of a place, BLAKE2s", parameter_words(S, 32, given) == [0x03020020, 7, 5, 0x20010001, 0, 0, 0, 0] and (
+        "03020020, 7, 5, 20010001 and four zeros" in page)
+    listed = [entry[1] for entry in entries(B, Input(b"*" * 200, key=b"\1"))]
+    yield "counters", listed == [128, 256, 328] and "the counters 128, 256, 328" in page
+    first = int.from_bytes(hashlib.blake2b(b"abc").digest()[:8], "little")
+    yield "compression", f"the first word of the result is {first:016x}" in page
+    for words, fault in (("sum b512 key= foo", "wrong words"), ("sum b512 salt=1 foo", "wrong hex"),
+                         ("sum b512 key=", "wrong length")):
+        answer = run(words.encode().split(), lambda: b"")
+        yield "fault of " + words, answer == (2, f"b2: {fault}\n".encode()) and f"`{words}`" in page
+    root = run([b"tree", b"b512", b"4"], lambda: b"abcde")[1].decode().strip()
+    yield "root", root[:64] in page and root[64:] in page and root == tree_root(b"abcde", 4).hex()
+    pair = run([b"witness", b"b0", b"61", b"62"], None)[1].decode()
+    yield "witness", pair.count("\n") == 2 and pair.count("s 6a09e667f2bdc908 ") == 2 and "6a09e667f2bdc908" in page
+    slots = run([b"script", b"s256"], lambda: b"u 0 6162\nc 0\nu 0 63\nf 0")
+    yield "script", slots == (0, digest[b"s256"].encode() + b"\n") and "`u 0 6162`, `c 0`, `u 0 63`, `f 0`" in page
+    words, listed = parameter_words(B, 64, Input(b"")), entries(B, Input(b"*" * 129))
+    yield "the reader's words", words == [0x01010040] + [0] * 7 and "0000000001010040 and seven zeros" in page
+    yield "the reader takes", read(B, words, listed) == (64, Input(b"*" * 129, None, bytes(16), bytes(16)))
+    first, last = listed
+    for name, other in (("a byte behind the data", [first, (b"*\1" + bytes(126), *last[1:])]),
+                        ("a last counter of 127", [first, (last[0], 127, *last[2:])]),
+                        ("a last counter of 128", [first, (last[0], 128, *last[2:])]),
+                        ("two final flags", [(*first[:2], True, False), last])):
+        yield "the reader refuses " + name, read(B, words, other) is None
+
+
+def examples():
+    """The words and the input of each example of README.md and docs/PROGRAM.md that runs `./b2`, and its line."""
+    for page in ("README.md", "docs/PROGRAM.md"):
+        form = r"^    ((?:printf (\S+|'[^']*') \| )?\./b2 (?!--)([^#\n]*[a-z0-9]))  +#"
+        found = re.findall(form, read_file(page), re.M)
+        if not found:
+            yield f"{page}: no example", [], b""
+        for line, given, words in found:
+            message = shlex.split(given)[0].encode().decode("unicode_escape").encode() if given else b""
+            yield f"{page}: {line}", [word.encode() for word in shlex.split(words)], message
+
+
+def compare(path, source, command, cases):
+    """Runs these cases of a command, of which some have to succeed and some to fail."""
+    wrong, statuses = [], set()
+    for number in range(cases):
+        words, message = CASES[command](source, command)
+        words = spoiled(source, words)
+        message = None if source.random() < 0.02 else message
+        wanted = run(words, unreadable if message is None else lambda: message)
+        found = outcome(path, words, message)
+        if command in ("sum", "tree") and wanted[0] == 0:
+            wanted = 0, of_hashlib(words, message).encode() + b"\n"
+        if found != wanted:
+            wrong.append(f"case {number}: b2 {words} over {message!r}\ngave {found}\nwanted {wanted}")
+        statuses.add(wanted[0])
+    tap.result(not wrong and len(statuses) > 1, f"{cases} cases of {command}", "\n".join(wrong))
+
+
+def main():
+    """Runs all cases."""
+    parser = Parser(description=__doc__.split("\n\n")[0])
+    parser.add_argument("--program", type=program, required=True, help="the program")
+    parser.add_argument("--cases", type=at_least(1), default=300, help="how many runs of each command (300)")
+    parser.add_argument("--seed", type=at_least(0), default=7693, help="of the random inputs (7693)")
+    given = parser.parse_args()
+    for name, is_right in worked():
+        tap.result(is_right, f"worked value: {name}")
+    for line, words, message in examples():
+        wanted = run(words, lambda: message)
+        tap.result(wanted[0] == 0 and outcome(given.program, words, message) == wanted, line)
+    source = random.Random(given.seed)
+    for command in CASES:
+        compare(given.program, source, command, given.cases)
+    tap.finish()
+
+
+if __name__ == "__main__":
+    main()

@@ -1,0 +1,98 @@
+# What the scripts of tests share; a script reads it by `source`. It sets `top` to the folder of the
+# repository and `work` to one for temporary files, which is removed at the end. The functions print
+# the Test Anything Protocol, which `prove` reads.
+top=$(dirname "$(dirname "$(readlink -f "${BASH_SOURCE[0]}")")")
+work=$(mktemp -d)
+trap 'rm -rf "$work"' EXIT
+ended=0 failed=0
+
+# The files that show, besides what a failed test printed, why it failed.
+shown=()
+
+has() { command -v "$1" >/dev/null 2>&1; }
+
+# Prints the line of the next test: RESULT NAME [WHY IT IS SKIPPED]
+result() {
+    [ "$ended" -gt 0 ] || echo "TAP version 13"
+    ended=$((ended + 1))
+    echo "$1 $ended - ${2//#/\\#}${3:+ # SKIP $3}"
+}
+
+pass() { result ok "$1"; }
+
+# A test that can't be made here: NAME WHY.
+skip() { result ok "$1" "$2"; }
+
+# A failed test of this name, with the end of these files.
+fail() {
+    result "not ok" "$1"
+    failed=$((failed + 1))
+    [ $# -eq 1 ] || tail -n 40 "${@:2}" 2>&1 | sed 's/^/#     /'
+}
+
+# Runs the command in a subshell, as a test of this name.
+check() {
+    if ("${@:2}") >"$work/log" 2>&1; then
+        pass "$1"
+    else
+        fail "$1" "$work/log" "${shown[@]}"
+        return 1
+    fi
+}
+
+# The same for a test that takes long and rarely fails alone: only if VULFSJOR_TEST_HUGE is set.
+check_huge() {
+    if [ -n "${VULFSJOR_TEST_HUGE-}" ]; then
+        check "$@"
+    else
+        skip "$1" "VULFSJOR_TEST_HUGE is not set"
+    fi
+}
+
+# Prints the plan and ends the script, with status 1 if a test failed.
+finish() {
+    [ "$ended" -gt 0 ] || echo "TAP version 13"
+    echo "1..$ended"
+    exit $((failed > 0))
+}
+
+# The version, which is at the top of CHANGELOG.md, with this character for its dots.
+version() {
+    sed -nE '/^## [0-9.]+/{s/^## ([0-9.]+).*/\1/p;q}' "$top/CHANGELOG.md" | tr . "${1:-.}"
+}
+
+# The block of a page in this language: PAGE LANGUAGE.
+block_of() { sed -n "/^\`\`\`$2\$/,/^\`\`\`\$/p" "$top/$1" | sed '1d;$d'; }
+
+# The name of `main` in a file of the program in dist/, and the program from it: FILE PROGRAM
+# [ARGUMENTS FOR THE COMPILER..]
+main_of() { sed -n 's/^\t\.globl\t\(main_.*\)/\1/p' "$1"; }
+assemble() { cc -O2 "-DMAIN=$(main_of "$1")" -o "$2" "$top/c/b2.c" "$1" "${@:3}"; }
+
+# The programs of dist/ that this processor runs, newest first, as files in `work`.
+assemble_all() {
+    case $("$top/tools/processor.sh") in
+        aarch64) assemble "$top/dist/aarch64/b2.s" "$work/b2" ;;
+        x86-64-v2) assemble "$top/dist/x86_64/b2-v2.s" "$work/b2" ;;
+        *)
+            assemble "$top/dist/x86_64/b2-v3.s" "$work/b2" &&
+                assemble "$top/dist/x86_64/b2-v2.s" "$work/b2-v2"
+            ;;
+    esac
+}
+
+# The lines of b2sum for these files, by hashlib.
+sums_by_hashlib() {
+    python3 -c 'import hashlib, sys
+for name in sys.argv[1:]:
+    print(hashlib.blake2b(open(name, "rb").read()).hexdigest(), "", name)' "$@"
+}
+
+# The same with the roots of trees with leaves of a number of bytes: LEAF FILE.. A file may be `-`.
+roots_by_hashlib() {
+    PYTHONPATH=$top/tests python3 -c 'import sys
+from oracle import tree_root
+for name in sys.argv[2:]:
+    with open("/dev/stdin" if name == "-" else name, "rb") as file:
+        print(tree_root(file.read(), int(sys.argv[1]), 64).hex(), "", name)' "$@"
+}

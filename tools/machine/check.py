@@ -1,0 +1,221 @@
+#!/usr/bin/env python3
+"""Shows, for the code in dist/ and the module in js/src/wasm.js, that each function that compresses
+computes F of RFC 7693 (section 3.2) for all inputs, in constant time. Prints TAP; the status is 1
+if something failed. docs/MACHINE.md says what is shown and how to read the output.
+
+    tools/machine/check.py            the proofs, the rules of terms, and instructions on the
+                                      processor
+    tools/machine/check.py --long     also more runs of each instruction, whole functions against
+                                      hashlib, and the changes that must be refused; the same as
+                                      VULFSJOR_TEST_HUGE=1
+    tools/machine/check.py FILE..     only the proofs of these files, by their paths from the root
+
+Needs Python, a C compiler, ld and objdump; for ARM aarch64-linux-gnu-gcc and binutils, and
+qemu-aarch64 to run instructions; python3-z3 for the rules; node to run those of WebAssembly. What
+is missing is skipped.
+"""
+
+import multiprocessing
+import os
+import shutil
+import subprocess
+import sys
+
+import check_functions
+import check_instructions
+import compression
+import functions
+import mutations
+import program as programs
+import terms as T
+import wasm_instructions
+import wiping
+
+HUGE = "VULFSJOR_TEST_HUGE"
+HERE = os.path.dirname(os.path.abspath(__file__))
+FAMILIES = {"blake2b": "BLAKE2b", "blake2s": "BLAKE2s"}
+
+
+def missing(path):
+    """Which tool is missing for a file, or None."""
+    compiler, prefix, _ = programs.TOOLS.get(functions.architecture(path), ([], None, []))
+    needed = compiler[:1] + ([prefix + "ld", prefix + "objdump"] if compiler else [])
+    return next((tool for tool in needed if not shutil.which(tool)), None)
+
+
+def prove(path, entry):
+    """The claim for one function of a file."""
+    name, kind, is_many = entry
+    count = "%d messages" % kind.lanes if is_many else "one message"
+    title = "%s: F of %s, %s" % (path, FAMILIES[kind.name], count)
+    if missing(path):
+        return [("skip", title, "no " + missing(path))]
+    try:
+        program = programs.Program(path)
+        runner, seconds = compression.show(program, functions.in_file(path, name), kind, is_many)
+    except T.IsWrong as e:
+        return [("not ok", title, "is wrong: %s" % e)]
+    except (T.CannotShow, programs.NotAssembled) as e:
+        return [("not ok", title, "cannot show: %s" % e)]
+    return [("ok", title, "%d instructions, %d executed on %d paths, %d branches and %d addresses "
+             "without a secret, %.1f s" % (len(runner.code), runner.count, runner.paths,
+                                           runner.branches, runner.addresses, seconds))]
+
+
+def search(path):
+    """Whether a file has a copy of the rounds outside of its list of functions."""
+    title = "%s: no other function has a copy of the rounds" % path
+    if missing(path):
+        return [("skip", title, "no " + missing(path))]
+    found = functions.unlisted(programs.Program(path))
+    why = "%s: rotates words as G does: add it to FILES in tools/machine/functions.py"
+    return [("not ok", title, why % ", ".join(found)) if found else ("ok", title, "")]
+
+
+def instructions(path):
+    """The models of the instructions of a file, against the processor."""
+    title = "%s: the models of instructions agree with the processor" % path
+    kind, rounds = functions.architecture(path), 20 if HUGE in os.environ else 4
+    runner = {"aarch64": "qemu-aarch64", "x86_64": "cc", "wasm": "node"}[kind]
+    missed = missing(path) or (None if shutil.which(runner) else runner)
+    if missed is None and kind == "x86_64" and not has_avx2():
+        missed = "AVX2"
+    if missed:
+        return [("skip", title, "no " + missed)]
+    check = wasm_instructions.check if kind == "wasm" else check_instructions.check
+    verdict, why = check(path, rounds)
+    return [(verdict, title, why)]
+
+
+def has_avx2():
+    """Whether this processor has AVX2."""
+    with open("/proc/cpuinfo") as f:
+        return "avx2" in f.read()
+
+
+def whole(path):
+    """Whole functions of a file in the model, against hashlib."""
+    title = "%s: whole functions in the model agree with hashlib" % path
+    if missing(path):
+        return [("skip", title, "no " + missing(path))]
+    verdict, why = check_functions.check(path, 5)
+    return [(verdict, title, why)]
+
+
+def scrub(path):
+    """That each scrub_stack of a file overwrites its bytes."""
+    title = "%s: scrub_stack overwrites its bytes" % path
+    if missing(path):
+        return [("skip", title, "no " + missing(path))]
+    program = programs.Program(path)
+    found = wiping.names(program)
+    try:
+        for name, count in found.items():
+            wiping.show(program, name, count)
+    except T.Refused as e:
+        kind = "is wrong" if isinstance(e, T.IsWrong) else "cannot show"
+        return [("not ok", title, "%s: %s: %s" % (kind, name, e))]
+    if not found:
+        return [("not ok", title, "cannot show: there is no such function: see functions.py")]
+    return [("ok", title, "of %s bytes" % ", ".join(map(str, sorted(found.values()))))]
+
+
+def rules(width):
+    """The rules of terms.py, in a process of a Python that has z3."""
+    for python in (sys.executable, "/usr/bin/python3"):
+        if subprocess.run([python, "-c", "import z3"], stderr=subprocess.DEVNULL).returncode == 0:
+            break
+    else:
+        return [("skip", "the rules of terms at %d bits" % width, "no python3-z3")]
+    command = [python, os.path.join(HERE, "check_terms.py"), str(width)]
+    run = subprocess.run(command, stdout=subprocess.PIPE, text=True)
+    found = []
+    for line in run.stdout.splitlines():
+        good = line.startswith("ok ")
+        name, _, why = line.partition("ok ")[2].partition(": ")
+        found.append(("ok" if good else "not ok", name, why))
+    if run.returncode or not found:
+        found.append(("not ok", "the rules of terms at %d bits" % width, "check_terms.py ended"))
+    return found
+
+
+def jobs(arguments):
+    """The jobs, as a function and its arguments: the long ones first."""
+    chosen = arguments or list(functions.FILES)
+    found = [(prove, (path, entry)) for path in chosen
+             for entry in sorted(functions.FILES[path], key=lambda e: not e[2])]
+    found += [(search, (path,)) for path in chosen]
+    found += [(scrub, (path,)) for path in chosen if functions.FILES[path] is functions.LIBRARY
+              and functions.architecture(path) != "wasm"]
+    if not arguments:
+        found[:0] = [(rules, (width,)) for width in (64, 32, 16, 8)]
+        found += [(instructions, (path,)) for path in functions.FILES
+                  if not path.rpartition("/")[2].startswith("b2")]
+        found += [(planted, (change,)) for change in mutations.OF_THE_TOOL]
+    if not arguments and HUGE in os.environ:
+        found += [(whole, (path,)) for path in functions.FILES]
+        found += [(refuse, line) for line in mutations.table()]
+    return found
+
+
+def planted(change):
+    """A change of the tool, which its tests must notice in the code for ARM."""
+    gone = missing(mutations.SHORT["arm"])
+    title = "the tool itself: %s" % change.__name__.replace("_", " ")
+    return [("skip", title, "no " + gone)] if gone else change()
+
+
+def refuse(*line):
+    """A line of mutations.txt."""
+    path = mutations.SHORT[line[0]]
+    if missing(path):
+        return [("skip", "refused: %s: %s" % (path, line[3]), "no " + missing(path))]
+    return mutations.refuse(*line)
+
+
+def run(job):
+    """The results of a job. What no one has foreseen is a failure too."""
+    f, arguments = job
+    try:
+        return f(*arguments)
+    except Exception as e:
+        title = "%s of %s" % (f.__name__, " ".join(map(str, arguments)))
+        return [("not ok", title, "cannot show: %s: %s" % (type(e).__name__, e))]
+
+
+def report(results):
+    """Prints results as TAP. Returns whether none has failed."""
+    count = failed = 0
+    for verdict, title, why in results:
+        count += 1
+        failed += verdict == "not ok"
+        if verdict == "skip":
+            print("ok %d - %s # SKIP %s" % (count, title, why), flush=True)
+        else:
+            print("%s %d - %s" % (verdict, count, title), flush=True)
+            if why:
+                print("# " + why, flush=True)
+    print("1..%d" % count)
+    return count > 0 and not failed
+
+
+def main(arguments):
+    if set(arguments) & {"-h", "--help"}:
+        print(__doc__.strip())
+        return 0
+    if arguments == ["--long"]:
+        os.environ[HUGE] = "1"
+        arguments = []
+    if os.environ.get(HUGE) != "1":
+        os.environ.pop(HUGE, None)
+    unknown = [a for a in arguments if a not in functions.FILES]
+    if unknown:
+        print("check.py: there is no list of functions for %s" % unknown[0], file=sys.stderr)
+        return 2
+    with multiprocessing.Pool() as pool:
+        found = (r for results in pool.imap(run, jobs(arguments), chunksize=1) for r in results)
+        return 0 if report(found) else 1
+
+
+if __name__ == "__main__":
+    sys.exit(main(sys.argv[1:]))

@@ -1,0 +1,72 @@
+"""Executes whole functions in the model over numbers, and compares digests with hashlib: messages
+of one block with random lengths, and both values of the flag of the last node."""
+
+import hashlib
+import random
+
+import compression
+import functions
+import terms as T
+from program import Program
+
+
+def numbers_of(call, texts, size):
+    """The numbers of a call's variables for messages of one block."""
+    kind, n = call.kind, call.kind.bytes
+    found = {call.counter: T.const(64, size)}
+    for j, text in enumerate(texts):
+        h = [kind.iv[0] ^ 0x01010000 ^ 8 * n] + kind.iv[1:]
+        block = text.ljust(kind.block, b"\0")
+        for k in range(8):
+            found[call.words[j][k]] = T.const(kind.w, h[k])
+        for k in range(16):
+            word = int.from_bytes(block[k * n:(k + 1) * n], "little")
+            found[call.message[j][k]] = T.const(kind.w, word)
+        found[call.lengths[j]] = T.const(64, 1)
+    return found
+
+
+def concrete(call, numbers):
+    """Puts the numbers into the memory and the registers of a call."""
+    memo = {}
+
+    def byte(b):
+        return b if isinstance(b, int) else T.split(T.substitute(b[0], numbers, memo))[b[1]]
+
+    for region in call.regions.values():
+        region.initial = lambda k, initial=region.initial: byte(initial(k))
+    for name in call.machine.FILES:
+        for register in getattr(call.machine, name):
+            register[:] = [byte(b) for b in register]
+
+
+def digests(program, entry, rng):
+    """The digests of random messages by the model, and those of hashlib."""
+    name, kind, is_many = entry
+    name = functions.in_file(program.path, name)
+    T.reset()
+    lanes = kind.lanes if is_many else 1
+    size = rng.randrange(1, kind.block + 1)
+    texts = [rng.randbytes(size) for _ in range(lanes)]
+    nodes = [bool(rng.randrange(2)) for _ in range(lanes)]
+    assumed = {"last%d" % j: True for j in range(lanes)}
+    assumed.update({"node%d" % j: node for j, node in enumerate(nodes)})
+    call = compression.Call(program, name, kind, is_many, assumed)
+    concrete(call, numbers_of(call, texts, size))
+    compression.Runner(program.code(name)).run(call.machine)
+    found = [b"".join(bytes(T.split(call.result(call.machine, j, k))) for k in range(8))
+             for j in range(lanes)]
+    hash_of = getattr(hashlib, kind.name)
+    return found, [hash_of(t, last_node=node).digest() for t, node in zip(texts, nodes)]
+
+
+def check(path, count):
+    """Whether the model of each function of a file agrees with hashlib, in `count` runs."""
+    program, rng, total = Program(path), random.Random(2), 0
+    for entry in functions.FILES[path]:
+        for _ in range(count):
+            found, wanted = digests(program, entry, rng)
+            total += len(wanted)
+            if found != wanted:
+                return "not ok", "%s: the digest is not that of hashlib" % entry[0]
+    return "ok", "%d digests" % total

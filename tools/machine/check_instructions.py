@@ -1,0 +1,245 @@
+"""Runs each form of instruction of the compression functions on the processor (for ARM in
+qemu-aarch64), over random registers and memory, and compares with the model. Zero flags, addresses
+with an index, and jumps have runs of their own. wasm_instructions.py does it for WebAssembly."""
+
+import os
+import random
+import re
+import struct
+import subprocess
+import tempfile
+
+import functions
+import terms as T
+import x86
+from machine import Region
+from program import Program, TOOLS
+
+BUFFER = 4096                          # bytes on each side of the base of an access
+SKIPPED = {"push", "pop", "ret", "jmp", "je", "jne", "nop", "adrp", "cbz", "cbnz", "b.ne", "b.eq",
+           "b"}                        # push to adrp are part of whole functions only
+SETS_FLAGS = ("add", "sub", "dec", "xor", "test", "shr", "subs", "tst")
+C = """
+#include <stdint.h>
+#include <stdio.h>
+struct state { uint64_t general[32]; uint8_t vector[512]; uint8_t zero; uint8_t rest[63];
+               uint8_t memory[%d]; };
+static struct state s __attribute__((aligned(64)));
+extern void (*const tests[])(struct state *);
+extern const uint8_t bases[];
+int main(void) {
+    uint32_t k;
+    while (fread(&k, 4, 1, stdin) == 1 && fread(&s, sizeof s, 1, stdin) == 1) {
+        uint64_t base = (uint64_t)(s.memory + %d);
+        s.general[bases[k]] = base;
+        tests[k](&s);
+        s.general[31] = base;
+        fwrite(&s, sizeof s, 1, stdout);
+    }
+    return 0;
+}
+""" % (2 * BUFFER, BUFFER)
+MEMORY = 256 + 512 + 64
+SIZE = MEMORY + 2 * BUFFER
+NAMES = "rax rcx rdx rbx rsp rbp rsi rdi r8 r9 r10 r11 r12 r13 r14 r15".split()
+EXTRA = {
+    # Jumps write 1 or 0 to a register. Indices are small, since r12 and r13 hold them.
+    "x86_64": [("mov r12d,1; %s 1f; mov r12d,0; 1:" % j, 15) for j in ("je", "jne", "jmp")] + [
+        ("mov %s,%sWORD PTR [r15+r12*%d%+d]" % (r, w, scale, offset), 15)
+        for r, w in (("rax", "Q"), ("ecx", "D")) for scale in (1, 2, 4, 8)
+        for offset in (0, 24, -8)] + [("lea rax,[r15+r13*4+0x8]", 15), ("lea rdx,[r15+r12*1]", 15)],
+    "aarch64": [("mov x27, #1; %s 1f; mov x27, #0; 1:" % j, 28) for j in (
+        "b.eq", "b.ne", "b", "cbz x9,", "cbnz x9,", "cbz w9,")],
+}
+
+
+def form(kind, i):
+    """The instruction without the numbers of its registers and without its addresses."""
+    text = i.text.partition("#" if kind == "x86_64" else "//")[0].strip()
+    if i.name in SKIPPED:
+        return None
+    if kind == "aarch64":
+        text = re.sub(r"\b([xwvqsd])\d+\b", r"\1", text)
+        text = re.sub(r" \[(\w+)", " [base", text)
+        return re.sub(r"(base, #)-?\w+", r"\1n", text)
+    if i.name == "lea":
+        return re.sub(r"\br\w+\b", "r", text)
+    text = re.sub(r"\b([xy]mm)\d+", r"\1", re.sub(r"\[.*\]", "[]", text))
+    size = lambda m: x86.GENERAL.get(m[0], (0, 0))[1]
+    return re.sub(r"\b\w+\b", lambda m: "g%d" % size(m) if size(m) else m[0], text)
+
+
+def rewritten(kind, i):
+    """An instruction over a base register of its own for memory: its text, and the register."""
+    if kind == "aarch64":
+        text = i.text.partition("//")[0].strip().replace("\t", " ")
+        m = re.search(r" \[(\w+)", text)
+        used = {int(n) for n in re.findall(r"\b[xw](\d+)\b", text)}
+        base = next(n for n in (28, 27, 26, 25) if n not in used)
+        if m:
+            return text.replace(" [" + m[1], " [x%d" % base), base
+        return re.sub(r"\bsp\b", "x%d" % base, text), base
+    text = i.text.partition("#")[0].strip()
+    if i.name == "lea":
+        return text.replace("rsp", "r11"), 14
+    base = 15 if not re.search(r"\br15", re.sub(r"\[.*\]", "", text)) else 13
+    text = re.sub(r"\[.*\]", "[%s]" % NAMES[base], text)
+    return re.sub(r"\brsp\b", "r14", text), base
+
+
+def x86_test(k, text):
+    """A function that loads all registers, runs an instruction, and stores them."""
+    saved = "rbx rbp r12 r13 r14 r15".split()
+    others = [(j, n) for j, n in enumerate(NAMES) if n not in ("rax", "rsp")]
+    out = ["t%d:" % k] + ["push " + r for r in saved] + ["push rdi", "mov rax, rdi"]
+    out += ["vmovdqu ymm%d, [rax+%d]" % (j, 256 + 32 * j) for j in range(16)]
+    out += ["cmp byte ptr [rax+768], 0"] + ["mov %s, [rax+%d]" % (n, 8 * j) for j, n in others]
+    out += ["mov rax, [rax]", text, "push rax", "mov rax, [rsp+8]", "setz byte ptr [rax+768]"]
+    out += ["mov [rax+%d], %s" % (8 * j, n) for j, n in others] + ["pop rbx", "mov [rax], rbx"]
+    out += ["vmovdqu [rax+%d], ymm%d" % (256 + 32 * j, j) for j in range(16)]
+    return out + ["vzeroupper", "pop rdi"] + ["pop " + r for r in reversed(saved)] + ["ret"]
+
+
+def arm_test(k, text):
+    """The same for ARM."""
+    saved = ["p x%d, x%d, [sp, #%d]" % (19 + 2 * j, 20 + 2 * j, 16 * j) for j in range(6)]
+    saved += ["p d%d, d%d, [sp, #%d]" % (8 + 2 * j, 9 + 2 * j, 96 + 16 * j) for j in range(4)]
+    vectors = ["r q%d, [x1, #%d]" % (j, 16 * j) for j in range(32)]
+    out = ["t%d:" % k, "sub sp, sp, #192"] + ["st" + s for s in saved]
+    out += ["str x0, [sp, #160]", "add x1, x0, #256"] + ["ld" + v for v in vectors]
+    out += ["ldrb w1, [x0, #768]", "cmp w1, #0"]
+    out += ["ldr x%d, [x0, #%d]" % (j, 8 * j) for j in range(30, -1, -1)]
+    out += [text, "str x0, [sp, #168]", "ldr x0, [sp, #160]"]
+    out += ["str x%d, [x0, #%d]" % (j, 8 * j) for j in range(1, 31)]
+    out += ["ldr x1, [sp, #168]", "str x1, [x0]", "cset w1, eq", "strb w1, [x0, #768]"]
+    out += ["add x1, x0, #256"] + ["st" + v for v in vectors] + ["ld" + s for s in saved]
+    return out + ["add sp, sp, #192", "ret"]
+
+
+def assembly(kind, tests):
+    """The text of all tests, a table of them, and one of their base registers."""
+    out = [".intel_syntax noprefix"] * (kind == "x86_64") + [".text"]
+    for k, (text, _) in enumerate(tests):
+        out += (x86_test if kind == "x86_64" else arm_test)(k, text)
+    out += [".section .data.rel.ro,\"aw\"", ".balign 8", ".globl tests", "tests:"]
+    out += [".8byte t%d" % k for k in range(len(tests))]
+    out += [".section .rodata", ".globl bases", "bases:"] + [".byte %d" % b for _, b in tests]
+    return "\n".join(out + ['.section .note.GNU-stack,"",%progbits', ""])
+
+
+def model(program, text, base, data):
+    """The machine after an instruction in the model."""
+    buf = T.var(64, "buffer", T.PUBLIC)
+    initial = data[MEMORY:]
+    span = (-BUFFER, BUFFER)
+    regions = {buf: Region(*span, lambda k: initial[k + BUFFER], span, (64, 0))}
+    m = program.model.Model(regions, {})
+    general = struct.unpack_from("<32Q", data)
+    for j in range(len(m.general)):
+        m.general[j] = T.split(T.const(64, general[j]))
+    m.general[base] = T.split(buf)
+    size = len(m.vector[0])
+    for j in range(len(m.vector)):
+        m.vector[j] = list(data[256 + size * j:256 + size * (j + 1)])
+    m.zero = T.const(8, data[768])
+    jump = re.search(r"; (\S+) ?(.*?),? ?1f; mov (\w)(\d+)", text)
+    if jump:
+        text = "%s %s" % (jump[1], (jump[2] + ", " if jump[2] else "") + "10 <there>")
+    if program.kind == "aarch64":
+        text = text.replace(" ", "\t", 1)
+    i = program.model.Instruction(0, text)
+    i.next = 4
+    found = m.step(i)
+    if jump:
+        m.general[int(jump[4])] = T.split(T.const(64, int(found == 16)))
+    return m, buf
+
+
+def difference(program, m, buf, before, after):
+    """What differs between the model and the processor, or None."""
+    general = struct.unpack_from("<32Q", after)
+    numbers = {buf: T.const(64, general[31])}
+    is_x86 = program.kind == "x86_64"
+    for j in range(16 if is_x86 else 31):
+        t = T.substitute(T.word(m.general[j]), numbers, {})
+        if not (is_x86 and j == x86.RSP) and t is not T.const(64, general[j]):
+            return "register %d is %#x, not %r" % (j, general[j], t)
+    size = len(m.vector[0])
+    for j, v in enumerate(m.vector):
+        if v != list(after[256 + size * j:256 + size * (j + 1)]):
+            return "vector register %d differs" % j
+    if m.zero is not None:
+        zero = T.substitute(m.zero, numbers, {})
+        if (zero.op == "const" and zero.args == 0) != bool(after[768]):
+            return "the zero flag is %d" % after[768]
+    for k in range(2 * BUFFER):
+        if m.memory.get((buf, k - BUFFER), before[MEMORY + k]) != after[MEMORY + k]:
+            return "the memory at %d differs" % (k - BUFFER)
+    return None
+
+
+def state(rng, text, is_plain):
+    """Random registers and memory; or such that results are often zero."""
+    data = bytearray(rng.randbytes(SIZE))
+    data[768] = rng.randrange(2)
+    if is_plain:
+        return data
+    numbers = [int(n, 0) for n in re.findall(r"(?<!\w)(?:0x[0-9a-f]+|\d+)(?!\w)", text)] or [1]
+    value = rng.choice([0, 1, numbers[-1], -numbers[-1]]) & (1 << 64) - 1
+    data[:256] = value.to_bytes(8, "little") * 32
+    data[MEMORY:] = bytes([rng.choice((0, 1, 2))]) * (2 * BUFFER)
+    return data
+
+
+def chosen(program, entries, rng, count):
+    """Up to `count` instructions of each form, as (text, base register)."""
+    found = {}
+    for name, _, _ in entries:
+        for i in program.code(functions.in_file(program.path, name)):
+            f = form(program.kind, i)
+            if f is not None:
+                found.setdefault(f, set()).add(rewritten(program.kind, i))
+    tests = [t for f in sorted(found)
+             for t in rng.sample(sorted(found[f]), min(count, len(found[f])))]
+    return len(found), tests + EXTRA[program.kind]
+
+
+def execute(kind, tests, inputs):
+    """The states after the tests, on the processor."""
+    with tempfile.TemporaryDirectory() as d:
+        c, s, exe = (os.path.join(d, n) for n in ("a.c", "b.s", "a"))
+        for path, text in ((c, C), (s, assembly(kind, tests))):
+            with open(path, "w") as f:
+                f.write(text)
+        static = ["-static"] * (kind == "aarch64")
+        subprocess.run(TOOLS[kind][0] + static + ["-O1", "-o", exe, c, s], check=True)
+        data = b"".join(struct.pack("<I", k) + x for k, x in inputs)
+        out = subprocess.run(["qemu-aarch64"] * (kind == "aarch64") + [exe], input=data,
+                             stdout=subprocess.PIPE, check=True).stdout
+    return [out[SIZE * n:SIZE * (n + 1)] for n in range(len(inputs))]
+
+
+def check(path, rounds):
+    """Whether the model agrees with the processor: a verdict, and the numbers or what differs."""
+    program, rng = Program(path), random.Random(1)
+    forms, tests = chosen(program, functions.FILES[path], rng, 3 if rounds > 4 else 1)
+    inputs = []
+    for k, (text, _) in enumerate(tests):
+        for n in range(rounds + 6 * text.startswith(SETS_FLAGS)):
+            data = state(rng, text, n < rounds // 2 or not text.startswith(SETS_FLAGS))
+            if "r15+r1" in text:
+                data[96:112] = bytes([rng.randrange(64)] + [0] * 7) * 2
+            inputs.append((k, bytes(data)))
+    flags = {}
+    for n, ((k, before), after) in enumerate(zip(inputs, execute(program.kind, tests, inputs))):
+        if n % 1000 == 0:
+            T.reset()
+        m, buf = model(program, *tests[k], before)
+        wrong = difference(program, m, buf, before, after)
+        if wrong:
+            return "not ok", "%s: in the model %s" % (tests[k][0], wrong)
+        flags.setdefault(tests[k][0].split()[0], set()).add(after[768])
+    once = [name for name in SETS_FLAGS if flags.get(name, {0, 1}) != {0, 1}]
+    if once:
+        return "not ok", "the zero flag of %s was never seen both 0 and 1" % once[0]
+    return "ok", "%d forms, %d instructions, %d runs" % (forms, len(tests), len(inputs))

@@ -1,0 +1,371 @@
+"""Shows that a function computes F of RFC 7693 for all inputs, in constant time."""
+
+import time
+
+import rfc7693 as R
+import terms as T
+from machine import Fork, Region, image
+from terms import CannotShow, IsWrong
+
+STACK = 16384
+
+
+def memory_of_words(words):
+    """The bytes of a list of words, as a function of the offset."""
+    data = [b for t in words for b in T.split(t)]
+    return lambda k: data[k]
+
+
+def flag(name, assumed):
+    """The byte of a flag, which is 0 or 1."""
+    return int(assumed[name]) if name in assumed else (T.ite(8, name, 1, 0), 0)
+
+
+def mask(w, name, assumed):
+    """A word of ones if the flag is on, and otherwise of zeros."""
+    ones = (1 << w) - 1
+    if name in assumed:
+        return T.const(w, ones if assumed[name] else 0)
+    return T.ite(w, name, ones, 0)
+
+
+class Call:
+    """A call of a compression function: its variables, its memory, and what it must return."""
+
+    def __init__(self, program, name, kind, is_many, assumed):
+        self.program, self.kind, self.assumed = program, kind, assumed
+        self.lanes = lanes = kind.lanes if is_many else 1
+        w, n = kind.w, kind.bytes
+        public = lambda what: T.var(64, what, T.PUBLIC)
+        secret = lambda what, count: [[T.var(w, "%s%d.%d" % (what, j, k), T.SECRET)
+                                       for k in range(count)] for j in range(lanes)]
+        self.sp, self.h, self.counter, self.back = map(
+            public, ("sp", "h", "counter", "return address"))
+        self.words, self.chain, self.message = secret("h", 8), secret("H", 8), secret("m", 16)
+        self.blocks = [public("block%d" % j) for j in range(lanes)]
+        self.lengths = [public("length%d" % j) for j in range(lanes)]
+        rows = memory_of_words([self.words[j][k] for k in range(8) for j in range(lanes)])
+        self.regions = {
+            self.pointer(self.sp): self.stack(),
+            self.pointer(self.h): Region(0, 8 * n * lanes, rows, (0, 8 * n * lanes)),
+        }
+        if program.kind != "wasm":
+            self.regions[image()] = Region(0, 1 << 32, program.constant, None, (4096, 0))
+        self.machine = program.machine(name, self.regions, assumed)
+        arguments = self.arguments_of_many() if is_many else self.arguments_of_one()
+        self.at_block(0)
+        self.machine.start(self.sp, self.back, [self.h] + arguments)
+        self.saved = self.machine.saved()
+
+    def pointer(self, t):
+        """An address as the program's memory has it: in a memory of 32 bits, its low half."""
+        return T.word(T.split(t)[:self.program.width // 8])
+
+    def stack(self):
+        """The function's part of the stack. At the entry, sp + 8 is a multiple of 16 on x86-64,
+        where the return address lies above, and sp is one elsewhere."""
+        top = 8 if self.program.kind == "x86_64" else 0
+        back = T.split(self.back)
+        initial = lambda k: back[k] if 0 <= k < top else (T.var(8, "stack%d" % k, T.JUNK), 0)
+        return Region(-STACK, top, initial, (-STACK, 0), (16, top))
+
+    def arguments_of_one(self):
+        """The block, the counter and the flags, whose higher bytes are undefined."""
+        flags = []
+        for name in ("last0", "node0"):
+            rest = [(T.var(8, "%s.%d" % (name, k), T.JUNK), 0) for k in range(1, 8)]
+            flags.append(T.word([flag(name, self.assumed)] + rest))
+        return [self.blocks[0], self.counter] + flags
+
+    def arguments_of_many(self):
+        """The table of blocks (addresses and numbers), the counter, and the table of flags."""
+        table, flags = (T.var(64, name, T.PUBLIC) for name in ("blocks", "flags"))
+        pairs = [t for pair in zip(self.blocks, self.lengths) for t in pair]
+        bits = [flag("%s%d" % (name, j), self.assumed) for j in range(self.lanes)
+                for name in ("last", "node")]
+        self.regions[self.pointer(table)] = Region(0, 16 * self.lanes, memory_of_words(pairs))
+        self.regions[self.pointer(flags)] = Region(0, 2 * self.lanes, lambda k: bits[k])
+        return [table, self.counter, flags]
+
+    def at_block(self, i):
+        """Lets the memory of the blocks be that of block i, where i is a number or a term."""
+        self.regions = dict(self.regions)
+        self.machine.regions = self.regions
+        size = self.kind.block
+        step = T.const(64, i * size) if isinstance(i, int) else T.add(64, (size, i))
+        for j, p in enumerate(self.blocks):
+            self.regions.pop(self.pointer(p), None)
+            base = self.pointer(T.add(64, (1, p), (1, step)))
+            self.regions[base] = Region(0, size, memory_of_words(self.message[j]))
+
+    def expected(self, h, i=0):
+        """F of each message, at block i."""
+        w = self.kind.w
+        step = T.const(64, 0) if isinstance(i, int) else T.add(64, (self.kind.block, i))
+        counter = T.split(T.add(64, (1, self.counter), (1, step)))
+        low, high = T.word(counter[:w // 8]), T.word(counter[w // 8:] or [0] * 8)
+        return [R.F(self.kind, h[j], self.message[j], low, high,
+                    mask(w, "last%d" % j, self.assumed), mask(w, "node%d" % j, self.assumed))
+                for j in range(self.lanes)]
+
+    def result(self, machine, j, k):
+        """Chaining word k of message j in memory."""
+        n = self.kind.bytes
+        base = self.pointer(self.h)
+        offset = T.const(base.w, n * (k * self.lanes + j))
+        return T.word(machine.load(T.add(base.w, (1, base), (1, offset)), n))
+
+    def check_return(self, machine, wanted):
+        """The chaining words, the stack and the registers after a return."""
+        for k in range(8):
+            for j in range(self.lanes):
+                check_same("chaining word %d of message %d" % (k, j), self.result(machine, j, k),
+                           wanted[j][k])
+        machine.check_return(self.sp, self.back, self.saved)
+
+
+def check_same(what, found, wanted):
+    """Refuses a term that is not the one that is wanted."""
+    if found is wanted:
+        return
+    inputs = T.difference(found, wanted)
+    if inputs:
+        raise IsWrong("%s is not that of F: %s" % (what, inputs))
+    raise CannotShow("%s agrees with F for some inputs, but its term is %s, not %s: a rule may be "
+                     "missing in terms.py" % (what, T.show(found, 2), T.show(wanted, 2)))
+
+
+class Runner:
+    """Executes a function, and remembers which of its instructions were reached."""
+
+    def __init__(self, code):
+        self.code = {i.address: i for i in code}
+        self.first = code[0].address
+        self.count, self.paths, self.branches, self.addresses = 0, 0, 0, 0
+        self.at, self.visited = None, set()
+
+    def run(self, machine, pc=None, stop=None):
+        """Runs from an address to a return, or to the address `stop`. Returns where it stopped."""
+        pc = self.first if pc is None else pc
+        while True:
+            if pc not in self.code:
+                raise CannotShow("a jump leaves the function")
+            self.at = self.code[pc]
+            pc = machine.execute(self.at)
+            self.visited.add(self.at.address)
+            self.count += 1
+            if pc is None or pc == stop:
+                return pc
+            if self.count > 200000:
+                raise CannotShow("there is no end after 200,000 instructions")
+
+    def add(self, machine):
+        """Counts a path that a machine has taken."""
+        self.paths += 1
+        self.branches += machine.counts["branches"]
+        self.addresses += machine.counts["addresses"]
+
+    def check_all_reached(self, free):
+        """Refuses code that no path has reached, except no-ops."""
+        unseen = [i for i in self.code.values()
+                  if i.address not in self.visited and i.name not in free]
+        if unseen:
+            raise CannotShow("%d instructions were not reached, the first is %s" % (
+                len(unseen), unseen[0].text))
+
+
+def show_one(program, name, kind, runner):
+    """A function that compresses one block. Each flag on which it branches is tried both ways."""
+    waiting = [{}]
+    while waiting:
+        assumed = waiting.pop()
+        call = Call(program, name, kind, False, assumed)
+        try:
+            runner.run(call.machine)
+        except Fork as f:
+            if not isinstance(f.condition, str) or len(assumed) > 3:
+                raise CannotShow("there is a branch on %r" % (f.condition,))
+            waiting += [{**assumed, f.condition: on} for on in (True, False)]
+            continue
+        call.check_return(call.machine, call.expected(call.words))
+        runner.add(call.machine)
+
+
+class Loop:
+    """A function that compresses a number of blocks of each of several messages: a proof by
+    induction over the iterations of its only loop."""
+
+    def __init__(self, program, name, kind, runner):
+        self.runner, self.kind = runner, kind
+        heads = {i.target for i in runner.code.values()
+                 if i.target is not None and i.target <= i.address}
+        if len(heads) != 1:
+            raise CannotShow("the function has %d loops instead of one: if the compiler has split "
+                             "it, tools/machine/compression.py needs a proof for that" % len(heads))
+        self.head, = heads
+        self.count = T.var(64, "length0", T.PUBLIC)
+        self.none = Call(program, name, kind, True, {self.count: True})
+        for p in self.none.blocks:
+            del self.none.regions[self.none.pointer(p)]
+        self.call = Call(program, name, kind, True, {self.count: False})
+
+    def show(self):
+        """All of the proof."""
+        self.runner.run(self.none.machine)
+        self.none.check_return(self.none.machine, self.none.words)
+        self.runner.add(self.none.machine)
+        self.first = self.call.machine
+        if self.runner.run(self.first, None, self.head) is None:
+            raise IsWrong("a call with some blocks returns before the loop")
+        self.runner.add(self.first)
+        self.at_first = self.first.cells()
+        self.classify(self.iterate(self.first, False)[0].cells())
+        general, after, condition, wanted = self.invariant()
+        left = T.add(64, (1, self.count), (-1, self.i), (-1, T.const(64, 1)))
+        if condition not in (left, T.add(64, (-1, left))):
+            raise IsWrong("the loop ends if %r is 0, instead of %r" % (condition, left))
+        self.runner.add(after)
+        final, same = self.iterate(general, True)
+        if same is not condition:
+            raise CannotShow("the loop ends on two conditions")
+        self.call.check_return(final, wanted)
+        self.runner.add(final)
+
+    def initial(self, cell):
+        """A byte of a register or of memory when the loop is first reached."""
+        if cell in self.at_first:
+            return self.at_first[cell]
+        return self.call.regions[cell[1]].initial(cell[2])
+
+    def iterate(self, start, is_last):
+        """An iteration, after which the loop ends or goes on, and the term that is 0 if it ends."""
+        machine = start.copy()
+        machine.assumed = dict(machine.assumed)
+        try:
+            self.runner.run(machine, self.head, self.head)
+        except Fork as f:
+            condition = f.condition
+        else:
+            raise CannotShow("an iteration of the loop has no branch that may end it")
+        machine.assumed[condition] = is_last
+        try:
+            end = self.runner.run(machine, self.runner.at.address, self.head)
+        except Fork as f:
+            raise CannotShow("an iteration of the loop also branches on %r" % (f.condition,))
+        if (end is None) != is_last:
+            raise IsWrong("the loop %s although %r is %s" % (
+                "ends" if end is None else "goes on", condition, "0" if is_last else "not 0"))
+        return machine, condition
+
+    def group(self, cell):
+        """The bytes of the word that a byte belongs to."""
+        kind, at, k = cell
+        size = 8
+        if kind != "memory":
+            size = min(8, len(getattr(self.first, kind)[at]))
+        return tuple((kind, at, k - k % size + j) for j in range(size))
+
+    def classify(self, at_second):
+        """Finds what an iteration changes: words that grow by a constant, bytes of chaining words,
+        and the rest. What is found is only proposed: invariant() checks it."""
+        words = {t: (j, k) for j, row in enumerate(self.call.words) for k, t in enumerate(row)}
+        self.grows, self.chain, self.scratch = {}, {}, set()
+        second = lambda c: at_second[c] if c in at_second else self.initial(c)
+        cells = set(self.at_first) | set(at_second)
+        for c in sorted((c for c in cells if second(c) != self.initial(c)), key=str):
+            self.check_in_stack(c)
+            group = self.group(c)
+            a, b = (T.word([f(p) for p in group]) for f in (self.initial, second))
+            step = T.add(a.w, (1, b), (-1, a))
+            origin = self.initial(c)
+            if step.op == "const" and not a.taint & ~T.PUBLIC and len(group) >= 4:
+                self.grows[group] = (a, step.args)
+            elif isinstance(origin, tuple) and origin[0] in words:
+                self.chain[c] = words[origin[0]] + (origin[1],)
+            else:
+                self.scratch.add(c)
+
+    def check_in_stack(self, cell):
+        if cell[0] == "memory" and cell[1] is not self.call.pointer(self.call.sp):
+            raise IsWrong("the loop writes outside of the stack")
+
+    def grown(self, group, more):
+        """A word that grows, at the start of iteration i + more."""
+        a, step = self.grows[group]
+        i = T.word(T.split(self.i)[:a.w // 8])
+        return T.add(a.w, (1, a), (step, i), (1, T.const(a.w, step * more)))
+
+    def state(self):
+        """The bytes at the head of the loop in iteration i, by what was proposed."""
+        state = {c: self.initial(c) for c in set(self.at_first) | self.scratch | set(self.chain)}
+        state.update({c: (T.var(8, "scratch%s" % (c,), T.JUNK), 0) for c in self.scratch})
+        state.update({c: (self.call.chain[j][k], b) for c, (j, k, b) in self.chain.items()})
+        for group in self.grows:
+            state.update(zip(group, T.split(self.grown(group, 0))))
+        return state
+
+    def invariant(self):
+        """The machine at iteration i, after it, the condition of the end, and the chaining words
+        that the iteration must leave. Bytes that are not as proposed count as undefined in the
+        next attempt, and so may not be used."""
+        self.i = T.var(64, "i", T.PUBLIC)
+        self.call.at_block(self.i)
+        wanted = self.call.expected(self.call.chain, self.i)
+        for _ in range(20):
+            general = self.first.copy()
+            general.regions = self.call.regions
+            state = self.state()
+            general.set_cells(state)
+            after, condition = self.iterate(general, False)
+            wrong = self.wrong(state, after.cells(), wanted)
+            if not wrong:
+                return general, after, condition, wanted
+            self.scratch |= wrong
+            self.drop(wrong & set(self.chain), after.cells(), wanted)
+        raise CannotShow("no invariant of the loop is found")
+
+    def drop(self, cells, at_end, wanted):
+        """Takes bytes out of the chaining words, each of which another byte must still hold."""
+        dropped = {c: self.chain.pop(c) for c in cells}
+        kept = set(self.chain.values())
+        for c, (j, k, b) in sorted(dropped.items(), key=str):
+            if (j, k, b) not in kept:
+                check_same("after an iteration, byte %d of chaining word %d of message %d" % (
+                    b, k, j), T.word([at_end[c]]), T.word([T.split(wanted[j][k])[b]]))
+
+    def wrong(self, state, at_end, wanted):
+        """The bytes that are not as proposed after an iteration."""
+        grown = {c for group in self.grows for c in group}
+        wrong = set()
+        for c in (set(state) | set(at_end)) - self.scratch - grown:
+            expected = state[c] if c in state else self.initial(c)
+            if c in self.chain:
+                j, k, b = self.chain[c]
+                expected = T.split(wanted[j][k])[b]
+            if at_end.get(c, expected) != expected:
+                self.check_in_stack(c)
+                wrong.add(c)
+        for group in self.grows:
+            found = T.word([at_end[c] if c in at_end else self.initial(c) for c in group])
+            if found is not self.grown(group, 1):
+                raise CannotShow("%s does not grow by %d" % (group[0], self.grows[group][1]))
+        return wrong
+
+
+def show(program, name, kind, is_many):
+    """Proves the claim for a function, or raises Refused. Returns the runner, and the seconds."""
+    T.reset()
+    started = time.time()
+    runner = Runner(program.code(name))
+    try:
+        if is_many:
+            Loop(program, name, kind, runner).show()
+        else:
+            show_one(program, name, kind, runner)
+        runner.check_all_reached(program.model.Model.FREE)
+    except Fork as e:
+        raise CannotShow("%s, about which nothing is known" % e)
+    except (T.CannotShow, T.IsWrong) as e:
+        at = " ".join(runner.at.text.split()) if runner.at else "the entry"
+        raise type(e)("at %s: %s" % (at, e))
+    return runner, time.time() - started

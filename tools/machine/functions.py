@@ -1,0 +1,68 @@
+"""The functions that compress, by the names that the compiler gives them, and which file has which.
+A crate or a module with another name needs a change here and nowhere else."""
+
+import re
+
+import rfc7693 as R
+
+# The name without the version, the family, and whether it compresses blocks of several messages.
+ONE_B = ("blake2_compress..words..blake2b..compress", R.BLAKE2B, False)
+ONE_S = ("blake2_compress..words..blake2s..compress", R.BLAKE2S, False)
+MANY_B = ("blake2_compress..many..blake2b..compress_blocks", R.BLAKE2B, True)
+MANY_S = ("blake2_compress..many..blake2s..compress_blocks", R.BLAKE2S, True)
+SCRUB_STACK = "blake2_digest..wiping..scrub_stack.."
+SETTLE = "blake2_digest..wiping..settle.."
+
+LIBRARY = (ONE_B, MANY_B, ONE_S, MANY_S)
+PROGRAM = (ONE_B, MANY_B, ONE_S)       # b2 has no call that hashes several messages with BLAKE2s
+FILES = {
+    "dist/x86_64/vulfsjor-v3.s": LIBRARY,
+    "dist/x86_64/vulfsjor-v2.s": LIBRARY,
+    "dist/aarch64/vulfsjor.s": LIBRARY,
+    "dist/x86_64/b2-v3.s": PROGRAM,
+    "dist/x86_64/b2-v2.s": PROGRAM,
+    "dist/aarch64/b2.s": PROGRAM,
+    "dist/wasm/vulfsjor.wasm": LIBRARY,
+    "js/src/wasm.js": LIBRARY,
+}
+
+
+def architecture(path):
+    """What runs a file: x86_64, aarch64 or wasm."""
+    return next((kind for kind in ("x86_64", "aarch64") if "/%s/" % kind in path), "wasm")
+
+
+def in_file(path, name):
+    """A function's name as the file writes it."""
+    return name.replace("..", "::") if architecture(path) == "wasm" else name
+
+
+# G rotates words by 63 bits (BLAKE2b), or by 12 and 7 (BLAKE2s), which are not moves of bytes. So
+# each copy of it has an instruction that rotates, or that shifts to the right by these numbers.
+_ROTATES = {
+    "x86_64": re.compile(r"\b(ro[lr]x?|sh[lr]d|v?pro[lr]v?[dq])\b"),
+    "aarch64": re.compile(r"\bror\b|\bextr\b|\b(sri|sli|xar)\b"),
+    "wasm": re.compile(r"\.rot[lr]$"),
+}
+_SHIFTS = {
+    "x86_64": re.compile(r"\b(?:shr|v?psrl[dq]) .*,(0x[0-9a-f]+)$"),
+    "aarch64": re.compile(r"\b(?:[lu]?s[hr]r|lsr|usra)\b.*#(\d+)$"),
+    "wasm": re.compile(r"^i\d+\.const (\d+); i(?:32|64)(?:x[24])?\.shr_u$"),
+}
+
+
+def has_rounds(kind, texts):
+    """Whether a function may have a copy of G, by the texts of its instructions."""
+    if kind == "wasm":
+        texts = ["%s; %s" % pair for pair in zip(texts, texts[1:])]
+    if any(_ROTATES[kind].search(t) for t in texts):
+        return True
+    shifts = {int(m[1], 0) for m in map(_SHIFTS[kind].search, texts) if m}
+    return 63 in shifts or {7, 12} <= shifts
+
+
+def unlisted(program):
+    """The functions outside of the file's list that may have a copy of G."""
+    listed = {in_file(program.path, name) for name, _, _ in FILES[program.path]}
+    return [name for name in program.functions
+            if name not in listed and has_rounds(program.kind, program.texts(name))]

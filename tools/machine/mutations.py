@@ -1,0 +1,155 @@
+"""Changes of the code, each of which the proof must refuse: mutations.txt. And changes of the tool,
+each of which one of its own tests must refuse."""
+
+import os
+import re
+
+import compression
+import functions
+import program as programs
+import terms as T
+import wiping
+
+TABLE = os.path.join(os.path.dirname(os.path.abspath(__file__)), "mutations.txt")
+SHORT = {"v3": "dist/x86_64/vulfsjor-v3.s", "v2": "dist/x86_64/vulfsjor-v2.s",
+         "arm": "dist/aarch64/vulfsjor.s", "b2-v3": "dist/x86_64/b2-v3.s",
+         "b2-v2": "dist/x86_64/b2-v2.s", "b2-arm": "dist/aarch64/b2.s",
+         "wasm": "dist/wasm/vulfsjor.wasm", "js": "js/src/wasm.js"}
+ENTRIES = {"one b": functions.ONE_B, "one s": functions.ONE_S, "many b": functions.MANY_B,
+           "many s": functions.MANY_S}
+
+
+class NoMatch(Exception):
+    """The old instruction is not in the function as often as the table says."""
+
+
+def table():
+    """The lines of the table as (file, function, number, old, new)."""
+    with open(TABLE) as f:
+        lines = [line.rstrip("\n") for line in f if line.strip() and not line.startswith("#")]
+    return [[f.strip() for f in re.split(r" \|(?: |$)", line, maxsplit=4)] for line in lines]
+
+
+def changed(lines, number, old, new):
+    """The lines with the change at the match of this number, counted from 1."""
+    clean = [" ".join(re.sub(r"(#\s|//).*", "", line).split()) for line in lines]
+    exact = [k for k, text in enumerate(clean) if text == old]
+    found = exact or [k for k, text in enumerate(clean) if re.fullmatch(old, text)]
+    if len(found) < number:
+        raise NoMatch("%r matches %d lines, fewer than %d" % (old, len(found), number))
+    at = found[number - 1]
+    text = new if exact else re.sub(old, new, clean[at], count=1)
+    if text == clean[at]:
+        raise NoMatch("the change of %r changes nothing" % clean[at])
+    inserted = [part for part in text.split("; ") if part]
+    return lines[:at] + inserted + lines[at + 1:]
+
+
+def edit_text(name, is_data, *change):
+    """An editor of an assembly text, for one function, or for its constants, which precede it."""
+    def edit(text):
+        lines = text.split("\n")
+        label = re.compile(r"\"?%s_\d+_\d+_\d+_\w+\"?:" % re.escape(name))
+        start = next(k for k, line in enumerate(lines) if label.match(line))
+        end = next(k for k in range(start, len(lines)) if "func_end" in lines[k])
+        before = [k for k in range(start) if "func_end" in lines[k]]
+        first, last = (max(before, default=0), start) if is_data else (start + 1, end)
+        return "\n".join(lines[:first] + changed(lines[first:last], *change) + lines[last:])
+    return edit
+
+
+def edit_module(name, *change):
+    """An editor of the functions of a WebAssembly module."""
+    return lambda found: {**found, name: changed(found[name], *change)}
+
+
+def refuse(short, function, number, old, new):
+    """The result of a line of the table: which of both exceptions refused the change, and why."""
+    path, is_data = SHORT[short], function.endswith(" data")
+    what, _, count = function.partition(" ")
+    if what == "scrub":
+        name, show, rest = functions.SCRUB_STACK + count, wiping.show, [int(count)]
+    else:
+        name, *rest = ENTRIES[function.removesuffix(" data")]
+        name, show = functions.in_file(path, name), compression.show
+    title = "refused: %s, %s: %s => %s" % (path, function, old, new or "nothing")
+    change = int(number), old, new
+    edit = (edit_module(name, *change) if functions.architecture(path) == "wasm"
+            else edit_text(name, is_data, *change))
+    try:
+        show(programs.Program(path, edit), name, *rest)
+    except NoMatch as e:
+        return [("not ok", title, "change this line of mutations.txt: %s" % e)]
+    except programs.NotAssembled as e:
+        return [("not ok", title, "the assembler refuses the new instruction: %s" % e)]
+    except T.IsWrong as e:
+        return [("ok", title, "is wrong: %s" % e)]
+    except T.CannotShow as e:
+        return [("ok", title, "cannot show: %s" % e)]
+    return [("not ok", title, "the proof accepts the change")]
+
+
+def _on_arm(entry):
+    """The verdict on a function of the library for ARM, which takes the least time."""
+    try:
+        compression.show(programs.Program(SHORT["arm"]), *entry)
+    except T.Refused as e:
+        return "%s: %s" % (type(e).__name__, e)
+    return None
+
+
+def _with(owner, name, value, f):
+    """The result of f() while an attribute has another value."""
+    kept = getattr(owner, name)
+    setattr(owner, name, value)
+    try:
+        return f()
+    finally:
+        setattr(owner, name, kept)
+
+
+def wrong_model():
+    """A model of an instruction in which the second rotation of ARM's eor is missing."""
+    arm = programs.arm
+    f = lambda self, name, ops, shape: wrong_model.right(
+        self, name, [o for o in ops if o.kind != "shift"], shape.replace(" shift", ""))
+    wrong_model.right = arm.Arm.arithmetic
+    why = _with(arm.Arm, "arithmetic", f, lambda: _on_arm(functions.ONE_B))
+    return _seen("a model of eor without its rotation fails", why)
+
+
+def wrong_rule():
+    """A rule that takes the high half of a sum for the sum of the high halves."""
+    def f(t, i, n):
+        if t.op == "add":
+            high = lambda u: T.word(T.split(u)[i:i + n])
+            return T.add(8 * n, *[(k, high(u)) for u, k in t.args[1]])
+        return wrong_rule.right(t, i, n)
+    wrong_rule.right = T._slice_of
+    x, y = (T.var(64, name, T.PUBLIC) for name in "xy")
+    total = T.add(64, (1, x), (1, y))
+
+    def high_half():
+        T._slices.clear()
+        t = T.word(T.split(total)[4:])
+        return next((str(seed) for seed in range(1, 9) if T.value(t, T.Numbers(seed), {}) !=
+                     T.value(total, T.Numbers(seed), {}) >> 32), None)
+    why = _with(T, "_slice_of", f, high_half)
+    T.reset()
+    return _seen("a rule for the high half of a sum fails", why and "wrong for the numbers " + why)
+
+
+def function_left_out():
+    """A file whose list has one function less."""
+    path = SHORT["arm"]
+    less = {**functions.FILES, path: functions.FILES[path][1:]}
+    found = _with(functions, "FILES", less,
+                  lambda: functions.unlisted(programs.Program(path)))
+    return _seen("a function left out of its list is found", found and found[0])
+
+
+def _seen(title, why):
+    return [("ok" if why else "not ok", "the tool itself: " + title, why or "nothing noticed it")]
+
+
+OF_THE_TOOL = (wrong_model, wrong_rule, function_left_out)

@@ -1,0 +1,193 @@
+"""Reads the code and the constants of a file: assembles and links it, and disassembles it with
+objdump; or reads a WebAssembly module."""
+
+import os
+import re
+import struct
+import subprocess
+import tempfile
+
+import arm
+import functions
+import wasm
+import wasm_format
+import x86
+from terms import CannotShow
+
+ROOT = os.path.dirname(os.path.dirname(os.path.dirname(os.path.abspath(__file__))))
+TOOLS = {"x86_64": ([os.environ.get("CC", "cc")], "", ["-M", "intel"]),
+         "aarch64": (["aarch64-linux-gnu-gcc"], "aarch64-linux-gnu-", [])}
+MODELS = {"x86_64": x86, "aarch64": arm, "wasm": wasm}
+
+CONSTANTS = ".rodata"                  # the section of the constants
+RELOCATIONS = 4                        # the type of a section of relocations
+# What the linker fills in where the code has the address of a constant.
+OF_CONSTANTS = ("R_X86_64_PC32", "R_AARCH64_ADR_PREL_PG_HI21", "R_AARCH64_ADD_ABS_LO12_NC",
+                "R_AARCH64_LDST64_ABS_LO12_NC", "R_AARCH64_LDST128_ABS_LO12_NC")
+LINE = re.compile(r"\s*([0-9a-f]+):\t([0-9a-f ]+?)\s*\t(.*)")
+
+
+class NotAssembled(Exception):
+    """The assembler or the linker refuses the file."""
+
+
+class Program:
+    """The functions of a file, by name without version, as lines of text.
+
+    `edit` changes the text of the file, or the lines of the functions of a module, first."""
+
+    def __init__(self, path, edit=None):
+        self.path = path
+        self.kind = functions.architecture(path)
+        self.model, self.width = MODELS[self.kind], 64
+        with open(os.path.join(ROOT, path), "rb") as f:
+            data = f.read()
+        if self.kind == "wasm":
+            self.read_module(data, edit)
+        else:
+            self.read_text(data.decode(), edit)
+
+    def read_module(self, data, edit):
+        """The functions of a module. One without names has those of the module that it was made
+        from, function by function."""
+        if self.path.endswith(".js"):
+            data = wasm_format.module_of_script(data.decode())
+        module = wasm_format.Module(data)
+        names = module.names
+        if not names:
+            with open(os.path.join(ROOT, "dist/wasm/vulfsjor.wasm"), "rb") as f:
+                original = wasm_format.Module(f.read())
+            names = original.names
+            if len(original.functions) != len(module.functions):
+                raise CannotShow("%s has %d functions, and dist/wasm/vulfsjor.wasm has %d" % (
+                    self.path, len(module.functions), len(original.functions)))
+        self.width = module.width
+        self.signatures = {names[k]: f for k, f in enumerate(module.functions)}
+        if len(self.signatures) != len(module.functions):
+            raise CannotShow("two functions of %s have one name" % self.path)
+        self.functions = {n: f.lines for n, f in self.signatures.items()}
+        if edit:
+            self.functions = edit(self.functions)
+
+    def read_text(self, text, edit):
+        """The functions of an assembly text."""
+        if edit:
+            text = edit(text)
+        compiler, prefix, style = TOOLS[self.kind]
+        with tempfile.TemporaryDirectory() as d:
+            s, o, so = (os.path.join(d, "a" + suffix) for suffix in (".s", ".o", ".so"))
+            with open(s, "w") as f:
+                f.write(text)
+            for command in (compiler + ["-c", "-o", o, s], [prefix + "ld", "-shared", "-z",
+                                                            "noexecstack", "-q", "-o", so, o]):
+                found = subprocess.run(command, stderr=subprocess.PIPE, text=True)
+                if found.returncode:
+                    raise NotAssembled(found.stderr.strip().split("\n")[-1])
+            with open(so, "rb") as f:
+                self.constants = constants(f.read())
+            out = subprocess.run([prefix + "objdump", "-dzrt", "--insn-width=16"] + style + [so],
+                                 check=True, stdout=subprocess.PIPE, text=True).stdout
+        # The address, the section, the size and the name of each symbol.
+        self.symbols = [(int(m[1], 16), m[2], int(m[3], 16), m[4]) for m in re.finditer(
+            r"^([0-9a-f]{16}) .{7} (\S+)\t([0-9a-f]{16})(?: \.\w+)? (.+)$", out, re.M)]
+        self.functions, lines = {}, []
+        for line in out.splitlines():
+            m = re.fullmatch(r"[0-9a-f]+ <(.*)>:", line)
+            if m:
+                lines = self.functions.setdefault(without_version(m[1]), [])
+            elif ":\t" in line or ": R_" in line:
+                lines.append(line)
+
+    def code(self, name):
+        """The instructions of a function."""
+        if name not in self.functions:
+            raise CannotShow("%s has no function %s: the compiler may have inlined it, or it has "
+                             "another name now: see tools/machine/functions.py" % (self.path, name))
+        if self.kind == "wasm":
+            return wasm.parse(self.functions[name])
+        start, end = self.extent(name)
+        found, filled = [], set()
+        for line in self.functions[name]:
+            m = LINE.match(line)
+            if m and start <= int(m[1], 16) < end:
+                found.append(self.model.Instruction(int(m[1], 16), m[3].strip()))
+                found[-1].next = found[-1].address + len(m[2].replace(" ", "")) // 2
+            elif not m and start <= int(line.partition(":")[0], 16) < end:
+                self.check_relocation(found[-1], line)
+                filled.add(found[-1])
+        for i in found:
+            if (i.name == "adrp" or "[rip" in i.text) and i not in filled:
+                raise CannotShow("the linker does not fill in the address of " + i.text)
+        if not found or [start] + [i.next for i in found] != [i.address for i in found] + [end]:
+            raise CannotShow("objdump does not show all bytes of %s, one after the other" % name)
+        return found
+
+    def extent(self, name):
+        """Where the code of a function begins and ends. No other symbol may be in it."""
+        found = [s for s in self.symbols if without_version(s[3]) == name]
+        if len(found) != 1:
+            raise CannotShow("%s has %d symbols %s instead of one" % (self.path, len(found), name))
+        start, section, size, _ = found[0]
+        inside = [s[3] for s in self.symbols if s[1] == section and start <= s[0] < start + size]
+        # The symbol of the section itself may have the same address.
+        others = [n for n in inside if n not in (found[0][3], section)]
+        if others:
+            raise CannotShow("the symbol %s is inside of %s" % (others[0], name))
+        return start, start + size
+
+    def check_relocation(self, i, line):
+        """Refuses a number that the linker fills in, except the address of a constant of the file,
+        and of the function that a call calls."""
+        kind, symbol = re.search(r": (R_\w+)\t(.*)", line).groups()
+        symbol = re.sub(r"[+-]0x[0-9a-f]+$", "", symbol)
+        sections = {s[1] for s in self.symbols if s[3] == symbol}
+        if i.name not in ("call", "bl") and (
+                kind not in OF_CONSTANTS or sections != {CONSTANTS}
+                or kind == "R_X86_64_PC32" and "[rip" not in i.text):
+            raise CannotShow("the linker fills in a number of %s: %s of %s" % (
+                i.text, kind, symbol))
+
+    def texts(self, name):
+        """The instructions of a function, as text without comments."""
+        if self.kind == "wasm":
+            return self.functions[name]
+        comment = "#" if self.kind == "x86_64" else "//"
+        texts = [m[3] for m in map(LINE.match, self.functions[name]) if m]
+        return [" ".join(t.partition(comment)[0].split()) for t in texts]
+
+    def constant(self, address):
+        """The byte of the constants at an address."""
+        start, data = self.constants
+        if not start <= address < start + len(data) or data[address - start] is None:
+            raise CannotShow("no constant is known at %#x" % address)
+        return data[address - start]
+
+    def machine(self, name, regions, assumed):
+        """A machine for a call of a function."""
+        machine = self.model.Model(regions, assumed)
+        if self.kind == "wasm":
+            machine.signature = self.signatures[name]
+        return machine
+
+
+def without_version(name):
+    """A function's name without the version of its package and of the processor."""
+    return re.sub(r"_[0-9]+_[0-9]+_[0-9]+_\w+$", "", name)
+
+
+def constants(data):
+    """The address of a file's constants, and their bytes: None if the linker fills them in."""
+    table, = struct.unpack_from("<Q", data, 40)
+    size, count, names = struct.unpack_from("<HHH", data, 58)
+    headers = [struct.unpack_from("<IIQQQQ", data, table + k * size) for k in range(count)]
+    start, found = 0, []
+    for name, _, _, address, at, length in headers:
+        text = data[headers[names][4] + name:]
+        if text[:text.index(b"\0")].decode() == CONSTANTS:
+            start, found = address, list(data[at:at + length])
+    for _, kind, _, _, at, length in headers:
+        for entry in range(at, at + length, 24) if kind == RELOCATIONS else ():
+            place, = struct.unpack_from("<Q", data, entry)
+            for k in range(max(place - start, 0), min(place + 8 - start, len(found))):
+                found[k] = None
+    return start, found

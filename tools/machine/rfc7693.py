@@ -1,0 +1,66 @@
+"""The compression function F of RFC 7693, section 3.2, over terms."""
+
+import terms as T
+
+SIGMA = (
+    (0, 1, 2, 3, 4, 5, 6, 7, 8, 9, 10, 11, 12, 13, 14, 15),
+    (14, 10, 4, 8, 9, 15, 13, 6, 1, 12, 0, 2, 11, 7, 5, 3),
+    (11, 8, 12, 0, 5, 2, 15, 13, 10, 14, 3, 6, 7, 1, 9, 4),
+    (7, 9, 3, 1, 13, 12, 11, 14, 2, 6, 5, 10, 4, 0, 15, 8),
+    (9, 0, 5, 7, 2, 4, 10, 15, 14, 1, 11, 12, 6, 8, 3, 13),
+    (2, 12, 6, 10, 0, 11, 8, 3, 4, 13, 7, 5, 15, 14, 1, 9),
+    (12, 5, 1, 15, 14, 13, 4, 10, 0, 7, 6, 3, 9, 2, 8, 11),
+    (13, 11, 7, 14, 12, 1, 3, 9, 5, 0, 15, 4, 8, 6, 2, 10),
+    (6, 15, 14, 9, 11, 3, 0, 8, 12, 2, 13, 7, 1, 4, 10, 5),
+    (10, 2, 8, 4, 7, 6, 1, 5, 15, 11, 9, 14, 3, 12, 13, 0),
+)
+
+COLUMNS_AND_DIAGONALS = (
+    (0, 4, 8, 12), (1, 5, 9, 13), (2, 6, 10, 14), (3, 7, 11, 15),
+    (0, 5, 10, 15), (1, 6, 11, 12), (2, 7, 8, 13), (3, 4, 9, 14),
+)
+
+
+class Kind:
+    """The numbers of a family (2.1), and how many messages our functions hash in parallel."""
+
+    def __init__(self, name, w, rounds, rotations, lanes):
+        self.name, self.w, self.rounds, self.rotations = name, w, rounds, rotations
+        self.lanes = lanes
+        self.bytes = w // 8
+        self.block = 2 * w
+        # The first w bits of the fractions of the square roots of the first eight primes (2.6).
+        self.iv = [root_bits(p, w) for p in (2, 3, 5, 7, 11, 13, 17, 19)]
+
+
+def root_bits(n, w):
+    """The first w bits of the fraction of the square root of n."""
+    square, x = n << (2 * w), 1 << (w + 3)
+    while x * x > square:
+        x = (x + square // x) // 2
+    return x & ((1 << w) - 1)
+
+
+BLAKE2B = Kind("blake2b", 64, 12, (32, 24, 16, 63), 4)
+BLAKE2S = Kind("blake2s", 32, 10, (16, 12, 8, 7), 8)
+
+
+def F(kind, h, m, low, high, last, last_node):
+    """The chaining words after a block. `low` and `high` are the words of the counter, and the
+    flags are words of zeros or ones; the second is that of the last node (BLAKE2, 2.10)."""
+    w = kind.w
+    v = list(h) + [T.const(w, n) for n in kind.iv]
+    v[12] = T.xor(w, v[12], low)
+    v[13] = T.xor(w, v[13], high)
+    v[14] = T.xor(w, v[14], last)
+    v[15] = T.xor(w, v[15], last_node)
+    r1, r2, r3, r4 = kind.rotations
+    for i in range(kind.rounds):
+        s = SIGMA[i % 10]
+        for k, (a, b, c, d) in enumerate(COLUMNS_AND_DIAGONALS):
+            for x, p, q in ((m[s[2 * k]], r1, r2), (m[s[2 * k + 1]], r3, r4)):
+                v[a] = T.add(w, (1, v[a]), (1, v[b]), (1, x))
+                v[d] = T.ror(w, T.xor(w, v[d], v[a]), p)
+                v[c] = T.add(w, (1, v[c]), (1, v[d]))
+                v[b] = T.ror(w, T.xor(w, v[b], v[c]), q)
+    return [T.xor(w, h[k], v[k], v[k + 8]) for k in range(8)]

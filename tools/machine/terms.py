@@ -1,0 +1,488 @@
+"""Words as terms in a normal form, such that equal terms are the same object.
+
+A term stands for a word of w bits, as a function of variables. Each constructor below returns the
+normal form of its result:
+
+  const     a number
+  var       a variable; its taint is PUBLIC, SECRET or JUNK
+  ite       a constant that depends on one condition (a flag of the call): (name, if on, if off)
+  add       a sum modulo 2^w: a constant, and terms with coefficients
+  xor       an exclusive or: a constant, and a set of terms
+  ror       a rotation by less than w of a term that is not an xor
+  shr       a logical shift to the right by a number of bits that is not a multiple of 8
+  slice     bytes of a wider term
+  cat       bytes of several terms
+  zero      1 if a term is 0, and otherwise 0
+  nonzero   0 if a term is 0, and otherwise 1
+
+A value in a register or in memory is a list of bytes, the lowest first. A byte is a number, or the
+pair of a term and of the place of the byte in it. So moves and shuffles only move pairs.
+"""
+
+import random
+
+PUBLIC, SECRET, JUNK = 1, 2, 4
+LIMIT, WIDEST = 200000, 128            # of all terms, and of the parts of one
+
+
+class Refused(Exception):
+    """The claim is not shown. The subclass says why."""
+
+
+class CannotShow(Refused):
+    """The tool has no rule for this case: the code may be right, and the tool has to learn more."""
+
+
+class IsWrong(Refused):
+    """The code breaks the claim. The message has the inputs, if it depends on them."""
+
+
+class Term:
+    """A word of w bits. Two terms of the same normal form are one object."""
+
+    __slots__ = ("op", "w", "args", "serial", "taint")
+
+    def __repr__(self):
+        return show(self, 3)
+
+
+_table = {}
+_slices = {}                           # what slice_of has returned
+
+
+def _too_wide(args):
+    return isinstance(args, tuple) and len(args) == 2 and isinstance(args[1], tuple) and (
+        len(args[1]) > WIDEST)
+
+
+def _term(op, w, args, taint):
+    key = (op, w, args)
+    found = _table.get(key)
+    if found is None:
+        if len(_table) >= LIMIT or _too_wide(args):
+            raise CannotShow("the terms grow beyond the limit, so they do not match")
+        found = Term()
+        found.op, found.w, found.args, found.taint = op, w, args, taint
+        found.serial = len(_table)
+        _table[key] = found
+    return found
+
+
+def reset():
+    """Forgets all terms. Older terms must not be used with later ones."""
+    _table.clear()
+    _slices.clear()
+
+
+def show(t, depth):
+    """A term as text, without its deeper parts."""
+    if not isinstance(t, (Term, tuple)):
+        return str(t)
+    if isinstance(t, Term) and t.op in ("const", "var"):
+        return hex(t.args) if t.op == "const" else str(t.args)
+    if depth == 0:
+        return ".."
+    parts = t if isinstance(t, tuple) else t.args
+    shown = [show(p, depth - 1) for p in parts[:5]]
+    if len(parts) > 5:
+        shown.append(".. %d in all" % len(parts))
+    return ("" if isinstance(t, tuple) else "%s%d" % (t.op, t.w)) + "[" + ", ".join(shown) + "]"
+
+
+def const(w, n):
+    """The number n modulo 2^w."""
+    return _term("const", w, n & ((1 << w) - 1), 0)
+
+
+def var(w, name, taint):
+    """The variable of this name."""
+    return _term("var", w, name, taint)
+
+
+def ite(w, condition, on, off):
+    """The number `on` if the flag of this name is on, and otherwise `off`."""
+    if on == off:
+        return const(w, on)
+    return _term("ite", w, (condition, on, off), PUBLIC)
+
+
+def leaves(f, w, *terms):
+    """The result of f on numbers, where each term is a number or depends on one condition."""
+    condition = None
+    for t in terms:
+        if t.op == "ite":
+            if condition not in (None, t.args[0]):
+                return None
+            condition = t.args[0]
+        elif t.op != "const":
+            return None
+    mask = (1 << w) - 1
+    at = lambda k: [t.args if t.op == "const" else t.args[k] for t in terms]
+    if condition is None:
+        return const(w, f(*at(0)))
+    return ite(w, condition, f(*at(1)) & mask, f(*at(2)) & mask)
+
+
+def linear(t):
+    """The constant and the coefficients of a term as a sum."""
+    if t.op == "const":
+        return t.args, {}
+    if t.op == "add":
+        return t.args[0], dict(t.args[1])
+    return 0, {t: 1}
+
+
+def add(w, *parts):
+    """The sum of pairs of a coefficient and a term."""
+    if len(parts) == 2:
+        simple = leaves(lambda a, b: parts[0][0] * a + parts[1][0] * b, w, parts[0][1], parts[1][1])
+        if simple:
+            return simple
+    mask = (1 << w) - 1
+    constant, sums = 0, {}
+    for factor, t in parts:
+        assert t.w == w
+        c, terms = linear(t)
+        constant += factor * c
+        for u, k in terms.items():
+            sums[u] = (sums.get(u, 0) + factor * k) & mask
+    constant &= mask
+    items = sorted(((u, k) for u, k in sums.items() if k), key=lambda p: p[0].serial)
+    if not items:
+        return const(w, constant)
+    if constant == 0 and len(items) == 1 and items[0][1] == 1:
+        return items[0][0]
+    taint = 0
+    for u, _ in items:
+        taint |= u.taint
+    return _term("add", w, (constant, tuple(items)), taint)
+
+
+def _members(terms):
+    """The constant, the flags' masks and the other members of an exclusive or."""
+    constant, chosen, members = 0, {}, set()
+    for t in terms:
+        for u in t.args[1] if t.op == "xor" else (t,):
+            if u.op == "ite":
+                name, on, off = u.args
+                constant ^= off
+                chosen[name] = chosen.get(name, 0) ^ on ^ off
+            elif u.op == "const":
+                constant ^= u.args
+            else:
+                members ^= {u}
+        if t.op == "xor":
+            constant ^= t.args[0]
+    return constant, {n: m for n, m in chosen.items() if m}, members
+
+
+def xor(w, *terms):
+    """The exclusive or of terms."""
+    assert all(t.w == w for t in terms)
+    simple = leaves(lambda *a: _xor_all(a), w, *terms)
+    if simple:
+        return simple
+    constant, marks, members = _members(terms)
+    if not members and not marks:
+        return const(w, constant)
+    if not members and len(marks) == 1:
+        (name, m), = marks.items()
+        return ite(w, name, m ^ constant, constant)
+    members |= {ite(w, n, m, 0) for n, m in marks.items()}
+    if constant == 0 and len(members) == 1:
+        return members.pop()
+    taint = 0
+    for u in members:
+        taint |= u.taint
+    return _term("xor", w, (constant, tuple(sorted(members, key=lambda u: u.serial))), taint)
+
+
+def _xor_all(numbers):
+    result = 0
+    for n in numbers:
+        result ^= n
+    return result
+
+
+def _ror_number(w, n, k):
+    return (n >> k | n << (w - k)) & ((1 << w) - 1)
+
+
+def ror(w, t, k):
+    """A rotation to the right by k bits."""
+    assert t.w == w
+    k %= w
+    if k == 0:
+        return t
+    simple = leaves(lambda a: _ror_number(w, a, k), w, t)
+    if simple:
+        return simple
+    if t.op == "xor":
+        return xor(w, const(w, _ror_number(w, t.args[0], k)), *[ror(w, u, k) for u in t.args[1]])
+    if t.op == "ror":
+        return ror(w, t.args[0], t.args[1] + k)
+    if t.op == "cat" and k % 8 == 0:
+        return word(t.args[k // 8:] + t.args[:k // 8])
+    return _term("ror", w, (t, k), t.taint)
+
+
+def shl(w, t, k):
+    """A shift to the left by k bits, 0 < k < w."""
+    simple = leaves(lambda a: a << k, w, t)
+    if simple:
+        return simple
+    if k % 8 == 0:
+        return word((0,) * (k // 8) + tuple(split(t))[:(w - k) // 8])
+    return add(w, (1 << k, t))
+
+
+def shr(w, t, k):
+    """A logical shift to the right by k bits, 0 < k < w."""
+    simple = leaves(lambda a: a >> k, w, t)
+    if simple:
+        return simple
+    if k % 8 == 0:
+        return word(tuple(split(t))[k // 8:] + (0,) * (k // 8))
+    return _term("shr", w, (t, k), t.taint)
+
+
+def rotation(w, a, b):
+    """The rotation that two shifted words make, whose bits do not overlap, or None."""
+    for low, high in ((a, b), (b, a)):
+        if low.op == "shr" and high.op == "add":
+            t, k = low.args
+            if high is shl(w, t, w - k):
+                return ror(w, t, k)
+    return None
+
+
+def disjoint(a, b):
+    """The bytes of two words of which one is zero in each byte, or None."""
+    result = []
+    for x, y in zip(split(a), split(b)):
+        if x == 0:
+            result.append(y)
+        elif y == 0:
+            result.append(x)
+        else:
+            return None
+    return word(result)
+
+
+def either(w, a, b):
+    """The bitwise or of two terms."""
+    if a is b:
+        return a
+    found = leaves(lambda x, y: x | y, w, a, b) or rotation(w, a, b) or disjoint(a, b)
+    if found:
+        return found
+    return _bytewise(w, a, b, 255, "or")
+
+
+def both(w, a, b):
+    """The bitwise and of two terms."""
+    if a is b:
+        return a
+    return leaves(lambda x, y: x & y, w, a, b) or _bytewise(w, a, b, 0, "and")
+
+
+def _bytewise(w, a, b, absorbing, what):
+    result = []
+    for x, y in zip(split(a), split(b)):
+        if x == absorbing or y == absorbing:
+            result.append(absorbing)
+        elif x == 255 - absorbing or x == y:
+            result.append(y)
+        elif y == 255 - absorbing:
+            result.append(x)
+        else:
+            f = (lambda p, q: p | q) if what == "or" else (lambda p, q: p & q)
+            simple = leaves(f, 8, word((x,)), word((y,)))
+            if not simple:
+                raise CannotShow("there is no rule for %r %s %r" % (a, what, b))
+            result.append(split(simple)[0])
+    return word(result)
+
+
+def split(t):
+    """The bytes of a term."""
+    n = t.w // 8
+    if t.op == "const":
+        return list(t.args.to_bytes(n, "little"))
+    if t.op == "ite":
+        name, on, off = t.args
+        pairs = zip(on.to_bytes(n, "little"), off.to_bytes(n, "little"))
+        return [x if x == y else (ite(8, name, x, y), 0) for x, y in pairs]
+    if t.op == "cat":
+        return list(t.args)
+    if t.op == "slice":
+        return [(t.args[0], t.args[1] + i) for i in range(n)]
+    if t.op == "ror" and t.args[1] % 8 == 0:
+        return [(t.args[0], (t.args[1] // 8 + i) % n) for i in range(n)]
+    return [(t, i) for i in range(n)]
+
+
+def word(bs):
+    """The term of a list of bytes."""
+    bs = tuple(bs)
+    n = len(bs)
+    first = bs[0]
+    if isinstance(first, tuple):
+        t, i = first
+        size = t.w // 8
+        if size == n and all(b == (t, (i + k) % n) for k, b in enumerate(bs) if k):
+            return ror(t.w, t, 8 * i)
+        if size > n and i + n <= size and all(b == (t, i + k) for k, b in enumerate(bs)):
+            return slice_of(t, i, n)
+    names = {None if isinstance(b, int) else b[0].args[0] if b[0].op == "ite" else b for b in bs}
+    names.discard(None)
+    if len(names) > 1 or not all(isinstance(name, str) for name in names):
+        taint = 0
+        for b in bs:
+            taint |= 0 if isinstance(b, int) else b[0].taint
+        return _term("cat", 8 * n, bs, taint)
+    number = lambda k: int.from_bytes(
+        bytes(b if isinstance(b, int) else b[0].args[k] for b in bs), "little")
+    return ite(8 * n, names.pop(), number(1), number(2)) if names else const(8 * n, number(0))
+
+
+def slice_of(t, i, n):
+    """Bytes i to i + n - 1 of a term."""
+    if (t, i, n) not in _slices:
+        _slices[t, i, n] = _slice_of(t, i, n)
+    return _slices[t, i, n]
+
+
+def _slice_of(t, i, n):
+    if t.op == "xor":
+        part = lambda u: word(split(u)[i:i + n])
+        return xor(8 * n, part(const(t.w, t.args[0])), *[part(u) for u in t.args[1]])
+    if t.op == "add" and i == 0:
+        low = lambda u: word(split(u)[:n])
+        return add(8 * n, (1, const(8 * n, t.args[0])), *[(k, low(u)) for u, k in t.args[1]])
+    return _term("slice", 8 * n, (t, i), t.taint)
+
+
+def test(op, w, t):
+    """The truth of "zero" or "nonzero" of a term, as 0 or 1 in w bits."""
+    simple = leaves(lambda n: int((n == 0) == (op == "zero")), w, t)
+    if simple:
+        return simple
+    if t.op == "nonzero":
+        return test(op, w, t.args[0])
+    if t.op == "zero":
+        return test("nonzero" if op == "zero" else "zero", w, t.args[0])
+    return _term(op, w, (t,), t.taint)
+
+
+def value(t, numbers, memo):
+    """The number that a term has, by the definitions of its operators, where `numbers` has those
+    of the variables and whether each flag is on."""
+    if t in memo:
+        return memo[t]
+    mask = (1 << t.w) - 1
+    of = lambda u: value(u, numbers, memo)
+    a = t.args
+    if t.op == "const":
+        n = a
+    elif t.op == "var":
+        n = numbers[a] & mask
+    elif t.op == "ite":
+        n = a[1] if numbers[a[0]] & 1 else a[2]
+    elif t.op == "add":
+        n = a[0] + sum(k * of(u) for u, k in a[1]) & mask
+    elif t.op == "xor":
+        n = a[0] ^ _xor_all(of(u) for u in a[1])
+    elif t.op == "ror":
+        n = _ror_number(t.w, of(a[0]), a[1])
+    elif t.op == "shr":
+        n = of(a[0]) >> a[1]
+    elif t.op == "slice":
+        n = of(a[0]) >> 8 * a[1] & mask
+    elif t.op in ("zero", "nonzero"):
+        n = int((of(a[0]) == 0) == (t.op == "zero"))
+    else:
+        n = sum((b if isinstance(b, int) else of(b[0]) >> 8 * b[1] & 255) << 8 * k
+                for k, b in enumerate(a))
+    memo[t] = n
+    return n
+
+
+class Numbers(dict):
+    """Random numbers for the variables, the same for the same seed. Seed 0 has zeros only."""
+
+    def __init__(self, seed, fixed=()):
+        super().__init__(fixed)
+        self.seed = seed
+
+    def __missing__(self, name):
+        number = random.Random("%s %s" % (self.seed, name)).getrandbits(64) if self.seed else 0
+        self[name] = number
+        return number
+
+
+def difference(a, b):
+    """Inputs for which two terms differ, as text, or None if no difference is found."""
+    for seed in range(8):
+        numbers = Numbers(seed)
+        x, y = (value(t, numbers, {}) for t in (a, b))
+        if x != y:
+            shown = ["%s = %#x" % pair for pair in list(numbers.items())[:3]]
+            inputs = ", ".join(shown) + (", .." if len(numbers) > 3 else "")
+            return "%#x instead of %#x for %s" % (x, y, inputs if seed else "inputs of zeros")
+    return None
+
+
+def depends(t, taint):
+    """Inputs for which a term changes with a variable of this taint only, as text, or None."""
+    names = {}
+    _variables(t, names, set())
+    for seed in range(1, 9):
+        numbers = Numbers(seed)
+        before = value(t, numbers, {})
+        changed = [name for name, found in names.items() if found & taint]
+        numbers.update({name: Numbers(-seed)[name] for name in changed})
+        if value(t, numbers, {}) != before:
+            return "it changes with %s" % ", ".join(sorted(changed)[:3])
+    return None
+
+
+def _variables(t, names, seen):
+    """Collects the variables of a term, with their taints."""
+    if t in seen or t.op == "const":
+        return
+    seen.add(t)
+    if t.op in ("var", "ite"):
+        names[t.args if t.op == "var" else t.args[0]] = t.taint
+        return
+    for part in t.args[1] if t.op in ("add", "xor") else t.args:
+        u = part[0] if isinstance(part, tuple) else part
+        if isinstance(u, Term):
+            _variables(u, names, seen)
+
+
+def substitute(t, mapping, memo):
+    """A term with other terms for some variables."""
+    if t in memo:
+        return memo[t]
+    again = lambda u: substitute(u, mapping, memo)
+    if t.op == "var":
+        result = mapping.get(t, t)
+    elif t.op in ("const", "ite"):
+        result = t
+    elif t.op == "add":
+        result = add(t.w, (1, const(t.w, t.args[0])), *[(k, again(u)) for u, k in t.args[1]])
+    elif t.op == "xor":
+        result = xor(t.w, const(t.w, t.args[0]), *[again(u) for u in t.args[1]])
+    elif t.op == "ror":
+        result = ror(t.w, again(t.args[0]), t.args[1])
+    elif t.op == "shr":
+        result = shr(t.w, again(t.args[0]), t.args[1])
+    elif t.op in ("zero", "nonzero"):
+        result = test(t.op, t.w, again(t.args[0]))
+    elif t.op == "slice":
+        result = word(split(again(t.args[0]))[t.args[1]:t.args[1] + t.w // 8])
+    else:
+        result = word([b if isinstance(b, int) else split(again(b[0]))[b[1]] for b in t.args])
+    memo[t] = result
+    return result

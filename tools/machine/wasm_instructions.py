@@ -1,0 +1,166 @@
+"""Runs each form of WebAssembly instruction of the compression functions in node, over random
+operands, and compares with the model. Control, calls of locals, and the check of the stack are part
+of whole functions only."""
+
+import json
+import random
+import subprocess
+
+import functions
+import terms as T
+import wasm
+import wasm_format
+from machine import Region
+from program import Program
+
+SKIPPED = ("block", "loop", "end", "br", "br_if", "return", "unreachable", "local.get",
+           "local.set", "local.tee", "global.get", "i64.lt_s")
+CODES = {"i32": 0x7f, "i64": 0x7e, "v128": 0x7b}
+NODE = """
+const {modules, inputs} = JSON.parse(require("fs").readFileSync(0, "utf8"));
+const run = modules.map((text) => {
+  const {memory, f} = new WebAssembly.Instance(
+    new WebAssembly.Module(Buffer.from(text, "hex"))).exports;
+  return (input) => {
+    const bytes = Buffer.from(memory.buffer, 0, 512);
+    Buffer.from(input, "hex").copy(bytes);
+    f();
+    return bytes.toString("hex");
+  };
+});
+console.log(JSON.stringify(inputs.map(([k, input]) => run[k](input))));
+"""
+RESULT = 128                           # where a result goes; operands are at 0, 16 and 32
+ADDRESS = 256                          # the address that a load or a store gets
+
+
+def signature(text):
+    """The types of the operands, and of the result or None."""
+    kind, _, what = text.split()[0].partition(".")
+    lane = "i64" if kind == "i64x2" else "i32"
+    if what.startswith("load"):
+        return (["i32", kind] if what.endswith("lane") else ["i32"]), kind
+    if what.startswith("store"):
+        return ["i32", kind], None
+    if kind in wasm.LANES:
+        operands = {"splat": [lane], "replace_lane": ["v128", lane], "extract_lane": ["v128"]}
+        shift = ["v128", "i32"] if what.startswith("sh") and what != "shuffle" else ["v128"] * 2
+        return operands.get(what, shift), lane if what == "extract_lane" else "v128"
+    if text == "select":
+        return ["v128", "v128", "i32"], "v128"
+    if what == "const":
+        return [], kind
+    if what == "wrap_i64":
+        return ["i64"], "i32"
+    if what == "extend_i32_u":
+        return ["i32"], "i64"
+    if kind == "v128":
+        return ["v128"] * (3 if what == "bitselect" else 2), "v128"
+    return [kind] * (1 if what == "eqz" else 2), "i32" if what in ("eqz", "eq", "ne") else kind
+
+
+def leb(n, signed=False):
+    """A number in LEB128."""
+    out = []
+    while not (0 <= n < 128 and not signed or signed and -64 <= n < 64):
+        out.append(n & 127 | 128)
+        n >>= 7
+    return bytes(out + [n & 127])
+
+
+def encoded(text):
+    """The bytes of an instruction."""
+    name, *numbers = text.split()
+    for prefix, table in ((b"", wasm_format.PLAIN), (b"\xfd", wasm_format.VECTOR)):
+        for code, known in table.items():
+            if known.split()[0] == name:
+                kinds = known.partition(" ")[2]
+                data = prefix + leb(code)
+                if "m" in kinds:
+                    return data + b"\0" + b"".join(leb(int(n)) for n in numbers)
+                return data + b"".join(leb(int(n), "s" in kinds) if kinds in ("u", "s")
+                                       else bytes([int(n)]) for n in numbers)
+    raise T.CannotShow("no opcode is known for " + text)
+
+
+def module(text):
+    """A module with a function that loads operands, runs the instruction, and stores its result."""
+    operands, result = signature(text)
+    load = lambda kind, at: b"\x41\0" + encoded("%s.load %d" % (kind, at))
+    body = b"" if result is None else b"\x41\0"
+    for k, kind in enumerate(operands):
+        body += load(kind, 16 * k)
+    body += encoded(text)
+    if result is not None:
+        body += encoded("%s.store %d" % (result, RESULT))
+    body = b"\0" + body + b"\x0b"
+    section = lambda id_, data: bytes([id_]) + leb(len(data)) + data
+    exports = b"\2\6memory\2\0\1f\0\0"
+    return (b"\0asm\1\0\0\0" + section(1, b"\1\x60\0\0") + section(3, b"\1\0")
+            + section(5, b"\1\0\1") + section(7, exports)
+            + section(10, b"\1" + leb(len(body)) + body))
+
+
+def model(text, data):
+    """The memory after the instruction in the model."""
+    operands, result = signature(text)
+    memory = Region(0, 512, lambda k: data[k], (0, 512))
+    m = wasm.Wasm({None: memory}, {})
+    m.stack = T.var(32, "sp", T.PUBLIC)
+    for k, kind in enumerate(operands):
+        m.push(list(data[16 * k:16 * k + wasm.SIZES[kind]]))
+    m.step(wasm.Instruction(0, text))
+    after = list(data)
+    for (_, k), b in m.memory.items():
+        after[k] = b
+    if result is not None:
+        found = m.pop()
+        after[RESULT:RESULT + len(found)] = found
+    return bytes(after)
+
+
+def chosen(path, rng, count):
+    """Up to `count` instructions of each name, over all functions of the list."""
+    program, found = Program(path), {}
+    for name, _, _ in functions.FILES[path]:
+        for text in program.functions[functions.in_file(path, name)]:
+            if text.split()[0] not in SKIPPED:
+                found.setdefault(text.split()[0], set()).add(text)
+    return len(found), [t for n in sorted(found)
+                        for t in rng.sample(sorted(found[n]), min(count, len(found[n])))]
+
+
+def check(path, rounds):
+    """Whether the model agrees with node: a verdict, and the numbers or what differs."""
+    rng = random.Random(5)
+    forms, tests = chosen(path, rng, 8)
+    inputs = []
+    for k, text in enumerate(tests):
+        operands = signature(text)[0]
+        for n in range(rounds):
+            data = bytearray(rng.randbytes(512))
+            if n % 2 and operands and operands[0] != "v128":
+                data[:32] = bytes(32)
+            if operands == ["v128", "i32"]:
+                data[16:20] = bytes([rng.randrange(64), 0, 0, 0])
+            if operands[:1] == ["i32"] and ("load" in text or "store" in text):
+                data[:4] = (ADDRESS - int(text.split()[1]) % 128).to_bytes(4, "little")
+            inputs.append((k, bytes(data)))
+    small = [re_offset(t) for t in tests]
+    message = {"modules": [module(t).hex() for t in small],
+               "inputs": [(k, data.hex()) for k, data in inputs]}
+    run = subprocess.run(["node", "-e", NODE], input=json.dumps(message), text=True,
+                         stdout=subprocess.PIPE, check=True)
+    for (k, data), after in zip(inputs, json.loads(run.stdout)):
+        found = model(small[k], data)
+        if found.hex() != after:
+            return "not ok", "%s: in the model the memory or the result differs" % small[k]
+    return "ok", "%d forms, %d instructions, %d runs" % (forms, len(tests), len(inputs))
+
+
+def re_offset(text):
+    """An access with an offset below 128, so that it stays in the memory of the test."""
+    name, *numbers = text.split()
+    if ".load" in name or ".store" in name:
+        numbers[0] = str(int(numbers[0]) % 128)
+    return " ".join([name] + numbers)

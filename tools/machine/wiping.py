@@ -1,0 +1,111 @@
+"""Shows that scrub_stack overwrites its N bytes of the stack with zeros, on x86-64 and ARM."""
+
+import re
+
+import functions
+import terms as T
+from compression import STACK, Runner
+from machine import Region, junk
+from terms import CannotShow, IsWrong
+
+GAP = 64                               # bytes for saved registers between the caller and the zeros
+# The registers of the first three arguments, and those that a call keeps besides the stack pointer.
+CONVENTION = {"x86_64": ((7, 6, 2), (3, 4, 5, 12, 13, 14, 15)),
+              "aarch64": ((0, 1, 2), tuple(range(19, 30)) + (31,))}
+
+
+def names(program):
+    """The functions of a file that overwrite the stack, with their numbers of bytes."""
+    found = {}
+    for name in program.functions:
+        m = re.fullmatch(re.escape(functions.SCRUB_STACK) + r"(\d+)", name)
+        if m:
+            found[name] = int(m[1])
+    return found
+
+
+class Scrub:
+    """A call of scrub_stack, in which memset writes its bytes, and settle changes nothing else."""
+
+    def __init__(self, program, name, count):
+        self.program, self.count, self.zeros = program, count, None
+        self.runner = Runner(program.code(name))
+        self.sp, self.back = (T.var(64, t, T.PUBLIC) for t in ("sp", "return address"))
+        top = 8 if program.kind == "x86_64" else 0
+        back = T.split(self.back)
+        initial = lambda k: back[k] if 0 <= k < top else (T.var(8, "stack%d" % k, T.JUNK), 0)
+        self.stack = Region(-STACK, top, initial, (-STACK, 0), (16, top))
+        self.machine = program.machine(name, {self.sp: self.stack}, {})
+        self.machine.start(self.sp, self.back, [])
+        self.saved = self.machine.saved()
+
+    def show(self):
+        """Runs to the return."""
+        m, pc = self.machine, self.runner.first
+        while pc is not None:
+            i = self.runner.at = self.runner.code[pc]
+            self.runner.visited.add(pc)
+            if i.name in ("call", "bl"):
+                self.call(i.text)
+                pc = i.next
+            else:
+                pc = m.execute(i)
+        m.check_return(self.sp, self.back, self.saved)
+        if self.zeros is None:
+            raise IsWrong("settle is not called")
+        self.runner.check_all_reached(m.FREE)
+
+    def need_zeros(self):
+        """Refuses if one of the bytes is not zero, or if one may be written later."""
+        end = self.zeros + self.count
+        for k in range(self.zeros, end):
+            if self.machine.memory.get((self.sp, k)) != 0:
+                raise IsWrong("the byte at sp%+d is not overwritten" % k)
+        self.stack.writable = (end, 0)
+
+    def call(self, text):
+        """A call of memset or settle."""
+        m = self.machine
+        arguments, kept = CONVENTION[self.program.kind]
+        to, value, length = (m.general[r] for r in arguments)
+        if "<memset@plt>" in text:
+            size = T.word(length)
+            if size.op != "const" or value[0] != 0:
+                raise CannotShow("memset does not write a known number of zeros")
+            m.store(T.word(to), [0] * size.args)
+        elif "<%s%d" % (functions.SETTLE, self.count) in text:
+            offset, items = T.linear(T.word(to))
+            self.zeros = offset - (1 << 64)
+            if items != {self.sp: 1} or not -GAP <= self.zeros + self.count <= 0:
+                raise IsWrong("settle gets bytes that are not next to the caller's frame")
+        else:
+            raise CannotShow("a call of another function than memset and settle")
+        self.forget(kept)
+        if self.zeros is not None:
+            self.need_zeros()
+
+    def forget(self, kept):
+        """What a call may change: registers, the zero flag, and the stack below."""
+        m = self.machine
+        n = next(m.LOSSES)
+        for r in range(len(m.general)):
+            if r not in kept:
+                m.general[r] = junk("after%d.%d" % (n, r), 8)
+        low = m.lowest() + m.RED_ZONE
+        m.memory = {(b, k): v for (b, k), v in m.memory.items() if k >= low}
+        m.zero = None
+        low_halves = self.program.kind == "aarch64"
+        for r, old in enumerate(m.vector):
+            data = junk("vector%d.%d" % (n, r), len(old))
+            m.vector[r] = old[:8] + data[8:] if low_halves and 8 <= r < 16 else data
+
+
+def show(program, name, count):
+    """Proves the claim for a function, or raises Refused."""
+    T.reset()
+    scrub = Scrub(program, name, count)
+    try:
+        scrub.show()
+    except T.Refused as e:
+        at = " ".join(scrub.runner.at.text.split())
+        raise type(e)("at %s: %s" % (at, e))

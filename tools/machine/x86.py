@@ -1,0 +1,496 @@
+"""A model of the x86-64 instructions that the shipped code uses. Any other is an error."""
+
+import re
+
+import terms as T
+from machine import Machine, bitwise, chunks, image, joined, junk, lanewise, number
+from terms import CannotShow, IsWrong
+
+GENERAL = {}
+for _i, _names in enumerate((
+        "rax eax ax al", "rcx ecx cx cl", "rdx edx dx dl", "rbx ebx bx bl", "rsp esp sp spl",
+        "rbp ebp bp bpl", "rsi esi si sil", "rdi edi di dil")):
+    for _n, _size in zip(_names.split(), (8, 4, 2, 1)):
+        GENERAL[_n] = (_i, _size)
+for _i in range(8, 16):
+    for _suffix, _size in (("", 8), ("d", 4), ("w", 2), ("b", 1)):
+        GENERAL["r%d%s" % (_i, _suffix)] = (_i, _size)
+RAX, RCX, RDX, RBX, RSP, RBP, RSI, RDI = range(8)
+IMAGE = "image"
+SAVED = (RBX, RBP, 12, 13, 14, 15)
+ARGUMENTS = (RDI, RSI, RDX, RCX, 8, 9)
+
+VECTOR = {}
+for _i in range(16):
+    VECTOR["xmm%d" % _i] = (_i, 16)
+    VECTOR["ymm%d" % _i] = (_i, 32)
+
+SIZES = {"BYTE": 1, "WORD": 2, "DWORD": 4, "QWORD": 8, "XMMWORD": 16, "YMMWORD": 32}
+
+
+class Operand:
+    """A register, memory as a sum of (factor, register or None, offset), or a number. The register
+    of an address in the file is IMAGE."""
+
+    __slots__ = ("kind", "index", "size", "parts", "value")
+
+    def __init__(self, kind, index=None, size=None, parts=None, value=None):
+        self.kind, self.index, self.size, self.parts, self.value = kind, index, size, parts, value
+
+
+def no_operand(text):
+    return CannotShow("the operand %s is not modelled: add it to tools/machine/x86.py" % text)
+
+
+def operand(text, target):
+    """The operand that this is, where `target` is the address of one that counts from rip."""
+    if text in GENERAL:
+        return Operand("general", *GENERAL[text])
+    if text in VECTOR:
+        return Operand("vector", *VECTOR[text])
+    if re.fullmatch(r"0x[0-9a-f]+|[0-9]+", text):
+        return Operand("number", value=int(text, 0))
+    m = re.fullmatch(r"(?:([A-Z]+) PTR )?\[(.*)\]", text)
+    if not m:
+        raise no_operand(text)
+    size = SIZES[m[1]] if m[1] else None
+    if m[2].startswith("rip"):
+        if target is None:
+            raise no_operand(text)
+        return Operand("memory", size=size, parts=[(1, None, target), (1, IMAGE, None)])
+    parts = []
+    for sign, piece in re.findall(r"([+-]?)([^+-]+)", m[2]):
+        name, _, scale = piece.partition("*")
+        if name in GENERAL and GENERAL[name][1] == 8 and sign != "-":
+            parts.append((int(scale or 1), GENERAL[name][0], None))
+        else:
+            parts.append((-1 if sign == "-" else 1, None, int(piece, 0)))
+    return Operand("memory", size=size, parts=parts)
+
+
+class Instruction:
+    """A line of objdump's output, in Intel's order of operands."""
+
+    __slots__ = ("address", "next", "name", "operands", "text", "target")
+
+    def __init__(self, address, text):
+        self.address, self.text = address, text
+        code, _, comment = text.partition("#")
+        self.name, _, rest = code.strip().partition(" ")
+        self.target = None
+        self.operands = []
+        if re.fullmatch(r"((data16|cs) +)*nop\b.*", code.strip()):
+            self.name = "nop"          # a prefix of another instruction is not modelled
+            return
+        rest = rest.strip()
+        if self.name.startswith("j") or self.name == "call":
+            self.target = int(rest.split()[0], 16)
+            return
+        comment = comment.split()
+        target = int(comment[0], 16) if comment else None
+        if rest:
+            self.operands = [operand(o.strip(), target) for o in rest.split(",")]
+
+
+def unknown(i):
+    return CannotShow("the instruction %s is not modelled: add it to tools/machine/x86.py, and run "
+                      "tools/machine/check.py --long" % i.text)
+
+
+# Operations on vectors. Each takes sources of L bytes and perhaps a number, and returns L bytes.
+
+def by_halves(f):
+    """Applies f to each 16 bytes."""
+    def whole(*args):
+        sources = [a for a in args if isinstance(a, list)]
+        rest = [a for a in args if not isinstance(a, list)]
+        return joined(f(*parts, *rest) for parts in zip(*[chunks(s, 16) for s in sources]))
+    return whole
+
+
+def shuffle_bytes(data, mask):
+    result = []
+    for b in mask:
+        i = number([b])
+        result.append(0 if i & 128 else data[i & 15])
+    return result
+
+
+def pick(n, *places):
+    """The parts of n bytes of two sources, by their places in both together."""
+    return by_halves(lambda a, b: joined(chunks(a + b, n)[p] for p in places))
+
+
+def shuffle_four(data, imm, n):
+    parts = chunks(data, n)
+    return joined(parts[imm >> 2 * k & 3] for k in range(4))
+
+
+def blend(n):
+    def f(a, b, imm):
+        parts = list(zip(chunks(a, n), chunks(b, n)))
+        return joined(pair[imm >> (k % 8) & 1] for k, pair in enumerate(parts))
+    return f
+
+
+def blend_by_sign(n):
+    def f(a, b, mask):
+        result = []
+        for x, y, m in zip(chunks(a, n), chunks(b, n), chunks(mask, n)):
+            chosen = T.leaves(lambda s, p, q: q if s >> 7 else p, 8 * n, T.word(m[-1:]), T.word(x),
+                              T.word(y))
+            if chosen is None:
+                raise CannotShow("there is no rule for a blend by %r" % T.word(m))
+            result += T.split(chosen)
+        return result
+    return f
+
+
+def insertps(a, b, imm):
+    parts = chunks(a, 4)
+    parts[imm >> 4 & 3] = chunks(b, 4)[imm >> 6] if len(b) == 16 else b
+    return joined([0] * 4 if imm >> k & 1 else parts[k] for k in range(4))
+
+
+def shufps(a, b, imm):
+    x, y = chunks(a, 4), chunks(b, 4)
+    return x[imm & 3] + x[imm >> 2 & 3] + y[imm >> 4 & 3] + y[imm >> 6 & 3]
+
+
+def shufpd(a, b, imm):
+    """Each of the lanes has its own two bits."""
+    result = []
+    for k, (x, y) in enumerate(zip(chunks(a, 16), chunks(b, 16))):
+        result += chunks(x, 8)[imm >> 2 * k & 1] + chunks(y, 8)[imm >> (2 * k + 1) & 1]
+    return result
+
+
+def permute_halves(a, b, imm):
+    halves = [a[:16], a[16:], b[:16], b[16:]]
+    return joined([0] * 16 if imm >> 4 * k & 8 else halves[imm >> 4 * k & 3] for k in range(2))
+
+
+def permute_words(indices, data):
+    parts = chunks(data, 4)
+    return joined(parts[number(i) & 7] for i in chunks(indices, 4))
+
+
+def insert_half(a, b, imm):
+    return a[:16] + b if imm & 1 else b + a[16:]
+
+
+def sign_extended(data):
+    """Four bytes as eight, with the sign."""
+    f = lambda n: n | (1 << 64) - (1 << 32) if n >> 31 else n
+    result = T.leaves(f, 64, T.word(data + [0] * 4))
+    if result is None:
+        raise CannotShow("there is no rule for the sign of %r" % T.word(data))
+    return T.split(result)
+
+
+UNARY = {
+    "pshufd": by_halves(lambda a, imm: shuffle_four(a, imm, 4)),
+    "pshuflw": by_halves(lambda a, imm: shuffle_four(a[:8], imm, 2) + a[8:]),
+    "pshufhw": by_halves(lambda a, imm: a[:8] + shuffle_four(a[8:], imm, 2)),
+    "permq": lambda a, imm: shuffle_four(a, imm, 8),
+    "permpd": lambda a, imm: shuffle_four(a, imm, 8),
+}
+
+BINARY = {
+    "paddq": lambda a, b: lanewise(lambda x, y: T.add(64, (1, x), (1, y)), 8, a, b),
+    "paddd": lambda a, b: lanewise(lambda x, y: T.add(32, (1, x), (1, y)), 4, a, b),
+    "pxor": lambda a, b: bitwise(T.xor, a, b),
+    "por": lambda a, b: bitwise(T.either, a, b),
+    "pand": lambda a, b: bitwise(T.both, a, b),
+    "pshufb": by_halves(shuffle_bytes),
+    "palignr": by_halves(lambda a, b, imm: (b + a + [0] * 32)[imm:imm + 16]),
+    "punpcklqdq": pick(8, 0, 2),
+    "punpckhqdq": pick(8, 1, 3),
+    "punpckldq": pick(4, 0, 4, 1, 5),
+    "punpckhdq": pick(4, 2, 6, 3, 7),
+    "pblendw": blend(2),
+    "pblendd": blend(4),
+    "blendps": blend(4),
+    "blendpd": blend(8),
+    "shufps": by_halves(shufps),
+    "shufpd": shufpd,
+    "insertps": insertps,
+    "perm2i128": permute_halves,
+    "perm2f128": permute_halves,
+    "permd": permute_words,
+    "permps": permute_words,
+    "inserti128": insert_half,
+    "insertf128": insert_half,
+}
+for _new, _old in {
+        "xorps": "pxor", "xorpd": "pxor", "unpcklpd": "punpcklqdq", "movlhps": "punpcklqdq",
+        "unpckhpd": "punpckhqdq", "unpcklps": "punpckldq", "unpckhps": "punpckhdq"}.items():
+    BINARY[_new] = BINARY[_old]
+
+SHIFTS = {
+    "psrlq": (T.shr, 8), "psllq": (T.shl, 8), "psrld": (T.shr, 4), "pslld": (T.shl, 4),
+}
+INSERTS = {"pinsrw": 2, "pinsrd": 4, "pinsrq": 8}
+# Whether an operand in memory must be aligned.
+MOVES = {"movdqa": True, "movaps": True, "movapd": True, "movdqu": False, "movups": False,
+         "movupd": False}
+BROADCASTS = {"pbroadcastq": 8, "broadcastsd": 8, "pbroadcastd": 4, "broadcastss": 4,
+              "broadcasti128": 16, "broadcastf128": 16}
+BLENDS = {"blendvps": 4, "blendvpd": 8, "pblendvb": 1}
+# From how many bytes to how many, and how.
+EXTENSIONS = {"pmovsxdq": (4, 8, sign_extended), "pmovzxwd": (2, 4, lambda c: c + [0, 0])}
+
+
+class X86(Machine):
+    RED_ZONE = 128
+
+    def __init__(self, regions, assumed):
+        super().__init__(regions, assumed)
+        self.general = [junk("r%d" % i, 8) for i in range(16)]
+        self.vector = [junk("v%d" % i, 32) for i in range(16)]
+
+    def stack_pointer(self):
+        return T.word(self.general[RSP])
+
+    def start(self, sp, back, arguments):
+        """The state at the entry of a function, by the ABI."""
+        self.stack = sp
+        self.general[RSP] = T.split(sp)
+        for register, t in zip(ARGUMENTS, arguments):
+            self.general[register] = T.split(t)
+
+    def saved(self):
+        return [list(self.general[r]) for r in SAVED]
+
+    def check_return(self, sp, back, saved):
+        if self.returned_to is not back:
+            raise IsWrong("it returns to %r" % self.returned_to)
+        if T.word(self.general[RSP]) is not T.add(64, (1, sp), (1, T.const(64, 8))):
+            raise IsWrong("the stack pointer is not restored")
+        if self.saved() != saved:
+            raise IsWrong("a register that belongs to the caller is not restored")
+
+    def address(self, o):
+        parts = []
+        for factor, register, offset in o.parts:
+            if register is None:
+                value = T.const(64, offset)
+            else:
+                value = image() if register == IMAGE else T.word(self.general[register])
+            parts.append((factor, value))
+        return T.add(64, *parts)
+
+    def read(self, o, size=None, aligned=False):
+        if o.kind == "general":
+            return self.general[o.index][:o.size]
+        if o.kind == "vector":
+            return self.vector[o.index][:o.size]
+        if o.kind == "memory":
+            return self.load(self.address(o), o.size or size, aligned)
+        if size is None:
+            raise CannotShow("a constant has no size")
+        return list((o.value & (1 << 8 * size) - 1).to_bytes(size, "little"))
+
+    def write(self, o, data, vex=False, aligned=False):
+        if o.kind == "general":
+            if len(data) != o.size:
+                raise CannotShow("the result has not the size of its register")
+            kept = [0] * 4 if o.size == 4 else self.general[o.index][o.size:]
+            self.general[o.index] = list(data) + kept
+        elif o.kind == "vector":
+            kept = self.vector[o.index][len(data):]
+            self.vector[o.index] = list(data) + ([0] * len(kept) if vex else kept)
+        elif o.kind == "memory":
+            self.store(self.address(o), data, aligned)
+        else:
+            raise CannotShow("the result is a constant")
+
+    def step(self, i):
+        """Executes an instruction. Returns the address of the next one, or None after a return."""
+        name, ops = i.name, i.operands
+        method = getattr(self, "do_" + name, None)
+        if method:
+            return method(i, *ops) or i.next
+        if name == "ret" and not ops:
+            self.returned_to = T.word(self.load(self.stack_pointer(), 8))
+            self.general[RSP] = T.split(T.add(64, (1, self.stack_pointer()), (1, T.const(64, 8))))
+            return None
+        if name == "jmp":
+            return i.target
+        if name in ("je", "jne"):
+            return i.target if self.is_zero(self.zero) == (name == "je") else i.next
+        self.vector_step(i)
+        return i.next
+
+    # Words.
+
+    def do_nop(self, i, *ops):
+        pass
+
+    def do_mov(self, i, to, source):
+        if to.kind == "memory" and source.kind == "number" and to.size is None:
+            raise unknown(i)
+        size = to.size or source.size
+        self.write(to, self.read(source, size))
+
+    do_movabs = do_mov
+
+    def do_movzx(self, i, to, source):
+        data = self.read(source)
+        self.write(to, data + [0] * (to.size - len(data)))
+
+    def do_lea(self, i, to, source):
+        self.write(to, T.split(self.address(source))[:to.size])
+
+    def do_push(self, i, source):
+        top = T.add(64, (1, T.word(self.general[RSP])), (-1, T.const(64, 8)))
+        data = self.read(source)
+        if len(data) != 8:
+            raise unknown(i)
+        self.general[RSP] = T.split(top)
+        self.store(top, data)
+
+    def do_pop(self, i, to):
+        top = T.word(self.general[RSP])
+        data = self.load(top, 8)
+        self.general[RSP] = T.split(T.add(64, (1, top), (1, T.const(64, 8))))
+        self.write(to, data)
+
+    def arithmetic(self, f, to, source, keep=True):
+        a = self.read(to)
+        b = self.read(source, len(a))
+        result = f(8 * len(a), T.word(a), T.word(b))
+        self.zero = result
+        if keep:
+            self.write(to, T.split(result))
+
+    def do_add(self, i, to, source):
+        self.arithmetic(lambda w, a, b: T.add(w, (1, a), (1, b)), to, source)
+
+    def do_sub(self, i, to, source):
+        self.arithmetic(lambda w, a, b: T.add(w, (1, a), (-1, b)), to, source)
+
+    def do_dec(self, i, to):
+        self.arithmetic(lambda w, a, b: T.add(w, (1, a), (-1, b)), to, Operand("number", value=1))
+
+    def do_xor(self, i, to, source):
+        self.arithmetic(T.xor, to, source)
+
+    def do_test(self, i, to, source):
+        self.arithmetic(T.both, to, source, keep=False)
+
+    def do_shr(self, i, to, source=None):
+        count = source.value if source else 1
+        data = self.read(to)
+        if not 0 < count < 8 * len(data):
+            raise unknown(i)
+        result = T.shr(8 * len(data), T.word(data), count)
+        self.zero = result
+        self.write(to, T.split(result))
+
+    def cmov(self, i, to, source, swap):
+        old, new = T.word(self.read(to)), T.word(self.read(source))
+        if swap:
+            old, new = new, old
+        # `old` if not zero, `new` if zero
+        self.write(to, T.split(self.choose(self.zero, new, old)))
+
+    def do_cmove(self, i, to, source):
+        self.cmov(i, to, source, False)
+
+    def do_cmovne(self, i, to, source):
+        self.cmov(i, to, source, True)
+
+    def do_vzeroupper(self, i):
+        self.vector = [r[:16] + [0] * 16 for r in self.vector]
+
+    # Vectors. Each method returns whether it knows this form of its instruction.
+
+    def vector_step(self, i):
+        vex = i.name.startswith("v")
+        name, ops, imm = i.name[vex:], i.operands, []
+        if ops and ops[-1].kind == "number":
+            ops, imm = ops[:-1], [ops[-1].value]
+        for table, method in (
+                (MOVES, self.move), (("movq", "movd"), self.move_word),
+                (BROADCASTS, self.broadcast), (UNARY, self.unary), (SHIFTS, self.shift),
+                (BINARY, self.binary), (INSERTS, self.insert), (BLENDS, self.blend),
+                (EXTENSIONS, self.extend)):
+            if name in table and len(ops) > 1 - (table is SHIFTS) and method(name, ops, imm, vex):
+                return
+        raise unknown(i)
+
+    def move(self, name, ops, imm, vex):
+        if len(ops) != 2 or imm:
+            return False
+        data = self.read(ops[1], aligned=MOVES[name])
+        self.write(ops[0], data, vex, aligned=MOVES[name])
+        return True
+
+    def move_word(self, name, ops, imm, vex):
+        if len(ops) != 2 or imm:
+            return False
+        n = 8 if name == "movq" else 4
+        data = self.read(ops[1], n)[:n]
+        self.write(ops[0], data + [0] * (16 - n) if ops[0].kind == "vector" else data, vex)
+        return True
+
+    def broadcast(self, name, ops, imm, vex):
+        if len(ops) != 2 or imm or not vex:
+            return False
+        n = BROADCASTS[name]
+        self.write(ops[0], self.read(ops[1], n)[:n] * (ops[0].size // n), vex)
+        return True
+
+    def unary(self, name, ops, imm, vex):
+        if len(ops) != 2 or len(imm) != 1:
+            return False
+        self.write(ops[0], UNARY[name](self.read(ops[1], aligned=not vex), *imm), vex)
+        return True
+
+    def shift(self, name, ops, imm, vex):
+        f, n = SHIFTS[name]
+        if len(ops) != 1 + vex or len(imm) != 1 or not 0 < imm[0] < 8 * n:
+            return False
+        self.write(ops[0], lanewise(lambda t: f(8 * n, t, imm[0]), n, self.read(ops[-1])), vex)
+        return True
+
+    def binary(self, name, ops, imm, vex):
+        if len(ops) != 2 + vex or name == "movlhps" and ops[-1].kind != "vector":
+            return False
+        n = ops[1].size if ops[1].kind == "memory" and not vex else None
+        # Operands of 16 bytes in memory must be aligned in the old encodings.
+        aligned = not vex and not (name == "insertps" and ops[-1].kind == "memory")
+        result = BINARY[name](self.read(ops[vex]), self.read(ops[-1], n, aligned), *imm)
+        if len(result) != ops[0].size:
+            return False
+        self.write(ops[0], result, vex)
+        return True
+
+    def insert(self, name, ops, imm, vex):
+        if len(ops) != 2 + vex or len(imm) != 1:
+            return False
+        n = INSERTS[name]
+        parts = chunks(list(self.read(ops[vex])), n)
+        parts[imm[0] % len(parts)] = self.read(ops[-1], n)[:n]
+        self.write(ops[0], joined(parts), vex)
+        return True
+
+    def blend(self, name, ops, imm, vex):
+        if imm or not (len(ops) == 2 and not vex or len(ops) == 3 + vex):
+            return False
+        mask = self.read(ops[-1]) if len(ops) == 3 + vex else self.vector[0][:16]
+        a, b = self.read(ops[vex]), self.read(ops[1 + vex], aligned=not vex)
+        self.write(ops[0], blend_by_sign(BLENDS[name])(a, b, mask), vex)
+        return True
+
+    def extend(self, name, ops, imm, vex):
+        size, n, f = EXTENSIONS[name]
+        if len(ops) != 2 or imm:
+            return False
+        data = chunks(self.read(ops[1], ops[0].size * size // n)[:ops[0].size * size // n], size)
+        self.write(ops[0], joined(f(part) for part in data), vex)
+        return True
+
+
+Model = X86
