@@ -11,7 +11,7 @@
 - docs/LARGE.md and the guides: the lengths from which threads start, and their buffers, are those of the code.
 - CHANGELOG.md: its newest version is that of the headers and packages.
 - The pages CALLING.md and the README of the crate blake2: their Rust is that of the crates that are tested.
-- The sources: each public item has a doc comment.
+- The sources: each public item has a doc comment, and no file has a mark of a merge that was left open.
 
 usage: tests/pages.py
 """
@@ -358,12 +358,18 @@ def check_symbolic_links():
     return [line for line in done.stdout.splitlines() if line.startswith("120000 ")]
 
 
+def check_merges():
+    """No mark of a merge that was left open"""
+    done = subprocess.run(["git", "-C", TOP, "grep", "-nIE", "^(<{7}|>{7})( |$)"], stdout=subprocess.PIPE, text=True)
+    return done.stdout.splitlines()
+
+
 def main():
     if sys.argv[1:]:
         sys.exit("usage: tests/pages.py")
     for check in (check_clauses, check_edits, check_specification, check_version, check_files, check_links,
-                  check_quotes, check_speeds, check_threads, check_comments, check_symbolic_links):
-        absent = check is check_symbolic_links and not os.path.exists(os.path.join(TOP, ".git"))
+                  check_quotes, check_speeds, check_threads, check_comments, check_symbolic_links, check_merges):
+        absent = check in (check_symbolic_links, check_merges) and not os.path.exists(os.path.join(TOP, ".git"))
         try:
             wrong = [] if absent else list(check())
         except Unreadable as error:
