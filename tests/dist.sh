@@ -127,6 +127,7 @@ done
 mv dist/wasm/vulfsjor.wasm "$work/old"
 check "a file that is absent is found" eval "! dist current"
 mv "$work/old" dist/wasm/vulfsjor.wasm
+check "a file without a hash is found" changed 1 dist/MANIFEST '/  aarch64\/b2\.s$/d'
 check "a hash that is too short is found" changed 1 dist/MANIFEST 's|^.\(.*  aarch64/b2\.s\)$|\1|'
 for file in b2/src/main.rt b2_commands/src/lib.rt blake2_ffi/src/lib.rt blake2_state/src/lib.rt; do
     check "a change of crates/$file is found" changed 1 "crates/$file" '$a fn more() {} // more'

@@ -1,13 +1,16 @@
 #!/usr/bin/env python3
-"""Compiles and runs every example of the README and the tutorial, or of the pages that are named, and compares what
-it prints.
+"""Compiles and runs every example of the README, the tutorial and the guides for C, Rust and large data, or of the
+pages that are named, and compares what it prints.
 
     tests/examples.py [--library FOLDER] [PAGE..]
 
-An example is a fenced block in c, cpp, rust, python or sh; js/tests/readme.test.mjs runs those in JavaScript. A block
-in C, C++ or Rust is a whole program. The blocks of a page run in order in one folder, which starts with a file
-`data.bin` of 100,000 bytes and a link to the script b2; what a block leaves there is the next one's. If a block in
-`text` follows an example, it is what the example prints; a line that ends with `...` is the beginning of a line.
+An example is a fenced block in c, cpp, rust, python, cmake or sh; js/tests/readme.test.mjs runs those in JavaScript,
+and python/tests/test_package.py those in Python's guide. A block in C, C++ or Rust is a whole program, in C `hello.c`.
+A block in cmake is a whole CMakeLists.txt, whose program `hello` is run. The blocks of a page run in order in one
+folder, which starts with a file `data.bin` of 100,000 bytes and links to b2, c and dist of the repository; what a
+block leaves there is the next one's. If a block in `text` follows an example, it is what the example prints; a line
+that ends with `...` is the beginning of a line. In cmake and sh, PATH is the repository and FOLDER the installed
+library.
 
 FOLDER is where c/install.sh has installed the library; without it the script installs it. The module for Python is
 built here, and the script ends with an error if that fails. An example whose tool is absent is skipped: for Python
@@ -26,7 +29,8 @@ import tempfile
 import tap
 
 TOP = pathlib.Path(__file__).resolve().parent.parent
-TOOLS = {"c": "cc", "cpp": "c++", "rust": "cargo", "python": "python3", "sh": "bash"}
+TOOLS = {"c": "cc", "cpp": "c++", "rust": "cargo", "python": "python3", "cmake": "cmake", "sh": "bash"}
+PAGES = ("README.md", "docs/TUTORIAL.md", "docs/LARGE.md", "c/README.md", "rust/README.md")
 # Succeeds in a Python that the module can be built for.
 BUILDS_MODULES = """import os, setuptools, sys, sysconfig
 header = os.path.join(sysconfig.get_path("include"), "Python.h")
@@ -54,9 +58,15 @@ class Runner:
     def __init__(self, folder, library, module):
         self.folder = folder
         self.library = library
-        self.environment = dict(os.environ, LC_ALL="C.UTF-8", CARGO_NET_OFFLINE="true",
-                                PYTHONPATH=str(module))
+        self.environment = dict(os.environ, LC_ALL="C.UTF-8", CARGO_NET_OFFLINE="true", PYTHONPATH=str(module),
+                                CARGO_TARGET_DIR=str(folder.parent / "target"))
         (folder / "data.bin").write_bytes(bytes(i % 251 for i in range(100_000)))
+        for name in ("b2", "c", "dist"):
+            (folder / name).symlink_to(TOP / name)
+
+    def filled(self, text):
+        """A block with the folders that it names."""
+        return re.sub(r"\bPATH\b", str(TOP), text.replace("FOLDER", str(self.library)))
 
     def call(self, *words, at=None):
         """What a program prints; it has to succeed."""
@@ -76,10 +86,17 @@ class Runner:
         return self.call("./example")
 
     def run_c(self, text):
-        return self.compiled("cc", "example.c", text, "-std=c99", "-D_POSIX_C_SOURCE=200809L")
+        return self.compiled("cc", "hello.c", text, "-std=c99", "-D_POSIX_C_SOURCE=200809L")
 
     def run_cpp(self, text):
-        return self.compiled("c++", "example.cpp", text)
+        return self.compiled("c++", "hello.cpp", text)
+
+    def run_cmake(self, text):
+        (self.folder / "CMakeLists.txt").write_text(self.filled(text))
+        build = tempfile.mkdtemp(dir=self.folder)
+        self.call("cmake", "-S", ".", "-B", build, f"-DCMAKE_PREFIX_PATH={self.library}")
+        self.call("cmake", "--build", build)
+        return self.call(f"{build}/hello")
 
     def run_rust(self, text):
         crate = self.folder / "crate"
@@ -88,15 +105,13 @@ class Runner:
         (crate / "Cargo.toml").write_text('[package]\nname = "example"\nversion = "0.0.0"\nedition = "2021"\n'
                                           f'[dependencies]\nvulfsjor = {{ path = "{TOP}" }}\n[workspace]\n')
         self.call("cargo", "build", "--quiet", at=crate)
-        return self.call(str(crate / "target/debug/example"))
+        return self.call(f"{self.environment['CARGO_TARGET_DIR']}/debug/example")
 
     def run_python(self, text):
         return self.call("python3", "-c", text)
 
     def run_sh(self, text):
-        (self.folder / "b2").unlink(missing_ok=True)
-        (self.folder / "b2").symlink_to(TOP / "b2")
-        return self.call("bash", "-euo", "pipefail", "-c", text)
+        return self.call("bash", "-euo", "pipefail", "-c", self.filled(text))
 
 
 def is_as_printed(printed, wanted):
@@ -133,7 +148,7 @@ def build_module(work):
 def main():
     words = argparse.ArgumentParser(usage="tests/examples.py [--library FOLDER] [PAGE..]")
     words.add_argument("--library", type=pathlib.Path)
-    words.add_argument("pages", nargs="*", type=pathlib.Path, default=[TOP / "README.md", TOP / "docs/TUTORIAL.md"])
+    words.add_argument("pages", nargs="*", type=pathlib.Path, default=[TOP / page for page in PAGES])
     words = words.parse_args()
     with tempfile.TemporaryDirectory() as work:
         work = pathlib.Path(work)

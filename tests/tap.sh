@@ -61,8 +61,8 @@ version() {
     sed -nE '/^## [0-9.]+/{s/^## ([0-9.]+).*/\1/p;q}' "$top/CHANGELOG.md" | tr . "${1:-.}"
 }
 
-# The block of a page in this language: PAGE LANGUAGE.
-block_of() { sed -n "/^\`\`\`$2\$/,/^\`\`\`\$/p" "$top/$1" | sed '1d;$d'; }
+# The first block of a page in this language: PAGE LANGUAGE.
+block_of() { sed -n "/^\`\`\`$2\$/,/^\`\`\`\$/{/^\`\`\`\$/q;/^\`\`\`/d;p}" "$top/$1"; }
 
 # The name of `main` in a file of the program in dist/, and the program from it: FILE PROGRAM
 # [ARGUMENTS FOR THE COMPILER..]

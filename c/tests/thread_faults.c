@@ -97,11 +97,28 @@ static int is_interrupted(int file) {
 
 static size_t shortened(size_t n) { return reads.most && n > reads.most ? reads.most : n; }
 
-/* The call of this name in threads.c; it fails with this answer. */
-#define WRAP(type, name, failed, parameters, arguments)  \
-    type __real_##name parameters;                       \
-    type __wrap_##name parameters;                       \
-    type __wrap_##name parameters { return fails_now(#name) ? failed : __real_##name arguments; }
+/* How often each MiB of a long file was read; null: files are read, and not only noted. */
+static unsigned char *seen;
+enum { MIBS = (1 << 12) + 64 + 1 };
+
+static ssize_t note_read(size_t n, off_t from) {
+    off_t at = from >> 20, end = (from + (off_t)n - 1) >> 20;
+
+    for (; at <= end; at++)
+        if (at >= MIBS || __atomic_add_fetch(&seen[at], 1, __ATOMIC_SEQ_CST) > 1) return 0;
+    return (ssize_t)n;
+}
+
+/* The call of this name in threads.c; it fails with this answer. Where files are only noted, the
+ * library does nothing. */
+#define WRAP(type, name, failed, parameters, arguments) \
+    type __real_##name parameters;                      \
+    type __wrap_##name parameters;                      \
+    type __wrap_##name parameters {                     \
+        if (fails_now(#name)) return failed;            \
+        if (seen && *#name == 'v') return 0;            \
+        return __real_##name arguments;                 \
+    }
 
 WRAP(int32_t, vulfsjor_ffi_tree_leaves, -1,
      (uint8_t * o, size_t on, uint64_t f, uint32_t e, const uint8_t *i, size_t n, const uint8_t *s,
@@ -203,6 +220,7 @@ WRAP(long, sysconf, (int name)) {
 }
 
 WRAP(ssize_t, pread, (int f, void *to, size_t n, off_t from)) {
+    if (seen) return note_read(n, from);
     return is_interrupted(f) || fails_now("pread") ? -1 : __real_pread(f, to, shortened(n), from);
 }
 
@@ -547,6 +565,25 @@ static void memory_is_as_said(void) {
     }
 }
 
+/* Each byte of a file of more than 2^32 bytes is read once. Nothing is hashed. */
+static void long_files(void) {
+    static const uint32_t leaves[] = {65536,   1 << 22, 1 << 24, (1 << 24) + (1 << 20),
+                                      1 << 26, 1u << 31};
+    size_t once;
+
+    take(FEW, 65536, 3);
+    CHECK(!truncate(path, ((off_t)(MIBS - 1) << 20) + 1) && (seen = __real_malloc(MIBS)));
+    for (size_t i = 0; i < sizeof leaves / sizeof *leaves; i++) {
+        memset(seen, 0, MIBS);
+        leaf = leaves[i];
+        CHECK(!root_of_file());
+        for (once = 0; once < MIBS && seen[once] == 1; once++) continue;
+        CHECK(once == MIBS);
+    }
+    __real_free(seen);
+    seen = NULL;
+}
+
 int main(int count, char **words) {
     if (count < 2 || !(message = __real_malloc(BYTES))) return 2;
     snprintf(path, sizeof path, "%s/message", words[1]);
@@ -564,6 +601,7 @@ int main(int count, char **words) {
     } else {
         RUN(least_bytes());
         RUN(memory_is_as_said());
+        RUN(long_files());
     }
     unlink(path);
     __real_free(message);

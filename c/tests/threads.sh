@@ -168,13 +168,6 @@ parallel_example() {
         diff <(roots_by_hashlib 65536 file_3000000) -
 }
 
-# The program of docs/LARGE.md, which hashes a changed leaf again.
-change_example() {
-    block_of docs/LARGE.md c >"$work/change.c" &&
-        cc -O2 "${warnings[@]}" -I"$include" "$work/change.c" "$archive" -o "$work/change" &&
-        [ "$("$work/change")" = "the root of the changed message" ]
-}
-
 test_threads() {
     local kind
     mkdir "$work/files"
@@ -199,7 +192,6 @@ test_threads() {
     else
         skip "parts.c, with sanitizers" "cc has none"
     fi
-    check "the program of docs/LARGE.md" change_example
     check "the program c/examples/tree_sum.c" tree_sum_example
     check "the program c/examples/tree_parts.c" tree_parts_example
     if has parallel && [ -x "$work/tree_parts" ]; then
