@@ -10,7 +10,7 @@
  *
  * Call the functions vulfsjor_blake2b* and the like. They are inline: each checks for null pointers
  * and then makes one call of a function vulfsjor_ffi_* of the library. The functions vulfsjor_ffi_*
- * are proved to do what this file says, provided that the caller meets the preconditions. The inline
+ * are proved to do what this file says if the caller meets the preconditions. The inline
  * functions are tested, not proved. Other languages call vulfsjor_ffi_* directly.
  *
  * Lengths are in bytes. A pointer may be null if its length is 0.
@@ -173,9 +173,9 @@ typedef struct vulfsjor_tree_state {
     uint64_t closed;             /* the number of closed leaves */
     uint64_t leaf_length;        /* the bytes of a leaf, 1 to 2^32 - 1 */
     size_t salt_length;          /* the bytes of the salt, 0 to 16 */
-    size_t persona_length;       /* the bytes of the personalization, 0 to 16 */
+    size_t personal_length;      /* the bytes of the personalization, 0 to 16 */
     uint8_t salt[16];            /* starts with the salt */
-    uint8_t persona[16];         /* starts with the personalization */
+    uint8_t personal[16];        /* starts with the personalization */
 } vulfsjor_tree_state;
 
 /* The library requires a 64-bit platform and these layouts. */
@@ -201,18 +201,18 @@ int32_t vulfsjor_ffi_blake2b(uint8_t *out, size_t out_length, const uint8_t *inp
 int32_t vulfsjor_ffi_blake2b_many(uint8_t *out, size_t out_length, size_t output_size,
                                   const vulfsjor_message *messages, size_t count,
                                   const uint8_t *key, size_t key_length, const uint8_t *salt,
-                                  size_t salt_length, const uint8_t *persona,
-                                  size_t persona_length);
+                                  size_t salt_length, const uint8_t *personal,
+                                  size_t personal_length);
 int32_t vulfsjor_ffi_blake2b_init_salt_personal(vulfsjor_blake2b_state *state, size_t output_size,
                                                 const uint8_t *key, size_t key_length,
                                                 const uint8_t *salt, size_t salt_length,
-                                                const uint8_t *persona, size_t persona_length);
+                                                const uint8_t *personal, size_t personal_length);
 int32_t vulfsjor_ffi_blake2b_init_key(vulfsjor_blake2b_state *state, size_t output_size,
                                       const uint8_t *key, size_t key_length);
 int32_t vulfsjor_ffi_blake2b_init_tree(vulfsjor_blake2b_state *state, size_t output_size,
                                        const uint8_t *key, size_t key_length, const uint8_t *salt,
-                                       size_t salt_length, const uint8_t *persona,
-                                       size_t persona_length, uint8_t fanout, uint8_t depth,
+                                       size_t salt_length, const uint8_t *personal,
+                                       size_t personal_length, uint8_t fanout, uint8_t depth,
                                        uint32_t leaf_length, uint64_t node_offset,
                                        uint8_t node_depth, uint8_t inner_length);
 int32_t vulfsjor_ffi_blake2b_init_param(vulfsjor_blake2b_state *state, const uint8_t *block,
@@ -234,18 +234,18 @@ int32_t vulfsjor_ffi_blake2s(uint8_t *out, size_t out_length, const uint8_t *inp
 int32_t vulfsjor_ffi_blake2s_many(uint8_t *out, size_t out_length, size_t output_size,
                                   const vulfsjor_message *messages, size_t count,
                                   const uint8_t *key, size_t key_length, const uint8_t *salt,
-                                  size_t salt_length, const uint8_t *persona,
-                                  size_t persona_length);
+                                  size_t salt_length, const uint8_t *personal,
+                                  size_t personal_length);
 int32_t vulfsjor_ffi_blake2s_init_salt_personal(vulfsjor_blake2s_state *state, size_t output_size,
                                                 const uint8_t *key, size_t key_length,
                                                 const uint8_t *salt, size_t salt_length,
-                                                const uint8_t *persona, size_t persona_length);
+                                                const uint8_t *personal, size_t personal_length);
 int32_t vulfsjor_ffi_blake2s_init_key(vulfsjor_blake2s_state *state, size_t output_size,
                                       const uint8_t *key, size_t key_length);
 int32_t vulfsjor_ffi_blake2s_init_tree(vulfsjor_blake2s_state *state, size_t output_size,
                                        const uint8_t *key, size_t key_length, const uint8_t *salt,
-                                       size_t salt_length, const uint8_t *persona,
-                                       size_t persona_length, uint8_t fanout, uint8_t depth,
+                                       size_t salt_length, const uint8_t *personal,
+                                       size_t personal_length, uint8_t fanout, uint8_t depth,
                                        uint32_t leaf_length, uint64_t node_offset,
                                        uint8_t node_depth, uint8_t inner_length);
 int32_t vulfsjor_ffi_blake2s_init_param(vulfsjor_blake2s_state *state, const uint8_t *block,
@@ -264,9 +264,10 @@ size_t vulfsjor_ffi_blake2s_state_size(void);
 
 int32_t vulfsjor_ffi_tree_root(uint8_t *out, size_t out_length, const uint8_t *input,
                                size_t input_length, const uint8_t *salt, size_t salt_length,
-                               const uint8_t *persona, size_t persona_length, uint32_t leaf_length);
+                               const uint8_t *personal, size_t personal_length,
+                               uint32_t leaf_length);
 int32_t vulfsjor_ffi_tree_init(vulfsjor_tree_state *state, size_t output_size, const uint8_t *salt,
-                               size_t salt_length, const uint8_t *persona, size_t persona_length,
+                               size_t salt_length, const uint8_t *personal, size_t personal_length,
                                uint32_t leaf_length);
 int32_t vulfsjor_ffi_tree_update(vulfsjor_tree_state *state, const uint8_t *input,
                                  size_t input_length);
@@ -279,12 +280,12 @@ size_t vulfsjor_ffi_tree_state_size(void);
 uint64_t vulfsjor_ffi_tree_leaf_count(uint64_t message_length, uint32_t leaf_length);
 int32_t vulfsjor_ffi_tree_leaves(uint8_t *out, size_t out_length, uint64_t first, uint32_t ends,
                                  const uint8_t *input, size_t input_length, const uint8_t *salt,
-                                 size_t salt_length, const uint8_t *persona, size_t persona_length,
-                                 uint32_t leaf_length);
+                                 size_t salt_length, const uint8_t *personal,
+                                 size_t personal_length, uint32_t leaf_length);
 int32_t vulfsjor_ffi_tree_root_of_leaves(uint8_t *out, size_t out_length, const uint8_t *digests,
                                          size_t digests_length, const uint8_t *salt,
-                                         size_t salt_length, const uint8_t *persona,
-                                         size_t persona_length, uint32_t leaf_length);
+                                         size_t salt_length, const uint8_t *personal,
+                                         size_t personal_length, uint32_t leaf_length);
 int32_t vulfsjor_ffi_tree_next_leaves(const vulfsjor_tree_state *state, uint8_t *out,
                                       size_t out_length, uint64_t skip, const uint8_t *input,
                                       size_t input_length);

@@ -7,7 +7,7 @@
 # usage: tests/key_scan/run.sh [--cpu CPU]
 #
 # CPU is the current processor if it is left out: x86-64-v3 if it has AVX2 and what belongs to it,
-# x86-64-v2 otherwise. It builds the calls of keyed.txt, a crate in Rattle, over the crates as `rt
+# x86-64-v2 otherwise. It builds the calls of calls.rt.txt, a crate in Rattle, over the crates as `rt
 # ci` or `rt check` has proved them, and links them to scan.c. It needs the toolchain's command rt,
 # a C compiler and python3: if one is absent it is skipped.
 set -u
@@ -32,7 +32,7 @@ build() {
     local kit
     kit=$(kit_folder)
     prove_libraries blake2_state "$work/proofs" && mkdir -p "$work/src" &&
-        cp "$here/keyed.txt" "$work/src/lib.rt" &&
+        cp "$here/calls.rt.txt" "$work/src/lib.rt" &&
         build_crate "$work" keyed blake2 "$work" --crate-type staticlib --cpu "$cpu" \
             --toolchain "$kit/toolchain" -o "$work/keyed.a"
 }
@@ -45,7 +45,7 @@ scan() {
             -Wl,-z,now -I"$work" -o "$work/scan" "$here/scan.c" "$work/keyed.a" && "$work/scan"
 }
 
-check "the build of tests/key_scan/keyed.txt for $cpu" build || finish
+check "the build of tests/key_scan/calls.rt.txt for $cpu" build || finish
 for length in 0 64 1000; do
     scan "$length" >"$work/lines" 2>&1
     status=$?
