@@ -13,15 +13,16 @@ import { LONGEST_LEAF, MOST_THREADS } from "../src/threads.js";
 const cwd = fileURLToPath(new URL("..", import.meta.url));
 const read = (path) => readFileSync(new URL(path, import.meta.url), "utf8");
 
-for (const [page, count] of [["js/README.md", 4], ["README.md", 1]]) {
+for (const [page, count] of [["js/README.md", 6], ["README.md", 1]]) {
   test(`each example of ${page} runs alone`, () => {
     const blocks = [...read(`../../${page}`).matchAll(/```js\n([^`]*)```/g)];
     assert.equal(blocks.length, count);
     for (const [, block] of blocks) {
       const wanted = [...block.matchAll(/; \/\/ (.*)$/gm)].map(([, line]) => line);
       assert.ok(wanted.length > 0, block);
+      const type = /^import \{/m.test(block) ? "module" : "commonjs";
       const got = execFileSync(
-        process.execPath, ["--input-type=module", "-e", block], { cwd, encoding: "utf8" });
+        process.execPath, [`--input-type=${type}`, "-e", block], { cwd, encoding: "utf8" });
       assert.deepEqual(got.trim().split("\n"), wanted);
     }
   });
