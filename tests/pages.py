@@ -8,7 +8,8 @@
 - docs/MAP.md, docs/REVIEW.md and CONTRIBUTING.md: each file that they name is there, and MAP has each crate.
 - README.md and docs/SPEED.md: the speeds above the tables are those of the tables. The digits of the first digest in
   README.md are hashlib's.
-- docs/LARGE.md and the guides: the lengths from which threads start, and their buffers, are those of the code.
+- docs/LARGE.md, the guides and the doc comments of Rust: the versions, the lengths from which threads start, and their
+  buffers are those of the code.
 - CHANGELOG.md: its newest version is that of the headers and packages.
 - The pages CALLING.md and the README of the crate blake2: their Rust is that of the crates that are tested.
 - The sources: each public item has a doc comment, and no file has a mark of a merge that was left open.
@@ -286,8 +287,8 @@ def check_speeds():
         yield from (f"{page}: the tables of docs/SPEED.md say {row!r}" for row in rows if row not in text)
 
 
-def check_threads():
-    """The lengths from which threads start, and their buffers"""
+def check_guides():
+    """The numbers of the guides: versions, lengths from which threads start, and their buffers"""
     code, rust = read("c/threads.c"), read("rust/src/threads.rs") + read("rust/src/file.rs")
     least, part, most = (int(find(rf"\b{name}_BYTES\b[ =(]*1 << ([0-9]+)", code, "c/threads.c"))
                          for name in ("LEAST", "PART", "MOST_BUFFER"))
@@ -295,11 +296,18 @@ def check_threads():
         if f" {name}_BYTES: u64 = 1 << {bits};" not in rust:
             yield f"rust/src/: {name}_BYTES is not that of c/threads.c"
     one, two = (f"{1 << bits >> 10} KiB" for bits in (least, least + 1))
+    compiler = find(r'(?m)^rust-version = "(.*)"$', read("Cargo.toml"), "Cargo.toml")
+    cmake = find(r"cmake_minimum_required\(VERSION (.*)\)", read("c/CMakeLists.txt"), "c/CMakeLists.txt")
     for page, words in (("docs/LARGE.md", f"one thread for each {one}, and so a second one from {two} on"),
                         ("docs/LARGE.md", f"up to {1 << part >> 20} MiB or four leaves, whichever is more, and of at "
                                           f"most {1 << most >> 20} MiB"),
-                        ("rust/README.md", f"It starts a second thread from {two} on")):
-        if words not in one_spaced(read(page)):
+                        ("rust/README.md", f"It starts a second thread from {two} on"),
+                        ("rust/README.md", f"You need Rust {compiler} or later"),
+                        ("rust/src/threads.rs", f"(less than {one} for each)"),
+                        ("rust/src/file.rs", f"A regular file of at least {two} is read and hashed by"),
+                        ("rust/src/file.rs", f"Each thread has a buffer of at most {1 << most >> 20} MiB"),
+                        ("c/README.md", f"**CMake** {cmake} or later")):
+        if words not in one_spaced(read(page).replace("///", "")):
             yield f"{page}: the code says {words!r}"
 
 
@@ -368,7 +376,7 @@ def main():
     if sys.argv[1:]:
         sys.exit("usage: tests/pages.py")
     for check in (check_clauses, check_edits, check_specification, check_version, check_files, check_links,
-                  check_quotes, check_speeds, check_threads, check_comments, check_symbolic_links, check_merges):
+                  check_quotes, check_speeds, check_guides, check_comments, check_symbolic_links, check_merges):
         absent = check in (check_symbolic_links, check_merges) and not os.path.exists(os.path.join(TOP, ".git"))
         try:
             wrong = [] if absent else list(check())

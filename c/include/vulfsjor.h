@@ -623,8 +623,8 @@ VULFSJOR_MUST_USE static inline int vulfsjor_blake2s_many(
 /* -- The tree of two levels over BLAKE2b (the BLAKE2 document, 2.10). The message is cut into
  * leaves of leaf_length bytes, the last of which may be shorter. The root hashes their digests of
  * 64 bytes. All nodes have the salt and the personalization, fanout 0, depth 2, this leaf length
- * and inner length 64. The last leaf and the root have the last-node flag. The root is not the
- * BLAKE2b digest of the message. */
+ * and inner length 64. The last leaf and the root have the last-node flag. The tree has no key, and
+ * the root is not the BLAKE2b digest of the message. */
 
 /* Writes the root of the input's tree to out: outlen bytes, 1 to 64. leaf_length is at least 1, and
  * the salt and the personalization have 0 to 16 bytes each. Returns -1 and writes nothing if a

@@ -26,6 +26,8 @@ test_secrets() {
     for family in b s; do
         awk 'NR % 17 == 1 && length($0) < 8900' "$cases/$family" >"$work/cases/$family"
     done
+    check "the numbers of cases in docs/WIPING.md" grep -qF "The test has $(wc -l <"$work/cases/b") \
+cases of BLAKE2b and $(wc -l <"$work/cases/s") of BLAKE2s," "$top/docs/WIPING.md"
     for build in $builds; do
         if [ "$build" != none ]; then
             library=$work/build_$build/libvulfsjor.a
