@@ -4,8 +4,8 @@
  *
  *   cc -std=gnu99 -I FOLDER/include lengths.c ARCHIVE-threads.a ARCHIVE.a -pthread -o lengths
  *   cc the same with -DTEST_S                the same for BLAKE2s, without the tree
- *   ./lengths                                one call of each kind, in seconds
- *   VULFSJOR_TEST_HUGE=1 ./lengths           every call, in about 80 s
+ *   ./lengths                                calls that take seconds
+ *   VULFSJOR_TEST_HUGE=1 ./lengths           every call
  *
  * Byte i of the message is i % PERIOD % 251. The file has zeros, except the bytes that sparse_file
  * sets. These lines print the digests below, in their order, with 9 GB of memory:

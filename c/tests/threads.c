@@ -364,7 +364,7 @@ static void refused_arguments(void) {
 static void refused_arguments_of_files(void) {
     int ends[2];
 
-    CHECK(!pipe(ends) && write(ends[1], "a", 1) == 1);
+    CHECK(!pipe(ends) && write(ends[1], "a", 1) == 1 && !close(ends[1]));
     REFUSED(EINVAL, vulfsjor_tree_root_fd(root, 0, ends[0], 0, 0, 0, 0, 4, 2));
     REFUSED(EINVAL, vulfsjor_tree_root_fd(root, 65, ends[0], 0, 0, 0, 0, 4, 2));
     REFUSED(EINVAL, vulfsjor_tree_root_fd(NULL, 64, ends[0], 0, 0, 0, 0, 4, 2));
@@ -379,7 +379,6 @@ static void refused_arguments_of_files(void) {
     REFUSED(EINVAL, vulfsjor_tree_root_file(root, 64, other, 0, 0, message, 17, 4, 2));
     REFUSED(EINVAL, vulfsjor_tree_root_file(root, 64, other, 0, 0, 0, 0, 0, 2));
     close(ends[0]);
-    close(ends[1]);
 }
 
 /* The file is closed again if its descriptor is 0, as in a program without standard input. */
