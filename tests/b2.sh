@@ -132,12 +132,14 @@ for cache in "$work/cache" relative; do
     call=(XDG_CACHE_HOME="$cache" HOME="$work/home" "${user[@]}" "$repository/b2" sum)
     run "${call[@]}"
     check "the program is in a cache for this clone" builds "$folder/b2-$machine"
+    check "and a line says why" says "b2: $repository/out cannot be written: trying $folder"
     run "${call[@]}"
     check "and stays there" ends 7 "<sum>in$here" 0
 done
 for cache in "" "$repository"; do
     run XDG_CACHE_HOME="$cache" HOME= "${user[@]}" "$repository/b2" sum
     check "or the variable to set is named" stops "b2: $repository/out cannot be written: set XDG_"
+    check "and no folder that is not there" eval '! says /dev/null'
 done
 chmod u+w "$repository" && touch "$repository/out"
 run XDG_CACHE_HOME="$work/third" "$repository/b2" sum
