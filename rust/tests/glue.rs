@@ -425,6 +425,12 @@ macro_rules! family {
                     let (a, b) = (first(size), first(size - 1));
                     assert_eq!(a.cmp(&b), a.as_bytes().cmp(b.as_bytes()));
                 }
+                // a digest of one byte, and one of two bytes that begins with it and ends with 0
+                let short = first(1);
+                let wanted = [short.as_bytes()[0], 0];
+                let hash = |i: u32| Params::new().output_size(2).$hash(i.to_le_bytes()).unwrap();
+                let long = (0..1 << 20).map(hash).find(|long| *long == wanted).unwrap();
+                assert!(short < long && long > short && short != long);
                 assert_eq!(hash_of(digest), hash_of(&bytes[..]));
                 assert_ne!(hash_of(digest), hash_of($hasher::digest(b"abd")));
             }
