@@ -122,9 +122,13 @@ def is_as_printed(printed, wanted):
         for line, each in zip(lines, wanted_lines))
 
 
-def has_tool(language):
-    """Whether the example's tool is there, and for Python what the module is built with."""
-    return bool(shutil.which(TOOLS[language])) and (language != "python" or can_build_module())
+def absent(language, text):
+    """What an example needs and is not here, or '': its tool, those that a block of the shell or of CMake calls, and
+    for Python what the module is built with."""
+    called = {"cmake ": "cmake", "pkg-config": "pkg-config", "PkgConfig": "pkg-config"}
+    needed = [TOOLS[language], *(tool for words, tool in called.items() if words in text)]
+    missing = [tool for tool in needed if not shutil.which(tool)]
+    return missing[0] if missing else "" if language != "python" or can_build_module() else "python with headers"
 
 
 @functools.cache
@@ -160,8 +164,8 @@ def main():
             runner = Runner(pathlib.Path(tempfile.mkdtemp(dir=work)), library.resolve(), module)
             for line, language, text, wanted in examples(page):
                 name = f"{page.resolve().relative_to(TOP)}, line {line}"
-                if not has_tool(language):
-                    tap.result(True, name, skipped=f"no {language} here")
+                if absent(language, text):
+                    tap.result(True, name, skipped=f"no {absent(language, text)}")
                     continue
                 why = error_of(runner, language, text, wanted)
                 tap.result(not why, name, why)
