@@ -31,7 +31,7 @@ import tempfile
 import time
 
 import speed
-from speed import OUT, PEERS, TIMED, TOP, Column, Parser, at_least, say
+from speed import OUT, PEERS, TIMED, TOP, Column, say
 
 HERE = os.path.join(TOP, "bench", "callers")
 MARKS = ("<!-- measured by bench/callers.py -->\n", "<!-- end of what bench/callers.py measured -->\n")
@@ -165,20 +165,6 @@ def programs(folder):
     return found
 
 
-def times(command, file, wanted):
-    """The seconds of one run over this input, by the clock and of the processor."""
-    file.seek(0)
-    start = time.perf_counter()
-    process = subprocess.Popen(command, stdin=file, stdout=subprocess.PIPE, text=True)
-    printed = process.stdout.read()
-    _, status, used = os.wait4(process.pid, 0)
-    taken = time.perf_counter() - start
-    process.returncode = os.waitstatus_to_exitcode(status)
-    if process.returncode != 0 or wanted not in printed:
-        sys.exit(f"callers: {command[0]} failed, or gave another digest")
-    return taken, used.ru_utime + used.ru_stime
-
-
 def file_table(options, folder):
     """The table of programs over a file: medians of runs that take turns."""
     commands = programs(folder)
@@ -189,31 +175,13 @@ def file_table(options, folder):
         say("timing programs")
         for _ in range(options.turns):
             for name, command in commands.items():
-                runs[name].append(times(command, file, wanted))
-    titles = ("by the clock, GB/s", "of the processor's time, GB/s")
-    rows = [[f"{options.mebibytes} MiB from a file, BLAKE2b-512"]]
-    for title in titles:
-        rows[0] += [title, "ratio to `b2 sum`"]
-    rows.append(["---"] * len(rows[0]))
-    median = {name: [statistics.median(column) for column in zip(*taken)] for name, taken in runs.items()}
-    for name, taken in median.items():
-        row = [name]
-        for place, seconds in enumerate(taken):
-            row += [speed.rate(options.mebibytes << 20)(seconds * 1e9),
-                    f"{median['ours: `b2 sum`'][place] / seconds:.2f}"]
-        rows.append(row)
-    return "".join(map(speed.row_text, rows))
-
-
-def options_given():
-    """The options of the command line."""
-    parser = Parser(description=__doc__.split("\n\n")[0])
-    parser.add_argument("--mebibytes", type=at_least(1), default=1024, help="the size of the file (1024)")
-    parser.add_argument("--turns", type=at_least(1), default=7, help="how often each program is timed (7)")
-    which = parser.add_mutually_exclusive_group()
-    which.add_argument("--only", choices=("pieces", "once", "file"), help="only this part")
-    which.add_argument("--write", action="store_true", help="put all into docs/SPEED.md and docs/callers.svg")
-    return parser.parse_args()
+                runs[name].append(speed.times(command, file, wanted))
+    columns = []
+    for place, title in enumerate(("by the clock, GB/s", "of the processor's time, GB/s")):
+        best = {name: statistics.median(run[place] for run in taken) for name, taken in runs.items()}
+        base = ("`b2 sum`", best["ours: `b2 sum`"])
+        columns.append(Column(title, best, speed.rate(options.mebibytes << 20), base))
+    return speed.table(f"{options.mebibytes} MiB from a file, BLAKE2b-512", columns)
 
 
 def parts_of(options):
@@ -235,7 +203,7 @@ def parts_of(options):
 
 
 def main():
-    speed.run(options_given(), parts_of, MARKS)
+    speed.run(speed.options_of(__doc__, 1024, 7, ("pieces", "once", "file")), parts_of, MARKS)
 
 
 if __name__ == "__main__":

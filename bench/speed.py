@@ -39,6 +39,7 @@ usage: bench/speed.py [--mebibytes N] [--turns N] [--only long|kernel|short|seve
 import ctypes
 import functools
 import hashlib
+import json
 import mmap
 import os
 import re
@@ -54,7 +55,6 @@ TOP = os.path.dirname(os.path.dirname(os.path.abspath(__file__)))
 sys.path.insert(0, os.path.join(TOP, "tests"))
 from blake2_kinds import FAMILIES, KINDS, Parser, at_least  # noqa: E402
 from oracle import tree_root  # noqa: E402
-import plot  # noqa: E402
 
 PAGE = os.path.join(TOP, "docs", "SPEED.md")
 PICTURE = os.path.join(TOP, "docs", "speed.svg")
@@ -108,14 +108,16 @@ TIMED = (Timed("b512"), Timed("s256"))
 
 @dataclass
 class Column:
-    """A column of a table: the best time of each candidate by its name, and its text."""
+    """A column of a table: the best time of each candidate by its name, its text, and the name and the time of
+    the candidate that ratios are to. If it is left out, it is the fastest that is not this project's."""
     title: str
     best: dict
     text: Callable
+    base: tuple = None
 
-    def best_peer(self):
-        """The name of the fastest candidate that is not this project's."""
-        return min((name for name in self.best if not name.startswith("ours")), key=self.best.get)
+    def __post_init__(self):
+        self.base = self.base or min(((name, taken) for name, taken in self.best.items()
+                                      if not name.startswith("ours")), key=lambda pair: pair[1])
 
 
 def say(text):
@@ -264,17 +266,23 @@ def peak_and_digest(command, file):
     return peak, max(printed.split(), key=len)
 
 
+def times(command, file, wanted=""):
+    """The nanoseconds of one run over this input by the clock, and of the processor. The run prints what is wanted."""
+    file.seek(0)
+    start = time.perf_counter_ns()
+    process = subprocess.Popen(command, stdin=file, stdout=subprocess.PIPE, text=True)
+    printed = process.stdout.read()
+    _, status, used = os.wait4(process.pid, 0)
+    taken = time.perf_counter_ns() - start
+    process.returncode = os.waitstatus_to_exitcode(status)
+    if process.returncode != 0 or wanted not in printed:
+        sys.exit(f"speed: {command[0]} failed, or gave another digest")
+    return taken, (used.ru_utime + used.ru_stime) * 1e9
+
+
 def program_timer(command, file):
     """A function that returns the CPU time in nanoseconds of one run over this input."""
-    def timer():
-        file.seek(0)
-        process = subprocess.Popen(command, stdin=file, stdout=subprocess.DEVNULL)
-        _, status, used = os.wait4(process.pid, 0)
-        process.returncode = os.waitstatus_to_exitcode(status)
-        if process.returncode != 0:
-            sys.exit(f"speed: {command[0]} failed")
-        return (used.ru_utime + used.ru_stime) * 1e9
-    return timer
+    return lambda: times(command, file)[1]
 
 
 def file_digest_timer(kind, file):
@@ -366,29 +374,27 @@ def through_python(kind, message):
     return {"hashlib through Python": loop_timer(python_loop(kind, message))}
 
 
+def checked_loop(name, function, data, length, wanted):
+    """The loop in C over a library's digests of the first bytes of the data, once it is seen to write what is wanted."""
+    first = ctypes.c_char.from_buffer(data)
+    out = ctypes.create_string_buffer(max(64, len(wanted)))
+
+    def loop(count):
+        return clock_in_c()(ctypes.cast(function, ctypes.c_void_p), ctypes.addressof(first), length, out, count)
+    loop(1)
+    if out.raw[:len(wanted)] != wanted:
+        sys.exit(f"speed: {name} gave another digest of {length} bytes")
+    return loop
+
+
 class Memory:
-    """What is timed in memory, and the clock in C that times it."""
+    """What is timed in memory."""
 
     def __init__(self, turns, found, beside=lambda kind, message: {}):
-        self.clock = clock_in_c()
         self.turns = turns
         self.libraries = found
         self.beside = beside  # from a kind and a message to more timers by their names
         self.measured = {}
-
-    def loop(self, name, kind, message, length):
-        """The loop in C over one library's digests, once one of them is seen to be right."""
-        function = ctypes.cast(self.libraries[name][kind.word], ctypes.c_void_p)
-        address = ctypes.addressof(ctypes.c_char.from_buffer(message))
-        out = ctypes.create_string_buffer(64)
-
-        def loop(count):
-            return self.clock(function, address, length, out, count)
-        loop(1)
-        wanted = hashlib.new(kind.algorithm, message[:length]).digest()
-        if out.raw[:len(wanted)] != wanted:
-            sys.exit(f"speed: {name} gave another digest of {length} bytes")
-        return loop
 
     def best(self, kind, length):
         """The best time in nanoseconds of a digest of this number of bytes by each library, and through Python."""
@@ -401,7 +407,9 @@ class Memory:
         say(f"timing libraries at {kind.title} of {length:,} bytes")
         message = mmap.mmap(-1, max(length, 1))
         message[:] = os.urandom(len(message))
-        timers = {name: loop_timer(self.loop(name, kind, message, length)) for name in self.libraries}
+        wanted = hashlib.new(kind.algorithm, message[:length]).digest()
+        timers = {name: loop_timer(checked_loop(name, found[kind.word], message, length, wanted))
+                  for name, found in self.libraries.items()}
         timers |= self.beside(kind, message[:length])
         in_a_table = length in SHORT_BYTES or length == KERNEL_BYTES
         return best_of(self.turns * (MEMORY_TURNS if in_a_table else PLOT_TURNS), timers)
@@ -424,14 +432,14 @@ def table(corner, columns, last=None):
     title, cells = last if last else (None, {})
     titles = [corner]
     for column in columns:
-        titles += [column.title, f"ratio to {column.best_peer()}"]
+        titles += [column.title, f"ratio to {column.base[0]}"]
     text = row_text(titles + ([title] if last else []))
     text += row_text(["---"] * (len(titles) + bool(last)))
     for name in dict.fromkeys(name for column in columns for name in column.best):
         row = [name]
         for column in columns:
-            taken, fastest = column.best.get(name), column.best[column.best_peer()]
-            row += [column.text(taken), f"{fastest / taken:.2f}"] if taken else ["", ""]
+            taken = column.best.get(name)
+            row += [column.text(taken), f"{column.base[1] / taken:.2f}"] if taken else ["", ""]
         text += row_text(row + ([cells.get(name, "")] if last else []))
     return text
 
@@ -498,29 +506,15 @@ def several_functions():
     return found
 
 
-def several_loop(clock, name, function, kind, messages):
-    """The loop in C over the digests of several messages, once they are seen to be right."""
-    count, size = SEVERAL[kind.word], kind.bits // 8
-    length = len(messages) // count
-    address = ctypes.addressof(ctypes.c_char.from_buffer(messages))
-    out = ctypes.create_string_buffer(count * size)
-
-    def loop(turns):
-        return clock(ctypes.cast(function, ctypes.c_void_p), address, len(messages), out, turns)
-    loop(1)
-    parts = (messages[j * length:(j + 1) * length] for j in range(count))
-    if out.raw != b"".join(hashlib.new(kind.algorithm, part).digest() for part in parts):
-        sys.exit(f"speed: {name} gave other digests of {count} messages of {length} bytes")
-    return loop
-
-
-def several_table(kind, clock, functions, turns):
+def several_table(kind, functions, turns):
     """The table of several messages in parallel."""
     columns = []
     for length in SEVERAL_BYTES:
         say(f"timing several messages at {kind.title} of {length:,} bytes")
         messages = bytearray(os.urandom(SEVERAL[kind.word] * length))
-        timers = {name: loop_timer(several_loop(clock, name, found[kind.word], kind, messages))
+        wanted = b"".join(hashlib.new(kind.algorithm, messages[at:at + length]).digest()
+                          for at in range(0, len(messages), length))
+        timers = {name: loop_timer(checked_loop(name, found[kind.word], messages, len(messages), wanted))
                   for name, found in functions.items()}
         best = best_of(turns * MEMORY_TURNS, timers)
         columns.append(Column(f"{length:,} bytes, ns", best, "{:.0f}".format))
@@ -542,16 +536,9 @@ def tree_functions():
 
 
 def tree_timer(name, function, message, wanted):
-    """The timer of a function in C over a message, once it is seen to give the wanted digest."""
-    address = ctypes.addressof(ctypes.c_char.from_buffer(message))
-    out = ctypes.create_string_buffer(64)
-
-    def timer():
-        return clock_in_c()(ctypes.cast(function, ctypes.c_void_p), address, len(message), out, 1)
-    timer()
-    if out.raw != wanted:
-        sys.exit(f"speed: {name} gave another digest")
-    return timer
+    """The timer of one call of a function in C over a message."""
+    loop = checked_loop(name, function, message, len(message), wanted)
+    return lambda: loop(1)
 
 
 def tree_table(turns):
@@ -582,7 +569,8 @@ def picture(places, label, bytes_at, best_at):
         best = {place: best_at(kind, place) for place in places}
         panels[kind.title] = {name: {place: bytes_at(place) / best[place][name] for place in places}
                               for name in best[places[0]]}
-    return plot.svg(places, panels, label)
+    command = [os.path.join(TOP, "bench", "plot.py"), label]
+    return subprocess.run(command, input=json.dumps(panels), stdout=subprocess.PIPE, text=True, check=True).stdout
 
 
 def write_page(parts, marks):
@@ -612,14 +600,15 @@ def heading(options):
     return f"{machine()}; {versions()}; {turns}.\n"
 
 
-def options_given():
-    """The options of the command line."""
-    parser = Parser(description="Times this project next to other programs and libraries.")
-    parser.add_argument("--mebibytes", type=at_least(1), default=512, help="the size of the file (512)")
-    parser.add_argument("--turns", type=at_least(1), default=6, help="how often each program is timed (6)")
+def options_of(text, mebibytes, turns, only=()):
+    """The options of the command line: the text says what the program does, and the numbers are the defaults."""
+    parser = Parser(description=text.split("\n\n")[0])
+    parser.add_argument("--mebibytes", type=at_least(1), default=mebibytes, help=f"the size of the file ({mebibytes})")
+    parser.add_argument("--turns", type=at_least(1), default=turns, help=f"how often each program is timed ({turns})")
     which = parser.add_mutually_exclusive_group()
-    which.add_argument("--only", choices=("long", "kernel", "short", "several", "tree"), help="only this part")
-    which.add_argument("--write", action="store_true", help="put all into docs/SPEED.md and docs/speed.svg")
+    if only:
+        which.add_argument("--only", choices=only, help="only this part")
+    which.add_argument("--write", action="store_true", help="put all into docs/SPEED.md, and the plots into docs/")
     return parser.parse_args()
 
 
@@ -636,7 +625,7 @@ def parts_of(options):
         yield from (with_load(short_table(kind, memory)) for kind in TIMED)
     if options.only in (None, "several"):
         functions = several_functions()
-        yield from (with_load(several_table(kind, clock_in_c(), functions, options.turns)) for kind in TIMED)
+        yield from (with_load(several_table(kind, functions, options.turns)) for kind in TIMED)
     if options.only in (None, "tree"):
         yield with_load(tree_table(options.turns * TREE_TURNS))
     if options.write:
@@ -660,7 +649,7 @@ def run(options, parts_of, marks):
 
 
 def main():
-    run(options_given(), parts_of, MARKS)
+    run(options_of(__doc__, 512, 6, ("long", "kernel", "short", "several", "tree")), parts_of, MARKS)
 
 
 if __name__ == "__main__":

@@ -26,7 +26,7 @@ import time
 
 import speed
 from callers import installed
-from speed import OUT, TOP, Parser, at_least, say
+from speed import OUT, TOP, Column, say
 
 sys.path.insert(0, os.path.join(TOP, "tests"))
 from oracle import tree_root  # noqa: E402
@@ -94,17 +94,9 @@ def printed(command, path=None):
 
 def table(corner, length, best, base):
     """The best times of the pairs of name and number of threads as a Markdown table, with ratios to one of them."""
-    titles = [corner]
-    for threads in THREADS:
-        titles += [f"{threads} thread{'s' * (threads > 1)}, GB/s", f"ratio to {base}"]
-    text = speed.row_text(titles) + speed.row_text(["---"] * len(titles))
-    for name in dict.fromkeys(name for name, _ in best):
-        row = [name]
-        for threads in THREADS:
-            taken = best.get((name, threads))
-            row += [speed.rate(length)(taken), f"{best[base, 1] / taken:.2f}"] if taken else ["", ""]
-        text += speed.row_text(row)
-    return text
+    return speed.table(corner, [
+        Column(f"{threads} thread{'s' * (threads > 1)}, GB/s", {name: taken for (name, n), taken in best.items() if n == threads},
+               speed.rate(length), (base, best[base, 1])) for threads in THREADS])
 
 
 def memory_table(found, message, wanted, turns):
@@ -145,15 +137,6 @@ def heading(options):
     return f"{speed.machine()}; {peers}leaves of 64 KiB; best of {options.turns}, by the clock.\n"
 
 
-def options_given():
-    """The options of the command line."""
-    parser = Parser(description=__doc__.split("\n\n")[0])
-    parser.add_argument("--mebibytes", type=at_least(1), default=1024, help="the size of the message (1024)")
-    parser.add_argument("--turns", type=at_least(1), default=10, help="how often each candidate is timed (10)")
-    parser.add_argument("--write", action="store_true", help="put the tables into docs/SPEED.md")
-    return parser.parse_args()
-
-
 def parts_of(options):
     """The heading and the tables, each once it is measured."""
     found = functions(installed("installed"))
@@ -171,15 +154,7 @@ def parts_of(options):
 
 
 def main():
-    """Measures, prints, and with --write puts the tables into the page."""
-    options = options_given()
-    os.makedirs(OUT, exist_ok=True)
-    parts = []
-    for part in parts_of(options):
-        print(part, flush=True)
-        parts.append(part)
-    if options.write:
-        speed.write_page(parts, MARKS)
+    speed.run(speed.options_of(__doc__, 1024, 10), parts_of, MARKS)
 
 
 if __name__ == "__main__":
