@@ -66,31 +66,20 @@ check "the crate vulfsjor without std" cargo_here test --no-default-features --l
 check_huge "all tests of the crate vulfsjor without std" cargo_here test --no-default-features
 if [ "$(uname -m)" = x86_64 ]; then
     check "the crate vulfsjor over the build for x86-64-v2" cargo_v2
-    if has qemu-x86_64; then
-        check "the crate vulfsjor on other processors" \
-            cargo_here test --lib --test programs -- --ignored other_processors
-    else
-        skip "the crate vulfsjor on other processors" "no qemu-x86_64"
-    fi
+    needs qemu-x86_64
+    check "the crate vulfsjor on other processors" \
+        cargo_here test --lib --test programs -- --ignored other_processors
 fi
-if ! ls "$(rustc --print sysroot)/lib/rustlib/$arm/lib" >/dev/null 2>&1; then
-    skip "the crate vulfsjor on 64-bit ARM" "no standard library of Rust for $arm"
-elif ! has aarch64-linux-gnu-gcc || ! has qemu-aarch64; then
-    skip "the crate vulfsjor on 64-bit ARM" "no aarch64-linux-gnu-gcc or no qemu-aarch64"
-else
-    check "the crate vulfsjor on 64-bit ARM" cargo_arm
-fi
-if has valgrind; then
-    check "a comparison takes equal time" cargo_here test --test programs -- --ignored equal_time
-else
-    skip "a comparison takes equal time" "no valgrind"
-fi
+needs aarch64-linux-gnu-gcc qemu-aarch64
+ls "$(rustc --print sysroot)/lib/rustlib/$arm/lib" >/dev/null 2>&1 ||
+    missing="no standard library of Rust for $arm"
+check "the crate vulfsjor on 64-bit ARM" cargo_arm
+needs valgrind
+check "a comparison takes equal time" cargo_here test --test programs -- --ignored equal_time
+needs cargo-clippy
+check "clippy has nothing to say" cargo_here clippy --all-targets -- -D warnings
+needs
 check_huge "each call with more than 4 GiB" cargo_here test --test huge -- --ignored
-if has cargo-clippy; then
-    check "clippy has nothing to say" cargo_here clippy --all-targets -- -D warnings
-else
-    skip "clippy" "no cargo-clippy"
-fi
 check "the pages of cargo doc have no broken link" env RUSTDOCFLAGS="-D warnings" \
     cargo doc --no-deps --manifest-path "$top/Cargo.toml"
 check_debian "the crate vulfsjor-digest" digest=0.10 hmac=0.12 hkdf=0.12 pbkdf2=0.11 -- \

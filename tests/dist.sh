@@ -172,6 +172,9 @@ for words in "" "make a" "check a" "what" "make $work/some x86_64/b2-v4.s"; do
     check "the words '$words' are refused" ends 1 "dist.sh: " $words
 done
 
+check "names in dist/ end in the version and the build" \
+    eval 'grep -qx f_1_2_3_v2: dist/x86_64/b2-v2.s && grep -qx f_1_2_3_arm: dist/aarch64/vulfsjor.s'
+
 # What plain_names.py makes of these lines.
 rename() { printf '%s\n' "$@" | tools/plain_names.py _1_v3; }
 check "names are plain and have the version; data and the names of others stay" diff - \

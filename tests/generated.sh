@@ -4,12 +4,9 @@ set -u
 source "$(dirname "$(readlink -f "$0")")/tap.sh"
 
 check "dist/ was made from these sources" "$top/tools/dist.sh" current
-if has python3; then
-    check "tests/vectors.json has the digests of hashlib" "$top/tests/vectors.py" --check
-    check "docs/b2.1 is what tools/manual.py makes of docs/PROGRAM.md" "$top/tools/manual.py" --check
-    check "docs/proved.svg and docs/crates.svg are what tools/pictures.py draws" \
-        "$top/tools/pictures.py" --check
-else
-    skip "the test vectors, the man page and the pictures" "no python3"
-fi
+needs python3
+check "tests/vectors.json has the digests of hashlib" "$top/tests/vectors.py" --check
+check "docs/b2.1 is what tools/manual.py makes of docs/PROGRAM.md" "$top/tools/manual.py" --check
+check "docs/proved.svg and docs/crates.svg are what tools/pictures.py draws" \
+    "$top/tools/pictures.py" --check
 finish

@@ -30,8 +30,18 @@ fail() {
     [ $# -eq 1 ] || tail -n 40 "${@:2}" 2>&1 | sed 's/^/#     /'
 }
 
+# Says which programs the next tests need: those that `check` runs are skipped if one is absent. A
+# script may set `missing` to another reason.
+needs() {
+    local tool
+    missing=
+    for tool; do has "$tool" || missing="no $tool"; done
+}
+missing=
+
 # Runs the command in a subshell, as a test of this name.
 check() {
+    [ -z "$missing" ] || { skip "$1" "$missing" && return 1; }
     if ("${@:2}") >"$work/log" 2>&1; then
         pass "$1"
     else

@@ -10,7 +10,7 @@ import shutil
 import subprocess
 import sys
 
-from sources import TOP, read, version
+from sources import TOP, Unreadable, read, version
 
 MANUAL = os.path.join(TOP, "docs", "b2.1")
 DATE = "2026-11-25"
@@ -39,6 +39,8 @@ def block(part):
     if not part.startswith("|"):
         return ".PP\n" + inline(part.replace("./b2", "b2"))
     rows = [[cell.strip() for cell in line.strip("|").split(" | ")] for line in lines[2:]]
+    if not all(len(row) in (2, 3) for row in rows):
+        raise Unreadable(f"docs/PROGRAM.md: a row of the table {lines[0]!r} does not have two or three cells")
     last = [row if len(row) == 2 else [f"{row[1]} (status {row[0].strip()})", row[2]] for row in rows]
     return "\n".join(f".TP\n{inline(head)}\n{inline(text)}" for head, text in last)
 
@@ -79,4 +81,7 @@ def main():
 
 
 if __name__ == "__main__":
-    sys.exit(main())
+    try:
+        sys.exit(main())
+    except Unreadable as error:
+        sys.exit(f"manual.py: {error}")

@@ -210,11 +210,11 @@ test_emulated() {
             fi
         done
     done
-    if has python3; then
-        check "the example on a processor below x86-64-v2" example_runs_on 0 core2duo
-        check "the example on a processor of x86-64-v2" example_runs_on 2 Nehalem
-        check "the example on a processor of x86-64-v3" example_runs_on 3 Haswell
-    fi
+    needs python3
+    check "the example on a processor below x86-64-v2" example_runs_on 0 core2duo
+    check "the example on a processor of x86-64-v2" example_runs_on 2 Nehalem
+    check "the example on a processor of x86-64-v3" example_runs_on 3 Haswell
+    needs
 }
 
 # A library for tests, which takes one build or goes from one to the other (c/join.sh).
@@ -311,17 +311,15 @@ test_cost() {
 }
 
 test_choosing() {
-    if has nm && has readelf; then
-        check "one list of functions" names_are_one
-        check "the shared library's form" shared_library_is_right
-        check "the assembly with that of another version" texts_stand_together "${here_texts[@]}"
-        check "the archives in a shared library" archives_for_shared_library
-        check "what a program takes of the library" programs_take_what_they_call
-        check "hidden names, libvulfsjor.a" names_are_hidden "$archive"
-        check "hidden names, libvulfsjor-libb2.a" names_are_hidden "$prefix/lib/libvulfsjor-libb2.a"
-    else
-        skip "the names of the libraries" "no nm or no readelf"
-    fi
+    needs nm readelf
+    check "one list of functions" names_are_one
+    check "the shared library's form" shared_library_is_right
+    check "the assembly with that of another version" texts_stand_together "${here_texts[@]}"
+    check "the archives in a shared library" archives_for_shared_library
+    check "what a program takes of the library" programs_take_what_they_call
+    check "hidden names, libvulfsjor.a" names_are_hidden "$archive"
+    check "hidden names, libvulfsjor-libb2.a" names_are_hidden "$prefix/lib/libvulfsjor-libb2.a"
+    needs
     check "calls of a constructor, and of threads" linked_program
     check "first calls of many threads" linked_program -DFIRST_BY_THREADS
     if ! chooses; then
@@ -331,11 +329,9 @@ test_choosing() {
     check "join.sh refuses another list of functions" join_refuses_a_difference
     check "made-up processors" made_up_processors 0
     check "made-up processors, optimized" made_up_processors 2
-    if has clang; then
-        check "the library joined by clang" joined_by clang
-    else
-        skip "the library joined by clang" "no clang"
-    fi
+    needs clang
+    check "the library joined by clang" joined_by clang
+    needs
     check "choose.c" compile_choose choose -O2 $(compiler_knows) &&
         check "the choice on this processor" chooses_level "$level" env
     test_builds

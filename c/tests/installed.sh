@@ -42,6 +42,13 @@ chooses() { is_x86 && [ ${#cpu[@]} -eq 0 ]; }
 # Whether the compiler links a program with these words.
 links() { cc -o "$work/linked" "$empty" "$@" >/dev/null 2>&1; }
 
+# The words for a program that ends at a fault in memory, and what the next tests need for it.
+sanitizers=(-fsanitize=address,undefined -fno-sanitize-recover=all)
+needs_sanitizers() {
+    needs
+    links "${sanitizers[@]}" && "$work/linked" || missing="cc has none"
+}
+
 # The words of a test program for a family.
 family_words() { [ "$1" = s ] && echo -DTEST_S; }
 

@@ -427,41 +427,23 @@ test_installing() {
     check "a project with the files by hand" vendored_by_hand
     check "compilers of several words" compilers_of_words
     check "names of the first drafts" old_names
-    if has cmake; then
-        check "a project with the files by CMake" vendored_by_cmake
-        check "what CMake chooses by the processor" chosen_by_cmake
-        check "find_package of an installation" installed_for_cmake
-        check "find_package after cmake --install" installed_by_cmake
-    else
-        skip "the files and the package by CMake" "no cmake"
-    fi
-    if has make; then
-        check "make install and make uninstall" made_by_make
-    else
-        skip "make install and make uninstall" "no make"
-    fi
-    if is_x86; then
-        check "an installation with only one build" one_build
-        check "where the library comes from" comes_from
-    else
-        skip "an installation with only one build, and where the library comes from" \
-            "the processor is not x86-64"
-    fi
-    if has pkg-config; then
-        check "the words of pkg-config" words_are_these
-    else
-        skip "the words of pkg-config" "no pkg-config"
-    fi
-    if has pkg-config && has cmake; then
-        check "the modules of pkg-config in CMake" modules_by_cmake
-    else
-        skip "the modules of pkg-config in CMake" "no pkg-config, or no cmake"
-    fi
-    if has pkg-config && has meson; then
-        check "the modules of pkg-config in meson" modules_by_meson
-    else
-        skip "the modules of pkg-config in meson" "no pkg-config, or no meson"
-    fi
+    needs cmake
+    check "a project with the files by CMake" vendored_by_cmake
+    check "what CMake chooses by the processor" chosen_by_cmake
+    check "find_package of an installation" installed_for_cmake
+    check "find_package after cmake --install" installed_by_cmake
+    needs make
+    check "make install and make uninstall" made_by_make
+    needs
+    is_x86 || missing="the processor is not x86-64"
+    check "an installation with only one build" one_build
+    check "where the library comes from" comes_from
+    needs pkg-config
+    check "the words of pkg-config" words_are_these
+    needs pkg-config cmake
+    check "the modules of pkg-config in CMake" modules_by_cmake
+    needs pkg-config meson
+    check "the modules of pkg-config in meson" modules_by_meson
 }
 
 part test_installing

@@ -155,20 +155,14 @@ test_family() {
         check "libb2_header.c, blake2$family, -O$level" compare_lines libb2_header -O$level \
             -I"$libb2"
     done
-    if links -fsanitize=address,undefined && "$work/linked"; then
-        check "test.c, blake2$family, with sanitizers" compile_and_run "$work/test_san_$family" \
-            -O1 -fsanitize=address,undefined -fno-sanitize-recover=all $(family_words $family) \
-            "$archive"
-        check "edges.c, blake2$family, with sanitizers" compare_lines edges -O1 -I"$include" \
-            -fsanitize=address,undefined -fno-sanitize-recover=all
-    else
-        skip "test.c, blake2$family, with sanitizers" "cc has none"
-    fi
-    if has valgrind; then
-        check "test.c, blake2$family, in valgrind" run_in_valgrind
-    else
-        skip "test.c, blake2$family, in valgrind" "no valgrind"
-    fi
+    needs_sanitizers
+    check "test.c, blake2$family, with sanitizers" compile_and_run "$work/test_san_$family" -O1 \
+        "${sanitizers[@]}" $(family_words $family) "$archive"
+    check "edges.c, blake2$family, with sanitizers" compare_lines edges -O1 -I"$include" \
+        "${sanitizers[@]}"
+    needs valgrind
+    check "test.c, blake2$family, in valgrind" run_in_valgrind
+    needs
 }
 
 # What calls leave of a key on the dead stack, and in a state.
@@ -186,11 +180,9 @@ test_keys() {
 test_examples() {
     check "the example in C of c/README.md" c_example cc vulfsjor-static c
     check "the example in C with the shared library" c_example cc vulfsjor c
-    if has c++; then
-        check "the example in C++" c_example c++ vulfsjor-static c++
-    else
-        skip "the example in C++" "no C++ compiler c++"
-    fi
+    needs c++
+    check "the example in C++" c_example c++ vulfsjor-static c++
+    needs
     check "the program c/examples/sum.c" sum_example
     check "the benchmark bench/calls.c" bench_runs
     check "the example c/examples/ctypes_hash.py" python_example
@@ -199,14 +191,10 @@ test_examples() {
 test_languages() {
     local header
     for header in vulfsjor.h blake2.h; do check "$header in C" headers_compile $header; done
-    if has c++; then
-        for header in vulfsjor.h blake2.h; do
-            check "$header in C++" header_compiles_as_cpp $header
-        done
-        check "link.cpp" cpp_links
-    else
-        skip "the headers in C++" "no C++ compiler c++"
-    fi
+    needs c++
+    for header in vulfsjor.h blake2.h; do check "$header in C++" header_compiles_as_cpp $header; done
+    check "link.cpp" cpp_links
+    needs
     test_keys
     for family in b s; do
         check "passes.c, blake2$family" passes $family

@@ -56,22 +56,18 @@ program_reads() {
 
 test_program() {
     check "the C of the program" functions_of_program
-    if links -fsanitize=address,undefined && "$work/linked"; then
-        check "the C of the program, with sanitizers" functions_of_program -fsanitize=undefined \
-            -fno-sanitize-recover=all
-    else
-        skip "the C of the program, with sanitizers" "cc has none"
-    fi
-    if is_x86; then
-        check "what it says of processors that are made up" leaves_of_program
-        check "what it says of this processor" functions_of_program -DHAS_LEAVES=0
-        check "who says it" leaves_are_there_once
-        if has musl-gcc && has python3; then
-            check "the program with musl" program_by_musl
-        else
-            skip "the program with musl" "no musl-gcc or no python3"
-        fi
-    fi
+    needs_sanitizers
+    check "the C of the program, with sanitizers" functions_of_program -fsanitize=undefined \
+        -fno-sanitize-recover=all
+    needs
+    is_x86 || missing="the processor is not x86-64"
+    check "what it says of processors that are made up" leaves_of_program
+    check "what it says of this processor" functions_of_program -DHAS_LEAVES=0
+    check "who says it" leaves_are_there_once
+    needs musl-gcc python3
+    is_x86 || missing="the processor is not x86-64"
+    check "the program with musl" program_by_musl
+    needs
     check "the program after a read that fails" program_reads
 }
 

@@ -186,19 +186,13 @@ test_threads() {
             skip "threads.c and thread_faults.c, with the sanitizer $kind" "cc has none"
         fi
     done
-    if links -fsanitize=address,undefined && "$work/linked"; then
-        check "parts.c, with sanitizers" parts_with 20000 -O1 -fsanitize=address,undefined \
-            -fno-sanitize-recover=all
-    else
-        skip "parts.c, with sanitizers" "cc has none"
-    fi
+    needs_sanitizers
+    check "parts.c, with sanitizers" parts_with 20000 -O1 "${sanitizers[@]}"
+    needs
     check "the program c/examples/tree_sum.c" tree_sum_example
     check "the program c/examples/tree_parts.c" tree_parts_example
-    if has parallel && [ -x "$work/tree_parts" ]; then
-        check "tree_parts.c with GNU parallel" parallel_example
-    else
-        skip "tree_parts.c with GNU parallel" "no parallel"
-    fi
+    needs parallel
+    check "tree_parts.c with GNU parallel" parallel_example
 }
 
 part test_threads
