@@ -1,9 +1,8 @@
 #!/usr/bin/env python3
 """Prints the expected values that are in tables of the tests, under the name that is next to each.
 
-Digests come from Python's hashlib; words and entries of transcripts from the scalar BLAKE2 next to this
-file, which is compared with hashlib first; and what a transcript is read as from the reader below, which knows nothing of this repository's.
-"The digest of X" is BLAKE2b-256 of X.
+Digests come from Python's hashlib, and transcripts and what they are read as from from_specification.py, which is
+compared with hashlib first. "The digest of X" is BLAKE2b-256 of X.
 
 usage: tests/expected_values.py [NAME..]
 """
@@ -13,8 +12,8 @@ import random
 import struct
 
 from blake2_kinds import FAMILIES, KINDS, Parser
-from oracle import (WORDS, Tree, blocks, check, hashlib_tree, parameter_words, range_digests,
-                    tree_root)
+from from_specification import Input, Place, bytes_of, entries, fields, parameter_words, read
+from oracle import SCALAR, check, hashlib_node, range_digests, tree_root
 
 ALPHABET = bytes(i % 251 for i in range(6000))
 TEXTS = {"salt": b"salt", "person": b"persona"}
@@ -31,18 +30,12 @@ def blake2(family, size, message=b"", key=b"", salt=b"", persona=b""):
     return FAMILIES[family].function(message, digest_size=size, key=key, salt=salt, person=persona).digest()
 
 
-def lines(family, size, message, key, salt, persona):
-    """The lines of a transcript: the parameter words, and each block with its counter and flag."""
-    digits = WORDS[family].bits // 4
-    words = parameter_words(family, size, key, salt, persona)
-    yield " ".join(["w", *(f"{word:0{digits}x}" for word in words)])
-    for counter, last, block in blocks(family, key, message):
-        yield f"e {counter} {int(last)} {block.hex()}"
-
-
 def transcript_text(family, size, message, key=b"", salt=b"", persona=b""):
     """What `steps` prints."""
-    return "".join(line + "\n" for line in lines(family, size, message, key, salt, persona)).encode()
+    scalar, given = SCALAR[family], Input(message, key or None, salt, persona)
+    lines = [fields(scalar, "w", parameter_words(scalar, size, given)),
+             *(fields(scalar, "e", [], entry) for entry in entries(scalar, given))]
+    return "".join(line + "\n" for line in lines).encode()
 
 
 def copies():
@@ -85,11 +78,11 @@ def replays():
 def transcripts():
     """transcripts: the digest of all entries over 5,000 bytes, without and with a key of three bytes: for
     each its counter in 8 bytes, low first, its flag and its block."""
-    for family in FAMILIES:
+    for family, scalar in SCALAR.items():
         for key in (b"", b"key"):
-            entries = list(blocks(family, key, ALPHABET[:5000]))
-            data = b"".join(struct.pack("<QB", counter, last) + block for counter, last, block in entries)
-            print(f"  {family} key={key.decode()}: {len(entries)} entries, {digest(data)}")
+            found = entries(scalar, Input(ALPHABET[:5000], key or None))
+            data = b"".join(struct.pack("<QB", counter, final) + block for block, counter, final, _ in found)
+            print(f"  {family} key={key.decode()}: {len(found)} entries, {digest(data)}")
 
 
 def large():
@@ -135,53 +128,29 @@ def options():
         print(f"{kind}|{digest(sums)}|{digest(steps)}")
 
 
-def reading(family, words, entries):
-    """What a transcript is read as (size, key, salt, persona, message, last node), if it is of a hash which
-    is the whole tree; otherwise None."""
-    numbers = FAMILIES[family]
-    block = struct.pack("<8" + WORDS[family].code, *words)
-    size, key_size, texts = block[0], block[1], block[-2 * numbers.salt:]
-    if size > numbers.key or key_size > numbers.key or not entries:
-        return None
-    data = b"".join(block for _, _, _, block in entries)[:entries[-1][0]]
-    key, message = (data[:key_size], data[numbers.block:]) if key_size else (b"", data)
-    salt, persona = texts[:numbers.salt], texts[numbers.salt:]
-    if len(key) < key_size or parameter_words(family, size, key, salt, persona) != tuple(words):
-        return None
-    last_node = entries[-1][2]
-    if flagged(blocks(family, key, message), last_node) != entries:
-        return None
-    return size, key, salt, persona, message, last_node
-
-
-def flagged(cut, last_node):
-    """The entries of these blocks: counter, final flag, last-node flag and bytes of each."""
-    return [(counter, last, last and last_node, block) for counter, last, block in cut]
-
-
 def with_bit(number, bit):
     """The number with this bit turned."""
     return number ^ 1 << bit
 
 
-def changed_words(family, words, entries):
+def changed_words(family, words, found):
     """How many of the changes of one bit leave a reading: of the first 16 of word 0, and of words 4 to 7."""
     def count(places, bits):
-        return sum(reading(family, [*words[:i], with_bit(words[i], bit), *words[i + 1:]], entries) is not None
+        return sum(read(family, [*words[:i], with_bit(words[i], bit), *words[i + 1:]], found) is not None
                    for i in places for bit in range(bits))
-    return count([0], 16), count(range(4, 8), WORDS[family].bits)
+    return count([0], 16), count(range(4, 8), family.w)
 
 
-def changed_entries(family, words, entries):
+def changed_entries(family, words, found):
     """The same of each bit of the counters, of the flags and of the blocks."""
     counters = flags = changed_blocks = 0
-    for place, (counter, last, last_node, block) in enumerate(entries):
+    for place, (block, counter, final, last_node) in enumerate(found):
         def is_read(*entry):
-            return reading(family, words, [*entries[:place], entry, *entries[place + 1:]]) is not None
-        counters += sum(is_read(with_bit(counter, bit), last, last_node, block) for bit in range(64))
-        flags += is_read(counter, not last, last_node, block) + is_read(counter, last, not last_node, block)
+            return read(family, words, [*found[:place], entry, *found[place + 1:]]) is not None
+        counters += sum(is_read(block, with_bit(counter, bit), final, last_node) for bit in range(64))
+        flags += is_read(block, counter, not final, last_node) + is_read(block, counter, final, not last_node)
         number = int.from_bytes(block, "little")
-        changed_blocks += sum(is_read(counter, last, last_node, with_bit(number, bit).to_bytes(len(block), "little"))
+        changed_blocks += sum(is_read(with_bit(number, bit).to_bytes(len(block), "little"), counter, final, last_node)
                               for bit in range(8 * len(block)))
     return counters, flags, changed_blocks
 
@@ -189,44 +158,39 @@ def changed_entries(family, words, entries):
 def forged():
     """forged: of the transcripts with one bit changed, how many have a reading: by one of the first 16 bits
     of word 0, by one of words 4 to 7, of a counter, of the two flags and of a block."""
-    for family, length, persona in (("b", 200, b"0123456789abcdef"), ("s", 100, b"01234567")):
-        width, size = FAMILIES[family].block, FAMILIES[family].key
-        for key, salt, persona, length in ((b"", b"", b"", width), (b"", b"", b"", width + 1),
+    for name, length, persona in (("b", 200, b"0123456789abcdef"), ("s", 100, b"01234567")):
+        family = SCALAR[name]
+        for key, salt, persona, length in ((None, b"", b"", family.block), (None, b"", b"", family.block + 1),
                                            (b"\x01", b"abc", persona, length)):
-            words = list(parameter_words(family, size, key, salt, persona))
-            entries = flagged(blocks(family, key, b"\x2a" * length), False)
-            assert reading(family, words, entries) is not None
-            sizes, texts = changed_words(family, words, entries)
-            counters, flags, changed_blocks = changed_entries(family, words, entries)
-            print(f"  {family} {len(entries)} entries: word 0 {sizes}, words 4 to 7 {texts}, "
+            given = Input(b"\x2a" * length, key, salt, persona)
+            words, found = parameter_words(family, family.digest, given), entries(family, given)
+            assert read(family, words, found) is not None
+            sizes, texts = changed_words(family, words, found)
+            counters, flags, changed_blocks = changed_entries(family, words, found)
+            print(f"  {name} {len(found)} entries: word 0 {sizes}, words 4 to 7 {texts}, "
                   f"counters {counters}, flags {flags}, blocks {changed_blocks}")
 
 
-def tree_nodes():
-    """64 nodes of trees for each family, in their order."""
-    for family, numbers in FAMILIES.items():
-        offset_bits = 8 * int(WORDS[family].offset[0])
-        for i in range(64):
-            tree = Tree(37 * i % 256, 1 + 11 * i % 255, 0x9e3779b1 * i % 2**32,
-                        0x9e3779b97f4a7c15 * i % 2**64 >> 64 - offset_bits, 5 * i % 256, i % (numbers.key + 1))
-            salt, persona = ALPHABET[:i % (numbers.salt + 1)], ALPHABET[:2 * i % (numbers.salt + 1)]
-            yield family, salt, persona, tree, i % 3 == 0, ALPHABET[:5 * i]
+def tree_nodes(family):
+    """64 inputs of nodes of trees, in their order."""
+    for i in range(64):
+        place = Place(37 * i % 256, 1 + 11 * i % 255, 0x9e3779b1 * i % 2**32,
+                      0x9e3779b97f4a7c15 * i % 2**64 >> 64 - 8 * family.offset, 5 * i % 256, i % (family.key + 1))
+        salt, persona = ALPHABET[:i % (family.salt + 1)], ALPHABET[:2 * i % (family.salt + 1)]
+        yield Input(ALPHABET[:5 * i], None, salt, persona, place, i % 3 == 0)
 
 
 def nodes():
     """nodes: of each family, the digest of the longest outputs of its nodes, and that of their transcripts: of
     each the words, and then of each entry the counter, the two flags and the block; numbers low byte first."""
-    outputs, transcripts_of = {"b": b"", "s": b""}, {"b": b"", "s": b""}
-    for family, salt, persona, tree, last_node, message in tree_nodes():
-        numbers = FAMILIES[family]
-        outputs[family] += numbers.function(message, salt=salt, person=persona,
-                                            **hashlib_tree(tree, last_node)).digest()
-        words = parameter_words(family, numbers.key, b"", salt, persona, tree)
-        transcripts_of[family] += struct.pack("<8" + WORDS[family].code, *words)
-        for counter, last, is_last_node, block in flagged(blocks(family, b"", message), last_node):
-            transcripts_of[family] += struct.pack("<Q??", counter, last, is_last_node) + block
-    for family in FAMILIES:
-        print(f"  {family}: {digest(outputs[family])} {digest(transcripts_of[family])}")
+    for name, family in SCALAR.items():
+        outputs = transcripts_of = b""
+        for given in tree_nodes(family):
+            outputs += FAMILIES[name].function(given.message, **hashlib_node(given)).digest()
+            transcripts_of += bytes_of(family, parameter_words(family, family.digest, given))
+            for block, *numbers in entries(family, given):
+                transcripts_of += struct.pack("<Q??", *numbers) + block
+        print(f"  {name}: {digest(outputs)} {digest(transcripts_of)}")
 
 
 def trees():

@@ -24,11 +24,11 @@ import hmac
 import json
 import os
 import random
-import struct
 import sys
 
 from blake2_kinds import FAMILIES, Parser, at_least
-from oracle import WORDS, Tree, parameter_words, range_digests, root_of_leaves, tree_root
+from from_specification import Input, Place, bytes_of, parameter_words
+from oracle import SCALAR, range_digests, root_of_leaves, tree_root
 
 FILE = os.path.join(os.path.dirname(os.path.abspath(__file__)), "vectors.json")
 NUMBERS = ("fanout", "depth", "leaf_size", "node_offset", "node_depth", "inner_size", "last_node")
@@ -171,7 +171,7 @@ def groups_of(family):
                 ((size, *texts, length) for length in (1023, 1024, 1025, 4096, 10000, 65536, 65537)
                  for size, *texts in ((longest, 0, 0, 0), (longest // 2, longest, salt, salt))), seed=9)
     yield group("hash", family, f"digest_size key salt person {' '.join(NUMBERS)} length seed",
-                node_rows(dice, longest, salt, 8 * int(WORDS[family].offset[0])))
+                node_rows(dice, longest, salt, 8 * SCALAR[family].offset))
     yield group("many", family, "digest_size key salt person lengths seed", many_rows(dice, longest, salt))
     lengths = (0, 1, 63, 64, 65, 127, 128, 129, 500)
     yield group("hmac", family, "key length seed", ((n, 300 - n // 2, n) for n in lengths))
@@ -240,9 +240,10 @@ def lines(case):
     if case["kind"] == "hash" and "fanout" in case:
         family, numbers = case["hash"][-1], [given[name] for name in NUMBERS]
         yield "n", size, key, salt, person, ",".join(map(str, numbers)), message(case), wanted
-        words = parameter_words(family, size, key, salt, person, Tree(*numbers[:-1]))
-        block = key.ljust(FAMILIES[family].block, b"\0") if key else b""
-        yield "t", struct.pack("<8" + WORDS[family].code, *words), numbers[-1], block + message(case), wanted
+        scalar = SCALAR[family]
+        words = parameter_words(scalar, size, Input(b"", key, salt, person, Place(*numbers[:-1])))
+        block = key.ljust(scalar.block, b"\0") if key else b""
+        yield "t", bytes_of(scalar, words), numbers[-1], block + message(case), wanted
     elif case["kind"] == "hash":
         yield "h", size, key, salt, person, message(case), wanted
     elif case["kind"] == "many":
@@ -298,7 +299,7 @@ def random_case(dice, number):
         longest = max(1, length)
         case["leaf_size"] = some(max(1, longest // 40), longest, max(1, longest // 7), longest // 3 + 1, 2**32 - 1)
     elif kind == "hash" and dice.random() < 0.4:
-        offset_bits = 8 * int(WORDS[family].offset[0])
+        offset_bits = 8 * SCALAR[family].offset
         case |= {"fanout": some(0, 255, 1, 2), "depth": some(1, 255, 2), "leaf_size": some(0, 2**32 - 1, 1),
                  "node_offset": str(some(0, 2**offset_bits - 1, 1)), "node_depth": some(0, 255, 1),
                  "inner_size": some(0, longest), "last_node": dice.randint(0, 1)}

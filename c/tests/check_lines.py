@@ -2,15 +2,15 @@
 """Reads the lines of edges.c, parts.c and libb2_header.c from standard input and compares each digest with Python's hashlib.
 
 Answers 0 where all agree, the line `end` came, and there were 20 others. A parameter block that hashlib can't say (a
-depth of 0, reserved bytes) is hashed by tests/oracle.py, which is first compared with hashlib.
+depth of 0, reserved bytes) is hashed by tests/from_specification.py, which is first compared with hashlib.
 """
 import os
-import struct
 import sys
 
 sys.path.append(os.path.join(os.path.dirname(os.path.abspath(__file__)), "..", "..", "tests"))
 from blake2_kinds import FAMILIES  # noqa: E402
-from oracle import WORDS, Step, compress, tree_node, tree_root  # noqa: E402
+from from_specification import bytes_of, compress, words_of  # noqa: E402
+from oracle import SCALAR, tree_node, tree_root  # noqa: E402
 
 BYTES = bytes(i % 251 for i in range(8 * 128 + 64))
 KEY = bytes(i + 100 for i in range(66))
@@ -20,10 +20,10 @@ PERSONA = bytes(i + 200 for i in range(18))
 
 def of_block(family, block, message):
     """The digest of a message of one block at most, from a parameter block as it stands."""
-    words = WORDS[family]
-    start = tuple(a ^ b for a, b in zip(words.start, struct.unpack("<8" + words.code, block)))
-    step = Step(start, len(message), True, message.ljust(2 * words.bits, b"\0"))
-    return struct.pack("<8" + words.code, *compress(family, step))[:block[0]]
+    numbers = SCALAR[family]
+    start = [a ^ b for a, b in zip(numbers.iv, words_of(numbers, block))]
+    entry = message.ljust(numbers.block, b"\0"), len(message), True, False
+    return bytes_of(numbers, compress(numbers, start, entry))[:block[0]]
 
 
 def hash_line(family, size, keylen, saltlen, personalen, start, length):

@@ -725,7 +725,7 @@ static void unready_trees(void) {
     tree_stays(state);
     state = made, state.salt_length = SALT + 1;
     tree_stays(state);
-    state = made, state.persona_length = SALT + 1;
+    state = made, state.personal_length = SALT + 1;
     tree_stays(state);
 }
 
@@ -733,13 +733,13 @@ static void unready_trees(void) {
 static void long_trees(void) {
     vulfsjor_tree_state made, state;
     CHECK(vulfsjor_tree_init(&made, MAX, salt, 3, persona, 4, 1000) == 0);
-    CHECK(made.leaf_length == 1000 && made.salt_length == 3 && made.persona_length == 4 &&
+    CHECK(made.leaf_length == 1000 && made.salt_length == 3 && made.personal_length == 4 &&
           made.closed == 0);
     CHECK(!memcmp(made.salt, salt, 3) && is_zero(made.salt + 3, 13) &&
-          !memcmp(made.persona, persona, 4));
-    CHECK(is_zero(made.persona + 4, 12) && made.leaf.output_size == 64 &&
+          !memcmp(made.personal, persona, 4));
+    CHECK(is_zero(made.personal + 4, 12) && made.leaf.output_size == 64 &&
           made.root.output_size == MAX);
-    CHECK(sizeof made.salt == 16 && sizeof made.persona == 16 &&
+    CHECK(sizeof made.salt == 16 && sizeof made.personal == 16 &&
           vulfsjor_ffi_tree_state_size() == sizeof made);
     CHECK(sizeof made == 2 * sizeof(state_t) + 4 * 8 + 32);
     uint64_t most = (((uint64_t)1 << 58) - 1) / 1000;

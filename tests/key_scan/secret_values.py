@@ -7,11 +7,10 @@ usage: tests/key_scan/secret_values.py LENGTH
 """
 import hashlib
 import os
-import struct
 import sys
 
 sys.path.insert(0, os.path.dirname(os.path.dirname(os.path.abspath(__file__))))
-from oracle import WORDS, steps  # noqa: E402
+from from_specification import B, S, Input, bytes_of, steps  # noqa: E402
 
 
 def declared(name, data):
@@ -21,8 +20,8 @@ def declared(name, data):
 
 def chain_of(family, size, message, key):
     """The chaining words before the last step, as bytes, where a step stands before it."""
-    made, _ = steps(family, size, message, key)
-    return struct.pack("<8" + WORDS[family].code, *made[-1].chain) if len(made) > 1 else b""
+    made, _ = steps(family, size, Input(message, key))
+    return bytes_of(family, made[-1][0]) if len(made) > 1 else b""
 
 
 def main(length):
@@ -31,12 +30,12 @@ def main(length):
     print(f"enum {{ LENGTH = {length} }};")
     print(declared("key", key))
     print(declared("message", message))
-    for family, size in (("b", 64), ("s", 32)):
-        tag = getattr(hashlib, "blake2" + family)(message, key=key[:size]).digest()
-        chain = chain_of(family, size, message, key[:size])
-        print(declared("tag_" + family, tag))
-        print(declared("chain_" + family, chain))
-        print(f"enum {{ CHAIN_{family.upper()} = {len(chain)} }};")
+    for name, family in (("b", B), ("s", S)):
+        key_of_family = key[:family.key]
+        chain = chain_of(family, family.digest, message, key_of_family)
+        print(declared("tag_" + name, getattr(hashlib, "blake2" + name)(message, key=key_of_family).digest()))
+        print(declared("chain_" + name, chain))
+        print(f"enum {{ CHAIN_{name.upper()} = {len(chain)} }};")
 
 
 if __name__ == "__main__":
