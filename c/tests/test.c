@@ -368,7 +368,7 @@ static void untaken_trees(void) {
     UNTAKEN(state.leaf_length = 5);
     UNTAKEN(state.leaf_length = (uint64_t)1 << 32);
     UNTAKEN(state.salt_length = SALT + 1);
-    UNTAKEN(state.persona_length = ~(size_t)0);
+    UNTAKEN(state.personal_length = ~(size_t)0);
 }
 
 /* Random bytes in the fields of a run: every call ends, and writes within its memory. */
@@ -390,7 +390,7 @@ static void random_trees(void) {
             state.root.counter = 64 * state.closed - state.root.pending_length;
             state.leaf_length = i % 7 ? state.leaf_length % 400 : ~(uint32_t)0;
             state.salt_length %= SALT + 2;
-            state.persona_length %= SALT + 2;
+            state.personal_length %= SALT + 2;
         }
         int updated = vulfsjor_tree_update(&state, bytes, i % sizeof bytes);
         int ended = vulfsjor_tree_final(&state, out, MAX);
