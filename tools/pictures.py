@@ -128,7 +128,7 @@ def graph():
     parts = [arrow(place[name][0], place[name][1] + high, place[below][0], place[below][1] - 2)
              for name in found for below in direct(found, name)]
     for name, (x, y) in place.items():
-        kind = "tested" if name.endswith(("_tests", "_vectors")) else "proved"
+        kind = "tested" if name.endswith(("_tests", "_kat")) else "proved"
         parts += [box(x - wide / 2, y, wide, high, kind), text(x, y + 22, name, "name", "middle")]
     height = 10 + len(rows) * (high + gap)
     parts.append(text(10, height, "An arrow goes from a crate to one that it depends on; what follows from others is "
