@@ -1,22 +1,16 @@
 #!/usr/bin/env python3
 """Times BLAKE2b-512 and BLAKE2s-256 as programs in C and in Rust call them, next to other libraries, in one run.
 
-Tables, as Markdown on standard output, and a plot:
+Tables, as Markdown on standard output:
 
 - pieces: a message of 64 KiB in pieces, with the start and the end of the run: one update a piece.
 - once: digests in one call.
 - file: the program c/examples/sum.c over a file of random bytes, next to `b2 sum` and other programs, in
   turns: the medians of the time by the clock and of the processor's.
-- plot: the message in pieces of 1 byte to 64 KiB, at each power of two.
 
-With --write all of them go into the documents: the tables to docs/SPEED.md, between its two marks for
-callers, and the plot to docs/callers.svg.
-
-"ours from C" are calls of the header's functions in a program in C (callers/callers.c) that is linked with
-the library as c/install.sh installs it, which chooses its build at run time; the two names with a processor are the same
-program over only that build. "ours from Rust" are calls of the crate in rust/ (callers/rust). "hashlib through
-Python" is what a program in Python makes of the same, an object a digest and an update a piece. In all other points
-bench/speed.py says how it is timed, and which packages have the peers.
+With --write all of them go into docs/SPEED.md, between its two marks for callers, and a plot of pieces of 1 byte to 64
+KiB goes into docs/callers.svg. That page says what the names of the rows mean. In all other points bench/speed.py says
+how it is timed.
 
 usage: bench/callers.py [--mebibytes N] [--turns N] [--only pieces|once|file | --write]
 """

@@ -1,38 +1,21 @@
 #!/usr/bin/env python3
 """Times this project's BLAKE2b-512 and BLAKE2s-256 next to other programs and libraries, in one run.
 
-Tables, as Markdown on standard output, and a plot:
+Tables, as Markdown on standard output:
 
 - long: `b2 sum` next to programs, each over one file of random bytes as its standard input: the processor's
-  time (user and system) of the whole program, with its start. hashlib.file_digest runs in this process, with
-  no start of Python.
-- kernel: one message of 1 MiB in memory, digested again and again.
-- short: messages of 0, 64 and 1,024 bytes in memory, digested again and again.
-- several: four messages of BLAKE2b-512 and eight of BLAKE2s-256, each of 64, 1,024 and 4,096 bytes, digested
-  one after another and in parallel, by this project (vulfsjor_ffi_.._many) and by blake2b/s_simd (hash_many).
-- tree: the roots of trees with leaves of 4 KiB, 64 KiB and 1 MiB over one message of 16 MiB in memory, next to
-  one stream over it; blake2b/s_simd's root hashes its leaves by `hash_many`.
-- plot: messages of 64 bytes to 1 MiB in memory, at each power of two.
+  time (user and system) of the whole program.
+- kernel: one message of 1 MiB in memory.
+- short: messages of 0, 64 and 1,024 bytes in memory.
+- several: four messages of BLAKE2b-512 and eight of BLAKE2s-256, digested one after another and in parallel.
+- tree: the roots of trees over one message of 16 MiB in memory, next to one stream over it.
 
-With --write all of them go into the documents: the tables to docs/SPEED.md, between its two marks, and the
-plot to docs/speed.svg.
+With --write all of them go into docs/SPEED.md, between two marks, and a plot of messages of 64 bytes to 1 MiB goes into
+docs/speed.svg. That page says how each candidate is timed, and which packages have the peers. A peer that is absent is
+named on standard error and left out.
 
-This project's code is that of dist/ for x86-64-v2 and for x86-64-v3: the program b2, and the static library vulfsjor,
-whose functions C calls. In memory one loop in C (peers/clock.c) calls each library's function through a pointer,
-a digest a call, so each pays for one such call, and nothing is subtracted from any. "hashlib's C functions"
-are those that hashlib.blake2b and hashlib.blake2s of this Python run, called at their addresses in its
-module _blake2, so nothing of Python is counted; "hashlib through Python" is the same digest as a Python
-program gets it, with the turn of its loop. OpenSSL's algorithm is looked up once, and its context is used
-again. blake2b/s_simd stands for the Rust crates blake2b_simd and blake2s_simd, which choose AVX2 at run time
-if the processor has it; libb2 chooses among its functions likewise.
-
-Each digest is first compared with hashlib's. Then the candidates of a column are timed in turns, and the
-best time of each counts. A ratio is the candidate's speed over that of the column's best peer.
-
-A peer that is absent is named on standard error and left out. Debian's packages have them: libb2-dev,
-libssl-dev, and librust-blake2b-simd-dev with librust-blake2s-simd-dev.
-
-It needs a C compiler, and Python 3.11 or later, whose hashlib has file_digest.
+Each digest is first compared with hashlib's. Then the candidates of a column are timed in turns, and the best time of
+each counts. A ratio is the candidate's speed over that of the column's best peer.
 
 usage: bench/speed.py [--mebibytes N] [--turns N] [--only long|kernel|short|several|tree | --write]
 """
@@ -375,7 +358,7 @@ def through_python(kind, message):
 
 
 def checked_loop(name, function, data, length, wanted):
-    """The loop in C over a library's digests of the first bytes of the data, once it is seen to write what is wanted."""
+    """The loop in C over a library's digests of the data's first bytes, once it is seen to write what is wanted."""
     first = ctypes.c_char.from_buffer(data)
     out = ctypes.create_string_buffer(max(64, len(wanted)))
 

@@ -7,16 +7,13 @@ Two tables, as Markdown on standard output, in 10^9 bytes a second by the clock,
 - file: vulfsjor_tree_root_file next to `b3sum`, and, with one thread, `b2 tree` and `b2sum`. A program is timed with
   its start.
 
-With --write both go into docs/SPEED.md, between the two marks for threads.
-
-The library is the one that c/install.sh installs from dist/, and `b2` the one that ./b2 builds from it, so nothing is
-proved here. Each root is first compared with the one that tests/oracle.py makes with hashlib. Then the candidates
-of a table are timed in turns, and the best time of each counts. Leaves have 64 KiB. A peer that is absent is named on
-standard error and left out: Debian's package b3sum has it.
+With --write both go into docs/SPEED.md, between the two marks for threads. Each root is first compared with hashlib's.
+Then the candidates of a table are timed in turns, and the best time of each counts. Leaves have 64 KiB.
 
 usage: bench/threads.py [--mebibytes N] [--turns N] [--write]
 """
 import ctypes
+import functools
 import os
 import re
 import shutil
@@ -38,14 +35,15 @@ SIZE = 64  # bytes of a root
 
 
 def function_of(library, name, *types):
-    """The function of this name: from its arguments between the output and the leaf length to the root."""
+    """The function of this name: from its arguments between the output and the leaf length to the root. One that
+    starts no threads ignores their number."""
     function = getattr(library, name)
     function.argtypes = [ctypes.c_char_p, ctypes.c_size_t, *types, *[ctypes.c_char_p, ctypes.c_size_t] * 2,
                          ctypes.c_uint32, ctypes.c_uint]
     out = ctypes.create_string_buffer(SIZE)
 
     def root(*given, threads=0):
-        if function(out, SIZE, *given, None, 0, None, 0, LEAF, threads):
+        if function(out, SIZE, *given, b"", 0, b"", 0, LEAF, threads):
             sys.exit(f"threads: {name} failed")
         return out.raw
     return root
@@ -61,15 +59,7 @@ def functions(folder):
     one = ctypes.CDLL(os.path.join(folder, "lib", "libvulfsjor.so"))
     several = ctypes.CDLL(path)
     memory = [ctypes.c_void_p, ctypes.c_size_t]
-    plain = one.vulfsjor_ffi_tree_root
-    plain.argtypes = [ctypes.c_char_p, ctypes.c_size_t, *memory, *[ctypes.c_char_p, ctypes.c_size_t] * 2, ctypes.c_uint32]
-    out = ctypes.create_string_buffer(SIZE)
-
-    def root(*given):
-        if plain(out, SIZE, *given, b"", 0, b"", 0, LEAF):
-            sys.exit("threads: vulfsjor_ffi_tree_root failed")
-        return out.raw
-    return {"vulfsjor_tree_root": root,
+    return {"vulfsjor_tree_root": function_of(one, "vulfsjor_ffi_tree_root", *memory),
             "vulfsjor_tree_root_threads": function_of(several, "vulfsjor_tree_root_threads", *memory),
             "vulfsjor_tree_root_file": function_of(several, "vulfsjor_tree_root_file", ctypes.c_char_p)}
 
@@ -95,7 +85,8 @@ def printed(command, path=None):
 def table(corner, length, best, base):
     """The best times of the pairs of name and number of threads as a Markdown table, with ratios to one of them."""
     return speed.table(corner, [
-        Column(f"{threads} thread{'s' * (threads > 1)}, GB/s", {name: taken for (name, n), taken in best.items() if n == threads},
+        Column(f"{threads} thread{'s' * (threads > 1)}, GB/s",
+               {name: taken for (name, n), taken in best.items() if n == threads},
                speed.rate(length), (base, best[base, 1])) for threads in THREADS])
 
 
@@ -105,9 +96,10 @@ def memory_table(found, message, wanted, turns):
     one, several = found["vulfsjor_tree_root"], found["vulfsjor_tree_root_threads"]
     timers = {("`vulfsjor_tree_root`", 1): clocked(lambda: one(*place), wanted)}
     for threads in THREADS:
-        call = lambda threads=threads: several(*place, threads=threads)  # noqa: E731
-        timers["`vulfsjor_tree_root_threads`", threads] = clocked(call, wanted)
-    return table(f"{len(message) >> 20} MiB in memory", len(message), speed.best_of(turns, timers), "`vulfsjor_tree_root`")
+        timers["`vulfsjor_tree_root_threads`", threads] = clocked(
+            functools.partial(several, *place, threads=threads), wanted)
+    return table(f"{len(message) >> 20} MiB in memory", len(message), speed.best_of(turns, timers),
+                 "`vulfsjor_tree_root`")
 
 
 def file_table(found, path, length, wanted, turns):
@@ -118,8 +110,8 @@ def file_table(found, path, length, wanted, turns):
     command = [program, "tree", "b512", str(LEAF)]
     timers = {("`b2 tree`", 1): clocked(lambda: printed(command, path), wanted.hex())}
     for threads in THREADS:
-        call = lambda threads=threads: found["vulfsjor_tree_root_file"](os.fsencode(path), threads=threads)  # noqa: E731
-        timers["`vulfsjor_tree_root_file`", threads] = clocked(call, wanted)
+        by_threads = functools.partial(found["vulfsjor_tree_root_file"], os.fsencode(path), threads=threads)
+        timers["`vulfsjor_tree_root_file`", threads] = clocked(by_threads, wanted)
         if shutil.which("b3sum"):
             words = ["b3sum", "--num-threads", str(threads), path]
             timers["`b3sum`", threads] = clocked(lambda words=words: printed(words))

@@ -1,18 +1,6 @@
 #!/usr/bin/env python3
-"""Compares the pages with the sources:
-
-- All pages: each clause that they name, as in `replay: digests`, is one of that function. Each link leads to a file,
-  and to a heading of it if it names one; a link to a source whose text is a name leads to a file with that name.
-- docs/CONTRACTS.md: each must-fail edit in its table is one of that crate.
-- docs/SPECIFICATION.md: its numbers, tables, fields, KINDs, nodes and errors are those of the definitions.
-- docs/MAP.md, docs/REVIEW.md and CONTRIBUTING.md: each file that they name is there, and MAP has each crate.
-- README.md and docs/SPEED.md: the speeds above the tables are those of the tables. The digits of the first digest in
-  README.md are hashlib's.
-- docs/LARGE.md, the guides and the doc comments of Rust: the versions, the lengths from which threads start, and their
-  buffers are those of the code.
-- CHANGELOG.md: its newest version is that of the headers and packages.
-- The pages CALLING.md and the README of the crate blake2: their Rust is that of the crates that are tested.
-- The sources: each public item has a doc comment, and no file has a mark of a merge that was left open.
+"""Compares the pages with the sources: what they name, quote and link is there, and their numbers are those of the
+definitions, of the code and of docs/SPEED.md. Each check below says what it compares.
 
 usage: tests/pages.py
 """
