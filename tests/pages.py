@@ -345,7 +345,7 @@ def check_quotes():
 
 def check_comments():
     """The doc comments of public items and definitions"""
-    return [line for page in reference.pages()[0] for line in page.wrong]
+    return [line for page in reference.pages() for line in page.wrong]
 
 
 def check_symbolic_links():

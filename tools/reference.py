@@ -2,8 +2,7 @@
 """Writes docs/reference/: a page for each crate with its items and definitions, and an index.
 
 An item of crates/NAME/src/ is shown with its doc comment, its signature and its clauses, and a
-definition of crates/NAME/specs/ with its comment. Links lead to the definitions that they name.
-The sources are read in the layout of `rt fmt`. A public item without a doc comment is an error,
+definition of crates/NAME/specs/ with its comment. The index has both by name. The sources are read in the layout of `rt fmt`. A public item without a doc comment is an error,
 and so is a public definition without a comment. Nothing is written then.
 
 usage: tools/reference.py
@@ -14,7 +13,7 @@ import shutil
 import sys
 from itertools import groupby, takewhile
 
-from sources import TOP, Definitions, Unreadable, anchor, exported, modules, read
+from sources import TOP, Unreadable, anchor, exported, modules, read, words_of
 
 FOLDER = "docs/reference"
 NOTE = "<!-- Written by tools/reference.py from the sources: do not edit. -->"
@@ -24,8 +23,8 @@ IMPL = re.compile(r"impl(?:<.*?>)? (?:(.+) for )?(\w+)")
 class Page:
     """The page of a crate, with the titles of its sections and what is wrong in its sources."""
 
-    def __init__(self, crate, definitions):
-        self.crate, self.definitions = crate, definitions
+    def __init__(self, crate):
+        self.crate, self.words = crate, list(words_of(crate))
         self.lines, self.titles, self.names, self.wrong = [], [], [], []
         root = "main" if read(f"crates/{crate}/src/main.rt") else "lib"
         self.modules = list(modules(f"crates/{crate}/src/{root}.rt"))
@@ -41,14 +40,6 @@ class Page:
         self.lines += [f"{marks} {title}", ""]
         for part in filter(None, parts):
             self.lines += [*part, ""]
-
-    def links(self, words):
-        """The line that leads to these definitions."""
-        links = []
-        for word in words:
-            file = "" if word.crate == self.crate else f"{word.crate}.md"
-            links.append(f"[`{word.name}`]({file}#{anchor(word.title())})")
-        return [f"Definitions: {', '.join(links)}"] if links else []
 
     def entries(self, module):
         """The title, the items and the item to be documented of each section on this module."""
@@ -89,13 +80,11 @@ class Page:
                     self.names.append(("::".join(title.strip("`").split("::")[-2:]), title))
                     self.wrong += uncommented(module.file, documented)
                 lines = "\n\n".join("\n".join(item.shown()) for item in items).split("\n")
-                self.section("###", title, documented and documented.doc,
-                             ["```rust", *lines, "```"],
-                             self.links(self.definitions.named(module.text, lines)))
+                self.section("###", title, documented and documented.doc, ["```rust", *lines, "```"])
 
     def add_definitions(self):
         """Adds the crate's definitions, file by file."""
-        for file, words in groupby(self.definitions.of[self.crate], lambda word: word.file):
+        for file, words in groupby(self.words, lambda word: word.file):
             path, words = f"crates/{self.crate}/specs/{file}.antt", list(words)
             about = takewhile(lambda line: line.startswith("--"), read(path).splitlines())
             self.section("##", f"Definitions of `{file}`", [line[3:] for line in about],
@@ -103,10 +92,7 @@ class Page:
             for word in words:
                 if word.is_public and not word.comment:
                     self.wrong.append(f"{path}: {word.name} has no comment")
-                used = self.definitions.named(read(path), word.lines, words)
-                self.section("###", word.title(), word.comment,
-                             ["```text", *word.lines, "```"],
-                             self.links([other for other in used if other is not word]))
+                self.section("###", word.title(), word.comment, ["```text", *word.lines, "```"])
 
     def text(self, pages):
         """The whole page, with links to the sections of all pages."""
@@ -165,7 +151,7 @@ def linked(text, titles):
     return re.sub(r"\n{3,}", "\n\n", "".join(parts)).rstrip() + "\n"
 
 
-def index(pages, definitions):
+def index(pages):
     """The page that leads to the others: the crates, and all items and definitions by name."""
     yield from ("# Reference", "", NOTE, "",
                 "One page for each crate: its public items with their contracts, and the",
@@ -174,10 +160,9 @@ def index(pages, definitions):
     items, words = [], []
     for page in pages:
         about = re.split(r"[.:] ", " ".join(page.modules[0].doc) + " ")[0]
-        own = definitions.of[page.crate]
         items += [(name, title, page.crate) for name, title in page.names]
-        words += [(word.name, word.title(), page.crate) for word in own]
-        yield f"| [`{page.crate}`]({page.crate}.md) | {about} | {len(page.names)} | {len(own)} |"
+        words += [(word.name, word.title(), page.crate) for word in page.words]
+        yield f"| [`{page.crate}`]({page.crate}.md) | {about} | {len(page.names)} | {len(page.words)} |"
     for heading, found in (("Items by name", items), ("Definitions by name", words)):
         yield from ("", f"## {heading}", "")
         found.sort(key=lambda name: name[0].split("::")[-1].lower())
@@ -187,24 +172,23 @@ def index(pages, definitions):
 
 
 def pages():
-    """The pages of the crates, and the definitions of all."""
+    """The pages of the crates."""
     crates = re.findall(r"^(\w+).*:", read("crates.txt"), re.MULTILINE)
-    definitions = Definitions(crates)
-    return [page for page in (Page(crate, definitions) for crate in crates) if page.titles], definitions
+    return [page for page in map(Page, crates) if page.titles]
 
 
 def main():
     if sys.argv[1:]:
         sys.exit("usage: tools/reference.py")
     try:
-        found, definitions = pages()
+        found = pages()
     except Unreadable as error:
         sys.exit(str(error))
     wrong = [line for page in found for line in page.wrong]
     if wrong:
         sys.exit("\n".join(wrong))
     texts = {f"{page.crate}.md": page.text(found) for page in found}
-    texts["README.md"] = "\n".join(index(found, definitions)) + "\n"
+    texts["README.md"] = "\n".join(index(found)) + "\n"
     shutil.rmtree(f"{TOP}/{FOLDER}", ignore_errors=True)
     os.makedirs(f"{TOP}/{FOLDER}")
     for name, text in texts.items():

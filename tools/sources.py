@@ -9,9 +9,6 @@ from dataclasses import dataclass
 TOP = os.path.dirname(os.path.dirname(os.path.abspath(__file__)))
 ITEM = re.compile(r'(?:pub(?:\(\w+\))? )?(?:unsafe |extern "C" |const (?=fn))*(\w+)(?: (\w+))?')
 DEFINITION = re.compile(r"(?:abbrev |unfoldable )*(pub )?(data |record )?([\w-]+)")
-IMPORT = re.compile(r"^ *(?:ghost |unfoldable |pub )*use Rattle\.(\w+)\.specs\.(\w+)"
-                    r"(?:\.\{([^}]*)\}| as (\w+))?;?$", re.MULTILINE)
-NAME = re.compile(r"[A-Za-z_][\w-]*(?:\.[A-Za-z_][\w-]*)?")
 
 
 class Unreadable(Exception):
@@ -140,8 +137,7 @@ def exported(crate):
 
 @dataclass
 class Word:
-    """A definition: its crate, its file without .antt, what it is, its comment and its lines."""
-    crate: str
+    """A definition: its file without .antt, what it is, its comment and its lines."""
     file: str
     is_public: bool
     kind: str  # "record ", "data " or nothing
@@ -167,42 +163,4 @@ def words_of(crate):
                     raise Unreadable(f"crates/{crate}/specs/{file}.antt: tools/sources.py finds no definition in "
                                      f"{lines[0]!r}")
                 public, kind, name = match.groups("")
-                yield Word(crate, file, bool(public), kind, name, comment, lines)
-
-
-class Definitions:
-    """The definitions of all crates, and how the names in a file lead to them."""
-
-    def __init__(self, crates):
-        self.of = {crate: list(words_of(crate)) for crate in crates}
-        self.known = {(word.crate, word.file, word.name): word
-                      for words in self.of.values() for word in words}
-
-    def find(self, crate, file, name):
-        """The definition of this name in a crate's file, which may have it from another."""
-        if (crate, file, name) in self.known:
-            return self.known[crate, file, name]
-        for source, wanted in (file, name), ("Lib", file):
-            for *place, names, _ in IMPORT.findall(read(f"crates/{crate}/specs/{source}.antt")):
-                brought = re.split(r",\s*", names) if names else place[1:]
-                if wanted in brought:
-                    return self.find(*place, name)
-        return None
-
-    def named(self, text, lines, own=()):
-        """The definitions that these lines name, by the imports in the text and the own words."""
-        words, files = {word.name: (word.crate, word.file, word.name) for word in own}, {}
-        for crate, file, names, other in IMPORT.findall(text):
-            if not names:
-                files[other or file] = (crate, file)
-            for name in filter(None, re.split(r",\s*", names)):
-                known, _, shown = name.partition(" as ")
-                words[shown or known] = (crate, file, known)
-        found = []
-        for name in NAME.findall("\n".join(lines)):
-            first, _, rest = name.partition(".")
-            place = (*files[first], rest) if first in files else words.get(first)
-            word = place and self.find(*place)
-            if word and word not in found:
-                found.append(word)
-        return found
+                yield Word(file, bool(public), kind, name, comment, lines)
