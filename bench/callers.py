@@ -19,13 +19,11 @@ import hashlib
 import os
 import shutil
 import statistics
-import subprocess
 import sys
-import tempfile
 import time
 
 import speed
-from speed import OUT, PEERS, TIMED, TOP, Column, say
+from speed import OUT, TIMED, TOP, Column, say
 
 HERE = os.path.join(TOP, "bench", "callers")
 MARKS = ("<!-- measured by bench/callers.py -->\n", "<!-- end of what bench/callers.py measured -->\n")

@@ -173,7 +173,7 @@ for words in "" "make a" "check a" "what" "make $work/some x86_64/b2-v4.s"; do
 done
 
 check "names in dist/ end in the version and the build" \
-    eval 'grep -qx f_1_2_3_v2: dist/x86_64/b2-v2.s && grep -qx f_1_2_3_arm: dist/aarch64/vulfsjor.s'
+    grep -qx f_1_2_3_v2: dist/x86_64/b2-v2.s
 
 # What plain_names.py makes of these lines.
 rename() { printf '%s\n' "$@" | tools/plain_names.py _1_v3; }

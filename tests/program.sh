@@ -6,8 +6,9 @@
 #
 # usage: tests/program.sh [PROGRAM..]
 #
-# Without PROGRAM it assembles those of dist/ that this processor runs; `./test --prove` adds the one
-# that `rt ci` has built. valgrind counts the instructions: if it is absent, these tests are skipped.
+# Without PROGRAM it assembles those of dist/ that this processor runs; `./test --prove` adds the
+# one that `rt ci` has built. It needs python3 for the roots. valgrind counts the instructions: if it
+# is absent, these tests are skipped.
 set -u
 source "$(dirname "$(readlink -f "$0")")/tap.sh"
 
@@ -79,8 +80,8 @@ test_commands() {
     says 0 5abb265af975bd803708b70db42bd302 tree b128 4
 }
 
-# Wrong words, each told of the first of them: none, empty ones, and more than are taken. The rest is
-# proved, and tests/specification.py compares it.
+# Wrong words, each told of the first of them: none, empty ones, and more than are taken. The rest
+# is proved, and tests/specification.py compares it.
 test_arguments() {
     says 2 "b2: wrong words"
     says 2 "b2: wrong words" ""

@@ -306,6 +306,23 @@ made_by_make() {
         make -C "$top" -n install | grep -qxF 'c/install.sh "/usr/local"'
 }
 
+# What the other names of the Makefile run, and the list of all.
+run_by_make() {
+    diff <(make -C "$top" -n --no-print-directory test prove dist bench docs) - <<'END' &&
+./test
+./test --prove
+tools/dist.sh make
+js/tools/build.mjs
+bench/speed.py
+tools/reference.py
+tools/manual.py
+tools/pictures.py
+tests/pages.py
+END
+        [ "$(make -C "$top" --no-print-directory | cut -f 1 | cut -d ' ' -f 2 | paste -sd ' ')" = \
+            "help install uninstall test prove dist bench docs" ]
+}
+
 # Has CMake choose the code for a system and a processor, and prints the names of its files.
 # Nothing is compiled.
 choose_by_cmake() {
@@ -434,6 +451,7 @@ test_installing() {
     check "find_package after cmake --install" installed_by_cmake
     needs make
     check "make install and make uninstall" made_by_make
+    check "the other names of the Makefile" run_by_make
     needs
     is_x86 || missing="the processor is not x86-64"
     check "an installation with only one build" one_build

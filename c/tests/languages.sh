@@ -192,7 +192,9 @@ test_languages() {
     local header
     for header in vulfsjor.h blake2.h; do check "$header in C" headers_compile $header; done
     needs c++
-    for header in vulfsjor.h blake2.h; do check "$header in C++" header_compiles_as_cpp $header; done
+    for header in vulfsjor.h blake2.h; do
+        check "$header in C++" header_compiles_as_cpp $header
+    done
     check "link.cpp" cpp_links
     needs
     test_keys
