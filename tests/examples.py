@@ -17,7 +17,6 @@ built here, and the script ends with an error if that fails. An example whose to
 that is also cc, setuptools or Python's headers.
 """
 import argparse
-import functools
 import os
 import pathlib
 import re
@@ -31,10 +30,6 @@ import tap
 TOP = pathlib.Path(__file__).resolve().parent.parent
 TOOLS = {"c": "cc", "cpp": "c++", "rust": "cargo", "python": "python3", "cmake": "cmake", "sh": "bash"}
 PAGES = ("README.md", "docs/TUTORIAL.md", "docs/LARGE.md", "c/README.md", "rust/README.md")
-# Succeeds in a Python that the module can be built for.
-BUILDS_MODULES = """import os, setuptools, sys, sysconfig
-header = os.path.join(sysconfig.get_path("include"), "Python.h")
-sys.exit(sys.version_info < (3, 11) or not os.path.exists(header))"""
 
 
 def examples(page):
@@ -122,31 +117,22 @@ def is_as_printed(printed, wanted):
         for line, each in zip(lines, wanted_lines))
 
 
-def absent(language, text):
+def absent(language, text, module):
     """What an example needs and is not here, or '': its tool, those that a block of the shell or of CMake calls, and
-    for Python what the module is built with."""
+    for Python the built module."""
     called = {"cmake ": "cmake", "pkg-config": "pkg-config", "PkgConfig": "pkg-config"}
     needed = [TOOLS[language], *(tool for words, tool in called.items() if words in text)]
     missing = [tool for tool in needed if not shutil.which(tool)]
-    return missing[0] if missing else "" if language != "python" or can_build_module() else "python with headers"
+    return missing[0] if missing else "" if language != "python" or module else "python with headers"
 
 
-@functools.cache
-def can_build_module():
-    """Whether there is a C compiler, and a Python with setuptools and its headers."""
-    return bool(shutil.which("cc") and shutil.which("python3")) and not subprocess.run(
-        ["python3", "-c", BUILDS_MODULES], capture_output=True, check=False).returncode
-
-
-def build_module(work):
-    """Builds the module for Python in a folder below this one, from a copy of its sources, and returns the folder."""
-    for name in ("c", "dist", "python"):
-        shutil.copytree(TOP / name, work / name)
-    done = subprocess.run(["python3", "setup.py", "-q", "build", "--build-lib", str(work / "module")],
-                          cwd=work / "python", capture_output=True, text=True, check=False)
-    if done.returncode:
-        sys.exit(f"examples.py: building the module for Python failed: {done.stderr.strip()[-2000:]}")
-    return work / "module"
+def built_module(folder):
+    """Builds the module for Python in this folder, and returns whether it can be built here."""
+    done = subprocess.run(["python3", TOP / "python/tests/support.py", folder], capture_output=True, text=True,
+                          check=False)
+    if done.returncode not in (0, 77):
+        sys.exit(f"examples.py: building the module for Python failed: {done.stdout.strip()[-2000:]}")
+    return done.returncode == 0
 
 
 def main():
@@ -156,16 +142,17 @@ def main():
     words = words.parse_args()
     with tempfile.TemporaryDirectory() as work:
         work = pathlib.Path(work)
-        module = build_module(work) if can_build_module() else work
+        module = bool(shutil.which("python3")) and built_module(work / "module")
         library = words.library or work / "installed"
         if not words.library:
             subprocess.run([str(TOP / "c/install.sh"), str(library)], check=True, capture_output=True)
         for page in words.pages:
-            runner = Runner(pathlib.Path(tempfile.mkdtemp(dir=work)), library.resolve(), module)
+            runner = Runner(pathlib.Path(tempfile.mkdtemp(dir=work)), library.resolve(), work / "module")
             for line, language, text, wanted in examples(page):
                 name = f"{page.resolve().relative_to(TOP)}, line {line}"
-                if absent(language, text):
-                    tap.result(True, name, skipped=f"no {absent(language, text)}")
+                missing = absent(language, text, module)
+                if missing:
+                    tap.result(True, name, skipped=f"no {missing}")
                     continue
                 why = error_of(runner, language, text, wanted)
                 tap.result(not why, name, why)

@@ -36,6 +36,8 @@ def absent(*modules, tools=()):
 
 def cannot_build():
     """Why this interpreter can't build the package, or ''."""
+    if sys.version_info < (3, 11):
+        return "no Python 3.11"
     header = os.path.join(sysconfig.get_path("include"), "Python.h")
     return absent("setuptools", tools=["cc"]) or ("" if os.path.exists(header) else "no Python.h")
 
