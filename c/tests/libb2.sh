@@ -156,29 +156,20 @@ librsync_tests() {
 }
 
 test_sources() {
-    local name
-    if ! has apt-get; then
-        skip "libb2's own tests, and those of librsync" "no apt-get to fetch their sources with"
-        return
-    fi
-    (fetch_sources libb2 librsync) >"$work/fetching" 2>&1
-    if [ ! -e "$work/fetched/libb2/src/blake2b-test.c" ]; then
-        skip "libb2's own tests" "its source can't be fetched"
-    else
-        for name in blake2b blake2s; do
-            check "libb2's $name-test.c over the header" libb2_test $name header
-            check "libb2's $name-test.c over its own header" libb2_test $name names
-        done
-    fi
-    if [ ! -e "$work/fetched/librsync/CMakeLists.txt" ]; then
-        skip "librsync's own tests" "its source can't be fetched"
-    elif ! has cmake; then
-        skip "librsync's own tests" "no cmake"
-    else
-        check "librsync's own tests over the header" librsync_tests "$libb2"
-        mkdir -p "$work/own" && cp "$work/fetched/libb2/src/blake2.h" "$work/own/" &&
-            check_huge "librsync's own tests over libb2's header" librsync_tests "$work/own"
-    fi
+    local name why="its source can't be fetched"
+    ! has apt-get || (fetch_sources libb2 librsync) >"$work/fetching" 2>&1
+    needs
+    [ -e "$work/fetched/libb2/src/blake2b-test.c" ] || missing=$why
+    for name in blake2b blake2s; do
+        check "libb2's $name-test.c over the header" libb2_test $name header
+        check "libb2's $name-test.c over its own header" libb2_test $name names
+    done
+    needs cmake
+    [ -e "$work/fetched/librsync/CMakeLists.txt" ] || missing=$why
+    check "librsync's own tests over the header" librsync_tests "$libb2"
+    mkdir -p "$work/own" && cp "$work/fetched/libb2/src/blake2.h" "$work/own/" 2>/dev/null
+    check_huge "librsync's own tests over libb2's header" librsync_tests "$work/own"
+    needs
 }
 
 test_libb2() {
@@ -189,27 +180,22 @@ test_libb2() {
     for family in b s; do
         check "key_scan.c by libb2's names, blake2$family" keys_of_names $family
     done
-    if has python3; then
-        for family in b s; do
-            check "libb2's names, blake2$family" names_of_libb2 $family "$beside"
-            check "libb2's names by the header here, blake2$family" names_of_libb2 $family \
-                -DOWN_HEADER -I"$libb2" "$archive"
-        done
-    else
-        skip "libb2's names" "no python3 for the known answers"
-    fi
-    if has python3 && has_libb2; then
-        for family in b s; do
-            check "libb2's names with its own header, blake2$family" names_of_libb2 $family \
-                -DOWN_HEADER "$beside"
-            check "what is said of libb2 itself, blake2$family" names_of_libb2 $family \
-                -DOWN_HEADER -DLIBB2 -w -lb2
-        done
-        check "this library and libb2 in one program" beside_libb2
-        check "states that both headers share" shared_states
-    else
-        skip "what is said of libb2 itself" "no libb2"
-    fi
+    needs python3
+    for family in b s; do
+        check "libb2's names, blake2$family" names_of_libb2 $family "$beside"
+        check "libb2's names by the header here, blake2$family" names_of_libb2 $family \
+            -DOWN_HEADER -I"$libb2" "$archive"
+    done
+    has_libb2 || missing="no libb2"
+    for family in b s; do
+        check "libb2's names with its own header, blake2$family" names_of_libb2 $family \
+            -DOWN_HEADER "$beside"
+        check "what is said of libb2 itself, blake2$family" names_of_libb2 $family \
+            -DOWN_HEADER -DLIBB2 -w -lb2
+    done
+    check "this library and libb2 in one program" beside_libb2
+    check "states that both headers share" shared_states
+    needs
     test_sources
 }
 
