@@ -307,10 +307,7 @@ share_at_once() {
 hashes_at_once() {
     local least=$1 leaf=$3 \
         name="b2 tree b512 $3, of whose instructions $1 in 100 hash leaves at once" share status
-    has valgrind || {
-        skip "$name" "no valgrind"
-        return
-    }
+    has valgrind || { skip "$name" "no valgrind" && return; }
     take_zeros "$2"
     rm -f "$work/instructions"
     valgrind --tool=callgrind --compress-strings=no --compress-pos=no \
@@ -333,10 +330,7 @@ test_at_once() {
     hashes_at_once 75 $(((26 << 20) + 1)) 1048576
 }
 
-has python3 || {
-    skip "the program" "no python3"
-    finish
-}
+has python3 || { skip "the program" "no python3" && finish; }
 if [ $# -eq 0 ]; then
     if has cc; then
         build=

@@ -3,9 +3,7 @@
 # specification.py.
 set -u
 source "$(dirname "$(readlink -f "$0")")/tap.sh"
-if ! has python3 || ! has cc; then
-    skip "the program and docs/SPECIFICATION.md" "no python3, or no C compiler cc"
-    finish
-fi
+has python3 && has cc ||
+    { skip "the program and docs/SPECIFICATION.md" "no python3, or no C compiler cc" && finish; }
 assemble_all || exit
 python3 "$top/tests/specification.py" --program "$work/b2"

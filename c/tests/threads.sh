@@ -180,11 +180,9 @@ test_threads() {
     check "threads.c and thread_faults.c" threads_with -O2
     check "the numbers in vulfsjor_threads.h" numbers_of_header
     for kind in thread address,undefined; do
-        if links "-fsanitize=$kind" && "$work/linked"; then
-            check "threads.c and thread_faults.c, with the sanitizer $kind" sanitized "$kind"
-        else
-            skip "threads.c and thread_faults.c, with the sanitizer $kind" "cc has none"
-        fi
+        needs
+        links "-fsanitize=$kind" && "$work/linked" || missing="cc has none"
+        check "threads.c and thread_faults.c, with the sanitizer $kind" sanitized "$kind"
     done
     needs_sanitizers
     check "parts.c, with sanitizers" parts_with 20000 -O1 "${sanitizers[@]}"
