@@ -32,11 +32,11 @@ import sys
 import tempfile
 import time
 from dataclasses import dataclass
-from typing import Callable
+from typing import Callable, NamedTuple
 
 TOP = os.path.dirname(os.path.dirname(os.path.abspath(__file__)))
 sys.path.insert(0, os.path.join(TOP, "tests"))
-from blake2_kinds import FAMILIES, KINDS, Parser, at_least  # noqa: E402
+from blake2_kinds import Parser, at_least  # noqa: E402
 from oracle import tree_root  # noqa: E402
 
 PAGE = os.path.join(TOP, "docs", "SPEED.md")
@@ -60,33 +60,15 @@ DEBIAN_CRATES = ["--config", 'source.crates-io.replace-with="debian"',
                  "--config", 'source.debian.directory="/usr/share/cargo/registry"']
 
 
-@dataclass(frozen=True)
-class Timed:
+class Timed(NamedTuple):
     """A hash function that is timed."""
     word: str  # of b2
-
-    @property
-    def algorithm(self):
-        """Its family's name in hashlib."""
-        return FAMILIES[KINDS[self.word][0]].function.__name__
-
-    @property
-    def bits(self):
-        """The bits of its digest."""
-        return 8 * KINDS[self.word][1]
-
-    @property
-    def title(self):
-        """Its name in the tables."""
-        return f"{self.algorithm.upper()[:-1]}{self.algorithm[-1]}-{self.bits}"
-
-    @property
-    def function(self):
-        """Its name in C, and of openssl."""
-        return f"{self.algorithm}{self.bits}"
+    algorithm: str  # its family's name in hashlib
+    title: str  # its name in the tables
+    function: str  # its name in C, and of openssl
 
 
-TIMED = (Timed("b512"), Timed("s256"))
+TIMED = (Timed("b512", "blake2b", "BLAKE2b-512", "blake2b512"), Timed("s256", "blake2s", "BLAKE2s-256", "blake2s256"))
 
 
 @dataclass
