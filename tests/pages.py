@@ -370,6 +370,8 @@ def main():
             wrong = [] if absent else list(check())
         except Unreadable as error:
             wrong = [str(error)]
+        except (LookupError, TypeError, ValueError) as error:
+            wrong = [f"a page or a source has another form than this check reads: {error!r}"]
         tap.result(not wrong, check.__doc__, "\n".join(wrong), "no git repository" if absent else "")
     tap.finish()
 

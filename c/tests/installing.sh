@@ -49,9 +49,11 @@ program_with_threads() {
         LD_LIBRARY_PATH=$libraries "$work/program"
 }
 
-# The files for pkg-config of an installation.
+# The files for pkg-config of an installation, and its archives by other names.
 words_work() {
     local lib=$1
+    cmp "$lib/libvulfsjor-static.a" "$lib/libvulfsjor.a" &&
+        cmp "$lib/vulfsjor-libb2/libb2.a" "$lib/libvulfsjor-libb2.a" || return 1
     has pkg-config || return 0
     program_by_words "$lib/pkgconfig" vulfsjor "$lib" &&
         program_by_words "$lib/pkgconfig" vulfsjor-static /nowhere &&
