@@ -1,14 +1,9 @@
 #!/usr/bin/env python3
 """Counts the instructions that BLAKE2b-512 and BLAKE2s-256 need on a 64-bit ARM processor, next to other libraries.
 
-The table, as Markdown on standard output, has instructions a byte of messages of 64 KiB, of one message and of several
-that are hashed in parallel, and instructions of one call over 64 and over 1,024 bytes. With --write it goes into
-docs/SPEED.md, between its two marks for ARM. It says nothing about time, since instructions differ in it.
-
-"ours" is the library that c/install.sh makes from dist/ for aarch64. "plain C" is aarch64/plain.c, the hash as the RFC
-writes it, by each compiler that is there. qemu runs the programs, with a plugin that counts (aarch64/count.c): what two
-more digests of a message take is what three times that take less than five times. All digests are compared with
-hashlib's.
+The table, as Markdown on standard output, goes with --write into docs/SPEED.md, between its two marks for ARM. That
+page says what is counted. qemu runs the programs, with a plugin that counts (aarch64/count.c): what two more digests
+of a message take is what three times that take less than five times. All digests are compared with hashlib's.
 
 It needs Debian's packages gcc-aarch64-linux-gnu, libc6-dev-arm64-cross and qemu-user, and for a row of clang's clang.
 The peers are those whose Debian packages for arm64 lie in the folder PACKAGES, as `apt-get download` leaves them there

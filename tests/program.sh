@@ -25,29 +25,27 @@ count() {
     fail "$name: status $2, wanted $3" "$work/log"
 }
 
-# Checks a run over an input, which may hold escapes as printf takes them: wants STATUS and the line
-# LINE, or no output where LINE is empty.
-# usage: over INPUT STATUS LINE WORDS..
-over() {
-    local input=$1 wanted_status=$2 line=$3 status
-    shift 3
-    printf '%b' "${line:+$line\n}" >"$work/wanted"
-    printf '%b' "$input" | "$program" "$@" >"$work/output" 2>"$work/errors"
-    status=$?
-    count "b2 $* (over ${input:0:40})" "$status" "$wanted_status"
-}
-
-# Checks a run over no input.
-# usage: says STATUS LINE WORDS..
-says() {
-    over "" "$@"
-}
-
 # Checks that a run, whose status and output are told, ended with this status and printed this line,
 # or nothing where LINE is empty. usage: ended NAME STATUS WANTED LINE
 ended() {
     printf '%b' "${4:+$4\n}" >"$work/wanted"
     count "$1" "$2" "$3"
+}
+
+# Checks a run over an input, which may hold escapes as printf takes them; over none; and over one
+# that is closed or a directory. usage: over INPUT STATUS LINE WORDS.., and the others without INPUT
+over() {
+    printf '%b' "$1" | "$program" "${@:4}" >"$work/output" 2>"$work/errors"
+    ended "b2 ${*:4} (over ${1:0:40})" "${PIPESTATUS[1]}" "$2" "$3"
+}
+says() { over "" "$@"; }
+closed() {
+    "$program" "${@:3}" <&- >"$work/output" 2>"$work/errors"
+    ended "b2 ${*:3}, its input closed" $? "$1" "$2"
+}
+directory() {
+    "$program" "${@:3}" <"$work" >"$work/output" 2>"$work/errors"
+    ended "b2 ${*:3}, its input a directory" $? "$1" "$2"
 }
 
 abc=ba80a53f981c4d0d6a2797b69f12f6e94c212f14685ac4b74b12bb6fdbffa2d1
@@ -98,21 +96,15 @@ test_arguments() {
     over 'f 0\nu 0 61\n' 2 "b2: line 2: no such slot" script b512
 }
 
-# An input that answers an error: a closed one, and a directory.
+# An input that can't be read, which `witness` and wrong words do not read.
 test_inputs() {
     for command in sum script steps; do
-        "$program" "$command" b512 <&- >"$work/output" 2>"$work/errors"
-        ended "b2 $command b512, its input closed" "$?" 1 "b2: read failed"
-        "$program" "$command" s256 key=01 <"$work" >"$work/output" 2>"$work/errors"
-        ended "b2 $command s256 key=01, its input a directory" "$?" 1 "b2: read failed"
+        closed 1 "b2: read failed" "$command" b512
+        directory 1 "b2: read failed" "$command" s256 key=01
     done
-    "$program" tree b512 4 <&- >"$work/output" 2>"$work/errors"
-    ended "b2 tree b512 4, its input closed" "$?" 1 "b2: read failed"
-    # `witness` and wrong words read no input.
-    "$program" witness b512 61 62 <&- >"$work/output" 2>"$work/errors"
-    ended "b2 witness b512 61 62, its input closed" "$?" 0 none
-    "$program" sum b512 foo <&- >"$work/output" 2>"$work/errors"
-    ended "b2 sum b512 foo, its input closed" "$?" 2 "b2: wrong words"
+    closed 1 "b2: read failed" tree b512 4
+    closed 0 none witness b512 61 62
+    closed 2 "b2: wrong words" sum b512 foo
 }
 
 # An output that takes nothing: a full one, and a closed one. Nothing more is printed.
@@ -169,38 +161,24 @@ least_for() {
     echo "$high"
 }
 
-# Checks a run in so many KiB beyond `least`, over the file `input`: wants STATUS, and what the file
-# `wanted` has. usage: ends_in KIB STATUS WORDS..
+# Checks a run in so many KiB beyond `least`, over the file `input`: wants STATUS, and LINE, or what
+# the file `wanted` has where LINE is -. usage: ends_in KIB STATUS LINE WORDS..
 ends_in() {
-    local kib=$1 wanted_status=$2 status
-    shift 2
-    run_in $((least + kib)) "$@"
+    [ "$3" = - ] || echo "$3" >"$work/wanted"
+    local status
+    run_in $((least + $1)) "${@:4}"
     status=$?
-    count "b2 $1 $2${3:+ ${3:0:20}} (in $kib KiB, over $(stat -c %s "$work/input") bytes)" \
-        "$status" "$wanted_status"
+    count "b2 $4 $5${6:+ ${6:0:20}} (in $1 KiB, over $(stat -c %s "$work/input") bytes)" $status "$2"
 }
 
-# Checks that a run has room, and prints this line, or what the file `wanted` has where LINE is -.
-# usage: has_room KIB LINE WORDS..
-has_room() {
-    local kib=$1
-    [ "$2" = - ] || echo "$2" >"$work/wanted"
-    shift 2
-    ends_in "$kib" 0 "$@"
-}
+# Checks that a run has room, or too little, which shows that the limit is in force and that want of
+# memory is told: KIB LINE WORDS.., or KIB WORDS..
+has_room() { ends_in "$1" 0 "${@:2}"; }
+lacks_room() { ends_in "$1" 1 "b2: no memory" "${@:2}"; }
 
 # The root of the file `input` by hashlib, and a check that a run for it has room.
 root_of_input() { roots_by_hashlib "$1" "$work/input" | cut -c -128; }
 has_root_in() { has_room "$1" "$(root_of_input "$2")" tree b512 "$2"; }
-
-# Checks that a run has too little: so the limit is in force, and want of memory is told.
-# usage: lacks_room KIB WORDS..
-lacks_room() {
-    local kib=$1
-    shift
-    echo "b2: no memory" >"$work/wanted"
-    ends_in "$kib" 1 "$@"
-}
 
 # Makes the file `input` of so many zeros.
 take_zeros() {

@@ -52,18 +52,12 @@ needs_sanitizers() {
 # The words of a test program for a family.
 family_words() { [ "$1" = s ] && echo -DTEST_S; }
 
-# The words that pkg-config has for one of its names, or those that do the same.
+# The words for a program over a library of this name.
 words_for() {
-    if has pkg-config; then
-        PKG_CONFIG_PATH=$prefix/lib/pkgconfig pkg-config --cflags --libs "$1"
-        return
-    fi
     case $1 in
         vulfsjor) echo "-I$include -L$prefix/lib -lvulfsjor" ;;
         vulfsjor-static) echo "-I$include $archive" ;;
-        vulfsjor-threads)
-            echo "-I$include $prefix/lib/libvulfsjor-threads.a $archive -pthread"
-            ;;
+        vulfsjor-threads) echo "-I$include $prefix/lib/libvulfsjor-threads.a $archive -pthread" ;;
     esac
 }
 

@@ -270,7 +270,8 @@ old_names() {
     ! has cmake || refuses 1 vulfsjor::blake2_c project_by_cmake "set(vulfsjor_DIR
 \"$prefix/lib/cmake/vulfsjor\")
 find_package(vulfsjor REQUIRED)" vulfsjor::blake2_c vulfsjor::threads || return 1
-    ! has pkg-config || refuses 1 blake2_c words_for blake2_c
+    ! has pkg-config || refuses 1 blake2_c env PKG_CONFIG_PATH="$prefix/lib/pkgconfig" pkg-config \
+        --cflags blake2_c
 }
 
 # Compilers of several words; and one that makes no position-independent programs by default, whose
