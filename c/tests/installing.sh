@@ -144,6 +144,10 @@ target_link_libraries(threads PRIVATE $3)
 add_library(shared SHARED threads.c)
 target_link_libraries(shared PRIVATE $3)
 target_link_options(shared PRIVATE -Wl,-z,defs -Wl,-z,text)
+get_target_property(needed $3 INTERFACE_LINK_LIBRARIES)
+if("$3" STREQUAL vulfsjor::threads AND NOT Threads::Threads IN_LIST needed)
+  message(FATAL_ERROR "$3 links \${needed}") # which glibc before 2.34 needs
+endif()
 END
     cmake -S "$folder" -B "$build" -DCMAKE_BUILD_TYPE=Release &&
         cmake --build "$build" && "$build/program" && "$build/threads" || return 1

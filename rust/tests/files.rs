@@ -226,7 +226,9 @@ fn files_of_impossible_lengths() {
     let file = Temporary(format!("/dev/shm/vulfsjor-files-{}", std::process::id()).into());
     let opened = File::create(&file.0).unwrap();
     opened.set_len(1 << 58).unwrap();
-    let error = params(u32::MAX).root_file(&file.0, 2).unwrap_err();
+    let stop = |_| Err(ErrorKind::Interrupted.into()); // a file that is not refused takes years
+    let root = params(u32::MAX).root_file_with_progress(&file.0, 2, stop);
+    let error = root.unwrap_err();
     assert_eq!(error.kind(), ErrorKind::InvalidInput);
     let said = "the file's length is 288230376151711744, and must be 0 to 288230376151711743";
     assert_eq!(error.to_string(), said);
