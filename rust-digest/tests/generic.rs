@@ -47,6 +47,7 @@ fn tag_by_all_ways<M: Mac + FixedOutputReset + Reset + Clone>(
     Mac::update(&mut mac, message);
     assert_eq!(mac.clone().finalize().into_bytes()[..], *wanted);
     assert_eq!(mac.finalize_reset().into_bytes()[..], *wanted);
+    assert!(mac.clone().finalize() == start.finalize());
     Mac::update(&mut mac, b"other");
     Mac::reset(&mut mac);
     Mac::update(&mut mac, message);
@@ -136,10 +137,12 @@ macro_rules! family {
                     assert_eq!(out, [0; $max + 1]);
                     hasher.clone().finalize_variable(&mut out[..size]).unwrap();
                     assert_eq!(out[..size], wanted);
-                    out.fill(0);
-                    hasher.finalize_variable_reset(&mut out[..size]).unwrap();
-                    assert_eq!(out[..size], wanted);
-                    Update::update(&mut hasher, b"other");
+                    for _ in 0..2 {
+                        out.fill(0);
+                        hasher.finalize_variable_reset(&mut out[..size]).unwrap();
+                        assert_eq!(out[..size], wanted);
+                        Update::update(&mut hasher, &message);
+                    }
                     Reset::reset(&mut hasher);
                     Update::update(&mut hasher, &message);
                     hasher.finalize_variable(&mut out[..size]).unwrap();
