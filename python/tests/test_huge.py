@@ -2,6 +2,7 @@
 are written, or a sparse file. Those that take seconds need VULFSJOR_TEST_HUGE=1, about 2 GB of
 memory and four processors."""
 import concurrent.futures
+import ctypes
 import hashlib
 import mmap
 import os
@@ -78,6 +79,12 @@ class Cheap(unittest.TestCase):
         with self.assertRaisesRegex(OverflowError, r"^2\^58 bytes or more$"):
             vulfsjor.tree_leaves(data, 1 << 31, first=2**27 - 1, ends=True)
         self.assertEqual(hasher.digest(), oracle.tree_root(b"x", 3 * MIB))
+
+    def test_more_digests_than_any_memory_has_room_for(self):
+        """Of a buffer with a length that no memory has, and of which no byte is read."""
+        data = (ctypes.c_char * 2**57).from_address(id(self))
+        self.assertRaises(MemoryError, vulfsjor.tree_leaves, data, 1, first=0, ends=True)
+        self.assertRaises(MemoryError, vulfsjor.TreeHasher(1).next_leaves, data)
 
     def test_plain_bytes(self):
         data = mapping(2**32 + 5)
