@@ -88,7 +88,8 @@ class Cheap(unittest.TestCase):
 
     def test_plain_bytes(self):
         data = mapping(2**32 + 5)
-        self.assertEqual(memoryview(vulfsjor._library.plain_bytes(data)).nbytes, 2**32 + 5)
+        view = memoryview(vulfsjor._library.plain_bytes(data))
+        self.assertEqual((view.nbytes, view.readonly), (2**32 + 5, True))
 
 
 def tree(data, leaf_size):

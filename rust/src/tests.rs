@@ -141,6 +141,33 @@ fn inputs_of_a_tree_end_before_2_to_the_58() {
     assert_eq!(hasher.count(), (1 << 58) - 1);
 }
 
+#[test]
+fn leaves_by_their_digests_end_before_2_to_the_58() {
+    let mut hasher = tree_near_the_end(3);
+    hasher.update([7; 1023]); // a leaf boundary, with room for 2,047 bytes
+    let next = |skip, length: usize| {
+        let (leaves, digests) = (&[7; 2048][..length], &mut [0; 128][..length / 16]);
+        hasher.next_leaves(skip, leaves, digests)
+    };
+    let error = |result: Result<(), InvalidArgument>| result.unwrap_err().to_string();
+    assert!(next(0, 1024).is_ok());
+    assert_eq!(error(next(1, 1024)), "skip is 1, and must be 0");
+    let said = "leaves.len() is 2048, and must be 1024 to 2047";
+    assert_eq!(error(next(0, 2048)), said);
+    let mut update = |digests: usize, length: usize| {
+        let result = hasher.update_leaves(&[7; 128][..digests], &[7; 2048][..length]);
+        result.map(|_| ())
+    };
+    let said = "digests.len() is 128, and must be 0 to 64";
+    assert_eq!(error(update(128, 1)), said);
+    let said = "input.len() is 1024, and must be 1 to 1023";
+    assert_eq!(error(update(64, 1024)), said);
+    let said = "input.len() is 2048, and must be 0 to 2047";
+    assert_eq!(error(update(0, 2048)), said);
+    assert!(update(64, 1023).is_ok());
+    assert_eq!(hasher.count(), (1 << 58) - 1);
+}
+
 #[cfg(feature = "std")]
 mod threads {
     use super::*;
