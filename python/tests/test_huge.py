@@ -80,8 +80,13 @@ class Cheap(unittest.TestCase):
             vulfsjor.tree_leaves(data, 1 << 31, first=2**27 - 1, ends=True)
         self.assertEqual(hasher.digest(), oracle.tree_root(b"x", 3 * MIB))
 
-    def test_more_digests_than_any_memory_has_room_for(self):
-        """Of a buffer with a length that no memory has, and of which no byte is read."""
+    def test_lengths_that_no_memory_has(self):
+        """Of buffers of which no byte is read."""
+        data = (ctypes.c_char * 2**58).from_address(id(self))
+        with self.assertRaisesRegex(OverflowError, r"^2\^58 bytes or more$"):
+            vulfsjor.tree_root(data, 1 << 31)
+        with self.assertRaisesRegex(OverflowError, r"^2\^58 bytes or more$"):
+            vulfsjor.TreeHasher(1 << 31).update(data)
         data = (ctypes.c_char * 2**57).from_address(id(self))
         self.assertRaises(MemoryError, vulfsjor.tree_leaves, data, 1, first=0, ends=True)
         self.assertRaises(MemoryError, vulfsjor.TreeHasher(1).next_leaves, data)

@@ -795,6 +795,16 @@ class Files(Test):
 
         self.assertEqual(vulfsjor.tree_root_file(path, 1 << 16, threads=4, progress=grow), wanted)
 
+    @unittest.skipUnless(os.path.isdir("/dev/shm"), "no /dev/shm")
+    def test_a_file_of_2_to_the_58(self):
+        """On a file system in memory that has such lengths. A byte less is not refused."""
+        with tempfile.NamedTemporaryFile(dir="/dev/shm") as file:
+            for length, wanted in ((2**58, OverflowError), (2**58 - 1, LookupError)):
+                os.truncate(file.name, length)
+                with mock.patch.object(_threads._Tree, "root", side_effect=LookupError):
+                    self.assertRaises(wanted, vulfsjor.tree_root_file, file.name, 2**32 - 1,
+                                      threads=2)
+
     def test_files_that_shrink(self):
         text = "[Errno 5] the file became shorter while it was read: {!r}"
         for end in (0, MIB, 6 * MIB, len(DATA) - 5):  # the last one is within a range

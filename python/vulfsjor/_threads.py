@@ -276,8 +276,9 @@ def tree_root_file(path: "FileDescriptorOrPath", /, leaf_size: int, *,
 
     path is a path, or the descriptor of an open file. A regular file is hashed from its first
     byte, and the position of the descriptor stays. Anything else, such as a pipe or a device,
-    is read to its end by one thread. If the file becomes shorter meanwhile, the call raises
-    OSError; what is appended meanwhile may be left out.
+    is read to its end by one thread. A file of 2^58 bytes or more raises OverflowError. If the
+    file becomes shorter meanwhile, the call raises OSError; what is appended meanwhile may be
+    left out.
 
     threads is the number of threads that read and hash, as in tree_root, and each has a
     buffer of up to 16 MiB. progress is called from the calling thread with the number of
@@ -291,6 +292,8 @@ def tree_root_file(path: "FileDescriptorOrPath", /, leaf_size: int, *,
     with io.FileIO(path, closefd=not isinstance(path, int)) as opened:
         try:
             file = _File(opened, path)
+            if file.length >> 58:
+                raise OverflowError("2^58 bytes or more")
             threads = min(threads, file.length // _LEAST_BYTES)
             if threads > 1:
                 return tree.root(file.range, file.length, threads, _MOST_BUFFER_BYTES, progress)
