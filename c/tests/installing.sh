@@ -251,8 +251,9 @@ words_are_these() {
     local module folder includes room libraries
     while read -r module folder includes room libraries; do
         folder=$prefix/lib/$folder
-        diff <(echo "-IHERE/$includes -LHERE/$room $libraries") <(PKG_CONFIG_PATH=$folder pkg-config --cflags --libs "$module" |
-            sed "s|$folder|HERE|g;s/ *$//") || return 1
+        diff <(echo "-IHERE/$includes -LHERE/$room $libraries") \
+            <(PKG_CONFIG_PATH=$folder pkg-config --cflags --libs "$module" |
+                sed "s|$folder|HERE|g;s/ *$//") || return 1
     done <<'END'
 vulfsjor pkgconfig ../../include .. -lvulfsjor
 vulfsjor-static pkgconfig ../../include .. -lvulfsjor-static
@@ -414,7 +415,15 @@ refuses() {
 }
 
 refusals() {
-    local call=("$here/install.sh")
+    local call=("$here/install.sh") machine
+    # A compiler for the machine that is its first word.
+    printf '#!/bin/sh\necho "$1"\n' >"$work/for" && chmod +x "$work/for"
+    for machine in x86_64-linux-gnux32 aarch64-linux-gnu_ilp32 x86_64-freebsd; do
+        refuses 1 "there is no build for $machine" env CC="$work/for $machine" "${call[@]}" \
+            --from "$dist" "$work/no" || return 1
+    done
+    refuses 1 "no build for aarch64-linux-gnu and x86-64-v2" env CC="$work/for aarch64-linux-gnu" \
+        "${call[@]}" --cpu x86-64-v2 --from "$dist" "$work/no" || return 1
     refuses 2 usage "${call[@]}" && refuses 2 usage "${call[@]}" "" &&
         refuses 2 usage "${call[@]}" a b &&
         refuses 2 usage "${call[@]}" --cpu &&
