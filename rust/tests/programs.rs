@@ -153,6 +153,30 @@ fn a_program_holds_what_it_calls() {
     }
 }
 
+// A library with its own panic handler and without an allocator, which links neither std nor alloc.
+#[test]
+fn a_library_without_std() {
+    let folder = folder("bare");
+    let mut text = package("bare") + "[lib]\ncrate-type = [\"staticlib\"]\n";
+    text += "[profile.dev]\npanic = \"abort\"\n[dependencies.vulfsjor]\ndefault-features = false\n";
+    fs::write(
+        folder.join("Cargo.toml"),
+        text + &format!("path = \"{TOP}\"\n"),
+    )
+    .unwrap();
+    let lines = r#"#![no_std]
+        #[no_mangle]
+        pub extern "C" fn hash(out: &mut [u8; 64]) {
+            out.copy_from_slice(vulfsjor::Blake2b::digest(b"abc").as_bytes());
+        }
+        #[panic_handler]
+        fn panic(_: &core::panic::PanicInfo) -> ! {
+            loop {}
+        }"#;
+    fs::write(folder.join("src/lib.rs"), lines).unwrap();
+    printed(&mut cargo(&["build"], &folder));
+}
+
 // If the compiler may assume AVX2, the other build is left out. Earlier versions of rustc do not
 // name all its features.
 #[test]
