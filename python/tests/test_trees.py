@@ -681,6 +681,25 @@ class Threads(Test):
             self.assertEqual(vulfsjor.tree_root(DATA, 1 << 14, threads=3), ROOT)
         self.assertEqual(next(count), 2)
 
+    def test_an_interrupt_while_a_thread_is_started(self):
+        """Before the second one is started, and after it is."""
+        start = threading.Thread.start
+        for before in (True, False):
+            count = iter(range(99))
+
+            def start_one(thread):
+                is_cut, thread.daemon = next(count) == 1, True  # one that stays lets the test end
+                if not (is_cut and before):
+                    start(thread)
+                if is_cut:
+                    raise KeyboardInterrupt
+
+            with mock.patch.object(threading.Thread, "start", start_one):
+                self.assertRaises(KeyboardInterrupt, vulfsjor.tree_root, DATA, 1 << 14, threads=3)
+            for thread in ours():
+                thread.join(20)
+            self.assertEqual(ours(), [])
+
     def test_threads_end_with_the_call(self):
         vulfsjor.tree_root(DATA, 1 << 14, threads=3)
         vulfsjor.tree_root_file(self.file(DATA), 1 << 14, threads=3)

@@ -54,17 +54,15 @@ def _work(tasks: "SimpleQueue[tuple[Future[bytes], int] | None]",
                 future.set_exception(error)
 
 
-def _start(threads: int, run: Callable[[], None]) -> list[Thread]:
-    """Starts threads, or fewer if the system refuses some."""
-    started: list[Thread] = []
-    try:
-        for _ in range(threads):
-            thread = Thread(target=run, name="vulfsjor")
-            thread.start()
-            started.append(thread)
-    except RuntimeError:
-        pass
-    return started
+def _start(threads: int, run: Callable[[], None], started: list[Thread]) -> None:
+    """Starts threads, or fewer if the system refuses some. The list has them, whatever happens."""
+    for _ in range(threads):
+        started.append(Thread(target=run, name="vulfsjor"))
+        try:
+            started[-1].start()
+        except RuntimeError:
+            started.pop()
+            return
 
 
 def _in_order(call: Callable[[int], bytes], count: int, threads: int,
@@ -74,9 +72,10 @@ def _in_order(call: Callable[[int], bytes], count: int, threads: int,
     When the generator is closed it sets `stopped`, which ends a call early, and waits for the
     threads."""
     tasks: SimpleQueue[tuple[Future[bytes], int] | None] = SimpleQueue()
-    workers = _start(threads, partial(_work, tasks, call))
+    workers: list[Thread] = []
     waiting: deque[Future[bytes]] = deque()
     try:
+        _start(threads, partial(_work, tasks, call), workers)
         for place in range(count):
             if not workers:
                 yield call(place)
@@ -94,7 +93,8 @@ def _in_order(call: Callable[[int], bytes], count: int, threads: int,
         for _ in workers:
             tasks.put(None)
         for worker in workers:
-            worker.join()
+            if worker.is_alive():  # or an interrupt came while it was started, and it ends by None
+                worker.join()
 
 
 class _Tree:
