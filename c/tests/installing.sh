@@ -429,6 +429,7 @@ refusals() {
         refuses 2 usage "${call[@]}" --cpu &&
         refuses 2 usage "${call[@]}" --cpu x86-64-v4 "$work/no" &&
         refuses 2 usage "${call[@]}" --from && refuses 2 usage "${call[@]}" --what "$work/no" &&
+        cd "$work" && refuses 2 usage "${call[@]}" --from "$dist" --what && [ ! -e --what ] &&
         refuses 2 usage "${call[@]}" --uninstall && refuses 0 'DESTDIR' "${call[@]}" --help &&
         refuses 1 'no-compiler is not on the PATH' env CC=no-compiler "${call[@]}" --from "$dist" \
             "$work/no" &&
