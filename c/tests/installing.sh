@@ -438,25 +438,11 @@ refusals() {
     "$here/install.sh" --help | head -n 1 | grep -q '^Installs the library'
 }
 
-# Machines for which there is no build, of a compiler that says only for which machine it is.
-refused_machines() {
-    local machine call=("$here/install.sh" --from "$dist")
-    printf '#!/bin/sh\necho "$1"\n' >"$work/for" && chmod +x "$work/for" || return 1
-    for machine in x86_64-linux-gnux32 aarch64-linux-gnu_ilp32 riscv64-linux-gnu; do
-        refuses 1 "there is no build for $machine\$" env CC="$work/for $machine" "${call[@]}" \
-            "$work/no" || return 1
-    done
-    refuses 1 'there is no build for aarch64-linux-gnu and x86-64-v2' \
-        env CC="$work/for aarch64-linux-gnu" "${call[@]}" --cpu x86-64-v2 "$work/no" &&
-        [ ! -e "$work/no" ]
-}
-
 test_installing() {
     check "a folder with a space, moved and uninstalled" folder_with_a_space
     check "DESTDIR and LIBDIR" package
     check "a second installation" installs_again
     check "what install.sh refuses" refusals
-    check "machines for which there is no build" refused_machines
     check "a folder named from the current one" relative_folder
     check "a project with the files by hand" vendored_by_hand
     check "compilers of several words" compilers_of_words
