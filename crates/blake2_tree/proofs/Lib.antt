@@ -5,6 +5,8 @@ mod Lists
 mod NodeLemmas
 mod OpenLeaves
 mod PieceLengths
+pub mod PlanDigests
+mod Plans
 pub mod RangeLaws
 mod RangeWrites
 pub mod Roots

@@ -34,7 +34,7 @@ length-range_digests s first ends bytes =
 -- ---- two ranges
 
 -- Whole leaves, and more after them.
-range_digests-whole : (s : TreeParameters) (first k : ℕ) (ends : Bool) (x y : List ℕ)
+pub range_digests-whole : (s : TreeParameters) (first k : ℕ) (ends : Bool) (x y : List ℕ)
     → 0 < s.leaf_length → length x ≡ suc k * s.leaf_length → 0 < length y
     → range_digests s first ends (x ++ y)
     ≡ range_digests s first false x ++ range_digests s (first + suc k) ends y

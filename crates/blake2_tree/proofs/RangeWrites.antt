@@ -8,7 +8,7 @@ use Rattle.blake2_tree.specs.TreeRoot.{TreeParameters, leaf_count}
 use Rattle.blake2_tree.specs.Ranges.{range_digests, with_part}
 use Rattle.blake2_tree.proofs.Leaves.{leaf_count-more}
 
-leaf_count-before : (size k n : ℕ) → 0 < size → 0 < n
+pub leaf_count-before : (size k n : ℕ) → 0 < size → 0 < n
     → leaf_count size (k * size + n) ≡ k + leaf_count size n
 leaf_count-before size zero n some more =
     let none : 0 * size + n ≡ n = omega arith in

@@ -2,7 +2,9 @@ pub mod LeafUpdates
 pub mod Nodes
 pub mod OpenTrees
 pub mod PieceLengths
+pub mod Plans
 pub mod Ranges
 pub mod TreeHashers
+pub mod TreeLengths
 pub mod TreeRoot
 pub mod TreeWitnesses

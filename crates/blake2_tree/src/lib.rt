@@ -19,12 +19,13 @@ mod hasher;
 mod label;
 mod limits;
 pub mod nodes;
+pub mod plan;
 mod ranges;
 #[cfg(test)]
 mod tests;
 mod witness;
 
 pub use hasher::{TreeHasher, tree_root};
-pub use limits::{LABEL_BYTES, MESSAGE_LIMIT, best_piece_length};
+pub use limits::{LABEL_BYTES, MESSAGE_LIMIT, accepts, best_piece_length};
 pub use ranges::{hash_leaves, is_range, leaf_count, root_of_leaves};
 pub use witness::{TreeWitness, tree_witness};

@@ -2,6 +2,7 @@
 
 ghost use Rattle.std.specs.Prelude.{◌≡◌, ℕ, ◌+◌, ◌*◌, ◌^◌, ◌<◌, ◌≤◌, ◌↔◌, ◌⊎◌, IsTrue};
 ghost use Rattle.blake2_tree.specs.PieceLengths.{best_piece_length};
+ghost use Rattle.blake2_tree.specs.TreeLengths.{AcceptsLengths};
 
 /// A message has fewer bytes than this: so the digests of leaves of one byte still fit the count of
 /// the root, which is below 2^64.
@@ -9,6 +10,18 @@ pub const MESSAGE_LIMIT: u64 = 1 << 58;
 
 /// Salt and persona have at most this many bytes each (the BLAKE2 document, 2.8).
 pub const LABEL_BYTES: usize = 16;
+
+/// Returns whether a tree accepts these lengths: a root of 1 to 64 bytes, a salt and a persona of
+/// up to 16 bytes each, and leaves of at least 1 byte.
+pub fn accepts(root_size: usize, salt: usize, persona: usize, leaf_length: u32) -> bool
+    ensures { IsTrue result ↔ AcceptsLengths root_size salt persona leaf_length }
+{
+    root_size >= 1
+        && root_size <= 64
+        && salt <= LABEL_BYTES
+        && persona <= LABEL_BYTES
+        && leaf_length >= 1
+}
 
 // Whether a message of `count` bytes still has room for `leaves` whole leaves and `more` bytes.
 pub(crate) fn has_room_for(count: u64, leaves: u64, leaf_length: u32, more: u64) -> bool

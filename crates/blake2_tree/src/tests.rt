@@ -3,6 +3,7 @@
 ghost use Rattle.std.specs.Prelude.{◌^◌, ◌<◌, length};
 
 mod memory;
+mod plans;
 mod ranges;
 mod roots;
 mod witness;
