@@ -1,11 +1,16 @@
 -- A tree that absorbs whole leaves by their digests, from call to call.
-use Rattle.std.proofs.Common.{◌≡◌, ℕ, ◌+◌, ◌*◌, ◌/◌, ◌<◌, false, List, ◌++◌, length, sym, ap}
-use Rattle.std.proofs.Common.{◌∙◌, arith, append_assoc, length-append}
-use Rattle.std.proofs.Math.Nat.{mod-add-div'}
+use Rattle.std.proofs.Common.{◌≡◌, ℕ, suc, ◌+◌, ◌*◌, ◌/◌, ◌%◌, ◌<◌, true, false, List, [], ◌∷◌}
+use Rattle.std.proofs.Common.{◌++◌, length, sym, ap, subst, ◌∙◌, arith, append-nil, append_assoc}
+use Rattle.std.proofs.Common.{length-append}
+use Rattle.std.proofs.Math.Nat.{mod-add-div', mul-mod_left}
+use Rattle.std.specs.List.{All, concat}
+use Rattle.blake2_tree.specs.TreeRoot.{TreeParameters}
 use Rattle.blake2_tree.specs.OpenTrees.{OpenTree, future, count, Took}
-use Rattle.blake2_tree.specs.LeafUpdates.{next_leaf, TookLeaves}
+use Rattle.blake2_tree.specs.LeafUpdates.{next_leaf, joined_digests, root_after}
+use Rattle.blake2_tree.specs.LeafUpdates.{TookDigests, TookLeaves}
 use Rattle.blake2_tree.specs.Ranges.{AreWhole, range_digests}
-use Rattle.blake2_tree.proofs.RangeLaws.{length-range_digests, leaf_count-is}
+use Rattle.blake2_tree.proofs.RangeLaws.{length-range_digests, leaf_count-is, AreWhole-count}
+use Rattle.blake2_tree.proofs.RangeLaws.{range_digests-cut}
 
 -- Whole leaves and their digests have the same number.
 length-given : (old : OpenTree) (first : ℕ) (x : List ℕ) → 0 < old.shared.leaf_length
@@ -19,6 +24,91 @@ length-given old first x some whole =
     ∙ ap (λ n. n * 64) (leaf_count-is l x some whole) in
     let leaves : length (range_digests old.shared first false x) / 64 ≡ q = omega (arith, many) in
     ap (λ n. n * l) leaves ∙ omega (arith, mod-add-div' (length x) l, whole.whole)
+
+-- Whole leaves after whole leaves are whole leaves.
+AreWhole-append : (size : ℕ) (x y : List ℕ) → 0 < size → AreWhole size x → AreWhole size y
+    → AreWhole size (x ++ y)
+AreWhole-append size x y some whole_x whole_y =
+    let i = AreWhole-count size x some whole_x in
+    let k = AreWhole-count size y some whole_y in
+    let both : length (x ++ y) ≡ (suc i.0 + suc k.0) * size =
+    omega (arith, length-append x y, i.2, k.2) in
+    record {
+      some = omega (arith, length-append x y, whole_x.some);
+      whole = ap (λ n. n % size) both ∙ mul-mod_left (suc i.0 + suc k.0) size;
+    }
+
+-- Ranges of whole leaves are whole leaves, and their digests, joined, are those of all of them.
+joined_digests-all : (s : TreeParameters) (first : ℕ) (x : List ℕ) (xs : List (List ℕ))
+    → 0 < s.leaf_length → All (AreWhole s.leaf_length) (x ∷ xs)
+    → AreWhole s.leaf_length (concat (x ∷ xs))
+    × (joined_digests s first (x ∷ xs) ≡ range_digests s first false (concat (x ∷ xs)))
+joined_digests-all s first x [] some whole =
+    let is_whole : AreWhole s.leaf_length x = whole 0 [] (omega arith) in
+    let same : x ++ [] ≡ x = append-nil x in (
+      subst (AreWhole s.leaf_length) (sym same) is_whole,
+      append-nil (range_digests s first false x) ∙ ap (range_digests s first false) (sym same),
+    )
+joined_digests-all s first x (y ∷ ys) some whole =
+    let is_whole : AreWhole s.leaf_length x = whole 0 [] (omega arith) in
+    let next : ℕ = first + length x / s.leaf_length in
+    let rest = joined_digests-all s next y ys some (λ k d below. whole (suc k) d (omega arith)) in (
+      AreWhole-append s.leaf_length x (concat (y ∷ ys)) some is_whole rest.0,
+      ap (λ d. range_digests s first false x ++ d) rest.1
+      ∙ sym (range_digests-cut s first false x (concat (y ∷ ys)) some is_whole rest.0.some),
+    )
+
+-- What holds of one range holds of several.
+took-ranges : (old new : OpenTree) (digests input : List ℕ) → 0 < old.shared.leaf_length
+    → (digests ≡ [] → Took old input new)
+    → ((x : List ℕ) → AreWhole old.shared.leaf_length x
+    → digests ≡ range_digests old.shared (next_leaf old) false x → Took old (x ++ input) new)
+    → (xs : List (List ℕ)) → All (AreWhole old.shared.leaf_length) xs
+    → digests ≡ joined_digests old.shared (next_leaf old) xs → Took old (concat xs ++ input) new
+took-ranges old new digests input some none leaves [] whole are = none are
+took-ranges old new digests input some none leaves (x ∷ xs) whole are =
+    let all = joined_digests-all old.shared (next_leaf old) x xs some whole in
+    leaves (concat (x ∷ xs)) all.0 (are ∙ all.1)
+
+-- Without digests the tree absorbs only the input.
+pub TookDigests-none : (old new : OpenTree) (digests input : List ℕ) → 0 < old.shared.leaf_length
+    → length digests ≡ 0 → Took old input new → TookDigests old digests input new
+TookDigests-none old new digests input some nothing took =
+    let none : length digests / 64 ≡ 0 = omega (arith, nothing) in
+    let zero : 0 * old.shared.leaf_length ≡ 0 = omega arith in
+    let no_leaves : length digests / 64 * old.shared.leaf_length ≡ 0 =
+    ap (λ n. n * old.shared.leaf_length) none ∙ zero in
+    record {
+      shared = took.shared;
+      none = λ _. took;
+      root = λ more. absurd (omega (arith, more, nothing));
+      count = omega (arith, took.count, no_leaves);
+    }
+
+-- The tree closes a full leaf, and absorbs any digests and then the input.
+pub TookDigests-given : (old begun given new : OpenTree) (digests input : List ℕ)
+    → 0 < length digests → 0 < length input
+    → ((z : List ℕ) → begun.root z ≡ root_after old z) → begun.closed ≡ next_leaf old
+    → begun.shared ≡ old.shared
+    → ((y : List ℕ) → 0 < length y → future given y ≡ begun.root
+    (digests ++ range_digests begun.shared (begun.closed + length digests / 64) true y))
+    → given.shared ≡ old.shared
+    → count given ≡ count old + length digests / 64 * old.shared.leaf_length
+    → Took given input new → TookDigests old digests input new
+TookDigests-given old begun given new digests input more followed begins closed first takes same
+    counts took =
+    record {
+      shared = took.shared ∙ same;
+      none = λ nothing. absurd (omega (arith, more, ap length nothing));
+      root = λ _ y.
+          took.future y
+          ∙ takes (input ++ y) (omega (arith, followed, length-append input y))
+          ∙ begins (digests
+          ++ range_digests begun.shared (begun.closed + length digests / 64) true (input ++ y))
+          ∙ (λ i. root_after old (digests
+          ++ range_digests (first i) (closed i + length digests / 64) true (input ++ y)));
+      count = omega (arith, took.count, counts);
+    }
 
 -- Without digests the tree absorbs only the input.
 pub TookLeaves-none : (old new : OpenTree) (digests input : List ℕ) → 0 < old.shared.leaf_length
@@ -38,6 +128,14 @@ TookLeaves-none old new digests input some nothing took =
         ap (λ d. length d / 64 * old.shared.leaf_length) are,
         length-given old (next_leaf old) x some whole,
       ));
+      ranges = took-ranges old new digests input some (λ _. took)
+          (λ x whole are. absurd (omega (
+            arith,
+            whole.some,
+            no_leaves,
+            ap (λ d. length d / 64 * old.shared.leaf_length) are,
+            length-given old (next_leaf old) x some whole,
+          )));
       count = omega (arith, took.count, no_leaves);
     }
 
@@ -52,25 +150,31 @@ pub TookLeaves-given : (old begun given new : OpenTree) (digests input : List �
     → count given ≡ count old + length digests / 64 * old.shared.leaf_length
     → Took given input new → TookLeaves old digests input new
 TookLeaves-given old begun given new digests input some more followed begins takes same counts took =
+    let none : digests ≡ [] → Took old input new =
+    λ nothing. absurd (omega (arith, ap length nothing)) in
+    let leaves : (x : List ℕ) → AreWhole old.shared.leaf_length x
+        → digests ≡ range_digests old.shared (next_leaf old) false x → Took old (x ++ input) new =
+    λ x whole are. record {
+      shared = took.shared ∙ same;
+      future = λ y.
+          took.future y
+          ∙ takes x (input ++ y) whole (omega (arith, length-append input y)) are
+          ∙ begins (x ++ (input ++ y))
+          (omega (arith, length-append x (input ++ y), length-append input y))
+          ∙ ap (future old) (sym (append_assoc x input y));
+      count = omega (
+        arith,
+        took.count,
+        counts,
+        ap (λ d. length d / 64 * old.shared.leaf_length) are,
+        length-given old (next_leaf old) x some whole,
+        length-append x input,
+      );
+    } in
     record {
       shared = took.shared ∙ same;
-      none = λ nothing. absurd (omega (arith, ap length nothing));
-      leaves = λ x whole are. record {
-        shared = took.shared ∙ same;
-        future = λ y.
-            took.future y
-            ∙ takes x (input ++ y) whole (omega (arith, length-append input y)) are
-            ∙ begins (x ++ (input ++ y))
-            (omega (arith, length-append x (input ++ y), length-append input y))
-            ∙ ap (future old) (sym (append_assoc x input y));
-        count = omega (
-          arith,
-          took.count,
-          counts,
-          ap (λ d. length d / 64 * old.shared.leaf_length) are,
-          length-given old (next_leaf old) x some whole,
-          length-append x input,
-        );
-      };
+      none = none;
+      leaves = leaves;
+      ranges = took-ranges old new digests input some none leaves;
       count = omega (arith, took.count, counts);
     }

@@ -70,7 +70,7 @@ whole-count : (size n q : ℕ) → q * size ≡ n → 0 < n → (k : ℕ) × (q 
 whole-count size n zero whole some = absurd (omega arith)
 whole-count size n (suc k) whole some = (k, refl)
 
-AreWhole-count : (size : ℕ) (x : List ℕ) → 0 < size → AreWhole size x
+pub AreWhole-count : (size : ℕ) (x : List ℕ) → 0 < size → AreWhole size x
     → (k : ℕ) × (length x / size ≡ suc k) × (length x ≡ suc k * size)
 AreWhole-count size x some is_whole =
     let q : ℕ = length x / size in

@@ -160,6 +160,27 @@ WentOn-four roots leaves s closed old new leaf opened x bytes rest digests some 
       fewer = omega (arith, fresh.count, is_leaf.empty);
     }
 
+-- The root absorbs the digest of a full leaf.
+pub root-closed : {R S : Type 0} (roots : Meaning R) (leaves : Meaning S) (old new : R) (full : S)
+    (z : List ℕ) → leaves.last_node full ≡ false → Updated roots old (digest_now leaves full) new
+    → roots.future new true z ≡ roots.future old true (leaves.future full false [] ++ z)
+root-closed roots leaves old new full z inner updated =
+    updated.future true z
+    ∙ ap (λ (last : Bool). roots.future old true (leaves.future full last [] ++ z)) inner
+
+-- The root absorbs any digests, and the leaf after theirs is opened, if something comes.
+pub future-by_digests : {R S : Type 0} (roots : Meaning R) (leaves : Meaning S)
+    (s : TreeParameters) (next : ℕ) (old new : R) (opened : S) (digests y : List ℕ)
+    → 0 < s.leaf_length → Updated roots old digests new
+    → Fresh leaves (node_digest 64 s next 0) 0 opened
+    → future (open_tree roots leaves s next new opened) y
+    ≡ roots.future old true (digests ++ range_digests s next true y)
+unfolding future
+future-by_digests roots leaves s next old new opened digests y some updated fresh =
+    ap (roots.future new true)
+    (digests_to_come-opened leaves s next opened y some (IsOpened-fresh leaves s next opened fresh))
+    ∙ updated.future true (range_digests s next true y)
+
 -- The open leaf, which is empty, and others after it are closed by their digests, and the next one
 -- is opened, if something comes.
 pub future-given : {R S : Type 0} (roots : Meaning R) (leaves : Meaning S) (s : TreeParameters)
@@ -173,14 +194,11 @@ pub future-given : {R S : Type 0} (roots : Meaning R) (leaves : Meaning S) (s : 
 unfolding future
 future-given roots leaves s closed k old new leaf opened digests x y some is_leaf whole are count
     updated fresh more =
-    let next : ℕ = closed + k in
-    let is_opened = IsOpened-fresh leaves s next opened fresh in
     let many : length digests ≡ length x / s.leaf_length * 64 =
     ap length are ∙ length-range_digests s closed false x
     ∙ ap (λ n. n * 64) (leaf_count-is s.leaf_length x some whole) in
     let leaves_of_x : k ≡ length x / s.leaf_length = omega (arith, many, count) in
-    ap (roots.future new true) (digests_to_come-opened leaves s next opened y some is_opened)
-    ∙ updated.future true (range_digests s next true y)
+    future-by_digests roots leaves s (closed + k) old new opened digests y some updated fresh
     ∙ ap (roots.future old true)
     ((λ i. are i ++ range_digests s (closed + leaves_of_x i) true y)
     ∙ sym (range_digests-cut s closed true x y some whole more)

@@ -1,7 +1,9 @@
 -- An open tree that absorbs whole leaves by their joined digests, which were computed elsewhere.
 use Rattle.std.specs.Prelude.{◌≡◌, ℕ, ◌+◌, ◌*◌, ◌/◌, ◌%◌, ◌^◌, ◌<◌, ◌⊎◌, false, List, [], ◌++◌}
-use Rattle.std.specs.Prelude.{length}
-use Rattle.blake2_tree.specs.OpenTrees.{OpenTree, Took, count}
+use Rattle.std.specs.Prelude.{◌∷◌, length, true, nat_eq, if◌then◌else◌}
+use Rattle.std.specs.List.{All, concat}
+use Rattle.blake2_tree.specs.TreeRoot.{TreeParameters}
+use Rattle.blake2_tree.specs.OpenTrees.{OpenTree, Took, count, future}
 use Rattle.blake2_tree.specs.Ranges.{IsRange, AreWhole, range_digests}
 
 -- The tree has absorbed whole leaves, or nothing.
@@ -27,11 +29,34 @@ pub record AcceptsLeaves (t : OpenTree) (digests n : ℕ) : Type 0 where
   pub followed : (digests ≡ 0) ⊎ (0 < n)
   pub fits : count t + digests / 64 * t.shared.leaf_length + n < 2 ^ 58
 
+-- The digests of ranges of whole leaves that follow each other, from index `first` on, joined.
+abbrev pub joined_digests : TreeParameters → ℕ → List (List ℕ) → List ℕ
+joined_digests p first [] = []
+joined_digests p first (x ∷ ranges) =
+    range_digests p first false x ++ joined_digests p (first + length x / p.leaf_length) ranges
+
+-- The root that a tree at a boundary returns if these are the digests of all its next leaves. Its
+-- open leaf is empty or full, and in the second case its digest comes before them.
+abbrev pub root_after : OpenTree → List ℕ → List ℕ
+root_after t digests =
+    if nat_eq t.taken 0 then t.root digests else t.root (t.leaf false [] ++ digests)
+
+-- The new tree is the old one after it absorbs whole leaves, the next ones, by these digests,
+-- whatever they are, and then the rest.
+pub record TookDigests (old : OpenTree) (digests rest : List ℕ) (new : OpenTree) : Type 0 where
+  pub shared : new.shared ≡ old.shared
+  pub none : digests ≡ [] → Took old rest new
+  pub root : 0 < length digests → (y : List ℕ) → future new y ≡ root_after old
+      (digests ++ range_digests old.shared (next_leaf old + length digests / 64) true (rest ++ y))
+  pub count : count new ≡ count old + length digests / 64 * old.shared.leaf_length + length rest
+
 -- The new tree is the old one after it absorbs whole leaves, the next ones, by these digests, and
--- then the rest.
+-- then the rest. The leaves may have been hashed in several ranges.
 pub record TookLeaves (old : OpenTree) (digests rest : List ℕ) (new : OpenTree) : Type 0 where
   pub shared : new.shared ≡ old.shared
   pub none : digests ≡ [] → Took old rest new
   pub leaves : (x : List ℕ) → AreWhole old.shared.leaf_length x
       → digests ≡ range_digests old.shared (next_leaf old) false x → Took old (x ++ rest) new
+  pub ranges : (xs : List (List ℕ)) → All (AreWhole old.shared.leaf_length) xs
+      → digests ≡ joined_digests old.shared (next_leaf old) xs → Took old (concat xs ++ rest) new
   pub count : count new ≡ count old + length digests / 64 * old.shared.leaf_length + length rest

@@ -1,6 +1,6 @@
 //! The tree over a message that comes in pieces.
 
-ghost use Rattle.std.specs.Prelude.{◌≡◌, ℕ, ◌+◌, ◌*◌, ◌^◌, ◌<◌, ◌≤◌, List, [], ◌++◌, length, false};
+ghost use Rattle.std.specs.Prelude.{◌≡◌, ℕ, ◌+◌, ◌*◌, ◌^◌, ◌<◌, ◌≤◌, List, [], ◌++◌, length, true, false};
 ghost use Rattle.std.specs.Prelude.{◌/◌, ◌%◌, ◌↔◌, IsTrue};
 ghost use Rattle.blake2.specs.Hashers.{blake2b_meaning};
 ghost use Rattle.blake2_tree.specs.Nodes.{shared_parameters, IsOpened};
@@ -39,7 +39,7 @@ pub struct TreeHasher<const N: usize> {
 impl<const N: usize> TreeHasher<N> {
     ghost use Rattle.blake2_tree.specs.OpenTrees.{room, WentOn};
     ghost use Rattle.blake2_tree.specs.LeafUpdates.{IsAtBoundary, next_leaf, AcceptsLeaves};
-    ghost use Rattle.blake2_tree.specs.LeafUpdates.{TookLeaves};
+    ghost use Rattle.blake2_tree.specs.LeafUpdates.{TookLeaves, TookDigests, root_after};
     ghost use Rattle.blake2_tree.specs.TreeHashers.{held_tree, future, count, Took};
 
     /// Returns a hasher that has absorbed nothing. Salt and persona have at most 16 bytes each,
@@ -111,7 +111,9 @@ impl<const N: usize> TreeHasher<N> {
     /// the call is an `update`. [`TreeHasher::accepts_leaves`] must be true of the two lengths.
     pub fn update_leaves(&mut self, digests: &[u8], input: &[u8])
         requires { AcceptsLeaves (held_tree self.old) (length digests.now) (length input.now) }
-        ensures { TookLeaves (held_tree self.old) digests.now input.now (held_tree self.new) }
+        ensures took { TookLeaves (held_tree self.old) digests.now input.now (held_tree self.new) }
+        ensures digests { TookDigests (held_tree self.old) digests.now input.now
+            (held_tree self.new) }
     {
         if digests.is_empty() {
             return self.update(input);
@@ -169,6 +171,8 @@ impl<const N: usize> TreeHasher<N> {
         requires full { room (held_tree self.old) ≡ 0 }
         requires fits { count self.old + 1 < 2 ^ 58 }
         ensures future { (y : List ℕ) → 0 < length y → future self.new y ≡ future self.old y }
+        ensures root { (z : List ℕ) → (held_tree self.new).root z
+            ≡ (held_tree self.old).root ((held_tree self.old).leaf false [] ++ z) }
         ensures count { count self.new ≡ count self.old }
         ensures closed { self.new.closed ≡ self.old.closed + 1 }
         ensures nodes { self.new.nodes ≡ self.old.nodes }
@@ -185,6 +189,7 @@ impl<const N: usize> TreeHasher<N> {
         requires boundary { IsAtBoundary (held_tree self.old) }
         requires fits { count self.old + 1 < 2 ^ 58 }
         ensures future { (y : List ℕ) → 0 < length y → future self.new y ≡ future self.old y }
+        ensures root { (z : List ℕ) → (held_tree self.new).root z ≡ root_after (held_tree self.old) z }
         ensures count { count self.new ≡ count self.old }
         ensures closed { self.new.closed ≡ next_leaf (held_tree self.old) }
         ensures nodes { self.new.nodes ≡ self.old.nodes }
@@ -205,6 +210,9 @@ impl<const N: usize> TreeHasher<N> {
         ensures future { (x y : List ℕ) → AreWhole self.old.nodes.leaf_length x → 0 < length y
             → digests.now ≡ range_digests (shared_parameters self.old.nodes) self.old.closed false x
             → future self.new y ≡ future self.old (x ++ y) }
+        ensures root { (y : List ℕ) → future self.new y
+            ≡ (held_tree self.old).root (digests.now ++ range_digests
+                (shared_parameters self.old.nodes) (self.old.closed + length digests.now / 64) true y) }
         ensures count { count self.new
             ≡ count self.old + length digests.now / 64 * self.old.nodes.leaf_length }
         ensures nodes { self.new.nodes ≡ self.old.nodes }
