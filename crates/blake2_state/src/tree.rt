@@ -3,8 +3,8 @@
 //! `blake2_ffi` makes it available to C.
 
 ghost use Rattle.std.specs.Prelude.{◌≡◌, ℕ, ◌+◌, ◌*◌, ◌^◌, ◌<◌, ◌≤◌, ◌↔◌, List, [], ◌++◌, length};
-ghost use Rattle.std.specs.Prelude.{◌/◌, ◌%◌, drop, false, IfOk, IsErr, IsTrue};
-ghost use Rattle.blake2_digest.specs.States.{Fresh, digest_now};
+ghost use Rattle.std.specs.Prelude.{◌/◌, ◌%◌, drop, true, false, IfOk, IsErr, IsTrue};
+ghost use Rattle.blake2_digest.specs.States.{Fresh, AtStart, digest_now};
 ghost use Rattle.blake2_simd.specs.Family.{blake2b};
 ghost use Rattle.blake2_compress.specs.Hash.{digest};
 ghost use Rattle.blake2_state.specs.Blake2b.{IsReady as IsNodeReady, meaning};
@@ -25,7 +25,7 @@ use crate::StateParameters;
 use crate::blake2b::State;
 use blake2_digest::{InvalidLength, padded};
 use blake2_tree::nodes::Nodes;
-use blake2_tree::{LABEL_BYTES, MESSAGE_LIMIT, hash_leaves, is_range};
+use blake2_tree::{LABEL_BYTES, MESSAGE_LIMIT, accepts, hash_leaves, is_range};
 
 /// A state of the tree as plain numbers. All values of the fields are states, and none is unsafe.
 /// A state returns a root if it is ready ([`TreeState::is_ready`]), as all are that `new` has
@@ -75,6 +75,46 @@ fn node_state(nodes: &Nodes, output_size: usize, node_offset: u64, node_depth: u
     }
 }
 
+/// Returns a state of leaf `i` of a message, which has absorbed nothing, and whose digest has 64
+/// bytes. Its last-node flag says whether it is the message's last leaf. Salt and persona have at
+/// most 16 bytes each, and a leaf has `leaf_length` bytes, 1 to 2^32 - 1.
+pub fn leaf_state(salt: &[u8], persona: &[u8], leaf_length: u32, i: u64, last: bool) -> State
+    requires salt { length salt.now ≤ 16 }
+    requires persona { length persona.now ≤ 16 }
+    requires leaf_length { 1 ≤ leaf_length }
+    ensures ready { IsNodeReady result }
+    ensures size { result.output_size ≡ 64 }
+    ensures leaf { AtStart meaning
+        (node_digest 64 (tree_parameters salt.now persona.now leaf_length) i 0) 0 result }
+    ensures last { meaning.last_node result ≡ last }
+{
+    let nodes = Nodes::new(salt, persona, leaf_length);
+    let mut leaf = node_state(&nodes, 64, i, 0);
+    leaf.set_last_node(last);
+    leaf
+}
+
+/// Returns a state of the root, which absorbs the joined digests of all leaves of a message, and
+/// whose digest is the root: `output_size` bytes, 1 to 64. Its last-node flag is on. Salt and
+/// persona have at most 16 bytes each, and a leaf has `leaf_length` bytes, 1 to 2^32 - 1.
+pub fn root_state(salt: &[u8], persona: &[u8], leaf_length: u32, output_size: usize) -> State
+    requires least { 1 ≤ output_size }
+    requires most { output_size ≤ 64 }
+    requires salt { length salt.now ≤ 16 }
+    requires persona { length persona.now ≤ 16 }
+    requires leaf_length { 1 ≤ leaf_length }
+    ensures ready { IsNodeReady result }
+    ensures size { result.output_size ≡ output_size }
+    ensures root { AtStart meaning
+        (node_digest output_size (tree_parameters salt.now persona.now leaf_length) 0 1) 0 result }
+    ensures last { meaning.last_node result ≡ true }
+{
+    let nodes = Nodes::new(salt, persona, leaf_length);
+    let mut root = node_state(&nodes, output_size, 0, 1);
+    root.set_last_node(true);
+    root
+}
+
 /// Writes the root over the joined digests of a message's leaves, as `root_of_leaves` of the
 /// crate `blake2_tree` returns it, in all bytes of `out`, which must have 1 to 64. Salt and
 /// persona have at most 16 bytes each, and a leaf has `leaf_length` bytes, 1 to 2^32 - 1.
@@ -97,9 +137,7 @@ pub fn write_root_of_leaves(
     ensures changes { IsRootOfChanges (length out.old)
         (tree_parameters salt.now persona.now leaf_length) digests.now out.new }
 {
-    let nodes = Nodes::new(salt, persona, leaf_length);
-    let mut root = node_state(&nodes, out.len(), 0, 1);
-    root.set_last_node(true);
+    let mut root = root_state(salt, persona, leaf_length, out.len());
     root.update(digests);
     root.write_digest(out);
 }
@@ -203,10 +241,7 @@ impl TreeState {
             parameters t ≡ tree_parameters salt.now persona.now leaf_length) }
         ensures opened { IfOk result (λ t. IsAsOpened t) }
     {
-        if output_size == 0 || output_size > 64 {
-            return Err(InvalidLength);
-        }
-        if salt.len() > LABEL_BYTES || persona.len() > LABEL_BYTES || leaf_length == 0 {
+        if !accepts(output_size, salt.len(), persona.len(), leaf_length) {
             return Err(InvalidLength);
         }
         Ok(Self::begun(output_size, salt, persona, leaf_length))

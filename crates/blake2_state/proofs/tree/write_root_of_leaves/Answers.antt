@@ -3,7 +3,7 @@ use Rattle.std.proofs.Common.{append-nil, rules, arith}
 use Rattle.std.proofs.lemmas.List.{drop_all}
 use Rattle.blake2_digest.specs.States.{digest_now}
 use Rattle.blake2_state.specs.Blake2b.{meaning}
-use Rattle.blake2_tree.specs.Nodes.{shared_parameters, node_digest}
+use Rattle.blake2_tree.specs.Nodes.{node_digest}
 use Rattle.blake2_tree.specs.TreeRoot.{TreeParameters, tree_parameters}
 use Rattle.blake2_tree.specs.Ranges.{IsRootOfCuts, IsRootOfChanges}
 use Rattle.blake2_tree.proofs.RangeLaws.{is_root_of_cuts, is_root_of_changes}
@@ -13,22 +13,20 @@ use Rattle.blake2_state.proofs.tree.write_root_of_leaves.Goals as goal
 pub returns-clause-root : goal.returns-clause-root
 returns-clause-root c =
     let n : ℕ = length c.args.out.now in
-    let s : TreeParameters = shared_parameters c.new-nodes.result in
+    let s : TreeParameters = tree_parameters c.args.salt.now c.args.persona.now c.args.leaf_length in
     let d : List ℕ = c.args.digests.now in
     let last = c.update.new.self in
     let flag : meaning.last_node last ≡ true =
-    c.update.ensures.updated.last_node ∙ c.set_last_node.ensures.set.last_node in
+    c.update.ensures.updated.last_node ∙ c.root_state-root.ensures.last in
     let now : digest_now meaning last ≡ node_digest n s 0 1 true d =
     ap (λ (b : Bool). meaning.future last b []) flag
     ∙ c.update.ensures.updated.future true []
-    ∙ c.set_last_node.ensures.set.future true (d ++ [])
-    ∙ c.node_state-root.ensures.fresh.future true (d ++ [])
+    ∙ c.root_state-root.ensures.root.future true (d ++ [])
     ∙ ap (node_digest n s 0 1 true) (append-nil d) in
     let size : last.output_size ≡ n = search rules in
     let rest : drop last.output_size c.args.out.now ≡ [] =
     drop_all last.output_size c.args.out.now (omega arith) in
     c.write_digest.ensures ∙ (λ i. now i ++ rest i) ∙ append-nil (node_digest n s 0 1 true d)
-    ∙ ap (λ (p : TreeParameters). node_digest n p 0 1 true d) c.new-nodes.ensures
 
 pub returns-clause-cuts : goal.returns-clause-cuts
 returns-clause-cuts c =
