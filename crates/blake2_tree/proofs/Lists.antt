@@ -7,16 +7,6 @@ use Rattle.std.specs.List.{flat_map, range_with_len, concat}
 
 -- ---- lists over a range, joined
 
--- One more number.
-pub flat_map-range_push : {A : Type 0} (f : ℕ → List A) (a n : ℕ)
-    → flat_map f (range_with_len a (suc n)) ≡ flat_map f (range_with_len a n) ++ f (a + n)
-flat_map-range_push f a zero = append-nil (f a) ∙ (let at : a ≡ a + 0 = omega arith in ap f at)
-flat_map-range_push f a (suc n) =
-    let at : a + 1 + n ≡ a + suc n = omega arith in
-    ap (λ rest. f a ++ rest) (flat_map-range_push f (a + 1) n)
-    ∙ sym (append_assoc (f a) (flat_map f (range_with_len (a + 1) n)) (f (a + 1 + n)))
-    ∙ ap (λ i. (f a ++ flat_map f (range_with_len (a + 1) n)) ++ f i) at
-
 -- The length of the joined lists.
 pub length-flat_map-range : {A : Type 0} (f : ℕ → List A) (k : ℕ) → ((i : ℕ) → length (f i) ≡ k)
     → (a n : ℕ) → length (flat_map f (range_with_len a n)) ≡ n * k

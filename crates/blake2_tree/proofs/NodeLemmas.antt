@@ -1,21 +1,18 @@
 -- The nodes of a tree as inputs.
-use Rattle.std.proofs.Common.{◌≡◌, ◌≢◌, ◌↔◌, ℕ, suc, ◌+◌, ◌*◌, ◌^◌, ◌<◌, ◌≤◌, Bool, List, []}
-use Rattle.std.proofs.Common.{◌++◌, length, refl, sym, ap, ◌∙◌, arith, append-nil}
+use Rattle.std.proofs.Common.{◌≡◌, ◌≢◌, ◌↔◌, ℕ, ◌+◌, ◌*◌, ◌^◌, ◌<◌, ◌≤◌, Bool, List}
+use Rattle.std.proofs.Common.{length, refl, sym, ap, ◌∙◌, arith}
 use Rattle.std.proofs.Math.Nat.{eq_of_mul-eq-mul_right}
 use Rattle.std.specs.List.{flat_map, range_with_len}
 use Rattle.blake2_simd.specs.Family.{blake2b}
 use Rattle.blake2_compress.specs.Hash.{AreBytes, key_block, digest}
 use Rattle.blake2_compress.specs.Inputs.{Accepts}
 use Rattle.blake2_compress.proofs.RunSizes.{length-digest}
-use Rattle.blake2.specs.declared.hashers.blake2b.Blake2b.{Blake2b}
-use Rattle.blake2_digest.specs.States.{digest_now, Updated, Fresh, NodeSet}
-use Rattle.blake2.specs.Hashers.{blake2b_meaning}
 use Rattle.blake2_transcript.specs.Witness.{Collide}
 use Rattle.blake2_compress.specs.Pieces.{IsFirstDifference}
 use Rattle.blake2_tree.specs.TreeRoot.{TreeParameters, leaf_count, leaf, node, leaf_input}
 use Rattle.blake2_tree.specs.TreeRoot.{leaf_digests, root_over, root_input, tree_root}
 use Rattle.blake2_tree.specs.TreeWitnesses.{RootsCollide}
-use Rattle.blake2_tree.proofs.Lists.{flat_map-range_push, length-flat_map-range}
+use Rattle.blake2_tree.proofs.Lists.{length-flat_map-range}
 use Rattle.blake2_tree.proofs.Lists.{flat_map-range_same}
 
 -- ---- what BLAKE2b accepts
@@ -63,14 +60,6 @@ leaf_digest s message i = digest blake2b 64 (leaf_input s message i)
 abbrev pub digests_before : TreeParameters → List ℕ → ℕ → List ℕ
 digests_before s message n = flat_map (leaf_digest s message) (range_with_len 0 n)
 
-pub digests_before-more : (s : TreeParameters) (message : List ℕ) (n : ℕ)
-    → digests_before s message (n + 1) ≡ digests_before s message n ++ leaf_digest s message n
-digests_before-more s message n =
-    let more : n + 1 ≡ suc n = omega arith in
-    let at : 0 + n ≡ n = omega arith in
-    ap (digests_before s message) more ∙ flat_map-range_push (leaf_digest s message) 0 n
-    ∙ ap (λ i. digests_before s message n ++ leaf_digest s message i) at
-
 pub leaf_digests-all : (s : TreeParameters) (message : List ℕ)
     → digests_before s message (leaf_count s.leaf_length (length message)) ≡ leaf_digests s message
 unfolding leaf_digests
@@ -107,19 +96,6 @@ leaf_digest-same s a b i same below =
     let at : 0 + i ≡ i = omega arith in
     rw at at (flat_map-range_same (leaf_digest s a) (leaf_digest s b) 64 (length-leaf_digest s a)
     (length-leaf_digest s b) 0 n i below joined)
-
--- ---- hashing a node
-
--- A hasher that has just been initialized, with its flag set, after it absorbs the node's bytes.
-pub digest_now-hashed : {n : ℕ} (of : Bool → List ℕ → List ℕ) (made flagged taken : Blake2b n)
-    (on : Bool) (x : List ℕ) → Fresh (blake2b_meaning n) of 0 made
-    → NodeSet (blake2b_meaning n) made on flagged → Updated (blake2b_meaning n) flagged x taken
-    → digest_now (blake2b_meaning n) taken ≡ of on x
-digest_now-hashed {n} of made flagged taken on x fresh set updated =
-    let flag : (blake2b_meaning n).last_node taken ≡ on = updated.last_node ∙ set.last_node in
-    ap (λ (b : Bool). (blake2b_meaning n).future taken b []) flag ∙ updated.future on []
-    ∙ set.future on (x ++ []) ∙ fresh.future on (x ++ [])
-    ∙ ap (of on) (append-nil x)
 
 -- ---- two messages with one root
 

@@ -97,7 +97,7 @@ impl<const N: usize> TreeHasher<N> {
     {
         let leaves = digests_length as u64 / 64;
         let is_in_place = digests_length == 0 || (input_length > 0 && self.is_at_boundary());
-        let length = self.nodes.leaf_length;
+        let length = u64::from(self.nodes.leaf_length);
         digests_length % 64 == 0
             && is_in_place
             && has_room_for(self.counted(), leaves, length, input_length as u64)

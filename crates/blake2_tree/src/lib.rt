@@ -26,6 +26,6 @@ mod tests;
 mod witness;
 
 pub use hasher::{TreeHasher, tree_root};
-pub use limits::{LABEL_BYTES, MESSAGE_LIMIT, accepts, best_piece_length};
+pub use limits::{LABEL_BYTES, MESSAGE_LIMIT, accepts, best_piece_length, has_room_for};
 pub use ranges::{hash_leaves, is_range, leaf_count, root_of_leaves};
 pub use witness::{TreeWitness, tree_witness};

@@ -23,14 +23,15 @@ pub fn accepts(root_size: usize, salt: usize, persona: usize, leaf_length: u32) 
         && leaf_length >= 1
 }
 
-// Whether a message of `count` bytes still has room for `leaves` whole leaves and `more` bytes.
-pub(crate) fn has_room_for(count: u64, leaves: u64, leaf_length: u32, more: u64) -> bool
+/// Returns whether a message of `count` bytes, fewer than 2^58, still has room for `leaves` whole
+/// leaves of `leaf_length` bytes, at least 1, and `more` bytes.
+pub fn has_room_for(count: u64, leaves: u64, leaf_length: u64, more: u64) -> bool
     requires some { 1 ≤ leaf_length }
     requires counted { count < 2 ^ 58 }
     ensures { IsTrue result ↔ count + leaves * leaf_length + more < 2 ^ 58 }
 {
     let rest = MESSAGE_LIMIT - 1 - count;
-    more <= rest && leaves <= (rest - more) / u64::from(leaf_length)
+    more <= rest && leaves <= (rest - more) / leaf_length
 }
 
 // The number of bytes of a piece, if leaves are short or very long.

@@ -11,6 +11,7 @@ ghost use Rattle.blake2_tree.specs.TreeRoot.{root_over, tree_parameters};
 ghost use Rattle.blake2_tree.specs.Ranges.{IsRange, range_digests, with_part};
 
 use crate::label::Label;
+use crate::ranges::leaf_count;
 use blake2::digest::{FixedOutput, LastNode, Update};
 use blake2::laws::pieces::{piece, piece_count};
 use blake2::steps::{Input, Tree};
@@ -243,15 +244,9 @@ impl Nodes {
         ensures { IfOk result (λ digests.
             digests.items ≡ leaf_digests (shared_parameters self.now) message.now) }
     {
-        let length = self.leaf_length as usize;
-        let count = piece_count(length, message);
-        let mut digests = Vec::new(alloc);
-        for i in 0..count {
-            let mut leaf = self.open_node::<64>(i as u64, 0);
-            leaf.set_last_node(i + 1 == count);
-            leaf.update(piece(length, message, i));
-            digests.extend_from_slice(&leaf.finalize_fixed())?;
-        }
+        let length = 64 * leaf_count(self.leaf_length, message.len() as u64);
+        let mut digests = vec![in alloc; 0; length as usize]?;
+        self.write_digests(0, true, message, &mut digests);
         Ok(digests)
     }
 }
