@@ -1,7 +1,7 @@
-/* See include/vulfsjor_threads.h. The functions of the library are proved, and so is that the
- * joined digests of ranges have the root of the message, however it is cut. That this file cuts a message
- * without a gap, stores each digest where it belongs and waits for its threads is tested
- * (tests/threads.c, tests/thread_faults.c). */
+/* See include/vulfsjor_threads.h. The functions of the library are proved, and so is its plan: the
+ * parts of a message are in order, without gap or overlap, and their joined digests have its root.
+ * That this file reads each part, stores its digests where the plan says and waits for its threads
+ * is tested (tests/threads.c, tests/thread_faults.c). */
 #define _GNU_SOURCE
 #include "vulfsjor_threads.h"
 
@@ -26,20 +26,17 @@ enum {
     MOST_THREADS = 256
 };
 
-/* A range of leaves, which several threads hash. Each takes the next part until none is left or one
- * has failed. */
+/* The leaves of a plan, which several threads hash. Each takes the next part until none is left or
+ * one has failed. */
 typedef struct job {
     const vulfsjor_tree_state *state; /* whose next leaves they are; null: all of a message */
     const void *salt, *personal;      /* of a message */
     size_t saltlen, personallen;
     uint32_t leaf_length;
-    const unsigned char *bytes; /* of the range; null: they are in the file, from start on */
+    const unsigned char *bytes; /* of the input; null: they are in the file */
     int file;
-    uint64_t start, length;
-    uint64_t leaves;        /* of the range */
-    uint64_t per_part;      /* leaves of a part; the last part has those that are left */
-    uint64_t parts;         /* at least 1 */
-    unsigned char *digests; /* of all leaves, 64 bytes each */
+    vulfsjor_plan plan;
+    unsigned char *digests; /* of all parts */
     uint64_t next;          /* the first part that no thread hashes yet; atomic */
     int error;              /* the first error, or 0; atomic */
 } job;
@@ -59,67 +56,63 @@ static int read_at(int file, unsigned char *to, size_t length, uint64_t from) {
     return 0;
 }
 
-/* Writes the digest of leaf i of the file, which is longer than the buffer. Returns 0 or an
+/* Writes the digest of a leaf of the file, which is longer than the buffer. Returns 0 or an
  * error. */
-static int hash_long_leaf(const job *j, uint64_t i, unsigned char *buffer, unsigned char *out) {
-    const vulfsjor_tree place = {
-        .node_offset = i, .leaf_length = j->leaf_length, .depth = 2, .inner_length = 64};
+static int hash_long_leaf(const job *j, const vulfsjor_part *part, unsigned char *buffer,
+                          unsigned char *out) {
     vulfsjor_blake2b_state leaf;
-    uint64_t from = i * j->leaf_length, left = j->length - from;
+    uint64_t from = part->start, left = part->length;
     int error;
 
-    if (left > j->leaf_length) left = j->leaf_length;
-    if (vulfsjor_blake2b_init_tree(&leaf, 64, NULL, 0, j->salt, j->saltlen, j->personal,
-                                   j->personallen, &place))
+    if (vulfsjor_tree_init_leaf(&leaf, part->first, part->ends != 0, j->salt, j->saltlen,
+                                j->personal, j->personallen, j->leaf_length))
         return EINVAL;
-    vulfsjor_blake2b_set_last_node(&leaf, i + 1 == j->leaves);
     while (left) {
         size_t n = left < PART_BYTES ? left : PART_BYTES;
-        if ((error = read_at(j->file, buffer, n, j->start + from))) return error;
+        if ((error = read_at(j->file, buffer, n, from))) return error;
         if (vulfsjor_blake2b_update(&leaf, buffer, n)) return EINVAL;
         from += n;
         left -= n;
     }
-    return vulfsjor_blake2b_final(&leaf, out, 64) ? EINVAL : 0;
+    return vulfsjor_blake2b_final(&leaf, out, part->digests_length) ? EINVAL : 0;
 }
 
 /* Writes the digests of a part. The buffer of `room` bytes is for a part of a file. Returns 0 or an
  * error. */
-static int hash_part(const job *j, uint64_t part, unsigned char *buffer, size_t room) {
-    uint64_t first = part * j->per_part, from = first * j->leaf_length;
-    int ends = part + 1 == j->parts, error, status;
-    size_t leaves = ends ? j->leaves - first : j->per_part;
-    size_t length = ends ? j->length - from : leaves * j->leaf_length;
-    unsigned char *out = j->digests + 64 * first;
+static int hash_part(const job *j, const vulfsjor_part *part, unsigned char *buffer, size_t room) {
+    unsigned char *out = j->digests + part->digests_start;
     const unsigned char *bytes = buffer;
+    int error, status;
 
     if (j->bytes) {
-        bytes = j->bytes + from;
+        bytes = j->bytes + part->start;
     } else {
-        if (length > room) return hash_long_leaf(j, first, buffer, out);
-        if ((error = read_at(j->file, buffer, length, j->start + from))) return error;
+        if (part->length > room) return hash_long_leaf(j, part, buffer, out);
+        if ((error = read_at(j->file, buffer, part->length, part->start))) return error;
     }
     if (j->state)
-        status = vulfsjor_tree_next_leaves(j->state, out, 64 * leaves, first, bytes, length);
+        status = vulfsjor_tree_next_leaves(j->state, out, part->digests_length, part->first, bytes,
+                                           part->length);
     else
-        status = vulfsjor_tree_leaves(out, 64 * leaves, first, ends, bytes, length, j->salt,
-                                      j->saltlen, j->personal, j->personallen, j->leaf_length);
+        status = vulfsjor_tree_leaves(out, part->digests_length, part->first, part->ends != 0,
+                                      bytes, part->length, j->salt, j->saltlen, j->personal,
+                                      j->personallen, j->leaf_length);
     return status ? EINVAL : 0;
 }
 
 /* What each thread does. */
 static void *run(void *given) {
     job *j = given;
-    size_t room = j->bytes ? 0 : j->per_part * j->leaf_length;
+    size_t room = j->bytes ? 0 : j->plan.part_length;
     unsigned char *buffer = NULL;
-    uint64_t part;
+    vulfsjor_part part;
     int error = 0, none = 0;
 
     if (room > MOST_BUFFER_BYTES) room = PART_BYTES;
     if (room && !(buffer = malloc(room))) error = ENOMEM;
     while (!error && !__atomic_load_n(&j->error, __ATOMIC_RELAXED) &&
-           (part = __atomic_fetch_add(&j->next, 1, __ATOMIC_RELAXED)) < j->parts)
-        error = hash_part(j, part, buffer, room);
+           !vulfsjor_tree_part(&part, &j->plan, __atomic_fetch_add(&j->next, 1, __ATOMIC_RELAXED)))
+        error = hash_part(j, &part, buffer, room);
     free(buffer);
     if (error)
         __atomic_compare_exchange_n(&j->error, &none, error, 0, __ATOMIC_RELAXED, __ATOMIC_RELAXED);
@@ -136,22 +129,21 @@ static unsigned processors(void) {
     return n > 0 ? (unsigned)n : 1;
 }
 
-/* Cuts the range into parts, and returns how many threads are to hash them. A part is about
- * PART_BYTES, in fours of leaves, since four are hashed in parallel. It has fewer leaves if
- * otherwise threads would get none, or if four do not fit into a buffer. */
-static unsigned cut(job *j, unsigned threads) {
-    uint64_t worth = j->length / LEAST_BYTES;
+/* What a plan of this job depends on. A part of a file has to fit into a buffer. */
+static vulfsjor_limits limits_of(const job *j, unsigned threads) {
+    vulfsjor_limits limits = {threads, LEAST_BYTES, PART_BYTES, UINT64_MAX};
 
-    if (!threads) threads = processors();
-    if (threads > MOST_THREADS) threads = MOST_THREADS;
-    if (threads > worth) threads = worth ? (unsigned)worth : 1;
-    j->leaves = vulfsjor_tree_leaf_count(j->length, j->leaf_length);
-    j->per_part = PART_BYTES / j->leaf_length / 4 * 4;
-    if (!j->per_part) j->per_part = 4;
-    if (j->leaves < j->per_part * threads) j->per_part = (j->leaves + threads - 1) / threads;
-    if (!j->bytes && j->per_part * j->leaf_length > MOST_BUFFER_BYTES) j->per_part = 1;
-    j->parts = (j->leaves + j->per_part - 1) / j->per_part;
-    return threads < j->parts ? threads : (unsigned)j->parts;
+    if (!threads) limits.threads = processors();
+    if (limits.threads > MOST_THREADS) limits.threads = MOST_THREADS;
+    if (!j->bytes) limits.most_bytes = MOST_BUFFER_BYTES;
+    return limits;
+}
+
+/* Makes the plan of a message. Returns -1 if it is too long. */
+static int plan_message(job *j, uint64_t start, uint64_t length, unsigned threads) {
+    vulfsjor_limits limits = limits_of(j, threads);
+
+    return vulfsjor_tree_plan(&j->plan, start, length, j->leaf_length, &limits);
 }
 
 /* Starts up to count threads, and returns how many: the system may have no more. They block all
@@ -169,15 +161,14 @@ static unsigned start(pthread_t *threads, unsigned count, job *j) {
     return started;
 }
 
-/* Hashes all leaves by this many threads, the caller's among them, and waits for the others.
+/* Hashes all parts by the threads of the plan, the caller's among them, and waits for the others.
  * Returns 0, and j->digests are then to be freed, or an error. */
-static int hash_leaves(job *j, unsigned threads) {
+static int hash_parts(job *j) {
     pthread_t others[MOST_THREADS];
     unsigned i, started;
 
-    /* No overflow: a message has less than 2^58 bytes, and no more leaves. */
-    if (!(j->digests = malloc(64 * j->leaves))) return ENOMEM;
-    started = start(others, threads - 1, j);
+    if (!(j->digests = malloc(j->plan.digests_length))) return ENOMEM;
+    started = start(others, (unsigned)j->plan.threads - 1, j);
     run(j);
     for (i = 0; i < started; i++) pthread_join(others[i], NULL);
     if (j->error) free(j->digests);
@@ -185,21 +176,21 @@ static int hash_leaves(job *j, unsigned threads) {
 }
 
 /* Writes the root over all leaves of a message. Returns 0 or an error. */
-static int root_of_leaves(job *j, void *out, size_t outlen, unsigned threads) {
-    int error = hash_leaves(j, threads), status;
+static int root_of_parts(job *j, void *out, size_t outlen) {
+    int error = hash_parts(j), status;
 
     if (error) return error;
-    status = vulfsjor_tree_root_of_leaves(out, outlen, j->digests, 64 * j->leaves, j->salt,
+    status = vulfsjor_tree_root_of_leaves(out, outlen, j->digests, j->plan.digests_length, j->salt,
                                           j->saltlen, j->personal, j->personallen, j->leaf_length);
     free(j->digests);
     return status ? EINVAL : 0;
 }
 
 /* Writes the root of the bytes in memory. Returns 0 or an error. */
-static int root_of_bytes(job *j, void *out, size_t outlen, unsigned threads) {
-    threads = cut(j, threads);
-    if (threads > 1) return root_of_leaves(j, out, outlen, threads);
-    return vulfsjor_tree_root(out, outlen, j->bytes, j->length, j->salt, j->saltlen, j->personal,
+static int root_of_bytes(job *j, void *out, size_t outlen, size_t inlen, unsigned threads) {
+    if (plan_message(j, 0, inlen, threads)) return EINVAL;
+    if (j->plan.threads > 1) return root_of_parts(j, out, outlen);
+    return vulfsjor_tree_root(out, outlen, j->bytes, inlen, j->salt, j->saltlen, j->personal,
                               j->personallen, j->leaf_length)
                ? EINVAL
                : 0;
@@ -220,57 +211,60 @@ static int fill(int file, unsigned char *buffer, size_t room, size_t *length) {
 
 /* Writes the root of the file from its position to its end, in this thread. Returns 0 or an
  * error. */
-static int root_of_stream(int file, vulfsjor_tree_state *state, void *out, size_t outlen) {
+static int root_of_stream(const job *j, void *out, size_t outlen) {
     unsigned char *buffer = malloc(PART_BYTES);
     size_t length = PART_BYTES;
+    vulfsjor_tree_state state;
     int error = buffer ? 0 : ENOMEM;
 
+    if (!error && vulfsjor_tree_init(&state, outlen, j->salt, j->saltlen, j->personal,
+                                     j->personallen, j->leaf_length))
+        error = EINVAL;
     while (!error && length == PART_BYTES) {
-        error = fill(file, buffer, PART_BYTES, &length);
-        if (!error && vulfsjor_tree_update(state, buffer, length)) error = EFBIG;
+        error = fill(j->file, buffer, PART_BYTES, &length);
+        if (!error && vulfsjor_tree_update(&state, buffer, length)) error = EFBIG;
     }
     free(buffer);
-    if (!error && vulfsjor_tree_final(state, out, outlen)) error = EINVAL;
+    if (!error && vulfsjor_tree_final(&state, out, outlen)) error = EINVAL;
     return error;
 }
 
-/* Writes the root of the open file, whose tree has this initial state. Returns 0 or an error. */
-static int root_of_file(job *j, vulfsjor_tree_state *state, void *out, size_t outlen,
-                        unsigned threads) {
+/* Writes the root of the open file. Returns 0 or an error. */
+static int root_of_file(job *j, void *out, size_t outlen, unsigned threads) {
     struct stat about;
     off_t start;
 
     if (fstat(j->file, &about)) return errno;
-    if (!S_ISREG(about.st_mode)) return root_of_stream(j->file, state, out, outlen);
+    if (!S_ISREG(about.st_mode)) return root_of_stream(j, out, outlen);
     if ((start = lseek(j->file, 0, SEEK_CUR)) < 0) return errno;
     /* A short file is for one thread anyway, and one of /proc or /sys has another length. */
-    if (about.st_size - start < LEAST_BYTES) return root_of_stream(j->file, state, out, outlen);
-    j->start = (uint64_t)start;
-    j->length = (uint64_t)(about.st_size - start);
-    if (j->length >> 58) return EFBIG;
+    if (about.st_size - start < LEAST_BYTES) return root_of_stream(j, out, outlen);
+    if (plan_message(j, (uint64_t)start, (uint64_t)(about.st_size - start), threads)) return EFBIG;
     if (lseek(j->file, about.st_size, SEEK_SET) < 0) return errno;
-    threads = cut(j, threads);
-    return root_of_leaves(j, out, outlen, threads);
+    return root_of_parts(j, out, outlen);
 }
 
 /* Absorbs the input into the state, which is ready. Returns 0, or an error and the state is of no
  * use. */
 static int update(vulfsjor_tree_state *S, const unsigned char *in, size_t inlen, unsigned threads) {
-    job j = {.state = S, .leaf_length = vulfsjor_tree_leaf_length(S), .bytes = in};
-    size_t open = vulfsjor_tree_count(S) % j.leaf_length; /* bytes of the open leaf, 0 if whole */
-    size_t room = open ? j.leaf_length - open : 0;
+    job j = {.state = S, .bytes = in};
+    vulfsjor_limits limits = limits_of(&j, threads);
     int error, status;
 
-    /* One leaf is left at the end, whole or not, since the message may end with it. */
-    if (inlen > room) j.length = (inlen - room - 1) / j.leaf_length * j.leaf_length;
-    if ((threads = cut(&j, threads)) == 1) return vulfsjor_tree_update(S, in, inlen) ? EINVAL : 0;
-    if (vulfsjor_tree_update(S, in, room)) return EINVAL;
-    j.bytes += room;
-    if ((error = hash_leaves(&j, threads))) return error;
-    status = vulfsjor_tree_update_leaves(S, j.digests, 64 * j.leaves, j.bytes + j.length,
-                                         inlen - room - j.length);
+    if (vulfsjor_tree_plan_update(&j.plan, S, inlen, &limits)) return EINVAL;
+    if (j.plan.threads <= 1) return vulfsjor_tree_update(S, in, inlen) ? EINVAL : 0;
+    if (vulfsjor_tree_update(S, in, j.plan.start)) return EINVAL;
+    if ((error = hash_parts(&j))) return error;
+    status = vulfsjor_tree_update_leaves(S, j.digests, j.plan.digests_length, in + j.plan.end,
+                                         j.plan.rest_length);
     free(j.digests);
     return status ? EINVAL : 0;
+}
+
+/* Whether a tree accepts the arguments of the job. */
+static int is_accepted(const job *j, size_t outlen) {
+    return vulfsjor_tree_refused(outlen, j->salt, j->saltlen, j->personal, j->personallen,
+                                 j->leaf_length) == VULFSJOR_ARGUMENT_NONE;
 }
 
 /* Ends a call that began with pthread_setcancelstate: a thread that is canceled within one would
@@ -284,15 +278,12 @@ static int answer(int error, int cancelable) {
 int vulfsjor_tree_root_threads(void *out, size_t outlen, const void *in, size_t inlen,
                                const void *salt, size_t saltlen, const void *personal,
                                size_t personallen, uint32_t leaf_length, unsigned threads) {
-    job j = {NULL, salt, personal, saltlen, personallen, leaf_length, .bytes = vulfsjor_text(in),
-             .length = inlen};
-    vulfsjor_tree_state state;
+    job j = {NULL, salt, personal, saltlen, personallen, leaf_length, .bytes = vulfsjor_text(in)};
     int before, error = EINVAL;
 
     pthread_setcancelstate(PTHREAD_CANCEL_DISABLE, &before);
-    if ((in || !inlen) && !(inlen >> 58) &&
-        !vulfsjor_tree_init(&state, outlen, salt, saltlen, personal, personallen, leaf_length))
-        error = root_of_bytes(&j, out, outlen, threads);
+    if (out && (in || !inlen) && is_accepted(&j, outlen))
+        error = root_of_bytes(&j, out, outlen, inlen, threads);
     return answer(error, before);
 }
 
@@ -300,13 +291,10 @@ int vulfsjor_tree_root_fd(void *out, size_t outlen, int fd, const void *salt, si
                           const void *personal, size_t personallen, uint32_t leaf_length,
                           unsigned threads) {
     job j = {NULL, salt, personal, saltlen, personallen, leaf_length, .file = fd};
-    vulfsjor_tree_state state;
     int before, error = EINVAL;
 
     pthread_setcancelstate(PTHREAD_CANCEL_DISABLE, &before);
-    if (out &&
-        !vulfsjor_tree_init(&state, outlen, salt, saltlen, personal, personallen, leaf_length))
-        error = root_of_file(&j, &state, out, outlen, threads);
+    if (out && is_accepted(&j, outlen)) error = root_of_file(&j, out, outlen, threads);
     return answer(error, before);
 }
 
@@ -314,14 +302,12 @@ int vulfsjor_tree_root_file(void *out, size_t outlen, const char *path, const vo
                             size_t saltlen, const void *personal, size_t personallen,
                             uint32_t leaf_length, unsigned threads) {
     job j = {NULL, salt, personal, saltlen, personallen, leaf_length, .file = -1};
-    vulfsjor_tree_state state;
     int before, error = EINVAL;
 
     pthread_setcancelstate(PTHREAD_CANCEL_DISABLE, &before);
-    if (out && path &&
-        !vulfsjor_tree_init(&state, outlen, salt, saltlen, personal, personallen, leaf_length)) {
+    if (out && path && is_accepted(&j, outlen)) {
         j.file = open(path, O_RDONLY | O_CLOEXEC);
-        error = j.file < 0 ? errno : root_of_file(&j, &state, out, outlen, threads);
+        error = j.file < 0 ? errno : root_of_file(&j, out, outlen, threads);
         if (j.file >= 0) close(j.file);
     }
     return answer(error, before);
@@ -329,13 +315,11 @@ int vulfsjor_tree_root_file(void *out, size_t outlen, const char *path, const vo
 
 int vulfsjor_tree_update_threads(vulfsjor_tree_state *S, const void *in, size_t inlen,
                                  unsigned threads) {
-    uint64_t count = vulfsjor_tree_count(S);
     vulfsjor_tree_state next;
     int before, error = EINVAL;
 
     pthread_setcancelstate(PTHREAD_CANCEL_DISABLE, &before);
-    if (vulfsjor_tree_leaf_length(S) && (in || !inlen) && !(inlen >> 58) &&
-        !((count + inlen) >> 58)) {
+    if (S && (in || !inlen)) {
         next = *S;
         if (!(error = update(&next, vulfsjor_text(in), inlen, threads))) *S = next;
     }

@@ -178,11 +178,45 @@ typedef struct vulfsjor_tree_state {
     uint8_t personal[16];        /* starts with the personalization */
 } vulfsjor_tree_state;
 
+/* What a plan of vulfsjor_tree_plan depends on besides lengths. Lengths are in bytes. */
+typedef struct vulfsjor_limits {
+    uint64_t threads;     /* the maximum number of threads, at least 1 */
+    uint64_t least_bytes; /* there is at most one thread for each, at least 1 */
+    uint64_t part_bytes;  /* about the maximum length of a part: fours of leaves, at least one */
+    uint64_t most_bytes;  /* the maximum length of a part, unless it is one leaf */
+} vulfsjor_limits;
+
+/* A plan: the parts in which threads hash a message, or the input of an update. Offsets and lengths
+ * are in bytes. */
+typedef struct vulfsjor_plan {
+    uint64_t start;          /* where the leaves begin */
+    uint64_t end;            /* where they end */
+    uint64_t rest_length;    /* how much input of an update follows them; 0 for a message */
+    uint64_t leaf_length;    /* 1 to 2^32 - 1 */
+    uint64_t part_length;    /* of each part, except that the last may be shorter */
+    uint64_t part_count;     /* at least 1 for a message; 0 for an update without whole leaves */
+    uint64_t threads;        /* the number that is worth its start, at most one for each part */
+    uint64_t digests_length; /* of the digests of all parts, 64 for each leaf */
+    uint64_t ends;           /* 1 if the last part ends the message, otherwise 0 */
+} vulfsjor_plan;
+
+/* A part of a plan: a range of leaves. */
+typedef struct vulfsjor_part {
+    uint64_t first;          /* the index of its first leaf, from the first of the plan */
+    uint64_t start;          /* where its bytes begin */
+    uint64_t length;         /* how many they are */
+    uint64_t digests_start;  /* where its digests begin among those of all parts */
+    uint64_t digests_length; /* how many bytes they are */
+    uint64_t ends;           /* 1 if it ends the message, otherwise 0 */
+} vulfsjor_part;
+
 /* The library requires a 64-bit platform and these layouts. */
 typedef char vulfsjor_layouts[sizeof(size_t) == 8 && sizeof(vulfsjor_blake2b_state) == 424 &&
                               sizeof(vulfsjor_blake2s_state) == 232 &&
                               sizeof(vulfsjor_tree_state) == 912 &&
                               sizeof(vulfsjor_message) == 16 &&
+                              sizeof(vulfsjor_limits) == 32 && sizeof(vulfsjor_plan) == 72 &&
+                              sizeof(vulfsjor_part) == 48 &&
                               sizeof(vulfsjor_blake2b_param) == 64 &&
                               sizeof(vulfsjor_blake2s_param) == 32 ? 1 : -1];
 
@@ -292,6 +326,21 @@ int32_t vulfsjor_ffi_tree_next_leaves(const vulfsjor_tree_state *state, uint8_t 
 int32_t vulfsjor_ffi_tree_update_leaves(vulfsjor_tree_state *state, const uint8_t *digests,
                                         size_t digests_length, const uint8_t *input,
                                         size_t input_length);
+int32_t vulfsjor_ffi_tree_accepts(size_t output_size, size_t salt_length, size_t persona_length,
+                                  uint32_t leaf_length);
+int32_t vulfsjor_ffi_tree_init_leaf(vulfsjor_blake2b_state *state, uint64_t i, uint32_t last,
+                                    const uint8_t *salt, size_t salt_length,
+                                    const uint8_t *persona, size_t persona_length,
+                                    uint32_t leaf_length);
+int32_t vulfsjor_ffi_tree_init_root(vulfsjor_blake2b_state *state, size_t output_size,
+                                    const uint8_t *salt, size_t salt_length,
+                                    const uint8_t *persona, size_t persona_length,
+                                    uint32_t leaf_length);
+int32_t vulfsjor_ffi_tree_plan(vulfsjor_plan *plan, uint64_t start, uint64_t length,
+                               uint32_t leaf_length, const vulfsjor_limits *limits);
+int32_t vulfsjor_ffi_tree_plan_update(vulfsjor_plan *plan, const vulfsjor_tree_state *state,
+                                      uint64_t length, const vulfsjor_limits *limits);
+int32_t vulfsjor_ffi_tree_part(vulfsjor_part *part, const vulfsjor_plan *plan, uint64_t i);
 
 /* ---- For C and C++ */
 
@@ -775,6 +824,71 @@ VULFSJOR_MUST_USE static inline int vulfsjor_tree_update_leaves(vulfsjor_tree_st
                                            inlen);
 }
 
+/* -- A plan of the same tree, for threads. It says which parts threads hash, where the bytes of each
+ * part are, and where its digests go. The parts are in order, without gap or overlap. Threads may
+ * hash them in any order. */
+
+/* Writes the plan of a message of length bytes, fewer than 2^58, that begins at offset start of a
+ * file or a buffer. Hash each part with vulfsjor_tree_leaves, with the part's first and ends.
+ * vulfsjor_tree_root_of_leaves of all digests is then vulfsjor_tree_root of the message. Returns -1
+ * and writes nothing if leaf_length, limits->threads or limits->least_bytes is 0, if length is 2^58
+ * or more, or if start and length are 2^64 or more together. */
+VULFSJOR_MUST_USE static inline int vulfsjor_tree_plan(vulfsjor_plan *plan, uint64_t start,
+                                                       uint64_t length, uint32_t leaf_length,
+                                                       const vulfsjor_limits *limits) {
+    if (!plan || !limits) return -1;
+    return vulfsjor_ffi_tree_plan(plan, start, length, leaf_length, limits);
+}
+
+/* Writes the plan of an update of the state with length bytes. First vulfsjor_tree_update absorbs
+ * the first plan->start bytes. Then hash each part with vulfsjor_tree_next_leaves, whose skip is the
+ * part's first. Then vulfsjor_tree_update_leaves absorbs all digests and the plan->rest_length bytes
+ * from plan->end on. Returns -1 and writes nothing if the state is not ready, if it would have
+ * absorbed 2^58 bytes or more, or if limits->threads or limits->least_bytes is 0. */
+VULFSJOR_MUST_USE static inline int vulfsjor_tree_plan_update(vulfsjor_plan *plan,
+                                                              const vulfsjor_tree_state *S,
+                                                              uint64_t length,
+                                                              const vulfsjor_limits *limits) {
+    if (!plan || !S || !limits) return -1;
+    return vulfsjor_ffi_tree_plan_update(plan, S, length, limits);
+}
+
+/* Writes part i of a plan, counted from 0. Returns -1 and writes nothing if i is not below
+ * plan->part_count, or if no call made the plan. */
+VULFSJOR_MUST_USE static inline int vulfsjor_tree_part(vulfsjor_part *part,
+                                                       const vulfsjor_plan *plan, uint64_t i) {
+    if (!part || !plan) return -1;
+    return vulfsjor_ffi_tree_part(part, plan, i);
+}
+
+/* Initializes a state of BLAKE2b for leaf i of a message, for a leaf that is too long for one call.
+ * It absorbs the bytes of the leaf, and its digest has 64 bytes. last is whether the leaf is the
+ * message's last (0 if not). Returns -1 and sets the state to zero if leaf_length is 0, or if the
+ * salt or the personalization has more than 16 bytes. */
+static inline int vulfsjor_tree_init_leaf(vulfsjor_blake2b_state *S, uint64_t i, int last,
+                                          const void *salt, size_t saltlen, const void *personal,
+                                          size_t personallen, uint32_t leaf_length) {
+    if (!S) return -1;
+    memset(S, 0, sizeof *S);
+    if ((!salt && saltlen) || (!personal && personallen)) return -1;
+    return vulfsjor_ffi_tree_init_leaf(S, i, last != 0, vulfsjor_text(salt), saltlen,
+                                       vulfsjor_text(personal), personallen, leaf_length);
+}
+
+/* Initializes a state of BLAKE2b for the root of a message, for digests that come in pieces. It
+ * absorbs the digests of all leaves in order, and its digest is the root: outlen bytes, 1 to 64.
+ * The other arguments are those of vulfsjor_tree_root. Returns -1 and sets the state to zero if a
+ * length is out of range. */
+static inline int vulfsjor_tree_init_root(vulfsjor_blake2b_state *S, size_t outlen,
+                                          const void *salt, size_t saltlen, const void *personal,
+                                          size_t personallen, uint32_t leaf_length) {
+    if (!S) return -1;
+    memset(S, 0, sizeof *S);
+    if ((!salt && saltlen) || (!personal && personallen)) return -1;
+    return vulfsjor_ffi_tree_init_root(S, outlen, vulfsjor_text(salt), saltlen,
+                                       vulfsjor_text(personal), personallen, leaf_length);
+}
+
 /* -- What -1 means, call by call. A null pointer is a reason in every call: to a state, an output,
  * digests for tree_root_of_leaves, messages, a parameter block or tree parameters, and any other if
  * its length is not 0. The other reasons are:
@@ -805,6 +919,9 @@ VULFSJOR_MUST_USE static inline int vulfsjor_tree_update_leaves(vulfsjor_tree_st
  *   tree_root_of_leaves            an argument that vulfsjor_tree_refused returns, or digestslen
  *   tree_next_leaves,              the state is not ready or not at a leaf boundary, or a length
  *   tree_update_leaves             that their comments exclude
+ *   tree_init_leaf, _init_root     an argument that vulfsjor_tree_refused returns
+ *   tree_plan, tree_plan_update,   a length or a limit that their comments exclude, a state that
+ *   tree_part                      is not ready, or a part that is not there
  *
  * The functions below make scratch states from one argument at a time, so the proved checks decide.
  * They write nothing else, and leave nothing of a key on the stack. */
@@ -933,12 +1050,12 @@ static inline vulfsjor_argument vulfsjor_blake2s_param_refused(const vulfsjor_bl
 static inline vulfsjor_argument vulfsjor_tree_refused(size_t outlen, const void *salt,
                                                       size_t saltlen, const void *personal,
                                                       size_t personallen, uint32_t leaf_length) {
-    vulfsjor_tree_state S;
-    if (vulfsjor_tree_init(&S, outlen, 0, 0, 0, 0, 1)) return VULFSJOR_ARGUMENT_OUTLEN;
-    if (vulfsjor_tree_init(&S, 1, salt, saltlen, 0, 0, 1)) return VULFSJOR_ARGUMENT_SALT;
-    if (vulfsjor_tree_init(&S, 1, 0, 0, personal, personallen, 1))
+    if (vulfsjor_ffi_tree_accepts(outlen, 0, 0, 1)) return VULFSJOR_ARGUMENT_OUTLEN;
+    if ((!salt && saltlen) || vulfsjor_ffi_tree_accepts(1, saltlen, 0, 1))
+        return VULFSJOR_ARGUMENT_SALT;
+    if ((!personal && personallen) || vulfsjor_ffi_tree_accepts(1, 0, personallen, 1))
         return VULFSJOR_ARGUMENT_PERSONAL;
-    if (vulfsjor_tree_init(&S, 1, 0, 0, 0, 0, leaf_length)) return VULFSJOR_ARGUMENT_LEAF_LENGTH;
+    if (vulfsjor_ffi_tree_accepts(1, 0, 0, leaf_length)) return VULFSJOR_ARGUMENT_LEAF_LENGTH;
     return VULFSJOR_ARGUMENT_NONE;
 }
 
