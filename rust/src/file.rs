@@ -1,16 +1,15 @@
 //! The root of a file, which several threads read.
 use std::fs::File;
 use std::io::{Error, ErrorKind, Result};
-use std::ops::Range;
 use std::os::unix::fs::FileExt;
 use std::path::Path;
 use std::vec::Vec;
 
 use crate::error::check_range;
+use crate::library::{self, Blake2bState, Limits, Part, Plan};
 use crate::stream::{read_all, BUFFER_BYTES};
-use crate::threads::{thread_count, Cut};
 use crate::tree_params::MOST_BYTES;
-use crate::{Digest, Params, Tree, TreeParams};
+use crate::{Blake2b, Digest, TreeParams};
 
 // A thread reads longer leaves in pieces.
 pub(crate) const MOST_BUFFER_BYTES: u64 = 1 << 24;
@@ -77,10 +76,14 @@ impl TreeParams<'_> {
         let mut hasher = self.hasher()?;
         let file = File::open(path)?;
         let about = file.metadata()?;
-        let (length, leaf_count) = (about.len(), self.leaf_count(about.len()));
-        if about.is_file() && thread_count(threads, length, leaf_count) > 1 {
-            check_range("the file's length", length, 0, MOST_BYTES)?;
-            return self.root_of_file(&file, length, threads, progress);
+        if about.is_file() {
+            check_range("the file's length", about.len(), 0, MOST_BYTES)?;
+            let limits = Limits::of(threads, MOST_BUFFER_BYTES);
+            let plan = Plan::of_message(about.len(), self.leaf_length, &limits)
+                .expect("a message of fewer than 2^58 bytes");
+            if plan.threads > 1 {
+                return self.root_of_file(&file, &plan, progress);
+            }
         }
         read_all(file, |bytes| {
             hasher.update(bytes);
@@ -89,38 +92,28 @@ impl TreeParams<'_> {
         Ok(hasher.finalize())
     }
 
-    // The same of an open file of this length, from its beginning, by several threads.
+    // The same of an open file, from its beginning, by the threads of its plan.
     fn root_of_file(
         &self,
         file: &File,
-        length: u64,
-        threads: usize,
+        plan: &Plan,
         progress: impl FnMut(u64) -> Result<()>,
     ) -> Result<Digest> {
-        let most = MOST_BUFFER_BYTES;
-        let cut = Cut {
-            length,
-            leaf_length: self.leaf_length.into(),
-            threads,
-            most,
-        };
-        let room = self.leaf_count(length).saturating_mul(64) as usize;
+        let room = plan.digests_length as usize;
         let mut digests = Vec::new();
         digests
             .try_reserve_exact(room)
             .map_err(|_| Error::from(ErrorKind::OutOfMemory))?;
         digests.resize(room, 0);
-        let hash = |first: u64, range: Range<u64>, out: &mut [u8], buffer: &mut Vec<u8>| {
-            let (start, size) = (range.start, range.end - range.start);
-            let ends = range.end == length;
-            if size > most {
-                return self.hash_long_leaf(file, first, range, ends, out, buffer);
+        let hash = |part: &Part, out: &mut [u8], buffer: &mut Vec<u8>| {
+            if part.length > MOST_BUFFER_BYTES {
+                return self.hash_long_leaf(file, part, out, buffer);
             }
-            buffer.resize(size as usize, 0);
-            file.read_exact_at(buffer, start)?;
-            Ok(self.leaves(buffer, first, ends, out)?)
+            buffer.resize(part.length as usize, 0);
+            file.read_exact_at(buffer, part.start)?;
+            Ok(self.leaves(buffer, part.first, part.ends != 0, out)?)
         };
-        cut.hash(&mut digests, hash, progress)?;
+        plan.hash(&mut digests, hash, progress)?;
         Ok(self.root_of_leaves(&digests)?)
     }
 
@@ -128,15 +121,14 @@ impl TreeParams<'_> {
     fn hash_long_leaf(
         &self,
         file: &File,
-        leaf: u64,
-        range: Range<u64>,
-        ends: bool,
+        part: &Part,
         out: &mut [u8],
         buffer: &mut Vec<u8>,
     ) -> Result<()> {
-        let mut hasher = self.params_of_leaf(leaf).last_node(ends).blake2b()?;
-        for start in range.clone().step_by(BUFFER_BYTES) {
-            buffer.resize((range.end - start).min(BUFFER_BYTES as u64) as usize, 0);
+        let mut hasher = self.leaf_hasher(part.first, part.ends != 0);
+        let end = part.start + part.length;
+        for start in (part.start..end).step_by(BUFFER_BYTES) {
+            buffer.resize((end - start).min(BUFFER_BYTES as u64) as usize, 0);
             file.read_exact_at(buffer, start)?;
             hasher.update(&buffer);
         }
@@ -144,19 +136,26 @@ impl TreeParams<'_> {
         Ok(())
     }
 
-    // The parameters of a leaf as a BLAKE2b hash.
-    fn params_of_leaf(&self, leaf: u64) -> Params<'_> {
-        let tree = Tree {
-            fanout: 0,
-            depth: 2,
-            leaf_length: self.leaf_length,
-            node_offset: leaf,
-            node_depth: 0,
-            inner_length: 64,
+    // A hasher of leaf i, which is the message's last or not.
+    fn leaf_hasher(&self, i: u64, last: bool) -> Blake2b {
+        let mut hasher = Blake2b {
+            state: Blake2bState::ZEROS,
         };
-        Params::new()
-            .salt(self.salt)
-            .persona(self.persona)
-            .tree(tree)
+        // Safety: the pointers come from slices of these lengths, and none is null. The state
+        // overlaps none of them.
+        let status = unsafe {
+            library::tree_init_leaf(
+                &mut hasher.state,
+                i,
+                u32::from(last),
+                self.salt.as_ptr(),
+                self.salt.len(),
+                self.persona.as_ptr(),
+                self.persona.len(),
+                self.leaf_length,
+            )
+        };
+        assert_eq!(status, 0, "parameters that a tree accepts");
+        hasher
     }
 }

@@ -51,6 +51,45 @@ impl Text {
     }
 }
 
+// What a plan depends on, a plan and a part of it, as the header has them. All are numbers of
+// bytes, or offsets, except where the names say otherwise.
+#[cfg(feature = "std")]
+#[repr(C)]
+#[derive(Clone, Copy)]
+pub(crate) struct Limits {
+    pub(crate) threads: u64,
+    pub(crate) least_bytes: u64,
+    pub(crate) part_bytes: u64,
+    pub(crate) most_bytes: u64,
+}
+
+#[cfg(feature = "std")]
+#[repr(C)]
+#[derive(Clone, Copy, Default)]
+pub(crate) struct Plan {
+    pub(crate) start: u64,
+    pub(crate) end: u64,
+    rest_length: u64,
+    leaf_length: u64,
+    part_length: u64,
+    part_count: u64,
+    pub(crate) threads: u64,
+    pub(crate) digests_length: u64,
+    ends: u64,
+}
+
+#[cfg(feature = "std")]
+#[repr(C)]
+#[derive(Clone, Copy, Default)]
+pub(crate) struct Part {
+    pub(crate) first: u64,
+    pub(crate) start: u64,
+    pub(crate) length: u64,
+    digests_start: u64,
+    pub(crate) digests_length: u64,
+    pub(crate) ends: u64,
+}
+
 // The name of a function of a build within a program. The version keeps two versions of the crate
 // apart, and the first word keeps the crate apart from the library for C.
 macro_rules! symbol {
@@ -350,6 +389,41 @@ functions! {
         persona_length: usize,
         leaf_length: u32,
     ) -> i32;
+    #[cfg(feature = "std")]
+    fn tree_accepts(
+        output_size: usize,
+        salt_length: usize,
+        persona_length: usize,
+        leaf_length: u32,
+    ) -> i32;
+    #[cfg(feature = "std")]
+    fn tree_init_leaf(
+        state: &mut Blake2bState,
+        i: u64,
+        last: u32,
+        salt: *const u8,
+        salt_length: usize,
+        persona: *const u8,
+        persona_length: usize,
+        leaf_length: u32,
+    ) -> i32;
+    #[cfg(feature = "std")]
+    fn tree_plan(
+        plan: &mut Plan,
+        start: u64,
+        length: u64,
+        leaf_length: u32,
+        limits: &Limits,
+    ) -> i32;
+    #[cfg(feature = "std")]
+    fn tree_plan_update(
+        plan: &mut Plan,
+        state: &TreeState,
+        length: u64,
+        limits: &Limits,
+    ) -> i32;
+    #[cfg(feature = "std")]
+    fn tree_part(part: &mut Part, plan: &Plan, i: u64) -> i32;
 
     #[cfg(test)]
     fn version() -> u32;

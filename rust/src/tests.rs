@@ -24,6 +24,12 @@ fn layouts_and_version_are_those_of_the_library() {
         assert_eq!(library::blake2b_state_size(), size_of::<Blake2bState>());
         assert_eq!(library::blake2s_state_size(), size_of::<Blake2sState>());
         assert_eq!(library::tree_state_size(), size_of::<TreeState>());
+        // A plan and its parts are as large as vulfsjor.h says: its test compares.
+        #[cfg(feature = "std")]
+        assert_eq!(
+            [size_of::<library::Limits>(), size_of::<library::Plan>(), size_of::<library::Part>()],
+            [32, 72, 48]
+        );
         let version = library::version();
         let parts = [version >> 16, version >> 8 & 255, version & 255];
         assert_eq!(
@@ -173,9 +179,9 @@ mod threads {
     use super::*;
     use crate::file::MOST_BUFFER_BYTES;
     use crate::stream::BUFFER_BYTES;
-    use crate::threads::{hash_parts, thread_count, Cut, LEAST_BYTES, PART_BYTES};
+    use crate::library::{Limits, Part, Plan};
+    use crate::threads::{LEAST_BYTES, PART_BYTES};
     use std::collections::HashSet;
-    use std::ops::Range;
     use std::sync::Mutex;
     use std::time::{Duration, Instant};
     use std::vec::Vec;
@@ -199,45 +205,40 @@ mod threads {
         assert_eq!(hasher.count(), (1 << 58) - 1);
     }
 
-    #[test]
-    fn a_thread_has_256_kib_and_a_leaf() {
-        let least = LEAST_BYTES;
-        assert_eq!(least, 256 << 10);
-        assert_eq!(MOST_BUFFER_BYTES, 16 << 20);
-        assert_eq!(thread_count(3, 10 * least, 100), 3);
-        assert_eq!(thread_count(3, 2 * least, 100), 2);
-        assert_eq!(thread_count(3, 2 * least - 1, 100), 1);
-        assert_eq!(thread_count(3, 10 * least, 2), 2);
-        assert_eq!(thread_count(1, 10 * least, 100), 1);
-        assert_eq!(thread_count(usize::MAX, 1 << 40, 1 << 20), 1 << 20);
-        assert_eq!(thread_count(3, 1 << 50, 1 << 40), 3);
-        assert_eq!(thread_count(5, 0, 0), 1);
-        let all = thread::available_parallelism().unwrap().get();
-        assert_eq!(thread_count(0, 1 << 40, 1 << 20), all);
+    fn plan_of(length: u64, leaf_length: u32, threads: usize, most: u64) -> Plan {
+        Plan::of_message(length, leaf_length, &Limits::of(threads, most)).unwrap()
     }
 
-    // The parts in order: the first leaf, the bytes and the digests of each.
-    fn parts_of(length: usize, leaf_length: usize, threads: usize) -> Vec<(usize, usize, usize)> {
-        let bytes = vec![0; length];
-        let leaf_length = leaf_length as u32;
-        let count = TreeParams::new(leaf_length).leaf_count(length as u64) as usize;
-        let mut digests = vec![0; 64 * count];
-        let parts = Mutex::new(Vec::new());
-        hash_parts(
-            &bytes,
-            leaf_length,
-            &mut digests,
-            threads,
-            |first, part, out| {
-                let start = part.as_ptr() as usize - bytes.as_ptr() as usize;
-                assert_eq!(start as u64, first * u64::from(leaf_length));
-                out.fill(1);
-                parts
-                    .lock()
-                    .unwrap()
-                    .push((first as usize, part.len(), out.len()));
-            },
-        );
+    // What the proof of a plan does not say: the numbers that it gets here.
+    #[test]
+    fn a_thread_has_256_kib_and_a_part() {
+        let least = LEAST_BYTES;
+        assert_eq!((least, PART_BYTES), (256 << 10, 1 << 20));
+        assert_eq!((MOST_BUFFER_BYTES, BUFFER_BYTES), (16 << 20, 1 << 20));
+        let threads = |asked, length| plan_of(length, 1000, asked, u64::MAX).threads;
+        assert_eq!([3, 2].map(|n| threads(3, n * least)), [3, 2]);
+        assert_eq!([threads(3, 2 * least - 1), threads(1, 10 * least)], [1, 1]);
+        assert_eq!(threads(usize::MAX, 1 << 40), 1 << 20);
+        let all = thread::available_parallelism().unwrap().get() as u64;
+        assert_eq!(threads(0, 1 << 40), all);
+        assert!(Plan::of_message(5, 0, &Limits::of(1, u64::MAX)).is_none());
+        assert!(Plan::of_message(1 << 58, 1, &Limits::of(1, u64::MAX)).is_none());
+    }
+
+    // The parts in the order in which one thread hashes them: first leaf, bytes, digests, ends.
+    fn parts_of(length: usize, leaf_length: u32, threads: usize) -> Vec<(u64, usize, usize, u64)> {
+        let (bytes, parts) = (vec![0; length], Mutex::new(Vec::new()));
+        let plan = plan_of(length as u64, leaf_length, threads, u64::MAX);
+        let mut digests = vec![0; plan.digests_length as usize];
+        plan.hash_bytes(&bytes, &mut digests, |part, bytes_of_part, out| {
+            let start = bytes_of_part.as_ptr() as usize - bytes.as_ptr() as usize;
+            assert_eq!(start as u64, part.first * u64::from(leaf_length));
+            assert_eq!(out.len() as u64, part.digests_length);
+            assert!(out.iter().all(|byte| *byte == 0));
+            out.fill(1);
+            let part = (part.first, bytes_of_part.len(), out.len(), part.ends);
+            parts.lock().unwrap().push(part);
+        });
         assert!(digests.iter().all(|byte| *byte == 1));
         let mut parts = parts.into_inner().unwrap();
         parts.sort_unstable();
@@ -245,90 +246,32 @@ mod threads {
     }
 
     #[test]
-    fn parts_are_fours_of_leaves_or_a_share() {
-        assert_eq!(parts_of(0, 64, 4), [(0, 0, 64)]);
-        assert_eq!(parts_of(1, 64, 4), [(0, 1, 64)]);
-        let leaf = 1 << 16;
-        let all = |counts: &[usize]| -> Vec<(usize, usize, usize)> {
-            let firsts = counts.iter().scan(0, |sum, n| {
-                *sum += n;
-                Some(*sum - n)
-            });
-            let parts = firsts.zip(counts);
-            parts.map(|(first, n)| (first, n * leaf, 64 * n)).collect()
-        };
-        assert_eq!(parts_of(6 * leaf, leaf, 3), all(&[6]));
-        assert_eq!(parts_of(40 * leaf, leaf, 2), all(&[16, 16, 8]));
-        assert_eq!(parts_of(20 * leaf, leaf, 4), all(&[5, 5, 5, 5]));
-        assert_eq!((PART_BYTES, BUFFER_BYTES), (16 * leaf as u64, 16 * leaf));
-        let share = |first: usize, count: usize| (first, count * 4 * leaf, 64 * count);
-        assert_eq!(parts_of(20 * leaf, 4 * leaf, 2), [share(0, 3), share(3, 2)]);
-        let four = |first: usize| (first, 12 * leaf, 256);
-        assert_eq!(
-            parts_of(36 * leaf, 3 * leaf, 2),
-            [four(0), four(4), four(8)]
-        );
-        let long = 12 * leaf;
-        let parts = parts_of(9 * long - 5, long, 2);
-        let wanted = [(0, 4 * long, 256), (4, 4 * long, 256), (8, long - 5, 64)];
-        assert_eq!(parts, wanted);
-    }
-
-    // The leaves of each part, if a part has at most 16 MiB.
-    fn parts_of_file(leaves: u64, leaf_length: u64, threads: usize) -> Vec<usize> {
-        let (length, most) = (leaves * leaf_length, MOST_BUFFER_BYTES);
-        let cut = Cut {
-            length,
-            leaf_length,
-            threads,
-            most,
-        };
-        let parts = Mutex::new(Vec::new());
-        let mut digests = vec![0; 64 * leaves as usize];
-        let hash = |_, range: Range<u64>, out: &mut [u8], _: &mut Vec<u8>| {
-            assert_eq!(
-                (range.end - range.start) / leaf_length,
-                out.len() as u64 / 64
-            );
-            parts.lock().unwrap().push(out.len() / 64);
-            Ok::<(), ()>(())
-        };
-        cut.hash(&mut digests, hash, |_| Ok(())).unwrap();
-        parts.into_inner().unwrap()
-    }
-
-    #[test]
-    fn parts_of_a_file_fit_into_a_buffer() {
-        assert_eq!(parts_of_file(8, 4 << 20, 2), [4, 4]);
-        assert_eq!(parts_of_file(8, (4 << 20) + 1, 2), [1; 8]);
-        assert_eq!(parts_of_file(3, 16 << 20, 2), [1; 3]);
-        assert_eq!(parts_of_file(3, 64 << 20, 2), [1; 3]);
+    fn every_part_is_hashed() {
+        assert_eq!(parts_of(0, 64, 4), [(0, 0, 64, 1)]);
+        let leaf = 1 << 18;
+        let wanted = [(0, 1 << 20, 256, 0), (4, 1 << 20, 256, 0), (8, 5, 64, 1)];
+        assert_eq!(parts_of((8 << 18) + 5, leaf, 1), wanted);
+        assert_eq!(parts_of((8 << 18) + 5, leaf, 2), wanted);
     }
 
     // After an error of one thread, or of the report, no part is begun: the 4,096 parts of a
     // millisecond are not all begun.
     #[test]
     fn errors_stop_the_threads() {
-        let (length, leaf_length) = (1 << 34, 1 << 20);
-        let cut = Cut {
-            length,
-            leaf_length,
-            threads: 3,
-            most: u64::MAX,
-        };
+        let plan = plan_of(1 << 34, 1 << 20, 3, u64::MAX);
         let begun = Mutex::new(0);
         let run = |wrong: u64, report: &dyn Fn() -> Result<(), &'static str>| {
             *begun.lock().unwrap() = 0;
-            let hash = |first, _: Range<u64>, _: &mut [u8], _: &mut Vec<u8>| {
+            let hash = |part: &Part, _: &mut [u8], _: &mut Vec<u8>| {
                 *begun.lock().unwrap() += 1;
                 thread::sleep(Duration::from_millis(1));
-                if first == wrong {
+                if part.first == wrong {
                     Err("a part")
                 } else {
                     Ok(())
                 }
             };
-            cut.hash(&mut vec![0; 64 << 14], hash, |_| report())
+            plan.hash(&mut vec![0; 64 << 14], hash, |_| report())
         };
         assert_eq!(run(20, &|| Ok(())), Err("a part"));
         assert!(*begun.lock().unwrap() < 4096);
@@ -342,10 +285,11 @@ mod threads {
     fn meet(threads: usize) -> bool {
         let least = LEAST_BYTES as u32;
         let bytes = vec![0; threads * least as usize];
+        let plan = plan_of(bytes.len() as u64, least, threads, u64::MAX);
         let mut digests = vec![0; 64 * threads];
         let seen = Mutex::new(HashSet::new());
         let start = Instant::now();
-        hash_parts(&bytes, least, &mut digests, threads, |_, _, _| {
+        plan.hash_bytes(&bytes, &mut digests, |_, _, _| {
             seen.lock().unwrap().insert(thread::current().id());
             while seen.lock().unwrap().len() < threads && start.elapsed() < Duration::from_secs(20)
             {

@@ -248,6 +248,16 @@ impl<'a> TreeParams<'a> {
         })
     }
 
+    // An error unless a tree accepts the parameters.
+    #[cfg(feature = "std")]
+    pub(crate) fn accept(&self) -> Result<(), InvalidArgument> {
+        let (salt, persona) = (self.salt.len(), self.persona.len());
+        // Safety: the call accepts any numbers.
+        let status =
+            unsafe { library::tree_accepts(self.output_size, salt, persona, self.leaf_length) };
+        InvalidArgument::unless_zero(status, || self.check())
+    }
+
     // Why the parameters are refused.
     fn check(&self) -> Result<(), InvalidArgument> {
         check_range("output_size", self.output_size as u64, 1, 64)?;
