@@ -184,6 +184,14 @@ static hash *empty(PyTypeObject *type, const family *f) {
     return self;
 }
 
+PyObject *blake2b_of(PyObject *module, const vulfsjor_blake2b_state *run) {
+    PyTypeObject *type = (PyTypeObject *)PyObject_GetAttrString(module, "blake2b");
+    hash *self = type ? empty(type, &blake2b) : NULL;
+    Py_XDECREF((PyObject *)type);
+    if (self) self->run.b = *run;
+    return (PyObject *)self;
+}
+
 /* What a hash object is made with. */
 typedef struct given {
     PyObject *data, *leaf, *offset;

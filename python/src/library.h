@@ -45,6 +45,9 @@ PyObject *refused(PyObject *exception, const char *why);
 void take_lock(PyThread_type_lock lock);
 void leave_lock(PyThread_type_lock lock);
 
+/* A blake2b object of the module with this state, or NULL with an exception. */
+PyObject *blake2b_of(PyObject *module, const vulfsjor_blake2b_state *run);
+
 /* The digits of at most 64 bytes, as a string. */
 PyObject *digits_of(const uint8_t *bytes, size_t length);
 

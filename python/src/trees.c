@@ -148,6 +148,85 @@ static PyObject *tree_leaf_count(PyObject *module, PyObject *args, PyObject *wor
     return PyLong_FromUnsignedLongLong(vulfsjor_tree_leaf_count(length, g.leaf_length));
 }
 
+/* ---- Nodes, for leaves and digests that come in pieces */
+
+static PyObject *tree_leaf(PyObject *module, PyObject *args, PyObject *words) {
+    static char *names[] = {"leaf_size", "first", "ends", "salt", "person", NULL};
+    given g = {.size = VULFSJOR_BLAKE2B_OUTBYTES};
+    vulfsjor_blake2b_state run;
+    PyObject *first, *leaf = NULL;
+    uint64_t place;
+    int ends;
+    if (!PyArg_ParseTupleAndKeywords(args, words, "OOp|$y*y*:tree_leaf", names, &g.leaf, &first,
+                                     &ends, &g.salt, &g.person))
+        return NULL;
+    if (!check_given(&g) && !number_of(first, &place)) {
+        vulfsjor_tree_init_leaf(&run, place, ends, TEXT(&g.salt), TEXT(&g.person), g.leaf_length);
+        leaf = blake2b_of(module, &run);
+    }
+    release_given(&g);
+    return leaf;
+}
+
+static PyObject *tree_top(PyObject *module, PyObject *args, PyObject *words) {
+    static char *names[] = {"leaf_size", "digest_size", "salt", "person", NULL};
+    given g = {.size = VULFSJOR_BLAKE2B_OUTBYTES};
+    vulfsjor_blake2b_state run;
+    PyObject *top = NULL;
+    if (!PyArg_ParseTupleAndKeywords(args, words, "O|$iy*y*:tree_top", names, &g.leaf, &g.size,
+                                     &g.salt, &g.person))
+        return NULL;
+    if (!check_given(&g)) {
+        vulfsjor_tree_init_root(&run, (size_t)g.size, TEXT(&g.salt), TEXT(&g.person),
+                                g.leaf_length);
+        top = blake2b_of(module, &run);
+    }
+    release_given(&g);
+    return top;
+}
+
+/* ---- A plan for threads: its bytes are a vulfsjor_plan. */
+
+/* What a plan says, and the plan. */
+static PyObject *planned(const vulfsjor_plan *plan, int status) {
+    if (status) return refused(PyExc_OverflowError, "2^58 bytes or more");
+    return Py_BuildValue("KKKKy#", (unsigned long long)plan->threads,
+                         (unsigned long long)plan->part_count, (unsigned long long)plan->start,
+                         (unsigned long long)plan->end, (const char *)plan,
+                         (Py_ssize_t)sizeof *plan);
+}
+
+static PyObject *tree_plan(PyObject *module, PyObject *args) {
+    unsigned long long length, threads, least, part, most;
+    unsigned int leaf_size;
+    vulfsjor_limits limits;
+    vulfsjor_plan plan;
+    (void)module;
+    if (!PyArg_ParseTuple(args, "KIKKKK:tree_plan", &length, &leaf_size, &threads, &least, &part,
+                          &most))
+        return NULL;
+    limits = (vulfsjor_limits){threads, least, part, most};
+    return planned(&plan, vulfsjor_tree_plan(&plan, 0, length, leaf_size, &limits));
+}
+
+static PyObject *tree_part(PyObject *module, PyObject *args) {
+    vulfsjor_part part;
+    vulfsjor_plan plan;
+    unsigned long long place;
+    Py_buffer given_plan;
+    int status = -1;
+    (void)module;
+    if (!PyArg_ParseTuple(args, "y*K:tree_part", &given_plan, &place)) return NULL;
+    if (given_plan.len == sizeof plan) {
+        memcpy(&plan, given_plan.buf, sizeof plan);
+        status = vulfsjor_tree_part(&part, &plan, place);
+    }
+    PyBuffer_Release(&given_plan);
+    if (status) return refused(PyExc_IndexError, "the plan has no such part");
+    return Py_BuildValue("KKKN", (unsigned long long)part.first, (unsigned long long)part.start,
+                         (unsigned long long)part.length, PyBool_FromLong(part.ends != 0));
+}
+
 /* ---- The bytes of an object, whatever its format and dimensions, for memoryview. */
 
 typedef struct plain {
@@ -188,6 +267,20 @@ PyMethodDef tree_functions[] = {
     {"plain_bytes", make_plain, METH_O,
      "plain_bytes($module, data, /)\n--\n\n"
      "Return an object whose buffer has the bytes of the data, without format."},
+    {"tree_leaf", WITH_WORDS(tree_leaf),
+     "tree_leaf($module, leaf_size, first, ends, *, salt=b'', person=b'')\n--\n\n"
+     "Return a blake2b object for the bytes of leaf first, which ends the message or not."},
+    {"tree_top", WITH_WORDS(tree_top),
+     "tree_top($module, leaf_size, *, digest_size=64, salt=b'', person=b'')\n--\n\n"
+     "Return a blake2b object for the digests of all leaves. Its digest is the root."},
+    {"tree_plan", tree_plan, METH_VARARGS,
+     "tree_plan($module, length, leaf_size, threads, least, part, most, /)\n--\n\n"
+     "Return the threads of a plan, the number of its parts, where its leaves begin and end, and\n"
+     "the plan."},
+    {"tree_part", tree_part, METH_VARARGS,
+     "tree_part($module, plan, place, /)\n--\n\n"
+     "Return the first leaf of a part, where its bytes begin, how many they are, and whether it\n"
+     "ends the message."},
     {"tree_leaf_count", WITH_WORDS(tree_leaf_count),
      "tree_leaf_count(length, leaf_size)\n--\n\n"
      "Return the number of leaves of a message of length bytes, which is at least one."},
@@ -380,6 +473,21 @@ static PyObject *replace(PyObject *object, PyObject *args) {
     Py_RETURN_NONE;
 }
 
+static PyObject *plan(PyObject *object, PyObject *args) {
+    unsigned long long length, threads, least, part, most;
+    vulfsjor_tree_state copied;
+    vulfsjor_limits limits;
+    vulfsjor_plan made;
+    int status;
+    if (!PyArg_ParseTuple(args, "KKKKK:_plan", &length, &threads, &least, &part, &most))
+        return NULL;
+    limits = (vulfsjor_limits){threads, least, part, most};
+    copy_state((tree *)object, &copied);
+    status = vulfsjor_tree_plan_update(&made, &copied, length, &limits);
+    vulfsjor_tree_wipe(&copied);
+    return planned(&made, status);
+}
+
 static PyObject *copy(PyObject *object, PyObject *none) {
     tree *self = (tree *)object, *made = empty(Py_TYPE(object));
     (void)none;
@@ -428,6 +536,9 @@ static PyObject *count(PyObject *self, void *none) {
 }
 
 static PyMethodDef methods[] = {
+    {"_plan", plan, METH_VARARGS,
+     "_plan($self, length, threads, least, part, most, /)\n--\n\n"
+     "Return what tree_plan does, for an update with data of this length."},
     {"_replace", replace, METH_VARARGS,
      "_replace($self, other, count, /)\n--\n\nTake over the state of a copy."},
     {"next_leaves", WITH_WORDS(next_leaves),

@@ -1,7 +1,7 @@
 """The root of a tree with several threads: of data in memory, and of a file.
 
-Each call of the library is proved. That this module hashes all leaves and joins their digests in
-order is tested.
+Each call of the library is proved, and so is its plan, which says which leaves and bytes a part
+has. That this module hashes all parts and joins their digests in order is tested.
 """
 import errno
 import io
@@ -102,50 +102,49 @@ class _Tree:
 
     def __init__(self, leaf_size: int, *, digest_size: SupportsIndex = 64,
                  salt: "Buffer" = b"", person: "Buffer" = b""):
-        _library.tree_root(b"", leaf_size, digest_size=digest_size, salt=salt, person=person)
-        self.leaf_size, self.digest_size = leaf_size, digest_size
+        self.leaf_size = leaf_size
         self.shared: dict[str, Any] = dict(salt=bytes(salt), person=bytes(person))
+        self.top = _library.tree_top(leaf_size, digest_size=digest_size, **self.shared)
 
-    def node(self, **place: Any) -> _library.blake2b:
-        """The hash of a node of the tree."""
-        return _library.blake2b(fanout=0, depth=2, leaf_size=self.leaf_size, inner_size=64,
-                                **place, **self.shared)
+    def plan(self, length: int, threads: int, most: int) -> "_Plan":
+        """The plan of a message of this length."""
+        return _Plan(*_library.tree_plan(length, self.leaf_size, threads, _LEAST_BYTES,
+                                         _PART_BYTES, most))
 
-    def part(self, length: int, threads: int, most: int) -> int:
-        """How many leaves a thread hashes by one call: fours, or a share of them, or one if more
-        are too long."""
-        leaves = _library.tree_leaf_count(length, self.leaf_size)
-        part = min(max(4, _PART_BYTES // self.leaf_size // 4 * 4), -(-leaves // threads))
-        return part if part * self.leaf_size <= most else 1
-
-    def digests(self, read: Callable[[int, int], "Buffer"], length: int, part: int, stopped: Event,
+    def digests(self, read: Callable[[int, int], "Buffer"], plan: "_Plan", stopped: Event,
                 most: int, place: int) -> bytes:
-        """The digests of part `place` of a message, whose bytes `read` returns."""
-        first, start = place * part, place * part * self.leaf_size
-        end = min(start + part * self.leaf_size, length)
-        if end - start <= most:
-            return _library.tree_leaves(read(start, end), self.leaf_size, first=first,
-                                        ends=end == length, **self.shared)
-        leaf = self.node(node_offset=first, last_node=end == length)
-        for piece in range(start, end, _PART_BYTES):
+        """The digests of a part of a message, of which `read` returns a number of bytes."""
+        first, start, length, ends = plan.part(place)
+        if length <= most:
+            return _library.tree_leaves(read(start, length), self.leaf_size, first=first,
+                                        ends=ends, **self.shared)
+        leaf = _library.tree_leaf(self.leaf_size, first, ends, **self.shared)
+        for done in range(0, length, _PART_BYTES):
             if stopped.is_set():
                 break
-            leaf.update(read(piece, min(piece + _PART_BYTES, end)))
+            leaf.update(read(start + done, min(_PART_BYTES, length - done)))
         return leaf.digest()
 
-    def root(self, read: Callable[[int, int], "Buffer"], length: int, threads: int, most: int,
+    def root(self, read: Callable[[int, int], "Buffer"], plan: "_Plan", most: int,
              progress: Callable[[int], object] | None = None) -> bytes:
-        """The root of a message of this length by threads."""
-        stopped, part = Event(), self.part(length, threads, most)
-        count = -(-length // (part * self.leaf_size))
-        root = self.node(node_depth=1, last_node=True, digest_size=self.digest_size)
-        call = partial(self.digests, read, length, part, stopped, most)
-        with closing(_in_order(call, count, threads, stopped)) as all_digests:
-            for place, digests in enumerate(all_digests, 1):
-                root.update(digests)
+        """The root of the message of a plan, by its threads."""
+        stopped, done = Event(), 0
+        call = partial(self.digests, read, plan, stopped, most)
+        with closing(_in_order(call, plan.count, plan.threads, stopped)) as all_digests:
+            for place, digests in enumerate(all_digests):
+                self.top.update(digests)
                 if progress is not None:
-                    progress(min(place * part * self.leaf_size, length))
-        return root.digest()
+                    done += plan.part(place)[2]
+                    progress(done)
+        return self.top.digest()
+
+
+class _Plan:
+    """How many threads hash how many parts, and which bytes."""
+
+    def __init__(self, threads: int, count: int, start: int, end: int, plan: bytes):
+        self.threads, self.count, self.start, self.end = threads, count, start, end
+        self.part = partial(_library.tree_part, plan)
 
 
 def tree_root(data: "Buffer", /, leaf_size: int, *, digest_size: SupportsIndex = 64,
@@ -161,14 +160,13 @@ def tree_root(data: "Buffer", /, leaf_size: int, *, digest_size: SupportsIndex =
     to start them. The root is the same for any number. The GIL is released meanwhile.
     """
     threads = _thread_count(threads)
-    view = None if threads == 1 else memoryview(_library.plain_bytes(data))
-    threads = 1 if view is None else min(threads, len(view) // _LEAST_BYTES)
-    if view is None or threads <= 1:
-        return _library.tree_root(data, leaf_size, digest_size=digest_size, salt=salt,
-                                  person=person)
-    tree = _Tree(leaf_size, digest_size=digest_size, salt=salt, person=person)
-    whole = view
-    return tree.root(lambda start, end: whole[start:end], len(whole), threads, _MOST_BYTES)
+    if threads > 1:
+        view = memoryview(_library.plain_bytes(data))
+        tree = _Tree(leaf_size, digest_size=digest_size, salt=salt, person=person)
+        plan = tree.plan(len(view), threads, _MOST_BYTES)
+        if plan.threads > 1:
+            return tree.root(lambda start, length: view[start:][:length], plan, _MOST_BYTES)
+    return _library.tree_root(data, leaf_size, digest_size=digest_size, salt=salt, person=person)
 
 
 class TreeHasher(_library.TreeHasher):
@@ -192,27 +190,23 @@ class TreeHasher(_library.TreeHasher):
         updates it meanwhile, the call raises RuntimeError and does not absorb the data.
         """
         threads = _thread_count(threads)
-        view = None if threads == 1 else memoryview(_library.plain_bytes(data))
-        if view is None or len(view) < 2 * _LEAST_BYTES:
+        if threads == 1:
             return super().update(data)
+        view = memoryview(_library.plain_bytes(data))
         # The count is that of the copy: self may absorb more at any time.
-        whole, fresh = view, self.copy()
+        fresh = self.copy()
         count = fresh.count
-        head = min(-count % self.leaf_size, len(view))
-        end = len(view) - (len(view) - head - 1) % self.leaf_size - 1 if head < len(view) else head
-        super(TreeHasher, fresh).update(view[:head])
-        tree = _Tree(self.leaf_size)
-        threads = min(threads, len(view) // _LEAST_BYTES)
-        part = tree.part(end - head, threads, _MOST_BYTES)
+        plan = _Plan(*fresh._plan(len(view), threads, _LEAST_BYTES, _PART_BYTES, _MOST_BYTES))
+        if plan.threads <= 1:
+            return super().update(data)
+        super(TreeHasher, fresh).update(view[:plan.start])
 
         def call(place: int) -> bytes:
-            start = head + place * part * self.leaf_size
-            leaves = whole[start:min(start + part * self.leaf_size, end)]
-            return fresh.next_leaves(leaves, place * part)
+            first, start, length, _ = plan.part(place)
+            return fresh.next_leaves(view[start:][:length], first)
 
-        parts = -(-(end - head) // (part * self.leaf_size))
-        with closing(_in_order(call, parts, threads, Event())) as all_digests:
-            fresh.update_leaves(b"".join(all_digests), view[end:])
+        with closing(_in_order(call, plan.count, plan.threads, Event())) as all_digests:
+            fresh.update_leaves(b"".join(all_digests), view[plan.end:])
         self._replace(fresh, count)
         return None
 
@@ -240,11 +234,11 @@ class _File:
             done += count
         return done
 
-    def range(self, start: int, end: int) -> memoryview:
+    def range(self, start: int, length: int) -> memoryview:
         """The bytes of a range, in this thread's buffer."""
-        if len(getattr(self.held, "buffer", b"")) < end - start:
-            self.held.buffer = bytearray(end - start)
-        view = memoryview(self.held.buffer)[:end - start]
+        if len(getattr(self.held, "buffer", b"")) < length:
+            self.held.buffer = bytearray(length)
+        view = memoryview(self.held.buffer)[:length]
         if self.fill(view, start) < len(view):
             raise OSError(errno.EIO, "the file became shorter while it was read")
         return view
@@ -292,11 +286,9 @@ def tree_root_file(path: "FileDescriptorOrPath", /, leaf_size: int, *,
     with io.FileIO(path, closefd=not isinstance(path, int)) as opened:
         try:
             file = _File(opened, path)
-            if file.length >> 58:
-                raise OverflowError("2^58 bytes or more")
-            threads = min(threads, file.length // _LEAST_BYTES)
-            if threads > 1:
-                return tree.root(file.range, file.length, threads, _MOST_BUFFER_BYTES, progress)
+            plan = tree.plan(file.length, threads, _MOST_BUFFER_BYTES)
+            if plan.threads > 1:
+                return tree.root(file.range, plan, _MOST_BUFFER_BYTES, progress)
             hasher = _library.TreeHasher(leaf_size, digest_size=digest_size, **tree.shared)
             return _root_in_order(file, hasher, progress)
         except OSError as error:
