@@ -54,6 +54,10 @@ const TAG = 1088;
 const KEY = 1152;
 const SALT = 1216;
 const PERSONALIZATION = 1232;
+const LIMITS = 1248;
+const PLAN = 1280;
+const PART = 1352;
+const ARGUMENTS_END = 1400;
 const RECORDS = 2048;
 const OUTS = RECORDS + 16 * BATCH;
 const WINDOW = 8192;
@@ -74,7 +78,8 @@ class Engine {
     this.view = new DataView(exports.memory.buffer);
     this.isBusy = false;
     this.isSame = exports.vulfsjor_ffi_is_same;
-    this.leafCount = exports.vulfsjor_ffi_tree_leaf_count;
+    this.plan = exports.vulfsjor_ffi_tree_plan;
+    this.part = exports.vulfsjor_ffi_tree_part;
     const functionsOf = (name, calls) =>
       Object.fromEntries(calls.map((call) => [call, exports[`vulfsjor_ffi_${name}_${call}`]]));
     const calls = [
@@ -84,7 +89,8 @@ class Engine {
     this.calls = {
       blake2b: { ...functionsOf("blake2b", calls), one: exports.vulfsjor_ffi_blake2b },
       blake2s: { ...functionsOf("blake2s", calls), one: exports.vulfsjor_ffi_blake2s },
-      tree: functionsOf("tree", ["init", "update", "final", "leaves", "root_of_leaves"]),
+      tree: functionsOf(
+        "tree", ["init", "update", "final", "leaves", "root_of_leaves", "init_leaf", "init_root"]),
     };
     this.slots = {};
     for (const kind of [BLAKE2B, BLAKE2S, TREE]) {
@@ -93,7 +99,7 @@ class Engine {
     this.at = {}; // the places as the library's pointers
     for (const [name, place] of Object.entries({
       state: STATE, out: OUT, tag: TAG, key: KEY, salt: SALT, personalization: PERSONALIZATION,
-      records: RECORDS, outs: OUTS, window: WINDOW,
+      limits: LIMITS, plan: PLAN, part: PART, records: RECORDS, outs: OUTS, window: WINDOW,
     })) {
       this.at[name] = BigInt(this.base + place);
     }
@@ -118,12 +124,19 @@ class Engine {
 
   /** Initializes a state in the slot. */
   begin(kind, settings) {
-    const { digestLength, tree } = settings;
+    const { digestLength, leafLength, node, tree } = settings;
     const labels = this.putLabels(settings);
     const calls = this.calls[kind.name];
     const size = BigInt(digestLength);
+    if (node === "root") {
+      return granted(this.calls.tree.init_root(this.at.state, size, ...labels, leafLength));
+    }
+    if (node !== undefined) {
+      return granted(this.calls.tree.init_leaf(
+        this.at.state, node.first, node.ends ? 1 : 0, ...labels, leafLength));
+    }
     if (kind.isTree) {
-      return granted(calls.init(this.at.state, size, ...labels, settings.leafLength));
+      return granted(calls.init(this.at.state, size, ...labels, leafLength));
     }
     const key = this.put(settings.key, KEY);
     if (tree === undefined) {
@@ -161,7 +174,7 @@ class Engine {
    */
   clean(kind, used, depth = kind.isTree ? DEEP : SHALLOW) {
     const most = kind.isTree ? WINDOW_LENGTH : PIECE;
-    this.bytes.fill(0, this.base - depth, this.base + PERSONALIZATION + 16);
+    this.bytes.fill(0, this.base - depth, this.base + ARGUMENTS_END);
     this.bytes.fill(0, this.base + WINDOW, this.base + WINDOW + Math.min(used, most));
   }
 }
@@ -283,9 +296,9 @@ export function reset(kind, state) {
 /** The digest of one message. */
 export function hash(kind, message, settings) {
   return withEngine((engine) => {
-    const { digestLength, salt, personalization, tree } = settings;
-    const isSalted = lengthOf(salt) + lengthOf(personalization) > 0;
-    if (!isSalted && tree === undefined && lengthOf(message) <= PIECE && !kind.isTree) {
+    const { digestLength, salt, personalization, node, tree } = settings;
+    const isPlain = lengthOf(salt) + lengthOf(personalization) === 0 && node === undefined;
+    if (isPlain && tree === undefined && lengthOf(message) <= PIECE && !kind.isTree) {
       granted(engine.calls[kind.name].one(
         engine.at.out, BigInt(digestLength), engine.at.window, engine.put(message, WINDOW),
         engine.at.key, engine.put(settings.key, KEY)));
@@ -352,36 +365,58 @@ function hashBatch(kind, messages, settings) {
   });
 }
 
-// The settings of a node in the tree of treeRoot (the BLAKE2 document, 2.10).
-function nodeOf({ leafLength, salt, personalization }, digestLength, position) {
-  const tree = { fanout: 0, depth: 2, leafLength, innerLength: LEAF_DIGEST, ...position };
-  return { digestLength, key: new Uint8Array(0), salt, personalization, tree };
+/**
+ * The plan of a message: its bytes, for partOfPlan, and the number of its parts and of the bytes of
+ * their digests. A part has about `part` bytes, and at most `most` unless it is one leaf.
+ */
+export function planOf(length, leafLength, part, most) {
+  return withEngine((engine) => {
+    const at = engine.base + PLAN;
+    for (const [i, limit] of [1, 1, part, most].entries()) {
+      engine.view.setBigUint64(engine.base + LIMITS + 8 * i, BigInt(limit), true);
+    }
+    granted(engine.plan(engine.at.plan, 0n, BigInt(length), leafLength, engine.at.limits));
+    const plan = {
+      bytes: engine.read(PLAN, PART - PLAN),
+      count: Number(engine.view.getBigUint64(at + 40, true)),
+      digestsLength: Number(engine.view.getBigUint64(at + 56, true)),
+    };
+    engine.clean(TREE, 0);
+    return plan;
+  });
 }
 
-// Leaves that are too long for the window, each through a state of its node.
-function hashLongLeaves(settings, { first, ends }, message, digests) {
-  const { leafLength } = settings;
-  const count = lengthOf(digests) / LEAF_DIGEST;
-  for (let i = 0; i < count; i++) {
-    const at = i * leafLength;
-    const leaf = partOf(message, at, Math.min(leafLength, lengthOf(message) - at));
-    const lastNode = ends && i === count - 1;
-    const position = { nodeDepth: 0, nodeOffset: first + BigInt(i), lastNode };
-    digests.set(hash(BLAKE2B, leaf, nodeOf(settings, LEAF_DIGEST, position)), LEAF_DIGEST * i);
-  }
+/**
+ * Part i of a plan: the number of its first leaf, a BigInt, its bytes and its digests, and whether
+ * it ends the message.
+ */
+export function partOfPlan(plan, i) {
+  return withEngine((engine) => {
+    engine.put(plan.bytes, PLAN);
+    granted(engine.part(engine.at.part, engine.at.plan, BigInt(i)));
+    const [first, ...numbers] = [0, 8, 16, 24, 32, 40].map((offset) =>
+      engine.view.getBigUint64(engine.base + PART + offset, true));
+    const [start, length, digestsStart, digestsLength, ends] = numbers.map(Number);
+    engine.clean(TREE, 0);
+    return { first, start, length, digestsStart, digestsLength, ends: ends === 1 };
+  });
+}
+
+// The digest of a node of the tree, whose message may be longer than the window.
+function hashNode({ leafLength, salt, personalization }, digestLength, node, message) {
+  const key = new Uint8Array(0);
+  return hash(BLAKE2B, message, { digestLength, key, salt, personalization, leafLength, node });
 }
 
 // Leaves that fit into the window together with their digests, which come first in it.
-function hashShortLeaves(settings, { first, ends }, message) {
+function hashShortLeaves(settings, { first, ends }, message, room) {
   return withEngine((engine) => {
-    const length = lengthOf(message);
-    const room = LEAF_DIGEST * Number(engine.leafCount(BigInt(length), settings.leafLength));
     const source = engine.at.window + BigInt(room);
     granted(engine.calls.tree.leaves(
       engine.at.window, BigInt(room), first, ends ? 1 : 0, source,
       engine.put(message, WINDOW + room), ...engine.putLabels(settings), settings.leafLength));
     const digests = engine.read(WINDOW, room);
-    engine.clean(TREE, room + length);
+    engine.clean(TREE, room + lengthOf(message));
     return digests;
   });
 }
@@ -391,21 +426,20 @@ function hashShortLeaves(settings, { first, ends }, message) {
  * leaf, a BigInt, and whether it ends the message. The message is whole leaves unless it ends, and
  * has at least one byte unless it is all of an empty message.
  */
-export function hashLeaves(settings, { first, ends }, message) {
+export function hashLeaves(settings, range, message) {
   const { leafLength } = settings;
-  const length = lengthOf(message);
-  const count = withEngine((engine) => engine.leafCount(BigInt(length), leafLength));
-  const digests = new Uint8Array(LEAF_DIGEST * Number(count));
-  const atOnce = Math.floor(WINDOW_LENGTH / (leafLength + LEAF_DIGEST));
-  if (atOnce === 0) {
-    hashLongLeaves(settings, { first, ends }, message, digests);
-    return digests;
-  }
-  for (let leaf = 0; LEAF_DIGEST * leaf < lengthOf(digests); leaf += atOnce) {
-    const at = leaf * leafLength;
-    const size = Math.min(atOnce * leafLength, length - at);
-    const range = { first: first + BigInt(leaf), ends: ends && at + size === length };
-    digests.set(hashShortLeaves(settings, range, partOf(message, at, size)), LEAF_DIGEST * leaf);
+  const most = Math.floor(WINDOW_LENGTH / (leafLength + LEAF_DIGEST)) * leafLength;
+  const plan = planOf(lengthOf(message), leafLength, most, most);
+  const digests = new Uint8Array(plan.digestsLength);
+  for (let i = 0; i < plan.count; i++) {
+    const part = partOfPlan(plan, i);
+    const place = { first: range.first + part.first, ends: range.ends && part.ends };
+    const bytes = partOf(message, part.start, part.length);
+    digests.set(
+      part.length <= most
+        ? hashShortLeaves(settings, place, bytes, part.digestsLength)
+        : hashNode(settings, LEAF_DIGEST, place, bytes),
+      part.digestsStart);
   }
   return digests;
 }
@@ -413,10 +447,7 @@ export function hashLeaves(settings, { first, ends }, message) {
 /** The root over the joined digests of all leaves of a message. */
 export function rootOfLeaves(settings, digests) {
   const { digestLength, leafLength } = settings;
-  if (lengthOf(digests) > WINDOW_LENGTH) {
-    const position = { nodeDepth: 1, nodeOffset: 0n, lastNode: true };
-    return hash(BLAKE2B, digests, nodeOf(settings, digestLength, position));
-  }
+  if (lengthOf(digests) > WINDOW_LENGTH) return hashNode(settings, digestLength, "root", digests);
   return withEngine((engine) => {
     granted(engine.calls.tree.root_of_leaves(
       engine.at.out, BigInt(digestLength), engine.at.window, engine.put(digests, WINDOW),

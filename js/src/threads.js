@@ -1,10 +1,14 @@
 // The root of a tree by several workers, each of which hashes ranges of leaves.
 
 import { copyOf, lengthOf, partOf } from "./arguments.js";
-import { moduleOf, rootOfLeaves } from "./engine.js";
+import { moduleOf, partOfPlan, planOf, rootOfLeaves } from "./engine.js";
 
-// The bytes of a range, unless one leaf is longer.
+// A range has about this number of bytes, in fours of leaves, unless four leaves are longer than the
+// second. Then it is one leaf.
 const RANGE = 4 * 1024 * 1024;
+const LONGEST_RANGE = 16 * 1024 * 1024;
+// A plan is made before the length of the message is known: for the longest.
+const LONGEST_MESSAGE = 2n ** 58n - 1n;
 /** Leaves longer than this are hashed on the calling thread, since a range is held in memory. */
 export const LONGEST_LEAF = 64 * 1024 * 1024;
 /** The maximum number of workers of a call. */
@@ -50,9 +54,10 @@ export class TreeThreads {
   #workers = [];
   #idle = [];
   #digests = []; // by range
+  #plan;
   #range; // the bytes of the range that is being filled
   #filled = 0;
-  #leaf = 0n; // its first leaf
+  #leaf; // its first leaf
   #wake = () => {};
 
   constructor(settings, count, caller, report, control) {
@@ -64,13 +69,17 @@ export class TreeThreads {
     this.#caller = caller;
     this.#report = report;
     this.#control = control;
-    this.#range = this.#newRange();
+    this.#plan = planOf(LONGEST_MESSAGE, leafLength, RANGE, LONGEST_RANGE);
+    this.#begin();
     control.signal.addEventListener("abort", () => this.#wake());
   }
 
-  #newRange() {
-    const { leafLength } = this.#settings;
-    return new Uint8Array(leafLength * Math.max(1, Math.floor(RANGE / leafLength)));
+  // Begins the next range.
+  #begin() {
+    const { first, length } = partOfPlan(this.#plan, this.#digests.length);
+    this.#leaf = first;
+    this.#range = new Uint8Array(length);
+    this.#filled = 0;
   }
 
   // Waits for a worker's next result. Throws if the call was aborted.
@@ -119,9 +128,7 @@ export class TreeThreads {
     for (let at = 0; at < lengthOf(bytes); ) {
       if (this.#filled === this.#range.length) {
         await this.#send(false);
-        this.#leaf += BigInt(this.#filled / this.#settings.leafLength);
-        this.#range = this.#newRange();
-        this.#filled = 0;
+        this.#begin();
       }
       const size = Math.min(lengthOf(bytes) - at, this.#range.length - this.#filled);
       this.#range.set(partOf(bytes, at, size), this.#filled);

@@ -89,9 +89,18 @@ function someCall() {
       "_root_of_leaves", BigInt(OUT), size, BigInt(MESSAGES),
       BigInt(64 * randomInt(8) + (randomInt(5) === 0 ? 1 : 0)),
       ...salts, randomInt(9)),
+    () => tree(
+      "_accepts", size, BigInt(randomInt(20)), BigInt(randomInt(20)), randomInt(3)),
+    () => tree("_init_leaf", state, BigInt(randomInt(9)), randomInt(2), ...salts, randomInt(9)),
+    () => tree("_init_root", state, size, ...salts, randomInt(9)),
+    () => tree(
+      "_plan", BigInt(OUT), BigInt(randomInt(1000)), BigInt(randomInt(2 ** 47)), randomInt(9),
+      BigInt(RECORDS)),
+    () => tree("_plan_update", BigInt(OUT), state, BigInt(randomInt(1000)), BigInt(RECORDS)),
+    () => tree("_part", BigInt(OUT + 128), BigInt(OUT), BigInt(randomInt(3))),
     () => ["vulfsjor_ffi_is_same", [...message, BigInt(MESSAGES + randomInt(2)), message[1]]],
     () => ["vulfsjor_ffi_version", []],
-  ][randomInt(30)]();
+  ][randomInt(36)]();
 }
 
 put(randomBytes(top - base), base);
