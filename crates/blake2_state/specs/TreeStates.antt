@@ -62,7 +62,7 @@ abbrev pub IsBegun : TreeState → Type 0
 IsBegun t = IsOpened Node.meaning (parameters t) t.closed t.leaf
 
 -- An open leaf that has absorbed nothing is as it was opened. That holds for every state that a
--- constructor has made, and calls preserve it.
+-- constructor has made, and updates preserve it.
 abbrev pub IsAsOpened : TreeState → Type 0
 IsAsOpened t = (Node.meaning.count t.leaf ≡ 0) → IsBegun t
 

@@ -19,13 +19,13 @@ ghost use Rattle.blake2_state.specs.TreeStates.{IsRefusedTree, Took};
 ghost use Rattle.blake2_state.specs.TreeStates.{parameters, state_tree, future, count, zeros};
 ghost use Rattle.blake2_tree.specs.OpenTrees.{room, WentOn};
 ghost use Rattle.blake2_tree.specs.LeafUpdates.{IsAtBoundary, next_leaf, AreNextLeaves};
-ghost use Rattle.blake2_tree.specs.LeafUpdates.{AcceptsLeaves, TookLeaves};
+ghost use Rattle.blake2_tree.specs.LeafUpdates.{AcceptsLeaves, TookLeaves, TookDigests, root_after};
 
 use crate::StateParameters;
 use crate::blake2b::State;
 use blake2_digest::{InvalidLength, padded};
 use blake2_tree::nodes::Nodes;
-use blake2_tree::{LABEL_BYTES, MESSAGE_LIMIT, accepts, hash_leaves, is_range};
+use blake2_tree::{LABEL_BYTES, MESSAGE_LIMIT, accepts, has_room_for, hash_leaves, is_range};
 
 /// A state of the tree as plain numbers. All values of the fields are states, and none is unsafe.
 /// A state returns a root if it is ready ([`TreeState::is_ready`]), as all are that `new` has
@@ -153,15 +153,6 @@ fn digest_of(leaf: &State) -> [u8; 64]
     digest
 }
 
-// Whether the bytes of `closed` leaves and `taken` more are below 2^58.
-fn is_counted(closed: u64, leaf_length: u64, taken: u64) -> bool
-    requires some { 1 ≤ leaf_length }
-    requires taken { taken < 2 ^ 58 }
-    ensures { IsTrue result ↔ closed * leaf_length + taken < 2 ^ 58 }
-{
-    closed <= (MESSAGE_LIMIT - 1 - taken) / leaf_length
-}
-
 impl TreeState {
     /// Returns whether the state returns a root.
     pub fn is_ready(&self) -> bool
@@ -193,7 +184,7 @@ impl TreeState {
     {
         let taken = self.leaf.counted();
         taken <= self.leaf_length
-            && is_counted(self.closed, self.leaf_length, taken)
+            && has_room_for(0, self.closed, self.leaf_length, taken)
             && self.closed < MESSAGE_LIMIT - 1
             && self.root.counted() == 64 * self.closed
     }
@@ -363,12 +354,10 @@ impl TreeState {
         ensures { IsTrue result ↔ AcceptsLeaves (state_tree self.now) digests_length input_length }
     {
         let leaves = digests_length as u64 / 64;
-        let input = input_length as u64;
         let is_in_place = digests_length == 0 || (input_length > 0 && self.is_at_boundary());
         digests_length % 64 == 0
             && is_in_place
-            && input < MESSAGE_LIMIT - self.counted()
-            && is_counted(leaves, self.leaf_length, self.counted() + input)
+            && has_room_for(self.counted(), leaves, self.leaf_length, input_length as u64)
     }
 
     /// Absorbs whole leaves that others have hashed, which are passed as their joined digests,
@@ -385,6 +374,8 @@ impl TreeState {
         ensures ready { IsReady self.new }
         ensures size { self.new.root.output_size ≡ self.old.root.output_size }
         ensures none { digests.now ≡ [] → Took self.old input.now self.new }
+        ensures digests { TookDigests (state_tree self.old) digests.now input.now
+            (state_tree self.new) }
         ensures taken { IsAsOpened self.old → TookLeaves (state_tree self.old) digests.now input.now
             (state_tree self.new) }
         ensures opened { IsAsOpened self.old → IsAsOpened self.new }
@@ -413,6 +404,9 @@ impl TreeState {
             → (x y : List ℕ) → AreWhole self.old.leaf_length x → 0 < length y
             → digests.now ≡ range_digests (parameters self.old) self.old.closed false x
             → future self.new y ≡ future self.old (x ++ y) }
+        ensures root { (y : List ℕ) → future self.new y
+            ≡ (state_tree self.old).root (digests.now ++ range_digests (parameters self.old)
+                (self.old.closed + length digests.now / 64) true y) }
         ensures count { count self.new
             ≡ count self.old + length digests.now / 64 * self.old.leaf_length }
     {
@@ -487,6 +481,8 @@ impl TreeState {
         ensures size { self.new.root.output_size ≡ self.old.root.output_size }
         ensures shared { parameters self.new ≡ parameters self.old }
         ensures future { (y : List ℕ) → 0 < length y → future self.new y ≡ future self.old y }
+        ensures root { (z : List ℕ) → (state_tree self.new).root z
+            ≡ (state_tree self.old).root ((state_tree self.old).leaf false [] ++ z) }
         ensures count { count self.new ≡ count self.old }
         ensures closed { self.new.closed ≡ self.old.closed + 1 }
         ensures begun { IsBegun self.new }
@@ -507,6 +503,8 @@ impl TreeState {
         ensures size { self.new.root.output_size ≡ self.old.root.output_size }
         ensures shared { parameters self.new ≡ parameters self.old }
         ensures future { (y : List ℕ) → 0 < length y → future self.new y ≡ future self.old y }
+        ensures root { (z : List ℕ) → (state_tree self.new).root z
+            ≡ root_after (state_tree self.old) z }
         ensures count { count self.new ≡ count self.old }
         ensures closed { self.new.closed ≡ next_leaf (state_tree self.old) }
         ensures empty { meaning.count self.new.leaf ≡ 0 }
