@@ -82,35 +82,52 @@ pub fn root_of_ranges(front: &[u8], last: &[u8], digests: &mut [u8]) -> [u8; 64]
 }
 
 /// Returns the root of a message, of which a hasher absorbs whole leaves by their digests:
-/// `first` comes as bytes, `middle` is hashed separately, which another thread could do, and
-/// `last` follows.
-pub fn root_by_digests(first: &[u8], middle: &[u8], last: &[u8], digests: &mut [u8]) -> [u8; 64]
+/// `first` comes as bytes, `middle` and `more` are hashed separately, which other threads could
+/// do, and `last` follows.
+pub fn root_by_digests(
+    first: &[u8],
+    middle: &[u8],
+    more: &[u8],
+    last: &[u8],
+    digests: &mut [u8],
+) -> [u8; 64]
     requires first { length first.now % 65536 ≡ 0 }
     requires middle { AreWhole 65536 middle.now }
+    requires more { AreWhole 65536 more.now }
     requires last { 0 < length last.now }
-    requires fits { length first.now + length middle.now + length last.now < 2 ^ 58 }
-    requires room { length digests.old ≡ 64 * leaf_count 65536 (length middle.now) }
-    ensures { result
-        ≡ root_of 64 (tree_parameters [] [] 65536) (first.now ++ (middle.now ++ last.now)) }
+    requires fits { length first.now + length middle.now + length more.now + length last.now
+        < 2 ^ 58 }
+    requires room { length digests.old ≡ 64
+        * (leaf_count 65536 (length middle.now) + leaf_count 65536 (length more.now)) }
+    ensures { result ≡ root_of 64 (tree_parameters [] [] 65536)
+        (first.now ++ ((middle.now ++ more.now) ++ last.now)) }
 {
     let mut hasher = TreeHasher::new(b"", b"", 65536);
     hasher.update(first);
     let next = hasher.counted() / 65536;
-    hash_leaves(b"", b"", 65536, next, false, middle, digests);
+    let count = leaf_count(65536, middle.len() as u64);
+    let at = 64 * count as usize;
+    hash_leaves(b"", b"", 65536, next, false, middle, &mut digests[..at]);
+    hash_leaves(b"", b"", 65536, next + count, false, more, &mut digests[at..]);
     hasher.update_leaves(digests, last);
     hasher.finalize()
 }
 
 /// Returns the root of a message after one leaf has changed. `digests` must be those of the
-/// leaves before the change, and the call replaces the changed one. Only the new leaf is hashed.
+/// leaves before the change, and are then those after it. Only the new leaf is hashed.
 pub fn root_after_change(digests: &mut [u8], first: u64, ends: bool, leaf: &[u8]) -> [u8; 64]
     requires range { IsRange 65536 first ends (length leaf.now) }
     requires one { length leaf.now ≤ 65536 }
     requires within { 64 * (first + 1) ≤ length digests.old }
-    ensures { (old : List ℕ) → digests.old ≡ leaf_digests (tree_parameters [] [] 65536) old
+    ensures root { (old : List ℕ) → digests.old ≡ leaf_digests (tree_parameters [] [] 65536) old
         → TakesPlace 65536 (length old) first ends (length leaf.now)
         → result
         ≡ root_of 64 (tree_parameters [] [] 65536) (with_part (first * 65536) leaf.now old) }
+    ensures digests { (old : List ℕ)
+        → digests.old ≡ leaf_digests (tree_parameters [] [] 65536) old
+        → TakesPlace 65536 (length old) first ends (length leaf.now)
+        → digests.new
+        ≡ leaf_digests (tree_parameters [] [] 65536) (with_part (first * 65536) leaf.now old) }
 {
     let at = 64 * first as usize;
     hash_leaves(

@@ -1,21 +1,12 @@
 use Rattle.std.proofs.Common.{◌≡◌, ℕ, ◌+◌, ◌-◌, ◌*◌, ◌/◌, inl, true, false, List, [], ◌∷◌}
 use Rattle.std.proofs.Common.{◌++◌, length, drop, ap, ◌∙◌, append-nil, arith, rules}
-use Rattle.std.proofs.Common.{length-append, length-drop}
-use Rattle.std.proofs.lemmas.List.{take_at, drop_at, drop_all}
+use Rattle.std.proofs.Common.{length-drop}
 use borrow.Rule.Slice.PartMut.{put_mid}
 use Rattle.blake2_tree.specs.TreeRoot.{TreeParameters, tree_parameters, leaf_count, tree_root}
 use Rattle.blake2_tree.specs.Ranges.{range_digests, cut_digests, IsCut}
 use Rattle.blake2_tree.proofs.RangeLaws.{leaf_count-is, length-range_digests}
+use Rattle.blake2_examples.proofs.Slices.{put_mid-end}
 use Rattle.blake2_examples.proofs.trees.root_of_ranges.Goals as goal
-
--- The end of a list is overwritten.
-put_mid-end : (at : ℕ) (a b d : List ℕ) → length a ≡ at → length b ≡ length d
-    → put_mid at (length (a ++ d) - at) (a ++ d) b ≡ a ++ b
-put_mid-end at a b d size same =
-    let behind : drop (length (a ++ d) - at) (drop at (a ++ d)) ≡ [] =
-    ap (drop (length (a ++ d) - at)) (drop_at a d at size)
-    ∙ drop_all (length (a ++ d) - at) d (omega (arith, length-append a d)) in
-    (λ i. take_at a d at size i ++ (b ++ behind i)) ∙ ap (λ r. a ++ r) (append-nil b)
 
 pub returns : goal.returns
 returns c =
