@@ -326,15 +326,15 @@ int32_t vulfsjor_ffi_tree_next_leaves(const vulfsjor_tree_state *state, uint8_t 
 int32_t vulfsjor_ffi_tree_update_leaves(vulfsjor_tree_state *state, const uint8_t *digests,
                                         size_t digests_length, const uint8_t *input,
                                         size_t input_length);
-int32_t vulfsjor_ffi_tree_accepts(size_t output_size, size_t salt_length, size_t persona_length,
+int32_t vulfsjor_ffi_tree_accepts(size_t output_size, size_t salt_length, size_t personal_length,
                                   uint32_t leaf_length);
 int32_t vulfsjor_ffi_tree_init_leaf(vulfsjor_blake2b_state *state, uint64_t i, uint32_t last,
                                     const uint8_t *salt, size_t salt_length,
-                                    const uint8_t *persona, size_t persona_length,
+                                    const uint8_t *personal, size_t personal_length,
                                     uint32_t leaf_length);
 int32_t vulfsjor_ffi_tree_init_root(vulfsjor_blake2b_state *state, size_t output_size,
                                     const uint8_t *salt, size_t salt_length,
-                                    const uint8_t *persona, size_t persona_length,
+                                    const uint8_t *personal, size_t personal_length,
                                     uint32_t leaf_length);
 int32_t vulfsjor_ffi_tree_plan(vulfsjor_plan *plan, uint64_t start, uint64_t length,
                                uint32_t leaf_length, const vulfsjor_limits *limits);

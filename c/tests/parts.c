@@ -1,6 +1,6 @@
 /* The edges of the functions of vulfsjor.h that hash a tree in parts, and of counts: each pointer
  * null with length 0 and 1, wrong lengths, leaves of no bytes, every kind of flag, places at the
- * limits, what stays unchanged, and random cuts, orders and changes. Prints a line for digests that
+ * limits, what stays unchanged, and random cuts, plans, orders and changes. Prints a line for digests that
  * Python's hashlib has to have, as check_lines.py reads them; returns 0 if all else is as it should
  * be.
  *
@@ -419,11 +419,141 @@ static void change_and_hash(void) {
     hash_range(first, end);
 }
 
+/* Hashes the parts of a plan, those at odd places first. The message begins at byte 3. */
+static void hash_by_plan(const vulfsjor_limits *limits) {
+    vulfsjor_plan plan;
+    vulfsjor_part part;
+
+    CHECK(!vulfsjor_tree_plan(&plan, 3, length, size, limits));
+    CHECK(plan.digests_length == 64 * vulfsjor_tree_leaf_count(length, size));
+    for (int even = 0; even < 2; even++)
+        for (uint64_t i = !even; i < plan.part_count; i += 2) {
+            CHECK(!vulfsjor_tree_part(&part, &plan, i));
+            CHECK(!vulfsjor_tree_leaves(out + part.digests_start, part.digests_length, part.first,
+                                        part.ends != 0, message + (part.start - 3), part.length,
+                                        "na", 2, "pers", 4, size));
+        }
+}
+
+/* Absorbs the message in two pieces, the second by a plan. */
+static void update_by_plan(const vulfsjor_limits *limits) {
+    size_t first = random_below(length + 1);
+    vulfsjor_tree_state by_plan;
+    vulfsjor_plan plan;
+    vulfsjor_part part;
+
+    CHECK(!vulfsjor_tree_init(&by_plan, 64, salt, 3, persona, 4, size));
+    CHECK(!vulfsjor_tree_update(&by_plan, message, first));
+    CHECK(!vulfsjor_tree_plan_update(&plan, &by_plan, length - first, limits));
+    CHECK(!vulfsjor_tree_update(&by_plan, message + first, plan.start));
+    for (uint64_t i = 0; i < plan.part_count; i++) {
+        CHECK(!vulfsjor_tree_part(&part, &plan, i));
+        CHECK(!vulfsjor_tree_next_leaves(&by_plan, out + part.digests_start, part.digests_length,
+                                         part.first, message + first + part.start, part.length));
+    }
+    CHECK(!vulfsjor_tree_update_leaves(&by_plan, out, plan.digests_length,
+                                       message + first + plan.end, plan.rest_length));
+    CHECK(vulfsjor_tree_count(&by_plan) == length);
+    CHECK(!vulfsjor_tree_final(&by_plan, out, 64));
+    CHECK(!vulfsjor_tree_root(out + 64, 64, message, length, salt, 3, persona, 4, size));
+    CHECK(!memcmp(out, out + 64, 64));
+}
+
+/* A leaf and a root by states of their nodes are those of the calls for ranges. */
+static void nodes(void) {
+    vulfsjor_blake2b_state node;
+
+    for (int last = -1; last < 2; last++) {
+        CHECK(!vulfsjor_tree_init_leaf(&node, 5, last, salt, 3, persona, 4, 9));
+        CHECK(!vulfsjor_blake2b_update(&node, bytes, 9));
+        CHECK(!vulfsjor_blake2b_final(&node, out, 64));
+        CHECK(!vulfsjor_tree_leaves(out + 64, 64, 5, last, bytes, 9, salt, 3, persona, 4, 9));
+        CHECK(!memcmp(out, out + 64, 64));
+    }
+    CHECK(!vulfsjor_tree_init_root(&node, 20, salt, 3, persona, 4, 9));
+    CHECK(!vulfsjor_blake2b_update(&node, bytes, 128));
+    CHECK(!vulfsjor_blake2b_final(&node, out, 20));
+    CHECK(!vulfsjor_tree_root_of_leaves(out + 64, 20, bytes, 128, salt, 3, persona, 4, 9));
+    CHECK(!memcmp(out, out + 64, 20));
+    ends_at(0);
+}
+
+/* Whether a state is zero. It is then not zero again. */
+static int is_zero(vulfsjor_blake2b_state *node) {
+    static const vulfsjor_blake2b_state zero;
+    int is = !memcmp(node, &zero, sizeof zero);
+
+    memset(node, 0xaa, sizeof *node);
+    return is;
+}
+
+static void refused_nodes(void) {
+    vulfsjor_blake2b_state node;
+
+    memset(&node, 0xaa, sizeof node);
+#define ZEROED(call) CHECK((call) == -1 && is_zero(&node))
+    ZEROED(vulfsjor_tree_init_leaf(&node, 0, 0, salt, SALT + 1, 0, 0, 1));
+    ZEROED(vulfsjor_tree_init_leaf(&node, 0, 0, NULL, 1, 0, 0, 1));
+    ZEROED(vulfsjor_tree_init_leaf(&node, 0, 0, 0, 0, persona, SALT + 1, 1));
+    ZEROED(vulfsjor_tree_init_leaf(&node, 0, 0, 0, 0, NULL, 1, 1));
+    ZEROED(vulfsjor_tree_init_leaf(&node, 0, 0, 0, 0, 0, 0, 0));
+    ZEROED(vulfsjor_tree_init_root(&node, 0, 0, 0, 0, 0, 1));
+    ZEROED(vulfsjor_tree_init_root(&node, 65, 0, 0, 0, 0, 1));
+    ZEROED(vulfsjor_tree_init_root(&node, 64, salt, SALT + 1, 0, 0, 1));
+    ZEROED(vulfsjor_tree_init_root(&node, 64, NULL, 1, 0, 0, 1));
+    ZEROED(vulfsjor_tree_init_root(&node, 64, 0, 0, persona, SALT + 1, 1));
+    ZEROED(vulfsjor_tree_init_root(&node, 64, 0, 0, NULL, 1, 1));
+    ZEROED(vulfsjor_tree_init_root(&node, 64, 0, 0, 0, 0, 0));
+    CHECK(vulfsjor_tree_init_leaf(NULL, 0, 0, 0, 0, 0, 0, 1) == -1);
+    CHECK(vulfsjor_tree_init_root(NULL, 64, 0, 0, 0, 0, 1) == -1);
+}
+
+static void refused_plans(void) {
+    static const vulfsjor_limits good = {2, 1, 8, 8}, no_threads = {0, 1, 8, 8},
+                                 no_least = {2, 0, 8, 8};
+    const uint64_t top = (uint64_t)1 << 58;
+    vulfsjor_tree_state state = tree_with(4, 5), none = {0};
+    vulfsjor_plan plan, kept;
+    vulfsjor_part part, kept_part;
+
+    memset(&plan, 0xaa, sizeof plan);
+    memset(&part, 0xaa, sizeof part);
+    kept = plan;
+    kept_part = part;
+#define NO_PLAN(call) CHECK((call) == -1 && !memcmp(&plan, &kept, sizeof plan))
+    NO_PLAN(vulfsjor_tree_plan(&plan, 0, 9, 0, &good));
+    NO_PLAN(vulfsjor_tree_plan(&plan, 0, 9, 4, &no_threads));
+    NO_PLAN(vulfsjor_tree_plan(&plan, 0, 9, 4, &no_least));
+    NO_PLAN(vulfsjor_tree_plan(&plan, 0, 9, 4, NULL));
+    NO_PLAN(vulfsjor_tree_plan(&plan, 0, top, 4, &good));
+    NO_PLAN(vulfsjor_tree_plan(&plan, UINT64_MAX - 8, 9, 4, &good));
+    NO_PLAN(vulfsjor_tree_plan_update(&plan, &none, 9, &good));
+    NO_PLAN(vulfsjor_tree_plan_update(&plan, NULL, 9, &good));
+    NO_PLAN(vulfsjor_tree_plan_update(&plan, &state, 9, &no_threads));
+    NO_PLAN(vulfsjor_tree_plan_update(&plan, &state, 9, &no_least));
+    NO_PLAN(vulfsjor_tree_plan_update(&plan, &state, 9, NULL));
+    NO_PLAN(vulfsjor_tree_plan_update(&plan, &state, top - 5, &good));
+    CHECK(vulfsjor_tree_plan(NULL, 0, 9, 4, &good) == -1);
+    CHECK(vulfsjor_tree_plan_update(NULL, &state, 9, &good) == -1);
+#define NO_PART(call) CHECK((call) == -1 && !memcmp(&part, &kept_part, sizeof part))
+    NO_PART(vulfsjor_tree_part(&part, &plan, 0)); /* no call made it */
+    CHECK(!vulfsjor_tree_plan(&plan, UINT64_MAX - 9, 9, 4, &good));
+    NO_PART(vulfsjor_tree_part(&part, &plan, plan.part_count));
+    NO_PART(vulfsjor_tree_part(&part, NULL, 0));
+    CHECK(vulfsjor_tree_part(NULL, &plan, 0) == -1);
+    CHECK(!vulfsjor_tree_plan_update(&plan, &state, top - 6, &good));
+}
+
 static void random_messages(int turns) {
     for (int turn = 0; turn < turns; turn++) {
         size = (uint32_t)(1 + random_below(turn % 5 ? 300 : 5));
         length = random_below(turn % 7 ? MOST_BYTES / 2 : 20);
         for (size_t i = 0; i < length; i++) message[i] = (uint8_t)random_below(256);
+        vulfsjor_limits limits = {1 + random_below(9), 1 + random_below(99), random_below(999),
+                                  random_below(2000)};
+        hash_by_plan(&limits);
+        CHECK(has_root());
+        update_by_plan(&limits);
         hash_in_ranges();
         CHECK(has_root());
         for (int change = 0; change < 2; change++) {
@@ -446,6 +576,9 @@ int main(int count, char **words) {
     refused_next_leaves();
     updates_by_leaves();
     refused_updates_by_leaves();
+    nodes();
+    refused_nodes();
+    refused_plans();
     random_messages(count > 1 ? atoi(words[1]) : 20000);
     puts("end");
     return fails ? 1 : 0;

@@ -8,6 +8,7 @@ import io
 import operator
 import os
 import stat
+import sys
 from collections import deque
 from concurrent.futures import Future
 from contextlib import closing
@@ -38,7 +39,7 @@ def _thread_count(threads: SupportsIndex) -> int:
     count = operator.index(threads)
     if count < 0:
         raise ValueError("threads must be 0 or more")
-    return count or len(os.sched_getaffinity(0))
+    return min(count, sys.maxsize) or len(os.sched_getaffinity(0))
 
 
 def _work(tasks: "SimpleQueue[tuple[Future[bytes], int] | None]",
@@ -102,9 +103,9 @@ class _Tree:
 
     def __init__(self, leaf_size: int, *, digest_size: SupportsIndex = 64,
                  salt: "Buffer" = b"", person: "Buffer" = b""):
+        self.top = _library.tree_top(leaf_size, digest_size=digest_size, salt=salt, person=person)
         self.leaf_size = leaf_size
         self.shared: dict[str, Any] = dict(salt=bytes(salt), person=bytes(person))
-        self.top = _library.tree_top(leaf_size, digest_size=digest_size, **self.shared)
 
     def plan(self, length: int, threads: int, most: int) -> "_Plan":
         """The plan of a message of this length."""

@@ -231,7 +231,9 @@ fn each_request_of_a_witness_refused(rt: HostRuntime) {
     check_refusals(&rt, "witness b0 61 62", b"", &pair, 16);
     for words in [
         "witness b0 61 61",
+        "witness b512 61 61",
         "witness b512 61 62",
+        "witness b512 616263 -",
         "witness s256 61 -",
         "witness s8 - 62",
     ] {
