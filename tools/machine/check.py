@@ -78,8 +78,9 @@ def instructions(path):
     kind, rounds = functions.architecture(path), 20 if HUGE in os.environ else 4
     runner = {"aarch64": "qemu-aarch64", "x86_64": "cc", "wasm": "node"}[kind]
     missed = missing(path) or (None if shutil.which(runner) else runner)
-    if missed is None and kind == "x86_64" and not has_avx2():
-        missed = "AVX2"
+    needed = "avx512bw" if path.endswith("-v4.s") else "avx2"
+    if missed is None and kind == "x86_64" and not has_flag(needed):
+        missed = needed.upper()
     if missed:
         return [("skip", title, "no " + missed)]
     check = wasm_instructions.check if kind == "wasm" else check_instructions.check
@@ -87,10 +88,10 @@ def instructions(path):
     return [(verdict, title, why)]
 
 
-def has_avx2():
-    """Whether this processor has AVX2."""
+def has_flag(name):
+    """Whether this processor has a feature."""
     with open("/proc/cpuinfo") as f:
-        return "avx2" in f.read()
+        return name in f.read()
 
 
 def whole(path):

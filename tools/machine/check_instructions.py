@@ -22,8 +22,8 @@ SETS_FLAGS = ("add", "sub", "dec", "xor", "test", "shr", "subs", "tst")
 C = """
 #include <stdint.h>
 #include <stdio.h>
-struct state { uint64_t general[32]; uint8_t vector[512]; uint8_t zero; uint8_t rest[63];
-               uint8_t memory[%d]; };
+struct state { uint64_t general[32]; uint8_t vector[2048]; uint8_t zero; uint8_t rest[63];
+               uint64_t masks[8]; uint8_t memory[%d]; };
 static struct state s __attribute__((aligned(64)));
 extern void (*const tests[])(struct state *);
 extern const uint8_t bases[];
@@ -39,7 +39,9 @@ int main(void) {
     return 0;
 }
 """ % (2 * BUFFER, BUFFER)
-MEMORY = 256 + 512 + 64
+VECTORS, ZERO = 256, 256 + 2048        # where the registers and the flag are
+MASKS = ZERO + 64
+MEMORY = MASKS + 64
 SIZE = MEMORY + 2 * BUFFER
 NAMES = "rax rcx rdx rbx rsp rbp rsi rdi r8 r9 r10 r11 r12 r13 r14 r15".split()
 EXTRA = {
@@ -64,7 +66,7 @@ def form(kind, i):
         return re.sub(r"(base, #)-?\w+", r"\1n", text)
     if i.name == "lea":
         return re.sub(r"\br\w+\b", "r", text)
-    text = re.sub(r"\b([xy]mm)\d+", r"\1", re.sub(r"\[.*\]", "[]", text))
+    text = re.sub(r"\b([xyz]mm|k)\d+", r"\1", re.sub(r"\[.*\]", "[]", text))
     size = lambda m: x86.GENERAL.get(m[0], (0, 0))[1]
     return re.sub(r"\b\w+\b", lambda m: "g%d" % size(m) if size(m) else m[0], text)
 
@@ -87,40 +89,51 @@ def rewritten(kind, i):
     return re.sub(r"\brsp\b", "r14", text), base
 
 
-def x86_test(k, text):
+def vectors_of(path):
+    """How many vector registers a test of a file loads and compares, and how many bytes of each."""
+    if functions.architecture(path) == "aarch64":
+        return 32, 16
+    return (32, 64) if path.endswith("-v4.s") else (16, 32)
+
+
+def x86_test(k, text, vectors):
     """A function that loads all registers, runs an instruction, and stores them."""
+    count, size = vectors
+    moves = ["vmovdqu%s %smm%d, [rax+%d]" % (*(("64", "z") if size == 64 else ("", "y")), j,
+                                            VECTORS + size * j) for j in range(count)]
+    if size == 64:
+        moves += ["kmovq k%d, [rax+%d]" % (j, MASKS + 8 * j) for j in range(8)]
     saved = "rbx rbp r12 r13 r14 r15".split()
     others = [(j, n) for j, n in enumerate(NAMES) if n not in ("rax", "rsp")]
     out = ["t%d:" % k] + ["push " + r for r in saved] + ["push rdi", "mov rax, rdi"]
-    out += ["vmovdqu ymm%d, [rax+%d]" % (j, 256 + 32 * j) for j in range(16)]
-    out += ["cmp byte ptr [rax+768], 0"] + ["mov %s, [rax+%d]" % (n, 8 * j) for j, n in others]
-    out += ["mov rax, [rax]", text, "push rax", "mov rax, [rsp+8]", "setz byte ptr [rax+768]"]
+    out += moves + ["cmp byte ptr [rax+%d], 0" % ZERO] + ["mov %s, [rax+%d]" % (n, 8 * j) for j, n in others]
+    out += ["mov rax, [rax]", text, "push rax", "mov rax, [rsp+8]", "setz byte ptr [rax+%d]" % ZERO]
     out += ["mov [rax+%d], %s" % (8 * j, n) for j, n in others] + ["pop rbx", "mov [rax], rbx"]
-    out += ["vmovdqu [rax+%d], ymm%d" % (256 + 32 * j, j) for j in range(16)]
+    out += [re.sub(r" (.*), (.*)", r" \2, \1", move) for move in moves]
     return out + ["vzeroupper", "pop rdi"] + ["pop " + r for r in reversed(saved)] + ["ret"]
 
 
-def arm_test(k, text):
+def arm_test(k, text, _):
     """The same for ARM."""
     saved = ["p x%d, x%d, [sp, #%d]" % (19 + 2 * j, 20 + 2 * j, 16 * j) for j in range(6)]
     saved += ["p d%d, d%d, [sp, #%d]" % (8 + 2 * j, 9 + 2 * j, 96 + 16 * j) for j in range(4)]
     vectors = ["r q%d, [x1, #%d]" % (j, 16 * j) for j in range(32)]
     out = ["t%d:" % k, "sub sp, sp, #192"] + ["st" + s for s in saved]
     out += ["str x0, [sp, #160]", "add x1, x0, #256"] + ["ld" + v for v in vectors]
-    out += ["ldrb w1, [x0, #768]", "cmp w1, #0"]
+    out += ["ldrb w1, [x0, #%d]" % ZERO, "cmp w1, #0"]
     out += ["ldr x%d, [x0, #%d]" % (j, 8 * j) for j in range(30, -1, -1)]
     out += [text, "str x0, [sp, #168]", "ldr x0, [sp, #160]"]
     out += ["str x%d, [x0, #%d]" % (j, 8 * j) for j in range(1, 31)]
-    out += ["ldr x1, [sp, #168]", "str x1, [x0]", "cset w1, eq", "strb w1, [x0, #768]"]
+    out += ["ldr x1, [sp, #168]", "str x1, [x0]", "cset w1, eq", "strb w1, [x0, #%d]" % ZERO]
     out += ["add x1, x0, #256"] + ["st" + v for v in vectors] + ["ld" + s for s in saved]
     return out + ["add sp, sp, #192", "ret"]
 
 
-def assembly(kind, tests):
+def assembly(kind, tests, vectors):
     """The text of all tests, a table of them, and one of their base registers."""
     out = [".intel_syntax noprefix"] * (kind == "x86_64") + [".text"]
     for k, (text, _) in enumerate(tests):
-        out += (x86_test if kind == "x86_64" else arm_test)(k, text)
+        out += (x86_test if kind == "x86_64" else arm_test)(k, text, vectors)
     out += [".section .data.rel.ro,\"aw\"", ".balign 8", ".globl tests", "tests:"]
     out += [".8byte t%d" % k for k in range(len(tests))]
     out += [".section .rodata", ".globl bases", "bases:"] + [".byte %d" % b for _, b in tests]
@@ -138,10 +151,13 @@ def model(program, text, base, data):
     for j in range(len(m.general)):
         m.general[j] = T.split(T.const(64, general[j]))
     m.general[base] = T.split(buf)
-    size = len(m.vector[0])
-    for j in range(len(m.vector)):
-        m.vector[j] = list(data[256 + size * j:256 + size * (j + 1)])
-    m.zero = T.const(8, data[768])
+    count, size = vectors_of(program.path)
+    for j in range(count):
+        m.vector[j][:size] = list(data[VECTORS + size * j:VECTORS + size * (j + 1)])
+    if program.kind == "x86_64":
+        words = struct.unpack_from("<8Q", data, MASKS)
+        m.masks = [[word >> k & 1 for k in range(64)] for word in words]
+    m.zero = T.const(8, data[ZERO])
     jump = re.search(r"; (\S+) ?(.*?),? ?1f; mov (\w)(\d+)", text)
     if jump:
         text = "%s %s" % (jump[1], (jump[2] + ", " if jump[2] else "") + "10 <there>")
@@ -164,14 +180,19 @@ def difference(program, m, buf, before, after):
         t = T.substitute(T.word(m.general[j]), numbers, {})
         if not (is_x86 and j == x86.RSP) and t is not T.const(64, general[j]):
             return "register %d is %#x, not %r" % (j, general[j], t)
-    size = len(m.vector[0])
-    for j, v in enumerate(m.vector):
-        if v != list(after[256 + size * j:256 + size * (j + 1)]):
+    count, size = vectors_of(program.path)
+    for j, v in enumerate(m.vector[:count]):
+        if v[:size] != list(after[VECTORS + size * j:VECTORS + size * (j + 1)]):
             return "vector register %d differs" % j
+    if is_x86 and size == 64:
+        masks = struct.unpack_from("<8Q", after, MASKS)
+        for j, bits in enumerate(m.masks):
+            if bits != [masks[j] >> k & 1 for k in range(64)]:
+                return "mask register %d differs" % j
     if m.zero is not None:
         zero = T.substitute(m.zero, numbers, {})
-        if (zero.op == "const" and zero.args == 0) != bool(after[768]):
-            return "the zero flag is %d" % after[768]
+        if (zero.op == "const" and zero.args == 0) != bool(after[ZERO]):
+            return "the zero flag is %d" % after[ZERO]
     for k in range(2 * BUFFER):
         if m.memory.get((buf, k - BUFFER), before[MEMORY + k]) != after[MEMORY + k]:
             return "the memory at %d differs" % (k - BUFFER)
@@ -181,7 +202,7 @@ def difference(program, m, buf, before, after):
 def state(rng, text, is_plain):
     """Random registers and memory; or such that results are often zero."""
     data = bytearray(rng.randbytes(SIZE))
-    data[768] = rng.randrange(2)
+    data[ZERO] = rng.randrange(2)
     if is_plain:
         return data
     numbers = [int(n, 0) for n in re.findall(r"(?<!\w)(?:0x[0-9a-f]+|\d+)(?!\w)", text)] or [1]
@@ -204,11 +225,11 @@ def chosen(program, entries, rng, count):
     return len(found), tests + EXTRA[program.kind]
 
 
-def execute(kind, tests, inputs):
+def execute(kind, tests, vectors, inputs):
     """The states after the tests, on the processor."""
     with tempfile.TemporaryDirectory() as d:
         c, s, exe = (os.path.join(d, n) for n in ("a.c", "b.s", "a"))
-        for path, text in ((c, C), (s, assembly(kind, tests))):
+        for path, text in ((c, C), (s, assembly(kind, tests, vectors))):
             with open(path, "w") as f:
                 f.write(text)
         static = ["-static"] * (kind == "aarch64")
@@ -231,14 +252,15 @@ def check(path, rounds):
                 data[96:112] = bytes([rng.randrange(64)] + [0] * 7) * 2
             inputs.append((k, bytes(data)))
     flags = {}
-    for n, ((k, before), after) in enumerate(zip(inputs, execute(program.kind, tests, inputs))):
+    found = execute(program.kind, tests, vectors_of(path), inputs)
+    for n, ((k, before), after) in enumerate(zip(inputs, found)):
         if n % 1000 == 0:
             T.reset()
         m, buf = model(program, *tests[k], before)
         wrong = difference(program, m, buf, before, after)
         if wrong:
             return "not ok", "%s: in the model %s" % (tests[k][0], wrong)
-        flags.setdefault(tests[k][0].split()[0], set()).add(after[768])
+        flags.setdefault(tests[k][0].split()[0], set()).add(after[ZERO])
     once = [name for name in SETS_FLAGS if flags.get(name, {0, 1}) != {0, 1}]
     if once:
         return "not ok", "the zero flag of %s was never seen both 0 and 1" % once[0]

@@ -20,22 +20,28 @@ IMAGE = "image"
 SAVED = (RBX, RBP, 12, 13, 14, 15)
 ARGUMENTS = (RDI, RSI, RDX, RCX, 8, 9)
 
+VECTORS, WIDTH = 32, 64                # the vector registers, and the bytes of each
+UPPER = range(16, VECTORS)             # those that only code for AVX-512 has
 VECTOR = {}
-for _i in range(16):
-    VECTOR["xmm%d" % _i] = (_i, 16)
-    VECTOR["ymm%d" % _i] = (_i, 32)
+for _i in range(VECTORS):
+    for _letter, _size in (("x", 16), ("y", 32), ("z", WIDTH)):
+        VECTOR["%smm%d" % (_letter, _i)] = (_i, _size)
 
-SIZES = {"BYTE": 1, "WORD": 2, "DWORD": 4, "QWORD": 8, "XMMWORD": 16, "YMMWORD": 32}
+SIZES = {"BYTE": 1, "WORD": 2, "DWORD": 4, "QWORD": 8, "XMMWORD": 16, "YMMWORD": 32, "ZMMWORD": 64}
 
 
 class Operand:
     """A register, memory as a sum of (factor, register or None, offset), or a number. The register
-    of an address in the file is IMAGE."""
+    of an address in the file is IMAGE. A word of memory may be broadcast, to all words of a
+    vector. A mask register may choose the words of a vector that are written; the others are set
+    to zero, or kept."""
 
-    __slots__ = ("kind", "index", "size", "parts", "value")
+    __slots__ = ("kind", "index", "size", "parts", "value", "is_broadcast", "mask", "zeroes")
 
-    def __init__(self, kind, index=None, size=None, parts=None, value=None):
+    def __init__(self, kind, index=None, size=None, parts=None, value=None, is_broadcast=False,
+                 mask=None, zeroes=False):
         self.kind, self.index, self.size, self.parts, self.value = kind, index, size, parts, value
+        self.is_broadcast, self.mask, self.zeroes = is_broadcast, mask, zeroes
 
 
 def no_operand(text):
@@ -48,24 +54,30 @@ def operand(text, target):
         return Operand("general", *GENERAL[text])
     if text in VECTOR:
         return Operand("vector", *VECTOR[text])
+    m = re.fullmatch(r"(?:(\wmm\d+)\{)?k([0-7])(\}(\{z\})?)?", text)
+    if m and not m[1] and not m[3]:
+        return Operand("mask", int(m[2]))
+    if m and m[1] in VECTOR and m[3]:
+        return Operand("vector", *VECTOR[m[1]], mask=int(m[2]), zeroes=bool(m[4]))
     if re.fullmatch(r"0x[0-9a-f]+|[0-9]+", text):
         return Operand("number", value=int(text, 0))
-    m = re.fullmatch(r"(?:([A-Z]+) PTR )?\[(.*)\]", text)
+    m = re.fullmatch(r"(?:([A-Z]+) (PTR|BCST) )?\[(.*)\]", text)
     if not m:
         raise no_operand(text)
-    size = SIZES[m[1]] if m[1] else None
-    if m[2].startswith("rip"):
+    size, is_broadcast = SIZES[m[1]] if m[1] else None, m[2] == "BCST"
+    if m[3].startswith("rip"):
         if target is None:
             raise no_operand(text)
-        return Operand("memory", size=size, parts=[(1, None, target), (1, IMAGE, None)])
+        parts = [(1, None, target), (1, IMAGE, None)]
+        return Operand("memory", size=size, parts=parts, is_broadcast=is_broadcast)
     parts = []
-    for sign, piece in re.findall(r"([+-]?)([^+-]+)", m[2]):
+    for sign, piece in re.findall(r"([+-]?)([^+-]+)", m[3]):
         name, _, scale = piece.partition("*")
         if name in GENERAL and GENERAL[name][1] == 8 and sign != "-":
             parts.append((int(scale or 1), GENERAL[name][0], None))
         else:
             parts.append((-1 if sign == "-" else 1, None, int(piece, 0)))
-    return Operand("memory", size=size, parts=parts)
+    return Operand("memory", size=size, parts=parts, is_broadcast=is_broadcast)
 
 
 class Instruction:
@@ -170,13 +182,43 @@ def permute_halves(a, b, imm):
     return joined([0] * 16 if imm >> 4 * k & 8 else halves[imm >> 4 * k & 3] for k in range(2))
 
 
-def permute_words(indices, data):
-    parts = chunks(data, 4)
-    return joined(parts[number(i) & 7] for i in chunks(indices, 4))
+def permute_words(n):
+    def f(indices, data):
+        parts = chunks(data, n)
+        return joined(parts[number(i) & len(parts) - 1] for i in chunks(indices, n))
+    return f
 
 
-def insert_half(a, b, imm):
-    return a[:16] + b if imm & 1 else b + a[16:]
+def shuffle_quarters(a, b, imm):
+    """Quarters, or halves of 32 bytes: the lower ones are of a, and the upper ones of b."""
+    x, y = chunks(a, 16), chunks(b, 16)
+    bits = len(x) // 2
+    places = [imm >> bits * k & len(x) - 1 for k in range(len(x))]
+    return joined((x if k < bits else y)[p] for k, p in enumerate(places))
+
+
+def insert_part(a, b, imm):
+    parts = chunks(a, len(b))
+    parts[imm & len(parts) - 1] = b
+    return joined(parts)
+
+
+def align_words(n):
+    return lambda a, b, imm: (b + a)[n * (imm & len(a) // n - 1):][:len(a)]
+
+
+def ternary(a, b, c, imm):
+    """The bits of imm at the places of three bits: their exclusive or, where each monomial, a
+    product of some of the three, has the exclusive or of the bits at the places in it."""
+    result = [0] * len(a)
+    for monomial in range(8):
+        if sum(imm >> k & 1 for k in range(8) if k & ~monomial == 0) % 2:
+            term = [255] * len(a)
+            for bit, data in ((4, a), (2, b), (1, c)):
+                if monomial & bit:
+                    term = data if term == [255] * len(a) else bitwise(T.both, term, data)
+            result = bitwise(T.xor, result, term)
+    return result
 
 
 def sign_extended(data):
@@ -188,13 +230,48 @@ def sign_extended(data):
     return T.split(result)
 
 
+# Bits of masks: each is 0, 1, a term of 8 bits that is 0 or 1, or None if it is not known.
+
+def bit_of(b, i):
+    """Bit i of a byte."""
+    t = T.leaves(lambda n: n >> i & 1, 8, T.word([b]))
+    return t.args if t is not None and t.op == "const" else t
+
+
+def either_bit(a, b):
+    """The or of two bits, where at least one is a number."""
+    if a in (0, 1):
+        return 1 if a else b
+    return either_bit(b, a) if b in (0, 1) else None
+
+
+def both_bits(a, b):
+    """The and of two bits, where at least one is a number."""
+    if a in (0, 1):
+        return b if a else 0
+    return both_bits(b, a) if b in (0, 1) else None
+
+
+def chosen(bit, on, off):
+    """One of two lists of bytes by a bit."""
+    if bit in (0, 1):
+        return on if bit else off
+    found = None
+    if bit is not None:
+        found = T.leaves(lambda c, a, b: a if c else b, 8 * len(on), bit, T.word(on), T.word(off))
+    if found is None:
+        raise CannotShow("there is no rule for a choice by a mask between %r and %r" % (
+            T.word(on), T.word(off)))
+    return T.split(found)
+
+
 UNARY = {
     "pshufd": by_halves(lambda a, imm: shuffle_four(a, imm, 4)),
     "pshuflw": by_halves(lambda a, imm: shuffle_four(a[:8], imm, 2) + a[8:]),
     "pshufhw": by_halves(lambda a, imm: a[:8] + shuffle_four(a[8:], imm, 2)),
-    "permq": lambda a, imm: shuffle_four(a, imm, 8),
-    "permpd": lambda a, imm: shuffle_four(a, imm, 8),
 }
+for _name in ("permq", "permpd"):
+    UNARY[_name] = lambda a, imm: joined(shuffle_four(part, imm, 8) for part in chunks(a, 32))
 
 BINARY = {
     "paddq": lambda a, b: lanewise(lambda x, y: T.add(64, (1, x), (1, y)), 8, a, b),
@@ -217,25 +294,46 @@ BINARY = {
     "insertps": insertps,
     "perm2i128": permute_halves,
     "perm2f128": permute_halves,
-    "permd": permute_words,
-    "permps": permute_words,
-    "inserti128": insert_half,
-    "insertf128": insert_half,
+    "permd": permute_words(4),
+    "permps": permute_words(4),
+    "alignd": align_words(4),
+    "alignq": align_words(8),
 }
+for _type in "if":
+    for _shape in ("128", "32x4", "64x2", "32x8", "64x4"):
+        BINARY["insert%s%s" % (_type, _shape)] = insert_part
+    for _shape in ("32x4", "64x2"):
+        BINARY["shuf%s%s" % (_type, _shape)] = shuffle_quarters
 for _new, _old in {
-        "xorps": "pxor", "xorpd": "pxor", "unpcklpd": "punpcklqdq", "movlhps": "punpcklqdq",
+        "pxord": "pxor", "pxorq": "pxor", "pord": "por", "porq": "por", "pandd": "pand",
+        "pandq": "pand", "xorps": "pxor", "xorpd": "pxor", "unpcklpd": "punpcklqdq", "movlhps": "punpcklqdq",
         "unpckhpd": "punpckhqdq", "unpcklps": "punpckldq", "unpckhps": "punpckhdq"}.items():
     BINARY[_new] = BINARY[_old]
 
 SHIFTS = {
     "psrlq": (T.shr, 8), "psllq": (T.shl, 8), "psrld": (T.shr, 4), "pslld": (T.shl, 4),
 }
+ROTATIONS = {"prolq": (8, -1), "prold": (4, -1), "prorq": (8, 1), "prord": (4, 1)}
+# By words of two vectors: the bytes of a word, and whether the indices are overwritten.
+PERMUTATIONS = {"permi2q": (8, True), "permi2pd": (8, True), "permi2d": (4, True),
+                "permi2ps": (4, True), "permt2q": (8, False), "permt2pd": (8, False),
+                "permt2d": (4, False), "permt2ps": (4, False)}
+TERNARY = ("pternlogd", "pternlogq")
+EXTRACTS = {"extract%s%s" % (t, s): n for t in "if" for s, n in (
+    ("128", 16), ("32x4", 16), ("64x2", 16), ("32x8", 32), ("64x4", 32))}
+MASK_BYTES = {"b": 1, "w": 2, "d": 4, "q": 8}
+MASK = re.compile(r"k(mov|or|and|shiftl|shiftr)([bwdq])")
+# The bytes of the words that a mask chooses.
+MASKED = {"movdqu8": 1, "movdqu32": 4, "movdqu64": 8, "pbroadcastd": 4, "pbroadcastq": 8}
 INSERTS = {"pinsrw": 2, "pinsrd": 4, "pinsrq": 8}
 # Whether an operand in memory must be aligned.
 MOVES = {"movdqa": True, "movaps": True, "movapd": True, "movdqu": False, "movups": False,
-         "movupd": False}
+         "movupd": False, "movdqa32": True, "movdqa64": True, "movdqu8": False, "movdqu16": False,
+         "movdqu32": False, "movdqu64": False}
 BROADCASTS = {"pbroadcastq": 8, "broadcastsd": 8, "pbroadcastd": 4, "broadcastss": 4,
-              "broadcasti128": 16, "broadcastf128": 16}
+              "broadcasti128": 16, "broadcastf128": 16, "broadcasti32x4": 16,
+              "broadcastf32x4": 16, "broadcasti64x2": 16, "broadcastf64x2": 16,
+              "broadcasti64x4": 32, "broadcastf64x4": 32}
 BLENDS = {"blendvps": 4, "blendvpd": 8, "pblendvb": 1}
 # From how many bytes to how many, and how.
 EXTENSIONS = {"pmovsxdq": (4, 8, sign_extended), "pmovzxwd": (2, 4, lambda c: c + [0, 0])}
@@ -247,7 +345,8 @@ class X86(Machine):
     def __init__(self, regions, assumed):
         super().__init__(regions, assumed)
         self.general = [junk("r%d" % i, 8) for i in range(16)]
-        self.vector = [junk("v%d" % i, 32) for i in range(16)]
+        self.vector = [junk("v%d" % i, WIDTH) for i in range(VECTORS)]
+        self.masks = [[None] * 64 for _ in range(8)]        # not kept by copy()
 
     def stack_pointer(self):
         return T.word(self.general[RSP])
@@ -269,6 +368,9 @@ class X86(Machine):
             raise IsWrong("the stack pointer is not restored")
         if self.saved() != saved:
             raise IsWrong("a register that belongs to the caller is not restored")
+        for j in UPPER:
+            if self.vector[j] not in ([0] * WIDTH, junk("v%d" % j, WIDTH)):
+                raise IsWrong("the vector register %d is neither zero nor as before" % j)
 
     def address(self, o):
         parts = []
@@ -285,6 +387,8 @@ class X86(Machine):
             return self.general[o.index][:o.size]
         if o.kind == "vector":
             return self.vector[o.index][:o.size]
+        if o.kind == "memory" and o.is_broadcast:
+            return self.load(self.address(o), o.size) * (size // o.size)
         if o.kind == "memory":
             return self.load(self.address(o), o.size or size, aligned)
         if size is None:
@@ -319,7 +423,12 @@ class X86(Machine):
             return i.target
         if name in ("je", "jne"):
             return i.target if self.is_zero(self.zero) == (name == "je") else i.next
-        self.vector_step(i)
+        if MASK.fullmatch(name):
+            self.mask_step(i)
+        elif ops and ops[0].mask is not None:
+            self.masked(i)
+        else:
+            self.vector_step(i)
         return i.next
 
     # Words.
@@ -402,7 +511,42 @@ class X86(Machine):
         self.cmov(i, to, source, True)
 
     def do_vzeroupper(self, i):
-        self.vector = [r[:16] + [0] * 16 for r in self.vector]
+        self.vector[:16] = [r[:16] + [0] * (WIDTH - 16) for r in self.vector[:16]]
+
+    # Masks.
+
+    def mask_step(self, i):
+        action, letter = MASK.fullmatch(i.name).groups()
+        size, ops, kinds = MASK_BYTES[letter], i.operands, [o.kind for o in i.operands]
+        if action == "mov" and kinds == ["mask", "general"]:
+            data = self.read(ops[1])[:size]
+            result = [bit_of(b, k) for b in data for k in range(8)]
+        elif action in ("or", "and") and kinds == ["mask"] * 3:
+            f = either_bit if action == "or" else both_bits
+            a, b = (self.masks[o.index][:8 * size] for o in ops[1:])
+            result = [f(x, y) for x, y in zip(a, b)]
+        elif action.startswith("shift") and kinds == ["mask", "mask", "number"]:
+            bits, count = self.masks[ops[1].index][:8 * size], min(ops[2].value, 8 * size)
+            zeros = [0] * count
+            result = zeros + bits[:8 * size - count] if action[-1] == "l" else bits[count:] + zeros
+        else:
+            raise unknown(i)
+        self.masks[ops[0].index] = result + [0] * (64 - len(result))
+
+    def masked(self, i):
+        """A move or a broadcast of which a mask chooses the words. A word that it leaves out is
+        not read."""
+        name, (to, source, *rest) = i.name[1:], i.operands
+        n = MASKED.get(name)
+        if n is None or rest or source.kind != "memory":
+            raise unknown(i)
+        bits = self.masks[to.mask][:to.size // n]
+        old = chunks([0] * to.size if to.zeroes else self.vector[to.index][:to.size], n)
+        address, parts = self.address(source), []
+        for k, bit in enumerate(bits):
+            at = T.add(64, (1, address), (1, T.const(64, 0 if name in BROADCASTS else n * k)))
+            parts.append(old[k] if bit == 0 else chosen(bit, self.load(at, n), old[k]))
+        self.write(to, joined(parts), True)
 
     # Vectors. Each method returns whether it knows this form of its instruction.
 
@@ -415,7 +559,9 @@ class X86(Machine):
                 (MOVES, self.move), (("movq", "movd"), self.move_word),
                 (BROADCASTS, self.broadcast), (UNARY, self.unary), (SHIFTS, self.shift),
                 (BINARY, self.binary), (INSERTS, self.insert), (BLENDS, self.blend),
-                (EXTENSIONS, self.extend)):
+                (EXTENSIONS, self.extend), (ROTATIONS, self.rotate), (TERNARY, self.ternary),
+                (PERMUTATIONS, self.permute), (EXTRACTS, self.extract),
+                (("pextrb",), self.extract_byte), (("pmovqd",), self.truncate)):
             if name in table and len(ops) > 1 - (table is SHIFTS) and method(name, ops, imm, vex):
                 return
         raise unknown(i)
@@ -443,7 +589,7 @@ class X86(Machine):
         return True
 
     def unary(self, name, ops, imm, vex):
-        if len(ops) != 2 or len(imm) != 1:
+        if len(ops) != 2 or len(imm) != 1 or ops[1].is_broadcast:
             return False
         self.write(ops[0], UNARY[name](self.read(ops[1], aligned=not vex), *imm), vex)
         return True
@@ -459,12 +605,58 @@ class X86(Machine):
         if len(ops) != 2 + vex or name == "movlhps" and ops[-1].kind != "vector":
             return False
         n = ops[1].size if ops[1].kind == "memory" and not vex else None
+        if ops[-1].is_broadcast:
+            n = ops[0].size
         # Operands of 16 bytes in memory must be aligned in the old encodings.
         aligned = not vex and not (name == "insertps" and ops[-1].kind == "memory")
         result = BINARY[name](self.read(ops[vex]), self.read(ops[-1], n, aligned), *imm)
         if len(result) != ops[0].size:
             return False
         self.write(ops[0], result, vex)
+        return True
+
+    def rotate(self, name, ops, imm, vex):
+        n, sign = ROTATIONS[name]
+        if len(ops) != 2 or len(imm) != 1 or not vex:
+            return False
+        data = self.read(ops[1], ops[0].size)
+        self.write(ops[0], lanewise(lambda t: T.ror(8 * n, t, sign * imm[0]), n, data), vex)
+        return True
+
+    def ternary(self, name, ops, imm, vex):
+        if len(ops) != 3 or len(imm) != 1 or not vex:
+            return False
+        self.write(ops[0], ternary(*[self.read(o, ops[0].size) for o in ops], *imm), vex)
+        return True
+
+    def permute(self, name, ops, imm, vex):
+        n, has_indices = PERMUTATIONS[name]
+        if len(ops) != 3 or imm or not vex:
+            return False
+        first, second, third = [self.read(o, ops[0].size) for o in ops]
+        indices, data = (first, second + third) if has_indices else (second, first + third)
+        self.write(ops[0], permute_words(n)(indices, data), vex)
+        return True
+
+    def extract(self, name, ops, imm, vex):
+        n = EXTRACTS[name]
+        if len(ops) != 2 or len(imm) != 1 or not vex:
+            return False
+        parts = chunks(self.read(ops[1]), n)
+        self.write(ops[0], parts[imm[0] & len(parts) - 1], vex)
+        return True
+
+    def extract_byte(self, name, ops, imm, vex):
+        if len(ops) != 2 or len(imm) != 1 or ops[0].kind != "general":
+            return False
+        self.write(ops[0], [self.read(ops[1])[imm[0] & 15]] + [0] * (ops[0].size - 1))
+        return True
+
+    def truncate(self, name, ops, imm, vex):
+        if len(ops) != 2 or imm or not vex or ops[0].kind != "vector":
+            return False
+        data = joined(part[:4] for part in chunks(self.read(ops[1]), 8))
+        self.write(ops[0], (data + [0] * 8)[:max(len(data), 16)], True)
         return True
 
     def insert(self, name, ops, imm, vex):
