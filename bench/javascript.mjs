@@ -6,11 +6,13 @@
 // It prints two tables; --write also puts them into docs/SPEED.md. What a row compares runs in
 // turns, and each figure is the best of all turns: of TURNS (30 if not given) in processor time
 // for the digests of the first table, of a sixth of that by the clock for the roots of the second.
-// Each root includes the start of its workers.
+// Each root is that of a file in the page cache, and includes the start of its workers.
 import assert from "node:assert/strict";
 import { createHash, randomBytes } from "node:crypto";
-import { readFileSync, writeFileSync } from "node:fs";
-import { cpus, loadavg } from "node:os";
+import { mkdtempSync, readFileSync, rmSync, writeFileSync } from "node:fs";
+import { open } from "node:fs/promises";
+import { cpus, loadavg, tmpdir } from "node:os";
+import { join } from "node:path";
 import { pathToFileURL } from "node:url";
 import { blake2b, blake2s, hex, treeRoot, treeRootStream } from "../js/index.js";
 
@@ -81,20 +83,24 @@ async function threadsTable(turns) {
   const titles = THREADS.slice(1).flatMap((count) => [`${count} workers`, "ratio of speed"]);
   let text = head(["tree root of", "one thread", ...titles]);
   const part = randomBytes(2 ** 20 * MEBIBYTES[0]);
+  const folder = mkdtempSync(join(tmpdir(), "vulfsjor-"));
   for (const mebibytes of MEBIBYTES) {
-    const blob = new Blob(Array(mebibytes / MEBIBYTES[0]).fill(part));
+    writeFileSync(join(folder, "file"), Buffer.concat(Array(mebibytes / MEBIBYTES[0]).fill(part)));
+    const file = await open(join(folder, "file"));
     const best = THREADS.map(() => Infinity);
     const roots = new Set();
     for (let turn = 0; turn < turns; turn++) {
       for (const [i, threads] of THREADS.entries()) {
         const begin = performance.now();
-        roots.add(hex(await treeRootStream(blob, { leafLength: LEAF, threads })));
+        roots.add(hex(await treeRootStream(file, { leafLength: LEAF, threads })));
         best[i] = Math.min(best[i], performance.now() - begin);
       }
     }
     assert.equal(roots.size, 1);
+    await file.close();
     text += rootRow(mebibytes, best);
   }
+  rmSync(folder, { recursive: true });
   return text + load();
 }
 

@@ -120,6 +120,18 @@ export interface BlobLike {
   arrayBuffer(): Promise<ArrayBuffer>;
 }
 
+/** A `FileHandle` of node: `open` of `node:fs/promises` returns one. */
+export interface FileHandleLike {
+  readonly fd: number;
+  stat(): Promise<{ isFile(): boolean; size: number | bigint }>;
+  read(
+    buffer: Uint8Array,
+    offset: number,
+    length: number,
+    position: number,
+  ): Promise<{ bytesRead: number }>;
+}
+
 /** A `ReadableStream` of bytes. */
 export interface ReadableStreamLike {
   readonly locked: boolean;
@@ -131,7 +143,7 @@ export interface ReadableStreamLike {
 }
 
 /** A source of bytes: a file, the body of a response, or a stream of node. */
-export type Source = BlobLike | ReadableStreamLike | AsyncIterable<Bytes>;
+export type Source = BlobLike | ReadableStreamLike | FileHandleLike | AsyncIterable<Bytes>;
 
 /** Returns the BLAKE2b digest of a message. */
 export function blake2b(message: Bytes, options?: NodeOptions): Uint8Array;

@@ -3,7 +3,9 @@
 import {
   OPTIONS, bytesOf, integerOf, kindOf, lengthOf, refuseMore, settingsOf,
 } from "./arguments.js";
-import { LONGEST_LEAF, MOST_THREADS, TreeThreads, processorCount } from "./threads.js";
+import {
+  LONGEST_LEAF, MOST_THREADS, TreeThreads, mayReadBlobs, processorCount,
+} from "./threads.js";
 
 // How much of a blob is read at a time.
 const SLICE = 4 * 1024 * 1024;
@@ -23,8 +25,34 @@ async function* slicesOf(blob) {
   }
 }
 
+// The reader of a file that is open in node, from its first byte to its end. Its size is that at the
+// call.
+function openFile(handle, caller) {
+  let at = 0;
+  const reader = {
+    async prepare() {
+      const stats = await handle.stat();
+      if (!stats.isFile()) throw new TypeError(`${caller}: source must be a regular file`);
+      reader.total = stats.size;
+    },
+    part: (from, length) => ({ file: { fd: handle.fd, at: from, length } }),
+    async next() {
+      const length = Math.min(reader.total - at, SLICE);
+      if (length === 0) return { done: true };
+      const bytes = new Uint8Array(length);
+      const { bytesRead } = await handle.read(bytes, 0, length, at);
+      if (bytesRead === 0) throw new Error(`${caller}: the file ends at byte ${at}`);
+      at += bytesRead;
+      return { done: false, value: bytes.subarray(0, bytesRead) };
+    },
+    close() {},
+  };
+  return reader;
+}
+
 // A reader of a source: next returns its chunks as an iterator does, total is its length if that is
-// known, and close releases it, before its end if it is not done.
+// known, and close releases it, before its end if it is not done. prepare, if it is there, is
+// called first. part, if it is there, returns what a worker reads.
 function open(source, caller) {
   if (typeof source?.getReader === "function") {
     const reader = source.getReader();
@@ -36,16 +64,21 @@ function open(source, caller) {
       },
     };
   }
+  if (typeof source?.fd === "number" && typeof source.stat === "function") {
+    return openFile(source, caller);
+  }
   const isBlob = typeof Blob !== "undefined" && source instanceof Blob;
   if (!isBlob && typeof source?.[Symbol.asyncIterator] !== "function") {
     throw new TypeError(
-      `${caller}: source must be a Blob, a ReadableStream or an async iterable of bytes, ` +
-        `not ${kindOf(source)}`,
+      `${caller}: source must be a Blob, a ReadableStream, a FileHandle or an async iterable of ` +
+        `bytes, not ${kindOf(source)}`,
     );
   }
   const iterator = (isBlob ? slicesOf(source) : source)[Symbol.asyncIterator]();
   return {
     total: isBlob ? source.size : undefined,
+    part: isBlob && mayReadBlobs()
+      ? (at, length) => ({ blob: source.slice(at, at + length) }) : undefined,
     next: () => iterator.next(),
     close(isDone) {
       if (!isDone) (async () => iterator.return?.())().catch(() => {});
@@ -97,8 +130,11 @@ export async function hashStream(kind, Hasher, caller, source, options, rest) {
   let run;
   let isDone = false;
   try {
+    control.signal.throwIfAborted();
+    if (reader.prepare) await unlessAborted(reader.prepare(), control.signal);
     const isShared = count > 1 && settings.leafLength <= LONGEST_LEAF;
     run = isShared ? new TreeThreads(settings, count, caller, report, control) : new Hasher(own);
+    if (isShared && reader.part) return await run.digestOf(reader.total, reader.part);
     for (;;) {
       control.signal.throwIfAborted();
       const { done, value } = await unlessAborted(reader.next(), control.signal);

@@ -17,6 +17,12 @@ export const MOST_THREADS = 256;
 // A module of node, or undefined in a browser.
 const ofNode = (name) => globalThis.process?.getBuiltinModule?.(`node:${name}`);
 
+/**
+ * Whether workers may read blobs. Those of node may not: node refuses to pass a blob that is backed
+ * by a file, and ends the process if a worker reads a part of one.
+ */
+export const mayReadBlobs = () => ofNode("worker_threads") === undefined;
+
 /** The number of processors that this process may use, at most MOST_THREADS. */
 export function processorCount() {
   const count = ofNode("os")?.availableParallelism() ?? globalThis.navigator?.hardwareConcurrency;
@@ -41,8 +47,8 @@ function startWorker(onDigests, onFault) {
 }
 
 /**
- * The root of a message that comes in pieces. report is called with the number of bytes of each
- * range that was hashed. A failure of a worker or of report aborts control.
+ * The root of a message that comes in pieces, or that the workers read. report is called with the
+ * number of bytes of each range that was hashed. A failure of a worker or of report aborts control.
  */
 export class TreeThreads {
   #settings;
@@ -70,7 +76,6 @@ export class TreeThreads {
     this.#report = report;
     this.#control = control;
     this.#plan = planOf(LONGEST_MESSAGE, leafLength, RANGE, LONGEST_RANGE);
-    this.#begin();
     control.signal.addEventListener("abort", () => this.#wake());
   }
 
@@ -110,24 +115,31 @@ export class TreeThreads {
     return entry;
   }
 
-  // Passes the range that is filled to a worker.
-  async #send(ends) {
+  // Passes a range to a worker: its bytes, or where the worker reads them.
+  async #send(source, { first, length, ends }) {
     while (this.#idle.length === 0 && this.#workers.length === this.#count) await this.#result();
     this.#control.signal.throwIfAborted();
     const entry = this.#idle.pop() ?? this.#start();
     entry.range = this.#digests.push(undefined) - 1;
-    entry.length = this.#filled;
+    entry.length = length;
+    const job = {
+      module: moduleOf(), settings: this.#settings, range: { first, ends }, ...source,
+    };
+    entry.worker.postMessage(job, source.message === undefined ? [] : [source.message.buffer]);
+  }
+
+  // Passes the range that is filled.
+  async #sendFilled(ends) {
     const message = this.#range.subarray(0, this.#filled);
-    const range = { first: this.#leaf, ends };
-    const job = { module: moduleOf(), settings: this.#settings, range, message };
-    entry.worker.postMessage(job, [message.buffer]);
+    await this.#send({ message }, { first: this.#leaf, length: this.#filled, ends });
   }
 
   /** Absorbs bytes. A full range stays here until more comes, since it may end the message. */
   async update(bytes) {
     for (let at = 0; at < lengthOf(bytes); ) {
+      if (this.#range === undefined) this.#begin();
       if (this.#filled === this.#range.length) {
-        await this.#send(false);
+        await this.#sendFilled(false);
         this.#begin();
       }
       const size = Math.min(lengthOf(bytes) - at, this.#range.length - this.#filled);
@@ -139,7 +151,22 @@ export class TreeThreads {
 
   /** The root of all that was absorbed. */
   async digest() {
-    await this.#send(true);
+    if (this.#range === undefined) this.#begin();
+    await this.#sendFilled(true);
+    return this.#root();
+  }
+
+  /** The root of a source of this length, where sourceOf(at, length) is what a worker reads. */
+  async digestOf(total, sourceOf) {
+    const plan = planOf(total, this.#settings.leafLength, RANGE, LONGEST_RANGE);
+    for (let i = 0; i < plan.count; i++) {
+      const part = partOfPlan(plan, i);
+      await this.#send(sourceOf(part.start, part.length), part);
+    }
+    return this.#root();
+  }
+
+  async #root() {
     while (this.#idle.length < this.#workers.length) await this.#result();
     const joined = new Uint8Array(this.#digests.reduce((sum, { length }) => sum + length, 0));
     let at = 0;

@@ -380,14 +380,14 @@ test("streams reject what calls refuse", async () => {
   const rejects = (promise, Class, message) =>
     assert.rejects(promise, { name: Class.name, message });
   await rejects(blake2bStream(M), TypeError,
-    "blake2bStream: source must be a Blob, a ReadableStream or an async iterable of bytes, " +
-      "not an object");
+    "blake2bStream: source must be a Blob, a ReadableStream, a FileHandle or an async iterable " +
+      "of bytes, not an object");
   await rejects(blake2sStream("abc"), TypeError,
-    "blake2sStream: source must be a Blob, a ReadableStream or an async iterable of bytes, " +
-      "not a string");
+    "blake2sStream: source must be a Blob, a ReadableStream, a FileHandle or an async iterable " +
+      "of bytes, not a string");
   await rejects(blake2bStream(undefined), TypeError,
-    "blake2bStream: source must be a Blob, a ReadableStream or an async iterable of bytes, " +
-      "not undefined");
+    "blake2bStream: source must be a Blob, a ReadableStream, a FileHandle or an async iterable " +
+      "of bytes, not undefined");
   await rejects(blake2bStream(new Blob(), { dkLen: 3 }), TypeError,
     'blake2bStream: unknown property "dkLen" of options; ' +
       "known are digestLength, key, salt, personalization, tree, onProgress, signal");

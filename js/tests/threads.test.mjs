@@ -3,10 +3,12 @@ import assert from "node:assert/strict";
 import { execFileSync } from "node:child_process";
 import { randomBytes, randomInt } from "node:crypto";
 import { EventEmitter } from "node:events";
+import { mkdtemp, open, rm, truncate, writeFile } from "node:fs/promises";
 import os from "node:os";
+import { join } from "node:path";
 import test, { after } from "node:test";
 import workerThreads from "node:worker_threads";
-import { hex, treeLeaves, treeRoot, treeRootOfLeaves, treeRootStream, utf8 } from "../index.js";
+import { blake2b, blake2bStream, hex, treeLeaves, treeRoot, treeRootOfLeaves, treeRootStream, utf8 } from "../index.js";
 import { processorCount } from "../src/threads.js";
 import { assertClean } from "./common.mjs";
 
@@ -233,6 +235,101 @@ test("ranges and digests are transferred, not copied", async () => {
   assert.deepEqual(sent, [[digests, [digests.buffer]]]);
 });
 
+test("a worker reads a blob, and what fails there is its error", async (t) => {
+  const sent = [];
+  const { setTimeout: before } = globalThis;
+  t.after(() => {
+    delete globalThis.postMessage;
+    globalThis.setTimeout = before;
+  });
+  globalThis.postMessage = (...words) => sent.push(words);
+  await import("../src/worker.js?blob");
+  const { onmessage } = globalThis;
+  delete globalThis.onmessage;
+  const settings = { leafLength: 100, salt: SALT, personalization: new Uint8Array(0) };
+  const range = { first: 5n, ends: true };
+  const message = MESSAGE.slice(0, 1000);
+  onmessage({ data: { settings, range, blob: new Blob([message]) } });
+  while (sent.length === 0) await new Promise((resolve) => setImmediate(resolve));
+  const digests = treeLeaves(message, { leafLength: 100, first: 5, ends: true, salt: SALT });
+  assert.deepEqual(sent, [[digests, [digests.buffer]]]);
+  const fault = new Error("unreadable");
+  const thrown = new Promise((resolve) => (globalThis.setTimeout = resolve));
+  onmessage({ data: { settings, range, blob: { arrayBuffer: () => Promise.reject(fault) } } });
+  assert.throws(await thrown, fault);
+});
+
+// A folder with a file of the message that is open in node.
+async function openMessage(t) {
+  const folder = await mkdtemp(join(os.tmpdir(), "vulfsjor-"));
+  const path = join(folder, "message");
+  await writeFile(path, MESSAGE);
+  const file = await open(path);
+  t.after(async () => {
+    await file.close();
+    await rm(folder, { recursive: true });
+  });
+  return { folder, path, file };
+}
+
+test("workers read an open file of node", async (t) => {
+  const { path, file } = await openMessage(t);
+  const jobs = [];
+  const Class = class extends workerThreads.Worker {
+    postMessage(job, ...more) {
+      jobs.push(job);
+      super.postMessage(job, ...more);
+    }
+  };
+  await file.read(new Uint8Array(7)); // its position does not matter
+  for (const length of [9_000_001, 2 * RANGE, RANGE + 1, RANGE, 1, 0]) {
+    await truncate(path, length);
+    const message = MESSAGE.subarray(0, length);
+    for (const [leafLength, threads] of [[65536, 3], [100_003, 2], [3_000_000, 3], [65536, 1]]) {
+      const options = { leafLength, threads, salt: SALT, digestLength: 40 };
+      const counts = [];
+      jobs.length = 0;
+      const root = await withWorkers(Class, () => byThreads(file, {
+        ...options, onProgress: (...words) => counts.push(words),
+      }));
+      assert.equal(root, rootOf(message, { leafLength, salt: SALT, digestLength: 40 }));
+      assert.deepEqual(counts.at(-1) ?? [0, 0], [length, length]);
+      const range = leafLength * Math.floor(RANGE / leafLength);
+      const ranges = threads === 1 ? 0 : Math.max(1, Math.ceil(length / range));
+      assert.deepEqual(
+        jobs.map(({ file: { fd, at, length: part }, message: bytes }) => [fd, at, part, bytes]),
+        Array.from({ length: ranges }, (_, i) =>
+          [file.fd, i * range, Math.min(range, length - i * range), undefined]));
+    }
+    assert.deepEqual(await blake2bStream(file), blake2b(message));
+  }
+});
+
+test("a file that ends early, is closed or is a folder is refused", async (t) => {
+  const { folder, file } = await openMessage(t);
+  const size = MESSAGE.length + 5;
+  const longer = {
+    fd: file.fd,
+    stat: async () => ({ isFile: () => true, size }),
+    read: (...words) => file.read(...words),
+  };
+  const end = `the file ends at byte ${MESSAGE.length}`;
+  const rejects = (source, threads, error) => assert.rejects(
+    treeRootStream(source, { leafLength: 65536, threads }), error);
+  await rejects(longer, 3, { message: `treeRootStream: a worker failed: ${end}` });
+  await rejects(longer, 1, { message: `treeRootStream: ${end}` });
+  const other = await open(folder);
+  for (const threads of [1, 3]) {
+    const message = "treeRootStream: source must be a regular file";
+    await rejects(other, threads, { name: "TypeError", message });
+  }
+  await other.close();
+  for (const threads of [1, 3]) await rejects(other, threads, { code: "EBADF" });
+  const signal = AbortSignal.abort(new Error("stopped"));
+  await assert.rejects(
+    treeRootStream(file, { leafLength: 65536, threads: 3, signal }), { message: "stopped" });
+});
+
 test("threads 0 means all processors, and 256 at most", async (t) => {
   const { availableParallelism } = os;
   t.after(() => (os.availableParallelism = availableParallelism));
@@ -273,6 +370,28 @@ test("a browser says how many processors there are, or nothing", async () => {
   for (const [processors, count] of [[3, 3], [300, 256], [undefined, 1]]) {
     assert.equal(await inBrowser(undefined, processors, processorCount), count);
   }
+});
+
+test("in a browser, workers read slices of a blob", async () => {
+  const ranges = [];
+  const Class = class {
+    postMessage({ settings, range, blob, message }, transferred) {
+      assert.deepEqual([message, transferred], [undefined, []]);
+      ranges.push([range.first, blob.size]);
+      blob.arrayBuffer().then((buffer) =>
+        this.onmessage({ data: treeLeaves(new Uint8Array(buffer), { ...settings, ...range }) }));
+    }
+    terminate() {}
+  };
+  for (const length of [MESSAGE.length, RANGE, 0]) {
+    const message = MESSAGE.subarray(0, length);
+    const root = await inBrowser(
+      Class, 4, () => byThreads(new Blob([message]), { leafLength: 65536, threads: 2 }));
+    assert.equal(root, rootOf(message, { leafLength: 65536 }));
+  }
+  assert.deepEqual(ranges, [
+    [0n, RANGE], [64n, RANGE], [128n, MESSAGE.length - 2 * RANGE], [0n, RANGE], [0n, 0],
+  ]);
 });
 
 test("what a worker of node or of a browser reports is an error of the call", async () => {

@@ -2,7 +2,8 @@
 import {
   Blake2b, Blake2s, TreeHash, blake2b, blake2bMany, blake2bStream, blake2s, equal, fromHex, hex,
   load,
-  treeLeaves, treeRoot, treeRootOfLeaves, treeRootStream, utf8, type Bytes, type NodeOptions,
+  treeLeaves, treeRoot, treeRootOfLeaves, treeRootStream, utf8, type Bytes, type FileHandleLike,
+  type NodeOptions,
 } from "vulfsjor";
 
 const digest: Uint8Array = blake2b(
@@ -29,6 +30,12 @@ async function all(file: Blob, signal: AbortSignal): Promise<Uint8Array[]> {
   ];
 }
 console.log(isSame, roots, many, all, new Blake2b()[Symbol.dispose]);
+
+// a source of node
+declare const handle: FileHandleLike;
+treeRootStream(handle, { leafLength: 65536, threads: 0 });
+// @ts-expect-error a number of a file
+blake2bStream(handle.fd);
 
 // a source and a signal of a browser
 declare const fetched: Response, file: File, strings: ReadableStream<string>;
