@@ -1,7 +1,8 @@
 #!/usr/bin/env python3
 """Looks at the assembly files of dist/, with no toolchain: each symbol ends in the version and the build, exported
-functions are hidden, nothing is called that is not there except a few functions of the C library, and on ARM one
-message is compressed without vector registers and several messages with them.
+functions are hidden, nothing is called that is not there except a few functions of the C library. On ARM one message is
+compressed without vector registers and several messages with them. For x86-64-v4 no instruction has 512 bits, and each
+function clears those of the upper 16 vector registers that it uses, after a call with a key all of them.
 
     tests/assembly.py [DIST]
 
@@ -16,13 +17,15 @@ from blake2_kinds import TOP, version
 
 # The files, the ends of their names, and what each calls from elsewhere.
 LIBRARY = {"memcpy", "memmove", "memset"}
-TEXTS = {"x86_64/vulfsjor-v2.s": "v2", "x86_64/vulfsjor-v3.s": "v3", "aarch64/vulfsjor.s": "arm",
-         "x86_64/b2-v2.s": "v2", "x86_64/b2-v3.s": "v3", "aarch64/b2.s": "arm"}
+TEXTS = {f"x86_64/{name}-{level}.s": level for name in ("vulfsjor", "b2") for level in ("v2", "v3", "v4")}
+TEXTS |= {f"aarch64/{name}.s": "arm" for name in ("vulfsjor", "b2")}
 PROGRAM = LIBRARY | {"read", "write", "__write", "__sysv_signal", "__x86_get_cpuid_feature_leaf", "rattle_alloc",
                      "rattle_arg", "rattle_dealloc", "rattle_errno", "rattle_realloc", "rattle_set_errno"}
 LABEL = re.compile(r"([\w.]+):")
 CALL = re.compile(r"\t(?:callq?|jmpq?|bl?|b)\t([\w.]+)(?:@PLT)?$")
 VECTOR = re.compile(r"\b[vqdshb][0-9]+\b")
+UPPER = re.compile(r"%[xyz]mm(1[6-9]|2[0-9]|3[01])\b")
+CLEARS = re.compile(r"\tvpxord\t%xmm(\d+), %xmm\1, %xmm\1")
 FAMILIES = ("blake2b", "blake2s")
 # The version as it is in names.
 VERSION = version().replace(".", "_")
@@ -71,12 +74,37 @@ def check_arm(name, text):
                    len(several) == 1 and count_vectors(code[several[0]]) > 3000)
 
 
+def before_returns(code):
+    """The registers that a function clears directly before its returns: those that it clears before each of them."""
+    found = []
+    for at, line in enumerate(code):
+        if line == "\tretq":
+            start = at
+            while start and CLEARS.fullmatch(code[start - 1]):
+                start -= 1
+            found.append({CLEARS.fullmatch(it)[1] for it in code[start:at]})
+    return set.intersection(*found) if found else set()
+
+
+def check_upper(name, text):
+    """Whether the code for AVX-512 leaves nothing in the upper vector registers."""
+    code = functions(text.split("\n"))
+    used = {it: {number for line in lines for number in UPPER.findall(line)} for it, lines in code.items()}
+    yield "no instruction has 512 bits", "%zmm" not in text
+    yield "each function clears the upper registers that it uses", all(
+        used[it] <= before_returns(code[it]) for it in code) and any(used.values())
+    keyed = [it for it in code if "wiping..scrub_stack.." in it]
+    yield "what ends a call with a key clears all of them", len(keyed) >= 8 * ("/vulfsjor" in name) and all(
+        len(before_returns(code[it])) == 16 for it in keyed)
+
+
 def main():
     dist = sys.argv[1] if len(sys.argv) > 1 else os.path.join(TOP, "dist")
     for name, build in TEXTS.items():
         with open(os.path.join(dist, name), encoding="utf-8") as file:
             text = file.read()
-        checks = [*check_text(name, text, f"{VERSION}_{build}"), *(check_arm(name, text) if build == "arm" else [])]
+        checks = [*check_text(name, text, f"{VERSION}_{build}"), *(check_arm(name, text) if build == "arm" else []),
+                  *(check_upper(name, text) if build == "v4" else [])]
         for words, holds in checks:
             tap.result(holds, f"{name}: {words}")
     tap.finish()

@@ -33,8 +33,11 @@ cat >"$kit/bin/rattle" <<END
 [ ! -e "$work/refuse" ] || { echo "not proved"; exit 1; }
 words=" \$* "
 word() { sed "s/.* \$1 \([^ ]*\).*/\1/" <<<"\$words"; }
-line="\$(word --crate-name) for \$(word --cpu), \$(cat "$work/turn" 2>/dev/null)"
+crate=\$(word --crate-name) cpu=\$(word --cpu)
 while [ "\$1" != --toolchain ]; do shift; done
+more=\$(sed -n 's/^run .*"\(-march=[^"]*\)".*/ \1/p' "\$2/bin/clang")
+[ ! -e "\$2.sed" ] || [ ! -e "\$2.py" ] || more+=" edited"
+line="\$crate for \$cpu\$more, \$(cat "$work/turn" 2>/dev/null)"
 printf '\t.globl\tf\n\tcallq\tmemcpy@PLT\nf:\n\tjmp\t.L1\n.L1:\n\t.ascii\t"%s"\n' "\$line" \
     >"\$2/module.s"
 while [ "\$1" != -o ]; do shift; done
@@ -46,7 +49,8 @@ chmod +x "$work/bin/rt" "$kit"/bin/*
 # The repository.
 repository=$work/a\ repository
 mkdir -p "$repository/tools" "$repository/tests" "$repository/dist"
-cp "$top"/tools/{dist.sh,kit.sh,plain_names.py,aarch64_attributes.csv} "$repository/tools/"
+cp "$top"/tools/{dist.sh,kit.sh,plain_names.py,aarch64_attributes.csv,x86_64_v4.sed,clear_registers.py} \
+    "$repository/tools/"
 cp "$top/tests/tap.sh" "$repository/tests/"
 printf '# Changes\n\n## 1.2.3\n\n## 0.9.0\n' >"$repository/CHANGELOG.md"
 printf '%s\n' blake2_state: b2_commands: "blake2_ffi staticlib: blake2_state" \
@@ -85,7 +89,7 @@ changed() {
     cp "$work/kept" "$file"
     [ "$status" -eq "$1" ]
 }
-proves() { : >"$work/calls" && counts 9 0 0 && diff <(printf '%s' "$1") "$work/calls"; }
+proves() { : >"$work/calls" && counts 11 0 0 && diff <(printf '%s' "$1") "$work/calls"; }
 both=$'check blake2_ffi\ncheck b2\n'
 
 check "make" dist make
@@ -96,11 +100,13 @@ aarch64/vulfsjor.s:blake2_ffi for generic,
 wasm/vulfsjor.wasm:blake2_ffi for lime1,
 x86_64/b2-v2.s:b2 for x86-64-v2,
 x86_64/b2-v3.s:b2 for x86-64-v3,
+x86_64/b2-v4.s:b2 for x86-64-v3 -march=x86-64-v4 edited,
 x86_64/vulfsjor-v2.s:blake2_ffi for x86-64-v2,
 x86_64/vulfsjor-v3.s:blake2_ffi for x86-64-v3,
+x86_64/vulfsjor-v4.s:blake2_ffi for x86-64-v3 -march=x86-64-v4 edited,
 END
 check "it is current" dist current
-check "it is what the sources compile to" counts 9 0 0
+check "it is what the sources compile to" counts 11 0 0
 rm crates/*/out/rlib/stamp
 check "what rt ci has left is not proved again" proves ""
 touch -d '+9 seconds' crates/blake2_state/src/lib.rt
@@ -115,13 +121,13 @@ check "it is the same, and there is no other" \
     eval 'cmp "$work/some/x86_64/b2-v2.s" dist/x86_64/b2-v2.s && [ "$(ls "$work/some"/*)" = b2-v2.s ]'
 
 echo other >"$work/turn"
-check "other code is found" counts 2 7 0
+check "other code is found" counts 2 9 0
 rm "$work/turn"
 for file in aarch64/b2.s wasm/vulfsjor.wasm; do
     check "a change of $file is found" changed 1 "dist/$file" '$a\ '
     cp "dist/$file" "$work/old"
     echo >>"dist/$file"
-    check "by check, twice" counts 7 2 0
+    check "by check, twice" counts 9 2 0
     mv "$work/old" "dist/$file"
 done
 mv dist/wasm/vulfsjor.wasm "$work/old"
@@ -139,7 +145,7 @@ check "nor a file next to src/" dist current
 mv crates/blake2_ffi/src/lib.rt crates/blake2_ffi/src/more.rt
 check "another name of a file is found" eval "! dist current"
 mv crates/blake2_ffi/src/more.rt crates/blake2_ffi/src/lib.rt
-for file in tools/plain_names.py tools/aarch64_attributes.csv; do
+for file in tools/{plain_names.py,aarch64_attributes.csv,x86_64_v4.sed,clear_registers.py}; do
     check "a change of $file is found" changed 1 "$file" '$a # more'
 done
 check "another version is found" changed 1 CHANGELOG.md 's/1\.2\.3/1.2.4/'
@@ -147,7 +153,7 @@ check "another version is found" changed 1 CHANGELOG.md 's/1\.2\.3/1.2.4/'
 # Another kit, none, and what it refuses.
 for name in bin/rattle bin/rattle-link toolchain/bin/{clang,ld.lld}; do
     echo "# 2" >>"$kit/$name"
-    check "with another $name only hashes are compared" counts 2 0 7
+    check "with another $name only hashes are compared" counts 2 0 9
     sed -i '$d' "$kit/$name"
 done
 echo "# 2" >>"$kit/bin/rattle"
@@ -155,9 +161,9 @@ check "and the reason is told" ends 0 \
     "x86_64/b2-v3.s is what the proofs build # SKIP it was made with another toolchain, kit 1" check
 sed -i '$d' "$kit/bin/rattle"
 echo "kit 2" >"$kit/version"
-check "another kit with the same tools compares all" counts 9 0 0
+check "another kit with the same tools compares all" counts 11 0 0
 mv "$work/bin/rt" "$work/rt"
-PATH=/usr/bin:/bin check "without a kit only hashes are compared" counts 2 0 7
+PATH=/usr/bin:/bin check "without a kit only hashes are compared" counts 2 0 9
 PATH=/usr/bin:/bin check "make needs rt" ends 1 "the toolchain's command rt is not on the PATH" make
 mv "$work/rt" "$work/bin/rt"
 : >"$work/refuse"
@@ -167,13 +173,57 @@ rm -rf "$work/refuse" crates/*/out
 : >"$work/refuse_check"
 check "a refused library is shown" ends 1 "not proved below" make
 check "help" ends 0 "tools/dist.sh current" --help
-for words in "" "make a" "check a" "what" "make $work/some x86_64/b2-v4.s"; do
+for words in "" "make a" "check a" "what" "make $work/some x86_64/b2-v5.s"; do
     # shellcheck disable=SC2086
     check "the words '$words' are refused" ends 1 "dist.sh: " $words
 done
 
 check "names in dist/ end in the version and the build" \
     grep -qx f_1_2_3_v2: dist/x86_64/b2-v2.s
+
+# What the edits for x86-64-v4 make of these lines.
+check "each function needs 256 bits at most" diff - \
+    <(printf '%s\n' 'define void @f() #1 {' '  ret void' '}' 'declare void @g() #1' |
+        sed -f tools/x86_64_v4.sed) <<'END'
+define void @f() #1 "min-legal-vector-width"="256" {
+  ret void
+}
+declare void @g() #1
+END
+clear() { printf '%s\n' "$@" | tools/clear_registers.py; }
+check "registers are cleared that a function uses, and all after a call with a key" diff - \
+    <(clear 'f:' '	vpaddq	%ymm16, %ymm3, %ymm31' '	je	.L1' '	retq' '.L1:' '	retq' \
+        '.Lfunc_end0:' 'g:' '	vpxor	%ymm1, %ymm15, %ymm1' '	retq' '.Lfunc_end1:' \
+        '"blake2_digest::wiping::scrub_stack::<=9>":' '	retq' '.Lfunc_end2:' '	.byte	%xmm17' |
+        sed '/%xmm18, /,/%xmm29, /d') <<'END'
+f:
+	vpaddq	%ymm16, %ymm3, %ymm31
+	je	.L1
+	vpxord	%xmm16, %xmm16, %xmm16
+	vpxord	%xmm31, %xmm31, %xmm31
+	retq
+.L1:
+	vpxord	%xmm16, %xmm16, %xmm16
+	vpxord	%xmm31, %xmm31, %xmm31
+	retq
+.Lfunc_end0:
+g:
+	vpxor	%ymm1, %ymm15, %ymm1
+	retq
+.Lfunc_end1:
+"blake2_digest::wiping::scrub_stack::<=9>":
+	vpxord	%xmm16, %xmm16, %xmm16
+	vpxord	%xmm17, %xmm17, %xmm17
+	vpxord	%xmm30, %xmm30, %xmm30
+	vpxord	%xmm31, %xmm31, %xmm31
+	retq
+.Lfunc_end2:
+	.byte	%xmm17
+END
+for last in '	jmp	memcpy@PLT' '	ud2'; do
+    check "the end '$last' is refused" \
+        eval '! clear "\"blake2_digest::wiping::scrub_stack::<=9>\":" "$last" .Lfunc_end0: 2>/dev/null'
+done
 
 # What plain_names.py makes of these lines.
 rename() { printf '%s\n' "$@" | tools/plain_names.py _1_v3; }

@@ -17,7 +17,8 @@ set -euo pipefail
 source "$(dirname "$(readlink -f "$0")")/../tests/tap.sh"
 manifest=$top/dist/MANIFEST
 files=(aarch64/b2.s aarch64/vulfsjor.s wasm/vulfsjor.wasm
-    x86_64/b2-v2.s x86_64/b2-v3.s x86_64/vulfsjor-v2.s x86_64/vulfsjor-v3.s)
+    x86_64/b2-v2.s x86_64/b2-v3.s x86_64/b2-v4.s
+    x86_64/vulfsjor-v2.s x86_64/vulfsjor-v3.s x86_64/vulfsjor-v4.s)
 source "$top/tools/kit.sh"
 
 stop() {
@@ -42,7 +43,8 @@ sources() {
             sed '/^[[:space:]]*\/\//d' "$file"
         done
         version _
-        cat tools/plain_names.py tools/aarch64_attributes.csv
+        cat tools/plain_names.py tools/aarch64_attributes.csv tools/x86_64_v4.sed \
+            tools/clear_registers.py
     } | sha256sum | cut -d ' ' -f 1
 }
 
@@ -63,12 +65,17 @@ has_same_tools() { [ "$(said tools)" = "$(hash_of_tools)" ]; }
 # several with them: a NEON instruction takes two to four cycles there, and one message is a single
 # chain of them. aarch64_attributes.csv names the functions for LLVM. A name in it that is not in
 # the code makes clang print a line, and then the build fails.
+#
+# Rattle has no x86-64-v4, so clang gets it after x86-64-v3 (make_v4_toolchain in kit.sh).
 build() {
     local to=$1/$2 file=$2 crate kind=(--crate-type staticlib) more=() room target cpu end
+    local make=make_toolchain
     crate=$(crate_of "$file") room=$work/$crate
     case $file in
         x86_64/*-v[23].s) target=x86_64-unknown-linux-gnu cpu=x86-64-${file: -4:2} \
             end=${file: -4:2} ;;
+        x86_64/*-v4.s) target=x86_64-unknown-linux-gnu cpu=x86-64-v3 end=v4 \
+            make=make_v4_toolchain ;;
         aarch64/*.s)
             target=aarch64-unknown-linux-gnu cpu=generic end=arm
             more=(-mllvm "-forceattrs-csv-path=$top/tools/aarch64_attributes.csv")
@@ -78,8 +85,8 @@ build() {
     esac
     [ "$crate" != b2 ] || kind=()
     echo "dist.sh: building $file" >&2
-    rm -rf "$room/toolchain"
-    make_toolchain "$room/toolchain" "${more[@]}"
+    rm -rf "$room"/toolchain{,.sed,.py}
+    $make "$room/toolchain" "${more[@]}"
     mkdir -p "$(dirname "$to")"
     build_crate "$top/crates/$crate" "$crate" "$(libraries_of "$crate")" "$room" "${kind[@]}" \
         --target "$target" --cpu "$cpu" --toolchain "$room/toolchain" -o "$room/built" \
@@ -155,7 +162,7 @@ case ${1-},$# in
         is_whole && is_current
         exit
         ;;
-    check,1 | make,1 | make,[3-9]) ;;
+    check,1 | make,1 | make,[3-9] | make,[1-9][0-9]) ;;
     *) stop "usage: tools/dist.sh make|check|current, or tools/dist.sh --help" ;;
 esac
 [ "$1" != check ] || compare_all

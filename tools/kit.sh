@@ -80,9 +80,11 @@ link_module() {
 
 # Makes a folder to use instead of the kit's toolchain. Its clang gets these arguments too, and
 # fails if it prints anything. It leaves the text of what it compiles in FOLDER/module.s, and
-# assembles that. Rattle runs it without an environment, in a temporary folder.
+# assembles that. FOLDER.sed, if it is there, edits LLVM's text of the module before, and FOLDER.py
+# the assembly after that. Rattle runs it without an environment, in a temporary folder.
 make_toolchain() {
-    local folder=$1 kit more
+    local folder=$1 kit more python
+    python=$(python3 -c "import sys; print(sys.executable)" || :)
     shift
     kit=$(kit_folder)
     more=$(printf ' "%s"' "$@")
@@ -103,14 +105,35 @@ case " \$* " in
         exit
         ;;
 esac
-target=\$1
+target=\$1 module=module.bc
+if [ -e "$folder.sed" ]; then
+    module="$folder/module.ll"
+    run "\$target" -S -emit-llvm -Xclang -disable-llvm-passes -x ir module.bc -o "\$module"
+    /bin/sed -i -f "$folder.sed" "\$module"
+fi
 for word; do
     shift
-    case \$word in -c) word=-S ;; module.o) word="$folder/module.s" ;; esac
+    case \$word in
+        -c) word=-S ;;
+        module.bc) word=\$module ;;
+        module.o) word="$folder/module.s" ;;
+    esac
     set -- "\$@" "\$word"
 done
 run "\$@"$more -fno-addrsig -fno-verbose-asm
+if [ -e "$folder.py" ]; then
+    /bin/mv "$folder/module.s" "$folder/compiled.s"
+    "$python" "$folder.py" <"$folder/compiled.s" >"$folder/module.s" || exit
+fi
 run "\$target" -c "$folder/module.s" -o module.o
 END
     chmod +x "$folder/bin/clang"
+}
+
+# The same for x86-64-v4, which Rattle does not have: to use with its --cpu x86-64-v3.
+make_v4_toolchain() {
+    mkdir -p "$1"
+    cp "$top/tools/x86_64_v4.sed" "$1.sed"
+    cp "$top/tools/clear_registers.py" "$1.py"
+    make_toolchain "$1" -march=x86-64-v4 -Xclang -target-feature -Xclang +prefer-256-bit
 }

@@ -6,17 +6,17 @@
 #
 # usage: tests/key_scan/run.sh [--cpu CPU]
 #
-# CPU is the current processor if it is left out: x86-64-v3 if it has AVX2 and what belongs to it,
-# x86-64-v2 otherwise. It builds the calls of calls.rt.txt, a crate in Rattle, over the crates as `rt
-# ci` or `rt check` has proved them, and links them to scan.c. It needs the toolchain's command rt,
-# a C compiler and python3: if one is absent it is skipped.
+# CPU is the current processor if it is left out: x86-64-v4 if it has AVX-512 and what belongs to
+# it, x86-64-v3 if it has AVX2, x86-64-v2 otherwise. It builds the calls of calls.rt.txt, a crate in
+# Rattle, over the crates as `rt ci` or `rt check` has proved them, and links them to scan.c. It
+# needs the toolchain's command rt, a C compiler and python3: if one is absent it is skipped.
 set -u
 here=$(dirname "$(readlink -f "$0")")
 source "$here/../tap.sh"
 cpu=$("$top/tools/processor.sh")
 [ "${1-}" != --cpu ] || cpu=${2-}
-if ! [[ $#,$cpu =~ ^[02],x86-64-v[23]$ ]]; then
-    echo "usage: tests/key_scan/run.sh [--cpu x86-64-v2|x86-64-v3]" >&2
+if ! [[ $#,$cpu =~ ^[02],x86-64-v[234]$ ]]; then
+    echo "usage: tests/key_scan/run.sh [--cpu x86-64-v2|x86-64-v3|x86-64-v4]" >&2
     exit 2
 fi
 for tool in rt cc python3; do
@@ -29,12 +29,16 @@ source "$top/tools/kit.sh"
 
 # Builds the calls over what is proved. Crates that are not proved yet are proved first.
 build() {
-    local kit
-    kit=$(kit_folder)
+    local toolchain rattle_cpu=$cpu
+    toolchain=$(kit_folder)/toolchain
+    if [ "$cpu" = x86-64-v4 ]; then
+        rattle_cpu=x86-64-v3 toolchain=$work/toolchain
+        make_v4_toolchain "$toolchain" || return
+    fi
     prove_libraries blake2_state "$work/proofs" && mkdir -p "$work/src" &&
         cp "$here/calls.rt.txt" "$work/src/lib.rt" &&
-        build_crate "$work" keyed blake2 "$work" --crate-type staticlib --cpu "$cpu" \
-            --toolchain "$kit/toolchain" -o "$work/keyed.a"
+        build_crate "$work" keyed blake2 "$work" --crate-type staticlib --cpu "$rattle_cpu" \
+            --toolchain "$toolchain" -o "$work/keyed.a"
 }
 
 # Builds and runs the search after a message of so many bytes. Without -z now the loader's first
