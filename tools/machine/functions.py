@@ -16,9 +16,11 @@ SETTLE = "blake2_digest..wiping..settle.."
 LIBRARY = (ONE_B, MANY_B, ONE_S, MANY_S)
 PROGRAM = (ONE_B, MANY_B, ONE_S)       # b2 has no call that hashes several messages with BLAKE2s
 FILES = {
+    "dist/x86_64/vulfsjor-v4.s": LIBRARY,
     "dist/x86_64/vulfsjor-v3.s": LIBRARY,
     "dist/x86_64/vulfsjor-v2.s": LIBRARY,
     "dist/aarch64/vulfsjor.s": LIBRARY,
+    "dist/x86_64/b2-v4.s": PROGRAM,
     "dist/x86_64/b2-v3.s": PROGRAM,
     "dist/x86_64/b2-v2.s": PROGRAM,
     "dist/aarch64/b2.s": PROGRAM,
