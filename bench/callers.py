@@ -28,7 +28,7 @@ from speed import OUT, TIMED, TOP, Column, say
 HERE = os.path.join(TOP, "bench", "callers")
 MARKS = ("<!-- measured by bench/callers.py -->\n", "<!-- end of what bench/callers.py measured -->\n")
 PICTURE = os.path.join(TOP, "docs", "callers.svg")
-CPU = "x86-64-v3"  # of the program b2
+CPU = speed.NEWEST  # of the program b2
 CHOSEN = "ours from C"
 MESSAGE_BYTES = 1 << 16
 PIECES = (1, 64, 1024, 65536)

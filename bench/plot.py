@@ -14,8 +14,9 @@ from matplotlib import pyplot
 # By the candidates' names: the color, the width of the line, and its dashes. People with any kind of sight can
 # distinguish the colors (Okabe and Ito).
 STYLES = {
-    "ours: `vulfsjor`, x86-64-v3": ("#d55e00", 3, "-"),
-    "ours: `vulfsjor`, x86-64-v2": ("#d55e00", 3, "--"),
+    "ours: `vulfsjor`, x86-64-v4": ("#d55e00", 3, "-"),
+    "ours: `vulfsjor`, x86-64-v3": ("#d55e00", 3, "--"),
+    "ours: `vulfsjor`, x86-64-v2": ("#d55e00", 3, ":"),
     "ours from C": ("#d55e00", 3, "-"),
     "ours from Rust": ("#d55e00", 3, "--"),
     "blake2b/s_simd": ("#0072b2", 2, "-"),

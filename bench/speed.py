@@ -44,7 +44,10 @@ PICTURE = os.path.join(TOP, "docs", "speed.svg")
 MARKS = ("<!-- measured by bench/speed.py -->\n", "<!-- end of what was measured -->\n")
 PEERS = os.path.join(TOP, "bench", "peers")
 OUT = os.path.join(TOP, "bench", "out")
-CPUS = ("x86-64-v2", "x86-64-v3")
+NEWEST = subprocess.run([os.path.join(TOP, "tools", "processor.sh")], stdout=subprocess.PIPE, text=True,
+                        check=True).stdout.strip()  # of the builds that this processor runs
+CPUS = ("x86-64-v2", "x86-64-v3", "x86-64-v4")
+CPUS = CPUS[:CPUS.index(NEWEST) + 1] if NEWEST in CPUS else ()
 KERNEL_BYTES = 1 << 20
 SHORT_BYTES = (0, 64, 1024)
 SEVERAL_BYTES = (64, 1024, 4096)

@@ -231,14 +231,21 @@ def measured(header):
     return {first: cells for first, *cells in rows}
 
 
+def newest(rows, name):
+    """The row of this candidate for the newest processor that was measured."""
+    return rows[max(it for it in rows if it.startswith(f"ours: {name}, x86-64-v"))]
+
+
 def ratio_rows():
     """The rows of README.md that have the ratios of speed."""
     memory, b, s, file = map(measured, (
         "1 MiB in memory . BLAKE2b-512, GB", "one BLAKE2b-512", "one BLAKE2s-256", "1024 MiB from a file"))
-    old, new = ("ours: `vulfsjor`, x86-64-v2", "ours: `vulfsjor`, x86-64-v3")
+    one, short_b, short_s = (newest(rows, "`vulfsjor`") for rows in (memory, b, s))
+    avx2, old = (memory[f"ours: `vulfsjor`, x86-64-{level}"] for level in ("v3", "v2"))
     for name, *ratios in (
-            ("1 MiB in memory", memory[new][1], memory[new][3]), ("64 bytes in memory", b[new][3], s[new][3]),
-            ("1 MiB in memory, without AVX2 (the others use it)", memory[old][1], memory[old][3]),
+            ("1 MiB in memory", one[1], one[3]), ("64 bytes in memory", short_b[3], short_s[3]),
+            *([] if one is avx2 else [("1 MiB in memory, without AVX-512", avx2[1], avx2[3])]),
+            ("1 MiB in memory, without AVX2 (the others use it)", old[1], old[3]),
             ("a file of 1 GiB by `b2 sum`", f"{1 / float(file['blake2b/s_simd'][1]):.2f}", "not measured")):
         yield f"| {name} | {' | '.join(f'**{ratio}**' if ratio < '1' else ratio for ratio in ratios)} |"
 
@@ -248,15 +255,14 @@ def summary():
     memory, b, s, many_b, many_s, roots = map(measured, (
         "1 MiB in memory . BLAKE2b-512, GB", "one BLAKE2b-512", "one BLAKE2s-256", "4 messages of",
         "8 messages of", "16 MiB"))
-    new, several = "ours: `vulfsjor`, x86-64-v3", "ours: in parallel, x86-64-v3"
-
     def cell(speed, ratio):
         return f"{float(speed):.2f} GB/s, {2.5 / float(speed):.2f} cycles a byte | {ratio}"
-    one, root = memory[new], roots["ours: root, x86-64-v3"]
-    short = b[new][3], s[new][3]
-    many = [(count * 1024 / int(of[several][2]), of[several][3]) for count, of in ((4, many_b), (8, many_s))]
+    one, short_b, short_s = (newest(rows, "`vulfsjor`") for rows in (memory, b, s))
+    root, short = newest(roots, "root"), (short_b[3], short_s[3])
+    several = ((count, newest(rows, "in parallel")) for count, rows in ((4, many_b), (8, many_s)))
+    many = [(count * 1024 / int(row[2]), row[3]) for count, row in several]
     yield f"| 1 MiB in memory | {cell(*one[:2])} | {cell(*one[2:4])} |"
-    yield f"| a digest of 64 bytes | {b[new][2]} ns | {short[0]} | {s[new][2]} ns | {short[1]} |"
+    yield f"| a digest of 64 bytes | {short_b[2]} ns | {short[0]} | {short_s[2]} ns | {short[1]} |"
     yield f"4, or 8 of BLAKE2s | {cell(*many[0])} | {cell(*many[1])} |"
     yield f"leaves of 64 KiB | {cell(*root[2:4])} | | |"
     percents = [[round(100 * float(ratio) - 100) for ratio in ratios] for ratios in (
