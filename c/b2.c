@@ -3,9 +3,9 @@
  * function must do (rattle/libc/src/heap.rt, rattle/os/src/c.rt). None of this is proved.
  * tests/program.c tests each function.
  *
- * MAIN is the main of the assembly file, such as main_0_1_0_v3. If MAIN_V3 is defined, two files are
- * linked: MAIN is that of the build for x86-64-v2 and MAIN_V3 the other, for processors on which
- * choose.c finds level 3. */
+ * MAIN is the main of the assembly file, such as main_0_1_0_v3. If MAIN_V3 and MAIN_V4 are defined,
+ * three files are linked: MAIN is that of the build for x86-64-v2, and the others are for processors
+ * on which choose.c finds level 3 or 4. */
 #include <errno.h>
 #include <stdbool.h>
 #include <stddef.h>
@@ -20,9 +20,16 @@ int MAIN(void);
 
 #ifdef MAIN_V3
 int MAIN_V3(void);
+int MAIN_V4(void);
 unsigned char vulfsjor_ffi_find(void);
 
-static int start(void) { return vulfsjor_ffi_find() == 3 ? MAIN_V3() : MAIN(); }
+static int start(void) {
+    switch (vulfsjor_ffi_find()) {
+        case 4: return MAIN_V4();
+        case 3: return MAIN_V3();
+        default: return MAIN();
+    }
+}
 #else
 static int start(void) { return MAIN(); }
 #endif

@@ -1,21 +1,21 @@
 /* The functions vulfsjor_ffi_* of the library, by their own names. The code is in the assembly of
- * dist/: on x86-64 twice, for x86-64-v2 and for x86-64-v3 processors, and on 64-bit ARM once. A
- * call jumps to the build that this processor and this system support. This file is tested, not
- * proved: every call passes through it on its way to the proved code.
+ * dist/: on x86-64 three times, for x86-64-v2, x86-64-v3 and x86-64-v4 processors, and on 64-bit
+ * ARM once. A call jumps to the best build that this processor and this system support. This file
+ * is tested, not proved: every call passes through it on its way to the proved code.
  *
  * On x86-64 the first call detects the processor and stores the result in one byte, which never
  * changes after that: threads that detect it at the same time write the same value. It needs no
  * constructor, so calls from another constructor work too, and no lock, no environment variable and
  * no function pointer in memory. A later call reads the byte and jumps: arguments, stack and return
- * address stay as they are, whatever the arguments of a function are. Both builds have the same
- * states, so a state may go from one to the other. On a processor below x86-64-v2 the first call
+ * address stay as they are, whatever the arguments of a function are. All builds have the same
+ * states, so a state may go from one to another. On a processor below x86-64-v2 the first call
  * prints a line on standard error and aborts.
  *
  * CHOOSE_ONE names a build, such as v3: then the library contains only that build, and each call
  * jumps to it. CHOOSE_SHOWN is defined for the shared library. Otherwise the names are hidden, so
  * that a shared library that links the archive does not export them. Three macros are for tests.
- * CHOOSE_TEST 2 or 3 selects that build, whatever the processor, and 0 alternates between them
- * without a rule. CHOOSE_PROCESSOR is a header with a simulated processor, and CHOOSE_FUNCTIONS a
+ * CHOOSE_TEST 2, 3 or 4 selects that build, whatever the processor, and 23 or 234 alternates between
+ * the builds of its digits without a rule. CHOOSE_PROCESSOR is a header with a simulated processor, and CHOOSE_FUNCTIONS a
  * header with other functions. */
 #include "vulfsjor.h"
 
@@ -56,17 +56,20 @@
 #define CALL(name) FUNCTION(name, VISIBILITY(name), JUMP IN_BUILD(name, TEXT(CHOOSE_ONE)) "\n")
 #else
 
-/* 3 and 2 for the builds of these levels, or 0 before the first call. */
+/* 4, 3 or 2 for the build of this level, or 0 before the first call. */
 __attribute__((visibility("hidden"))) unsigned char vulfsjor_ffi_level;
 
 #define CALL(name)                                  \
     FUNCTION(name, VISIBILITY(name),                \
+             "cmpb $3, vulfsjor_ffi_level(%rip)\n"      \
+             "ja " IN_BUILD(name, "v4") "\n"        \
+             "je " IN_BUILD(name, "v3") "\n"        \
              "cmpb $2, vulfsjor_ffi_level(%rip)\n"      \
-             "ja " IN_BUILD(name, "v3") "\n"        \
              "je " IN_BUILD(name, "v2") "\n"        \
              "call vulfsjor_ffi_ask\n"                  \
-             "cmpb $2, %al\n"                       \
-             "ja " IN_BUILD(name, "v3") "\n"        \
+             "cmpb $3, %al\n"                       \
+             "ja " IN_BUILD(name, "v4") "\n"        \
+             "je " IN_BUILD(name, "v3") "\n"        \
              "jmp " IN_BUILD(name, "v2") "\n")
 
 /* Calls vulfsjor_ffi_find and keeps the registers that hold arguments. The result is in al. */
@@ -98,35 +101,46 @@ enum {
     SSE3 = 1 << 0, SSSE3 = 1 << 9, FMA = 1 << 12, CMPXCHG16B = 1 << 13, SSE4_1 = 1 << 19,
     SSE4_2 = 1 << 20, MOVBE = 1 << 22, POPCNT = 1 << 23, OSXSAVE = 1 << 27, AVX = 1 << 28,
     F16C = 1 << 29,
-    BMI1 = 1 << 3, AVX2 = 1 << 5, BMI2 = 1 << 8,
+    BMI1 = 1 << 3, AVX2 = 1 << 5, BMI2 = 1 << 8, AVX512F = 1 << 16, AVX512DQ = 1 << 17,
+    AVX512CD = 1 << 28, AVX512BW = 1 << 30,
     LAHF = 1 << 0, LZCNT = 1 << 5
 };
 
+/* Of leaf 7 in ebx, and more than the values of an enum may be. */
+#define AVX512VL (1u << 31)
+
 /* The levels are those of the x86-64 psABI, 3.1.1: the highest one that the processor has
- * completely, 3 or 2, or 0 if it is below 2. Level 3 also requires that the system saves the
- * registers of SSE and AVX (XCR0, bits 1 and 2). */
+ * completely, 4, 3 or 2, or 0 if it is below 2. Level 3 also requires that the system saves the
+ * registers of SSE and AVX (XCR0, bits 1 and 2), and level 4 those of AVX-512: the masks, the
+ * upper halves, and the upper 16 registers (bits 5 to 7). */
 static unsigned char level_here(void) {
     const unsigned v2 = SSE3 | SSSE3 | CMPXCHG16B | SSE4_1 | SSE4_2 | POPCNT;
     const unsigned v3 = FMA | MOVBE | OSXSAVE | AVX | F16C, v3_seventh = BMI1 | AVX2 | BMI2;
-    unsigned a, b, first, seventh, extended, d;
+    const unsigned v4_seventh = AVX512F | AVX512DQ | AVX512CD | AVX512BW | AVX512VL;
+    unsigned a, b, first, seventh, extended, d, saved;
 
     if (!__get_cpuid(1, &a, &b, &first, &d) || (first & v2) != v2) return 0;
     if (!__get_cpuid(0x80000001u, &a, &b, &extended, &d) || !(extended & LAHF)) return 0;
     if ((first & v3) != v3 || !(extended & LZCNT)) return 2;
     if (!__get_cpuid_count(7, 0, &a, &seventh, &b, &d) || (seventh & v3_seventh) != v3_seventh)
         return 2;
-    return (saved_registers() & 6) == 6 ? 3 : 2;
+    saved = saved_registers();
+    if ((saved & 0x06) != 0x06) return 2;
+    return (seventh & v4_seventh) == v4_seventh && (saved & 0xe6) == 0xe6 ? 4 : 3;
 }
 
 static void keep(unsigned char level) {
     __atomic_store_n(&vulfsjor_ffi_level, level, __ATOMIC_RELAXED);
 }
-#elif CHOOSE_TEST
+#elif CHOOSE_TEST < 10
 static unsigned char level_here(void) { return CHOOSE_TEST; }
 static void keep(unsigned char level) { vulfsjor_ffi_level = level; }
 #else
-static unsigned turn;
-static unsigned char level_here(void) { return 2 + ((turn = turn * 1664525u + 1013904223u) >> 31); }
+static unsigned char level_here(void) {
+    static unsigned turn;
+    turn = turn * 1664525u + 1013904223u;
+    return 2 + (turn >> 16) % (CHOOSE_TEST % 10 - 1);
+}
 static void keep(unsigned char level) { (void)level; }
 #endif
 

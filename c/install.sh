@@ -25,9 +25,9 @@
 # they compile to instead of dist/. That needs the toolchain's command rt too, and 10 to 20 minutes
 # the first time. With --from it installs what `tools/dist.sh make` has written to the folder DIST.
 #
-# On x86-64 the library contains the code for x86-64-v2 and for x86-64-v3 processors, and chooses at
-# run time. With --cpu it contains only the code for CPU, x86-64-v2 or x86-64-v3, and runs on no
-# older processor.
+# On x86-64 the library contains the code for x86-64-v2, x86-64-v3 and x86-64-v4 processors, and
+# chooses at run time. With --cpu it contains only the code for CPU, one of these three, and runs on
+# no older processor.
 #
 # LIBDIR replaces FOLDER/lib; a path that does not begin with a slash is below FOLDER. If DESTDIR is
 # set, all files are installed below it. --uninstall removes the files that are named above, with
@@ -37,7 +37,7 @@ here=$(dirname "$(readlink -f "$0")")
 top=$(dirname "$here")
 
 usage() {
-    echo "usage: c/install.sh [--cpu x86-64-v2|x86-64-v3] [--prove | --from DIST] FOLDER" >&2
+    echo "usage: c/install.sh [--cpu x86-64-v2|x86-64-v3|x86-64-v4] [--prove | --from DIST] FOLDER" >&2
     echo "       c/install.sh --uninstall FOLDER, or c/install.sh --help" >&2
     exit 2
 }
@@ -46,7 +46,7 @@ read -ra cc <<<"${CC:-cc}"
 cpu= dist=$top/dist prove=no uninstall=no
 while [ $# -gt 0 ]; do
     case $1 in
-        --cpu) [[ ${2-} =~ ^x86-64-v[23]$ ]] || usage; cpu=$2; shift 2 ;;
+        --cpu) [[ ${2-} =~ ^x86-64-v[234]$ ]] || usage; cpu=$2; shift 2 ;;
         --prove) prove=yes; shift ;;
         --from) [ $# -ge 2 ] || usage; dist=$2; shift 2 ;;
         --uninstall) uninstall=yes; shift ;;
@@ -96,7 +96,7 @@ machine=$("${cc[@]}" -dumpmachine) texts=()
 case $machine in
     *x32 | *ilp32) ;;
     x86_64-*linux*)
-        cpus=${cpu:-x86-64-v2 x86-64-v3}
+        cpus=${cpu:-x86-64-v2 x86-64-v3 x86-64-v4}
         for level in $cpus; do texts+=("x86_64/vulfsjor-${level#x86-64-}.s"); done
         ;;
     aarch64-*linux*) [ -n "$cpu" ] || cpus=aarch64 texts=(aarch64/vulfsjor.s) ;;

@@ -1,9 +1,9 @@
 #!/usr/bin/env bash
 # Makes the libraries that callers link from the assembly of dist/:
 #
-#   c/join.sh [--test 2|3|0] FOLDER V2.s V3.s   both builds for x86-64, one of which is chosen at
-#                                               run time
-#   c/join.sh FOLDER ONE.s                      one build, for x86-64 or aarch64
+#   c/join.sh [--test BUILDS] FOLDER V2.s V3.s V4.s   all builds for x86-64, one of which is chosen
+#                                                     at run time
+#   c/join.sh FOLDER ONE.s                            one build, for x86-64 or aarch64
 #
 #   FOLDER/libvulfsjor.a
 #   FOLDER/libvulfsjor.so.VERSION, with the links libvulfsjor.so.0 and libvulfsjor.so
@@ -23,8 +23,9 @@ if [ $# -ge 2 ] && [ "$1" = --test ]; then
     words=("-DCHOOSE_TEST=$2")
     shift 2
 fi
-if [ $# -lt 2 ] || [ $# -gt 3 ]; then
-    echo "usage: c/join.sh [--test 2|3|0] FOLDER V2.s V3.s, or c/join.sh FOLDER ONE.s" >&2
+if [ $# -ne 2 ] && [ $# -ne 4 ]; then
+    echo "usage: c/join.sh [--test 2|3|4|23|234] FOLDER V2.s V3.s V4.s" >&2
+    echo "       c/join.sh FOLDER ONE.s" >&2
     exit 2
 fi
 folder=$1

@@ -16,12 +16,13 @@ COPIES = {
     "src/aarch64/vulfsjor.s": "../dist/aarch64/vulfsjor.s",
     "src/x86_64/vulfsjor-v2.s": "../dist/x86_64/vulfsjor-v2.s",
     "src/x86_64/vulfsjor-v3.s": "../dist/x86_64/vulfsjor-v3.s",
+    "src/x86_64/vulfsjor-v4.s": "../dist/x86_64/vulfsjor-v4.s",
 }
 
 # The texts of the library by platform. choose.c has its functions by their own names; on x86-64 a
 # call goes to the build that the processor runs.
 TEXTS = {
-    "linux-x86_64": ["src/x86_64/vulfsjor-v2.s", "src/x86_64/vulfsjor-v3.s"],
+    "linux-x86_64": [f"src/x86_64/vulfsjor-{level}.s" for level in ("v2", "v3", "v4")],
     "linux-aarch64": ["src/aarch64/vulfsjor.s"],
 }
 

@@ -37,8 +37,8 @@ check_debian() {
 }
 
 # The tests over the build for x86-64-v2, which no processor with AVX2 takes by itself.
-cargo_v2() {
-    RUSTFLAGS='--cfg vulfsjor_build="v2"' CARGO_TARGET_DIR=$work/v2 cargo_here test "${short[@]}"
+cargo_build() {
+    RUSTFLAGS="--cfg vulfsjor_build=\"$1\"" CARGO_TARGET_DIR=$work/$1 cargo_here test "${short[@]}"
 }
 
 # The tests for 64-bit ARM, which is emulated.
@@ -65,7 +65,12 @@ check_huge "the crate vulfsjor, optimized" cargo_here test --release "${short[@]
 check "the crate vulfsjor without std" cargo_here test --no-default-features --lib --test glue
 check_huge "all tests of the crate vulfsjor without std" cargo_here test --no-default-features
 if [ "$(uname -m)" = x86_64 ]; then
-    check "the crate vulfsjor over the build for x86-64-v2" cargo_v2
+    check "the crate vulfsjor over the build for x86-64-v2" cargo_build v2
+    if [ "$("$top/tools/processor.sh")" = x86-64-v4 ]; then
+        check "the crate vulfsjor over the build for x86-64-v3" cargo_build v3
+    else
+        skip "the crate vulfsjor over the build for x86-64-v3" "the choice is that build, or none"
+    fi
     needs qemu-x86_64
     check "the crate vulfsjor on other processors" \
         cargo_here test --lib --test programs -- --ignored other_processors

@@ -32,7 +32,7 @@ write_text() {
 }
 machine=$(uname -m) arm=aarch64-linux-gnu-gcc here=arm
 [ "$machine" = x86_64 ] || arm=cc
-[ $arm = cc ] || { write_text cc x86_64/b2-v2.s v2 && write_text cc x86_64/b2-v3.s v3; }
+[ $arm = cc ] || for level in v2 v3 v4; do write_text cc x86_64/b2-$level.s $level; done
 [ $arm = cc ] || { here=$("$top/tools/processor.sh") && here=${here#x86-64-}; }
 ! has $arm || write_text $arm aarch64/b2.s arm
 program=$repository/out/b2-$machine

@@ -84,8 +84,13 @@ assemble_all() {
     case $("$top/tools/processor.sh") in
         aarch64) assemble "$top/dist/aarch64/b2.s" "$work/b2" ;;
         x86-64-v2) assemble "$top/dist/x86_64/b2-v2.s" "$work/b2" ;;
-        *)
+        x86-64-v3)
             assemble "$top/dist/x86_64/b2-v3.s" "$work/b2" &&
+                assemble "$top/dist/x86_64/b2-v2.s" "$work/b2-v2"
+            ;;
+        x86-64-v4)
+            assemble "$top/dist/x86_64/b2-v4.s" "$work/b2" &&
+                assemble "$top/dist/x86_64/b2-v3.s" "$work/b2-v3" &&
                 assemble "$top/dist/x86_64/b2-v2.s" "$work/b2-v2"
             ;;
     esac

@@ -1,8 +1,8 @@
-/* Tests ../choose.c with functions of this file instead of the two builds, so that it sees which
+/* Tests ../choose.c with functions of this file instead of the builds, so that it sees which
  * level is chosen and which arguments are passed. choosing.sh compiles this file without
  * PROCESSOR and with it.
  *
- *   choose           prints `begun`, and then the level that is chosen on this processor, 2 or 3:
+ *   choose           prints `begun`, and then the level that is chosen on this processor, 2 to 4:
  *                    by the first call and by a later one. If there is only the first line, the
  *                    first call has ended the program
  *   choose compiler  also prints the level that the compiler's own test of the processor finds
@@ -37,19 +37,25 @@ static number told(PARAMETERS) {
 #define GIVEN a, b, c, d, e, f, g, h, i, j, k, l, m, n, o, p
 number probe_arguments_v2(PARAMETERS) __asm__(IN_BUILD("probe_arguments", "v2"));
 number probe_arguments_v3(PARAMETERS) __asm__(IN_BUILD("probe_arguments", "v3"));
+number probe_arguments_v4(PARAMETERS) __asm__(IN_BUILD("probe_arguments", "v4"));
 __attribute__((noinline)) number probe_arguments_v2(PARAMETERS) { return told(GIVEN) + 2; }
 __attribute__((noinline)) number probe_arguments_v3(PARAMETERS) { return told(GIVEN) + 3; }
+__attribute__((noinline)) number probe_arguments_v4(PARAMETERS) { return told(GIVEN) + 4; }
 number probe_arguments(PARAMETERS);
 
 /* Whether the stack is as a function may take it to be: 8 beyond a multiple of 16. */
 static int is_aligned(void *frame) { return (uintptr_t)frame % 16 == 0; }
 int probe_v2(void) __asm__(IN_BUILD("probe", "v2"));
 int probe_v3(void) __asm__(IN_BUILD("probe", "v3"));
+int probe_v4(void) __asm__(IN_BUILD("probe", "v4"));
 __attribute__((noinline)) int probe_v2(void) {
     return is_aligned(__builtin_frame_address(0)) ? 2 : -2;
 }
 __attribute__((noinline)) int probe_v3(void) {
     return is_aligned(__builtin_frame_address(0)) ? 3 : -3;
+}
+__attribute__((noinline)) int probe_v4(void) {
+    return is_aligned(__builtin_frame_address(0)) ? 4 : -4;
 }
 int probe(void);
 
@@ -97,13 +103,13 @@ static void refuses_processor(void) {
 
 int main(void) {
     static const unsigned v2_first[] = {0, 9, 13, 19, 20, 23}, v3_first[] = {12, 22, 27, 28, 29},
-                          v3_seventh[] = {3, 5, 8};
-    const struct made_up all = {0xd, 0x80000008u, 0x38d83201u | 1 << 20, 0x128, 0x21, 7};
+                          v3_seventh[] = {3, 5, 8}, v4_seventh[] = {16, 17, 28, 30, 31};
+    const struct made_up all = {0xd, 0x80000008u, 0x38d83201u, 0xd0030128u, 0x21, 0xe7};
     size_t i;
 
     made_up = all;
-    CHECK(chosen() == 3);
-    check_arguments(3);
+    CHECK(chosen() == 4);
+    check_arguments(4);
     for (i = 0; i < sizeof v2_first / sizeof *v2_first; i++) {
         made_up = all;
         made_up.first &= ~(1u << v2_first[i]);
@@ -119,19 +125,25 @@ int main(void) {
         made_up.seventh &= ~(1u << v3_seventh[i]);
         CHECK(chosen() == 2);
     }
+    for (i = 0; i < sizeof v4_seventh / sizeof *v4_seventh; i++) {
+        made_up = all;
+        made_up.seventh &= ~(1u << v4_seventh[i]);
+        CHECK(chosen() == 3);
+    }
+    check_arguments(3);
     made_up = all;
     made_up.extended = 0x20; /* no LAHF */
     CHECK(chosen() == 0);
     made_up.extended = 1; /* no LZCNT */
     CHECK(chosen() == 2);
-    for (unsigned saved = 0; saved < 16; saved++) {
+    for (unsigned saved = 0; saved < 512; saved++) {
         made_up = all;
         made_up.saved = saved;
-        CHECK(chosen() == (saved == 6 || saved == 7 || saved == 14 || saved == 15 ? 3 : 2));
+        CHECK(chosen() == ((saved >> 1 & 3) != 3 ? 2 : (saved >> 5 & 7) != 7 ? 3 : 4));
     }
     /* All other bits may be set, or not. */
     made_up.first = made_up.seventh = made_up.extended = made_up.saved = ~0u;
-    CHECK(chosen() == 3);
+    CHECK(chosen() == 4);
     made_up.seventh = 0;
     CHECK(chosen() == 2);
     made_up.seventh = ~0u;
@@ -163,7 +175,8 @@ int main(int count, char **words) {
 #ifdef COMPILER_KNOWS
     if (count > 1 && !strcmp(words[1], "compiler")) {
         __builtin_cpu_init();
-        printf("%d\n", __builtin_cpu_supports("x86-64-v3")   ? 3
+        printf("%d\n", __builtin_cpu_supports("x86-64-v4")   ? 4
+                       : __builtin_cpu_supports("x86-64-v3") ? 3
                        : __builtin_cpu_supports("x86-64-v2") ? 2
                                                              : 0);
     }

@@ -1,10 +1,10 @@
 #!/usr/bin/env bash
-# Tests the choice between the two builds, and what the libraries show.
+# Tests the choice between the builds, and what the libraries show.
 source "$(dirname "$(readlink -f "$0")")/installed.sh"
 
-# The texts of both builds.
-both=("$dist/x86_64/vulfsjor-v2.s" "$dist/x86_64/vulfsjor-v3.s")
-here_texts=("${both[@]}")
+# The texts of the builds.
+texts=("$dist"/x86_64/vulfsjor-v{2,3,4}.s)
+here_texts=("${texts[@]}")
 is_x86 || here_texts=("$dist/aarch64/vulfsjor.s")
 
 # The functions that vulfsjor.h declares, by the compiler's reading of it.
@@ -34,7 +34,7 @@ join_refuses_a_difference() {
     local copy=$work/copy
     mkdir -p "$copy" && cp -R "$here"/{choose.c,threads.c,join.sh,include,libb2} "$copy" &&
         echo 'void vulfsjor_ffi_forgotten(void);' >>"$copy/include/vulfsjor.h" || return 1
-    ! "$copy/join.sh" "$work/refused" "${both[@]}" 2>"$work/said" &&
+    ! "$copy/join.sh" "$work/refused" "${texts[@]}" 2>"$work/said" &&
         grep -q '^< vulfsjor_ffi_forgotten$' "$work/said" &&
         [ ! -e "$work/refused/libvulfsjor.a" ]
 }
@@ -123,20 +123,20 @@ made_up_processors() {
 # The compiler's own test of a processor, where it has one.
 compiler_knows() {
     echo 'int main(void) {
-        return __builtin_cpu_supports("x86-64-v3") && __builtin_cpu_supports("x86-64-v2"); }' |
+        return __builtin_cpu_supports("x86-64-v4") && __builtin_cpu_supports("x86-64-v2"); }' |
         cc -x c -o /dev/null - 2>/dev/null && echo -DCOMPILER_KNOWS
 }
 
 # The library joined by another compiler, and what it makes of choose.c.
 joined_by() {
-    CC=$1 "$here/join.sh" "$work/by_$1" "${both[@]}" &&
+    CC=$1 "$here/join.sh" "$work/by_$1" "${texts[@]}" &&
         "$1" -std=gnu99 "${warnings[@]}" -O1 -DPROCESSOR -I"$work" -I"$include" -I"$tests" \
             -o "$work/made_up_by" "$tests/choose.c" &&
         "$work/made_up_by" && "$1" -std=c99 -I"$include" "$tests/linked.c" \
             "$work/by_$1/libvulfsjor.a" -o "$work/linked_by" -pthread && "$work/linked_by"
 }
 
-# What the choice says on this processor or an emulated one: the level, 3 or 2, or 0 for an end with
+# What the choice says on this processor or an emulated one: the level, 2 to 4, or 0 for an end with
 # a line. Where the compiler knows the levels, it has to say the same.
 chooses_level() {
     local wanted=$1 lines
@@ -172,7 +172,7 @@ example_runs_on() {
 }
 
 # Emulated processors: what is sold, and one with each of the features that a level asks for taken
-# away.
+# away. qemu emulates none with AVX-512.
 emulated() {
     local names level=$1
     case $level in
@@ -217,8 +217,8 @@ test_emulated() {
     needs
 }
 
-# A library for tests, which takes one build or goes from one to the other (c/join.sh).
-make_build() { "$here/join.sh" --test "$1" "$work/build_$1" "${both[@]}"; }
+# A library for tests, which takes one build or alternates (c/join.sh).
+make_build() { "$here/join.sh" --test "$1" "$work/build_$1" "${texts[@]}"; }
 
 test_of_build() {
     cc -std=c99 -O2 -I"$include" -o "$work/test_build" "$tests/test.c" \
@@ -230,27 +230,28 @@ keys_of_build() {
         "$work/build_$1/libvulfsjor.a" $(family_words "$2") && "$work/keys_build"
 }
 
-# Two modules, each with one build, and a program whose runs cross between them.
+# Two modules, each with one of these builds, and a program whose runs cross between them.
 runs_cross() {
     local build
-    for build in 2 3; do
+    for build; do
         cc -std=c99 -O2 "${warnings[@]}" -fPIC -shared -fvisibility=hidden -DMODULE -I"$include" \
             "$tests/cross.c" "$work/build_$build/libvulfsjor.a" -o "$work/cross_$build.so" ||
             return 1
     done
     cc -std=c99 -O2 "${warnings[@]}" -I"$include" "$tests/cross.c" -o "$work/cross" -ldl &&
-        "$work/cross" "$work/cross_2.so" "$work/cross_3.so"
+        "$work/cross" "$work/cross_$1.so" "$work/cross_$2.so"
 }
 
 test_builds() {
     local build family builds=2
-    if [ "$level" = 3 ]; then
-        builds="2 3 0"
-    else
-        skip "the build for x86-64-v3" "the processor is below x86-64-v3"
-    fi
+    case $level in
+        4) builds="2 3 4 234" ;;
+        3) builds="2 3 23" ;;
+        *) skip "the build for x86-64-v3" "the processor is below x86-64-v3" ;;
+    esac
+    [ "$level" = 4 ] || skip "the build for x86-64-v4" "the processor is below x86-64-v4"
     for build in $builds; do
-        check "a test library with build $build (0: both, alternating)" make_build $build || return
+        check "a test library with build $build (several: alternating)" make_build $build || return
         for family in b s; do
             if has python3; then
                 check "test.c, blake2$family, by build $build" test_of_build $build $family
@@ -258,7 +259,10 @@ test_builds() {
             check "key_scan.c, blake2$family, by build $build" keys_of_build $build $family
         done
     done
-    if [ "$builds" != 2 ]; then check "runs that cross between the builds" runs_cross; fi
+    for build in $(seq 3 "$level"); do
+        check "runs that cross between the builds 2 and $build" runs_cross 2 "$build"
+    done
+    [ "$level" -lt 4 ] || check "runs that cross between the builds 3 and 4" runs_cross 3 4
 }
 
 # Calls from a constructor and from threads, static and shared.
@@ -292,7 +296,7 @@ costs_little() {
     chosen=$(instructions "$work/count_chosen" "$task" 1000) &&
         direct=$(instructions "$work/count_direct" "$task" 1000) || return 1
     echo "$chosen instructions chosen, $direct directly"
-    [[ $(<"$here/README.md") =~ Dispatch\ costs\ ([0-9]+)\ or\ ([0-9]+)\ instructions ]] &&
+    [[ $(<"$here/README.md") =~ Dispatch\ costs\ ([0-9]+)\ to\ ([0-9]+)\ instructions ]] &&
         [ $(((chosen - direct) / 1000 + 1)) -ge "${BASH_REMATCH[1]}" ] &&
         [ $(((chosen - direct) / 1000 + 1)) -le "${BASH_REMATCH[2]}" ]
 }

@@ -35,7 +35,7 @@ echo 'int main(void) { return 0; }' >"$empty"
 level=$("$top/tools/processor.sh")
 level=${level#x86-64-v}
 
-# Whether the library here is for x86-64, and whether it holds both builds, and so chooses.
+# Whether the library here is for x86-64, and whether it holds all builds, and so chooses.
 is_x86() { [[ $(cc -dumpmachine) == x86_64-* ]]; }
 chooses() { is_x86 && [ ${#cpu[@]} -eq 0 ]; }
 

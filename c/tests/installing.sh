@@ -113,7 +113,7 @@ installs_again() {
 # A project of its own that has the library's files as a part, by hand: the header, choose.c and the
 # texts in one folder, compiled together with its program, also with link-time optimization.
 vendored_by_hand() {
-    local folder=$work/by_hand words texts=("$dist"/x86_64/vulfsjor-v[23].s)
+    local folder=$work/by_hand words texts=("$dist"/x86_64/vulfsjor-v[234].s)
     is_x86 || texts=("$dist/aarch64/vulfsjor.s")
     mkdir -p "$folder" && cp "$here/include/vulfsjor.h" "$here/choose.c" "${texts[@]}" "$folder/" &&
         write_program "$folder/program.c" && cd "$folder" || return 1

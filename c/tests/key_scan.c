@@ -1,5 +1,6 @@
 /* Looks for copies of a key once a keyed call of vulfsjor.h has returned: for each piece of 8 bytes
- * of it, in 64 KiB of the dead stack below the caller. Prints for each call how many were found,
+ * of it, in 64 KiB of the dead stack below the caller, and if the library chooses its build for
+ * x86-64-v4 also in the vector registers zmm16 to zmm31, which that build clears. Prints for each call how many were found,
  * the largest number over messages of several lengths. A call that leaves one fails. So does a
  * state that is not zero, byte by byte, after final, verify and wipe, and a search that misses a
  * copy which is put there for it to find. Returns 0 if none failed.
@@ -30,8 +31,8 @@ static state_t state;
 static vulfsjor_message messages[LANES + 1];
 static size_t length;
 
-/* What was on the dead stack. */
-static uint8_t stack[DEPTH];
+/* What was on the dead stack, and behind it what was in the registers zmm16 to zmm31, or zeros. */
+static uint8_t stack[DEPTH + 16 * 64];
 static int fails;
 
 static void fail(const char *name) {
@@ -130,6 +131,30 @@ static __attribute__((noinline)) void fill_stack(void) {
     for (size_t i = 0; i < sizeof bytes; i++) bytes[i] = 0x55;
 }
 
+/* Copies the registers zmm16 to zmm31, and sets one of them. */
+static int has_upper;
+static uint8_t wide[64];
+#ifdef __x86_64__
+extern unsigned char vulfsjor_ffi_level __attribute__((weak, visibility("hidden")));
+#define STORE(register, place) "vmovdqu64 %%zmm" #register ", " #place "*64(%0)\n"
+#define SET(register) \
+    static int set_##register(void) { \
+        __asm__ volatile("vmovdqu64 (%0), %%zmm" #register : : "r"(wide)); \
+        return 0; \
+    }
+SET(16)
+SET(31)
+static inline __attribute__((always_inline)) void keep_registers(void) {
+    __asm__ volatile(
+        STORE(16, 0) STORE(17, 1) STORE(18, 2) STORE(19, 3) STORE(20, 4) STORE(21, 5) STORE(22, 6)
+        STORE(23, 7) STORE(24, 8) STORE(25, 9) STORE(26, 10) STORE(27, 11) STORE(28, 12)
+        STORE(29, 13) STORE(30, 14) STORE(31, 15)
+        : : "r"(stack + DEPTH) : "memory");
+}
+#else
+static void keep_registers(void) {}
+#endif
+
 /* Makes the call, and copies the stack below this frame before anything else, without a call. */
 static __attribute__((noinline)) int call_and_keep(int (*call)(void)) {
     int status = call();
@@ -150,6 +175,7 @@ static __attribute__((noinline)) int call_and_keep(int (*call)(void)) {
     from -= DEPTH;
     __asm__ volatile("rep movsb" : "+D"(to), "+S"(from), "+c"(count) : : "memory");
 #endif
+    if (has_upper) keep_registers();
     return status;
 }
 
@@ -158,7 +184,7 @@ static int pieces_on_stack(void) {
     int found = 0;
 
     for (size_t piece = 0; piece < MAX; piece += PIECE)
-        for (size_t at = 0; at + PIECE <= DEPTH; at++)
+        for (size_t at = 0; at + PIECE <= sizeof stack; at++)
             found += !memcmp(stack + at, key + piece, PIECE);
     return found;
 }
@@ -265,6 +291,24 @@ static void take_length(size_t bytes) {
     wrong[MAX - 1] ^= 1;
 }
 
+/* Copies in the registers, of which each call clears those that it uses. */
+static void finds_registers(void) {
+#ifdef __x86_64__
+    int (*const set[])(void) = {set_16, set_31};
+
+    take_length(0);
+    has_upper = &vulfsjor_ffi_level != NULL && vulfsjor_ffi_level == 4;
+    memcpy(wide, key, MAX);
+    for (size_t i = 0; has_upper && i < 2; i++) {
+        if (pieces_after(nothing, set[i], "a copy in a register") != (MAX + MAX * (int)i) / PIECE) {
+            puts("FAILED: a copy in a register is not found");
+            fails++;
+        }
+    }
+    if (has_upper) __asm__ volatile("vpxord %xmm16, %xmm16, %xmm16\nvpxord %xmm31, %xmm31, %xmm31");
+#endif
+}
+
 /* Makes a call over messages of several lengths. */
 static void try_call(size_t index) {
     static const size_t lengths[] = {0, 1, BLOCK - 1, BLOCK, BLOCK + 1, 2 * BLOCK, LONGEST};
@@ -290,6 +334,7 @@ int main(void) {
     for (size_t i = 0; i < MAX; i++) key[i] = (uint8_t)(0xA5 ^ (i * 37) ^ (i * i));
     for (size_t i = 0; i < LONGEST; i++) message[i] = (uint8_t)(i * 11 + 3 + (i >> 4) * 5);
     finds_copies();
+    finds_registers();
     sees_bytes();
     for (size_t i = 0; i < sizeof CALLED / sizeof *CALLED; i++) try_call(i);
     return fails != 0;

@@ -20,7 +20,9 @@ test_secrets() {
         skip "branches and addresses by secrets" "no valgrind with its headers, or no python3"
         return
     fi
-    ! chooses || builds=$(seq -s " " 2 "$level")
+    if is_x86; then skip "branches and addresses by secrets, x86-64-v4" "memcheck has no AVX-512"; fi
+    [ "${cpu[*]}" != "--cpu x86-64-v4" ] || return 0
+    ! chooses || builds=$(seq -s " " 2 $((level < 3 ? level : 3)))
     # Of the cases each seventeenth: memcheck is slow.
     mkdir "$work/cases"
     for family in b s; do
@@ -32,8 +34,7 @@ cases of BLAKE2b and $(wc -l <"$work/cases/s") of BLAKE2s," "$top/docs/WIPING.md
         if [ "$build" != none ]; then
             library=$work/build_$build/libvulfsjor.a
             check "a library with only build $build, for secrets" "$here/join.sh" --test "$build" \
-                "$work/build_$build" "$dist/x86_64/vulfsjor-v2.s" "$dist/x86_64/vulfsjor-v3.s" ||
-                return
+                "$work/build_$build" "$dist"/x86_64/vulfsjor-v{2,3,4}.s || return
         fi
         for family in b s; do
             check "no branch or address by a key or a message, blake2$family, build $build" \

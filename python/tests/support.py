@@ -20,7 +20,7 @@ import unittest
 HERE = os.path.dirname(os.path.abspath(__file__))
 TOP = os.path.dirname(os.path.dirname(HERE))
 COPIES = ("vulfsjor.h", "choose.c", "aarch64/vulfsjor.s", "x86_64/vulfsjor-v2.s",
-          "x86_64/vulfsjor-v3.s")
+          "x86_64/vulfsjor-v3.s", "x86_64/vulfsjor-v4.s")
 
 
 def absent(*modules, tools=()):

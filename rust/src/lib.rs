@@ -4,7 +4,7 @@
 //! proved.
 //!
 //! It runs on Linux on 64-bit ARM and on x86-64 from x86-64-v2 on (SSE4.2 and POPCNT), and uses
-//! AVX2 if the processor has it. On an older x86-64 processor the first call panics.
+//! AVX2 and AVX-512 if the processor has them. On an older x86-64 processor the first call panics.
 //!
 //! A digest of a message, in one call or in pieces:
 //!

@@ -197,7 +197,8 @@ macro_rules! calls {
                 unsafe {
                     #[cfg(target_arch = "x86_64")]
                     match level() {
-                        3.. => v3::$name($($argument),*),
+                        4.. => v4::$name($($argument),*),
+                        3 => v3::$name($($argument),*),
                         2 => v2::$name($($argument),*),
                         _ => first_call($($argument),*),
                     }
@@ -215,6 +216,8 @@ macro_rules! functions {
         build!(v2, "../../dist/x86_64/vulfsjor-v2.s", (att_syntax, raw), $($function)+);
         #[cfg(target_arch = "x86_64")]
         build!(v3, "../../dist/x86_64/vulfsjor-v3.s", (att_syntax, raw), $($function)+);
+        #[cfg(target_arch = "x86_64")]
+        build!(v4, "../../dist/x86_64/vulfsjor-v4.s", (att_syntax, raw), $($function)+);
         #[cfg(target_arch = "aarch64")]
         build!(arm, "../../dist/aarch64/vulfsjor.s", (raw), $($function)+);
         calls!($($function)+);

@@ -307,10 +307,13 @@ mod threads {
     }
 }
 
-#[cfg(all(target_arch = "x86_64", not(vulfsjor_build = "v2")))]
+#[cfg(all(
+    target_arch = "x86_64",
+    not(any(vulfsjor_build = "v2", vulfsjor_build = "v3"))
+))]
 mod choice {
     use super::*;
-    use crate::processor::{level, level_here};
+    use crate::processor::{level, level_here, level_of, Leaves};
     use std::is_x86_feature_detected as has;
     use std::process::Command;
 
@@ -321,14 +324,54 @@ mod choice {
             has!("sse3") && has!("ssse3") && has!("sse4.2") && has!("popcnt") && has!("cmpxchg16b");
         let bits = has!("bmi1") && has!("bmi2") && has!("lzcnt");
         let v3 = v2 && bits && has!("avx2") && has!("f16c") && has!("fma");
+        let v4 = has!("avx512f") && has!("avx512vl") && has!("avx512bw");
+        let v4 = v3 && v4 && has!("avx512cd") && has!("avx512dq");
         let wanted = match std::env::var("VULFSJOR_LEVEL") {
             Ok(level) => level.parse().unwrap(),
-            Err(_) => 2 + u8::from(v3),
+            Err(_) => 2 + u8::from(v3) + u8::from(v4),
         };
         assert_eq!(level_here(), wanted);
         if wanted > 1 {
             library::need_a_build();
             assert_eq!(level(), wanted);
+        }
+    }
+
+    // A processor that is made up: level 4, its bits cleared one by one, and each set of registers
+    // that a system may save.
+    #[test]
+    fn the_level_of_made_up_processors() {
+        const ALL: [u32; 3] = [0x38d8_3201 | 1 << 20, 0xd003_0128, 0x21];
+        let level = |[first, seventh, extended]: [u32; 3], saved| {
+            let leaves = Leaves {
+                first,
+                seventh,
+                extended,
+            };
+            level_of(&leaves, || {
+                assert_ne!(first & 1 << 27, 0, "there is no XCR0");
+                saved
+            })
+        };
+        let of_bit = |word: usize, bit: u32| match (word, bit) {
+            (0, 0 | 9 | 13 | 19 | 20 | 23) | (2, 0) => 1,
+            (0, 12 | 22 | 27 | 28 | 29) | (1, 3 | 5 | 8) | (2, 5) => 2,
+            (1, 16 | 17 | 28 | 30 | 31) => 3,
+            _ => 4,
+        };
+        for (word, bit) in (0..3).flat_map(|word| (0..32).map(move |bit| (word, bit))) {
+            for mut leaves in [ALL, [!0; 3]] {
+                leaves[word] &= !(1 << bit);
+                assert_eq!(level(leaves, !0), of_bit(word, bit), "{word} {bit}");
+            }
+        }
+        for saved in 0..=255 {
+            let wanted = match (saved & 0x06, saved & 0xe0) {
+                (0x06, 0xe0) => 4,
+                (0x06, _) => 3,
+                _ => 2,
+            };
+            assert_eq!(level(ALL, saved), wanted, "{saved}");
         }
     }
 
@@ -368,31 +411,40 @@ mod choice {
         }
     }
 
+    type Update = unsafe extern "C" fn(&mut Blake2bState, *const u8, usize) -> i32;
+    type Final = unsafe extern "C" fn(&mut Blake2bState, *mut u8, usize) -> i32;
+
     #[test]
-    fn a_run_may_go_from_one_build_to_the_other() {
+    fn a_run_may_go_from_one_build_to_another() {
         if level_here() < 3 {
             return;
         }
+        // Without the third build the second one is called twice.
+        let third: (Update, Final) = match level_here() {
+            3 => (library::v3::blake2b_update, library::v3::blake2b_final),
+            _ => (library::v4::blake2b_update, library::v4::blake2b_final),
+        };
         let message = [7; 1000];
         let wanted = Blake2b::digest(message);
         for first in 0..=128 {
             let mut hasher = Blake2b::new();
             let mut digest = [0; 64];
-            // Safety: the lengths are those of the arrays, and the processor runs both builds.
+            let (parts, state) = (
+                [&message[..first], &message[first..500], &message[500..]],
+                &mut hasher.state,
+            );
+            // Safety: the lengths are those of the arrays, and the processor runs these builds.
             unsafe {
-                let (state, rest) = (&mut hasher.state, &message[first..]);
-                assert_eq!(
-                    library::v2::blake2b_update(state, message.as_ptr(), first),
-                    0
-                );
-                assert_eq!(
-                    library::v3::blake2b_update(state, rest.as_ptr(), rest.len()),
-                    0
-                );
-                assert_eq!(
-                    library::v2::blake2b_final(state, digest.as_mut_ptr(), 64),
-                    0
-                );
+                let [a, b, c] = parts.map(|part| (part.as_ptr(), part.len()));
+                assert_eq!(library::v2::blake2b_update(state, a.0, a.1), 0);
+                assert_eq!(third.0(state, b.0, b.1), 0);
+                assert_eq!(library::v3::blake2b_update(state, c.0, c.1), 0);
+                let last = if first % 2 == 0 {
+                    third.1
+                } else {
+                    library::v2::blake2b_final
+                };
+                assert_eq!(last(state, digest.as_mut_ptr(), 64), 0);
             }
             assert_eq!(wanted, digest);
         }

@@ -137,7 +137,7 @@ fn held(program: &Path, version: &str, build: &str) -> Vec<String> {
 }
 
 #[cfg(target_arch = "x86_64")]
-const BUILDS: &[&str] = &["v2", "v3"];
+const BUILDS: &[&str] = &["v2", "v3", "v4"];
 #[cfg(target_arch = "aarch64")]
 const BUILDS: &[&str] = &["arm"];
 
@@ -177,17 +177,22 @@ fn a_library_without_std() {
     printed(&mut cargo(&["build"], &folder));
 }
 
-// If the compiler may assume AVX2, the other build is left out. Earlier versions of rustc do not
-// name all its features.
+// If the compiler may assume AVX2 or AVX-512, the other builds are left out. Earlier versions of
+// rustc do not name all these features.
 #[test]
 #[cfg(target_arch = "x86_64")]
-fn one_build_if_the_target_has_avx2() {
-    let flag = "-Ctarget-cpu=x86-64-v3";
-    if run("rustc", &[&"--print", &"cfg", &flag]).contains("\"movbe\"") {
-        let program = Program::new("only_avx2", PRINT_ABC, &[TOP.as_ref()]);
-        let built = program.build_for("release", flag);
-        assert_eq!(held(&built, VERSION, "v3"), ["blake2b"]);
-        assert_eq!(held(&built, VERSION, "v2"), [""; 0]);
+fn one_build_if_the_target_has_its_features() {
+    for (cpu, last) in [("v3", "\"movbe\""), ("v4", "\"avx512vl\"")] {
+        let flag = format!("-Ctarget-cpu=x86-64-{cpu}");
+        if !run("rustc", &[&"--print", &"cfg", &flag]).contains(last) {
+            continue;
+        }
+        let program = Program::new(&format!("only_{cpu}"), PRINT_ABC, &[TOP.as_ref()]);
+        let built = program.build_for("release", &flag);
+        for build in BUILDS {
+            let wanted: &[&str] = if *build == cpu { &["blake2b"] } else { &[] };
+            assert_eq!(held(&built, VERSION, build), wanted, "{flag}");
+        }
     }
 }
 
@@ -271,8 +276,9 @@ fn the_package() {
         "dist/aarch64/vulfsjor.s",
         "dist/x86_64/vulfsjor-v2.s",
         "dist/x86_64/vulfsjor-v3.s",
+        "dist/x86_64/vulfsjor-v4.s",
     ];
-    wanted.extend([others, texts].concat().into_iter().map(String::from));
+    wanted.extend([&others[..], &texts].concat().into_iter().map(String::from));
     wanted.sort();
     assert_eq!(files(&root, &["rust", "dist"]), wanted);
     Program::new("packaged", PRINT_ABC, &[&root]).prints("release", ABC);
@@ -298,6 +304,7 @@ fn two_versions() {
     let texts = [
         "dist/x86_64/vulfsjor-v2.s",
         "dist/x86_64/vulfsjor-v3.s",
+        "dist/x86_64/vulfsjor-v4.s",
         "dist/aarch64/vulfsjor.s",
     ];
     replace(

@@ -28,7 +28,7 @@ compare() {
         skip "$name" "no $header"
         return
     fi
-    for build in x86-64-v2 x86-64-v3 chosen; do
+    for build in $builds; do
         check "$name on $build, $cases cases" run_calls "$name" "$build" "$@"
     done
 }
@@ -38,10 +38,15 @@ run_calls() {
         "$work/$2/libvulfsjor.a" "${@:3}" -o "$work/$1" && "$work/$1" "$cases"
 }
 
-texts=("$top"/dist/x86_64/vulfsjor-v[23].s)
-join=$top/c/join.sh
-"$join" "$work/x86-64-v2" "${texts[0]}" && "$join" "$work/x86-64-v3" "${texts[1]}" &&
-    "$join" "$work/chosen" "${texts[@]}" || exit 2
+# The builds that this processor runs, and their choice.
+texts=("$top"/dist/x86_64/vulfsjor-v{2,3,4}.s)
+join=$top/c/join.sh builds=chosen
+cpu=$("$top/tools/processor.sh")
+for level in $(seq 2 "${cpu#x86-64-v}"); do
+    "$join" "$work/x86-64-v$level" "${texts[level - 2]}" || exit 2
+    builds+=" x86-64-v$level"
+done
+"$join" "$work/chosen" "${texts[@]}" || exit 2
 compare libsodium sodium.h $(words_of libsodium -lsodium)
 compare libgcrypt gcrypt.h $(words_of libgcrypt -lgcrypt)
 compare botan botan/ffi.h $(words_of botan-2 "-I/usr/include/botan-2 -lbotan-2")
