@@ -1,11 +1,13 @@
 -- The arguments of the exports on trees.
 use Rattle.std.specs.Prelude.{◌≡◌, ◌≢◌, ℕ, ◌+◌, ◌*◌, ◌%◌, ◌^◌, ◌<◌, ◌≤◌, ◌⊎◌, Bool}
 use Rattle.blake2_compress.specs.Hash.{Tree}
+use Rattle.blake2_tree.specs.declared.plan.Limits.{Limits}
+use Rattle.blake2_tree.specs.Plans.{AreLimits}
 use Rattle.blake2_tree.specs.TreeRoot.{leaf_count}
 use Rattle.blake2_tree.specs.Ranges.{IsRange}
 use Rattle.blake2_tree.specs.LeafUpdates.{AreNextLeaves, AcceptsLeaves}
 use Rattle.blake2_state.specs.declared.tree.TreeState.{TreeState}
-use Rattle.blake2_state.specs.TreeStates.{IsReady, IsRefusedTree, state_tree}
+use Rattle.blake2_state.specs.TreeStates.{IsReady, IsRefusedTree, state_tree, count}
 
 -- The tree parameters with these numbers, in the order of the parameter block (the BLAKE2 document,
 -- 2.8).
@@ -47,3 +49,14 @@ IsRefusedNext t room skip n =
 -- digests.
 abbrev pub IsRefusedUpdateLeaves : TreeState → ℕ → ℕ → Type 0
 IsRefusedUpdateLeaves t digests n = (¬ IsReady t) ⊎ (¬ AcceptsLeaves (state_tree t) digests n)
+
+-- A leaf has no bytes, the limits are not those of a plan, or the n bytes from offset `start` on are
+-- no message, or end at 2^64 or above.
+abbrev pub IsRefusedPlan : Limits → ℕ → ℕ → ℕ → Type 0
+IsRefusedPlan l start n leaf_length =
+    (leaf_length ≡ 0) ⊎ (¬ AreLimits l) ⊎ (2 ^ 58 ≤ n) ⊎ (2 ^ 64 ≤ start + n)
+
+-- The limits are not those of a plan, the state of the tree returns no root, or can't count n more
+-- bytes.
+abbrev pub IsRefusedPlanOfUpdate : Limits → TreeState → ℕ → Type 0
+IsRefusedPlanOfUpdate l t n = (¬ AreLimits l) ⊎ IsRefusedTreeUpdate (IsReady t) (count t) n

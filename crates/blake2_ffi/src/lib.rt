@@ -15,6 +15,7 @@ ghost use Rattle.blake2_ffi.specs.Status.{Returns};
 mod blake2b;
 mod blake2s;
 mod many;
+mod plans;
 mod trees;
 
 use blake2_digest::is_same;

@@ -6,9 +6,10 @@ ghost use Rattle.blake2_simd.specs.Family.{blake2b};
 ghost use Rattle.blake2_compress.specs.Hash.{digest};
 ghost use Rattle.blake2_tree.specs.TreeRoot.{tree_parameters, tree_root as root_of, root_over};
 ghost use Rattle.blake2_tree.specs.TreeRoot.{leaf_count};
+ghost use Rattle.blake2_tree.specs.TreeLengths.{AcceptsLengths};
 ghost use Rattle.blake2_tree.specs.Ranges.{range_digests, ArePartOfAll, IsRootOfCuts};
 ghost use Rattle.blake2_tree.specs.Ranges.{IsRootOfChanges};
-ghost use Rattle.blake2_tree.specs.LeafUpdates.{next_leaf, TookLeaves};
+ghost use Rattle.blake2_tree.specs.LeafUpdates.{next_leaf, TookLeaves, TookDigests};
 ghost use Rattle.blake2_state.specs.States.{is_on};
 ghost use Rattle.blake2_state.specs.TreeStates.{IsReady, IsRefusedTree, Took, future, count, zeros};
 ghost use Rattle.blake2_state.specs.TreeStates.{IsAsOpened, parameters, state_tree};
@@ -18,7 +19,9 @@ ghost use Rattle.blake2_ffi.specs.Trees.{IsRefusedNext, IsRefusedUpdateLeaves};
 
 use crate::many::is_room_for;
 use blake2_state::tree::{TreeState, write_root_of_leaves};
-use blake2_tree::{LABEL_BYTES, MESSAGE_LIMIT, hash_leaves, is_range, leaf_count, tree_root};
+use blake2_tree::{
+    LABEL_BYTES, MESSAGE_LIMIT, accepts, hash_leaves, is_range, leaf_count, tree_root,
+};
 
 // Writes the root in `N` bytes. It knows the whole input, and so hashes the last four leaves in
 // parallel too, as a state can't.
@@ -41,6 +44,21 @@ fn write_root<const N: usize>(
     out.copy_from_slice(&root);
 }
 
+// The same for a size that only the call knows.
+fn write_root_by_state(out: &mut [u8], input: &[u8], salt: &[u8], persona: &[u8], leaf_length: u32)
+    requires lengths { AcceptsLengths (length out.old) (length salt.now) (length persona.now)
+        leaf_length }
+    requires input { length input.now < 2 ^ 58 }
+    ensures { out.new ≡ root_of (length out.old) (tree_parameters salt.now persona.now leaf_length)
+        input.now }
+{
+    // Never an error: `new` accepts these lengths.
+    if let Ok(mut run) = TreeState::new(out.len(), salt, persona, leaf_length) {
+        run.update(input);
+        run.write_root(out);
+    }
+}
+
 /// Writes the root of the input in all bytes of `out`, 1 to 64, with leaves of `leaf_length`
 /// bytes, at least 1 (the BLAKE2 document, 2.10). Salt and persona have up to 16 bytes each, and
 /// the input fewer than 2^58. Returns 0, or -1 if one of these is not so; nothing is then
@@ -60,23 +78,18 @@ pub extern "C" fn vulfsjor_ffi_tree_root(
         (tree_parameters salt.now persona.now leaf_length) input.now }
     ensures nothing { result ≡ negsuc 0 → out.new ≡ out.old }
 {
-    match TreeState::new(out.len(), salt, persona, leaf_length) {
-        Ok(mut run) => {
-            if input.len() as u64 >= MESSAGE_LIMIT {
-                return -1;
-            }
-            match out.len() {
-                32 => write_root::<32>(out, input, salt, persona, leaf_length),
-                64 => write_root::<64>(out, input, salt, persona, leaf_length),
-                _ => {
-                    run.update(input);
-                    run.write_root(out);
-                }
-            }
-            0
-        }
-        Err(_) => -1,
+    if input.len() as u64 >= MESSAGE_LIMIT {
+        return -1;
     }
+    if !accepts(out.len(), salt.len(), persona.len(), leaf_length) {
+        return -1;
+    }
+    match out.len() {
+        32 => write_root::<32>(out, input, salt, persona, leaf_length),
+        64 => write_root::<64>(out, input, salt, persona, leaf_length),
+        _ => write_root_by_state(out, input, salt, persona, leaf_length),
+    }
+    0
 }
 
 /// Initializes this state of the tree, whatever it was: a root of 1 to 64 bytes, a salt and a
@@ -187,6 +200,8 @@ pub extern "C" fn vulfsjor_ffi_tree_update_leaves(
     ensures ready { result ≡ pos 0 → IsReady state.new }
     ensures size { state.new.root.output_size ≡ state.old.root.output_size }
     ensures none { result ≡ pos 0 → digests.now ≡ [] → Took state.old input.now state.new }
+    ensures digests { result ≡ pos 0
+        → TookDigests (state_tree state.old) digests.now input.now (state_tree state.new) }
     ensures taken { result ≡ pos 0 → IsAsOpened state.old
         → TookLeaves (state_tree state.old) digests.now input.now (state_tree state.new) }
     ensures opened { IsAsOpened state.old → IsAsOpened state.new }
@@ -355,10 +370,7 @@ pub extern "C" fn vulfsjor_ffi_tree_root_of_leaves(
         (tree_parameters salt.now persona.now leaf_length) digests.now out.new }
     ensures nothing { result ≡ negsuc 0 → out.new ≡ out.old }
 {
-    if out.len() == 0 || out.len() > 64 || leaf_length == 0 {
-        return -1;
-    }
-    if salt.len() > LABEL_BYTES || persona.len() > LABEL_BYTES {
+    if !accepts(out.len(), salt.len(), persona.len(), leaf_length) {
         return -1;
     }
     if digests.len() == 0 || digests.len() % 64 != 0 {
