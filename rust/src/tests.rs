@@ -27,7 +27,11 @@ fn layouts_and_version_are_those_of_the_library() {
         // A plan and its parts are as large as vulfsjor.h says: its test compares.
         #[cfg(feature = "std")]
         assert_eq!(
-            [size_of::<library::Limits>(), size_of::<library::Plan>(), size_of::<library::Part>()],
+            [
+                size_of::<library::Limits>(),
+                size_of::<library::Plan>(),
+                size_of::<library::Part>()
+            ],
             [32, 72, 48]
         );
         let version = library::version();
@@ -178,8 +182,8 @@ fn leaves_by_their_digests_end_before_2_to_the_58() {
 mod threads {
     use super::*;
     use crate::file::MOST_BUFFER_BYTES;
-    use crate::stream::BUFFER_BYTES;
     use crate::library::{Limits, Part, Plan};
+    use crate::stream::BUFFER_BYTES;
     use crate::threads::{LEAST_BYTES, PART_BYTES};
     use std::collections::HashSet;
     use std::sync::Mutex;

@@ -105,7 +105,11 @@ impl Plan {
         hash: impl Fn(&Part, &[u8], &mut [u8]) + Sync,
     ) {
         let hash = |part: &Part, out: &mut [u8], _: &mut Vec<u8>| {
-            hash(part, &input[part.start as usize..][..part.length as usize], out);
+            hash(
+                part,
+                &input[part.start as usize..][..part.length as usize],
+                out,
+            );
             Ok(())
         };
         self.hash(digests, hash, |_| Ok(()))
@@ -190,8 +194,12 @@ impl TreeHasher {
     /// If the input, with all earlier input, has 2^58 bytes or more. The hasher is then unchanged.
     pub fn update_threads(&mut self, input: impl AsRef<[u8]>, threads: usize) -> &mut Self {
         let input = input.as_ref();
-        let plan = Plan::of_update(&self.state, input.len() as u64, &Limits::of(threads, u64::MAX))
-            .expect("an input of 2^58 bytes");
+        let plan = Plan::of_update(
+            &self.state,
+            input.len() as u64,
+            &Limits::of(threads, u64::MAX),
+        )
+        .expect("an input of 2^58 bytes");
         self.update(&input[..plan.start as usize]);
         let mut digests = vec![0; plan.digests_length as usize];
         plan.hash_bytes(input, &mut digests, |part, bytes, out| {
