@@ -1,0 +1,25 @@
+use Rattle.std.proofs.Common.{◌∙◌, ap, false, ◌||◌, length-append, arith, take, ◌++◌, rules}
+use Rattle.std.proofs.KnownBytes.{Consumes-trans}
+use Rattle.blake2_digest.proofs.Texts.{AreBytes-append}
+use Rattle.blake2_state.specs.Blake2b.{meaning}
+use Rattle.b2sum.proofs.Updates.{Updated-trans}
+use Rattle.b2sum.proofs.hashes.digest_blake2b.Goals as goal
+
+pub reading-preserved : goal.reading-preserved
+reading-preserved g c =
+    let before = c.reading.invariant.passed in
+    let read = c.in-Ok-read.ensures in
+    let piece = take c.in-Ok-read.count c.read.new.buf in
+    record {
+      unfailed = read.fails ∙ ap (λ b. b || false) c.reading.invariant.unfailed;
+      room = omega (arith, c.update.ensures.updated.count, read.bound.1, c.reading.invariant.room);
+      buffer = omega (arith, c.read.auto.buf, c.reading.invariant.buffer);
+      ready = c.update.ensures.ready;
+      size = c.update.ensures.size ∙ c.reading.invariant.size;
+      passed = (
+        before.0 ++ piece,
+        AreBytes-append before.0 piece before.1 c.tell_bytes.ensures,
+        Consumes-trans _ _ _ before.0 piece before.2 read.bytes.0,
+        Updated-trans meaning _ _ _ before.0 piece before.3 c.update.ensures.updated,
+      );
+    }

@@ -1,0 +1,172 @@
+//! The files of the system, by names of any bytes.
+
+ghost use Rattle.std.specs.Prelude.{◌≡◌, ◌<◌, ◌∷◌, [], None, false, IfOk};
+
+use b2sum_commands::{Disk, OpenFile, Output};
+use blake2::engine::{DeviceError, Sink, Source};
+use std::alloc::{AllocError, Global};
+use std::fs::{File, Files};
+use std::io::{self, Read, Stdin, Write};
+
+/// The files of a runtime.
+#[derive(Clone, Copy)]
+pub struct System<R> {
+    /// The runtime.
+    pub files: R,
+    /// Its standard input.
+    pub input: Stdin,
+}
+
+/// A file that is open for reading, or standard input.
+#[derive(Drop)]
+pub enum Reader<F> {
+    /// A file.
+    File(F),
+    /// Standard input.
+    Input(Stdin),
+}
+
+/// An open file, and the error of the read that failed, if one has.
+#[derive(Drop)]
+pub struct Opened<F> {
+    reader: Reader<F>,
+    error: Option<io::Error>,
+}
+
+impl<F: Read> Source for Opened<F> {
+    ghost use Rattle.std.specs.Prelude.{None, is_some};
+
+    ghost left = { λ _. None };
+
+    ghost failed = { λ s. is_some s.error };
+
+    fn read(&mut self, buf: &mut [u8]) -> Result<usize, DeviceError> {
+        let result = match &mut self.reader {
+            Reader::File(file) => file.read(buf),
+            Reader::Input(input) => input.read(buf),
+        };
+        match result {
+            Ok(count) => Ok(count),
+            Err(error) => {
+                self.error = Some(error);
+                Err(DeviceError)
+            }
+        }
+    }
+
+    fn failed(&self) -> bool {
+        self.error.is_some()
+    }
+}
+
+impl<F: Read> OpenFile for Opened<F> {
+    fn reason(&self) -> io::Error {
+        match self.error {
+            Some(error) => error,
+            None => io::Error::from(io::ErrorKind::Other),
+        }
+    }
+}
+
+impl<R: Files> Disk for System<R> {
+    ghost holds = { λ _ _. None };
+
+    ghost input_holds = { λ _. None };
+
+    type File = Opened<R::File>;
+
+    fn open(&self, alloc: Global, name: &[u8]) -> io::Result<Opened<R::File>> {
+        let name = text_of(alloc, name)?;
+        let file = File::open(&self.files, name.as_str())?;
+        Ok(Opened {
+            reader: Reader::File(file),
+            error: None,
+        })
+    }
+
+    fn input(&self) -> Opened<R::File> {
+        Opened {
+            reader: Reader::Input(self.input),
+            error: None,
+        }
+    }
+}
+
+// Returns the text that a name is opened by. `open` of `c/b2sum.c` reads it: a name that is UTF-8
+// stands as it is, and in another each byte from 0x80 on is the character U+10FF00 more. A name
+// with the first byte of such characters is one of the others too.
+fn text_of(alloc: Global, name: &[u8]) -> Result<String, AllocError> {
+    let mut text = String::new(alloc);
+    if !name.contains(&0xF4)
+        && let Ok(plain) = std::str::from_utf8(name)
+    {
+        text.push_str(plain)?;
+        return Ok(text);
+    }
+    for byte in name {
+        text.push(character_of(*byte))?;
+    }
+    Ok(text)
+}
+
+// Returns the character of a byte: the byte itself if it is ASCII.
+fn character_of(byte: u8) -> char {
+    if byte < 0x80 {
+        return byte as char;
+    }
+    match char::from_u32(0x10_FF00 + u32::from(byte)) {
+        Some(character) => character,
+        None => char::REPLACEMENT_CHARACTER,
+    }
+}
+
+/// A writer, and the error of the write that failed, if one has.
+#[derive(Drop)]
+pub struct Writer<W> {
+    inner: W,
+    error: Option<io::Error>,
+}
+
+impl<W: Write> Writer<W> {
+    /// Returns a sink into the writer, which has not failed.
+    pub fn new(inner: W) -> Writer<W> {
+        Writer { inner, error: None }
+    }
+}
+
+impl<W: Write> Sink for Writer<W> {
+    ghost use Rattle.std.specs.Prelude.{is_some};
+
+    ghost held = { λ s. W.contents s.inner };
+
+    ghost failed = { λ s. is_some s.error };
+
+    fn write(&mut self, buf: &[u8]) -> Result<usize, DeviceError> {
+        match self.inner.write(buf) {
+            Ok(0) => {
+                if !buf.is_empty() {
+                    self.error = Some(io::Error::from(io::ErrorKind::WriteZero));
+                }
+                Ok(0)
+            }
+            Ok(count) => Ok(count),
+            Err(error) => {
+                self.error = Some(error);
+                Err(DeviceError)
+            }
+        }
+    }
+
+    fn failed(&self) -> bool {
+        self.error.is_some()
+    }
+}
+
+impl<W: Write> Output for Writer<W> {
+    fn reason(&self) -> io::Error {
+        match self.error {
+            Some(error) => error,
+            None => io::Error::from(io::ErrorKind::Other),
+        }
+    }
+}

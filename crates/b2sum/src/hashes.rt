@@ -1,0 +1,192 @@
+//! BLAKE2 as the hash functions of the commands.
+
+ghost use Rattle.std.specs.Prelude.{◌≡◌, ◌↔◌, ℕ, ◌+◌, ◌<◌, ◌≤◌, ◌^◌, List, length, take, IsTrue, OnOk};
+ghost use Rattle.std.specs.Prelude.{false};
+ghost use Rattle.std.specs.Result.{IsErrOf};
+ghost use Rattle.blake2_replay.specs.Streams.{GivesAll};
+ghost use Rattle.blake2_simd.specs.Family.{blake2b, blake2s};
+ghost use Rattle.blake2_compress.specs.Hash.{sequential};
+ghost use Rattle.blake2_state.specs.Arguments.{digest_given};
+ghost use Rattle.blake2_state.specs.TreeStates.{IsReady as IsReadyTree, IsAsOpened, Took, count};
+ghost use Rattle.blake2_tree.specs.TreeRoot.{tree_parameters, tree_root};
+ghost use Rattle.b2sum.specs.Digests.{digest_with};
+
+use b2sum_commands::{Hashes, Options};
+use b2sum_lines::Algorithm;
+use blake2::engine::{Source, StreamFault};
+use blake2_digest::tell_bytes;
+use blake2_state::tree::TreeState;
+use blake2_state::{StateParameters, blake2b, blake2s};
+use blake2_tree::MESSAGE_LIMIT;
+
+/// BLAKE2b, BLAKE2s, and trees over BLAKE2b.
+#[derive(Clone, Copy)]
+pub struct Blake2;
+
+// The number of bytes that one read requests.
+const PIECE_BYTES: usize = 1 << 16;
+
+// The number of bytes that one read for a tree requests: many leaves, which `c/b2sum.c` hashes by
+// threads.
+const TREE_PIECE_BYTES: usize = 1 << 24;
+
+impl Hashes for Blake2 {
+    ghost use Rattle.b2sum.specs.Digests.{digest_with};
+
+    ghost digest = { digest_with };
+
+    fn digest_source<S: Source>(
+        &self,
+        options: &Options,
+        bytes: usize,
+        source: &mut S,
+        buffer: &mut [u8],
+        out: &mut [u8; 64],
+    ) -> Result<(), StreamFault> {
+        let given = StateParameters {
+            output_size: bytes,
+            key: options.key.as_slice(),
+            salt: options.salt.as_slice(),
+            persona: options.persona.as_slice(),
+        };
+        match options.algorithm {
+            Algorithm::Blake2b => digest_blake2b(&given, source, buffer, out),
+            Algorithm::Blake2s => digest_blake2s(&given, source, buffer, out),
+            Algorithm::Tree(leaf) => digest_tree(leaf, &given, source, buffer, out),
+        }
+    }
+
+    fn piece_bytes(&self, options: &Options) -> usize {
+        match options.algorithm {
+            Algorithm::Tree(_) => TREE_PIECE_BYTES,
+            _ => PIECE_BYTES,
+        }
+    }
+}
+
+// Absorbs a piece. It is a separate function in the text, so that `c/b2sum.c` can hash the leaves
+// of a piece by threads.
+#[inline(never)]
+fn update_tree(state: &mut TreeState, piece: &[u8])
+    requires ready { IsReadyTree state.old }
+    requires counted { count state.old + length piece.now < 2 ^ 58 }
+    ensures ready { IsReadyTree state.new }
+    ensures size { state.new.root.output_size ≡ state.old.root.output_size }
+    ensures taken { Took state.old piece.now state.new }
+    ensures opened { IsAsOpened state.old → IsAsOpened state.new }
+{
+    state.update(piece);
+}
+
+fn digest_blake2b<S: Source>(
+    given: &StateParameters<'_>,
+    source: &mut S,
+    buffer: &mut [u8],
+    out: &mut [u8; 64],
+) -> Result<(), StreamFault>
+    requires source { S.failed source.old ≡ false }
+    requires room { 0 < length buffer.old }
+    ensures read { IsErrOf result StreamFault.Read ↔ IsTrue (S.failed source.new) }
+    ensures whole { OnOk result ((text : List ℕ)
+        × GivesAll (S.left source.old) (S.left source.new) text
+        × (take given.now.output_size out.new
+        ≡ digest_given blake2b given.now sequential false text)) }
+{
+    let Ok(mut state) = blake2b::State::init_salt_personal(given) else {
+        return Err(StreamFault::TooLong);
+    };
+    let mut room = u64::MAX - state.counted();
+    'reading: loop {
+        let Ok(count) = source.read(buffer) else {
+            return Err(StreamFault::Read);
+        };
+        if count == 0 {
+            break;
+        }
+        let piece = &buffer[..count];
+        tell_bytes(piece);
+        if count as u64 > room {
+            return Err(StreamFault::TooLong);
+        }
+        state.update(piece);
+        room -= count as u64;
+    }
+    state.write_digest(&mut out[..]);
+    Ok(())
+}
+
+fn digest_blake2s<S: Source>(
+    given: &StateParameters<'_>,
+    source: &mut S,
+    buffer: &mut [u8],
+    out: &mut [u8; 64],
+) -> Result<(), StreamFault>
+    requires source { S.failed source.old ≡ false }
+    requires room { 0 < length buffer.old }
+    ensures read { IsErrOf result StreamFault.Read ↔ IsTrue (S.failed source.new) }
+    ensures whole { OnOk result ((text : List ℕ)
+        × GivesAll (S.left source.old) (S.left source.new) text
+        × (take given.now.output_size out.new
+        ≡ digest_given blake2s given.now sequential false text)) }
+{
+    let Ok(mut state) = blake2s::State::init_salt_personal(given) else {
+        return Err(StreamFault::TooLong);
+    };
+    let mut room = u64::MAX - state.counted();
+    'reading: loop {
+        let Ok(count) = source.read(buffer) else {
+            return Err(StreamFault::Read);
+        };
+        if count == 0 {
+            break;
+        }
+        let piece = &buffer[..count];
+        tell_bytes(piece);
+        if count as u64 > room {
+            return Err(StreamFault::TooLong);
+        }
+        state.update(piece);
+        room -= count as u64;
+    }
+    state.write_digest(&mut out[..]);
+    Ok(())
+}
+
+fn digest_tree<S: Source>(
+    leaf: u32,
+    given: &StateParameters<'_>,
+    source: &mut S,
+    buffer: &mut [u8],
+    out: &mut [u8; 64],
+) -> Result<(), StreamFault>
+    requires source { S.failed source.old ≡ false }
+    requires room { 0 < length buffer.old }
+    requires most { length buffer.old ≤ 2 ^ 24 }
+    ensures read { IsErrOf result StreamFault.Read ↔ IsTrue (S.failed source.new) }
+    ensures whole { OnOk result ((text : List ℕ)
+        × GivesAll (S.left source.old) (S.left source.new) text
+        × (take given.now.output_size out.new ≡ tree_root given.now.output_size
+        (tree_parameters given.now.salt.now given.now.persona.now leaf) text)) }
+{
+    let Ok(mut state) = TreeState::new(given.output_size, given.salt, given.persona, leaf) else {
+        return Err(StreamFault::TooLong);
+    };
+    let mut room = MESSAGE_LIMIT - 1;
+    'reading: loop {
+        let Ok(count) = source.read(buffer) else {
+            return Err(StreamFault::Read);
+        };
+        if count == 0 {
+            break;
+        }
+        let piece = &buffer[..count];
+        tell_bytes(piece);
+        if count as u64 > room {
+            return Err(StreamFault::TooLong);
+        }
+        update_tree(&mut state, piece);
+        room -= count as u64;
+    }
+    state.write_root(&mut out[..]);
+    Ok(())
+}

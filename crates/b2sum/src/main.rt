@@ -1,0 +1,74 @@
+//! `b2sum`: digests of files by BLAKE2b and BLAKE2s, and the check of manifests.
+
+#![tactic(auto)]
+
+mod disk;
+mod hashes;
+
+use b2sum_commands::run;
+use blake2::engine::{Sink, write_whole};
+use disk::{System, Writer};
+use hashes::Blake2;
+use std::alloc::{AllocError, Global};
+use std::env::FillError;
+use std::process::ExitCode;
+use std::rt::Env;
+
+// The number of bytes that are tried first for an argument.
+const USUAL_ARGUMENT: usize = 256;
+
+fn main(rt: HostRuntime) -> ExitCode {
+    let disk = System {
+        files: &rt,
+        input: rt.stdin(),
+    };
+    let mut output = Writer::new(rt.stdout());
+    let mut messages = Writer::new(rt.stderr());
+    let status = match arguments(&rt, rt.alloc()) {
+        Ok(words) => run(
+            rt.alloc(),
+            &Blake2,
+            &disk,
+            words.as_slice(),
+            &mut output,
+            &mut messages,
+        ),
+        Err(_) => {
+            if !messages.failed() {
+                let _ = write_whole(&mut messages, b"b2sum: memory exhausted\n");
+            }
+            1
+        }
+    };
+    ExitCode::from(status)
+}
+
+// Returns the arguments without the program's name, as bytes.
+fn arguments(env: &impl Env, alloc: Global) -> Result<Vec<Vec<u8>>, AllocError> {
+    let mut words = Vec::new(alloc);
+    for i in 1..usize::MAX {
+        let Some(word) = argument(env, alloc, i)? else {
+            break;
+        };
+        words.push(word).map_err(|_| AllocError)?;
+    }
+    Ok(words)
+}
+
+// Returns this argument, or `None` if there are not so many.
+fn argument(env: &impl Env, alloc: Global, i: usize) -> Result<Option<Vec<u8>>, AllocError> {
+    let mut size = USUAL_ARGUMENT;
+    for _ in 0..usize::BITS {
+        let mut buffer = vec![in alloc; 0u8; size]?;
+        match env.arg(i, buffer.as_mut_slice()) {
+            Ok(length) => {
+                let mut word = Vec::new(alloc);
+                word.extend_from_slice(&buffer.as_slice()[..length])?;
+                return Ok(Some(word));
+            }
+            Err(FillError::NotPresent) => return Ok(None),
+            Err(FillError::TooLong) => size = size.saturating_mul(2),
+        }
+    }
+    Err(AllocError)
+}

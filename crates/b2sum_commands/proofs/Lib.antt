@@ -1,0 +1,4 @@
+pub mod CutLemmas
+pub mod Joining
+pub mod Progress
+pub mod Steps

@@ -1,0 +1,88 @@
+-- What the check of a manifest returns and prints.
+use Rattle.std.specs.Prelude.{◌≡◌, ◌⊎◌, ◌&&◌, ◌||◌, ℕ, Bool, true, false, List, [], ◌∷◌, ⊤, Option, Some, None}
+use Rattle.std.specs.Io.KnownBytes.{Appends, Consumes, IsAtEnd}
+use Rattle.std.specs.List.{list_any, list_all}
+use Rattle.b2sum_lines.specs.Entries.{entry_value}
+use Rattle.b2sum_lines.specs.Lines.{Line}
+use Rattle.b2sum_lines.specs.declared.entry.Algorithm.{Algorithm}
+use Rattle.b2sum_lines.specs.declared.entry.Entry.{Entry}
+use Rattle.b2sum_lines.specs.declared.entry.Spacing.{Spacing}
+use Rattle.b2sum_commands.specs.declared.check.Counts.{Counts}
+use Rattle.b2sum_commands.specs.declared.check.Item.{Item}
+use Rattle.b2sum_commands.specs.declared.check.Item.TheVariants.{Comment, Listed, Malformed}
+use Rattle.b2sum_commands.specs.declared.check.Verdict.{Verdict}
+use Rattle.b2sum_commands.specs.declared.options.Options.{Options}
+use Rattle.b2sum_commands.specs.Sums.{is_dash}
+use Rattle.b2sum_commands.specs.Manifests.{lines_of, item, items, next_spacing, AreVerdicts}
+use Rattle.b2sum_commands.specs.Manifests.{is_equal, is_fine, is_formed, holds_by, verdict_lines}
+use Rattle.b2sum_commands.specs.Manifests.{IsVerdict, verdict_line}
+
+-- What a line is, as `item` has it.
+abbrev pub item_value : Item → Option (Option Line)
+item_value Comment = None
+item_value (Listed e) = Some (Some (entry_value e))
+item_value Malformed = Some None
+
+abbrev pub IfListed : Item → (Entry → Type 0) → Type 0
+IfListed Comment holds = ⊤
+IfListed (Listed e) holds = holds e
+IfListed Malformed holds = ⊤
+
+-- The spacing after these lines.
+abbrev pub final_spacing : Algorithm → Bool → Spacing → List (List ℕ) → Spacing
+final_spacing a input s [] = s
+final_spacing a input s (line ∷ lines) =
+    final_spacing a input (next_spacing s (item a input s line)) lines
+
+-- The counts are those of verdicts.
+pub record AreCounted (vs : List Verdict) (counts : Counts) : Type 0 where
+  pub equal : counts.any_equal ≡ list_any is_equal vs
+  pub fine : counts.all_fine ≡ list_all is_fine vs
+  pub formed : counts.all_formed ≡ list_all is_formed vs
+
+-- The counts with one more verdict.
+pub record Adds (v : Verdict) (old new : Counts) : Type 0 where
+  pub equal : new.any_equal ≡ (old.any_equal || is_equal v)
+  pub fine : new.all_fine ≡ (old.all_fine && is_fine v)
+  pub formed : new.all_formed ≡ (old.all_formed && is_formed v)
+
+-- What a line is, is done: nothing for a comment, and else it has a verdict, whose line is printed.
+abbrev pub IsDone : (List ℕ → Option (List ℕ)) → (ℕ → List ℕ → List ℕ) → Options
+    → Option (Option Line) → Spacing → Spacing → Option (List ℕ) → Option (List ℕ)
+    → Option (List ℕ) → Option (List ℕ) → Counts → Counts → Type 0
+IsDone holds hash o None s spaced left after old new counts counted =
+    (spaced ≡ s) × (after ≡ left) × Appends old new [] × (counted ≡ counts)
+IsDone holds hash o (Some i) s spaced left after old new counts counted =
+    (spaced ≡ next_spacing s (Some i)) × (v : Verdict)
+    × IsVerdict holds hash o.ignores_missing left i v after
+    × Appends old new (verdict_line o.report i v) × Adds v counts counted
+
+-- The text of a manifest is all that standard input or a file returned.
+abbrev pub IsText : Bool → Option (List ℕ) → Option (List ℕ) → Option (List ℕ) → List ℕ → Type 0
+IsText true held left after text = Consumes left after text × IsAtEnd after
+IsText false held left after text =
+    (after ≡ left) × (end : Option (List ℕ)) × Consumes held end text × IsAtEnd end
+
+-- A manifest that was read is checked by the options, with this result: whether it holds. The
+-- verdicts are those of all its entries and malformed lines in order, and their lines are printed,
+-- and nothing else.
+pub record IsJudged (holds : List ℕ → Option (List ℕ)) (hash : Options → ℕ → List ℕ → List ℕ)
+    (o : Options) (name : List ℕ) (spacing spaced : Spacing)
+    (left after old new : Option (List ℕ)) (result : Bool) : Type 0 where
+  pub text : List ℕ
+  pub mid : Option (List ℕ)
+  pub verdicts : List Verdict
+  pub is_text : IsText (is_dash name) (holds name) left mid text
+  pub are_verdicts : AreVerdicts holds (hash o) o.ignores_missing mid
+      (items o.algorithm (is_dash name) spacing (lines_of text)) verdicts after
+  pub lines : Appends old new (verdict_lines o.report
+      (items o.algorithm (is_dash name) spacing (lines_of text)) verdicts)
+  pub is_result : result ≡ holds_by o.is_strict verdicts
+  pub is_spaced : spaced ≡ final_spacing o.algorithm (is_dash name) spacing (lines_of text)
+
+-- The manifest of this name is checked, or it was not read to its end, and does not hold.
+abbrev pub IsChecked : (List ℕ → Option (List ℕ)) → (Options → ℕ → List ℕ → List ℕ) → Options
+    → List ℕ → Spacing → Spacing → Option (List ℕ) → Option (List ℕ) → Option (List ℕ)
+    → Option (List ℕ) → Bool → Type 0
+IsChecked holds hash o name spacing spaced left after old new result =
+    (result ≡ false) ⊎ IsJudged holds hash o name spacing spaced left after old new result

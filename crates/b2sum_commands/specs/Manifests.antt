@@ -1,0 +1,190 @@
+-- The check of a manifest: its lines, what becomes of each, and when it holds.
+use Rattle.std.specs.Prelude.{◌≡◌, ◌≢◌, ℕ, ◌+◌, ◌-◌, ◌==◌, ◌&&◌, ◌||◌, Bool, true, false, not, nat_lt}
+use Rattle.std.specs.Prelude.{if◌then◌else◌, List, [], ◌∷◌, ◌++◌, length, take, get_or, codes}
+use Rattle.std.specs.Prelude.{Option, Some, None, is_some, position}
+use Rattle.std.specs.List.{list_any, list_all, slice_split, before_first, after_first}
+use Rattle.std.specs.Option.{option_map}
+use Rattle.b2sum_lines.specs.Lines.{Line, escaped, line_entry}
+use Rattle.b2sum_lines.specs.declared.entry.Algorithm.{Algorithm}
+use Rattle.b2sum_lines.specs.declared.entry.Spacing.{Spacing}
+use Rattle.b2sum_lines.specs.declared.entry.Spacing.TheVariants.{Two, One}
+use Rattle.b2sum_lines.specs.declared.entry.Style.{Style}
+use Rattle.b2sum_lines.specs.declared.entry.Style.TheVariants.{Tagged, Text, Binary, Bare}
+use Rattle.b2sum_commands.specs.declared.check.Verdict.{Verdict}
+use Rattle.b2sum_commands.specs.declared.check.Verdict.TheVariants.{Equal, Different, Unread}
+use Rattle.b2sum_commands.specs.declared.check.Verdict.TheVariants.{Skipped, Malformed}
+use Rattle.b2sum_commands.specs.declared.options.Options.{Options}
+use Rattle.b2sum_commands.specs.declared.options.Report.{Report}
+use Rattle.b2sum_commands.specs.declared.options.Report.TheVariants.{Each, Warnings, Failures}
+use Rattle.b2sum_commands.specs.declared.options.Report.TheVariants.{Nothing}
+use Rattle.b2sum_commands.specs.Sums.{is_dash, ReadsAs, Leaves}
+
+-- ---- lines
+
+-- The line in the part after the last newline. An empty part is not a line.
+abbrev pub last_line : List ℕ → List (List ℕ)
+last_line [] = []
+last_line (b ∷ part) = (b ∷ part) ∷ []
+
+-- The lines in the parts between newlines.
+abbrev pub lines_of_parts : List (List ℕ) → List (List ℕ)
+lines_of_parts [] = []
+lines_of_parts (part ∷ []) = last_line part
+lines_of_parts (part ∷ next ∷ parts) = part ∷ lines_of_parts (next ∷ parts)
+
+-- The lines of a text, without their newlines, which the last line may lack.
+abbrev pub lines_of : List ℕ → List (List ℕ)
+lines_of text = lines_of_parts (slice_split (λ b. b == 10) text)
+
+-- The bytes before the first byte equal to `byte` and those after it, if there is such a byte.
+abbrev pub cut_at : ℕ → List ℕ → Option (List ℕ × List ℕ)
+cut_at byte text =
+    if is_some (position (λ b. b == byte) text)
+    then Some (before_first (λ b. b == byte) text, after_first (λ b. b == byte) text)
+    else None
+
+-- A line without a carriage return at its end.
+abbrev pub without_return : List ℕ → List ℕ
+without_return line =
+    if get_or line (length line - 1) 0 == 13 then take (length line - 1) line else line
+
+-- A line that is not empty.
+abbrev pub not_empty : List ℕ → Option (List ℕ)
+not_empty [] = None
+not_empty (b ∷ line) = Some (b ∷ line)
+
+-- What is read of a line: nothing of a comment and of an empty line.
+abbrev pub trimmed : List ℕ → Option (List ℕ)
+trimmed [] = None
+trimmed (b ∷ line) = if b == 35 then None else not_empty (without_return (b ∷ line))
+
+-- An entry that can be checked. A manifest on standard input has none for standard input.
+abbrev pub checkable : Bool → Option Line → Option Line
+checkable input None = None
+checkable input (Some e) = if input && is_dash e.name then None else Some e
+
+-- What a line is: none for a comment, and else its entry, which is none if it is malformed.
+abbrev pub item : Algorithm → Bool → Spacing → List ℕ → Option (Option Line)
+item a input s line = option_map (λ body. checkable input (line_entry a s body)) (trimmed line)
+
+-- The spacing after an entry of this style.
+abbrev pub spacing_after : Spacing → Style → Spacing
+spacing_after s Tagged = s
+spacing_after s Text = Two
+spacing_after s Binary = Two
+spacing_after s Bare = One
+
+-- The spacing after a line.
+abbrev pub next_spacing : Spacing → Option (Option Line) → Spacing
+next_spacing s None = s
+next_spacing s (Some None) = s
+next_spacing s (Some (Some e)) = spacing_after s e.style
+
+abbrev pub onto_items : Option (Option Line) → List (Option Line) → List (Option Line)
+onto_items None items = items
+onto_items (Some i) items = i ∷ items
+
+-- The entries of lines in order, none for each malformed line. Comments are left out.
+abbrev pub items : Algorithm → Bool → Spacing → List (List ℕ) → List (Option Line)
+items a input s [] = []
+items a input s (line ∷ lines) =
+    onto_items (item a input s line) (items a input (next_spacing s (item a input s line)) lines)
+
+-- ---- verdicts
+
+-- The verdict on an entry, or on a malformed line, is right: the digest of the text that the source
+-- returned is that of the entry, or it is not.
+abbrev pub IsVerdict : (List ℕ → Option (List ℕ)) → (ℕ → List ℕ → List ℕ) → Bool
+    → Option (List ℕ) → Option Line → Verdict → Option (List ℕ) → Type 0
+IsVerdict holds hash ignores left None Malformed after = after ≡ left
+IsVerdict holds hash ignores left None Equal after = ⊥
+IsVerdict holds hash ignores left None Different after = ⊥
+IsVerdict holds hash ignores left None Unread after = ⊥
+IsVerdict holds hash ignores left None Skipped after = ⊥
+IsVerdict holds hash ignores left (Some e) Equal after =
+    (text : List ℕ) × ReadsAs (is_dash e.name) (holds e.name) left after text
+    × (hash (length e.digest) text ≡ e.digest)
+IsVerdict holds hash ignores left (Some e) Different after =
+    (text : List ℕ) × ReadsAs (is_dash e.name) (holds e.name) left after text
+    × (hash (length e.digest) text ≢ e.digest)
+IsVerdict holds hash ignores left (Some e) Unread after = Leaves (is_dash e.name) left after
+IsVerdict holds hash ignores left (Some e) Skipped after =
+    (ignores ≡ true) × Leaves (is_dash e.name) left after
+IsVerdict holds hash ignores left (Some e) Malformed after = ⊥
+
+-- The verdicts on entries and malformed lines, one after the other: none is left out.
+abbrev pub AreVerdicts : (List ℕ → Option (List ℕ)) → (ℕ → List ℕ → List ℕ) → Bool
+    → Option (List ℕ) → List (Option Line) → List Verdict → Option (List ℕ) → Type 0
+AreVerdicts holds hash ignores left [] [] after = after ≡ left
+AreVerdicts holds hash ignores left [] (v ∷ vs) after = ⊥
+AreVerdicts holds hash ignores left (i ∷ is) [] after = ⊥
+AreVerdicts holds hash ignores left (i ∷ is) (v ∷ vs) after =
+    (mid : Option (List ℕ)) × IsVerdict holds hash ignores left i v mid
+    × AreVerdicts holds hash ignores mid is vs after
+
+-- ---- when a manifest holds
+
+abbrev pub is_equal : Verdict → Bool
+is_equal Equal = true
+is_equal Different = false
+is_equal Unread = false
+is_equal Skipped = false
+is_equal Malformed = false
+
+-- The verdict does not fail a check that is not strict.
+abbrev pub is_fine : Verdict → Bool
+is_fine Equal = true
+is_fine Different = false
+is_fine Unread = false
+is_fine Skipped = true
+is_fine Malformed = true
+
+-- The line is that of an entry.
+abbrev pub is_formed : Verdict → Bool
+is_formed Equal = true
+is_formed Different = true
+is_formed Unread = true
+is_formed Skipped = true
+is_formed Malformed = false
+
+-- A manifest holds: a file has its digest, none has another or cannot be read, and if the check is
+-- strict, no line is malformed.
+abbrev pub holds_by : Bool → List Verdict → Bool
+holds_by strict vs =
+    list_any is_equal vs && (list_all is_fine vs && (not strict || list_all is_formed vs))
+
+-- ---- what is printed
+
+-- What is printed after a name: nothing if there is no line.
+abbrev pub outcome : Report → Verdict → List ℕ
+outcome Nothing v = []
+outcome Each Equal = codes ": OK\n"
+outcome Warnings Equal = codes ": OK\n"
+outcome Failures Equal = []
+outcome Each Different = codes ": FAILED\n"
+outcome Warnings Different = codes ": FAILED\n"
+outcome Failures Different = codes ": FAILED\n"
+outcome Each Unread = codes ": FAILED open or read\n"
+outcome Warnings Unread = codes ": FAILED open or read\n"
+outcome Failures Unread = codes ": FAILED open or read\n"
+outcome r Skipped = []
+outcome r Malformed = []
+
+-- A name as it is printed, escaped if it has a newline.
+abbrev pub shown_name : List ℕ → List ℕ
+shown_name name = if list_any (λ b. b == 10) name then 92 ∷ escaped name else name
+
+abbrev pub with_name : List ℕ → List ℕ → List ℕ
+with_name name [] = []
+with_name name (b ∷ text) = shown_name name ++ (b ∷ text)
+
+-- The line of an entry with this verdict. A malformed line has none.
+abbrev pub verdict_line : Report → Option Line → Verdict → List ℕ
+verdict_line r None v = []
+verdict_line r (Some e) v = with_name e.name (outcome r v)
+
+-- The lines of entries and verdicts in order.
+abbrev pub verdict_lines : Report → List (Option Line) → List Verdict → List ℕ
+verdict_lines r [] vs = []
+verdict_lines r (i ∷ is) [] = []
+verdict_lines r (i ∷ is) (v ∷ vs) = verdict_line r i v ++ verdict_lines r is vs

@@ -1,0 +1,573 @@
+//! The check of manifests.
+
+ghost use Rattle.std.specs.Prelude.{◌≡◌, ◌≢◌, ◌⊎◌, ℕ, ◌<◌, ◌≤◌, ◌^◌, ◌&&◌, ◌||◌, ◌∷◌, List, Option, Some, None};
+ghost use Rattle.std.specs.Prelude.{◌++◌, length, not, true, false, IfOk, IfSome, OnOk};
+ghost use Rattle.std.specs.Io.KnownBytes.{Appends, Consumes, IsAtEnd};
+ghost use Rattle.std.specs.List.{list_any, list_all};
+ghost use Rattle.std.specs.Option.{option_map};
+ghost use Rattle.b2sum_lines.specs.Entries.{entry_value};
+ghost use Rattle.b2sum_commands.specs.Sums.{is_dash};
+ghost use Rattle.b2sum_commands.specs.Manifests.{lines_of, cut_at, trimmed, item, items, spacing_after};
+ghost use Rattle.b2sum_commands.specs.Manifests.{IsVerdict, AreVerdicts, is_equal, is_fine};
+ghost use Rattle.b2sum_commands.specs.Manifests.{is_formed, holds_by, outcome, with_name};
+ghost use Rattle.b2sum_commands.specs.Manifests.{verdict_line, verdict_lines, shown_name};
+ghost use Rattle.b2sum_commands.specs.Checks.{item_value, IfListed, final_spacing, AreCounted};
+ghost use Rattle.b2sum_commands.specs.Checks.{IsChecked, IsDone, IsText};
+ghost use Rattle.b2sum_commands.specs.declared.check.Verdict.TheVariants.{Equal, Different};
+ghost use Rattle.b2sum_commands.specs.declared.check.Verdict.TheVariants.{Skipped, Malformed};
+ghost use Rattle.b2sum_commands.specs.declared.sums.Read.TheVariants.{Whole, Missing};
+
+use crate::devices::{Disk, Fault, OpenFile, Output, put};
+use crate::hashes::Hashes;
+use crate::options::{Options, Report};
+use crate::quoting::quoted_name;
+use crate::sums::{Read, digest_file, is_dash};
+use crate::texts::{push_decimal, warn, warn_of_count, warn_of_file};
+use b2sum_lines::{Entry, Spacing, Style, push_escaped, read_line};
+use blake2_replay::engine::{Sink, Source};
+use blake2_digest::is_same;
+use std::alloc::Global;
+
+/// What the check of a line came to.
+#[derive(Clone, Copy, Debug, PartialEq, Eq)]
+pub enum Verdict {
+    /// The file has the digest.
+    Equal,
+    /// The file has another digest.
+    Different,
+    /// The file cannot be read.
+    Unread,
+    /// The file does not exist, which is to be ignored.
+    Skipped,
+    /// The line is not that of an entry.
+    Malformed,
+}
+
+/// What the lines of a manifest came to.
+#[derive(Clone, Copy, Debug, PartialEq, Eq)]
+pub struct Counts {
+    /// Lines of files that have the digest.
+    pub equal: u64,
+    /// Lines of files that have another digest.
+    pub different: u64,
+    /// Lines of files that cannot be read.
+    pub unread: u64,
+    /// Lines of files that do not exist, which is ignored.
+    pub skipped: u64,
+    /// Lines that are not those of an entry.
+    pub malformed: u64,
+    /// A file has its digest.
+    pub any_equal: bool,
+    /// No file has another digest, and none cannot be read.
+    pub all_fine: bool,
+    /// All lines are those of an entry.
+    pub all_formed: bool,
+}
+
+impl Counts {
+    fn none() -> Counts
+        ensures equal { result.any_equal ≡ false }
+        ensures fine { result.all_fine ≡ true }
+        ensures formed { result.all_formed ≡ true }
+    {
+        Counts {
+            equal: 0,
+            different: 0,
+            unread: 0,
+            skipped: 0,
+            malformed: 0,
+            any_equal: false,
+            all_fine: true,
+            all_formed: true,
+        }
+    }
+
+    // Adds a line with this verdict.
+    fn add(&mut self, verdict: Verdict)
+        ensures equal { self.new.any_equal ≡ (self.old.any_equal || is_equal verdict) }
+        ensures fine { self.new.all_fine ≡ (self.old.all_fine && is_fine verdict) }
+        ensures formed { self.new.all_formed ≡ (self.old.all_formed && is_formed verdict) }
+    {
+        match verdict {
+            Verdict::Equal => {
+                self.equal = self.equal.saturating_add(1);
+                self.any_equal = true;
+            }
+            Verdict::Different => {
+                self.different = self.different.saturating_add(1);
+                self.all_fine = false;
+            }
+            Verdict::Unread => {
+                self.unread = self.unread.saturating_add(1);
+                self.all_fine = false;
+            }
+            Verdict::Skipped => self.skipped = self.skipped.saturating_add(1),
+            Verdict::Malformed => {
+                self.malformed = self.malformed.saturating_add(1);
+                self.all_formed = false;
+            }
+        }
+    }
+
+    // Returns whether no line is that of an entry.
+    fn has_no_entry(&self) -> bool {
+        self.equal == 0 && self.different == 0 && self.unread == 0 && self.skipped == 0
+    }
+
+    // Returns whether a file has its digest, and no line fails the check.
+    fn holds(&self, is_strict: bool) -> bool
+        ensures { result ≡ (self.now.any_equal
+            && (self.now.all_fine && (not is_strict || self.now.all_formed))) }
+    {
+        self.any_equal && self.all_fine && (!is_strict || self.all_formed)
+    }
+}
+
+/// Checks the manifest of this name, or standard input for `-`. Returns whether it has an entry
+/// that is equal and none that differs or cannot be read.
+pub fn check_manifest<H: Hashes, D: Disk, K: Output, E: Sink>(
+    alloc: Global,
+    hashes: &H,
+    disk: &D,
+    options: &Options,
+    spacing: &mut Spacing,
+    name: &[u8],
+    input: &mut D::File,
+    buffer: &mut [u8],
+    output: &mut K,
+    messages: &mut E,
+) -> Result<bool, Fault>
+    requires room { 0 < length buffer.old }
+    requires most { length buffer.old ≤ 2 ^ 24 }
+    ensures checked { IfOk result (λ holds. IsChecked (D.holds disk.now) H.digest options.now
+        name.now spacing.old spacing.new (D.File.left input.old) (D.File.left input.new)
+        (K.held output.old) (K.held output.new) holds) }
+{
+    let Some(manifest) = read_manifest(alloc, disk, name, input, buffer, messages)? else {
+        return Ok(false);
+    };
+    let title = quoted_name(alloc, title_of(name))?;
+    let counts = check_lines(
+        alloc,
+        hashes,
+        disk,
+        options,
+        spacing,
+        is_dash(name),
+        title.as_slice(),
+        manifest.text.as_slice(),
+        input,
+        buffer,
+        output,
+        messages,
+    )?;
+    if !manifest.is_whole {
+        warn(alloc, messages, title.as_slice(), b": ", b"read error")?;
+        return Ok(false);
+    }
+    report(alloc, options, title.as_slice(), &counts, messages)?;
+    Ok(counts.holds(options.is_strict))
+}
+
+// The text of a manifest, and whether it was read to its end.
+#[derive(Drop)]
+struct Manifest {
+    text: Vec<u8>,
+    is_whole: bool,
+}
+
+// Returns the manifest of this name, or `None` if it cannot be opened, after a message.
+fn read_manifest<D: Disk, E: Sink>(
+    alloc: Global,
+    disk: &D,
+    name: &[u8],
+    input: &mut D::File,
+    buffer: &mut [u8],
+    messages: &mut E,
+) -> Result<Option<Manifest>, Fault>
+    requires room { 0 < length buffer.old }
+    ensures text { IfOk result (λ found. IfSome found (λ m. m.is_whole ≡ true
+        → IsText (is_dash name.now) (D.holds disk.now name.now)
+        (D.File.left input.old) (D.File.left input.new) m.text.items)) }
+{
+    let mut text = Vec::new(alloc);
+    if is_dash(name) {
+        let is_whole = read_whole(input, buffer, &mut text)?;
+        return Ok(Some(Manifest { text, is_whole }));
+    }
+    let mut file = match disk.open(alloc, name) {
+        Ok(file) => file,
+        Err(error) => {
+            warn_of_file(alloc, error, messages, name)?;
+            return Ok(None);
+        }
+    };
+    let is_whole = read_whole(&mut file, buffer, &mut text)?;
+    Ok(Some(Manifest { text, is_whole }))
+}
+
+// Returns the name of a manifest as messages have it, before it is quoted.
+fn title_of(name: &[u8]) -> &[u8] {
+    if is_dash(name) { b"standard input" } else { name }
+}
+
+// Reads the source to its end. Returns whether no read failed.
+fn read_whole<S: Source>(
+    source: &mut S,
+    buffer: &mut [u8],
+    text: &mut Vec<u8>,
+) -> Result<bool, Fault>
+    requires room { 0 < length buffer.old }
+    ensures whole { IfOk result (λ is_whole. is_whole ≡ true → (more : List ℕ)
+        × (text.new.items ≡ text.old.items ++ more)
+        × Consumes (S.left source.old) (S.left source.new) more
+        × IsAtEnd (S.left source.new)) }
+{
+    for _ in 0..u64::MAX {
+        let Ok(count) = source.read(buffer) else {
+            return Ok(false);
+        };
+        if count == 0 {
+            return Ok(true);
+        }
+        text.extend_from_slice(&buffer[..count])?;
+    }
+    Ok(false)
+}
+
+// Checks each line of a manifest's text, and prints what became of the entries.
+fn check_lines<H: Hashes, D: Disk, K: Output, E: Sink>(
+    alloc: Global,
+    hashes: &H,
+    disk: &D,
+    options: &Options,
+    spacing: &mut Spacing,
+    is_input: bool,
+    title: &[u8],
+    text: &[u8],
+    input: &mut D::File,
+    buffer: &mut [u8],
+    output: &mut K,
+    messages: &mut E,
+) -> Result<Counts, Fault>
+    requires room { 0 < length buffer.old }
+    requires most { length buffer.old ≤ 2 ^ 24 }
+    ensures lines { IfOk result (λ counts. (vs : List Verdict)
+        × AreVerdicts (D.holds disk.now) (H.digest options.now) options.now.ignores_missing
+        (D.File.left input.old)
+        (items options.now.algorithm is_input spacing.old (lines_of text.now)) vs
+        (D.File.left input.new)
+        × Appends (K.held output.old) (K.held output.new) (verdict_lines options.now.report
+        (items options.now.algorithm is_input spacing.old (lines_of text.now)) vs)
+        × AreCounted vs counts) }
+    ensures spacing { IfOk result (λ _. spacing.new
+        ≡ final_spacing options.now.algorithm is_input spacing.old (lines_of text.now)) }
+{
+    let mut counts = Counts::none();
+    let mut number = 0u64;
+    let mut rest = text;
+    'lines: while !rest.is_empty() {
+        let (line, after) = split_line(rest);
+        rest = after;
+        number = number.saturating_add(1);
+        let item = read_item(alloc, options, *spacing, is_input, line)?;
+        check_item(
+            alloc,
+            hashes,
+            disk,
+            options,
+            spacing,
+            &item,
+            title,
+            number,
+            &mut counts,
+            input,
+            buffer,
+            output,
+            messages,
+        )?;
+    }
+    Ok(counts)
+}
+
+// Checks what a line is, and counts its verdict.
+fn check_item<H: Hashes, D: Disk, K: Output, E: Sink>(
+    alloc: Global,
+    hashes: &H,
+    disk: &D,
+    options: &Options,
+    spacing: &mut Spacing,
+    item: &Item,
+    title: &[u8],
+    number: u64,
+    counts: &mut Counts,
+    input: &mut D::File,
+    buffer: &mut [u8],
+    output: &mut K,
+    messages: &mut E,
+) -> Result<(), Fault>
+    requires room { 0 < length buffer.old }
+    requires most { length buffer.old ≤ 2 ^ 24 }
+    requires fits { IfListed item.now (λ e. length e.digest.items ≤ 64) }
+    ensures { OnOk result (IsDone (D.holds disk.now) (H.digest options.now) options.now
+        (item_value item.now) spacing.old spacing.new (D.File.left input.old)
+        (D.File.left input.new) (K.held output.old) (K.held output.new) counts.old counts.new) }
+{
+    match item {
+        Item::Comment => {}
+        Item::Malformed => {
+            warn_of_line(alloc, options, title, number, messages)?;
+            counts.add(Verdict::Malformed);
+        }
+        Item::Listed(entry) => {
+            *spacing = spacing_after(*spacing, entry.style);
+            let verdict = check_entry(
+                alloc, hashes, disk, options, entry, input, buffer, output, messages,
+            )?;
+            counts.add(verdict);
+        }
+    }
+    Ok(())
+}
+
+// Returns the first line of a text that is not empty, without its newline, and what follows it.
+fn split_line(text: &[u8]) -> (&[u8], &[u8])
+    requires { 0 < length text.now }
+    ensures first { lines_of text.now ≡ result.0.now ∷ lines_of result.1.now }
+    ensures shorter { length result.1.now < length text.now }
+{
+    split_once(text, b'\n').unwrap_or((text, &[]))
+}
+
+// Returns what is before the first such byte, and what is after it, or `None` if there is no such
+// byte.
+fn split_once(text: &[u8], byte: u8) -> Option<(&[u8], &[u8])>
+    ensures { option_map (λ parts. (parts.0.now, parts.1.now)) result ≡ cut_at byte text.now }
+{
+    let place = text.iter().position(|b| *b == byte)?;
+    Some((&text[..place], &text[place + 1..]))
+}
+
+// What a line of a manifest is.
+#[derive(Drop)]
+enum Item {
+    /// A comment, or nothing.
+    Comment,
+    /// The line of an entry.
+    Listed(Entry),
+    /// Another line.
+    Malformed,
+}
+
+// Returns what a line is. In a manifest on standard input, no entry is for standard input.
+fn read_item(
+    alloc: Global,
+    options: &Options,
+    spacing: Spacing,
+    is_input: bool,
+    line: &[u8],
+) -> Result<Item, Fault>
+    ensures is { IfOk result
+        (λ i. item_value i ≡ item options.now.algorithm is_input spacing line.now) }
+    ensures fits { IfOk result (λ i. IfListed i (λ e. length e.digest.items ≤ 64)) }
+{
+    let Some(line) = trimmed(line) else {
+        return Ok(Item::Comment);
+    };
+    match read_line(alloc, options.algorithm, spacing, line)? {
+        Some(entry) if !(is_input && is_dash(entry.name.as_slice())) => Ok(Item::Listed(entry)),
+        _ => Ok(Item::Malformed),
+    }
+}
+
+// Returns the line without a carriage return at its end, or `None` for a comment and for an empty
+// line.
+fn trimmed(line: &[u8]) -> Option<&[u8]>
+    ensures { option_map (λ l. l.now) result ≡ trimmed line.now }
+{
+    if line.is_empty() || line[0] == b'#' {
+        return None;
+    }
+    let last = line.len() - 1;
+    let line = if line[last] == b'\r' {
+        &line[..last]
+    } else {
+        line
+    };
+    if line.is_empty() { None } else { Some(line) }
+}
+
+// Returns the spacing of a manifest after an entry of this style.
+fn spacing_after(spacing: Spacing, style: Style) -> Spacing
+    ensures { result ≡ spacing_after spacing style }
+{
+    match style {
+        Style::Tagged => spacing,
+        Style::Text | Style::Binary => Spacing::Two,
+        Style::Bare => Spacing::One,
+    }
+}
+
+// Compares the file of an entry, and prints its line.
+fn check_entry<H: Hashes, D: Disk, K: Output, E: Sink>(
+    alloc: Global,
+    hashes: &H,
+    disk: &D,
+    options: &Options,
+    entry: &Entry,
+    input: &mut D::File,
+    buffer: &mut [u8],
+    output: &mut K,
+    messages: &mut E,
+) -> Result<Verdict, Fault>
+    requires room { 0 < length buffer.old }
+    requires most { length buffer.old ≤ 2 ^ 24 }
+    requires digest { length entry.now.digest.items ≤ 64 }
+    ensures verdict { IfOk result (λ v. IsVerdict (D.holds disk.now) (H.digest options.now)
+        options.now.ignores_missing (D.File.left input.old) (Some (entry_value entry.now)) v
+        (D.File.left input.new)) }
+    ensures line { IfOk result (λ v. Appends (K.held output.old) (K.held output.new)
+        (verdict_line options.now.report (Some (entry_value entry.now)) v)) }
+{
+    let mut digest = [0u8; 64];
+    let size = entry.digest.len();
+    let read = digest_file(
+        alloc,
+        hashes,
+        disk,
+        options,
+        size,
+        entry.name.as_slice(),
+        input,
+        buffer,
+        messages,
+        &mut digest,
+    )?;
+    let all = &digest[..];
+    let verdict = verdict_of(read, &all[..size], entry.digest.as_slice());
+    print_outcome(
+        alloc,
+        output,
+        entry.name.as_slice(),
+        outcome_of(options.report, verdict),
+    )?;
+    Ok(verdict)
+}
+
+// Returns the verdict on a file with this digest, whose entry has another or the same. The time of
+// the comparison does not depend on where they differ.
+fn verdict_of(read: Read, digest: &[u8], listed: &[u8]) -> Verdict
+    ensures whole { (result ≡ Equal) ⊎ (result ≡ Different) → read ≡ Whole }
+    ensures equal { result ≡ Equal → digest.now ≡ listed.now }
+    ensures different { result ≡ Different → digest.now ≢ listed.now }
+    ensures skipped { result ≡ Skipped → read ≡ Missing }
+    ensures formed { result ≢ Malformed }
+{
+    match read {
+        Read::Missing => Verdict::Skipped,
+        Read::Failed => Verdict::Unread,
+        Read::Whole if is_same(digest, listed) => Verdict::Equal,
+        Read::Whole => Verdict::Different,
+    }
+}
+
+// Returns what is printed after the name of an entry with this verdict: nothing if its line is not
+// printed.
+fn outcome_of(report: Report, verdict: Verdict) -> &'static [u8]
+    ensures { result.now ≡ outcome report verdict }
+{
+    match (report, verdict) {
+        (Report::Each | Report::Warnings, Verdict::Equal) => b": OK\n",
+        (Report::Nothing, _) => b"",
+        (_, Verdict::Different) => b": FAILED\n",
+        (_, Verdict::Unread) => b": FAILED open or read\n",
+        _ => b"",
+    }
+}
+
+// Prints a name, escaped if it has a newline, and the outcome. No outcome prints nothing.
+fn print_outcome<K: Sink>(
+    alloc: Global,
+    output: &mut K,
+    name: &[u8],
+    outcome: &[u8],
+) -> Result<(), Fault>
+    ensures { OnOk result (Appends (K.held output.old) (K.held output.new)
+        (with_name name.now outcome.now)) }
+{
+    let mut line = Vec::new(alloc);
+    if outcome.is_empty() {
+        return Ok(());
+    }
+    if name.contains(&b'\n') {
+        line.extend_from_slice(b"\\")?;
+        push_escaped(&mut line, name)?;
+    } else {
+        line.extend_from_slice(name)?;
+    }
+    line.extend_from_slice(outcome)?;
+    put(output, line.as_slice())?;
+    Ok(())
+}
+
+// Prints the message of a line that is not properly formatted, if the options want it.
+fn warn_of_line<E: Sink>(
+    alloc: Global,
+    options: &Options,
+    title: &[u8],
+    number: u64,
+    messages: &mut E,
+) -> Result<(), Fault> {
+    if options.report != Report::Warnings {
+        return Ok(());
+    }
+    let mut place = Vec::new(alloc);
+    place.extend_from_slice(b": ")?;
+    push_decimal(&mut place, number)?;
+    place.extend_from_slice(b": improperly formatted ")?;
+    place.extend_from_slice(options.algorithm.tag(alloc)?.as_slice())?;
+    warn(alloc, messages, title, place.as_slice(), b" checksum line")?;
+    Ok(())
+}
+
+// Prints the messages of a manifest that was read.
+fn report<E: Sink>(
+    alloc: Global,
+    options: &Options,
+    title: &[u8],
+    counts: &Counts,
+    messages: &mut E,
+) -> Result<(), Fault> {
+    if counts.has_no_entry() {
+        warn(alloc, messages, title, b": no properly formatted checksum lines found", b"")?;
+        return Ok(());
+    }
+    if options.report == Report::Nothing {
+        return Ok(());
+    }
+    warn_of_count(
+        alloc,
+        messages,
+        counts.malformed,
+        b" line is improperly formatted",
+        b" lines are improperly formatted",
+    )?;
+    warn_of_count(
+        alloc,
+        messages,
+        counts.unread,
+        b" listed file could not be read",
+        b" listed files could not be read",
+    )?;
+    warn_of_count(
+        alloc,
+        messages,
+        counts.different,
+        b" computed checksum did NOT match",
+        b" computed checksums did NOT match",
+    )?;
+    if options.ignores_missing && counts.equal == 0 {
+        warn(alloc, messages, title, b": no file was verified", b"")?;
+    }
+    Ok(())
+}

@@ -1,0 +1,43 @@
+//! The hash functions, which the program passes to the commands.
+
+ghost use Rattle.std.specs.Prelude.{◌≡◌, ◌↔◌, ℕ, ◌<◌, ◌≤◌, ◌^◌, List, length, take, IsTrue, OnOk};
+ghost use Rattle.std.specs.Prelude.{false};
+ghost use Rattle.std.specs.Result.{IsErrOf};
+ghost use Rattle.blake2_replay.specs.Streams.{GivesAll};
+
+use crate::options::Options;
+use blake2_replay::engine::{Source, StreamFault};
+
+/// Hash functions of what sources return.
+pub trait Hashes {
+    ghost use Rattle.b2sum_commands.specs.declared.options.Options.{Options};
+
+    // The digest of this many bytes of a text, by the algorithm and the parameters of the options.
+    ghost digest: { Options → ℕ → List ℕ → List ℕ };
+
+    /// Writes the digest of all that the source returns at the front of `out`. The digest has
+    /// `bytes` bytes, 1 to the most that the algorithm has. The source is read in pieces of the
+    /// buffer, which has at least 1 byte and at most 16 MiB. The source must not have failed
+    /// before. The error is `StreamFault::Read` if a read returns an error, and `TooLong` if the
+    /// source returns 2^64 bytes or more (2^58 for a tree), or if the algorithm refuses a length.
+    fn digest_source<S: Source>(
+        &self,
+        options: &Options,
+        bytes: usize,
+        source: &mut S,
+        buffer: &mut [u8],
+        out: &mut [u8; 64],
+    ) -> Result<(), StreamFault>
+        requires source { S.failed source.old ≡ false }
+        requires room { 0 < length buffer.old }
+        requires most { length buffer.old ≤ 2 ^ 24 }
+        ensures read { IsErrOf result StreamFault.Read ↔ IsTrue (S.failed source.new) }
+        ensures whole { OnOk result ((text : List ℕ)
+            × GivesAll (S.left source.old) (S.left source.new) text
+            × (take bytes out.new ≡ digest options.now bytes text)) };
+
+    /// Returns the best length of a buffer, in bytes.
+    fn piece_bytes(&self, options: &Options) -> usize
+        ensures some { 0 < result }
+        ensures most { result ≤ 2 ^ 24 };
+}

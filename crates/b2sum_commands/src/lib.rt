@@ -1,0 +1,21 @@
+//! The program `b2sum` over any files, input and outputs: its options, digests of files, and the
+//! check of manifests.
+
+#![tactic(auto)]
+
+mod check;
+mod devices;
+mod hashes;
+mod key;
+mod options;
+mod program;
+mod quoting;
+mod sums;
+mod texts;
+
+pub use check::{Counts, Verdict, check_manifest};
+pub use devices::{Disk, Fault, OpenFile, Output};
+pub use hashes::Hashes;
+pub use options::{Options, Report};
+pub use program::run;
+pub use sums::print_sums;

@@ -1,0 +1,284 @@
+-- The lines of a manifest: what is written for an entry, and which lines are read as one. Codes: 9
+-- is a tab, 10 a newline, 13 a carriage return, 32 a space, 40 and 41 the parentheses, 42 `*`, 61
+-- `=`, 92 a backslash, 110 `n` and 114 `r`.
+use Rattle.std.specs.Prelude.{◌≡◌, ℕ, ◌-◌, ◌*◌, ◌≤◌, ◌<◌, ◌==◌, ◌&&◌, ◌||◌, Bool, true, false}
+use Rattle.std.specs.Prelude.{nat_lt, nat_le, if◌then◌else◌, List, [], ◌∷◌, ◌++◌, length, take, drop}
+use Rattle.std.specs.Prelude.{codes, decimal, Option, Some, None, Result, Ok, Err}
+use Rattle.std.specs.List.{list_any, flat_map}
+use Rattle.std.specs.Option.{option_and_then, option_map}
+use Rattle.std.specs.Str.{bytes_eq}
+use Rattle.hex.specs.Hex.{encode_lower, decode_of, is_hex_digit, IsBytes}
+use Rattle.hex.specs.declared.error.FromHexError.{FromHexError}
+use Rattle.b2sum_lines.specs.declared.entry.Algorithm.{Algorithm}
+use Rattle.b2sum_lines.specs.declared.entry.Algorithm.TheVariants.{Blake2b, Blake2s, Tree}
+use Rattle.b2sum_lines.specs.declared.entry.Style.{Style}
+use Rattle.b2sum_lines.specs.declared.entry.Style.TheVariants.{Tagged, Text, Binary, Bare}
+use Rattle.b2sum_lines.specs.declared.entry.Spacing.{Spacing}
+use Rattle.b2sum_lines.specs.declared.entry.Spacing.TheVariants.{Open, Two, One}
+
+-- An entry of a manifest: the digest of the file of this name.
+pub record Line : Type 0 where
+  pub algorithm : Algorithm
+  pub digest : List ℕ
+  pub name : List ℕ
+  pub style : Style
+
+-- The longest digest, in bytes.
+abbrev pub max_bytes : Algorithm → ℕ
+max_bytes Blake2b = 64
+max_bytes Blake2s = 32
+max_bytes (Tree leaf) = 64
+
+-- A digest is the root of a tree.
+abbrev pub is_tree : Algorithm → Bool
+is_tree Blake2b = false
+is_tree Blake2s = false
+is_tree (Tree leaf) = true
+
+-- The name of the algorithm in a tagged line.
+abbrev pub tag : Algorithm → List ℕ
+tag Blake2b = codes "BLAKE2b"
+tag Blake2s = codes "BLAKE2s"
+tag (Tree leaf) = codes "BLAKE2b-tree-" ++ decimal leaf
+
+-- The bytes that a name is escaped for: a backslash, a newline, a carriage return.
+abbrev pub is_special : ℕ → Bool
+is_special b = (b == 92) || ((b == 10) || (b == 13))
+
+-- A byte of an escaped name.
+abbrev pub escape : ℕ → List ℕ
+escape b =
+    if b == 92 then 92 ∷ 92 ∷ []
+    else if b == 10 then 92 ∷ 110 ∷ []
+    else if b == 13 then 92 ∷ 114 ∷ []
+    else b ∷ []
+
+-- An escaped name.
+abbrev pub escaped : List ℕ → List ℕ
+escaped name = flat_map escape name
+
+-- Whether a name is written escaped.
+abbrev pub needs_escape : List ℕ → Bool
+needs_escape name = list_any is_special name
+
+-- The backslash at the front of the line of an escaped name.
+abbrev pub line_mark : List ℕ → List ℕ
+line_mark name = if needs_escape name then 92 ∷ [] else []
+
+-- A name as a line has it.
+abbrev pub name_text : List ℕ → List ℕ
+name_text name = if needs_escape name then escaped name else name
+
+-- The length of the digest in a tag, in bits, left out for the longest digest.
+abbrev pub tag_length : Algorithm → ℕ → List ℕ
+tag_length a n = if n == max_bytes a then [] else 45 ∷ decimal (8 * n)
+
+-- The line of a name's text and a digest in one style, without a mark and a newline.
+abbrev pub body_line : Style → Algorithm → List ℕ → List ℕ → List ℕ
+body_line Tagged a digest text =
+    tag a ++ (tag_length a (length digest) ++ (codes " (" ++ (text ++ (codes ") = " ++ encode_lower digest))))
+body_line Text a digest text = encode_lower digest ++ (32 ∷ 32 ∷ text)
+body_line Binary a digest text = encode_lower digest ++ (32 ∷ 42 ∷ text)
+body_line Bare a digest text = encode_lower digest ++ (32 ∷ text)
+
+-- The line of an entry, without its newline.
+abbrev pub entry_line : Line → List ℕ
+entry_line e = line_mark e.name ++ body_line e.style e.algorithm e.digest (name_text e.name)
+
+-- The line of an entry whose name is written as it is, for lines that end with a zero byte.
+abbrev pub plain_line : Line → List ℕ
+plain_line e = body_line e.style e.algorithm e.digest e.name
+
+-- A space or a tab.
+abbrev pub is_blank : ℕ → Bool
+is_blank b = (b == 32) || (b == 9)
+
+-- What follows the bytes that pass the test.
+abbrev pub skip : (ℕ → Bool) → List ℕ → List ℕ
+skip p [] = []
+skip p (b ∷ rest) = if p b then skip p rest else b ∷ rest
+
+-- The bytes at the front that pass the test.
+abbrev pub front : (ℕ → Bool) → List ℕ → List ℕ
+front p text = take (length text - length (skip p text)) text
+
+-- Puts a byte before the first part.
+abbrev pub onto_part : ℕ → List ℕ × List ℕ → List ℕ × List ℕ
+onto_part b parts = (b ∷ parts.0, parts.1)
+
+-- The parts around a byte, if the first part has been cut from what follows it.
+abbrev pub cut_here : ℕ → ℕ → List ℕ → Option (List ℕ × List ℕ) → Option (List ℕ × List ℕ)
+cut_here byte b rest (Some parts) = Some (onto_part b parts)
+cut_here byte b rest None = if b == byte then Some ([], rest) else None
+
+-- What is before the last such byte, and what is after it.
+abbrev pub cut_last : ℕ → List ℕ → Option (List ℕ × List ℕ)
+cut_last byte [] = None
+cut_last byte (b ∷ rest) = cut_here byte b rest (cut_last byte rest)
+
+-- The byte that a backslash and this byte stand for.
+abbrev pub escape_value : ℕ → Option ℕ
+escape_value b =
+    if b == 92 then Some 92
+    else if b == 110 then Some 10
+    else if b == 114 then Some 13
+    else None
+
+-- The name that the rest of an escaped name completes. A backslash before it may be open.
+abbrev pub unescape_onto : List ℕ → Bool → List ℕ → Option (List ℕ)
+unescape_onto name false [] = Some name
+unescape_onto name true [] = None
+unescape_onto name false (b ∷ rest) =
+    if b == 92 then unescape_onto name true rest else unescape_onto (name ++ (b ∷ [])) false rest
+unescape_onto name true (b ∷ rest) =
+    option_and_then (λ x. unescape_onto (name ++ (x ∷ [])) false rest) (escape_value b)
+
+-- The name that an escaped name stands for.
+abbrev pub unescaped : List ℕ → Option (List ℕ)
+unescaped text = unescape_onto [] false text
+
+-- Whether there is a zero byte, which no name has.
+abbrev pub has_zero : List ℕ → Bool
+has_zero name = list_any (λ b. b == 0) name
+
+-- A name without a zero byte.
+abbrev pub checked_name : List ℕ → Option (List ℕ)
+checked_name name = if has_zero name then None else Some name
+
+-- The name that a text stands for.
+abbrev pub name_of : Bool → List ℕ → Option (List ℕ)
+name_of true text = option_and_then checked_name (unescaped text)
+name_of false text = checked_name text
+
+-- A digest of a length that the algorithm has.
+abbrev pub checked_digest : Algorithm → Result (List ℕ) FromHexError → Option (List ℕ)
+checked_digest a (Ok bytes) =
+    if nat_lt 0 (length bytes) && nat_le (length bytes) (max_bytes a) then Some bytes else None
+checked_digest a (Err e) = None
+
+-- The digest of hexadecimal digits of either case.
+abbrev pub digest_of : Algorithm → List ℕ → Option (List ℕ)
+digest_of a digits = checked_digest a (decode_of digits)
+
+-- The style and the text of a name.
+pub record Named : Type 0 where
+  pub style : Style
+  pub text : List ℕ
+
+-- A name with one space before it, unless the manifest has two.
+abbrev pub one_space : Spacing → List ℕ → Option Named
+one_space Two text = None
+one_space Open text = Some (record { style = Bare; text = text })
+one_space One text = Some (record { style = Bare; text = text })
+
+-- The style of a mark, the second byte after the digits.
+abbrev pub mark_style : ℕ → Style
+mark_style m = if m == 42 then Binary else Text
+
+-- A name with a mark before it, unless the manifest has one space.
+abbrev pub two_spaces : Spacing → ℕ → List ℕ → Option Named
+two_spaces One m text = Some (record { style = Bare; text = m ∷ text })
+two_spaces Open m text = Some (record { style = mark_style m; text = text })
+two_spaces Two m text = Some (record { style = mark_style m; text = text })
+
+-- The name after the blank that follows the digits.
+abbrev pub after_blank : Spacing → List ℕ → Option Named
+after_blank spacing [] = one_space spacing []
+after_blank spacing (m ∷ []) = one_space spacing (m ∷ [])
+after_blank spacing (m ∷ c ∷ rest) =
+    if (m == 32) || (m == 42) then two_spaces spacing m (c ∷ rest)
+    else one_space spacing (m ∷ c ∷ rest)
+
+-- The name after the digits.
+abbrev pub after_digits : Spacing → List ℕ → Option Named
+after_digits spacing [] = None
+after_digits spacing (b ∷ rest) = if is_blank b then after_blank spacing rest else None
+
+-- An entry of parts that are all there.
+abbrev pub entry_with : Algorithm → Bool → List ℕ → Named → Option Line
+entry_with a is_escaped digest named =
+    option_map (λ name. record { algorithm = a; digest = digest; name = name; style = named.style })
+    (name_of is_escaped named.text)
+
+-- The entry of a line with the digits first.
+abbrev pub untagged_entry : Algorithm → Spacing → Bool → List ℕ → Option Line
+untagged_entry a spacing is_escaped line =
+    option_and_then (λ digest. option_and_then (entry_with a is_escaped digest)
+    (after_digits spacing (skip is_hex_digit line))) (digest_of a (front is_hex_digit line))
+
+-- What follows these bytes at the front of a text.
+abbrev pub after_prefix : List ℕ → List ℕ → Option (List ℕ)
+after_prefix bytes text =
+    if bytes_eq (take (length bytes) text) bytes then Some (drop (length bytes) text) else None
+
+-- What follows the length of the digest, which may be left out for the longest digest.
+abbrev pub after_length : Bool → List ℕ → Option (List ℕ) → Option (List ℕ)
+after_length is_longest text (Some rest) = Some rest
+after_length is_longest text None = if is_longest then Some text else None
+
+-- What follows an opening parenthesis.
+abbrev pub opened : List ℕ → Option (List ℕ)
+opened [] = None
+opened (b ∷ rest) = if b == 40 then Some rest else None
+
+-- What follows an opening parenthesis, with one space before it or none.
+abbrev pub opened_or_spaced : List ℕ → Option (List ℕ)
+opened_or_spaced [] = None
+opened_or_spaced (b ∷ rest) = if b == 32 then opened rest else opened (b ∷ rest)
+
+-- The text of the name, in what follows the tag up to the last parenthesis.
+abbrev pub tagged_text : Algorithm → ℕ → List ℕ → Option (List ℕ)
+tagged_text a n text =
+    option_and_then opened_or_spaced
+    (after_length (n == max_bytes a) text (after_prefix (45 ∷ decimal (8 * n)) text))
+
+-- The digits after the last parenthesis: blanks, `=`, blanks, digits.
+abbrev pub after_equals : List ℕ → Option (List ℕ)
+after_equals [] = None
+after_equals (b ∷ rest) = if b == 61 then Some (skip is_blank rest) else None
+
+-- The entry of what follows the tag, cut at the last parenthesis.
+abbrev pub tagged_parts : Algorithm → Bool → List ℕ × List ℕ → Option Line
+tagged_parts a is_escaped parts =
+    option_and_then (λ digits. option_and_then (λ digest. option_and_then
+    (λ text. entry_with a is_escaped digest (record { style = Tagged; text = text }))
+    (tagged_text a (length digest) parts.0)) (digest_of a digits))
+    (after_equals (skip is_blank parts.1))
+
+-- The entry of what follows the tag.
+abbrev pub tagged_entry : Algorithm → Bool → List ℕ → Option Line
+tagged_entry a is_escaped text = option_and_then (tagged_parts a is_escaped) (cut_last 41 text)
+
+-- The entry of a line without its mark: a tagged line, if what follows the tag is given. A tree has
+-- no other lines.
+abbrev pub body_entry : Algorithm → Spacing → Bool → List ℕ → Option (List ℕ) → Option Line
+body_entry a spacing is_escaped line (Some rest) = tagged_entry a is_escaped rest
+body_entry a spacing is_escaped line None =
+    if is_tree a then None else untagged_entry a spacing is_escaped line
+
+-- The entry of a line without blanks at its front.
+abbrev pub marked_entry : Algorithm → Spacing → List ℕ → Option Line
+marked_entry a spacing [] = None
+marked_entry a spacing (b ∷ rest) =
+    if b == 92 then body_entry a spacing true rest (after_prefix (tag a) rest)
+    else body_entry a spacing false (b ∷ rest) (after_prefix (tag a) (b ∷ rest))
+
+-- The entry that a line is read as, if it is one. The line has no newline.
+abbrev pub line_entry : Algorithm → Spacing → List ℕ → Option Line
+line_entry a spacing line = marked_entry a spacing (skip is_blank line)
+
+-- The entries whose lines can be read: a digest of the algorithm's bytes, a name of a file, and a tag
+-- for the root of a tree.
+pub record IsWritable (e : Line) : Type 0 where
+  pub are_bytes : IsBytes e.digest
+  pub some_digest : 0 < length e.digest
+  pub fits : length e.digest ≤ max_bytes e.algorithm
+  pub some_name : 0 < length e.name
+  pub no_zero : has_zero e.name ≡ false
+  pub tagged : is_tree e.algorithm ≡ true → e.style ≡ Tagged
+
+-- The line is read as this entry, whatever the lines before had, unless they had one space.
+abbrev pub IsReadBack : Line → List ℕ → Type 0
+IsReadBack e line =
+    IsWritable e → (e.style ≡ Bare → ⊥) → (s : Spacing) → (s ≡ One → ⊥)
+    → line_entry e.algorithm s line ≡ Some e

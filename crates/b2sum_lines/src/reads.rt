@@ -1,0 +1,229 @@
+//! Reading lines.
+
+ghost use Rattle.std.specs.Prelude.{◌≡◌, ◌≤◌, length, IfOk, IfSome};
+ghost use Rattle.std.specs.Option.{option_map};
+ghost use Rattle.b2sum_lines.specs.Lines.{line_entry, body_entry, untagged_entry, tagged_entry};
+ghost use Rattle.b2sum_lines.specs.Lines.{after_digits, after_blank, after_equals, tagged_text};
+ghost use Rattle.b2sum_lines.specs.Lines.{digest_of, entry_with, opened, opened_or_spaced};
+ghost use Rattle.b2sum_lines.specs.Lines.{after_prefix, tag};
+ghost use Rattle.b2sum_lines.specs.Entries.{entry_value};
+
+use crate::entry::{Algorithm, Entry, Spacing, Style};
+use crate::names::name_of;
+use crate::texts::{after_prefix, cut_last, skip_blanks, skip_digits};
+use crate::writes::push_decimal;
+use hex::FromHexError;
+use std::alloc::{AllocError, Global};
+
+/// Returns the entry that a line without its newline is read as, or `None` if it is not the line
+/// of an entry of this algorithm. `spacing` is what the untagged lines before have. The digest of
+/// an entry has at most 64 bytes. The error is `AllocError`, if an allocation fails.
+pub fn read_line(
+    alloc: Global,
+    algorithm: Algorithm,
+    spacing: Spacing,
+    line: &[u8],
+) -> Result<Option<Entry>, AllocError>
+    ensures entry { IfOk result
+        (λ entry. option_map entry_value entry ≡ line_entry algorithm spacing line.now) }
+    ensures fits { IfOk result (λ entry. IfSome entry (λ e. length e.digest.items ≤ 64)) }
+{
+    match skip_blanks(line) {
+        [] => Ok(None),
+        [b'\\', rest @ ..] => read_body(alloc, algorithm, spacing, true, rest),
+        body => read_body(alloc, algorithm, spacing, false, body),
+    }
+}
+
+// Returns the entry of a line without its mark.
+fn read_body(
+    alloc: Global,
+    algorithm: Algorithm,
+    spacing: Spacing,
+    is_escaped: bool,
+    line: &[u8],
+) -> Result<Option<Entry>, AllocError>
+    ensures entry { IfOk result (λ entry. option_map entry_value entry
+        ≡ body_entry algorithm spacing is_escaped line.now (after_prefix (tag algorithm) line.now)) }
+    ensures fits { IfOk result (λ entry. IfSome entry (λ e. length e.digest.items ≤ 64)) }
+{
+    let name = algorithm.tag(alloc)?;
+    match after_prefix(name.as_slice(), line) {
+        Some(rest) => read_tagged(alloc, algorithm, is_escaped, rest),
+        None if algorithm.is_tree() => Ok(None),
+        None => read_untagged(alloc, algorithm, spacing, is_escaped, line),
+    }
+}
+
+// Returns the entry of a line with the digits first.
+fn read_untagged(
+    alloc: Global,
+    algorithm: Algorithm,
+    spacing: Spacing,
+    is_escaped: bool,
+    line: &[u8],
+) -> Result<Option<Entry>, AllocError>
+    ensures entry { IfOk result (λ entry. option_map entry_value entry
+        ≡ untagged_entry algorithm spacing is_escaped line.now) }
+    ensures fits { IfOk result (λ entry. IfSome entry (λ e. length e.digest.items ≤ 64)) }
+{
+    let rest = skip_digits(line);
+    let digits = &line[..line.len() - rest.len()];
+    let Some(digest) = digest_of(alloc, algorithm, digits)? else {
+        return Ok(None);
+    };
+    let Some((style, text)) = after_digits(spacing, rest) else {
+        return Ok(None);
+    };
+    entry_with(alloc, algorithm, is_escaped, digest, style, text)
+}
+
+// Returns the entry of what follows the tag.
+fn read_tagged(
+    alloc: Global,
+    algorithm: Algorithm,
+    is_escaped: bool,
+    text: &[u8],
+) -> Result<Option<Entry>, AllocError>
+    ensures entry { IfOk result (λ entry. option_map entry_value entry
+        ≡ tagged_entry algorithm is_escaped text.now) }
+    ensures fits { IfOk result (λ entry. IfSome entry (λ e. length e.digest.items ≤ 64)) }
+{
+    let Some((front, tail)) = cut_last(text, b')') else {
+        return Ok(None);
+    };
+    let Some(digits) = after_equals(skip_blanks(tail)) else {
+        return Ok(None);
+    };
+    let Some(digest) = digest_of(alloc, algorithm, digits)? else {
+        return Ok(None);
+    };
+    let Some(name) = tagged_text(alloc, algorithm, digest.len(), front)? else {
+        return Ok(None);
+    };
+    entry_with(alloc, algorithm, is_escaped, digest, Style::Tagged, name)
+}
+
+// Returns the entry of these parts, or `None` if the text stands for no name.
+fn entry_with(
+    alloc: Global,
+    algorithm: Algorithm,
+    is_escaped: bool,
+    digest: Vec<u8>,
+    style: Style,
+    text: &[u8],
+) -> Result<Option<Entry>, AllocError>
+    requires { length digest.items ≤ 64 }
+    ensures entry { IfOk result (λ entry. option_map entry_value entry
+        ≡ entry_with algorithm is_escaped digest.items (record { style = style; text = text.now })) }
+    ensures fits { IfOk result (λ entry. IfSome entry (λ e. length e.digest.items ≤ 64)) }
+{
+    let Some(name) = name_of(alloc, is_escaped, text)? else {
+        return Ok(None);
+    };
+    Ok(Some(Entry {
+        algorithm,
+        digest,
+        name,
+        style,
+    }))
+}
+
+// Returns the digest of hexadecimal digits, or `None` if they are none of the algorithm.
+fn digest_of(
+    alloc: Global,
+    algorithm: Algorithm,
+    digits: &[u8],
+) -> Result<Option<Vec<u8>>, AllocError>
+    ensures digest { IfOk result
+        (λ digest. option_map (λ d. d.items) digest ≡ digest_of algorithm digits.now) }
+    ensures fits { IfOk result (λ digest. IfSome digest (λ d. length d.items ≤ 64)) }
+{
+    match hex::decode(alloc, digits) {
+        Ok(digest) => {
+            if digest.is_empty() || digest.len() > algorithm.max_bytes() {
+                return Ok(None);
+            }
+            Ok(Some(digest))
+        }
+        Err(FromHexError::OutOfMemory) => Err(AllocError),
+        Err(_) => Ok(None),
+    }
+}
+
+// Returns the style and the text of the name after the digits.
+fn after_digits(spacing: Spacing, rest: &[u8]) -> Option<(Style, &[u8])>
+    ensures { option_map (λ p. record { style = p.0; text = p.1.now }) result
+        ≡ after_digits spacing rest.now }
+{
+    match rest {
+        [b' ' | b'\t', rest @ ..] => after_blank(spacing, rest),
+        _ => None,
+    }
+}
+
+// Returns the style and the text of the name after the blank.
+fn after_blank(spacing: Spacing, rest: &[u8]) -> Option<(Style, &[u8])>
+    ensures { option_map (λ p. record { style = p.0; text = p.1.now }) result
+        ≡ after_blank spacing rest.now }
+{
+    match (spacing, rest) {
+        (Spacing::One, _) => Some((Style::Bare, rest)),
+        (_, [b' ', text @ ..]) if !text.is_empty() => Some((Style::Text, text)),
+        (_, [b'*', text @ ..]) if !text.is_empty() => Some((Style::Binary, text)),
+        (Spacing::Open, _) => Some((Style::Bare, rest)),
+        (Spacing::Two, _) => None,
+    }
+}
+
+// Returns the digits after an `=` and blanks.
+fn after_equals(text: &[u8]) -> Option<&[u8]>
+    ensures { option_map (λ rest. rest.now) result ≡ after_equals text.now }
+{
+    match text {
+        [b'=', rest @ ..] => Some(skip_blanks(rest)),
+        _ => None,
+    }
+}
+
+// Returns the text of the name in what follows the tag, up to the last parenthesis, for a digest
+// of this many bytes.
+fn tagged_text(
+    alloc: Global,
+    algorithm: Algorithm,
+    bytes: usize,
+    text: &[u8],
+) -> Result<Option<&[u8]>, AllocError>
+    requires { bytes ≤ 64 }
+    ensures { IfOk result
+        (λ name. option_map (λ n. n.now) name ≡ tagged_text algorithm bytes text.now) }
+{
+    let mut length = Vec::new(alloc);
+    length.push(b'-')?;
+    push_decimal(&mut length, 8 * bytes as u64)?;
+    match after_prefix(length.as_slice(), text) {
+        Some(rest) => Ok(opened_or_spaced(rest)),
+        None if bytes == algorithm.max_bytes() => Ok(opened_or_spaced(text)),
+        None => Ok(None),
+    }
+}
+
+// Returns what follows an opening parenthesis, with one space before it or none.
+fn opened_or_spaced(text: &[u8]) -> Option<&[u8]>
+    ensures { option_map (λ rest. rest.now) result ≡ opened_or_spaced text.now }
+{
+    match text {
+        [b' ', rest @ ..] => opened(rest),
+        _ => opened(text),
+    }
+}
+
+// Returns what follows an opening parenthesis.
+fn opened(text: &[u8]) -> Option<&[u8]>
+    ensures { option_map (λ rest. rest.now) result ≡ opened text.now }
+{
+    match text {
+        [b'(', rest @ ..] => Some(rest),
+        _ => None,
+    }
+}
