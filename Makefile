@@ -5,26 +5,31 @@
 # compiler, and LIBDIR the folder of the libraries (c/install.sh --help).
 PREFIX = /usr/local
 to = $(if $(filter /%,$(PREFIX)),$(DESTDIR)$(PREFIX),$(error PREFIX must be an absolute path))
-page = $(to)/share/man/man1/b2.1
-bash = $(to)/share/bash-completion/completions/b2
-zsh = $(to)/share/zsh/site-functions/_b2
-fish = $(to)/share/fish/vendor_completions.d/b2.fish
+# The programs to install. b2sum has the name of coreutils' program, which it replaces for those who
+# have PREFIX/bin before /usr/bin in their PATH: PROGRAMS=b2 leaves it out.
+PROGRAMS = b2 b2sum
 
 help: ## list these names
-	@sed -n 's/^\([a-z]*\): ## /make \1	/p' Makefile
+	@sed -n "s/^\([a-z]*\):.*## /make \1	/p" Makefile
 
-install: ## install the program b2, its man page and completions, and the C library in PREFIX
-	install -d "$(to)/bin"
-	./b2 --build "$(to)/bin/b2"
-	install -D -m 644 docs/b2.1 "$(page)"
-	install -D -m 644 completions/b2.bash "$(bash)"
-	install -D -m 644 completions/_b2 "$(zsh)"
-	install -D -m 644 completions/b2.fish "$(fish)"
+install: $(PROGRAMS:%=install-%) ## install b2, b2sum, their man pages and completions, and the C library in PREFIX
 	c/install.sh "$(PREFIX)"
 
-uninstall: ## remove what `make install` has installed
-	rm -f "$(to)/bin/b2" "$(page)" "$(bash)" "$(zsh)" "$(fish)"
+install-%:
+	install -d "$(to)/bin"
+	./$* --build "$(to)/bin/$*"
+	install -D -m 644 docs/$*.1 "$(to)/share/man/man1/$*.1"
+	install -D -m 644 completions/$*.bash "$(to)/share/bash-completion/completions/$*"
+	install -D -m 644 completions/_$* "$(to)/share/zsh/site-functions/_$*"
+	install -D -m 644 completions/$*.fish "$(to)/share/fish/vendor_completions.d/$*.fish"
+
+uninstall: $(PROGRAMS:%=uninstall-%) ## remove what `make install` has installed
 	c/install.sh --uninstall "$(PREFIX)"
+
+uninstall-%:
+	rm -f "$(to)/bin/$*" "$(to)/share/man/man1/$*.1"
+	rm -f "$(to)/share/bash-completion/completions/$*" "$(to)/share/zsh/site-functions/_$*"
+	rm -f "$(to)/share/fish/vendor_completions.d/$*.fish"
 
 test: ## test everything that needs no proof, over the code in dist/
 	./test

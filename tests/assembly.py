@@ -17,10 +17,11 @@ from blake2_kinds import TOP, version
 
 # The files, the ends of their names, and what each calls from elsewhere.
 LIBRARY = {"memcpy", "memmove", "memset"}
-TEXTS = {f"x86_64/{name}-{level}.s": level for name in ("vulfsjor", "b2") for level in ("v2", "v3", "v4")}
-TEXTS |= {f"aarch64/{name}.s": "arm" for name in ("vulfsjor", "b2")}
+TEXTS = {f"x86_64/{name}-{level}.s": level for name in ("vulfsjor", "b2", "b2sum") for level in ("v2", "v3", "v4")}
+TEXTS |= {f"aarch64/{name}.s": "arm" for name in ("vulfsjor", "b2", "b2sum")}
 PROGRAM = LIBRARY | {"read", "write", "__write", "__sysv_signal", "__x86_get_cpuid_feature_leaf", "rattle_alloc",
                      "rattle_arg", "rattle_dealloc", "rattle_errno", "rattle_realloc", "rattle_set_errno"}
+SUMS = PROGRAM | {"__xpg_strerror_r", "close", "open"}
 LABEL = re.compile(r"([\w.]+):")
 CALL = re.compile(r"\t(?:callq?|jmpq?|bl?|b)\t([\w.]+)(?:@PLT)?$")
 VECTOR = re.compile(r"\b[vqdshb][0-9]+\b")
@@ -51,14 +52,17 @@ def check_text(name, text, end):
     """Whether each statement about a file holds, by its words."""
     lines = text.split("\n")
     code = functions(lines)
-    exported = [line.split("\t")[2] for line in lines if line.startswith("\t.globl\t")]
+    weak = [line.split("\t")[2] for line in lines if line.startswith("\t.weak\t")]
+    exported = weak + [line.split("\t")[2] for line in lines if line.startswith("\t.globl\t")]
     hidden = [line.split("\t")[2] for line in lines if line.startswith("\t.hidden\t")]
     called = {call[1] for line in lines if (call := CALL.match(line)) and not call[1].startswith(".L")} - code.keys()
     labels = [line[:-1] for line in lines if re.fullmatch(r"\.L[^\t]*:", line)]
     yield "each function ends in the version and the build", code and all(it.endswith(f"_{end}") for it in code)
     yield "so does each local label", labels and all(it.startswith(f".L{end}_") for it in labels)
-    yield "each exported function is hidden", exported and exported == hidden and set(exported) <= code.keys()
-    yield "it calls what is there, and the C library", called <= (PROGRAM if "/b2" in name else LIBRARY)
+    yield "each exported function is hidden", exported and sorted(exported) == sorted(hidden) and set(exported) <= code.keys()
+    yield "C may replace the function of trees in b2sum, and no other", weak == (
+        [f"b2sum..hashes..update_tree_{end}"] if "/b2sum" in name else [])
+    yield "it calls what is there, and the C library", called <= (SUMS if "/b2sum" in name else PROGRAM if "/b2" in name else LIBRARY)
 
 
 def check_arm(name, text):

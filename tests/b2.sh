@@ -1,16 +1,17 @@
 #!/usr/bin/env bash
-# Checks the script `b2` in a small separate repository, whose dist/ has programs that print their
-# arguments, their input and the name of their build. Then checks `make install` and the completions
-# of this repository. The last line has the counts, and the status is 1 if a check failed.
+# Checks the scripts `b2` and `b2sum` in a small separate repository, whose dist/ has programs that
+# print their arguments, their input and the name of their build. Then checks the completions of this
+# repository. The last line has the counts, and the status is 1 if a check failed.
 set -u
 source "$(dirname "$(readlink -f "$0")")/tap.sh"
 shown=("$work/output" "$work/errors")
-has cc || { skip "the script b2" "no C compiler" && finish; }
+has cc || { skip "the scripts b2 and b2sum" "no C compiler" && finish; }
 
 repository=$work/a\ repository
 mkdir -p "$repository"/{tools,c,dist/{x86_64,aarch64}} "$work/bin"
-cp "$top/b2" "$repository/"
-cp -R "$top"/c/{b2.c,choose.c,include} "$repository/c/"
+cp "$top/b2" "$top/b2sum" "$repository/"
+cp "$top/tools/program.sh" "$repository/tools/"
+cp -R "$top"/c/{b2.c,b2sum.c,threads.c,choose.c,include} "$repository/c/"
 touch "$repository/dist/MANIFEST"
 printf '#!/bin/sh\n[ "$*" = current ] && [ ! -e "%s/stale" ]\n' "$work" >"$repository/tools/dist.sh"
 # The first word of compilers: one that notes each call, and fails or changes a source if it is to,
@@ -20,10 +21,10 @@ printf '%s\n' '#!/bin/sh' "cd '$work' && echo \"\$*\" >>calls" \
     '[ ! -e edit ] || touch "a repository/c/b2.c"' 'exec "$@"' >"$work/bin/note"
 printf '#!/bin/sh\necho "$1"\n' >"$work/bin/for"
 chmod 755 "$work" "$repository/tools/dist.sh" "$work"/bin/*
-printf '%s\n' '#include <stdio.h>' 'long rattle_arg(size_t i, char *bytes, size_t size);' \
+printf '%s\n' '#include <stdio.h>' '#include <unistd.h>' 'long rattle_arg(size_t i, char *bytes, size_t size);' \
     'int MAIN(void) { char word[99]; long n; int c;' \
     'for (long i = 1; (n = rattle_arg(i, word, sizeof word)) >= 0; i++)' \
-    'printf("<%.*s>", (int)n, word);' \
+    'if (n == 10) printf("<%d>", (int)getpid()); else printf("<%.*s>", (int)n, word);' \
     'while ((c = getchar()) != EOF) putchar(c); puts(BUILD); return 7; }' >"$work/main.c"
 # A file of the small dist/: COMPILER FILE BUILD.
 write_text() {
@@ -35,6 +36,17 @@ machine=$(uname -m) arm=aarch64-linux-gnu-gcc here=arm
 [ $arm = cc ] || for level in v2 v3 v4; do write_text cc x86_64/b2-$level.s $level; done
 [ $arm = cc ] || { here=$("$top/tools/processor.sh") && here=${here#x86-64-}; }
 ! has $arm || write_text $arm aarch64/b2.s arm
+# Those of b2sum name a function that C replaces, and are linked with a library whose functions are
+# empty.
+for file in "$repository"/dist/*/b2*.s; do
+    sed 's/<%/[%/' "$file" >"${file/b2/b2sum}"
+    printf '\t.weak\tb2sum..hashes..update_tree_%s\n' "${file##*[/-]}" >>"${file/b2/b2sum}"
+done
+for build in x86_64/vulfsjor-v{2,3,4} aarch64/vulfsjor; do
+    end=$(version _)_${build##*-}
+    sed -n "s/^CALL(\"\(.*\)\").*/\t.globl\t\1_${end/aarch64*/arm}\n\1_${end/aarch64*/arm}:/p" \
+        "$top/c/choose.c" >"$repository/dist/$build.s"
+done
 program=$repository/out/b2-$machine
 
 # Runs a command over the input `in`, with these variables before it. `b2` is the script.
@@ -67,21 +79,52 @@ check "the first run builds the program and runs it" builds "$program"
 words=(sum "two words" "" "*")
 is_sealed() { readelf -d "$program" | grep -q BIND_NOW && readelf -l "$program" | grep -q RELRO; }
 check "it has no writable addresses of functions" is_sealed
+is_the_script() {
+    "$repository/b2" the-number </dev/null >"$work/output" &
+    wait $!
+    [ "$(cat "$work/output")" = "<$!>$here" ]
+}
+check "it is the process that the script was" is_the_script
 check "the next run does not" runs "<sum><two words><><*>" "$BASH" "$repository/b2" "${words[@]}"
 ln -s "$repository/b2" "$work/linked"
 run "$work/linked" sum
 check "a link to the script is the script" ends 7 "<sum>in$here" 0
 cd "$repository" && check "so is its name in its folder" runs "<sum>" "$BASH" b2 sum
-for file in b2 dist/MANIFEST dist/*/*.s c/b2.c c/choose.c c/include/vulfsjor.h; do
+for file in b2 tools/program.sh dist/MANIFEST dist/*/b2[.-]*s c/b2.c c/choose.c \
+    c/include/vulfsjor.h; do
     touch -d '+9 seconds' "$file" && b2 sum
     check "after a change of $file it is built again" builds "$program"
     touch -d '-9 seconds' "$file"
 done
-touch -d '+9 seconds' dist README.md
+touch -d '+9 seconds' dist README.md b2sum dist/*/{b2sum,vulfsjor}* c/{b2sum,threads}.c
 check "after another change it is not" runs "<sum>" "$BASH" "$repository/b2" sum
+touch -d '-9 seconds' b2sum dist/*/{b2sum,vulfsjor}* c/{b2sum,threads}.c
 touch "$work/edit" && rm "$program" && b2 sum && rm "$work/edit" "$work/calls"
 b2 sum
 check "after a change during the build it is built again" builds "$program"
+
+# The other script, which shares all but the names of its files.
+other=$repository/out/b2sum-$machine
+run "$repository/b2sum" "two words" --help
+check "b2sum builds the other program, and passes on all arguments" \
+    ends 7 "[two words>[--help>in$here" 1
+check "and says so" says "b2sum: built $other"
+are_replaced() {
+    diff <(nm "$other" | sed -n 's/.* [Tt] .*update_tree_\(.*s\)$/\1/p' | sort) \
+        <([ "$machine" != x86_64 ] && echo b2.s || printf '%s\n' v2.s v3.s v4.s)
+}
+check "C replaces the function of trees in each file" are_replaced
+run PATH="$work" "$BASH" "$repository/b2sum" --build
+check "the next run does not" ends 7 "[--build>in$here" 0
+for file in b2sum c/b2.c c/b2sum.c c/threads.c dist/*/b2sum* dist/*/vulfsjor*; do
+    touch "$file" && run "$repository/b2sum" a
+    check "after a change of $file it is built again" ends 7 "[a>in$here" 1
+done
+run "$repository/b2sum" --build "$work/sum of files"
+check "b2sum --build builds it as that file" ends 0 "" 1
+run "$work/sum of files" a
+check "which is the program" ends 7 "[a>in$here" 0
+rm "$other"
 
 rm "$program" && run CC="note cc -O3 -flto" "$repository/b2" sum
 check "a compiler may have many words" builds "$program"
@@ -138,6 +181,10 @@ for cache in "$work/cache" relative; do
     run "${call[@]}"
     check "and stays there" ends 7 "<sum>in$here" 0
 done
+run XDG_CACHE_HOME="$work/cache" HOME="$work/home" "${user[@]}" "$repository/b2sum" a
+check "b2sum is built there too" ends 7 "[a>in$here" 1
+check "next to b2" \
+    says "b2sum: built $work/cache/vulfsjor$repository/b2sum-$machine"
 for cache in "" "$repository"; do
     run XDG_CACHE_HOME="$cache" HOME= "${user[@]}" "$repository/b2" sum
     check "or the variable to set is named" stops "b2: $repository/out cannot be written: set XDG_"
@@ -183,6 +230,39 @@ b2 steps b512 k:key=
 b2 other .:
 END
 }
+# The long options of b2sum that a shell offers, one on each line.
+long_options() {
+    case $1 in
+        bash) bash --norc -c 'source completions/b2sum.bash; compopt() { :; }
+            COMP_WORDS=(b2sum --) COMP_CWORD=1; _b2sum; printf "%s\n" "${COMPREPLY[@]}"' ;;
+        zsh) zsh -fc '_arguments() { print -rl -- "$@" }; source completions/_b2sum' |
+            grep -o -e '--[a-z-]*=*\[' | tr -d '=[' ;;
+        fish) fish --no-config -c 'source completions/b2sum.fish; complete -C "b2sum --"' |
+            cut -f 1 | tr -d = ;;
+    esac | sort
+}
+# Whether they are those of the manual.
+offers_options() {
+    diff <(long_options "$1") <(grep -o -e '^| `.*' docs/B2SUM.md | sed 's/ | .*//' |
+        grep -o -e '--[a-z-]*' | sort -u)
+}
+# What bash offers for the last word of a line of b2sum.
+bash_offers() {
+    diff <(bash --norc -c 'source completions/b2sum.bash; compopt() { :; }
+        COMP_WORDS=("$@") COMP_CWORD=$(($# - 1)); _b2sum; printf "%s\n" "${COMPREPLY[@]}"' - "${@:2}") \
+        <(printf '%s\n' $1)
+}
+bash_values() {
+    (cd "$work" && mkdir -p completions && cp "$top/completions/b2sum.bash" completions/ &&
+        touch "a file" && bash_offers "blake2b blake2s" b2sum -a "" &&
+        bash_offers blake2s b2sum --algorithm = blake2s &&
+        bash_offers "128 160 224 256 384 512" b2sum --length = && bash_offers 65536 b2sum --tree 6 &&
+        bash_offers "" b2sum --salt "" && bash_offers --zero b2sum a --z &&
+        [ "$(bash_offers "" b2sum -c "a f")" = "1c1
+< a file
+---
+> " ])
+}
 
 # tools/processor.sh: what it makes of the features in a file such as /proc/cpuinfo.
 is_processor() {
@@ -204,5 +284,8 @@ if [ "$machine" = x86_64 ]; then check "the level of a processor, by its feature
 cd "$top" && for shell in bash zsh fish; do
     needs $shell
     check "what $shell completes" offers $shell
+    check "which options of b2sum $shell completes" offers_options $shell
 done
+needs bash
+check "which values and files of b2sum bash completes" bash_values
 finish

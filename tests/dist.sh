@@ -40,6 +40,7 @@ more=\$(sed -n 's/^run .*"\(-march=[^"]*\)".*/ \1/p' "\$2/bin/clang")
 line="\$crate for \$cpu\$more, \$(cat "$work/turn" 2>/dev/null)"
 printf '\t.globl\tf\n\tcallq\tmemcpy@PLT\nf:\n\tjmp\t.L1\n.L1:\n\t.ascii\t"%s"\n' "\$line" \
     >"\$2/module.s"
+echo '"b2sum::hashes::update_tree":' >>"\$2/module.s"
 while [ "\$1" != -o ]; do shift; done
 echo "\$line" >"\$2"
 END
@@ -54,12 +55,12 @@ cp "$top"/tools/{dist.sh,kit.sh,plain_names.py,aarch64_attributes.csv,x86_64_v4.
 cp "$top/tests/tap.sh" "$repository/tests/"
 printf '# Changes\n\n## 1.2.3\n\n## 0.9.0\n' >"$repository/CHANGELOG.md"
 printf '%s\n' blake2_state: b2_commands: "blake2_ffi staticlib: blake2_state" \
-    "b2: b2_commands hex" "beside: blake2_state" >"$repository/crates.txt"
-for crate in blake2_state b2_commands blake2_ffi b2 beside; do
+    "b2: b2_commands hex" "b2sum: b2_commands" "beside: blake2_state" >"$repository/crates.txt"
+for crate in blake2_state b2_commands blake2_ffi b2 b2sum beside; do
     mkdir -p "$repository/crates/$crate/src"
     echo "fn $crate() {}" >"$repository/crates/$crate/src/lib.rt"
 done
-mv "$repository/crates/b2/src/lib.rt" "$repository/crates/b2/src/main.rt"
+for crate in b2 b2sum; do mv "$repository/crates/$crate/src"/{lib,main}.rt; done
 cd "$repository" || exit 1
 
 dist() { PATH=$work/bin:$PATH tools/dist.sh "$@" >"$work/shown" 2>&1; }
@@ -89,24 +90,39 @@ changed() {
     cp "$work/kept" "$file"
     [ "$status" -eq "$1" ]
 }
-proves() { : >"$work/calls" && counts 11 0 0 && diff <(printf '%s' "$1") "$work/calls"; }
-both=$'check blake2_ffi\ncheck b2\n'
+proves() { : >"$work/calls" && counts 15 0 0 && diff <(printf '%s' "$1") "$work/calls"; }
+both=$'check blake2_ffi\ncheck b2sum\ncheck b2\n'
 
 check "make" dist make
 check "each file is made of its crate, for its processor" \
     diff <(cd dist && grep -ao '[a-z0-9_]* for .*,' */* | LC_ALL=C sort) - <<'END'
 aarch64/b2.s:b2 for generic,
+aarch64/b2sum.s:b2sum for generic,
 aarch64/vulfsjor.s:blake2_ffi for generic,
 wasm/vulfsjor.wasm:blake2_ffi for lime1,
 x86_64/b2-v2.s:b2 for x86-64-v2,
 x86_64/b2-v3.s:b2 for x86-64-v3,
 x86_64/b2-v4.s:b2 for x86-64-v3 -march=x86-64-v4 edited,
+x86_64/b2sum-v2.s:b2sum for x86-64-v2,
+x86_64/b2sum-v3.s:b2sum for x86-64-v3,
+x86_64/b2sum-v4.s:b2sum for x86-64-v3 -march=x86-64-v4 edited,
 x86_64/vulfsjor-v2.s:blake2_ffi for x86-64-v2,
 x86_64/vulfsjor-v3.s:blake2_ffi for x86-64-v3,
 x86_64/vulfsjor-v4.s:blake2_ffi for x86-64-v3 -march=x86-64-v4 edited,
 END
+check "only b2sum has a weak function" diff <(cd dist && grep -hE 'weak|hidden.b2sum' */*.s |
+    LC_ALL=C sort -u) - <<'END'
+	.hidden	b2sum..hashes..update_tree_1_2_3_arm
+	.hidden	b2sum..hashes..update_tree_1_2_3_v2
+	.hidden	b2sum..hashes..update_tree_1_2_3_v3
+	.hidden	b2sum..hashes..update_tree_1_2_3_v4
+	.weak	b2sum..hashes..update_tree_1_2_3_arm
+	.weak	b2sum..hashes..update_tree_1_2_3_v2
+	.weak	b2sum..hashes..update_tree_1_2_3_v3
+	.weak	b2sum..hashes..update_tree_1_2_3_v4
+END
 check "it is current" dist current
-check "it is what the sources compile to" counts 11 0 0
+check "it is what the sources compile to" counts 15 0 0
 rm crates/*/out/rlib/stamp
 check "what rt ci has left is not proved again" proves ""
 touch -d '+9 seconds' crates/blake2_state/src/lib.rt
@@ -115,19 +131,19 @@ touch crates/blake2_state/src/lib.rt
 rm -r crates/*/out
 mkdir -p crates/{blake2_state,b2_commands}/out/rlib
 touch crates/b2_commands/out/rlib/stamp
-check "and if rt check has left a stamp" proves $'check b2\n'
+check "and if rt check has left a stamp" proves $'check b2sum\ncheck b2\n'
 check "one file in another folder" dist make "$work/some" x86_64/b2-v2.s
 check "it is the same, and there is no other" \
     eval 'cmp "$work/some/x86_64/b2-v2.s" dist/x86_64/b2-v2.s && [ "$(ls "$work/some"/*)" = b2-v2.s ]'
 
 echo other >"$work/turn"
-check "other code is found" counts 2 9 0
+check "other code is found" counts 2 13 0
 rm "$work/turn"
 for file in aarch64/b2.s wasm/vulfsjor.wasm; do
     check "a change of $file is found" changed 1 "dist/$file" '$a\ '
     cp "dist/$file" "$work/old"
     echo >>"dist/$file"
-    check "by check, twice" counts 9 2 0
+    check "by check, twice" counts 13 2 0
     mv "$work/old" "dist/$file"
 done
 mv dist/wasm/vulfsjor.wasm "$work/old"
@@ -135,7 +151,7 @@ check "a file that is absent is found" eval "! dist current"
 mv "$work/old" dist/wasm/vulfsjor.wasm
 check "a file without a hash is found" changed 1 dist/MANIFEST '/  aarch64\/b2\.s$/d'
 check "a hash that is too short is found" changed 1 dist/MANIFEST 's|^.\(.*  aarch64/b2\.s\)$|\1|'
-for file in b2/src/main.rt b2_commands/src/lib.rt blake2_ffi/src/lib.rt blake2_state/src/lib.rt; do
+for file in b2/src/main.rt b2sum/src/main.rt b2_commands/src/lib.rt blake2_ffi/src/lib.rt blake2_state/src/lib.rt; do
     check "a change of crates/$file is found" changed 1 "crates/$file" '$a fn more() {} // more'
     check "not that of a line that is a comment" changed 0 "crates/$file" '1i\ \ // more'
 done
@@ -153,7 +169,7 @@ check "another version is found" changed 1 CHANGELOG.md 's/1\.2\.3/1.2.4/'
 # Another kit, none, and what it refuses.
 for name in bin/rattle bin/rattle-link toolchain/bin/{clang,ld.lld}; do
     echo "# 2" >>"$kit/$name"
-    check "with another $name only hashes are compared" counts 2 0 9
+    check "with another $name only hashes are compared" counts 2 0 13
     sed -i '$d' "$kit/$name"
 done
 echo "# 2" >>"$kit/bin/rattle"
@@ -161,9 +177,9 @@ check "and the reason is told" ends 0 \
     "x86_64/b2-v3.s is what the proofs build # SKIP it was made with another toolchain, kit 1" check
 sed -i '$d' "$kit/bin/rattle"
 echo "kit 2" >"$kit/version"
-check "another kit with the same tools compares all" counts 11 0 0
+check "another kit with the same tools compares all" counts 15 0 0
 mv "$work/bin/rt" "$work/rt"
-PATH=/usr/bin:/bin check "without a kit only hashes are compared" counts 2 0 9
+PATH=/usr/bin:/bin check "without a kit only hashes are compared" counts 2 0 13
 PATH=/usr/bin:/bin check "make needs rt" ends 1 "the toolchain's command rt is not on the PATH" make
 mv "$work/rt" "$work/bin/rt"
 : >"$work/refuse"
@@ -244,6 +260,19 @@ c..g..64_1_v3:
 	.ident	"c::f"
 	.file	"c::f"
 END
+check "a weak function can be replaced" diff - \
+    <(printf '%s\n' '	.globl	g' '"c::f":' '	callq	"c::f"' '"c::ff":' |
+        tools/plain_names.py _1 c::f) <<'END'
+	.globl	g_1
+	.hidden	g_1
+	.weak	c..f_1
+	.hidden	c..f_1
+c..f_1:
+	callq	c..f_1
+c..ff_1:
+END
+check "a weak function that is absent is refused" diff - \
+    <(tools/plain_names.py _1 c::g <<<'"c::f":' 2>&1) <<<"plain_names.py: there is no function c::g"
 check "two names that would be one are refused" diff - <(rename '"a::b":' '"a:: b":' 2>&1) \
     <<<"plain_names.py: two names would be one"
 finish

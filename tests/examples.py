@@ -7,7 +7,7 @@ pages that are named, and compares what it prints.
 An example is a fenced block in c, cpp, rust, python, cmake or sh; js/tests/readme.test.mjs runs those in JavaScript,
 and python/tests/test_package.py those in Python's guide. A block in C, C++ or Rust is a whole program, in C `hello.c`.
 A block in cmake is a whole CMakeLists.txt, whose program `hello` is run. The blocks of a page run in order in one
-folder, which starts with a file `data.bin` of 100,000 bytes and links to b2, c and dist of the repository; what a
+folder, which starts with a file `data.bin` of 100,000 bytes and links to b2, b2sum, c and dist of the repository; what a
 block leaves there is the next one's. If a block in `text` follows an example, it is what the example prints; a line
 that ends with `...` is the beginning of a line. In cmake and sh, PATH is the repository and FOLDER the installed
 library.
@@ -56,7 +56,7 @@ class Runner:
         self.environment = dict(os.environ, LC_ALL="C.UTF-8", CARGO_NET_OFFLINE="true", PYTHONPATH=str(module),
                                 CARGO_TARGET_DIR=str(folder.parent / "target"))
         (folder / "data.bin").write_bytes(bytes(i % 251 for i in range(100_000)))
-        for name in ("b2", "c", "dist"):
+        for name in ("b2", "b2sum", "c", "dist"):
             (folder / name).symlink_to(TOP / name)
 
     def filled(self, text):

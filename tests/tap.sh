@@ -74,24 +74,33 @@ version() {
 # The first block of a page in this language: PAGE LANGUAGE.
 block_of() { sed -n "/^\`\`\`$2\$/,/^\`\`\`\$/{/^\`\`\`\$/q;/^\`\`\`/d;p}" "$top/$1"; }
 
-# The name of `main` in a file of the program in dist/, and the program from it: FILE PROGRAM
+# The name of `main` in a file of a program in dist/, and the program from it: FILE PROGRAM
 # [ARGUMENTS FOR THE COMPILER..]
 main_of() { sed -n 's/^\t\.globl\t\(main_.*\)/\1/p' "$1"; }
-assemble() { cc -O2 "-DMAIN=$(main_of "$1")" -o "$2" "$top/c/b2.c" "$1" "${@:3}"; }
+assemble() {
+    local words=("$top/c/b2.c" "-DMAIN=$(main_of "$1")") build=${1##*-}
+    if [[ $1 == */b2sum* ]]; then
+        [[ $1 != */aarch64/* ]] || build=arm.s
+        words+=("-DUPDATE_TREE=$(sed -n 's/^\t\.weak\t//p' "$1")" "-I$top/c/include" -pthread
+            "$top"/c/{b2sum,threads,choose}.c "-DCHOOSE_ONE=${build%.s}" "${1/b2sum/vulfsjor}")
+    fi
+    cc -O2 -fno-lto -o "$2" "${words[@]}" "$1" "${@:3}"
+}
 
-# The programs of dist/ that this processor runs, newest first, as files in `work`.
+# The programs of dist/ that this processor runs, newest first, as files in `work`: b2, or NAME.
 assemble_all() {
+    local name=${1:-b2}
     case $("$top/tools/processor.sh") in
-        aarch64) assemble "$top/dist/aarch64/b2.s" "$work/b2" ;;
-        x86-64-v2) assemble "$top/dist/x86_64/b2-v2.s" "$work/b2" ;;
+        aarch64) assemble "$top/dist/aarch64/$name.s" "$work/$name" ;;
+        x86-64-v2) assemble "$top/dist/x86_64/$name-v2.s" "$work/$name" ;;
         x86-64-v3)
-            assemble "$top/dist/x86_64/b2-v3.s" "$work/b2" &&
-                assemble "$top/dist/x86_64/b2-v2.s" "$work/b2-v2"
+            assemble "$top/dist/x86_64/$name-v3.s" "$work/$name" &&
+                assemble "$top/dist/x86_64/$name-v2.s" "$work/$name-v2"
             ;;
         x86-64-v4)
-            assemble "$top/dist/x86_64/b2-v4.s" "$work/b2" &&
-                assemble "$top/dist/x86_64/b2-v3.s" "$work/b2-v3" &&
-                assemble "$top/dist/x86_64/b2-v2.s" "$work/b2-v2"
+            assemble "$top/dist/x86_64/$name-v4.s" "$work/$name" &&
+                assemble "$top/dist/x86_64/$name-v3.s" "$work/$name-v3" &&
+                assemble "$top/dist/x86_64/$name-v2.s" "$work/$name-v2"
             ;;
     esac
 }

@@ -16,9 +16,11 @@
 set -euo pipefail
 source "$(dirname "$(readlink -f "$0")")/../tests/tap.sh"
 manifest=$top/dist/MANIFEST
-files=(aarch64/b2.s aarch64/vulfsjor.s wasm/vulfsjor.wasm
+files=(aarch64/b2.s aarch64/b2sum.s aarch64/vulfsjor.s wasm/vulfsjor.wasm
     x86_64/b2-v2.s x86_64/b2-v3.s x86_64/b2-v4.s
+    x86_64/b2sum-v2.s x86_64/b2sum-v3.s x86_64/b2sum-v4.s
     x86_64/vulfsjor-v2.s x86_64/vulfsjor-v3.s x86_64/vulfsjor-v4.s)
+crates=(blake2_ffi b2 b2sum)
 source "$top/tools/kit.sh"
 
 stop() {
@@ -29,13 +31,18 @@ stop() {
 usage() { sed -n '2,/^set /{/^set /d;s/^#\{0,1\} \{0,1\}//;p}' "$0"; }
 
 # The crate that a file of dist/ is made of.
-crate_of() { case ${1##*/} in b2*) echo b2 ;; *) echo blake2_ffi ;; esac; }
+crate_of() {
+    case ${1##*/} in b2sum*) echo b2sum ;; b2*) echo b2 ;; *) echo blake2_ffi ;; esac
+}
+
+# The functions of a crate that C may replace: those of c/b2sum.c start threads.
+weak_of() { [ "$1" != b2sum ] || echo b2sum::hashes::update_tree; }
 
 # A hash of all that decides what is compiled except the toolchain. A line that is a comment decides
 # nothing.
 sources() {
     local folders
-    mapfile -t folders < <(crates_of blake2_ffi b2 | sort -u | sed 's|.*|crates/&/src|')
+    mapfile -t folders < <(crates_of "${crates[@]}" | sort -u | sed 's|.*|crates/&/src|')
     cd "$top"
     {
         find "${folders[@]}" -name '*.rt' | LC_ALL=C sort | while IFS= read -r file; do
@@ -83,7 +90,7 @@ build() {
         wasm/*.wasm) target=wasm64-unknown-unknown cpu=lime1 more=(-msimd128) ;;
         *) stop "there is no file $file in dist/" ;;
     esac
-    [ "$crate" != b2 ] || kind=()
+    [ "$crate" = blake2_ffi ] || kind=()
     echo "dist.sh: building $file" >&2
     rm -rf "$room"/toolchain{,.sed,.py}
     $make "$room/toolchain" "${more[@]}"
@@ -100,12 +107,13 @@ build() {
         {
             echo "/* Made by tools/dist.sh from the proved crate $crate." \
                 "dist/README.md says how. */"
-            "$top/tools/plain_names.py" "_$(version _)_$end" <"$room/toolchain/module.s"
+            "$top/tools/plain_names.py" "_$(version _)_$end" $(weak_of "$crate") \
+                <"$room/toolchain/module.s"
         } >"$to"
     fi
 }
 
-# Builds these files in a folder, those of a crate one by one and both crates' side by side.
+# Builds these files in a folder, those of a crate one by one and those of the crates side by side.
 make() {
     local folder=$1 crate file lane lanes=() status=0
     shift
@@ -113,7 +121,7 @@ make() {
         mkdir "$work/$crate"
         prove_libraries "$crate" "$work/log" || stop "the crates below $crate are not proved"
     done
-    for crate in blake2_ffi b2; do
+    for crate in "${crates[@]}"; do
         for file; do
             [ "$(crate_of "$file")" != "$crate" ] || build "$folder" "$file"
         done &

@@ -1,8 +1,9 @@
 #!/usr/bin/env python3
-"""Makes the man page docs/b2.1 from docs/PROGRAM.md, without the sections on this repository.
+"""Makes the man pages docs/b2.1 and docs/b2sum.1 from docs/PROGRAM.md and docs/B2SUM.md, without the sections on this
+repository.
 
-    tools/manual.py            writes docs/b2.1
-    tools/manual.py --check    compares docs/b2.1 with what would be written, and with what mandoc or man says of it
+    tools/manual.py            writes them
+    tools/manual.py --check    compares them with what would be written, and with what mandoc or man says of them
 """
 import os
 import re
@@ -12,11 +13,14 @@ import sys
 
 from sources import TOP, Unreadable, read, version
 
-MANUAL = os.path.join(TOP, "docs", "b2.1")
-DATE = "2026-11-25"
-NAME = "b2 \\- BLAKE2 digests, tags, transcripts and hash trees of standard input"
-LEFT_OUT = ("Building", "See also")
-END = '.SH SEE ALSO\n.BR b2sum (1),\n.BR openssl\\-dgst (1),\nRFC 7693\n'
+DATE = "2026-11-26"
+# For each program its page, what it does, and what to see also.
+PROGRAMS = {
+    "b2": ("docs/PROGRAM.md", "BLAKE2 digests, tags, transcripts and hash trees of standard input",
+           "b2sum openssl\\-dgst"),
+    "b2sum": ("docs/B2SUM.md", "print and check BLAKE2 digests of files", "b2 cksum b3sum"),
+}
+LEFT_OUT = ("Building", "What is proved", "See also")
 
 
 def escaped(text):
@@ -45,21 +49,28 @@ def block(part):
     return "\n".join(f".TP\n{inline(head)}\n{inline(text)}" for head, text in last)
 
 
-def manual():
-    """The man page."""
-    made = [f'.\\" Made from docs/PROGRAM.md by tools/manual.py.\n.TH B2 1 {DATE} "Vulfsjor {version()}"',
-            f".SH NAME\n{NAME}"]
-    for section in re.split(r"^## ", read("docs/PROGRAM.md"), flags=re.MULTILINE)[1:]:
+def path_of(name):
+    """The man page of a program."""
+    return os.path.join(TOP, "docs", f"{name}.1")
+
+
+def manual(name):
+    """The text of the man page of a program."""
+    page, title, others = PROGRAMS[name]
+    made = [f'.\\" Made from {page} by tools/manual.py.\n.TH {name.upper()} 1 {DATE} "Vulfsjor {version()}"',
+            f".SH NAME\n{name} \\- {title}"]
+    for section in re.split(r"^## ", read(page), flags=re.MULTILINE)[1:]:
         title, text = section.split("\n", 1)
         if title not in LEFT_OUT:
             parts = [part for part in re.split(r"\n\n+", text.strip("\n"))]
             made.append("\n".join([f".SH {title.upper()}", *map(block, parts)]))
-    return re.sub(r"(\.SH .*)\n\.PP", r"\1", "\n".join(made)) + "\n" + END
+    others = "".join(f".BR {other} (1),\n" for other in others.split())
+    return re.sub(r"(\.SH .*)\n\.PP", r"\1", "\n".join(made)) + f"\n.SH SEE ALSO\n{others}RFC 7693\n"
 
 
-def warnings():
-    """What mandoc or man says of the man page; nothing if neither is here."""
-    for command in (["mandoc", "-T", "lint", "-W", "warning", MANUAL], ["man", "--warnings", "-l", MANUAL]):
+def warnings(path):
+    """What mandoc or man says of a man page; nothing if neither is here."""
+    for command in (["mandoc", "-T", "lint", "-W", "warning", path], ["man", "--warnings", "-l", path]):
         if shutil.which(command[0]):
             done = subprocess.run(command, stdout=subprocess.PIPE, stderr=subprocess.PIPE, text=True,
                                   env={**os.environ, "LC_ALL": "C.UTF-8"})
@@ -67,16 +78,23 @@ def warnings():
     return ""
 
 
+def check(name):
+    """What is wrong with the man page of a program."""
+    path = path_of(name)
+    is_current = os.path.exists(path) and read(path) == manual(name)
+    return ("" if is_current else f"docs/{name}.1: run tools/manual.py\n") + warnings(path)
+
+
 def main():
     if sys.argv[1:] not in ([], ["--check"]):
         sys.exit("usage: tools/manual.py [--check]")
     if not sys.argv[1:]:
-        with open(MANUAL, "w", encoding="utf-8") as file:
-            file.write(manual())
+        for name in PROGRAMS:
+            with open(path_of(name), "w", encoding="utf-8") as file:
+                file.write(manual(name))
         return 0
-    said = "" if os.path.exists(MANUAL) and read(MANUAL) == manual() else "docs/b2.1: run tools/manual.py\n"
-    said += warnings()
-    print(said or "docs/b2.1 is what tools/manual.py makes of docs/PROGRAM.md\n", end="")
+    said = "".join(map(check, PROGRAMS))
+    print(said or "the man pages are what tools/manual.py makes of their pages\n", end="")
     return 1 if said else 0
 
 

@@ -36,6 +36,15 @@ program_for_arm() {
         python3 "$top/tests/specification.py" --program "$work/b2" --cases "$1"
 }
 
+# The program b2sum of dist/ for aarch64: a digest, a check and a root by several threads.
+sums_for_arm() {
+    assemble "$dist/aarch64/b2sum.s" "$work/b2sum" "${warnings[@]}" && cd "$work" &&
+        head -c 3000000 /dev/zero >zeros && ./b2sum zeros | diff - <(sums_by_hashlib zeros) &&
+        sums_by_hashlib zeros | ./b2sum --check --strict &&
+        ./b2sum --tree 65536 zeros | diff - <(printf 'BLAKE2b-tree-65536 (zeros) = ' &&
+            roots_by_hashlib 65536 zeros | cut -c -128)
+}
+
 test_aarch64() {
     local library
     if ! has "$arm" || ! has qemu-aarch64 || ! has python3; then
@@ -69,6 +78,7 @@ test_aarch64() {
     check "the program c/examples/tree_sum.c, for aarch64" tree_sum_example
     check "a project with the files by hand, for aarch64" vendored_by_hand
     check "b2 for aarch64" program_for_arm 40
+    check "b2sum for aarch64" sums_for_arm
 }
 
 part test_aarch64 cases

@@ -292,26 +292,41 @@ compilers_of_words() {
         "$folder/lib/libvulfsjor.a" -pthread -o "$folder/shared.so"
 }
 
+# The files of a program that `make install` installs.
+files_of_program() {
+    printf "%s/$1%s\n" bin "" share/bash-completion/completions "" share/man/man1 .1 \
+        share/fish/vendor_completions.d .fish
+    echo "share/zsh/site-functions/_$1"
+}
+
+# Whether those of b2 and of b2sum that are not built are the ones of this repository.
+are_copies() {
+    local name
+    for name in b2 b2sum; do
+        cmp "$1/share/man/man1/$name.1" "$top/docs/$name.1" &&
+            cmp "$1/share/bash-completion/completions/$name" "$top/completions/$name.bash" &&
+            cmp "$1/share/fish/vendor_completions.d/$name.fish" "$top/completions/$name.fish" &&
+            cmp "$1/share/zsh/site-functions/_$name" "$top/completions/_$name" || return
+    done
+}
+
 # `make install` and `make uninstall`, below DESTDIR.
 made_by_make() {
-    local root="$work/made here" files=(bin/b2 share/bash-completion/completions/b2
-        share/fish/vendor_completions.d/b2.fish share/man/man1/b2.1 share/zsh/site-functions/_b2)
+    local root="$work/made here" place="$work/made here/opt/a b"
     (umask 077 && make -C "$top" install PREFIX="/opt/a b" DESTDIR="$root" CC="cc -O1") &&
-        files_below "$root/opt/a b" |
-        diff <({ printf '%s\n' "${files[@]}" && wanted_files lib/; } | LC_ALL=C sort) - &&
-        [ "$(cd "$root/opt/a b" && find . -type f -perm 755 | sort | paste -sd ' ')" = \
-            "./bin/b2 ./lib/libvulfsjor.so.$(version)" ] &&
+        files_below "$place" | diff <({ files_of_program b2 && files_of_program b2sum &&
+            wanted_files lib/; } | LC_ALL=C sort) - &&
+        [ "$(cd "$place" && find . -type f -perm 755 | sort | paste -sd ' ')" = \
+            "./bin/b2 ./bin/b2sum ./lib/libvulfsjor.so.$(version)" ] &&
         [ -z "$(find "$root" ! -type l ! -perm 755 ! -perm 644)" ] &&
-        [ "$(printf abc | "$root/opt/a b/bin/b2" sum b512)" = "$(printf abc | b2sum | cut -c-128)" ] &&
-        cmp "$root/opt/a b/share/man/man1/b2.1" "$top/docs/b2.1" &&
-        cmp "$root/opt/a b/${files[1]}" "$top/completions/b2.bash" &&
-        cmp "$root/opt/a b/${files[2]}" "$top/completions/b2.fish" &&
-        cmp "$root/opt/a b/${files[4]}" "$top/completions/_b2" &&
-        touch "$root/opt/a b/bin/other" &&
+        [ "$(printf abc | "$place/bin/b2" sum b512)" = "$(printf abc | b2sum | cut -c-128)" ] &&
+        [ "$(printf abc | "$place/bin/b2sum")" = "$(printf abc | b2sum)" ] &&
+        are_copies "$place" && touch "$place/bin/other" &&
         make -C "$top" uninstall PREFIX="/opt/a b" DESTDIR="$root" &&
         [ "$(files_below "$root")" = "opt/a b/bin/other" ] &&
         refuses 2 "PREFIX must be an absolute path" make -C "$top" install PREFIX=opt &&
-        make -C "$top" -n install | grep -qxF 'c/install.sh "/usr/local"'
+        make -C "$top" -n install | grep -qxF 'c/install.sh "/usr/local"' &&
+        ! make -C "$top" -n install PROGRAMS=b2 | grep -q b2sum
 }
 
 # What the other names of the Makefile run, and the list of all.

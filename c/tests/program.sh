@@ -1,6 +1,6 @@
 #!/usr/bin/env bash
-# Tests the C of the program b2, function by function. The whole program is run by
-# tests/program.sh.
+# Tests the C of the programs b2 and b2sum, function by function. The whole programs are run by
+# tests/program.sh and tests/b2sum.py.
 source "$(dirname "$(readlink -f "$0")")/installed.sh"
 
 # ../b2.c over tests in the place of a text of dist/, with these arguments for the compiler.
@@ -8,6 +8,25 @@ functions_of_program() {
     cc -O2 -g "${warnings[@]}" -DMAIN=checks -Wl,--wrap=malloc,--wrap=realloc,--wrap=free \
         "$here/b2.c" "$tests/program.c" -o "$work/program" "$@" || return
     timeout 60 "$work/program" one "two words" "" || [ $? -eq 7 ]
+}
+
+# ../b2sum.c over its tests, with progress that is to be shown, and with progress that is not.
+functions_of_b2sum() {
+    local words
+    local calls=openat,readv,isatty,clock_gettime,write,pread,pthread_create,sched_getaffinity
+    cc -O2 -g "${warnings[@]}" -DMAIN=checks -DUPDATE_TREE=update.2 -DUPDATE_TREE_V3=update.3 \
+        -DUPDATE_TREE_V4=update.4 "-Wl,--wrap=${calls//,/,--wrap=}" "-I$here/include" \
+        "$here/b2.c" "$here/b2sum.c" "$tests/b2sum.c" -pthread -o "$work/sums" "$@" || return
+    for words in --progress "a --prog" "--pr --"; do
+        SHOWS=1 timeout 60 "$work/sums" $words
+        [ $? -eq 7 ] || return
+    done
+    for words in "" "-- --progress" --progressx --p --; do
+        timeout 60 "$work/sums" $words
+        [ $? -eq 7 ] || return
+    done
+    NO_TERMINAL=1 timeout 60 "$work/sums" --progress
+    [ $? -eq 7 ]
 }
 
 # The same where the C library tells nothing of the processor, which is made up.
@@ -27,14 +46,17 @@ leaves_are_there_once() {
         [ "$(grep -c ' T __x86_get_cpuid_feature_leaf' "$work/names")" -eq 1 ]
 }
 
-# The same functions, and the program, with another C library than glibc.
+# The same functions, and the programs, with another C library than glibc.
 program_by_musl() {
     local text=$dist/x86_64/b2-v2.s
     cc() { musl-gcc -static "$@"; }
-    functions_of_program && cc -O2 "-DMAIN=$(main_of "$text")" "$here/b2.c" "$text" \
-        -o "$work/b2_musl" && printf abc >"$work/abc" &&
+    functions_of_program && functions_of_b2sum &&
+        cc -O2 "-DMAIN=$(main_of "$text")" "$here/b2.c" "$text" -o "$work/b2_musl" &&
+        printf abc >"$work/abc" &&
         "$work/b2_musl" sum b512 <"$work/abc" |
-        diff - <(sums_by_hashlib "$work/abc" | sed 's/ .*//')
+        diff - <(sums_by_hashlib "$work/abc" | sed 's/ .*//') &&
+        assemble "$dist/x86_64/b2sum-v2.s" "$work/b2sum_musl" &&
+        "$work/b2sum_musl" "$work/abc" | diff - <(sums_by_hashlib "$work/abc")
 }
 
 # The program, at most ten seconds, over an input whose first read fails.
@@ -56,8 +78,11 @@ program_reads() {
 
 test_program() {
     check "the C of the program" functions_of_program
+    check "the C of b2sum" functions_of_b2sum
     needs_sanitizers
     check "the C of the program, with sanitizers" functions_of_program -fsanitize=undefined \
+        -fno-sanitize-recover=all
+    check "the C of b2sum, with sanitizers" functions_of_b2sum -fsanitize=address,undefined \
         -fno-sanitize-recover=all
     needs
     is_x86 || missing="the processor is not x86-64"

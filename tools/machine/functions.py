@@ -14,7 +14,7 @@ SCRUB_STACK = "blake2_digest..wiping..scrub_stack.."
 SETTLE = "blake2_digest..wiping..settle.."
 
 LIBRARY = (ONE_B, MANY_B, ONE_S, MANY_S)
-PROGRAM = (ONE_B, MANY_B, ONE_S)       # b2 has no call that hashes several messages with BLAKE2s
+PROGRAM = (ONE_B, MANY_B, ONE_S)       # b2 and b2sum hash several messages with BLAKE2b only
 FILES = {
     "dist/x86_64/vulfsjor-v4.s": LIBRARY,
     "dist/x86_64/vulfsjor-v3.s": LIBRARY,
@@ -24,6 +24,10 @@ FILES = {
     "dist/x86_64/b2-v3.s": PROGRAM,
     "dist/x86_64/b2-v2.s": PROGRAM,
     "dist/aarch64/b2.s": PROGRAM,
+    "dist/x86_64/b2sum-v4.s": PROGRAM,
+    "dist/x86_64/b2sum-v3.s": PROGRAM,
+    "dist/x86_64/b2sum-v2.s": PROGRAM,
+    "dist/aarch64/b2sum.s": PROGRAM,
     "dist/wasm/vulfsjor.wasm": LIBRARY,
     "js/src/wasm.js": LIBRARY,
 }

@@ -1,0 +1,24 @@
+# Completes the arguments of b2sum in bash.
+_b2sum() {
+    local word=${COMP_WORDS[COMP_CWORD]} before=${COMP_WORDS[COMP_CWORD - 1]} words
+    COMPREPLY=()
+    [ "$before" != = ] || before=${COMP_WORDS[COMP_CWORD - 2]}
+    [ "$word" != = ] || word=
+    case $before in
+        -a | --algorithm) words="blake2b blake2s" ;;
+        -l | --length) words="128 160 224 256 384 512" ;;
+        --tree) words="65536" ;;
+        --personal | --salt) return ;;
+        *)
+            if [[ $word != -* ]]; then
+                compopt -o filenames
+                mapfile -t COMPREPLY < <(compgen -f -- "$word")
+                return
+            fi
+            words="--algorithm --binary --check --help --ignore-missing --key-file --length --personal
+                --progress --quiet --salt --status --strict --tag --text --tree --version --warn --zero"
+            ;;
+    esac
+    mapfile -t COMPREPLY < <(compgen -W "$words" -- "$word")
+}
+complete -F _b2sum b2sum

@@ -1,0 +1,20 @@
+# Completes the arguments of b2sum in fish.
+complete -c b2sum -s a -l algorithm -x -a 'blake2b blake2s' -d 'the hash'
+complete -c b2sum -s b -l binary -d 'print * before each name'
+complete -c b2sum -s c -l check -d 'check the digests in the files'
+complete -c b2sum -s l -l length -x -a '128 160 224 256 384 512' -d 'length of the digests in bits'
+complete -c b2sum -l tag -d 'print lines that name the algorithm'
+complete -c b2sum -s t -l text -d 'print a space before each name'
+complete -c b2sum -s z -l zero -d 'end each line with a zero byte'
+complete -c b2sum -l key-file -r -d 'use the key in a file'
+complete -c b2sum -l personal -x -d personalization
+complete -c b2sum -l salt -x -d salt
+complete -c b2sum -l tree -x -a 65536 -d 'hash a tree with leaves of so many bytes'
+complete -c b2sum -l progress -d 'show the progress on a terminal'
+complete -c b2sum -l ignore-missing -d 'do not fail for missing files'
+complete -c b2sum -l quiet -d 'do not print OK'
+complete -c b2sum -l status -d 'print nothing'
+complete -c b2sum -l strict -d 'fail for improperly formatted lines'
+complete -c b2sum -s w -l warn -d 'warn about improperly formatted lines'
+complete -c b2sum -l help -d 'print the help'
+complete -c b2sum -l version -d 'print the version'

@@ -1,0 +1,335 @@
+#!/usr/bin/env python3
+"""Compares the program b2sum with coreutils' program of that name on command lines:
+
+- each option and each pair of options, with files, with a manifest, and with nothing;
+- each abbreviation of each long option;
+- manifests with lines of many forms, and each length that `-l` may have;
+- random ones, over files with names of any bytes and manifests with damaged lines: RUNS of them, by default 400, and
+  5,000 if VULFSJOR_TEST_HUGE is set.
+
+Standard output, standard error and the status have to be equal, in the locale C. docs/B2SUM.md lists the differences,
+which this test avoids and tests/b2sum_files.py checks. It compares with coreutils 9.1, and is skipped with another.
+
+usage: tests/b2sum.py [--runs RUNS] [--seed SEED] [PROGRAM..]
+"""
+import argparse
+import concurrent.futures
+import hashlib
+import os
+import random
+import re
+import shutil
+import subprocess
+import tempfile
+
+import tap
+from b2sum_program import programs
+
+NAMES = [
+    b"a", b"b.txt", b"with space", b"new\nline", b"back\\slash", b"cr\rname", b"quote'd", b'dq"x', b"caf\xc3\xa9",
+    b"bad\xff\xfe", b"-dash", b"*star", b" lead", b"trail ", b"tab\there", b"a:b", b"(par)", b"x)y", b"#hash", b"~home",
+    b"=eq", b"{", b"a{b", b"it's$", b"\x01ctl", b"q?m", b"\x7fdel", b"e" * 200, b"BLAKE2b (x) = 0", b"\\", b"\n",
+]
+# Names that cannot be opened or read: none such, a folder, a loop, a path through a file, a name that is too long.
+UNREADABLE = [b"missing", b"miss\ning", b"no such", b"dir/none", b"", b"a/b", b"dir", b"loop", b"dangling", b"n" * 256,
+              b"/proc/self/mem", b"secret"]
+CHECKS = [b"--ignore-missing", b"--quiet", b"--status", b"--strict", b"-w", b"--warn", b"--ig", b"--qui"]
+SUMS = [b"--tag", b"-b", b"-t", b"-z", b"--zero", b"--binary", b"--text", b"--bin"]
+WRONG = [b"--foo", b"-x", b"-l", b"--length", b"--tag=x", b"--i=3", b"-lx", b"-l-8", b"-l+8", b"-l 8", b"--w",
+         b"-l99999999999999999999", b"-l9999999999999999999999999", b"--strict", b"--quiet", b"--status", b"-w",
+         b"--ignore-missing", b"-bz", b"-zt", b"-qq", b"--", b"-l''", b"-l\xff", b"--b", b"--check=x", b"---", b"-bx",
+         b"-l8x", b"-l0x8", b"-l18446744073709551616", b"-l 0", b"--length=", b"-cz", b"-wc", b"-l\n8", b"--\xff"]
+OPTIONS = [b"-b", b"-c", b"-t", b"-w", b"-z", b"-l8", b"-l512", b"-l520", b"-l7", b"-l0", b"--binary", b"--check",
+           b"--ignore-missing", b"--length=256", b"--quiet", b"--status", b"--strict", b"--tag", b"--text", b"--warn",
+           b"--zero", b"--", b"--nothing", b"-x"]
+LONG = [b"binary", b"check", b"ignore-missing", b"length=16", b"quiet", b"status", b"strict", b"tag", b"text", b"warn",
+        b"zero"]
+# The abbreviations that our options --algorithm, --key-file, --personal, --progress, --salt and --tree change.
+OURS = (b"a", b"k", b"p", b"s", b"t")
+
+
+def run(program, words, folder, data, user):
+    """What the program prints to both streams, and its status."""
+    done = subprocess.run([b"b2sum", *words], executable=program, cwd=folder, input=data, timeout=60, user=user,
+                          env={"LC_ALL": "C", "PATH": "/usr/bin:/bin"}, stdout=subprocess.PIPE, stderr=subprocess.PIPE)
+    return done.stdout, done.stderr, done.returncode
+
+
+def difference(program, words, folder, data=b"", user=None):
+    """What differs between the program and that of coreutils, or nothing. coreutils begins some quoted names with
+    quotes around nothing."""
+    ours, theirs = (run(it, words, folder, data, user) for it in (program, b"/usr/bin/b2sum"))
+    plain = (theirs[0], re.sub(rb"^(b2sum: )''(?=')", rb"\1", theirs[1], flags=re.MULTILINE), theirs[2])
+    return "" if ours in (theirs, plain) else f"{words}\n  ours   {ours}\n  theirs {theirs}\n"
+
+
+# ---- A folder of files.
+
+def random_name(rng):
+    """A name of any bytes, but not of a quote and an unprintable byte: their quoting is a difference."""
+    name = bytes(rng.choice(b"ab \\\n\r\t*-'\"()=#\x01\x7f\x80\xff\xc3") for _ in range(rng.randint(1, 8)))
+    if b"'" in name and any(byte < 32 or byte > 126 for byte in name):
+        return name.replace(b"'", b"x")
+    return name.replace(b"-a", b"-b")  # -a is an option of ours
+
+
+def fill(rng, folder):
+    """Makes files with odd names, and what cannot be read. Returns the names of the files and their bytes."""
+    names = rng.sample(NAMES, rng.randint(1, 5)) + [random_name(rng) for _ in range(rng.randint(0, 2))]
+    files = {}
+    for name in names:
+        size = rng.choice([0, 1, 3, 127, 128, 129, 255, 256, 257, 1000] + [65535, 65536, 65537] * (rng.random() < 0.1))
+        files[name] = rng.randbytes(size)
+        with open(os.path.join(folder, name), "wb") as file:
+            file.write(files[name])
+    os.mkdir(os.path.join(folder, b"dir"))
+    os.symlink(b"loop", os.path.join(folder, b"loop"))
+    os.symlink(b"nothing", os.path.join(folder, b"dangling"))
+    os.close(os.open(os.path.join(folder, b"secret"), os.O_CREAT, 0o000))
+    os.chmod(folder, 0o755)
+    return files
+
+
+# ---- Manifests.
+
+def escaped(name):
+    """The name as a line of a manifest has it, and what begins such a line."""
+    for byte, text in ((b"\\", b"\\\\"), (b"\n", b"\\n"), (b"\r", b"\\r")):
+        name = name.replace(byte, text)
+    return name
+
+
+def line_of(rng, name, data):
+    """A line of a manifest for a file of this name, in one of three styles."""
+    size = rng.choice([64, 64, rng.randint(1, 64)])
+    digits = hashlib.blake2b(data, digest_size=size).hexdigest().encode()
+    start = b"\\" if escaped(name) != name else b""
+    if rng.random() < 0.3:
+        tag = b"BLAKE2b" + (b"" if size == 64 else b"-%d" % (8 * size))
+        return start + tag + b" (" + escaped(name) + b") = " + digits
+    return start + digits + rng.choice([b"  ", b" *"]) + escaped(name)
+
+
+def with_noise(rng, line):
+    """The line with a byte more, or one less, or a digit changed."""
+    at, kind = rng.randrange(len(line) + 1), rng.randrange(4)
+    if kind == 0:
+        return line[:at] + bytes([rng.choice(b" \\()=-*\tgAfF0z\r#")]) + line[at:]
+    if kind == 1:
+        return line[:at] + line[at + 1:]
+    if kind == 2:
+        return line[:at]
+    return line[:at] + bytes([rng.choice(b"0123456789abcdefABCDEF")]) + line[at + 1:]
+
+
+def damaged(rng, line):
+    """The line with one of many damages."""
+    kind = rng.randrange(9)
+    if kind == 0:
+        return line.upper()
+    if kind == 1:
+        return rng.choice([b" ", b"\t", b"  \t", b"\\", b" \\", b"#"]) + line
+    if kind == 2:
+        return line + rng.choice([b"\r", b" ", b"\r\r", b"\\", b")", b"x"])
+    if kind == 3:
+        return line.replace(b"  ", rng.choice([b" ", b" *", b"\t", b"\t ", b"\t*", b"   "]), 1)
+    if kind == 4:
+        end = rng.choice([b") = ", b")=", b")  =\t", b") =", b")x= "])
+        return line.replace(b" (", rng.choice([b" (", b"("]), 1).replace(b") = ", end, 1)
+    if kind == 5:
+        return rng.choice([b"", b"#", b"\r", b" ", b"ab", b"ab ", b"ab  ", b"ab  x", b"nonsense", b"\\", line[2:]])
+    if kind == 6:
+        tags = [b"BLAKE2s", b"blake2b", b"BLAKE2b-512", b"BLAKE2b-8", b"BLAKE2b-", b"SHA256"]
+        return line.replace(b"BLAKE2b", rng.choice(tags), 1)
+    return with_noise(rng, line)
+
+
+def is_left_out(line):
+    """Whether our program and coreutils read this line or the next ones differently: the tag is another name or has a
+    length in another form, or an untagged line is badly escaped, or names `-` after one blank."""
+    line = line.lstrip(b" \t")
+    is_escaped = line.startswith(b"\\")
+    line = line[is_escaped:]
+    if line.startswith(b"BLAKE2b"):
+        return not re.match(rb"BLAKE2b(-[1-9]\d*)? ?(\(|$)", line)
+    if re.fullmatch(rb"[0-9a-fA-F]*[ \t]-\r?", line):
+        return True
+    return is_escaped and not re.fullmatch(rb"([^\\]|\\[\\nr])*", line, flags=re.DOTALL)
+
+
+def manifest(rng, files):
+    """A manifest of some of these files and of others, a share of whose lines is damaged."""
+    lines, share = [], rng.choice([0.0, 0.0, 0.1, 0.4])
+    for _ in range(rng.randint(0, 9)):
+        name = rng.choice(list(files))
+        if rng.random() < 0.2:
+            name = rng.choice(UNREADABLE[:-2] + [b"-"])
+        line = line_of(rng, name, files.get(name, b""))
+        line = damaged(rng, line) if rng.random() < share else line
+        lines.append(b"x" if is_left_out(line) else line)
+    text = b"\n".join(lines)
+    end = rng.choice([b"\n", b"\n", b"\n", b"", b"\n\n", b"\r\n"])
+    return (text.replace(b"\n", b"\r\n") if rng.random() < 0.1 else text) + (end if lines else b"")
+
+
+# ---- Command lines.
+
+def to_check(rng, folder, files):
+    """The words of a check, and the input."""
+    options = [rng.choice([b"-c", b"--check", b"--ch"])] + [it for it in CHECKS if rng.random() < 0.2]
+    if rng.random() < 0.05:
+        options.append(rng.choice([b"-z", b"--tag", b"-b", b"-t", b"-l64"]))
+    names, data = [], b""
+    for k in range(rng.choice([0, 1, 1, 1, 2])):
+        names.append(rng.choice([b"sums", b"my sums", b"s'ums", b"s\nums"]) + b"%d" % k)
+        with open(os.path.join(folder, names[-1]), "wb") as file:
+            file.write(manifest(rng, files))
+    if not names or rng.random() < 0.15:
+        data = manifest(rng, files)
+        names += [b"-"] if names else []
+    if rng.random() < 0.1:
+        names.append(rng.choice([b"missing", b"dir", b"secret", b"loop"]))
+    return options, names, data
+
+
+def to_sum(rng, files):
+    """The words of digests, and the input."""
+    options = [it for it in SUMS if rng.random() < 0.15]
+    if rng.random() < 0.5:
+        bits = b"%d" % rng.choice([8 * rng.randint(0, 66), rng.randint(0, 600), 256])
+        options += rng.choice([[b"-l", bits], [b"-l" + bits], [b"--length=" + bits], [b"--length", bits],
+            [b"--len=" + bits]])
+    names = [rng.choice(list(files)) for _ in range(rng.randint(0, 4))]
+    names += [rng.choice(UNREADABLE)] if rng.random() < 0.2 else []
+    names += [b"-"] if rng.random() < 0.15 else []
+    return options, names, rng.randbytes(rng.choice([0, 5, 700] + [70000] * (rng.random() < 0.1)))
+
+
+def command(rng, folder, files):
+    """A command line, and the input."""
+    options, names, data = to_check(rng, folder, files) if rng.random() < 0.55 else to_sum(rng, files)
+    if rng.random() < 0.06:
+        options.append(rng.choice(WRONG))
+    rng.shuffle(names)
+    names = [b"./" + it if it.startswith(b"-") and it != b"-" and rng.random() < 0.7 else it for it in names]
+    if rng.random() < 0.15 and b"-l" not in options and b"--length" not in options:
+        words = options + names
+        rng.shuffle(words)
+        return words, data
+    return options + ([b"--"] if rng.random() < 0.1 else []) + names, data
+
+
+def random_run(program, seed):
+    """What differs in one random run."""
+    rng = random.Random(seed)
+    folder = os.fsencode(tempfile.mkdtemp())
+    try:
+        files = fill(rng, folder)
+        words, data = command(rng, folder, files)
+        user = 65534 if os.geteuid() == 0 else None
+        said = difference(program, words, folder, data, user)
+        return said and f"seed {seed}: {said}"
+    finally:
+        shutil.rmtree(folder)
+
+
+def fixed_runs():
+    """The command lines of each option, each pair and each abbreviation, without their files."""
+    yield from ([one] for one in OPTIONS)
+    yield from ([one, two] for one in OPTIONS for two in OPTIONS)
+    yield from ([one, b"-c", two] for one in CHECKS for two in CHECKS)
+    for option in LONG:
+        name, _, value = option.partition(b"=")
+        for end in range(1, len(name) + 1):
+            if name[:end] not in OURS:
+                yield [b"--" + name[:end] + (b"=" + value if value else b"")]
+                yield [b"--" + name[:end] + b"=x", b"-c"]
+
+
+def test_options(program, pool):
+    """Each option, alone and in pairs, over two files, over a manifest, and over nothing."""
+    with tempfile.TemporaryDirectory() as folder:
+        with open(os.path.join(folder, "one"), "wb") as file:
+            file.write(b"abc")
+        lines = subprocess.run(["/usr/bin/b2sum", "one", "--tag", "one"], cwd=folder, stdout=subprocess.PIPE).stdout
+        lines += b"ab  none\nwrong line\n" + b"0" * 128 + b"  one\n"
+        with open(os.path.join(folder, "sums"), "wb") as file:
+            file.write(lines)
+        runs = [words + end for words in fixed_runs() for end in ([b"one", b"two"], [b"sums"], [])]
+        said = list(pool.map(lambda words: difference(program, words, folder, lines), runs))
+    tap.result(not any(said), f"{program}: {len(runs)} command lines of options and pairs of them",
+        "".join(said)[:4000])
+
+
+def forms():
+    """Manifests for a file `f` of the bytes abc: lines of each form, what is almost one, and mixtures of them."""
+    half, whole = (hashlib.blake2b(b"abc", digest_size=size).hexdigest().encode() for size in (32, 64))
+    lines = [
+        whole, whole + b" ", whole + b"  ", whole + b" *", whole + b" f", whole + b"  f", whole + b" *f",
+        whole + b"\tf",
+        whole + b"\t f", whole + b"   f", whole + b"  f ", whole + b"  f\r", whole + b"  f\r\r", whole.upper() + b"  f",
+        half + b"  f", half + b" *f", half[:-1] + b"  f", half[:-2] + b"  f", whole + b"0  f", whole + b"00  f",
+        b"0  f",
+        b"00  f", b" " + half + b"  f", b"\t" + half + b"  f", b"\\" + half + b"  f", b"\\" + half + b"  f\\n",
+        b"\\" + half + b"  f\\", b"\\" + half + b"  \\\\f", b" \\" + half + b"  f", b"#" + half + b"  f", b"", b"#",
+        b" #", b"x",
+        half.replace(b"a", b"g") + b"  f", half + b"f", half + b"\n  f", half + b"  ./f", half + b"  -",
+        half + b"  none",
+        b"BLAKE2b (f) = " + whole, b"BLAKE2b-256 (f) = " + half, b"BLAKE2b (f) = " + half,
+        b"BLAKE2b-256 (f) = " + whole,
+        b"BLAKE2b-512 (f) = " + whole, b"BLAKE2b(f)= " + whole, b"BLAKE2b (f)= " + whole, b"BLAKE2b(f) = " + whole,
+        b"BLAKE2b   (f) = " + whole, b"BLAKE2b (f)  =  " + whole, b"BLAKE2b (f)\t=\t" + whole, b"BLAKE2b (f) " + whole,
+        b"BLAKE2b (f) =" + whole, b"BLAKE2b (f = " + whole, b"BLAKE2b f) = " + whole, b"BLAKE2b () = " + whole,
+        b"BLAKE2b (",
+        b"BLAKE2b", b"BLAKE2b-", b"BLAKE2b-256", b"BLAKE2b-256 ", b"BLAKE2b-256 (f)", b"BLAKE2b-256 (f) =",
+        b"BLAKE2b-0 (f) = ",
+        b"BLAKE2b-8 (f) = 6b", b"BLAKE2b-7 (f) = 6b", b"BLAKE2b-520 (f) = " + whole + b"00",
+        b"BLAKE2b-4294967296 (f) = " + half,
+        b"BLAKE2b-99999999999999999999 (f) = " + half, b"BLAKE2b-256 (f) = " + half.upper(),
+        b"BLAKE2b-256 (f) = " + half + b" ",
+        b"\\BLAKE2b-256 (f) = " + half, b"\\BLAKE2b-256 (\\\\f) = " + half, b"blake2b (f) = " + whole,
+        b"BLAKE2s (f) = " + half,
+        b"BLAKE2b (f) = x) = " + whole, b"SHA512 (f) = " + whole, b"BLAKE2sp (f) = " + whole,
+    ]
+    yield from (line + b"\n" for line in lines)
+    yield from (line + b"\n" + half + b"  f\n" + half + b" f\n" for line in lines)
+    yield from (half + b" f\n" + line + b"\n" + half + b"  f\n" for line in lines)
+    yield from (b"", b"\n", b"\n\n", b"\r\n", half + b"  f", half + b"  f\n\n" + whole + b"  f", b"#\n" * 3, b"x\n" * 3)
+
+
+def test_forms(program, pool):
+    """Manifests of many forms, and all lengths."""
+    with tempfile.TemporaryDirectory() as folder:
+        with open(os.path.join(folder, "f"), "wb") as file:
+            file.write(b"abc")
+        runs = [([b"-c", *more], text) for text in forms() for more in ([], [b"-w", b"--strict"])]
+        runs += [([b"-l", b"%d" % bits, *more, b"f"], b"") for bits in range(0, 1025) for more in ([], [b"--tag"])
+                 if bits % 8 == 0 or bits < 20]
+        said = list(pool.map(lambda run: difference(program, run[0], folder, run[1]) and f"{run}: differs\n", runs))
+    tap.result(not any(said), f"{program}: {len(runs)} manifests and lengths", "".join(said)[:4000])
+
+
+def main():
+    parser = argparse.ArgumentParser()
+    parser.add_argument("--runs", type=int, default=5000 if os.environ.get("VULFSJOR_TEST_HUGE") else 400)
+    parser.add_argument("--seed", type=int, default=1)
+    parser.add_argument("program", nargs="*")
+    given = parser.parse_args()
+    peer = shutil.which("b2sum", path="/usr/bin")
+    version = subprocess.run([peer, "--version"], stdout=subprocess.PIPE, text=True).stdout if peer else ""
+    if not version.startswith("b2sum (GNU coreutils) 9.1\n"):
+        tap.result(True, "command lines beside coreutils' b2sum", skipped="no b2sum of coreutils 9.1")
+        tap.finish()
+    pool = concurrent.futures.ThreadPoolExecutor(len(os.sched_getaffinity(0)))
+    with programs(given.program) as built:
+        for program in built:
+            test_options(program, pool)
+            test_forms(program, pool)
+            seeds = range(given.seed * 1000003, given.seed * 1000003 + given.runs)
+            said = list(filter(None, pool.map(lambda seed: random_run(program, seed), seeds)))
+            tap.result(not said, f"{program}: {given.runs} random command lines, from seed {given.seed} on",
+                       f"{len(said)} differ\n" + "".join(said[:9]))
+    tap.finish()
+
+
+main()

@@ -1,0 +1,70 @@
+/* A library to preload into b2sum: some calls of one function of the system fail.
+ *
+ *   FAULT_CALL   readv, openat, write, malloc or realloc
+ *   FAULT_AT     the number of the call that fails, from 1
+ *   FAULT_LAST   the number of the last one that does
+ *   FAULT_ERROR  its errno; 0: it reads or writes one byte
+ *   FAULT_HIT    a file that is made if a call fails */
+#define _GNU_SOURCE
+#include <errno.h>
+#include <fcntl.h>
+#include <stdlib.h>
+#include <string.h>
+#include <sys/syscall.h>
+#include <sys/uio.h>
+#include <unistd.h>
+
+void *__libc_malloc(size_t size), *__libc_realloc(void *place, size_t size);
+
+static long number(const char *name) {
+    const char *text = getenv(name);
+    return text ? atol(text) : 0;
+}
+
+/* Whether this call is one of those that fail. */
+static int is_hit(const char *call) {
+    static long calls;
+    const char *wanted = getenv("FAULT_CALL");
+
+    if (!wanted || strcmp(call, wanted) || ++calls < number("FAULT_AT") ||
+        calls > number("FAULT_LAST"))
+        return 0;
+    syscall(SYS_openat, AT_FDCWD, getenv("FAULT_HIT"), O_CREAT | O_WRONLY, 0600);
+    return 1;
+}
+
+static long failed(void) {
+    errno = (int)number("FAULT_ERROR");
+    return -1;
+}
+
+ssize_t readv(int file, const struct iovec *room, int count) {
+    struct iovec first = *room;
+
+    if (is_hit("readv")) {
+        if (number("FAULT_ERROR")) return failed();
+        if (first.iov_len > 1) first.iov_len = 1;
+    }
+    return syscall(SYS_readv, file, &first, count);
+}
+
+int openat(int folder, const char *name, int flags, ...) {
+    if (is_hit("openat")) return (int)failed();
+    return (int)syscall(SYS_openat, folder, name, flags, 0);
+}
+
+ssize_t write(int file, const void *bytes, size_t size) {
+    if (is_hit("write")) {
+        if (number("FAULT_ERROR")) return failed();
+        if (size > 1) size = 1;
+    }
+    return syscall(SYS_write, file, bytes, size);
+}
+
+ssize_t __write(int file, const void *bytes, size_t size) { return write(file, bytes, size); }
+
+void *malloc(size_t size) { return is_hit("malloc") ? NULL : __libc_malloc(size); }
+
+void *realloc(void *place, size_t size) {
+    return is_hit("realloc") ? NULL : __libc_realloc(place, size);
+}

@@ -1,0 +1,437 @@
+#!/usr/bin/env python3
+"""Runs the program b2sum over files, pipes and devices, with what cannot be read, written or allocated. What it has to
+print is known from hashlib and from the system's texts of errors. Then it makes single calls of the system fail, one
+after the other (tests/b2sum_faults.c), and checks that no line is wrong, and that the status shows it.
+
+tests/b2sum.py compares the program with that of coreutils.
+
+usage: tests/b2sum_files.py [PROGRAM..]
+"""
+import errno
+import hashlib
+import itertools
+import os
+import resource
+import shutil
+import socket
+import subprocess
+import sys
+import tempfile
+
+import tap
+from blake2_kinds import TOP
+from b2sum_program import programs
+from oracle import tree_root
+
+HUGE = bool(os.environ.get("VULFSJOR_TEST_HUGE"))
+CALLS = {"readv": errno.EIO, "openat": errno.EACCES, "write": errno.ENOSPC, "malloc": errno.ENOMEM,
+         "realloc": errno.ENOMEM}
+# Wrong arguments, and what is said of them.
+WRONG = {
+    "--salt 0": "invalid salt: '0'\nthe value is not hexadecimal digits, two for each byte",
+    "--personal zz": "invalid personal: 'zz'\nthe value is not hexadecimal digits, two for each byte",
+    "--salt " + "00" * 17: "the salt is too long: at most 16 bytes, 8 for BLAKE2s",
+    "--personal " + "00" * 17: "the personal is too long: at most 16 bytes, 8 for BLAKE2s",
+    "-a blake2s --salt " + "00" * 9: "the salt is too long: at most 16 bytes, 8 for BLAKE2s",
+    "-a blake2s --personal " + "00" * 9: "the personal is too long: at most 16 bytes, 8 for BLAKE2s",
+    "-a blake2s -l 264": "invalid length: '264'\nmaximum digest length for 'BLAKE2s' is 256 bits",
+    "--tree 0": "invalid leaf length: '0'\na leaf has 1 to 4294967295 bytes",
+    "--tree 4294967296": "invalid leaf length: '4294967296'\na leaf has 1 to 4294967295 bytes",
+    "--tree 4k": "invalid leaf length: '4k'\na leaf has 1 to 4294967295 bytes",
+    "--tree 4 -a blake2s": "the --tree option supports blake2b only",
+    "--tree 4 --key-file b": "the --tree option does not support --key-file",
+    "--tree 4 --text": "--tree does not support --text mode",
+}
+FILES = {"a": b"", "b": b"abc", "with\nline": b"x" * 1000, "caf\udcff": bytes(range(256)) * 5}
+
+
+class Runs:
+    """Runs of a program in a folder that has FILES."""
+
+    def __init__(self, program, folder):
+        self.program, self.folder, self.wrong, self.count = program, folder, [], 0
+        for name, data in FILES.items():
+            self.write(name, data)
+
+    def path(self, name):
+        return os.path.join(self.folder, name)
+
+    def write(self, name, data):
+        with open(self.path(name), "wb") as file:
+            file.write(data)
+
+    def run(self, words, data=b"", **more):
+        """What the program prints to both streams, and its status."""
+        more = {"env": {"LC_ALL": "C"}, "stdout": subprocess.PIPE, "stderr": subprocess.PIPE, "timeout": 100, **more}
+        if "stdin" not in more:
+            more["input"] = data
+        done = subprocess.run(["b2sum", *words], executable=self.program, cwd=self.folder, **more)
+        return done.stdout or b"", done.stderr or b"", done.returncode
+
+    def wants(self, words, out, err="", status=0, data=b"", **more):
+        """A run that has to print these texts and end with this status. Each line of `err` is a message."""
+        err = b"".join(b"b2sum: " + os.fsencode(line) + b"\n" for line in err.splitlines())
+        if "Try" in more:
+            err += b"Try 'b2sum --help' for more information.\n"
+            del more["Try"]
+        wanted, got = (os.fsencode(out), err, status), self.run(words, data, **more)
+        self.count += 1
+        if got != wanted:
+            self.wrong.append(f"{words}\n  wanted {wanted}\n  got    {got}")
+
+    def holds(self, words, condition, got=""):
+        """A condition of a run."""
+        self.count += 1
+        if not condition:
+            self.wrong.append(f"{words}\n  got {got}")
+
+    def ends(self, name):
+        """One test of all runs so far."""
+        label = f"{os.path.basename(self.program)}: {name} ({self.count} runs)"
+        tap.result(self.count and not self.wrong, label, "\n".join(self.wrong[:5])[:6000])
+        self.wrong, self.count = [], 0
+
+
+def escaped(name):
+    for byte, text in (("\\", "\\\\"), ("\n", "\\n"), ("\r", "\\r")):
+        name = name.replace(byte, text)
+    return name
+
+
+def line(name, data, bits=512, family="b", mark=" ", tag=False, **parameters):
+    """The line of a file."""
+    digits = getattr(hashlib, "blake2" + family)(data, digest_size=bits // 8, **parameters).hexdigest()
+    start = "\\" if escaped(name) != name else ""
+    if tag:
+        longest = 512 if family == "b" else 256
+        return f"{start}BLAKE2{family}{'' if bits == longest else f'-{bits}'} ({escaped(name)}) = {digits}\n"
+    return f"{start}{digits} {mark}{escaped(name)}\n"
+
+
+def lines(**more):
+    return "".join(line(name, data, **more) for name, data in FILES.items())
+
+
+# ---- Digests.
+
+def test_lengths(runs):
+    for family, longest in (("b", 512), ("s", 256)):
+        for bits in range(8, longest + 1, 8):
+            words = ["-a", f"blake2{family}", "-l", str(bits)]
+            runs.wants([*words, "-"], line("-", b"some bytes", bits, family), data=b"some bytes")
+            tagged = lines(bits=bits, family=family, tag=True)
+            runs.wants([*words, "--tag", *FILES], tagged)
+            oks = "".join(("\\" if "\n" in name else "") + escaped(name) + ": OK\n" for name in FILES)
+            runs.wants(["-a", f"blake2{family}", "-c"], oks, data=os.fsencode(tagged))
+            runs.wants(["-a", f"blake2{family}", "-c"], oks, data=os.fsencode(lines(bits=bits, family=family)))
+    runs.wants([*FILES], lines())
+    runs.wants(["-b", "b"], line("b", b"abc", mark="*"))
+    runs.wants(["-z", "with\nline", "a"], "".join(
+        f"{hashlib.blake2b(FILES[name]).hexdigest()}  {name}\0" for name in ("with\nline", "a")))
+    for size in (4095, 4096, 4097, 65535, 65536, 65537, 131072, 1000000):
+        runs.write("sized", bytes(size))
+        runs.wants(["sized"], line("sized", bytes(size)))
+        runs.wants([], line("-", bytes(size)), data=bytes(size))
+    runs.ends("each length of both algorithms, printed and checked")
+
+
+def test_names(runs):
+    """Names with each byte, and with what is a character of several bytes or looks like one."""
+    names = [os.fsdecode(bytes([120, byte])) for byte in range(1, 256) if byte != 47]
+    names += ["\u00e9", "\u20ac", "\U0001f600", "\U0010ff80", "\U0010ffff", "\U0010ff7f", "a\U0010ff80\udc80",
+              os.fsdecode(b"\xf4\x8f\xbe"), os.fsdecode(b"\xed\xa0\x80"), os.fsdecode(b"\xc3"), "\u00e9\udce9"]
+    for number, name in enumerate(names):
+        runs.write(name, str(number).encode())
+        runs.wants([name], line(name, str(number).encode()))
+    manifest = "".join(line(name, str(number).encode()) for number, name in enumerate(names))
+    runs.wants(["-c", "--quiet", "--strict"], "", data=os.fsencode(manifest))
+    runs.ends("names of any bytes")
+
+
+def test_parameters(runs):
+    """Keys, salts, personalizations and algorithms."""
+    key, salt, person = bytes(range(64)), b"pepper\n\0", b"\xff" * 8
+    runs.write("key", key)
+    runs.write("key32", key[:32])
+    runs.write("key1", key[:1])
+    for family, name, size in (("b", "key", 64), ("b", "key1", 1), ("s", "key32", 32), ("b", "key32", 32)):
+        given = {"key": key[:size], "salt": salt, "person": person}
+        words = ["-a", "blake2" + family, "--key-file", name, "--salt=" + salt.hex(), "--personal",
+            person.hex().upper()]
+        runs.wants([*words, *FILES], lines(family=family, bits=512 if family == "b" else 256, **given))
+        runs.wants([*words, "--tag", "-l", "128", *FILES], lines(family=family, bits=128, tag=True, **given))
+        oks = "".join(("\\" if "\n" in it else "") + escaped(it) + ": OK\n" for it in FILES)
+        manifest = os.fsencode(lines(family=family, bits=128, **given))
+        runs.wants(["-c", *words], oks, data=manifest)
+        wrong = "".join(("\\" if "\n" in it else "") + escaped(it) + ": FAILED\n" for it in FILES)
+        runs.wants(["-c", *words, "--salt", "00"], wrong, f"WARNING: {len(FILES)} computed checksums did NOT match", 1,
+                   manifest)
+    runs.wants(["--salt", "00" * 16, "--personal", "", "b"], line("b", b"abc"))
+    for words, said in WRONG.items():
+        runs.wants([*words.split(), "b"], "", said, 1, **({} if "\n" in said else {"Try": 1}))
+    runs.write("key65", bytes(65))
+    runs.write("key0", b"")
+    for words, said in (("--key-file key65", "key65: a key has 1 to 64 bytes"),
+            ("--key-file key0", "key0: a key has 1 to 64 bytes"),
+                        ("-a blake2s --key-file key", "key: a key of BLAKE2s has 1 to 32 bytes"),
+                        ("--key-file none", f"none: {os.strerror(errno.ENOENT)}"),
+                        ("--key-file .", f".: {os.strerror(errno.EISDIR)}")):
+        runs.wants([*words.split(), "b"], "", said, 1)
+    runs.wants(["-a", "blake2x", "b"], "", "invalid algorithm: 'blake2x'", 1, Try=1)
+    runs.ends("keys, salts, personalizations, and what is refused of them")
+
+
+def root_line(name, data, leaf, bits=512, **texts):
+    """The line of the root of a tree."""
+    tag = f"BLAKE2b-tree-{leaf}{'' if bits == 512 else f'-{bits}'}"
+    return f"{tag} ({name}) = {tree_root(data, leaf, bits // 8, **texts).hex()}\n"
+
+
+def test_trees(runs):
+    """Roots of trees, in one thread and in several."""
+    runs.write("big", bytes(range(256)) * (33 << 12))
+    big = bytes(range(256)) * (33 << 12)
+    for leaf, data in ((1, b"abc"), (4, b"abcde"), (64, bytes(1000)), (4096, bytes(40960)), (65536, big),
+            ((1 << 32) - 1, b"")):
+        runs.write("data", data)
+        for bits in (512, 256, 8):
+            words = ["--tree", str(leaf), "-l", str(bits)]
+            wanted = root_line("data", data, leaf, bits)
+            runs.wants([*words, "data"], wanted)
+            runs.wants(words, wanted.replace("data", "-"), data=data)
+            runs.wants(["-c", "--strict", "--tree", str(leaf)], "data: OK\n", data=wanted.encode())
+    for leaf in (1 << 20, 3 << 20, 5 << 20, 16 << 20, 1 << 25):
+        runs.wants(["--tree", str(leaf), "big"], root_line("big", big, leaf))
+    runs.wants(["--tree=65536", "--salt", "0102", "--personal=ff", "big"],
+               root_line("big", big, 65536, salt=b"\1\2", person=b"\xff"))
+    for text in (line("b", b"abc"), line("b", b"abc", tag=True), root_line("b", b"abc", 5),
+            root_line("b", b"abc", 4).replace("-4", "-04")):
+        got = runs.run(["-c", "--tree", "4"], text.encode())
+        runs.holds(text, got[0] == b"" and got[2] == 1 and b"no properly formatted" in got[1], got)
+    got = runs.run(["-c"], root_line("b", b"abc", 4).encode())
+    runs.holds("a root is no digest", got[0] == b"" and got[2] == 1, got)
+    runs.ends("roots of trees")
+
+
+def test_differences(runs):
+    """What docs/B2SUM.md lists as different from coreutils, as far as it can be seen in a run."""
+    digits = hashlib.blake2b(b"abc", digest_size=32).hexdigest()
+    found = "'standard input': no properly formatted checksum lines found"
+    for length in ("0256", "+256", " 256", "0x100"):
+        runs.wants(["-c"], "", found, 1, f"BLAKE2b-{length} (b) = {digits}\n".encode())
+    for text in (f"{digits}  b\0\n", f"{digits}\0  b\n", f"BLAKE2bp-256 (b) = {digits}\n",
+                 line("b", b"abc", tag=True).replace("BLAKE2b", "BLAKE2bp"),
+                 line("b", b"abc", tag=True).replace(" (", "  (")):
+        runs.wants(["-c"], "", found, 1, text.encode())
+    runs.wants(["-c"], "b: OK\n", "WARNING: 1 line is improperly formatted", 0,
+               f"\\{digits}  a\\x\n{digits} b\n".encode())
+    runs.wants(["-c", "--ignore-missing", "--quiet"], "", data=f"{digits}  b\n{digits}  none\n".encode())
+    for words in (["--help"], ["--version"]):
+        got = runs.run(words)
+        runs.holds(words, b"b2sum" in got[0] and got[1:] == (b"", 0), got)
+    for name in ("caf\u00e9", "it's\1", "\1it's", "'\n", "\1'\2", "''\udcff'"):
+        said = runs.run([name], env={"LC_ALL": "C.UTF-8"})[1]
+        quoted = said.removeprefix(b"b2sum: ").removesuffix(b": No such file or directory\n")
+        shown = subprocess.run(["bash", "-c", b"printf %s " + quoted], stdout=subprocess.PIPE).stdout
+        runs.holds([name], shown == os.fsencode(name) and b"$'" in said, said)
+    runs.wants(["b", "-l", "256"], f"{digits}  b\n", env={"POSIXLY_CORRECT": "1"})
+    for option, possible in (("--s", "'--status' '--strict' '--salt'"), ("--t", "'--tag' '--text' '--tree'")):
+        runs.wants([option], "", f"option '{option}' is ambiguous; possibilities: {possible}", 1, Try=1)
+    runs.ends("the differences from coreutils")
+
+
+def test_system(runs):
+    """What cannot be opened or read, and files that are no regular ones."""
+    os.mkdir(runs.path("dir"))
+    os.symlink("loop", runs.path("loop"))
+    server = socket.socket(socket.AF_UNIX)
+    server.bind(runs.path("socket"))
+    reasons = {"none": errno.ENOENT, "dir": errno.EISDIR, "loop": errno.ELOOP, "a/x": errno.ENOTDIR,
+               "n" * 256: errno.ENAMETOOLONG, "n" * 131071: errno.ENAMETOOLONG, "x/" * 2050: errno.ENAMETOOLONG,
+               "socket": errno.ENXIO,
+               "/proc/self/mem": errno.EIO, "": errno.ENOENT}
+    for name, error in reasons.items():
+        shown = name or "''"
+        runs.wants(["b", name, "a"], line("b", b"abc") + line("a", b""), f"{shown}: {os.strerror(error)}", 1)
+        if name:
+            runs.wants(["-c"], f"{name}: FAILED open or read\nb: OK\n", f"{name}: {os.strerror(error)}\n"
+                       "WARNING: 1 listed file could not be read", 1,
+                       os.fsencode(line(name, b"abc") + line("b", b"abc")))
+            runs.wants(["-c", name], "", f"{name}: {'read error' if error in (errno.EISDIR, errno.EIO) else os.strerror(error)}",
+                       1)
+    runs.wants(["/dev/null"], line("/dev/null", b""))
+    runs.wants(["-"], "", f"-: {os.strerror(errno.EISDIR)}", 1, stdin=os.open(runs.folder, os.O_RDONLY))
+    runs.wants(["b", "-"], line("b", b"abc"), f"-: {os.strerror(errno.EBADF)}", 1, stdin=None,
+               preexec_fn=lambda: os.close(0))
+    os.mkfifo(runs.path("pipe"))
+    writer = subprocess.Popen(["sh", "-c", "(printf ab; sleep 0.3; printf c) >pipe"], cwd=runs.folder)
+    runs.wants(["pipe"], line("pipe", b"abc"))
+    writer.wait()
+    server.close()
+    runs.ends("what cannot be read, pipes and devices")
+
+
+def test_outputs(runs):
+    """Standard output and standard error that are full or closed, and a pipe that nobody reads."""
+    full = os.open("/dev/full", os.O_WRONLY)
+    sums = os.fsencode(lines())
+    no_space = f"write error: {os.strerror(errno.ENOSPC)}"
+    for words in ([*FILES], ["-c"], ["--tag", "b"], ["-z", "a"], ["--help"], ["--version"]):
+        runs.wants(words, "", no_space, 1, sums, stdout=full)
+        runs.wants(words, "", f"write error: {os.strerror(errno.EBADF)}", 1, sums, stdout=None,
+                   preexec_fn=lambda: os.close(1))
+    runs.wants(["-c", "--status"], "", data=sums, stdout=full)
+    for words, out, status in ((["b", "none"], line("b", b"abc"), 1), (["-c", "none"], "", 1), (["-l", "7"], "", 1),
+                               (["b"], line("b", b"abc"), 0)):
+        runs.wants(words, out, "", status, stderr=full)
+        runs.wants(words, out, "", status, stderr=None, preexec_fn=lambda: os.close(2))
+    reader, writer = os.pipe()
+    os.close(reader)
+    got = runs.run(["b"], stdout=writer)
+    runs.holds("an output that nobody reads", got[2] != 0, got)
+    os.close(writer)
+    os.close(full)
+    runs.ends("outputs that are full or closed")
+
+
+def test_progress(runs):
+    """What --progress shows on a terminal over a pipe that waits, and that nothing else shows anything."""
+    os.mkfifo(runs.path("slow"))
+    for words, wanted in ((["--progress"], b"\rslow: 0 MiB\x1b[K\r\x1b[K"),
+            (["--prog", "--tag"], b"\rslow: 0 MiB\x1b[K\r\x1b[K"),
+                          ([], b"")):
+        terminal, end = os.openpty()
+        writer = subprocess.Popen(["sh", "-c", "(printf ab; sleep 0.7; printf c) >slow"], cwd=runs.folder)
+        runs.wants([*words, "slow"], line("slow", b"abc", tag="--tag" in words), stderr=end)
+        writer.wait()
+        os.write(end, b"end")
+        got = b""
+        while not got.endswith(b"end"):
+            got += os.read(terminal, 1000)
+        runs.holds(words, got == wanted + b"end", got)
+        os.close(terminal)
+        os.close(end)
+    runs.wants(["--progress", "b"], line("b", b"abc"))
+    runs.ends("progress")
+
+
+def test_large(runs):
+    """A sparse file of more than 4 GiB, and a manifest with a line of 1 MiB."""
+    long_name = "n" * (1 << 20)
+    runs.wants(["-c"], f"{long_name}: FAILED open or read\nb: OK\n", f"{long_name}: {os.strerror(errno.ENAMETOOLONG)}\n"
+               "WARNING: 1 listed file could not be read", 1, os.fsencode(line(long_name, b"") + line("b", b"abc")))
+    if HUGE:
+        size, state = (1 << 32) + 4097, hashlib.blake2b()
+        with open(runs.path("sparse"), "wb") as file:
+            file.truncate(size)
+        for _ in range(1 << 12):
+            state.update(bytes(1 << 20))
+        state.update(bytes(4097))
+        runs.wants(["sparse"], f"{state.hexdigest()}  sparse\n", timeout=1000)
+        os.remove(runs.path("sparse"))
+    runs.ends(f"a long line{' and a file beyond 4 GiB' if HUGE else ''}")
+
+
+# ---- Memory.
+
+def run_within(runs, kib, words, data=b""):
+    """A run in so many KiB of address space."""
+    return runs.run(words, data, preexec_fn=lambda: resource.setrlimit(resource.RLIMIT_AS, (kib << 10,) * 2))
+
+
+def test_memory(runs):
+    """A fixed amount for digests, and for a check up to twice the manifest. With less, it says so."""
+    low, high = 0, 1 << 16
+    while high - low > 16:
+        middle = (low + high) // 2
+        low, high = (low, middle) if run_within(runs, middle, ["a"])[2] == 0 else (middle, high)
+    with open(runs.path("large"), "wb") as file:
+        file.truncate(64 << 20)
+    got = run_within(runs, high + 64, ["large"])
+    runs.holds("64 MiB", got == (os.fsencode(line("large", bytes(64 << 20))), b"", 0), got)
+    manifest = os.fsencode(line("b", b"abc") + "# comment\n" * 400000)
+    got = run_within(runs, high + 64 + 2 * len(manifest) // 1024, ["-c"], manifest)
+    runs.holds("a manifest of 4 MB", got == (b"b: OK\n", b"", 0), got)
+    got = run_within(runs, high + len(manifest) // 1024, ["-c"], manifest)
+    runs.holds("with less", got == (b"", b"b2sum: memory exhausted\n", 1), got)
+    runs.ends("memory")
+
+
+# ---- Faults.
+
+def fault(runs, words, data, call, at, last, error):
+    """A run in which these calls of a function fail, or nothing if it makes no such call."""
+    hit = runs.path("hit")
+    got = runs.run(words, data, env={
+        "LC_ALL": "C", "LD_PRELOAD": os.environ["FAULTS"], "FAULT_CALL": call, "FAULT_AT": str(at),
+        "FAULT_LAST": str(last), "FAULT_ERROR": str(error), "FAULT_HIT": hit})
+    if not os.path.exists(hit):
+        return None
+    os.remove(hit)
+    return got
+
+
+def check_faults(runs, words, data, good, call, error):
+    """The first call of a function fails, the second, and so on; each alone, and with all later ones."""
+    for at in itertools.count(1):
+        for last in (at, 1 << 30):
+            got = fault(runs, words, data, call, at, last, error)
+            if not got:
+                runs.holds([*words, call], at > 1, "it is never called")
+                return
+            whole = set(got[0].splitlines(keepends=True))
+            runs.holds([*words, call, at, last, error], got[2] == 1 and whole <= good and said(call, error, got[1]),
+                got)
+
+
+def test_faults(runs):
+    """Each call of the system fails in turn."""
+    sums = os.fsencode(lines())
+    runs.write("sums", sums)
+    names = [b"a", b"b", b"\\with\\nline", b"caf\xff"]
+    outcomes = {name + end for name in names for end in (b": OK\n", b": FAILED open or read\n")}
+    for words, data, good in (([*FILES, "-"], b"abc", {*(sums + os.fsencode(line("-", b"abc"))).splitlines(True)}),
+                              (["-c", "sums"], b"", outcomes), (["-c"], sums, outcomes),
+                              (["-c", "--ignore-missing", "--strict", "-w", "sums", "sums"], b"", outcomes)):
+        whole = runs.run(words, data)
+        runs.holds(words, whole[1:] == (b"", 0) and not b"FAILED" in whole[0], whole)
+        for call, error in CALLS.items():
+            check_faults(runs, words, data, good, call, error)
+        for call in ("readv", "write"):
+            for at, last in ((1, 1), (2, 2), (3, 3), (1, 1 << 30)):
+                runs.holds([words, call, at, last], fault(runs, words, data, call, at, last, 0) == whole)
+    runs.ends("each read, open, write and request for memory fails in turn")
+
+
+def said(call, error, err):
+    """Whether the messages name the cause."""
+    if call in ("malloc", "realloc"):
+        return err == b"b2sum: memory exhausted\n" or b": out of memory\n" in err  # for one file
+    if call == "write":
+        return err in (b"", b"b2sum: write error: No space left on device\n")
+    return os.fsencode(os.strerror(error)) in err or b"read error" in err
+
+
+TESTS = (test_lengths, test_names, test_parameters, test_trees, test_differences, test_system, test_outputs,
+         test_progress, test_large, test_memory, test_faults)
+
+
+def main():
+    work = tempfile.mkdtemp()
+    os.environ["FAULTS"] = os.path.join(work, "faults.so")
+    has_faults = shutil.which("cc") and subprocess.run(
+        ["cc", "-shared", "-fPIC", "-O1", os.path.join(TOP, "tests", "b2sum_faults.c"), "-o", os.environ["FAULTS"]],
+        stdout=subprocess.DEVNULL).returncode == 0
+    with programs(sys.argv[1:]) as built:
+        for program in built:
+            for test in TESTS:
+                if test is test_faults and not has_faults:
+                    tap.result(True, "calls that fail", skipped="no C compiler cc")
+                    continue
+                with tempfile.TemporaryDirectory() as folder:
+                    test(Runs(program, folder))
+    shutil.rmtree(work)
+    tap.finish()
+
+
+main()

@@ -1,0 +1,113 @@
+# What the scripts b2 and b2sum share. Each reads this file by `source`, with `top` set to the
+# folder of the repository and `name` to the name of the program.
+#
+# The program is in out/ or, if that cannot be written, in the folder vulfsjor of XDG_CACHE_HOME
+# (otherwise of ~/.cache), one for each clone. On x86-64 it contains all builds and chooses one at
+# run time, so machines with other processors may share the folder.
+machine=${BASH_VERSINFO[5]%%-*}
+x86_64=("dist/x86_64/$name-"v{2,3,4}.s) aarch64=("dist/aarch64/$name.s")
+sources=(c/b2.c c/choose.c c/include/vulfsjor.h)
+# b2sum is linked with the library too, whose functions hash trees by threads.
+if [ "$name" = b2sum ]; then
+    sources+=(c/b2sum.c c/threads.c c/include/vulfsjor_threads.h)
+    x86_64+=(dist/x86_64/vulfsjor-v{2,3,4}.s)
+    aarch64+=(dist/aarch64/vulfsjor.s)
+fi
+
+fail() {
+    echo "$name: $1" >&2
+    exit 1
+}
+
+# Whether this program exists and is newer than what it is made of. A file of the same time may have
+# changed after the program's build began, since file systems count in steps of milliseconds.
+is_current() {
+    local file
+    [ -x "$1" ] || return
+    for file in "$name" tools/program.sh dist/MANIFEST "${x86_64[@]}" "${aarch64[@]}" \
+        "${sources[@]}"; do
+        [ "$1" -nt "$top/$file" ] || return
+    done
+}
+
+# The name of the main in a file of dist/, and that of the function that C replaces.
+main_of() { sed -n 's/^\t\.globl\t\(main_.*\)/\1/p' "$top/$1"; }
+weak_of() { sed -n 's/^\t\.weak\t//p' "$top/$1"; }
+
+# Adds to `words` what the compiler gets for a program of these files: FILE, or FILE V3 V4.
+add_words() {
+    words+=("-DMAIN=$(main_of "$1")" "-I$top/c/include")
+    [ $# -eq 1 ] || words+=("-DMAIN_V3=$(main_of "$2")" "-DMAIN_V4=$(main_of "$3")")
+    if [ "$name" = b2sum ]; then
+        words+=("-DUPDATE_TREE=$(weak_of "$1")" "$top"/c/{b2sum,threads,choose}.c -pthread)
+        [ $# -eq 1 ] ||
+            words+=("-DUPDATE_TREE_V3=$(weak_of "$2")" "-DUPDATE_TREE_V4=$(weak_of "$3")")
+    elif [ $# -eq 3 ]; then
+        words+=('-DCHOOSE_FUNCTIONS="/dev/null"' "$top/c/choose.c")
+    fi
+}
+
+# Builds the program as this file, for the machine that the compiler compiles for, which has to be
+# this one if it is named: FILE [MACHINE]. It is then as old as the beginning of its build.
+build() {
+    local cc target texts words=()
+    read -ra cc <<<"${CC:-cc}"
+    command -v "${cc[0]-}" >/dev/null || fail "a C compiler is needed: cc, or the one that CC names"
+    target=$("${cc[@]}" -dumpmachine)
+    case $target in
+        *x32 | *ilp32) fail "there is no build for $target" ;;
+        x86_64-*linux*)
+            texts=("${x86_64[@]}")
+            add_words "${texts[@]:0:3}"
+            ;;
+        aarch64-*linux*)
+            texts=("${aarch64[@]}")
+            add_words "${texts[0]}"
+            ;;
+        *) fail "there is no build for $target" ;;
+    esac
+    [[ $target == "${2-}"* ]] || fail "CC compiles for $target, and this machine is $2"
+    "$top/tools/dist.sh" current || fail "dist/ was not made from these sources: run make dist"
+    echo "$name: assembling ${texts[*]}, which is done once" >&2
+    begun=$(mktemp -- "$1.XXXXXX")
+    trap 'rm -f -- "$begun" "$begun.new"' EXIT
+    "${cc[@]}" -O2 -fno-lto "${words[@]}" -o "$begun.new" "$top/c/b2.c" "${texts[@]/#/$top/}" \
+        -Wl,-z,relro -Wl,-z,now
+    chmod 755 "$begun.new"
+    touch -r "$begun" "$begun.new"
+    mv -f -- "$begun.new" "$1"
+    rm -f -- "$begun"
+    trap - EXIT
+    echo "$name: built $1" >&2
+}
+
+# Whether files can be written in this folder, which need not exist yet.
+is_writable() { if [ -e "$1" ]; then [ -d "$1" ] && [ -w "$1" ]; else [ -w "${1%/*}" ]; fi; }
+
+# Sets program to the one in out/ or, if that has to be built and cannot be written, to the one in
+# the cache. Builds it if it is not current.
+find_program() {
+    local cache=${XDG_CACHE_HOME-}
+    program=$top/out/$name-$machine
+    ! is_current "$program" || return 0
+    if ! is_writable "$top/out"; then
+        [[ $cache == /* ]] || cache=${HOME:+$HOME/.cache}
+        program=${cache:-/dev/null}/vulfsjor$(cd -- "$top" && pwd -P)/$name-$machine
+        ! is_current "$program" || return 0
+        [ -z "$cache" ] || echo "$name: $top/out cannot be written: trying ${program%/*}" >&2
+    fi
+    if ! mkdir -p -- "${program%/*}" 2>/dev/null || ! is_writable "${program%/*}"; then
+        fail "$top/out cannot be written: set XDG_CACHE_HOME to a folder for the program"
+    fi
+    build "$program" "$machine-"
+}
+
+# Runs the program with these arguments. `--build FILE` builds it as FILE instead.
+run_program() {
+    if [ "${1-},$#" = --build,2 ]; then
+        build "$2"
+    else
+        find_program
+        exec "$program" "$@"
+    fi
+}
