@@ -4,8 +4,8 @@
  * tests/program.c tests each function.
  *
  * MAIN is the main of the assembly file, such as main_0_1_0_v3. If MAIN_V3 and MAIN_V4 are defined,
- * three files are linked: MAIN is that of the build for x86-64-v2, and the others are for processors
- * on which choose.c finds level 3 or 4. */
+ * three files are linked: MAIN is that of the build for x86-64-v2, and the others are for
+ * processors on which choose.c finds level 3 or 4. */
 #include <errno.h>
 #include <stdbool.h>
 #include <stddef.h>

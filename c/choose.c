@@ -14,9 +14,9 @@
  * CHOOSE_ONE names a build, such as v3: then the library contains only that build, and each call
  * jumps to it. CHOOSE_SHOWN is defined for the shared library. Otherwise the names are hidden, so
  * that a shared library that links the archive does not export them. Three macros are for tests.
- * CHOOSE_TEST 2, 3 or 4 selects that build, whatever the processor, and 23 or 234 alternates between
- * the builds of its digits without a rule. CHOOSE_PROCESSOR is a header with a simulated processor, and CHOOSE_FUNCTIONS a
- * header with other functions. */
+ * CHOOSE_TEST 2, 3 or 4 selects that build, whatever the processor, and 23 or 234 alternates
+ * between the builds of its digits without a rule. CHOOSE_PROCESSOR is a header with a simulated
+ * processor, and CHOOSE_FUNCTIONS a header with other functions. */
 #include "vulfsjor.h"
 
 #include <stdlib.h>

@@ -37,7 +37,8 @@ here=$(dirname "$(readlink -f "$0")")
 top=$(dirname "$here")
 
 usage() {
-    echo "usage: c/install.sh [--cpu x86-64-v2|x86-64-v3|x86-64-v4] [--prove | --from DIST] FOLDER" >&2
+    echo "usage: c/install.sh [--cpu x86-64-v2|x86-64-v3|x86-64-v4]" \
+        "[--prove | --from DIST] FOLDER" >&2
     echo "       c/install.sh --uninstall FOLDER, or c/install.sh --help" >&2
     exit 2
 }

@@ -1,12 +1,13 @@
 #!/usr/bin/env python3
-"""Lets functions of an assembly text clear the vector registers xmm16 to xmm31, in all their 512 bits, before they
-return:
+"""Lets functions of an assembly text clear the vector registers xmm16 to xmm31, in all their 512
+bits, before they return:
 
     tools/clear_registers.py <module.s >file.s
 
-Each function clears those that it uses, since they hold words of a message or of a key. The functions scrub_stack, which
-end each call with a key, clear all of them, since memcpy of the C library uses them too. A function that has to clear
-some and ends in a jump to another function is refused.
+Each function clears those that it uses, since they hold words of a message or of a key. The
+functions scrub_stack, which end each call with a key, clear all of them, since memcpy of the C
+library uses them too. A function that has to clear some and ends in a jump to another function is
+refused.
 """
 import re
 import sys

@@ -1,9 +1,9 @@
 /* Looks for copies of a key once a keyed call of vulfsjor.h has returned: for each piece of 8 bytes
  * of it, in 64 KiB of the dead stack below the caller, and if the library chooses its build for
- * x86-64-v4 also in the vector registers zmm16 to zmm31, which that build clears. Prints for each call how many were found,
- * the largest number over messages of several lengths. A call that leaves one fails. So does a
- * state that is not zero, byte by byte, after final, verify and wipe, and a search that misses a
- * copy which is put there for it to find. Returns 0 if none failed.
+ * x86-64-v4 also in the vector registers zmm16 to zmm31, which that build clears. Prints for each
+ * call how many were found, the largest number over messages of several lengths. A call that leaves
+ * one fails. So does a state that is not zero, byte by byte, after final, verify and wipe, and a
+ * search that misses a copy which is put there for it to find. Returns 0 if none failed.
  *
  *   cc -std=gnu99 -O2 -Wl,-z,now -I FOLDER/include key_scan.c ARCHIVE -o key_scan
  *   cc the same with -DTEST_S       the same of BLAKE2s

@@ -20,7 +20,7 @@ test_secrets() {
         skip "branches and addresses by secrets" "no valgrind with its headers, or no python3"
         return
     fi
-    if is_x86; then skip "branches and addresses by secrets, x86-64-v4" "memcheck has no AVX-512"; fi
+    ! is_x86 || skip "branches and addresses by secrets, x86-64-v4" "memcheck has no AVX-512"
     [ "${cpu[*]}" != "--cpu x86-64-v4" ] || return 0
     ! chooses || builds=$(seq -s " " 2 $((level < 3 ? level : 3)))
     # Of the cases each seventeenth: memcheck is slow.

@@ -25,8 +25,8 @@ async function* slicesOf(blob) {
   }
 }
 
-// The reader of a file that is open in node, from its first byte to its end. Its size is that at the
-// call.
+// The reader of a file that is open in node, from its first byte to its end. Its size is that at
+// the call.
 function openFile(handle, caller) {
   let at = 0;
   const reader = {

@@ -54,8 +54,8 @@ static const struct form FORMS[] = {
 };
 enum { COUNT = sizeof FORMS / sizeof *FORMS };
 
-// The vector registers: those that a build for x86-64-v3 has, and behind them, in one for x86-64-v4,
-// zmm16 to zmm31. What handles a key clears the latter.
+// The vector registers: those that a build for x86-64-v3 has, and behind them, in one for
+// x86-64-v4, zmm16 to zmm31, which a scrubbed call clears.
 enum { LOWER = 16 * 32, UPPER = 16 * 64 };
 static uint8_t stack[DEPTH], vectors[LOWER + UPPER];
 static int fails;

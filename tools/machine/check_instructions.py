@@ -106,7 +106,8 @@ def x86_test(k, text, vectors):
     saved = "rbx rbp r12 r13 r14 r15".split()
     others = [(j, n) for j, n in enumerate(NAMES) if n not in ("rax", "rsp")]
     out = ["t%d:" % k] + ["push " + r for r in saved] + ["push rdi", "mov rax, rdi"]
-    out += moves + ["cmp byte ptr [rax+%d], 0" % ZERO] + ["mov %s, [rax+%d]" % (n, 8 * j) for j, n in others]
+    out += moves + ["cmp byte ptr [rax+%d], 0" % ZERO]
+    out += ["mov %s, [rax+%d]" % (n, 8 * j) for j, n in others]
     out += ["mov rax, [rax]", text, "push rax", "mov rax, [rsp+8]", "setz byte ptr [rax+%d]" % ZERO]
     out += ["mov [rax+%d], %s" % (8 * j, n) for j, n in others] + ["pop rbx", "mov [rax], rbx"]
     out += [re.sub(r" (.*), (.*)", r" \2, \1", move) for move in moves]

@@ -306,7 +306,8 @@ for _type in "if":
         BINARY["shuf%s%s" % (_type, _shape)] = shuffle_quarters
 for _new, _old in {
         "pxord": "pxor", "pxorq": "pxor", "pord": "por", "porq": "por", "pandd": "pand",
-        "pandq": "pand", "xorps": "pxor", "xorpd": "pxor", "unpcklpd": "punpcklqdq", "movlhps": "punpcklqdq",
+        "pandq": "pand", "xorps": "pxor", "xorpd": "pxor", "unpcklpd": "punpcklqdq",
+        "movlhps": "punpcklqdq",
         "unpckhpd": "punpckhqdq", "unpcklps": "punpckldq", "unpckhps": "punpckhdq"}.items():
     BINARY[_new] = BINARY[_old]
 
