@@ -5,22 +5,39 @@
  *
  * MAIN is the main of the assembly file, such as main_0_1_0_v3. If MAIN_V3 and MAIN_V4 are defined,
  * three files are linked: MAIN is that of the build for x86-64-v2, and the others are for
- * processors on which choose.c finds level 3 or 4. */
+ * processors on which choose.c finds level 3 or 4. On Windows the compiler needs -municode. */
 #include <errno.h>
 #include <stdbool.h>
 #include <stddef.h>
 #include <stdlib.h>
 #include <string.h>
 #include <sys/types.h>
+#ifdef _WIN32
+#include <fcntl.h>
+#include <io.h>
+#include <windows.h>
+#else
 #include <unistd.h>
+#endif
+#ifdef __APPLE__
+#include <signal.h>
+#endif
+
+/* A function of the assembly, or that the assembly calls. On x86-64 it has System V's calling
+ * convention, on Windows too. */
+#if defined(_WIN32) && defined(__x86_64__)
+#define OF_TEXT __attribute__((sysv_abi))
+#else
+#define OF_TEXT
+#endif
 
 /* ---- The start, and the arguments. */
 
-int MAIN(void);
+OF_TEXT int MAIN(void);
 
 #ifdef MAIN_V3
-int MAIN_V3(void);
-int MAIN_V4(void);
+OF_TEXT int MAIN_V3(void);
+OF_TEXT int MAIN_V4(void);
 unsigned char vulfsjor_ffi_find(void);
 
 static int start(void) {
@@ -37,15 +54,55 @@ static int start(void) { return MAIN(); }
 static size_t count;
 static char **arguments;
 
+#ifdef _WIN32
+/* A copy of the text in UTF-8, in which U+FFFD replaces what is not Unicode. */
+static char *utf8(const wchar_t *text) {
+    const int size = WideCharToMultiByte(CP_UTF8, 0, text, -1, NULL, 0, NULL, NULL);
+    char *copy = malloc((size_t)size + 1);
+
+    if (!copy) abort();
+    WideCharToMultiByte(CP_UTF8, 0, text, -1, copy, size, NULL, NULL);
+    return copy;
+}
+
+/* The arguments in UTF-8, and streams that change no byte. */
+int wmain(int argc, wchar_t **argv) {
+    arguments = malloc(((size_t)argc + 1) * sizeof *arguments);
+    if (!arguments) abort();
+    for (count = 0; count < (size_t)argc; count++) arguments[count] = utf8(argv[count]);
+    for (int file = 0; file <= 2; file++) _setmode(file, _O_BINARY);
+    return start();
+}
+
+/* At most 2^30 bytes a call, since lengths of Windows have 32 bits. */
+static unsigned some(size_t size) { return size < 1u << 30 ? (unsigned)size : 1u << 30; }
+
+/* read and write of other systems. */
+OF_TEXT ssize_t b2_read(int file, void *bytes, size_t size) {
+    return _read(file, bytes, some(size));
+}
+
+OF_TEXT ssize_t b2_write(int file, const void *bytes, size_t size) {
+    return _write(file, bytes, some(size));
+}
+
+/* signal, which has nothing to do: a write to a pipe that nobody reads fails. */
+OF_TEXT void *b2_signal(int signal, void *handler) {
+    (void)signal;
+    (void)handler;
+    return NULL;
+}
+#else
 int main(int argc, char **argv) {
     count = (size_t)argc;
     arguments = argv;
     return start();
 }
+#endif
 
 /* Copies argument i to the start of these `size` bytes and returns its length. Returns -1 if there
  * is no such argument, and -2 if it does not fit; the bytes are full then. */
-ssize_t rattle_arg(size_t i, char *bytes, size_t size) {
+OF_TEXT ssize_t rattle_arg(size_t i, char *bytes, size_t size) {
     size_t length;
 
     if (i >= count) return -1;
@@ -54,13 +111,16 @@ ssize_t rattle_arg(size_t i, char *bytes, size_t size) {
     return length <= size ? (ssize_t)length : -2;
 }
 
-int rattle_errno(void) { return errno; }
+OF_TEXT int rattle_errno(void) { return errno; }
 
-void rattle_set_errno(int error) { errno = error; }
+OF_TEXT void rattle_set_errno(int error) { errno = error; }
 
 /* ---- Memory, aligned to at most 16 bytes. A block of 0 bytes is a block too. */
 
+/* malloc of macOS and of 64-bit Windows aligns to 16 bytes on ARM too, where no type needs it. */
+#if !defined(__APPLE__) && !defined(_WIN32)
 _Static_assert(_Alignof(max_align_t) >= 16, "malloc aligns to 16 bytes");
+#endif
 
 /* Whether there is memory, and where. The place is never null. */
 struct tried {
@@ -73,18 +133,18 @@ static struct tried tried(void *place) {
     return (struct tried){place != NULL, place ? place : &nothing};
 }
 
-struct tried rattle_alloc(size_t size, size_t alignment) {
+OF_TEXT struct tried rattle_alloc(size_t size, size_t alignment) {
     return tried(malloc(size ? size : alignment));
 }
 
 /* The first `kept` bytes stay as they are, as do all that fit. If there is no memory, the block
  * stays. */
-struct tried rattle_realloc(void *place, size_t kept, size_t size, size_t alignment) {
+OF_TEXT struct tried rattle_realloc(void *place, size_t kept, size_t size, size_t alignment) {
     (void)kept;
     return tried(realloc(place, size ? size : alignment));
 }
 
-void rattle_dealloc(void *place) { free(place); }
+OF_TEXT void rattle_dealloc(void *place) { free(place); }
 
 /* ---- What the text takes from a new glibc, for an older one (2.32 and before) and for other C
  * libraries. HAS_LEAVES and PROCESSOR, a header with a processor that is made up, are for tests. */
@@ -95,7 +155,12 @@ void rattle_dealloc(void *place) { free(place); }
 #endif
 #else
 #define HAS_LEAVES 0
+#ifndef _WIN32
 ssize_t __write(int file, const void *bytes, size_t size) { return write(file, bytes, size); }
+#endif
+#ifdef __APPLE__
+void (*__sysv_signal(int number, void (*handler)(int)))(int) { return signal(number, handler); }
+#endif
 #endif
 
 #if defined(__x86_64__) && !HAS_LEAVES
@@ -118,7 +183,7 @@ struct leaf {
 };
 
 /* The leaves 1, 7 and 0x80000001 by the numbers 0, 1 and 2. */
-const struct leaf *__x86_get_cpuid_feature_leaf(unsigned number) {
+OF_TEXT const struct leaf *__x86_get_cpuid_feature_leaf(unsigned number) {
     enum { FMA = 1 << 12, OSXSAVE = 1 << 27, AVX = 1 << 28, F16C = 1 << 29, AVX2 = 1 << 5 };
     static const unsigned numbers[] = {1, 7, 0x80000001u};
     static struct leaf leaf;

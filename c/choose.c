@@ -16,14 +16,27 @@
  * that a shared library that links the archive does not export them. Three macros are for tests.
  * CHOOSE_TEST 2, 3 or 4 selects that build, whatever the processor, and 23 or 234 alternates
  * between the builds of its digits without a rule. CHOOSE_PROCESSOR is a header with a simulated
- * processor, and CHOOSE_FUNCTIONS a header with other functions. */
+ * processor, and CHOOSE_FUNCTIONS a header with other functions.
+ *
+ * macOS and Windows have the functions in C (calls.h). */
 #include "vulfsjor.h"
 
 #include <stdlib.h>
+#ifdef _WIN32
+#include <io.h>
+#else
 #include <unistd.h>
+#endif
 
 #if defined(__aarch64__) && !defined(CHOOSE_ONE)
 #define CHOOSE_ONE arm
+#endif
+
+/* What only the library sees. Windows shows nothing that is not exported. */
+#ifdef _WIN32
+#define HIDDEN
+#else
+#define HIDDEN __attribute__((visibility("hidden")))
 #endif
 
 #ifdef CHOOSE_SHOWN
@@ -57,8 +70,9 @@
 #else
 
 /* 4, 3 or 2 for the build of this level, or 0 before the first call. */
-__attribute__((visibility("hidden"))) unsigned char vulfsjor_ffi_level;
+HIDDEN unsigned char vulfsjor_ffi_level;
 
+#ifdef __ELF__
 #define CALL(name)                                  \
     FUNCTION(name, VISIBILITY(name),                \
              "cmpb $3, vulfsjor_ffi_level(%rip)\n"      \
@@ -80,6 +94,7 @@ FUNCTION("vulfsjor_ffi_ask", ".hidden vulfsjor_ffi_ask\n",
          "call vulfsjor_ffi_find\n"
          TAKE("%r9") TAKE("%r8") TAKE("%rcx") TAKE("%rdx") TAKE("%rsi") TAKE("%rdi")
          "ret\n")
+#endif
 
 #ifndef CHOOSE_TEST
 #ifdef CHOOSE_PROCESSOR
@@ -145,13 +160,13 @@ static void keep(unsigned char level) { (void)level; }
 #endif
 
 /* Looks for the level, keeps it and returns it. */
-__attribute__((used, visibility("hidden"))) unsigned char vulfsjor_ffi_find(void) {
+__attribute__((used)) HIDDEN unsigned char vulfsjor_ffi_find(void) {
     static const char refusal[] =
         "vulfsjor: this processor is below x86-64-v2, which the library needs\n";
     unsigned char level = level_here();
 
     if (!level) {
-        if (write(STDERR_FILENO, refusal, sizeof refusal - 1) < 0) abort();
+        if (write(2, refusal, sizeof refusal - 1) < 0) abort();
         abort();
     }
     keep(level);
@@ -163,6 +178,8 @@ __attribute__((used, visibility("hidden"))) unsigned char vulfsjor_ffi_find(void
  * assembly. */
 #ifdef CHOOSE_FUNCTIONS
 #include CHOOSE_FUNCTIONS
+#elif !defined(__ELF__)
+#include "calls.h"
 #else
 CALL("vulfsjor_ffi_version")
 CALL("vulfsjor_ffi_is_same")

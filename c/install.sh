@@ -19,8 +19,13 @@
 #   FOLDER/include/vulfsjor_threads.h         those of libvulfsjor-threads.a
 #   FOLDER/include/vulfsjor-libb2/blake2.h    the same by the names of libb2
 #
+# If the compiler is one for Windows, the shared library is FOLDER/bin/libvulfsjor-0.dll, with
+# FOLDER/lib/libvulfsjor.dll.a to link it. If it is one for macOS, that is
+# FOLDER/lib/libvulfsjor.0.dylib, with the link libvulfsjor.dylib. There are no threads then. The
+# script itself needs Linux or the tools of GNU.
+#
 # It assembles the files of dist/ for the machine that the C compiler (CC, otherwise cc) compiles
-# for, Linux on x86-64 or aarch64, in a second or two. It needs the compiler and its binutils. CC
+# for, x86-64 or 64-bit ARM, in a second or two. It needs the compiler and its binutils. CC
 # may have several words, such as `ccache gcc`. With --prove it proves the crates and installs what
 # they compile to instead of dist/. That needs the toolchain's command rt too, and 10 to 20 minutes
 # the first time. With --from it installs what `tools/dist.sh make` has written to the folder DIST.
@@ -74,7 +79,9 @@ files=("$libdir/libvulfsjor.a" "$libdir/libvulfsjor.so.$version" "$libdir/libvul
     "$libdir/libvulfsjor-threads.a" "$libdir/pkgconfig/vulfsjor-threads.pc"
     "$libdir/libvulfsjor-static.a" "$package/vulfsjor-config.cmake"
     "$package/vulfsjor-config-version.cmake"
-    "$include/vulfsjor_threads.h" "$include/vulfsjor.h" "$include/vulfsjor-libb2/blake2.h")
+    "$include/vulfsjor_threads.h" "$include/vulfsjor.h" "$include/vulfsjor-libb2/blake2.h"
+    "$folder/bin/libvulfsjor-0.dll" "$libdir/libvulfsjor.dll.a" "$libdir/libvulfsjor.0.dylib"
+    "$libdir/libvulfsjor.dylib")
 folders=("$package" "$beside/pkgconfig" "$beside" "$include/vulfsjor-libb2")
 if [ "$uninstall" = yes ]; then
     for name in "${files[@]}"; do rm -f -- "$root$name"; done
@@ -93,14 +100,20 @@ fail() {
 command -v "${cc[0]-}" >/dev/null ||
     fail "${cc[0]-} is not on the PATH: a C compiler is needed, and its binutils"
 # The texts for the machine that it compiles for.
-machine=$("${cc[@]}" -dumpmachine) texts=()
+machine=$("${cc[@]}" -dumpmachine) texts=() system=none
 case $machine in
     *x32 | *ilp32) ;;
-    x86_64-*linux*)
+    *-linux*) system= ;;
+    *-mingw32 | *-windows-gnu) system=-windows ;;
+    *-apple-*) system=-macos ;;
+esac
+case $machine,$system in
+    *,none) ;;
+    x86_64-*)
         cpus=${cpu:-x86-64-v2 x86-64-v3 x86-64-v4}
-        for level in $cpus; do texts+=("x86_64/vulfsjor-${level#x86-64-}.s"); done
+        for level in $cpus; do texts+=("x86_64$system/vulfsjor-${level#x86-64-}.s"); done
         ;;
-    aarch64-*linux*) [ -n "$cpu" ] || cpus=aarch64 texts=(aarch64/vulfsjor.s) ;;
+    aarch64-* | arm64-*) [ -n "$cpu" ] || cpus=aarch64 texts=("aarch64$system/vulfsjor.s") ;;
 esac
 [ ${#texts[@]} -gt 0 ] || fail "there is no build for $machine${cpu:+ and $cpu}"
 work=$(mktemp -d)
@@ -116,11 +129,21 @@ fi
 
 install -d "$root$libdir/pkgconfig" "${folders[@]/#/$root}"
 install -m 644 "$work/lib"/*.a "$root$libdir/"
-install -m 755 "$work/lib/libvulfsjor.so.$version" "$root$libdir/"
-cp -P "$work/lib/libvulfsjor.so.0" "$work/lib/libvulfsjor.so" "$root$libdir/"
+case $system in
+    -windows) install -D -t "$root$folder/bin" "$work/lib/libvulfsjor-0.dll" ;;
+    -macos)
+        install -m 755 "$work/lib/libvulfsjor.0.dylib" "$root$libdir/"
+        cp -P "$work/lib/libvulfsjor.dylib" "$root$libdir/"
+        ;;
+    *)
+        install -m 755 "$work/lib/libvulfsjor.so.$version" "$root$libdir/"
+        cp -P "$work/lib/libvulfsjor.so.0" "$work/lib/libvulfsjor.so" "$root$libdir/"
+        install -m 644 "$here/include/vulfsjor_threads.h" "$root$include/"
+        ;;
+esac
 ln -sf libvulfsjor.a "$root$libdir/libvulfsjor-static.a"
 ln -sf ../libvulfsjor-libb2.a "$root$beside/libb2.a"
-install -m 644 "$here/include/vulfsjor.h" "$here/include/vulfsjor_threads.h" "$root$include/"
+install -m 644 "$here/include/vulfsjor.h" "$root$include/"
 install -m 644 "$here/include/libb2/blake2.h" "$root$include/vulfsjor-libb2/"
 
 # Writes a file for pkg-config: FILE NAME VERSION WHAT HEADERS WORDS. It finds the folders from
@@ -145,8 +168,8 @@ write_words "$libdir/pkgconfig/vulfsjor.pc" vulfsjor "$version" "" '${includedir
     '-L${libdir} -lvulfsjor'
 write_words "$libdir/pkgconfig/vulfsjor-static.pc" vulfsjor-static "$version" \
     ", linked statically" '${includedir}' '-L${libdir} -lvulfsjor-static'
-write_words "$libdir/pkgconfig/vulfsjor-threads.pc" vulfsjor-threads "$version" \
-    ", with trees by several threads" '${includedir}' \
+[ -n "$system" ] || write_words "$libdir/pkgconfig/vulfsjor-threads.pc" vulfsjor-threads \
+    "$version" ", with trees by several threads" '${includedir}' \
     '-L${libdir} -lvulfsjor-threads -lvulfsjor-static -pthread'
 write_words "$beside/pkgconfig/libb2.pc" libb2 0.98.1 ", a drop-in replacement for libb2" \
     '${libb2dir}' '-L${libdir}/vulfsjor-libb2 -lb2'

@@ -11,10 +11,14 @@
 #   FOLDER/libvulfsjor-threads.a             roots of trees by several threads, over either of the
 #                                            first two
 #
-# The functions are those that include/vulfsjor.h declares: assembly, or choose.c, with one more or
-# one less is refused. choose.c says how a call goes, and what --test is. It needs a C compiler (CC,
-# or cc if that is not set), which may have several words and be one for another machine, and its
-# binutils.
+# If the compiler is one for Windows, the shared library is libvulfsjor-0.dll, with
+# libvulfsjor.dll.a to link it. If it is one for macOS, it is libvulfsjor.0.dylib, with the link
+# libvulfsjor.dylib. There is no libvulfsjor-threads.a for either.
+#
+# The functions are those that include/vulfsjor.h declares: assembly, choose.c or calls.h with one
+# more or one less is refused. choose.c says how a call goes, and what --test is. It needs a C
+# compiler (CC, or cc if that is not set), which may have several words and be one for another
+# machine, and its binutils.
 set -eu
 here=$(dirname "$(readlink -f "$0")")
 read -ra cc <<<"${CC:-cc}"
@@ -51,10 +55,12 @@ are_functions() {
 grep -o 'vulfsjor_ffi_[a-z0-9_]* *(' "$here/include/vulfsjor.h" | tr -d ' (' |
     LC_ALL=C sort -u >"$work/names"
 sed -n 's/^CALL("\(.*\)")$/\1/p' "$here/choose.c" | are_functions choose.c
+sed -n 's/^CALL[A-Z_]*(\(vulfsjor_[a-z0-9_]*\),.*/\1/p' "$here/calls.h" | are_functions calls.h
 objects=()
 for text; do
     # After each function's name come the version and the build.
-    sed -n "s/^\t\.globl\t\(.*\)_${version//./_}_[a-z0-9]*\$/\1/p" "$text" | are_functions "$text"
+    sed -n "s/^\t\.globl\t_\{0,1\}\(.*\)_${version//./_}_[a-z0-9]*\$/\1/p" "$text" |
+        are_functions "$text"
     objects+=("$work/build_${#objects[@]}.o")
     "${cc[@]}" -c "$text" -o "${objects[-1]}"
 done
@@ -66,16 +72,29 @@ mkdir -p "$folder"
 compile -I"$here/include" "${words[@]}" "$here/choose.c" -o "$work/choose.o"
 compile -I"$here/include" "${words[@]}" -DCHOOSE_SHOWN "$here/choose.c" -o "$work/shown.o"
 compile "$here/libb2/libb2.c" -o "$work/libb2.o"
-compile -pthread -I"$here/include" "$here/threads.c" -o "$work/threads.o"
 rm -f "$folder"/libvulfsjor*.a
 archive "$folder/libvulfsjor.a" "$work/choose.o" "${objects[@]}"
 archive "$folder/libvulfsjor-libb2.a" "$work/libb2.o" "$work/choose.o" "${objects[@]}"
-archive "$folder/libvulfsjor-threads.a" "$work/threads.o"
-
-{ echo 'VULFSJOR_0 {' && echo 'global:' && sed 's/$/;/' "$work/names" &&
-    echo 'local: *; };'; } >"$work/versions"
-"${cc[@]}" -shared -o "$folder/libvulfsjor.so.$version" "$work/shown.o" "${objects[@]}" \
-    -Wl,-soname,libvulfsjor.so.0 -Wl,--version-script="$work/versions" -Wl,-z,defs -Wl,-z,relro \
-    -Wl,-z,now -Wl,-z,noexecstack
-ln -sf "libvulfsjor.so.$version" "$folder/libvulfsjor.so.0"
-ln -sf libvulfsjor.so.0 "$folder/libvulfsjor.so"
+shared=("${cc[@]}" -shared "$work/shown.o" "${objects[@]}")
+case $("${cc[@]}" -dumpmachine) in
+    *-mingw32 | *-windows-gnu)
+        "${shared[@]}" -o "$folder/libvulfsjor-0.dll" \
+            -Wl,--out-implib,"$folder/libvulfsjor.dll.a"
+        ;;
+    *-apple-*)
+        "${shared[@]}" -o "$folder/libvulfsjor.0.dylib" \
+            -Wl,-install_name,@rpath/libvulfsjor.0.dylib -Wl,-current_version,"$version"
+        ln -sf libvulfsjor.0.dylib "$folder/libvulfsjor.dylib"
+        ;;
+    *)
+        compile -pthread -I"$here/include" "$here/threads.c" -o "$work/threads.o"
+        archive "$folder/libvulfsjor-threads.a" "$work/threads.o"
+        { echo 'VULFSJOR_0 {' && echo 'global:' && sed 's/$/;/' "$work/names" &&
+            echo 'local: *; };'; } >"$work/versions"
+        "${shared[@]}" -o "$folder/libvulfsjor.so.$version" -Wl,-soname,libvulfsjor.so.0 \
+            -Wl,--version-script="$work/versions" -Wl,-z,defs -Wl,-z,relro -Wl,-z,now \
+            -Wl,-z,noexecstack
+        ln -sf "libvulfsjor.so.$version" "$folder/libvulfsjor.so.0"
+        ln -sf libvulfsjor.so.0 "$folder/libvulfsjor.so"
+        ;;
+esac

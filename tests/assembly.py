@@ -1,7 +1,7 @@
 #!/usr/bin/env python3
 """Looks at the assembly files of dist/, with no toolchain: each symbol ends in the version and the build, exported
-functions are hidden, nothing is called that is not there except a few functions of the C library. On ARM one message is
-compressed without vector registers and several messages with them. For x86-64-v4 no instruction has 512 bits, and each
+functions are hidden, nothing is called that is not there except a few functions of the C library, and nothing is used
+that Windows or macOS reserves. On ARM one message is compressed without vector registers and several messages with them. For x86-64-v4 no instruction has 512 bits, and each
 function clears those of the upper 16 vector registers that it uses, after a call with a key all of them.
 
     tests/assembly.py [DIST]
@@ -27,6 +27,8 @@ CALL = re.compile(r"\t(?:callq?|jmpq?|bl?|b)\t([\w.]+)(?:@PLT)?$")
 VECTOR = re.compile(r"\b[vqdshb][0-9]+\b")
 UPPER = re.compile(r"%[xyz]mm(1[6-9]|2[0-9]|3[01])\b")
 CLEARS = re.compile(r"\tvpxord\t%xmm(\d+), %xmm\1, %xmm\1")
+# The bytes below the stack pointer, which Windows may overwrite, and the register that macOS and Windows reserve.
+RESERVED = re.compile(r"[\t ,]-\w+\(%rsp|\[sp, #-\w+\](?!!)|\b[wx]18\b")
 FAMILIES = ("blake2b", "blake2s")
 # The version as it is in names.
 VERSION = version().replace(".", "_")
@@ -63,6 +65,7 @@ def check_text(name, text, end):
     yield "C may replace the function of trees in b2sum, and no other", weak == (
         [f"b2sum..hashes..update_tree_{end}"] if "/b2sum" in name else [])
     yield "it calls what is there, and the C library", called <= (SUMS if "/b2sum" in name else PROGRAM if "/b2" in name else LIBRARY)
+    yield "it uses no red zone and no x18", not any(map(RESERVED.search, lines))
 
 
 def check_arm(name, text):

@@ -146,7 +146,37 @@ for x86_64-linux-gnux32:there is no build for x86_64-linux-gnux32
 for aarch64-linux-gnu_ilp32:there is no build for aarch64
 for x86_64-freebsd:there is no build for x86_64-freebsd
 for riscv64-linux-gnu:there is no build for riscv64-linux-gnu
+for i686-w64-mingw32:there is no build for i686-w64-mingw32
 END
+
+# The files that are assembled for another system, by a compiler that makes nothing.
+printf '#!/bin/sh\necho "$1"\nexit $(($# > 2))\n' >"$work/bin/for"
+while IFS=: read -r machine_of files; do
+    for file in $files; do
+        mkdir -p "$repository/${file%/*}" && printf '\t.globl\t_main_1\n' >"$repository/$file"
+    done
+    run CC="for $machine_of" "$repository/b2" --build "$work/other"
+    check "the files for $machine_of" says "b2: assembling $files, which is done once"
+done <<'END'
+x86_64-w64-mingw32:dist/x86_64-windows/b2-v2.s dist/x86_64-windows/b2-v3.s dist/x86_64-windows/b2-v4.s
+x86_64-w64-windows-gnu:dist/x86_64-windows/b2-v2.s dist/x86_64-windows/b2-v3.s dist/x86_64-windows/b2-v4.s
+aarch64-w64-mingw32:dist/aarch64-windows/b2.s
+x86_64-apple-darwin23.1.0:dist/x86_64-macos/b2-v2.s dist/x86_64-macos/b2-v3.s dist/x86_64-macos/b2-v4.s
+arm64-apple-darwin23.1.0:dist/aarch64-macos/b2.s
+END
+
+# On macOS the script compares the files with MANIFEST by itself.
+if has shasum; then
+    (cd "$repository/dist" && sha256sum ./*/*.s >MANIFEST)
+    run OSTYPE=darwin23 "$repository/b2" --build "$work/checked"
+    check "with the bash of macOS it builds from a whole dist/" [ -x "$work/checked" ]
+    echo >>"$repository/dist/aarch64-macos/b2.s"
+    run OSTYPE=darwin23 "$repository/b2" --build "$work/checked"
+    check "and not from a changed one" says "b2: dist/ was not made from these sources"
+    rm -f "$work/calls"
+else
+    skip "the script with the bash of macOS" "no shasum"
+fi
 
 if [ "$machine" = x86_64 ] && has qemu-x86_64; then
     b2 sum && rm "$work/calls"

@@ -50,8 +50,8 @@ chmod +x "$work/bin/rt" "$kit"/bin/*
 # The repository.
 repository=$work/a\ repository
 mkdir -p "$repository/tools" "$repository/tests" "$repository/dist"
-cp "$top"/tools/{dist.sh,kit.sh,plain_names.py,aarch64_attributes.csv,x86_64_v4.sed,clear_registers.py} \
-    "$repository/tools/"
+cp "$top"/tools/{dist.sh,kit.sh,aarch64_attributes.csv,x86_64_v4.sed} "$repository/tools/"
+cp "$top"/tools/{plain_names,clear_registers,object_format}.py "$repository/tools/"
 cp "$top/tests/tap.sh" "$repository/tests/"
 printf '# Changes\n\n## 1.2.3\n\n## 0.9.0\n' >"$repository/CHANGELOG.md"
 printf '%s\n' blake2_state: b2_commands: "blake2_ffi staticlib: blake2_state" \
@@ -90,16 +90,32 @@ changed() {
     cp "$work/kept" "$file"
     [ "$status" -eq "$1" ]
 }
-proves() { : >"$work/calls" && counts 15 0 0 && diff <(printf '%s' "$1") "$work/calls"; }
+proves() { : >"$work/calls" && counts 31 0 0 && diff <(printf '%s' "$1") "$work/calls"; }
 both=$'check blake2_ffi\ncheck b2sum\ncheck b2\n'
 
 check "make" dist make
 check "each file is made of its crate, for its processor" \
     diff <(cd dist && grep -ao '[a-z0-9_]* for .*,' */* | LC_ALL=C sort) - <<'END'
+aarch64-macos/b2.s:b2 for generic,
+aarch64-macos/vulfsjor.s:blake2_ffi for generic,
+aarch64-windows/b2.s:b2 for generic,
+aarch64-windows/vulfsjor.s:blake2_ffi for generic,
 aarch64/b2.s:b2 for generic,
 aarch64/b2sum.s:b2sum for generic,
 aarch64/vulfsjor.s:blake2_ffi for generic,
 wasm/vulfsjor.wasm:blake2_ffi for lime1,
+x86_64-macos/b2-v2.s:b2 for x86-64-v2,
+x86_64-macos/b2-v3.s:b2 for x86-64-v3,
+x86_64-macos/b2-v4.s:b2 for x86-64-v3 -march=x86-64-v4 edited,
+x86_64-macos/vulfsjor-v2.s:blake2_ffi for x86-64-v2,
+x86_64-macos/vulfsjor-v3.s:blake2_ffi for x86-64-v3,
+x86_64-macos/vulfsjor-v4.s:blake2_ffi for x86-64-v3 -march=x86-64-v4 edited,
+x86_64-windows/b2-v2.s:b2 for x86-64-v2,
+x86_64-windows/b2-v3.s:b2 for x86-64-v3,
+x86_64-windows/b2-v4.s:b2 for x86-64-v3 -march=x86-64-v4 edited,
+x86_64-windows/vulfsjor-v2.s:blake2_ffi for x86-64-v2,
+x86_64-windows/vulfsjor-v3.s:blake2_ffi for x86-64-v3,
+x86_64-windows/vulfsjor-v4.s:blake2_ffi for x86-64-v3 -march=x86-64-v4 edited,
 x86_64/b2-v2.s:b2 for x86-64-v2,
 x86_64/b2-v3.s:b2 for x86-64-v3,
 x86_64/b2-v4.s:b2 for x86-64-v3 -march=x86-64-v4 edited,
@@ -122,7 +138,7 @@ check "only b2sum has a weak function" diff <(cd dist && grep -hE 'weak|hidden.b
 	.weak	b2sum..hashes..update_tree_1_2_3_v4
 END
 check "it is current" dist current
-check "it is what the sources compile to" counts 15 0 0
+check "it is what the sources compile to" counts 31 0 0
 rm crates/*/out/rlib/stamp
 check "what rt ci has left is not proved again" proves ""
 touch -d '+9 seconds' crates/blake2_state/src/lib.rt
@@ -133,17 +149,19 @@ mkdir -p crates/{blake2_state,b2_commands}/out/rlib
 touch crates/b2_commands/out/rlib/stamp
 check "and if rt check has left a stamp" proves $'check b2sum\ncheck b2\n'
 check "one file in another folder" dist make "$work/some" x86_64/b2-v2.s
+check "and one for another system" dist make "$work/other" x86_64-macos/b2-v2.s
+check "they are the same" cmp "$work/other/x86_64-macos/b2-v2.s" dist/x86_64-macos/b2-v2.s
 check "it is the same, and there is no other" \
     eval 'cmp "$work/some/x86_64/b2-v2.s" dist/x86_64/b2-v2.s && [ "$(ls "$work/some"/*)" = b2-v2.s ]'
 
 echo other >"$work/turn"
-check "other code is found" counts 2 13 0
+check "other code is found" counts 2 29 0
 rm "$work/turn"
 for file in aarch64/b2.s wasm/vulfsjor.wasm; do
     check "a change of $file is found" changed 1 "dist/$file" '$a\ '
     cp "dist/$file" "$work/old"
     echo >>"dist/$file"
-    check "by check, twice" counts 13 2 0
+    check "by check, twice" counts 29 2 0
     mv "$work/old" "dist/$file"
 done
 mv dist/wasm/vulfsjor.wasm "$work/old"
@@ -161,7 +179,7 @@ check "nor a file next to src/" dist current
 mv crates/blake2_ffi/src/lib.rt crates/blake2_ffi/src/more.rt
 check "another name of a file is found" eval "! dist current"
 mv crates/blake2_ffi/src/more.rt crates/blake2_ffi/src/lib.rt
-for file in tools/{plain_names.py,aarch64_attributes.csv,x86_64_v4.sed,clear_registers.py}; do
+for file in tools/{{plain_names,clear_registers,object_format}.py,aarch64_attributes.csv,x86_64_v4.sed}; do
     check "a change of $file is found" changed 1 "$file" '$a # more'
 done
 check "another version is found" changed 1 CHANGELOG.md 's/1\.2\.3/1.2.4/'
@@ -169,7 +187,7 @@ check "another version is found" changed 1 CHANGELOG.md 's/1\.2\.3/1.2.4/'
 # Another kit, none, and what it refuses.
 for name in bin/rattle bin/rattle-link toolchain/bin/{clang,ld.lld}; do
     echo "# 2" >>"$kit/$name"
-    check "with another $name only hashes are compared" counts 2 0 13
+    check "with another $name only hashes are compared" counts 2 0 29
     sed -i '$d' "$kit/$name"
 done
 echo "# 2" >>"$kit/bin/rattle"
@@ -177,9 +195,9 @@ check "and the reason is told" ends 0 \
     "x86_64/b2-v3.s is what the proofs build # SKIP it was made with another toolchain, kit 1" check
 sed -i '$d' "$kit/bin/rattle"
 echo "kit 2" >"$kit/version"
-check "another kit with the same tools compares all" counts 15 0 0
+check "another kit with the same tools compares all" counts 31 0 0
 mv "$work/bin/rt" "$work/rt"
-PATH=/usr/bin:/bin check "without a kit only hashes are compared" counts 2 0 13
+PATH=/usr/bin:/bin check "without a kit only hashes are compared" counts 2 0 29
 PATH=/usr/bin:/bin check "make needs rt" ends 1 "the toolchain's command rt is not on the PATH" make
 mv "$work/rt" "$work/bin/rt"
 : >"$work/refuse"
@@ -189,7 +207,8 @@ rm -rf "$work/refuse" crates/*/out
 : >"$work/refuse_check"
 check "a refused library is shown" ends 1 "not proved below" make
 check "help" ends 0 "tools/dist.sh current" --help
-for words in "" "make a" "check a" "what" "make $work/some x86_64/b2-v5.s"; do
+for words in "" "make a" "check a" "what" "make $work/some x86_64/b2-v5.s" \
+    "make $work/some wasm-macos/vulfsjor.wasm" "make $work/some x86_64-macos/b2sum-v2.s"; do
     # shellcheck disable=SC2086
     check "the words '$words' are refused" ends 1 "dist.sh: " $words
 done
@@ -273,6 +292,60 @@ c..ff_1:
 END
 check "a weak function that is absent is refused" diff - \
     <(tools/plain_names.py _1 c::g <<<'"c::f":' 2>&1) <<<"plain_names.py: there is no function c::g"
+# What object_format.py makes of these lines, for macOS and for Windows.
+convert() { tools/object_format.py "$1" <"$work/elf.s"; }
+printf '\t%s\n' '.file	"f"' '.section	.text.f_1_2_3_v3,"ax",@progbits' '.globl	f_1_2_3_v3' \
+    '.hidden	f_1_2_3_v3' '.type	f_1_2_3_v3,@function' >"$work/elf.s"
+printf 'f_1_2_3_v3:\n' >>"$work/elf.s"
+printf '\t%s\n' 'movaps	.L1_2_3_v3_CPI0_1(%rip), %xmm0' 'callq	read@PLT' 'callq	rattle_arg@PLT' \
+    'jne	.L1_2_3_v3_BB0_1' 'jmp	memcpy@PLT' '.section	.rodata.cst16,"aM",@progbits,16' '.xword	7' \
+    '.ascii	"f_1_2_3_v3 read"' '.long	.L1_2_3_v3_BB0_1-.L1_2_3_v3_JTI0_0' \
+    '.section	".note.GNU-stack","",@progbits' >>"$work/elf.s"
+check "the lines for macOS" diff - <(convert macho) <<'END'
+	.section	__TEXT,__text,regular,pure_instructions
+	.globl	_f_1_2_3_v3
+	.private_extern	_f_1_2_3_v3
+_f_1_2_3_v3:
+	movaps	l1_2_3_v3_CPI0_1(%rip), %xmm0
+	callq	_read
+	callq	_rattle_arg
+	jne	L1_2_3_v3_BB0_1
+	jmp	_memcpy
+	.section	__TEXT,__const
+	.quad	7
+	.ascii	"f_1_2_3_v3 read"
+	.long	L1_2_3_v3_BB0_1-L1_2_3_v3_JTI0_0
+
+.subsections_via_symbols
+END
+check "the lines for Windows" diff - <(convert coff) <<'END'
+	.section	.text$f_1_2_3_v3,"xr"
+	.globl	f_1_2_3_v3
+f_1_2_3_v3:
+	movaps	.L1_2_3_v3_CPI0_1(%rip), %xmm0
+	callq	b2_read
+	callq	rattle_arg
+	jne	.L1_2_3_v3_BB0_1
+	jmp	sysv_memcpy_1_2_3_v3
+	.section	.rdata,"dr"
+	.quad	7
+	.ascii	"f_1_2_3_v3 read"
+	.long	.L1_2_3_v3_BB0_1-.L1_2_3_v3_JTI0_0
+
+	.section	.text$sysv_memcpy_1_2_3_v3,"xr"
+	.p2align	4
+sysv_memcpy_1_2_3_v3:
+	subq	$40, %rsp
+	movq	%rdx, %r8
+	movq	%rsi, %rdx
+	movq	%rdi, %rcx
+	callq	memcpy
+	addq	$40, %rsp
+	retq
+END
+echo "	.weak	f" >>"$work/elf.s"
+check "a directive that it does not know is refused" \
+    eval 'convert coff 2>&1 | grep -qxF "object_format.py: what is .weak f?" && ! convert macho'
 check "two names that would be one are refused" diff - <(rename '"a::b":' '"a:: b":' 2>&1) \
     <<<"plain_names.py: two names would be one"
 finish

@@ -217,13 +217,22 @@ def examples():
             yield f"{page}: {line}", [word.encode() for word in shlex.split(words)], message
 
 
-def compare(path, source, command, cases):
+def is_unicode(word):
+    try:
+        return word.decode() is not None
+    except UnicodeDecodeError:
+        return False
+
+
+def compare(path, source, command, cases, unicode):
     """Runs these cases of a command, of which some have to succeed and some to fail."""
     wrong, statuses = [], set()
     for number in range(cases):
         words, message = CASES[command](source, command)
         words = spoiled(source, words)
         message = None if source.random() < 0.02 else message
+        if unicode and not all(map(is_unicode, words)):
+            continue
         wanted = run(words, unreadable if message is None else lambda: message)
         found = outcome(path, words, message)
         if command in ("sum", "tree") and wanted[0] == 0:
@@ -240,6 +249,7 @@ def main():
     parser.add_argument("--program", type=program, required=True, help="the program")
     parser.add_argument("--cases", type=at_least(1), default=300, help="how many runs of each command (300)")
     parser.add_argument("--seed", type=at_least(0), default=7693, help="of the random inputs (7693)")
+    parser.add_argument("--unicode", action="store_true", help="pass only Unicode, as Windows does")
     given = parser.parse_args()
     for name, is_right in worked():
         tap.result(is_right, f"worked value: {name}")
@@ -248,7 +258,7 @@ def main():
         tap.result(wanted[0] == 0 and outcome(given.program, words, message) == wanted, line)
     source = random.Random(given.seed)
     for command in CASES:
-        compare(given.program, source, command, given.cases)
+        compare(given.program, source, command, given.cases, given.unicode)
     tap.finish()
 
 

@@ -16,11 +16,18 @@
 set -euo pipefail
 source "$(dirname "$(readlink -f "$0")")/../tests/tap.sh"
 manifest=$top/dist/MANIFEST
-files=(aarch64/b2.s aarch64/b2sum.s aarch64/vulfsjor.s wasm/vulfsjor.wasm
+crates=(blake2_ffi b2 b2sum)
+# What is compiled, for Linux and WebAssembly; and the systems whose files are made of those for
+# Linux, each with its object format. b2sum is for Linux only.
+compiled=(aarch64/b2.s aarch64/b2sum.s aarch64/vulfsjor.s wasm/vulfsjor.wasm
     x86_64/b2-v2.s x86_64/b2-v3.s x86_64/b2-v4.s
     x86_64/b2sum-v2.s x86_64/b2sum-v3.s x86_64/b2sum-v4.s
     x86_64/vulfsjor-v2.s x86_64/vulfsjor-v3.s x86_64/vulfsjor-v4.s)
-crates=(blake2_ffi b2 b2sum)
+declare -A format_of=([macos]=macho [windows]=coff)
+mapfile -t files < <(for file in "${compiled[@]}"; do
+    echo "$file"
+    [[ $file == */b2sum* || $file != *.s ]] || printf "${file/\//-%s/}\n" "${!format_of[@]}"
+done | LC_ALL=C sort)
 source "$top/tools/kit.sh"
 
 stop() {
@@ -30,7 +37,8 @@ stop() {
 
 usage() { sed -n '2,/^set /{/^set /d;s/^#\{0,1\} \{0,1\}//;p}' "$0"; }
 
-# The crate that a file of dist/ is made of.
+# The file for Linux that a file of dist/ is made of, or the file itself; and its crate.
+compiled_of() { sed 's|-[a-z]*/|/|' <<<"$1"; }
 crate_of() {
     case ${1##*/} in b2sum*) echo b2sum ;; b2*) echo b2 ;; *) echo blake2_ffi ;; esac
 }
@@ -51,7 +59,7 @@ sources() {
         done
         version _
         cat tools/plain_names.py tools/aarch64_attributes.csv tools/x86_64_v4.sed \
-            tools/clear_registers.py
+            tools/clear_registers.py tools/object_format.py
     } | sha256sum | cut -d ' ' -f 1
 }
 
@@ -66,7 +74,10 @@ has_same_tools() { [ "$(said tools)" = "$(hash_of_tools)" ]; }
 
 # ---- building
 
-# Builds a file of dist/ in this folder, over the proved libraries.
+# Builds a file of dist/ for Linux in this folder, over the proved libraries.
+#
+# No file uses the red zone, which Windows overwrites, or x18, which macOS and Windows reserve: the
+# same instructions are the files for those systems.
 #
 # On aarch64 the compression of one message is compiled without vector registers, and that of
 # several with them: a NEON instruction takes two to four cycles there, and one message is a single
@@ -80,15 +91,15 @@ build() {
     crate=$(crate_of "$file") room=$work/$crate
     case $file in
         x86_64/*-v[23].s) target=x86_64-unknown-linux-gnu cpu=x86-64-${file: -4:2} \
-            end=${file: -4:2} ;;
+            end=${file: -4:2} more=(-mllvm -force-attribute=noredzone) ;;
         x86_64/*-v4.s) target=x86_64-unknown-linux-gnu cpu=x86-64-v3 end=v4 \
-            make=make_v4_toolchain ;;
+            make=make_v4_toolchain more=(-mllvm -force-attribute=noredzone) ;;
         aarch64/*.s)
             target=aarch64-unknown-linux-gnu cpu=generic end=arm
-            more=(-mllvm "-forceattrs-csv-path=$top/tools/aarch64_attributes.csv")
+            more=(-ffixed-x18 -mllvm
+                "-forceattrs-csv-path=$top/tools/aarch64_attributes.csv")
             ;;
         wasm/*.wasm) target=wasm64-unknown-unknown cpu=lime1 more=(-msimd128) ;;
-        *) stop "there is no file $file in dist/" ;;
     esac
     [ "$crate" = blake2_ffi ] || kind=()
     echo "dist.sh: building $file" >&2
@@ -113,17 +124,33 @@ build() {
     fi
 }
 
-# Builds these files in a folder, those of a crate one by one and those of the crates side by side.
+# Writes a file of dist/ in a folder: as it was built, or converted from that.
+put() {
+    local to=$1/$2 built system=${2%%/*}
+    built=$(compiled_of "$2")
+    [ -e "$work/compiled/$built" ] || build "$work/compiled" "$built"
+    mkdir -p "$(dirname "$to")"
+    if [ "$built" = "$2" ]; then
+        cp "$work/compiled/$built" "$to"
+    else
+        "$top/tools/object_format.py" "${format_of[${system##*-}]}" <"$work/compiled/$built" >"$to"
+    fi
+}
+
+# Makes these files in a folder, those of a crate one by one and those of the crates side by side.
 make() {
     local folder=$1 crate file lane lanes=() status=0
     shift
+    for file; do
+        [[ " ${files[*]} " == *" $file "* ]] || stop "there is no file $file in dist/"
+    done
     for crate in $(for file; do crate_of "$file"; done | sort -ur); do
         mkdir "$work/$crate"
         prove_libraries "$crate" "$work/log" || stop "the crates below $crate are not proved"
     done
     for crate in "${crates[@]}"; do
         for file; do
-            [ "$(crate_of "$file")" != "$crate" ] || build "$folder" "$file"
+            [ "$(crate_of "$file")" != "$crate" ] || put "$folder" "$file"
         done &
         lanes+=($!)
     done

@@ -135,5 +135,5 @@ make_v4_toolchain() {
     mkdir -p "$1"
     cp "$top/tools/x86_64_v4.sed" "$1.sed"
     cp "$top/tools/clear_registers.py" "$1.py"
-    make_toolchain "$1" -march=x86-64-v4 -Xclang -target-feature -Xclang +prefer-256-bit
+    make_toolchain "$@" -march=x86-64-v4 -Xclang -target-feature -Xclang +prefer-256-bit
 }

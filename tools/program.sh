@@ -31,7 +31,7 @@ is_current() {
 }
 
 # The name of the main in a file of dist/, and that of the function that C replaces.
-main_of() { sed -n 's/^\t\.globl\t\(main_.*\)/\1/p' "$top/$1"; }
+main_of() { sed -n $'s/^\t\\.globl\t_\\{0,1\\}\\(main_.*\\)/\\1/p' "$top/$1"; }
 weak_of() { sed -n 's/^\t\.weak\t//p' "$top/$1"; }
 
 # Adds to `words` what the compiler gets for a program of these files: FILE, or FILE V3 V4.
@@ -43,36 +43,52 @@ add_words() {
         [ $# -eq 1 ] ||
             words+=("-DUPDATE_TREE_V3=$(weak_of "$2")" "-DUPDATE_TREE_V4=$(weak_of "$3")")
     elif [ $# -eq 3 ]; then
-        words+=('-DCHOOSE_FUNCTIONS="/dev/null"' "$top/c/choose.c")
+        words+=('-DCHOOSE_FUNCTIONS=<stddef.h>' "$top/c/choose.c")
+    fi
+}
+
+# Whether dist/ is whole and made from these sources. The bash of macOS is too old for the second.
+is_made() {
+    if [[ $OSTYPE != darwin* ]]; then
+        "$top/tools/dist.sh" current
+    else
+        (cd "$top/dist" && shasum -a 256 -s -c MANIFEST)
     fi
 }
 
 # Builds the program as this file, for the machine that the compiler compiles for, which has to be
 # this one if it is named: FILE [MACHINE]. It is then as old as the beginning of its build.
 build() {
-    local cc target texts words=()
+    local cc target texts system words
     read -ra cc <<<"${CC:-cc}"
     command -v "${cc[0]-}" >/dev/null || fail "a C compiler is needed: cc, or the one that CC names"
     target=$("${cc[@]}" -dumpmachine)
     case $target in
-        *x32 | *ilp32) fail "there is no build for $target" ;;
-        x86_64-*linux*)
-            texts=("${x86_64[@]}")
+        *x32 | *ilp32) system=none ;;
+        *-linux*) system= words=(-Wl,-z,relro -Wl,-z,now) ;;
+        *-mingw32 | *-windows-gnu) system=-windows words=(-municode) ;;
+        *-apple-*) system=-macos words=(-fno-lto) ;;
+        *) system=none ;;
+    esac
+    [ "$name" = b2 ] || [ -z "$system" ] || system=none
+    case $target,$system in
+        *,none) fail "there is no build for $target" ;;
+        x86_64-*)
+            texts=("${x86_64[@]/x86_64/x86_64$system}")
             add_words "${texts[@]:0:3}"
             ;;
-        aarch64-*linux*)
-            texts=("${aarch64[@]}")
+        aarch64-* | arm64-*)
+            texts=("${aarch64[@]/aarch64/aarch64$system}")
             add_words "${texts[0]}"
             ;;
         *) fail "there is no build for $target" ;;
     esac
     [[ $target == "${2-}"* ]] || fail "CC compiles for $target, and this machine is $2"
-    "$top/tools/dist.sh" current || fail "dist/ was not made from these sources: run make dist"
+    is_made || fail "dist/ was not made from these sources: run make dist"
     echo "$name: assembling ${texts[*]}, which is done once" >&2
     begun=$(mktemp -- "$1.XXXXXX")
     trap 'rm -f -- "$begun" "$begun.new"' EXIT
-    "${cc[@]}" -O2 -fno-lto "${words[@]}" -o "$begun.new" "$top/c/b2.c" "${texts[@]/#/$top/}" \
-        -Wl,-z,relro -Wl,-z,now
+    "${cc[@]}" -O2 -fno-lto "${words[@]}" -o "$begun.new" "$top/c/b2.c" "${texts[@]/#/$top/}"
     chmod 755 "$begun.new"
     touch -r "$begun" "$begun.new"
     mv -f -- "$begun.new" "$1"

@@ -32,7 +32,7 @@ names_are_one() {
 # One function more in the header, or one less in a text, is refused before anything is made.
 join_refuses_a_difference() {
     local copy=$work/copy
-    mkdir -p "$copy" && cp -R "$here"/{choose.c,threads.c,join.sh,include,libb2} "$copy" &&
+    mkdir -p "$copy" && cp -R "$here"/{choose.c,calls.h,threads.c,join.sh,include,libb2} "$copy" &&
         echo 'void vulfsjor_ffi_forgotten(void);' >>"$copy/include/vulfsjor.h" || return 1
     ! "$copy/join.sh" "$work/refused" "${texts[@]}" 2>"$work/said" &&
         grep -q '^< vulfsjor_ffi_forgotten$' "$work/said" &&

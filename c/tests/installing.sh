@@ -354,18 +354,24 @@ choose_by_cmake() {
         cmake -S "$here" -B "$build" -DCMAKE_SYSTEM_NAME="$1" -DCMAKE_SYSTEM_PROCESSOR="$2" \
             -DCMAKE_TRY_COMPILE_TARGET_TYPE=STATIC_LIBRARY "${@:3}" >"$work/configured" 2>&1 ||
         { cat "$work/configured" && return 1; }
-    grep -rhoE 'dist/[a-z0-9_]+/vulfsjor[v0-9-]*\.s' "$build" | LC_ALL=C sort -u
+    grep -rhoE 'dist/[a-z0-9_-]+/vulfsjor[v0-9-]*\.s' "$build" | LC_ALL=C sort -u
 }
 
 # What CMake chooses by each name of a processor, and where it has nothing to choose.
 chosen_by_cmake() {
-    local name refusal="vulfsjor has no code for"
+    local name system refusal="vulfsjor has no code for"
     for name in x86_64 AMD64 amd64; do
         choose_by_cmake Linux $name | diff <(printf 'dist/x86_64/vulfsjor-v%s.s\n' 2 3) - ||
             return 1
     done
     for name in aarch64 arm64; do
         choose_by_cmake Linux $name | diff <(echo dist/aarch64/vulfsjor.s) - || return 1
+    done
+    for system in Darwin,macos Windows,windows; do
+        choose_by_cmake ${system%,*} x86_64 | diff - \
+            <(printf "dist/x86_64-${system#*,}/vulfsjor-v%s.s\n" 2 3) &&
+            choose_by_cmake ${system%,*} arm64 | diff - \
+                <(echo "dist/aarch64-${system#*,}/vulfsjor.s") || return 1
     done
     refuses 1 "$refusal FreeBSD on x86_64" choose_by_cmake FreeBSD x86_64 &&
         refuses 1 "$refusal Linux on aarch64_be" choose_by_cmake Linux aarch64_be || return 1

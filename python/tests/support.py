@@ -19,8 +19,9 @@ import unittest
 
 HERE = os.path.dirname(os.path.abspath(__file__))
 TOP = os.path.dirname(os.path.dirname(HERE))
-COPIES = ("vulfsjor.h", "choose.c", "aarch64/vulfsjor.s", "x86_64/vulfsjor-v2.s",
-          "x86_64/vulfsjor-v3.s", "x86_64/vulfsjor-v4.s")
+COPIES = ("vulfsjor.h", "choose.c", "calls.h", *(
+    f"{folder}{system}/vulfsjor{build}.s" for system in ("", "-macos", "-windows")
+    for folder, build in (("aarch64", ""), ("x86_64", "-v2"), ("x86_64", "-v3"), ("x86_64", "-v4"))))
 
 
 def absent(*modules, tools=()):

@@ -21,8 +21,8 @@ PACKAGE = {"__init__.py", "_library.abi3.so", "_library.pyi", "_threads.py", "py
 X86 = platform.machine() == "x86_64"
 with open(os.path.join(TOP, "CHANGELOG.md"), encoding="utf-8") as PAGE:
     VERSION = re.search(r"^## ([0-9.]+)", PAGE.read(), re.MULTILINE)[1]
-SOURCES = {os.path.join("src", name): os.path.join("..", "c", "include", name) if name[-1] == "h"
-           else os.path.join("..", "c" if name[-1] == "c" else "dist", name)
+SOURCES = {os.path.join("src", name): os.path.join(
+               "..", "c/include" if name == "vulfsjor.h" else "dist" if name[-1] == "s" else "c", name)
            for name in support.COPIES}
 
 
@@ -87,8 +87,34 @@ class Setup(Test):
     def test_other_platforms(self):
         self.assertEqual(
             self.refused(self.copied(), "build", _PYTHON_HOST_PLATFORM="linux-s390x"),
-            "setup.py: vulfsjor is assembly for linux-x86_64 and linux-aarch64, and has none for "
-            "linux-s390x")
+            "setup.py: vulfsjor is assembly for Linux, macOS and Windows on x86-64 and on 64-bit "
+            "ARM, and has none for linux-s390x")
+
+    def test_the_texts_of_a_platform(self):
+        """Those that setup.py gives to the compiler, which is replaced by echo."""
+        levels = ["vulfsjor-v2.s", "vulfsjor-v3.s", "vulfsjor-v4.s"]
+        folder = self.copied()
+        for name, wanted, names in (
+                ("linux-x86_64", "x86_64", levels), ("linux-aarch64", "aarch64", ["vulfsjor.s"]),
+                ("macosx-10.13-x86_64", "x86_64-macos", levels),
+                ("macosx-11.0-arm64", "aarch64-macos", ["vulfsjor.s"]),
+                ("mingw_x86_64_ucrt_gnu", "x86_64-windows", levels),
+                ("mingw_x86_64", "x86_64-windows", levels), ("win-amd64", "x86_64-windows", levels),
+                ("win-arm64", "aarch64-windows", ["vulfsjor.s"])):
+            told = self.succeeds(
+                sys.executable, "setup.py", "build", "-f", "-b", os.path.join(self.folder, name),
+                cwd=folder, env={**os.environ, "_PYTHON_HOST_PLATFORM": name, "CC": "echo",
+                                 "LDSHARED": "echo"})
+            self.assertEqual(sorted(set(re.findall(r" -c (src/\S+\.s) ", told))),
+                             [f"src/{wanted}/{it}" for it in names], name)
+            self.assertEqual("relro" in told, name.startswith("linux"), name)
+        self.assertIn("has none for macosx-11.0-universal2", self.refused(
+            folder, "build", _PYTHON_HOST_PLATFORM="macosx-11.0-universal2"))
+
+    def test_msvc_is_refused(self):
+        self.assertRegex(
+            self.refused(self.copied(), "build", "--compiler=msvc",
+                         _PYTHON_HOST_PLATFORM="win-amd64"), "MSVC cannot assemble")
 
     def test_old_copies_are_never_used(self):
         folder = self.copied()

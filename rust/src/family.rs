@@ -53,12 +53,12 @@ macro_rules! family {
                         salt.len(),
                         persona.as_ptr(),
                         persona.len(),
-                        tree.fanout,
-                        tree.depth,
-                        tree.leaf_length,
+                        tree.fanout.into(),
+                        tree.depth.into(),
+                        tree.leaf_length.into(),
                         tree.node_offset,
-                        tree.node_depth,
-                        tree.inner_length,
+                        tree.node_depth.into(),
+                        tree.inner_length.into(),
                     )
                 };
                 InvalidArgument::unless_zero(status, || params.check(&$limits))?;

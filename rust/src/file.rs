@@ -1,7 +1,10 @@
 //! The root of a file, which several threads read.
 use std::fs::File;
 use std::io::{Error, ErrorKind, Result};
+#[cfg(unix)]
 use std::os::unix::fs::FileExt;
+#[cfg(windows)]
+use std::os::windows::fs::FileExt;
 use std::path::Path;
 use std::vec::Vec;
 
@@ -13,6 +16,38 @@ use crate::{Blake2b, Digest, TreeParams};
 
 // A thread reads longer leaves in pieces.
 pub(crate) const MOST_BUFFER_BYTES: u64 = 1 << 24;
+
+// Reads exactly these bytes of the file, from this offset on.
+#[cfg(unix)]
+fn read_exact_at(file: &File, bytes: &mut [u8], start: u64) -> Result<()> {
+    file.read_exact_at(bytes, start)
+}
+#[cfg(windows)]
+fn read_exact_at(file: &File, bytes: &mut [u8], start: u64) -> Result<()> {
+    fill(bytes, start, |bytes, start| file.seek_read(bytes, start))
+}
+
+// Fills these bytes by a function that reads some of them, from an offset on. A read that was
+// interrupted is repeated.
+#[cfg(any(windows, test))]
+pub(crate) fn fill(
+    mut bytes: &mut [u8],
+    mut start: u64,
+    mut read: impl FnMut(&mut [u8], u64) -> Result<usize>,
+) -> Result<()> {
+    while !bytes.is_empty() {
+        match read(bytes, start) {
+            Ok(0) => return Err(ErrorKind::UnexpectedEof.into()),
+            Ok(count) => {
+                bytes = &mut bytes[count..];
+                start += count as u64;
+            }
+            Err(error) if error.kind() == ErrorKind::Interrupted => {}
+            Err(error) => return Err(error),
+        }
+    }
+    Ok(())
+}
 
 impl TreeParams<'_> {
     /// Returns the root of a file: [`root`](Self::root) of its bytes, which are never all in
@@ -110,7 +145,7 @@ impl TreeParams<'_> {
                 return self.hash_long_leaf(file, part, out, buffer);
             }
             buffer.resize(part.length as usize, 0);
-            file.read_exact_at(buffer, part.start)?;
+            read_exact_at(file, buffer, part.start)?;
             Ok(self.leaves(buffer, part.first, part.ends != 0, out)?)
         };
         plan.hash(&mut digests, hash, progress)?;
@@ -129,7 +164,7 @@ impl TreeParams<'_> {
         let end = part.start + part.length;
         for start in (part.start..end).step_by(BUFFER_BYTES) {
             buffer.resize((end - start).min(BUFFER_BYTES as u64) as usize, 0);
-            file.read_exact_at(buffer, start)?;
+            read_exact_at(file, buffer, start)?;
             hasher.update(&buffer);
         }
         out.copy_from_slice(hasher.finalize().as_bytes());

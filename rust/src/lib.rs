@@ -3,8 +3,9 @@
 //! only in the calls that use several threads or read. The Rust code of the crate is tested, not
 //! proved.
 //!
-//! It runs on Linux on 64-bit ARM and on x86-64 from x86-64-v2 on (SSE4.2 and POPCNT), and uses
-//! AVX2 and AVX-512 if the processor has them. On an older x86-64 processor the first call panics.
+//! It runs on Linux, macOS and Windows, on 64-bit ARM and on x86-64 from x86-64-v2 on (SSE4.2 and
+//! POPCNT), and uses AVX2 and AVX-512 if the processor has them. On an older x86-64 processor the
+//! first call panics.
 //!
 //! A digest of a message, in one call or in pieces:
 //!
@@ -125,13 +126,13 @@
 
 #[cfg(not(all(
     any(target_arch = "x86_64", target_arch = "aarch64"),
-    target_os = "linux",
+    any(target_os = "linux", target_os = "macos", windows),
     target_pointer_width = "64",
     target_endian = "little",
 )))]
 compile_error!(
-    "vulfsjor is assembly for Linux on x86-64 and on little-endian 64-bit ARM, and has none for \
-     this target"
+    "vulfsjor is assembly for Linux, macOS and Windows on x86-64 and on little-endian 64-bit ARM, \
+     and has none for this target"
 );
 
 #[cfg(any(feature = "std", test))]
@@ -195,7 +196,7 @@ mod family;
 mod file;
 #[cfg(all(
     any(target_arch = "x86_64", target_arch = "aarch64"),
-    target_os = "linux",
+    any(target_os = "linux", target_os = "macos", windows),
     target_pointer_width = "64",
     target_endian = "little",
 ))]

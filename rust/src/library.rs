@@ -124,13 +124,66 @@ macro_rules! text_symbol {
     };
 }
 
-// A module with the functions of one build. While the assembler reads the text, `.globl` and
-// `.hidden` are macros that do nothing, so all names of the text stay local to the object file.
-// The names of `symbol!` follow the text. They are hidden: only the program, or the shared
-// library, that the crate is linked into sees them.
+// What differs between the object formats of Linux (ELF), macOS (Mach-O) and Windows (COFF): how the
+// section of code begins and ends, what comes before a name of C, and how a name is hidden. A
+// program for Windows exports only what it lists, so there the name follows a comment.
+#[cfg(target_os = "linux")]
+#[rustfmt::skip]
+macro_rules! object {
+    (begin) => { ".pushsection .text" };
+    (end) => { ".popsection" };
+    (name) => { "" };
+    (hidden) => { ".hidden " };
+}
+#[cfg(target_os = "macos")]
+#[rustfmt::skip]
+macro_rules! object {
+    (begin) => { ".pushsection __TEXT,__text,regular,pure_instructions" };
+    (end) => { ".popsection" };
+    (name) => { "_" };
+    (hidden) => { ".private_extern " };
+}
+#[cfg(windows)]
+#[rustfmt::skip]
+macro_rules! object {
+    (begin) => { ".text" };
+    (end) => { ".text" };
+    (name) => { "" };
+    (hidden) => { "// " };
+}
+
+// A file of `dist/` for this system.
+#[rustfmt::skip]
+macro_rules! dist {
+    ($processor:literal, $name:literal) => {
+        concat!("../../dist/", $processor, system!(), "/", $name)
+    };
+}
+#[cfg(target_os = "linux")]
+#[rustfmt::skip]
+macro_rules! system { () => { "" }; }
+#[cfg(target_os = "macos")]
+#[rustfmt::skip]
+macro_rules! system { () => { "-macos" }; }
+#[cfg(windows)]
+#[rustfmt::skip]
+macro_rules! system { () => { "-windows" }; }
+
+// Functions with the calling convention of the assembly, which on x86-64 is System V's everywhere.
+#[cfg(not(all(windows, target_arch = "x86_64")))]
+#[rustfmt::skip]
+macro_rules! of_text { ($($function:tt)+) => { extern "C" { $($function)+ } }; }
+#[cfg(all(windows, target_arch = "x86_64"))]
+#[rustfmt::skip]
+macro_rules! of_text { ($($function:tt)+) => { extern "sysv64" { $($function)+ } }; }
+
+// A module with the functions of one build. While the assembler reads the text, `.globl`, `.hidden`
+// and `.private_extern` are macros that do nothing, so all names of the text stay local to the
+// object file. The names of `symbol!` follow the text. They are hidden: only the program, or the
+// shared library, that the crate is linked into sees them.
 macro_rules! build {
     (
-        $build:ident, $file:literal, ($($option:ident),+),
+        $build:ident, $file:expr, ($($option:ident),+),
         $(
             $(#[$attribute:meta])*
             fn $name:ident($($argument:ident: $type:ty),* $(,)?) $(-> $answer:ty)?;
@@ -140,24 +193,30 @@ macro_rules! build {
             use super::*;
 
             global_asm!(
-                ".pushsection .text",
+                object!(begin),
                 ".macro .globl name",
                 ".endm",
                 ".macro .hidden name",
                 ".endm",
+                ".macro .private_extern name",
+                ".endm",
                 include_str!($file),
                 ".purgem .globl",
                 ".purgem .hidden",
+                ".purgem .private_extern",
                 $(
-                    concat!(".globl \"", symbol!($name, $build), "\""),
-                    concat!(".hidden \"", symbol!($name, $build), "\""),
-                    concat!(".set \"", symbol!($name, $build), "\", ", text_symbol!($name, $build)),
+                    concat!(".globl \"", object!(name), symbol!($name, $build), "\""),
+                    concat!(object!(hidden), "\"", object!(name), symbol!($name, $build), "\""),
+                    concat!(
+                        ".set \"", object!(name), symbol!($name, $build), "\", ",
+                        object!(name), text_symbol!($name, $build)
+                    ),
                 )+
-                ".popsection",
+                object!(end),
                 options($($option),+)
             );
 
-            extern "C" {
+            of_text! {
                 $(
                     $(#[$attribute])*
                     #[link_name = symbol!($name, $build)]
@@ -213,18 +272,19 @@ macro_rules! calls {
 macro_rules! functions {
     ($($function:tt)+) => {
         #[cfg(target_arch = "x86_64")]
-        build!(v2, "../../dist/x86_64/vulfsjor-v2.s", (att_syntax, raw), $($function)+);
+        build!(v2, dist!("x86_64", "vulfsjor-v2.s"), (att_syntax, raw), $($function)+);
         #[cfg(target_arch = "x86_64")]
-        build!(v3, "../../dist/x86_64/vulfsjor-v3.s", (att_syntax, raw), $($function)+);
+        build!(v3, dist!("x86_64", "vulfsjor-v3.s"), (att_syntax, raw), $($function)+);
         #[cfg(target_arch = "x86_64")]
-        build!(v4, "../../dist/x86_64/vulfsjor-v4.s", (att_syntax, raw), $($function)+);
+        build!(v4, dist!("x86_64", "vulfsjor-v4.s"), (att_syntax, raw), $($function)+);
         #[cfg(target_arch = "aarch64")]
-        build!(arm, "../../dist/aarch64/vulfsjor.s", (raw), $($function)+);
+        build!(arm, dist!("aarch64", "vulfsjor.s"), (raw), $($function)+);
         calls!($($function)+);
     };
 }
 
-// The functions of the header, in its order.
+// The functions of the header, in its order. The narrow arguments of `init_tree` are wide here, since
+// Apple's convention packs arguments on the stack and the assembly reads eight bytes for each.
 functions! {
     fn blake2b(
         out: *mut u8,
@@ -256,12 +316,12 @@ functions! {
         salt_length: usize,
         persona: *const u8,
         persona_length: usize,
-        fanout: u8,
-        depth: u8,
-        leaf_length: u32,
+        fanout: u64,
+        depth: u64,
+        leaf_length: u64,
         node_offset: u64,
-        node_depth: u8,
-        inner_length: u8,
+        node_depth: u64,
+        inner_length: u64,
     ) -> i32;
     fn blake2b_update(state: &mut Blake2bState, input: *const u8, input_length: usize) -> i32;
     fn blake2b_final(state: &mut Blake2bState, out: *mut u8, out_length: usize) -> i32;
@@ -304,12 +364,12 @@ functions! {
         salt_length: usize,
         persona: *const u8,
         persona_length: usize,
-        fanout: u8,
-        depth: u8,
-        leaf_length: u32,
+        fanout: u64,
+        depth: u64,
+        leaf_length: u64,
         node_offset: u64,
-        node_depth: u8,
-        inner_length: u8,
+        node_depth: u64,
+        inner_length: u64,
     ) -> i32;
     fn blake2s_update(state: &mut Blake2sState, input: *const u8, input_length: usize) -> i32;
     fn blake2s_final(state: &mut Blake2sState, out: *mut u8, out_length: usize) -> i32;

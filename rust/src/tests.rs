@@ -311,6 +311,40 @@ mod threads {
     }
 }
 
+#[cfg(feature = "std")]
+mod files {
+    use crate::file::fill;
+    use std::io::{Error, ErrorKind, Result};
+
+    // Fills ten bytes from the offset 5 of these, three at a time. The second read is interrupted.
+    fn ten_of(data: &[u8]) -> Result<[u8; 10]> {
+        let mut bytes = [0; 10];
+        let mut reads = 0;
+        fill(&mut bytes, 5, |bytes, start| {
+            reads += 1;
+            if reads == 2 {
+                return Err(ErrorKind::Interrupted.into());
+            }
+            let rest = data.get(start as usize..).unwrap_or(&[]);
+            let count = rest.len().min(bytes.len()).min(3);
+            bytes[..count].copy_from_slice(&rest[..count]);
+            Ok(count)
+        })?;
+        Ok(bytes)
+    }
+
+    #[test]
+    fn a_buffer_is_filled_by_several_reads() {
+        let data: std::vec::Vec<u8> = (0..40).collect();
+        assert_eq!(ten_of(&data).unwrap(), data[5..15]);
+        assert_eq!(ten_of(&data[..15]).unwrap(), data[5..15]);
+        let kind = ten_of(&data[..14]).unwrap_err().kind();
+        assert_eq!(kind, ErrorKind::UnexpectedEof);
+        let refused = fill(&mut [0; 2], 0, |_, _| Err(Error::from(ErrorKind::Other)));
+        assert_eq!(refused.unwrap_err().kind(), ErrorKind::Other);
+    }
+}
+
 #[cfg(all(
     target_arch = "x86_64",
     not(any(vulfsjor_build = "v2", vulfsjor_build = "v3"))

@@ -191,6 +191,7 @@ fn files_that_change_meanwhile() {
     }
 }
 
+#[cfg(unix)]
 #[test]
 fn other_files() {
     let params = params(1 << 16);
