@@ -106,13 +106,14 @@ static void *run(void *given) {
     size_t room = j->bytes ? 0 : j->plan.part_length;
     unsigned char *buffer = NULL;
     vulfsjor_part part;
+    uint64_t i;
     int error = 0, none = 0;
 
     if (room > MOST_BUFFER_BYTES) room = PART_BYTES;
     if (room && !(buffer = malloc(room))) error = ENOMEM;
     while (!error && !__atomic_load_n(&j->error, __ATOMIC_RELAXED) &&
-           !vulfsjor_tree_part(&part, &j->plan, __atomic_fetch_add(&j->next, 1, __ATOMIC_RELAXED)))
-        error = hash_part(j, &part, buffer, room);
+           (i = __atomic_fetch_add(&j->next, 1, __ATOMIC_RELAXED)) < j->plan.part_count)
+        error = vulfsjor_tree_part(&part, &j->plan, i) ? EINVAL : hash_part(j, &part, buffer, room);
     free(buffer);
     if (error)
         __atomic_compare_exchange_n(&j->error, &none, error, 0, __ATOMIC_RELAXED, __ATOMIC_RELAXED);

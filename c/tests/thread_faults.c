@@ -142,11 +142,18 @@ WRAP(int32_t, vulfsjor_ffi_tree_update_leaves, -1,
      (s, d, dn, i, n))
 WRAP(int32_t, vulfsjor_ffi_tree_final, -1, (vulfsjor_tree_state * s, uint8_t *o, size_t n),
      (s, o, n))
-WRAP(int32_t, vulfsjor_ffi_blake2b_init_tree, -1,
-     (vulfsjor_blake2b_state * t, size_t o, const uint8_t *k, size_t kn, const uint8_t *s,
-      size_t sn, const uint8_t *p, size_t pn, uint8_t f, uint8_t d, uint32_t l, uint64_t n,
-      uint8_t nd, uint8_t i),
-     (t, o, k, kn, s, sn, p, pn, f, d, l, n, nd, i))
+WRAP(int32_t, vulfsjor_ffi_tree_plan, -1,
+     (vulfsjor_plan * p, uint64_t s, uint64_t n, uint32_t l, const vulfsjor_limits *m),
+     (p, s, n, l, m))
+WRAP(int32_t, vulfsjor_ffi_tree_plan_update, -1,
+     (vulfsjor_plan * p, const vulfsjor_tree_state *s, uint64_t n, const vulfsjor_limits *m),
+     (p, s, n, m))
+WRAP(int32_t, vulfsjor_ffi_tree_part, -1,
+     (vulfsjor_part * p, const vulfsjor_plan *w, uint64_t i), (p, w, i))
+WRAP(int32_t, vulfsjor_ffi_tree_init_leaf, -1,
+     (vulfsjor_blake2b_state * t, uint64_t i, uint32_t l, const uint8_t *s, size_t sn,
+      const uint8_t *p, size_t pn, uint32_t n),
+     (t, i, l, s, sn, p, pn, n))
 WRAP(int32_t, vulfsjor_ffi_blake2b_update, -1,
      (vulfsjor_blake2b_state * s, const uint8_t *i, size_t n), (s, i, n))
 WRAP(int32_t, vulfsjor_ffi_blake2b_final, -1, (vulfsjor_blake2b_state * s, uint8_t *o, size_t n),
@@ -398,6 +405,10 @@ static void library_refuses(void) {
     each_fails(root_of_bytes, "vulfsjor_ffi_tree_root_of_leaves", 0, EINVAL, 1);
     each_fails(root_of_file, "vulfsjor_ffi_tree_leaves", 0, EINVAL, 4);
     each_fails(root_of_file, "vulfsjor_ffi_tree_root_of_leaves", 0, EINVAL, 1);
+    each_fails(root_of_bytes, "vulfsjor_ffi_tree_plan", 0, EINVAL, 1);
+    each_fails(root_of_file, "vulfsjor_ffi_tree_plan", 0, EFBIG, 1);
+    each_fails(root_of_updates, "vulfsjor_ffi_tree_plan_update", 0, EINVAL, 1);
+    each_fails(root_of_bytes, "vulfsjor_ffi_tree_part", 0, EINVAL, 4);
     each_fails(root_of_updates, "vulfsjor_ffi_tree_next_leaves", 0, EINVAL, 4);
     each_fails(root_of_updates, "vulfsjor_ffi_tree_update_leaves", 0, EINVAL, 1);
     each_fails(root_of_updates, "vulfsjor_ffi_tree_update", 0, EINVAL, 1);
@@ -407,7 +418,7 @@ static void library_refuses(void) {
     each_fails(root_of_bytes, "vulfsjor_ffi_tree_root", 0, EINVAL, 1);
     each_fails(root_of_updates, "vulfsjor_ffi_tree_update", 0, EINVAL, 1);
     take(BYTES, 17 << 20, 2);
-    each_fails(root_of_file, "vulfsjor_ffi_blake2b_init_tree", 0, EINVAL, 2);
+    each_fails(root_of_file, "vulfsjor_ffi_tree_init_leaf", 0, EINVAL, 2);
     each_fails(root_of_file, "vulfsjor_ffi_blake2b_final", 0, EINVAL, 2);
     wish("vulfsjor_ffi_blake2b_update", 20, 0);
     expect(root_of_file, EINVAL);

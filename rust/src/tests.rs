@@ -222,7 +222,7 @@ mod threads {
         let threads = |asked, length| plan_of(length, 1000, asked, u64::MAX).threads;
         assert_eq!([3, 2].map(|n| threads(3, n * least)), [3, 2]);
         assert_eq!([threads(3, 2 * least - 1), threads(1, 10 * least)], [1, 1]);
-        assert_eq!(threads(usize::MAX, 1 << 40), 1 << 20);
+        assert!(threads(usize::MAX, 1 << 40) > 1 << 20); // there is no other limit
         let all = thread::available_parallelism().unwrap().get() as u64;
         assert_eq!(threads(0, 1 << 40), all);
         assert!(Plan::of_message(5, 0, &Limits::of(1, u64::MAX)).is_none());

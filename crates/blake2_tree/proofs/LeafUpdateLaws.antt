@@ -55,7 +55,7 @@ joined_digests-all s first x (y ∷ ys) some whole =
     let rest = joined_digests-all s next y ys some (λ k d below. whole (suc k) d (omega arith)) in (
       AreWhole-append s.leaf_length x (concat (y ∷ ys)) some is_whole rest.0,
       ap (λ d. range_digests s first false x ++ d) rest.1
-      ∙ sym (range_digests-cut s first false x (concat (y ∷ ys)) some is_whole rest.0.some),
+          ∙ sym (range_digests-cut s first false x (concat (y ∷ ys)) some is_whole rest.0.some),
     )
 
 -- What holds of one range holds of several.
@@ -153,7 +153,7 @@ TookLeaves-given old begun given new digests input some more followed begins tak
     let none : digests ≡ [] → Took old input new =
     λ nothing. absurd (omega (arith, ap length nothing)) in
     let leaves : (x : List ℕ) → AreWhole old.shared.leaf_length x
-        → digests ≡ range_digests old.shared (next_leaf old) false x → Took old (x ++ input) new =
+    → digests ≡ range_digests old.shared (next_leaf old) false x → Took old (x ++ input) new =
     λ x whole are. record {
       shared = took.shared ∙ same;
       future = λ y.

@@ -10,7 +10,7 @@ use Rattle.blake2_tree.specs.declared.plan.Limits.{Limits}
 use Rattle.blake2_tree.specs.declared.plan.Part.{Part}
 use Rattle.blake2_tree.specs.TreeRoot.{leaf_count}
 use Rattle.blake2_tree.specs.Plans.{IsPlan, IsPart, IsInOrder, start_of_part, count_of_parts}
-use Rattle.blake2_tree.specs.Plans.{share, part_leaves, AreParts}
+use Rattle.blake2_tree.specs.Plans.{in_fours, share, part_leaves, AreParts}
 use Rattle.blake2_tree.specs.Plans.{head_length, whole_length, IsOfUpdate}
 use Rattle.blake2_tree.proofs.Leaves.{leaf_count-short}
 use Rattle.blake2_tree.proofs.RangeWrites.{leaf_count-before}
@@ -189,9 +189,18 @@ fours-length part size some =
           omega (arith, bytes, less, room)
     ]
 
--- A share of four leaves or more is rounded up to fours.
+-- Leaves in fours.
+in_fours-fours : (leaves threads even : ℕ) → (q : ℕ) × (in_fours leaves threads even ≡ q * 4)
+in_fours-fours leaves threads even =
+    let most : ℕ = div_ceil leaves (div_ceil even 4 * 4) in
+    elim (cases_lt most threads) [
+      | inl few ↦ (even / 4, rw (lt-leb threads most few) refl)
+      | inr enough ↦ (div_ceil even 4, rw (le-leb threads most enough) refl)
+    ]
+
+-- A share of four leaves or more is in fours.
 share-fours : (leaves threads : ℕ) → 1 ≤ threads → 4 * threads ≤ leaves
-    → share leaves threads ≡ div_ceil (div_ceil leaves threads) 4 * 4
+    → (q : ℕ) × (share leaves threads ≡ q * 4)
 share-fours leaves threads some many =
     let k : ℕ = div_ceil leaves threads in
     let least : leaves ≤ k * threads = (div_ceil_times leaves threads some).0 in
@@ -201,7 +210,8 @@ share-fours leaves threads some many =
           let less : k * threads ≤ 3 * threads = mul-le-mul_right {m = k} {n = 3} threads few in
           absurd (omega (arith, least, less, many, some))
     ] in
-    rw (lt-leb k 3 four) refl
+    let fours = in_fours-fours leaves threads k in
+    (fours.0, rw (lt-leb k 3 four) fours.1)
 
 -- The leaves of a part are those that fit, in all cases.
 part_leaves-cases : (l : Limits) (threads size n : ℕ) → 1 ≤ size
@@ -237,9 +247,8 @@ part_leaves-fours l threads size n some are many fit =
     mul-le-mul_right {m = leaves} {n = fours} size (omega arith) in
     let short : leaves * size ≤ l.most_bytes = omega (arith, room, less, fit) in
     let all : part_leaves l threads size n ≡ leaves = rw (le-leb (leaves * size) l.most_bytes short) refl in
-    let rounded : each ≡ div_ceil (div_ceil (leaf_count size n) threads) 4 * 4 =
-    share-fours (leaf_count size n) threads are many in
-    omega (arith, all, rounded)
+    let rounded = share-fours (leaf_count size n) threads are many in
+    omega (arith, all, rounded.1)
 
 pub are_parts : (l : Limits) (threads size n : ℕ) (p : Plan) → 1 ≤ size → 1 ≤ threads
     → p.part_length ≡ part_leaves l threads size n * size → AreParts l threads size n p

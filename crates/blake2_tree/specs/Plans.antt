@@ -25,11 +25,17 @@ pub record AreLimits (l : Limits) : Type 0 where
 abbrev pub threads_for : Limits → ℕ → ℕ
 threads_for l n = min l.threads (max (n / l.least_bytes) 1)
 
--- The share of each thread, rounded up, and if it is four leaves or more, to a multiple of four.
+-- The share of each thread in fours of leaves: rounded up, or down if a thread would have none.
+abbrev pub in_fours : ℕ → ℕ → ℕ → ℕ
+in_fours leaves threads even =
+    if nat_le threads (div_ceil leaves (div_ceil even 4 * 4)) then div_ceil even 4 * 4
+    else even / 4 * 4
+
+-- The share of each thread, rounded up, and in fours if it is four leaves or more.
 abbrev pub share : ℕ → ℕ → ℕ
 share leaves threads =
     if nat_le (div_ceil leaves threads) 3 then div_ceil leaves threads
-    else div_ceil (div_ceil leaves threads) 4 * 4
+    else in_fours leaves threads (div_ceil leaves threads)
 
 -- This number of leaves, or one if they have more bytes than that.
 abbrev pub that_fit : ℕ → ℕ → ℕ → ℕ

@@ -212,7 +212,7 @@ impl<const N: usize> TreeHasher<N> {
             → future self.new y ≡ future self.old (x ++ y) }
         ensures root { (y : List ℕ) → future self.new y
             ≡ (held_tree self.old).root (digests.now ++ range_digests
-                (shared_parameters self.old.nodes) (self.old.closed + length digests.now / 64) true y) }
+            (shared_parameters self.old.nodes) (self.old.closed + length digests.now / 64) true y) }
         ensures count { count self.new
             ≡ count self.old + length digests.now / 64 * self.old.nodes.leaf_length }
         ensures nodes { self.new.nodes ≡ self.old.nodes }

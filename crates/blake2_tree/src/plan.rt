@@ -111,7 +111,8 @@ impl Limits {
     }
 }
 
-// The leaves of each thread if all have the same number, rounded up: to fours, if it has four.
+// The leaves of each thread if all have the same number, and in fours if these are four or more:
+// rounded up, or down if a thread would have none.
 fn share(leaves: u64, threads: u64) -> u64
     requires some { 1 ≤ leaves }
     requires fits { leaves < 2 ^ 58 }
@@ -122,9 +123,13 @@ fn share(leaves: u64, threads: u64) -> u64
 {
     let even = leaves.div_ceil(threads);
     if even <= 3 {
-        even
+        return even;
+    }
+    let more = even.div_ceil(4) * 4;
+    if threads <= leaves.div_ceil(more) {
+        more
     } else {
-        even.div_ceil(4) * 4
+        even / 4 * 4
     }
 }
 
