@@ -1,12 +1,13 @@
 -- How far the check of a manifest is, and one more line.
-use Rattle.std.proofs.Common.{◌≡◌, ◌≢◌, ℕ, Bool, true, List, [], ◌∷◌, ◌++◌, Option, Some, None, inl, inr}
+use Rattle.std.proofs.Common.{◌≡◌, ◌≢◌, ℕ, Bool, true, false, List, [], ◌∷◌, ◌++◌, Option, Some, None, inl, inr}
 use Rattle.std.proofs.Common.{refl, ap, ◌∙◌, sym, subst, append-nil, length, ◌⊎◌, ◌&&◌, ◌||◌, not, arith}
 use Rattle.std.proofs.KnownBytes.{Appends-nil, Appends-trans}
 use Rattle.std.specs.Io.KnownBytes.{Appends}
+use Rattle.std.specs.Prelude.{⊤}
 use Rattle.std.specs.List.{list_all, list_any}
 use Rattle.b2sum_lines.specs.Lines.{Line}
 use Rattle.b2sum_lines.specs.declared.entry.Spacing.{Spacing}
-use Rattle.b2sum_commands.specs.Checks.{AreCounted, Adds, IsDone, final_spacing}
+use Rattle.b2sum_commands.specs.Checks.{AreCounted, Adds, IsDone, IsChecked, IsJudged, final_spacing}
 use Rattle.b2sum_commands.specs.Manifests.{lines_of, item, items, onto_items, next_spacing}
 use Rattle.b2sum_commands.specs.Manifests.{IsVerdict, AreVerdicts, verdict_line, verdict_lines}
 use Rattle.b2sum_commands.specs.Manifests.{is_equal, is_fine, is_formed, holds_by}
@@ -166,3 +167,17 @@ counted_holds strict vs counts b c is =
     ∙ ap (λ x. x && (counts.all_fine && (not strict || counts.all_formed))) c.equal
     ∙ ap (λ x. list_any is_equal vs && (x && (not strict || counts.all_formed))) c.fine
     ∙ ap (λ x. list_any is_equal vs && (list_all is_fine vs && (not strict || x))) c.formed
+
+abbrev IsYes : Bool → Type 0
+IsYes true = ⊤
+IsYes false = ⊥
+
+-- A check that holds is one of a manifest that was read to its end.
+pub judged : (holds : List ℕ → Option (List ℕ)) (hash : Options → ℕ → List ℕ → List ℕ) (o : Options)
+    (name : List ℕ) (s spaced : Spacing) (left after old new : Option (List ℕ)) (result : Bool)
+    → IsChecked holds hash o name s spaced left after old new result → result ≡ true
+    → IsJudged holds hash o name s spaced left after old new true
+judged holds hash o name s spaced left after old new result (inl wrong) right =
+    absurd (subst IsYes (sym right ∙ wrong) tt)
+judged holds hash o name s spaced left after old new result (inr done) right =
+    subst (IsJudged holds hash o name s spaced left after old new) right done

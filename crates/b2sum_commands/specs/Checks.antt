@@ -86,3 +86,15 @@ abbrev pub IsChecked : (List ℕ → Option (List ℕ)) → (Options → ℕ →
     → Option (List ℕ) → Bool → Type 0
 IsChecked holds hash o name spacing spaced left after old new result =
     (result ≡ false) ⊎ IsJudged holds hash o name spacing spaced left after old new result
+
+-- Each manifest of these names was read to its end and holds. Standard input and the spacing go on
+-- from one to the next.
+abbrev pub AllHold : (List ℕ → Option (List ℕ)) → (Options → ℕ → List ℕ → List ℕ) → Options
+    → List (List ℕ) → Spacing → Option (List ℕ) → Option (List ℕ) → Spacing → Option (List ℕ)
+    → Option (List ℕ) → Type 0
+AllHold holds hash o [] s left old spaced after new =
+    (spaced ≡ s) × (after ≡ left) × Appends old new []
+AllHold holds hash o (name ∷ names) s left old spaced after new =
+    (t : Spacing) × (mid : Option (List ℕ)) × (now : Option (List ℕ))
+    × IsJudged holds hash o name s t left mid old now true
+    × AllHold holds hash o names t mid now spaced after new

@@ -80,6 +80,7 @@ next_spacing s None = s
 next_spacing s (Some None) = s
 next_spacing s (Some (Some e)) = spacing_after s e.style
 
+-- Puts the entry of a line before the others, if the line is not a comment.
 abbrev pub onto_items : Option (Option Line) → List (Option Line) → List (Option Line)
 onto_items None items = items
 onto_items (Some i) items = i ∷ items
@@ -124,6 +125,7 @@ AreVerdicts holds hash ignores left (i ∷ is) (v ∷ vs) after =
 
 -- ---- when a manifest holds
 
+-- The file has the digest.
 abbrev pub is_equal : Verdict → Bool
 is_equal Equal = true
 is_equal Different = false
@@ -174,6 +176,7 @@ outcome r Malformed = []
 abbrev pub shown_name : List ℕ → List ℕ
 shown_name name = if list_any (λ b. b == 10) name then 92 ∷ escaped name else name
 
+-- A name and what is printed after it, or nothing.
 abbrev pub with_name : List ℕ → List ℕ → List ℕ
 with_name name [] = []
 with_name name (b ∷ text) = shown_name name ++ (b ∷ text)

@@ -65,6 +65,7 @@ entry_of o hash name text = record {
   style = o.style;
 }
 
+-- The line of a file with this text, or nothing if it was not read.
 abbrev pub text_line : Options → (Options → ℕ → List ℕ → List ℕ) → List ℕ → Option (List ℕ) → List ℕ
 text_line o hash name None = []
 text_line o hash name (Some text) = ended_line o.ends_zero (entry_of o hash name text)

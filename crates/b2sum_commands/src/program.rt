@@ -1,6 +1,8 @@
 //! The run of the program.
 
-ghost use Rattle.std.specs.Prelude.{◌<◌, ◌≤◌, ◌^◌, length, IfOk};
+ghost use Rattle.std.specs.Prelude.{◌≡◌, ◌<◌, ◌≤◌, ◌^◌, length, map, true, IfOk};
+ghost use Rattle.b2sum_lines.specs.declared.entry.Spacing.TheVariants.{Open};
+ghost use Rattle.b2sum_commands.specs.Checks.{AllHold};
 
 use crate::check::check_manifest;
 use crate::devices::{Disk, Fault, Output, put, tell};
@@ -149,7 +151,7 @@ fn run_task<H: Hashes, D: Disk, K: Output, E: Sink>(
     }
 }
 
-// Checks each manifest. Returns whether all hold.
+// Checks each manifest, from the first to the last. Returns whether all hold.
 fn check_all<H: Hashes, D: Disk, K: Output, E: Sink>(
     alloc: Global,
     hashes: &H,
@@ -163,6 +165,10 @@ fn check_all<H: Hashes, D: Disk, K: Output, E: Sink>(
 ) -> Result<bool, Fault>
     requires room { 0 < length buffer.old }
     requires most { length buffer.old ≤ 2 ^ 24 }
+    ensures all { IfOk result (λ is_right. is_right ≡ true → (spaced : Spacing)
+        × AllHold (D.holds disk.now) H.digest options.now (map (λ name. name.items) names.now) Open
+        (D.File.left input.old) (K.held output.old) spaced
+        (D.File.left input.new) (K.held output.new)) }
 {
     let mut is_right = true;
     let mut spacing = Spacing::Open;
@@ -179,7 +185,7 @@ fn check_all<H: Hashes, D: Disk, K: Output, E: Sink>(
             output,
             messages,
         )?;
-        is_right = is_right && holds;
+        is_right &= holds;
     }
     Ok(is_right)
 }
