@@ -65,7 +65,7 @@ progress_step holds hash o input first all left old s line rest mid now counts N
     shown counted p is done =
     let a = o.algorithm in
     let same : onto_items None (items a input (next_spacing s None) rest)
-        ≡ items a input s (line ∷ rest) =
+    ≡ items a input s (line ∷ rest) =
     ap (λ (i : Option (Option Line)). onto_items i (items a input (next_spacing s i) rest)) is in
     let step : Progress holds hash o input first all left old s rest mid shown counts = record {
       vs = p.vs;
@@ -91,7 +91,7 @@ progress_step holds hash o input first all left old s line rest mid now counts (
     shown counted p is done =
     let a = o.algorithm in
     let step : Progress holds hash o input first all left old (next_spacing s (Some i)) rest after
-        shown counted = record {
+    shown counted = record {
       vs = p.vs ++ (done.1 ∷ []);
       printed = p.printed ++ verdict_line o.report i done.1;
       spaced = ap (λ (i : Option (Option Line)). final_spacing a input (next_spacing s i) rest) is
@@ -144,8 +144,7 @@ progress_end holds hash o input first all left old s mid now counts p =
     let is = items o.algorithm input first all in
     let printed : p.printed ≡ verdict_lines o.report is p.vs =
     sym (ap (verdict_lines o.report is) (sym (append-nil p.vs)) ∙ p.lines []
-    ∙ append-nil p.printed) in
-    (
+    ∙ append-nil p.printed) in (
       p.vs,
       subst (λ (vs : List Verdict). AreVerdicts holds hash o.ignores_missing left is vs mid)
           (append-nil p.vs) (p.verdicts [] mid refl),

@@ -24,8 +24,8 @@ use crate::quoting::quoted_name;
 use crate::sums::{Read, digest_file, is_dash};
 use crate::texts::{push_decimal, warn, warn_of_count, warn_of_file};
 use b2sum_lines::{Entry, Spacing, Style, push_escaped, read_line};
-use blake2_replay::engine::{Sink, Source};
 use blake2_digest::is_same;
+use blake2_replay::engine::{Sink, Source};
 use std::alloc::Global;
 
 /// What the check of a line came to.
@@ -208,7 +208,11 @@ fn read_manifest<D: Disk, E: Sink>(
 
 // Returns the name of a manifest as messages have it, before it is quoted.
 fn title_of(name: &[u8]) -> &[u8] {
-    if is_dash(name) { b"standard input" } else { name }
+    if is_dash(name) {
+        b"standard input"
+    } else {
+        name
+    }
 }
 
 // Reads the source to its end. Returns whether no read failed.
@@ -539,7 +543,13 @@ fn report<E: Sink>(
     messages: &mut E,
 ) -> Result<(), Fault> {
     if counts.has_no_entry() {
-        warn(alloc, messages, title, b": no properly formatted checksum lines found", b"")?;
+        warn(
+            alloc,
+            messages,
+            title,
+            b": no properly formatted checksum lines found",
+            b"",
+        )?;
         return Ok(());
     }
     if options.report == Report::Nothing {

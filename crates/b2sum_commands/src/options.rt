@@ -315,7 +315,12 @@ fn long_flag(alloc: Global, name: &[u8], word: &[u8]) -> Result<Flag, Stop> {
     if count == 1 {
         return Ok(flag);
     }
-    let mut text = joined(alloc, b"option '--", word, b"' is ambiguous; possibilities:")?;
+    let mut text = joined(
+        alloc,
+        b"option '--",
+        word,
+        b"' is ambiguous; possibilities:",
+    )?;
     for flag in &FLAGS {
         if flag.name().starts_with(name) {
             text.extend_from_slice(b" '--")?;

@@ -145,9 +145,13 @@ fn run_task<H: Hashes, D: Disk, K: Output, E: Sink>(
     let buffer = buffer.as_mut_slice();
     let names = files.as_slice();
     if options.checks {
-        check_all(alloc, hashes, disk, &options, names, &mut input, buffer, output, messages)
+        check_all(
+            alloc, hashes, disk, &options, names, &mut input, buffer, output, messages,
+        )
     } else {
-        print_sums(alloc, hashes, disk, &options, names, &mut input, buffer, output, messages)
+        print_sums(
+            alloc, hashes, disk, &options, names, &mut input, buffer, output, messages,
+        )
     }
 }
 

@@ -51,7 +51,11 @@ pub(crate) fn digest_file<H: Hashes, D: Disk, E: Sink>(
     ensures leaves { Leaves (is_dash name.now) (D.File.left input.old) (D.File.left input.new) }
 {
     if is_dash(name) {
-        if !input.failed() && hashes.digest_source(options, bytes, input, buffer, out).is_ok() {
+        if !input.failed()
+            && hashes
+                .digest_source(options, bytes, input, buffer, out)
+                .is_ok()
+        {
             return Ok(Read::Whole);
         }
         warn_of_file(alloc, input.reason(), messages, name)?;
@@ -67,7 +71,10 @@ pub(crate) fn digest_file<H: Hashes, D: Disk, E: Sink>(
             return Ok(Read::Failed);
         }
     };
-    if hashes.digest_source(options, bytes, &mut file, buffer, out).is_ok() {
+    if hashes
+        .digest_source(options, bytes, &mut file, buffer, out)
+        .is_ok()
+    {
         return Ok(Read::Whole);
     }
     warn_of_file(alloc, file.reason(), messages, name)?;
@@ -165,10 +172,10 @@ fn print_sum<H: Hashes, D: Disk, K: Output, E: Sink>(
 fn line_of(alloc: Global, options: &Options, digest: &[u8], name: &[u8]) -> Result<Vec<u8>, Fault>
     requires { length digest.now ≤ 64 }
     ensures { IfOk result (λ line. line.items ≡ ended_line options.now.ends_zero (record {
-        algorithm = options.now.algorithm;
-        digest = digest.now;
-        name = name.now;
-        style = options.now.style;
+      algorithm = options.now.algorithm;
+      digest = digest.now;
+      name = name.now;
+      style = options.now.style;
     })) }
 {
     let entry = Entry {

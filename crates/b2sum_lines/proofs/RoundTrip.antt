@@ -99,6 +99,7 @@ unescape_escaped (b ∷ name) out =
         → unescape_onto (out ++ (x ∷ [])) false (escaped name) ≡ Some (out ++ (b ∷ name))
     again ih x e = ih (out ++ (x ∷ []))
         ∙ ap (λ y. Some ((out ++ (y ∷ [])) ++ name)) e ∙ ap Some (append_assoc out (b ∷ []) name)
+
     go : ((more : List ℕ) → unescape_onto more false (escaped name) ≡ Some (more ++ name))
         → (p : Bool) → (b == 92) ≡ p → (q : Bool) → (b == 10) ≡ q → (r : Bool) → (b == 13) ≡ r
         → unescape_onto out false (escape b ++ escaped name) ≡ Some (out ++ (b ∷ name))
@@ -153,8 +154,13 @@ untagged_read a s is_escaped m digest c text are some fits two mark =
     let rest = 32 ∷ m ∷ c ∷ text in
     let skipped : skip is_hex_digit (encode_lower digest ++ rest) ≡ rest =
     skip_digits (encode_lower digest) rest (good_digits digest are) in
-    rw (front_of is_hex_digit (encode_lower digest) rest skipped, skipped, mark,
-    digest_read a digest are some fits, two_is s m (c ∷ text) two) refl
+    rw (
+      front_of is_hex_digit (encode_lower digest) rest skipped,
+      skipped,
+      mark,
+      digest_read a digest are some fits,
+      two_is s m (c ∷ text) two,
+    ) refl
 
 -- ---- the parts of a tagged line
 
@@ -254,7 +260,7 @@ body_cons : (a : Algorithm) (s : Spacing) (style : Style) (is_escaped : Bool) (d
     ≡ entry_with a is_escaped digest (record { style = style; text = c ∷ text })
 body_cons a s Tagged is_escaped digest c text are some fits two bare tagged =
     let rest = tag_length a (length digest)
-        ++ (codes " (" ++ ((c ∷ text) ++ (codes ") = " ++ encode_lower digest))) in
+    ++ (codes " (" ++ ((c ∷ text) ++ (codes ") = " ++ encode_lower digest))) in
     ap (body_entry a s is_escaped (tag a ++ rest)) (prefix_found (tag a) rest)
     ∙ tagged_read a is_escaped digest (c ∷ text) are some fits
 body_cons a s Text is_escaped digest c text are some fits two bare tagged =

@@ -98,11 +98,7 @@ fn push_hex(alloc: Global, line: &mut Vec<u8>, bytes: &[u8]) -> Result<(), Alloc
 }
 
 // Appends the length of the digest in a tag, in bits, unless it is the longest.
-fn push_tag_length(
-    line: &mut Vec<u8>,
-    algorithm: Algorithm,
-    bytes: usize,
-) -> Result<(), AllocError>
+fn push_tag_length(line: &mut Vec<u8>, algorithm: Algorithm, bytes: usize) -> Result<(), AllocError>
     requires { bytes ≤ 64 }
     ensures { OnOk result (line.new.items ≡ line.old.items ++ tag_length algorithm bytes) }
 {

@@ -108,7 +108,15 @@ pub fn root_by_digests(
     let count = leaf_count(65536, middle.len() as u64);
     let at = 64 * count as usize;
     hash_leaves(b"", b"", 65536, next, false, middle, &mut digests[..at]);
-    hash_leaves(b"", b"", 65536, next + count, false, more, &mut digests[at..]);
+    hash_leaves(
+        b"",
+        b"",
+        65536,
+        next + count,
+        false,
+        more,
+        &mut digests[at..],
+    );
     hasher.update_leaves(digests, last);
     hasher.finalize()
 }

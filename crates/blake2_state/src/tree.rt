@@ -357,7 +357,12 @@ impl TreeState {
         let is_in_place = digests_length == 0 || (input_length > 0 && self.is_at_boundary());
         digests_length % 64 == 0
             && is_in_place
-            && has_room_for(self.counted(), leaves, self.leaf_length, input_length as u64)
+            && has_room_for(
+                self.counted(),
+                leaves,
+                self.leaf_length,
+                input_length as u64,
+            )
     }
 
     /// Absorbs whole leaves that others have hashed, which are passed as their joined digests,
@@ -406,7 +411,7 @@ impl TreeState {
             → future self.new y ≡ future self.old (x ++ y) }
         ensures root { (y : List ℕ) → future self.new y
             ≡ (state_tree self.old).root (digests.now ++ range_digests (parameters self.old)
-                (self.old.closed + length digests.now / 64) true y) }
+            (self.old.closed + length digests.now / 64) true y) }
         ensures count { count self.new
             ≡ count self.old + length digests.now / 64 * self.old.leaf_length }
     {

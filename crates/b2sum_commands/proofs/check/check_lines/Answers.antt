@@ -29,9 +29,9 @@ lines-preserved-in_ok-check_item g c =
     let left = g.D.File.Source.left in
     let held = g.K.Sink.held in
     let before : Progress holds hash o input c.args.spacing.now all (left c.args.input.now)
-        (held c.args.output.now) c.lines.spacing
-        (c.split_line.result.0.now ∷ lines_of c.split_line.result.1.now)
-        (left c.lines.input) (held c.lines.output) c.lines.counts =
+    (held c.args.output.now) c.lines.spacing
+    (c.split_line.result.0.now ∷ lines_of c.split_line.result.1.now)
+    (left c.lines.input) (held c.lines.output) c.lines.counts =
     subst (λ (ls : List (List ℕ)). Progress holds hash o input c.args.spacing.now all
     (left c.args.input.now) (held c.args.output.now) c.lines.spacing ls (left c.lines.input)
     (held c.lines.output) c.lines.counts) c.split_line.ensures.first c.lines.invariant.done in
@@ -56,9 +56,9 @@ lines-preserved g c =
     let left = g.D.File.Source.left in
     let held = g.K.Sink.held in
     let before : Progress holds hash o input c.args.spacing.now all (left c.args.input.now)
-        (held c.args.output.now) c.lines.spacing
-        (c.split_line.result.0.now ∷ lines_of c.split_line.result.1.now)
-        (left c.lines.input) (held c.lines.output) c.lines.counts =
+    (held c.args.output.now) c.lines.spacing
+    (c.split_line.result.0.now ∷ lines_of c.split_line.result.1.now)
+    (left c.lines.input) (held c.lines.output) c.lines.counts =
     subst (λ (ls : List (List ℕ)). Progress holds hash o input c.args.spacing.now all
     (left c.args.input.now) (held c.args.output.now) c.lines.spacing ls (left c.lines.input)
     (held c.lines.output) c.lines.counts) c.split_line.ensures.first c.lines.invariant.done in
@@ -83,8 +83,8 @@ returns-clause-lines g c =
     let held = g.K.Sink.held in
     let size : length c.lines.rest.now ≡ 0 = search rules in
     let end : Progress holds hash o c.args.is_input c.args.spacing.now all (left c.args.input.now)
-        (held c.args.output.now) c.lines.spacing [] (left c.lines.input) (held c.lines.output)
-        c.lines.counts =
+    (held c.args.output.now) c.lines.spacing [] (left c.lines.input) (held c.lines.output)
+    c.lines.counts =
     subst (λ (rest : List ℕ). Progress holds hash o c.args.is_input c.args.spacing.now all
     (left c.args.input.now) (held c.args.output.now) c.lines.spacing (lines_of rest)
     (left c.lines.input) (held c.lines.output) c.lines.counts)

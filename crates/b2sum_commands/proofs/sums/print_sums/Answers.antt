@@ -21,7 +21,7 @@ loop-name-preserved g c =
     let left = g.D.File.Source.left in
     let names_of = map (λ (n : Vec ℕ Global). n.items) in
     let split : names_of (drop c.loop-name.name-index names)
-        ≡ name ∷ names_of (drop (c.loop-name.name-index + 1) names) =
+    ≡ name ∷ names_of (drop (c.loop-name.name-index + 1) names) =
     ap names_of (drop_item names c.loop-name.name-index c.name-item.result
     c.loop-name-test.true c.name-item.is)
     ∙ ap (λ n. n ∷ names_of (drop (c.loop-name.name-index + 1) names)) (sym c.as_slice.ensures.value) in

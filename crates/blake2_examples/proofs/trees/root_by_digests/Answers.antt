@@ -56,7 +56,7 @@ update_leaves-requires c =
     let counts : count-of begun ≡ length first =
     omega (arith, c.update.ensures.count, c.new-hasher.ensures.nothing) in
     let all : List ℕ = put_mid (64 * count) (length (a ++ drop (64 * count) d) - 64 * count)
-        (a ++ drop (64 * count) d) b in
+    (a ++ drop (64 * count) d) b in
     let n : ℕ = length middle / 65536 + length more / 65536 in
     let long_a : length a ≡ 64 * count =
     ap length c.hash_leaves.ensures.digests ∙ length-range_digests p next false middle
