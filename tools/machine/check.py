@@ -1,7 +1,8 @@
 #!/usr/bin/env python3
 """Shows, for the code in dist/ and the module in js/src/wasm.js, that each function that compresses
-computes F of RFC 7693 (section 3.2) for all inputs, in constant time. Prints TAP; the status is 1
-if something failed. docs/MACHINE.md says what is shown and how to read the output.
+computes F of RFC 7693 (section 3.2) for all inputs, in constant time, and that no branch and no
+address of a whole call depends on a secret. Prints TAP; the status is 1 if something failed.
+docs/MACHINE.md says what is shown and how to read the output.
 
     tools/machine/check.py            the proofs, the rules of terms, and instructions on the
                                       processor
@@ -21,6 +22,8 @@ import shutil
 import subprocess
 import sys
 
+import calls
+import check_following
 import check_functions
 import check_instructions
 import compression
@@ -34,6 +37,9 @@ import wiping
 HUGE = "VULFSJOR_TEST_HUGE"
 HERE = os.path.dirname(os.path.abspath(__file__))
 FAMILIES = {"blake2b": "BLAKE2b", "blake2s": "BLAKE2s"}
+# The families of exported functions, by the parts in which calls are followed.
+FOLLOWED = {"BLAKE2b": ("blake2b", "version"), "BLAKE2s": ("blake2s", "is_same"),
+            "trees": ("tree",)}
 
 
 def missing(path):
@@ -72,19 +78,35 @@ def search(path):
     return [("not ok", title, why % ", ".join(found)) if found else ("ok", title, "")]
 
 
+def not_runnable(path):
+    """What is missing to run a file's instructions, or None."""
+    kind = functions.architecture(path)
+    runner = {"aarch64": "qemu-aarch64", "x86_64": "cc", "wasm": "node"}[kind]
+    if missing(path) or not shutil.which(runner):
+        return missing(path) or runner
+    needed = "avx512bw" if path.endswith("-v4.s") else "avx2"
+    return needed.upper() if kind == "x86_64" and not has_flag(needed) else None
+
+
 def instructions(path):
     """The models of the instructions of a file, against the processor."""
     title = "%s: the models of instructions agree with the processor" % path
-    kind, rounds = functions.architecture(path), 20 if HUGE in os.environ else 4
-    runner = {"aarch64": "qemu-aarch64", "x86_64": "cc", "wasm": "node"}[kind]
-    missed = missing(path) or (None if shutil.which(runner) else runner)
-    needed = "avx512bw" if path.endswith("-v4.s") else "avx2"
-    if missed is None and kind == "x86_64" and not has_flag(needed):
-        missed = needed.upper()
+    missed = not_runnable(path)
     if missed:
         return [("skip", title, "no " + missed)]
-    check = wasm_instructions.check if kind == "wasm" else check_instructions.check
-    verdict, why = check(path, rounds)
+    is_wasm = functions.architecture(path) == "wasm"
+    check = wasm_instructions.check if is_wasm else check_instructions.check
+    verdict, why = check(path, 20 if HUGE in os.environ else 4)
+    return [(verdict, title, why)]
+
+
+def public_bytes(path):
+    """What the abstract machine of whole calls says of each instruction, against the processor."""
+    title = "%s: what whole calls take for public is so on the processor" % path
+    missed = not_runnable(path)
+    if missed:
+        return [("skip", title, "no " + missed)]
+    verdict, why = check_following.run(path, 10 if HUGE in os.environ else 2)
     return [(verdict, title, why)]
 
 
@@ -103,6 +125,28 @@ def whole(path):
     return [(verdict, title, why)]
 
 
+def follow(path, family):
+    """That whole calls of a family's functions do not depend on secrets."""
+    title = "%s: no branch and no address of a call depends on a secret: %s" % (path, family)
+    if missing(path):
+        return [("skip", title, "no " + missing(path))]
+    program, count, reached = programs.Program(path), 0, set()
+    for entry in calls.exports(program):
+        if entry[2] not in FOLLOWED[family]:
+            continue
+        try:
+            found = calls.show(program, *entry)
+        except T.Refused as e:
+            if isinstance(e, T.CannotShow) and (path, entry[0]) in calls.NOT_SHOWN:
+                continue
+            return [("not ok", title, "%s: %s" % (T.kind_of(e), e))]
+        if (path, entry[0]) in calls.NOT_SHOWN:
+            return [("not ok", title, "%s is shown: take it out of NOT_SHOWN" % entry[0])]
+        count, reached = count + 1, reached | found.reached
+    return [("ok", title, "%d functions, which reach %d instructions besides those that compress"
+             % (count, len(reached)))]
+
+
 def scrub(path):
     """That each scrub_stack of a file overwrites its bytes."""
     title = "%s: scrub_stack overwrites its bytes" % path
@@ -114,8 +158,7 @@ def scrub(path):
         for name, count in found.items():
             wiping.show(program, name, count)
     except T.Refused as e:
-        kind = "is wrong" if isinstance(e, T.IsWrong) else "cannot show"
-        return [("not ok", title, "%s: %s: %s" % (kind, name, e))]
+        return [("not ok", title, "%s: %s: %s" % (T.kind_of(e), name, e))]
     if not found:
         return [("not ok", title, "cannot show: there is no such function: see functions.py")]
     return [("ok", title, "of %s bytes" % ", ".join(map(str, sorted(found.values()))))]
@@ -145,13 +188,17 @@ def jobs(arguments):
     chosen = arguments or list(functions.FILES)
     found = [(prove, (path, entry)) for path in chosen
              for entry in sorted(functions.FILES[path], key=lambda e: not e[2])]
+    libraries = [path for path in chosen if functions.FILES[path] is functions.LIBRARY
+                 and functions.architecture(path) != "wasm"]
     found += [(search, (path,)) for path in chosen]
-    found += [(scrub, (path,)) for path in chosen if functions.FILES[path] is functions.LIBRARY
-              and functions.architecture(path) != "wasm"]
+    found += [(scrub, (path,)) for path in libraries]
+    followed = [path for path in libraries if path not in calls.NOT_FOLLOWED]
+    found[:0] = [(follow, (path, part)) for part in reversed(FOLLOWED) for path in followed]
     if not arguments:
         found[:0] = [(rules, (width,)) for width in (64, 32, 16, 8)]
         found += [(instructions, (path,)) for path in functions.FILES
                   if not path.rpartition("/")[2].startswith("b2")]
+        found += [(public_bytes, (path,)) for path in followed]
         found += [(planted, (change,)) for change in mutations.OF_THE_TOOL]
     if not arguments and HUGE in os.environ:
         found += [(whole, (path,)) for path in functions.FILES]

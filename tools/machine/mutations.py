@@ -4,6 +4,8 @@ each of which one of its own tests must refuse."""
 import os
 import re
 
+import calls
+import check_following
 import compression
 import functions
 import program as programs
@@ -70,6 +72,10 @@ def refuse(short, function, number, old, new):
     what, _, count = function.partition(" ")
     if what == "scrub":
         name, show, rest = functions.SCRUB_STACK + count, wiping.show, [int(count)]
+    elif what == "call":
+        exported, _, name = count.partition(" ")
+        exported = "vulfsjor_ffi_" + exported
+        name, show, rest = name or exported, follow_call, [exported]
     else:
         name, *rest = ENTRIES[function.removesuffix(" data")]
         name, show = functions.in_file(path, name), compression.show
@@ -83,11 +89,16 @@ def refuse(short, function, number, old, new):
         return [("not ok", title, "change this line of mutations.txt: %s" % e)]
     except programs.NotAssembled as e:
         return [("not ok", title, "the assembler refuses the new instruction: %s" % e)]
-    except T.IsWrong as e:
-        return [("ok", title, "is wrong: %s" % e)]
-    except T.CannotShow as e:
-        return [("ok", title, "cannot show: %s" % e)]
+    except T.Refused as e:
+        return [("ok", title, "%s: %s" % (T.kind_of(e), e))]
     return [("not ok", title, "the proof accepts the change")]
+
+
+def follow_call(program, name, exported):
+    """Follows a call of an exported function that reaches the changed one."""
+    for entry in calls.exports(program):
+        if entry[0] == exported:
+            calls.show(program, *entry)
 
 
 def _on_arm(entry):
@@ -101,12 +112,15 @@ def _on_arm(entry):
 
 def _with(owner, name, value, f):
     """The result of f() while an attribute has another value."""
-    kept = getattr(owner, name)
+    kept = owner.__dict__.get(name)
     setattr(owner, name, value)
     try:
         return f()
     finally:
-        setattr(owner, name, kept)
+        if kept is None:
+            delattr(owner, name)
+        else:
+            setattr(owner, name, kept)
 
 
 def wrong_model():
@@ -140,6 +154,27 @@ def wrong_rule():
     return _seen("a rule for the high half of a sum fails", why and "wrong for the numbers " + why)
 
 
+def secret_forgotten():
+    """Operations whose result does not depend on their operands, for whole calls."""
+    follower = calls.following_arm.Model
+    verdict, why = _with(follower, "mixed", lambda self, data: calls.unknown(),
+                         lambda: check_following.run(SHORT["arm"], 2))
+    return _seen("an operation that forgets secrets fails", verdict == "not ok" and why)
+
+
+def call_left_out():
+    """A table of exported functions that has one less."""
+    less = {k: v for k, v in calls.EXPORTS.items() if k != "_update"}
+
+    def names():
+        try:
+            return list(calls.exports(programs.Program(SHORT["arm"]))) and None
+        except T.CannotShow as e:
+            return str(e)
+    return _seen("an exported function left out of its table is found",
+                 _with(calls, "EXPORTS", less, names))
+
+
 def function_left_out():
     """A file whose list has one function less."""
     path = SHORT["arm"]
@@ -153,4 +188,4 @@ def _seen(title, why):
     return [("ok" if why else "not ok", "the tool itself: " + title, why or "nothing noticed it")]
 
 
-OF_THE_TOOL = (wrong_model, wrong_rule, function_left_out)
+OF_THE_TOOL = (wrong_model, wrong_rule, function_left_out, secret_forgotten, call_left_out)

@@ -98,8 +98,8 @@ class Program:
             elif ":\t" in line or ": R_" in line:
                 lines.append(line)
 
-    def code(self, name):
-        """The instructions of a function."""
+    def code(self, name, instruction=None):
+        """The instructions of a function, by the model's class for them or another."""
         if name not in self.functions:
             raise CannotShow("%s has no function %s: the compiler may have inlined it, or it has "
                              "another name now: see tools/machine/functions.py" % (self.path, name))
@@ -110,7 +110,7 @@ class Program:
         for line in self.functions[name]:
             m = LINE.match(line)
             if m and start <= int(m[1], 16) < end:
-                found.append(self.model.Instruction(int(m[1], 16), m[3].strip()))
+                found.append((instruction or self.model.Instruction)(int(m[1], 16), m[3].strip()))
                 found[-1].next = found[-1].address + len(m[2].replace(" ", "")) // 2
             elif not m and start <= int(line.partition(":")[0], 16) < end:
                 self.check_relocation(found[-1], line)
@@ -137,11 +137,11 @@ class Program:
 
     def check_relocation(self, i, line):
         """Refuses a number that the linker fills in, except the address of a constant of the file,
-        and of the function that a call calls."""
+        and of the function that a call or a jump goes to."""
         kind, symbol = re.search(r": (R_\w+)\t(.*)", line).groups()
         symbol = re.sub(r"[+-]0x[0-9a-f]+$", "", symbol)
         sections = {s[1] for s in self.symbols if s[3] == symbol}
-        if i.name not in ("call", "bl") and (
+        if i.name not in ("call", "bl", "b") and not i.name.startswith("j") and (
                 kind not in OF_CONSTANTS or sections != {CONSTANTS}
                 or kind == "R_X86_64_PC32" and "[rip" not in i.text):
             raise CannotShow("the linker fills in a number of %s: %s of %s" % (

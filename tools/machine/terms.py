@@ -37,6 +37,11 @@ class IsWrong(Refused):
     """The code breaks the claim. The message has the inputs, if it depends on them."""
 
 
+def kind_of(e):
+    """Which of both a refusal is, as text."""
+    return "is wrong" if isinstance(e, IsWrong) else "cannot show"
+
+
 class Term:
     """A word of w bits. Two terms of the same normal form are one object."""
 

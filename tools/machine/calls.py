@@ -1,0 +1,320 @@
+"""Shows that no branch and no address of a whole call depends on a secret: for each function that
+C programs call, all code that it reaches. docs/MACHINE.md says what is shown."""
+
+import heapq
+import re
+
+import following_arm
+import following_x86
+import functions
+import program as programs
+import terms as T
+from following import Aligned, Memory, is_secret, reset, secret, unknown
+from machine import image, need_public
+from terms import CannotShow, IsWrong
+
+MODELS = {"x86_64": following_x86, "aarch64": following_arm}
+STACK = 65536
+ROUNDS = 20                            # of a loop, which are unrolled
+
+
+def state(n, block):
+    """The fields of a state as pairs of a size and of whether it is public. n is the size of a
+    chaining word."""
+    return [(8 * n, False)] * 2 + [(8, True)] * 5 + [(block, False)] * 2
+
+
+STATES = {"blake2b": state(8, 128), "blake2s": state(4, 64),
+          "tree": state(8, 128) * 2 + [(8, True)] * 4 + [(16, False)] * 2}
+# The arguments of the functions, by the end of their names: a state, a buffer with its length (of
+# secret or public bytes), a table of messages with its length, or a public number.
+STATE, OUT, BYTES, KEY = "state", "out", "bytes", "key"
+PUBLIC, TABLE, NUMBER = "public", "table", "number"
+GIVEN = (NUMBER, KEY, BYTES, BYTES)
+EXPORTS = {
+    "_count": (STATE,), "_digest_size": (STATE,), "_final": (STATE, OUT),
+    "_init_key": (STATE, NUMBER, KEY), "_init_param": (STATE, PUBLIC),
+    "_init_salt_personal": (STATE,) + GIVEN, "_init_tree": (STATE,) + GIVEN + (NUMBER,) * 6,
+    "_reset": (STATE,), "_set_last_node": (STATE, NUMBER), "_state_size": (),
+    "_update": (STATE, BYTES), "_verify": (STATE, BYTES), "_wipe": (STATE,),
+    "": (OUT, BYTES, KEY), "_many": (OUT, NUMBER, TABLE, KEY, BYTES, BYTES),
+}
+TREES = {
+    "_count": (STATE,), "_digest_size": (STATE,), "_final": (STATE, OUT),
+    "_init": (STATE, NUMBER, BYTES, BYTES, NUMBER), "_leaf_count": (NUMBER, NUMBER),
+    "_leaf_length": (STATE,),
+    "_leaves": (OUT, NUMBER, NUMBER, BYTES, BYTES, BYTES, NUMBER),
+    "_next_leaves": (STATE, OUT, NUMBER, BYTES), "_root": (OUT, BYTES, BYTES, BYTES, NUMBER),
+    "_root_of_leaves": (OUT, BYTES, BYTES, BYTES, NUMBER), "_state_size": (),
+    "_update": (STATE, BYTES), "_update_leaves": (STATE, BYTES, BYTES), "_wipe": (STATE,),
+}
+ANSWERS = ("_verify", "is_same")       # whose result may depend on secrets
+# What is not shown: the bounds of the code's pointers are too hard for the ranges.
+NOT_FOLLOWED = ("dist/x86_64/vulfsjor-v4.s",)   # masks of AVX-512 are not followed
+NOT_SHOWN = {("dist/aarch64/vulfsjor.s", "vulfsjor_ffi_tree_root"),
+             ("dist/x86_64/vulfsjor-v2.s", "vulfsjor_ffi_tree_leaves")}
+
+
+class Call:
+    """A call of an exported function: its memory and its arguments."""
+
+    def __init__(self, program, kinds, family, alignment, has_key):
+        self.sp, self.regions, self.words = T.var(64, "sp", T.PUBLIC), {image(): Memory(
+            0, 1 << 32, program.constant, False)}, []
+        self.layout, self.has_key, self.ranges, self.state = STATES.get(family), has_key, {}, None
+        for kind in kinds:
+            self.add(kind)
+        model = MODELS[program.kind].Model
+        spilled = [b for t in self.words[len(model.ARGUMENTS):] for b in T.split(t)]
+        top = 8 if program.kind == "x86_64" else 0
+
+        def initial(k):
+            return secret() if k < 0 else unknown() if k < top else spilled[k - top]
+        self.regions[self.sp] = Memory(-STACK, top + len(spilled), initial)
+        self.machine = model(self.regions, {})
+        self.machine.begin(alignment, self.ranges, 64 if family == "blake2s" else 128)
+        self.machine.start(self.sp, T.var(64, "return address", T.PUBLIC), self.words)
+
+    def add(self, kind):
+        """Adds an argument, with its memory and its length if it has them."""
+        word = T.var(64, "%s%d" % (kind, len(self.words)), T.PUBLIC)
+        self.words.append(word)
+        if kind == NUMBER:
+            return
+        if kind == STATE:
+            cells = []
+            for size, is_public in self.layout:
+                cells += T.split(T.var(64, "field%d" % len(cells), T.PUBLIC)) if is_public else (
+                    [secret()] * size)
+            self.regions[word] = Memory(0, len(cells), lambda k: cells[k])
+            self.state = word
+            return
+        b = unknown() if kind == PUBLIC else secret()
+        self.regions[word] = Memory(0, 0, lambda k: b, kind == OUT, True)
+        length = T.var(64, "length%d" % len(self.words), T.PUBLIC)
+        if kind == KEY and self.has_key:
+            self.ranges[length] = 1, (1 << 64) - 1, 1
+        self.words.append(T.const(64, 0) if kind == KEY and not self.has_key else length)
+        if kind == TABLE:
+            text = T.var(64, "message", T.PUBLIC)
+            self.regions[text] = Memory(0, 0, lambda k: secret(), False, True)
+            self.regions[word].table = lambda m, low, size: entry(m, text, low, size)
+
+
+def entry(machine, text, low, size):
+    """Bytes of a table of messages: pairs of an address and a length."""
+    if machine.step_of_place % 16:
+        raise CannotShow("the place in the table of messages is not known")
+    pair = T.split(T.add(64, (1, text), (1, machine.new(64, "at")))) + T.split(
+        machine.new(64, "length"))
+    return [pair[(low + k) % 16] for k in range(size)]
+
+
+class Analysis:
+    """Follows calls through the functions of a file."""
+
+    def __init__(self, program):
+        self.program, self.codes = program, {}
+        self.listed = {functions.in_file(program.path, name): (kind, is_many)
+                       for name, kind, is_many in functions.FILES[program.path]}
+        self.reached, self.at = set(), None
+
+    def code(self, name):
+        """The instructions of a function by address, and where its blocks begin."""
+        if name not in self.codes:
+            found = self.program.code(name, MODELS[self.program.kind].Instruction)
+            starts = {i.target for i in found if i.target is not None}
+            self.codes[name] = {i.address: i for i in found}, starts, found[0].address
+        return self.codes[name]
+
+    def run(self, name, machine, path):
+        """The state after a call of a function, where all paths meet."""
+        code, starts, first = self.code(name)
+        states, visits, waiting, ends = {}, {}, [], []
+        machine.rounds, machine.undecided = (), frozenset()
+        loops = {}                     # the head of a loop -> its last address
+        for i in code.values():
+            if i.target is not None and i.target <= i.address:
+                loops[i.target] = max(i.address, loops.get(i.target, 0))
+
+        def arrive(pc, m, origin):
+            if pc <= origin:
+                m.rounds = rounds_at(m, pc, origin)
+            if pc in loops:
+                m.undecided = frozenset(p for p in m.undecided if not pc <= p <= loops[pc])
+            key = pc, m.rounds
+            visits[key] = visits.get(key, 0) + 1
+            if visits[key] > 100:
+                raise CannotShow("no invariant of a loop is found")
+            if key not in states:
+                states[key] = m.copy()
+            elif not states[key].join(m, "%s.%x%s." % (path, pc, in_round(m)), visits[key]):
+                return
+            if key not in waiting:
+                heapq.heappush(waiting, key)
+
+        def finish(m):
+            m.leave()
+            m.forget_below()
+            if ends:
+                ends[0].join(m, path + ".end.", 0)
+            else:
+                ends.append(m)
+
+        arrive(first, machine, first - 1)
+        while waiting:
+            key = heapq.heappop(waiting)
+            m, pc = states[key].copy(), key[0]
+            while pc is not None:
+                i = self.at = code[pc]
+                m.where = "%s/%x%s." % (path, pc, in_round(m))
+                self.reached.add(pc)
+                pc = self.follow(name, m, i, path, arrive, finish)
+                if pc in starts:
+                    arrive(pc, m, i.address)
+                    break
+        if not ends:
+            raise CannotShow("%s does not return" % name)
+        return ends[0]
+
+    def follow(self, name, m, i, path, arrive, finish):
+        """Executes an instruction. Returns the address of the next, if it is the only one."""
+        code = self.codes[name][0]
+        if m.is_call(i):
+            m.enter(i)
+            self.call(m, i, path)
+            return i.next
+        if m.is_return(i):
+            finish(m)
+            return None
+        if i.target is None:
+            m.step(i)
+            return i.next
+        if not m.is_jump(i) and m.flags == ("secret",) and name.endswith(ANSWERS) and all(
+                m.only_returns(code, pc) for pc in (i.target, i.next)):
+            m.flags = ("other",) + (m.new(64, "answer"),) * 3
+        ways = [(m, True)] if m.is_jump(i) else list(m.outcomes(i))
+        for n, jumps in ways:
+            if not m.is_jump(i) and not m.by_numbers:
+                n.undecided = m.undecided | {i.address}
+            pc = i.target if jumps else i.next
+            if pc in code:
+                arrive(pc, n, i.address)
+            else:                      # a call in place of a return
+                self.call(n, i, path)
+                n.enter(i)
+                finish(n)
+        return None
+
+    def call(self, m, i, path):
+        """A call of another function, in which the stack is as after the call."""
+        name = re.search(r"<(.*)>", i.text)[1]
+        name = programs.without_version(re.sub(r"\+0x\w+$", "", name))
+        arguments = [m.argument(k) for k in range(5)]
+        plain = name.partition("@")[0]
+        if plain in ("memcpy", "memmove", "memset"):
+            to, source, length = arguments[:3]
+            if plain == "memset":
+                m.fill_memory(to, T.split(source)[0], length)
+            else:
+                m.copy_memory(to, source, length)
+        elif name in self.listed:
+            compress(m, arguments, *self.listed[name])
+        elif not name.startswith(functions.SCRUB_STACK):
+            self.enter(m, name, i, path)
+            return
+        m.clobber()
+        m.leave()
+
+    def enter(self, m, name, i, path):
+        """A call of a function whose code is followed."""
+        kept = m.rounds, m.undecided
+        found = self.run(name, m, "%s/%x%s" % (path, i.address, in_round(m)))
+        self.at = i
+        m.__dict__.update(found.__dict__)
+        m.rounds, m.undecided = kept
+        if name.endswith("is_digest_of"):
+            m.answer()[0] = (m.new(8, "answer", (0, 1, 1)), 0)
+        elif name.endswith("..finalize"):
+            need_zeros(m, next(b for b in m.regions if b.args == "state0"))
+
+
+def in_round(m):
+    """The rounds as text, for the names of variables."""
+    return "".join(":%x=%d" % pair for pair in m.rounds)
+
+
+def rounds_at(m, head, origin):
+    """How often a machine that jumps back to a loop's head has passed the heads of loops by jumps
+    that were decided by numbers. Such rounds are kept apart, so that the loop is unrolled."""
+    rounds = {h: n for h, n in m.rounds if not head < h <= origin}
+    if not any(head <= p <= origin for p in m.undecided):
+        rounds[head] = min(rounds.get(head, 0) + 1, ROUNDS)
+    return tuple(sorted(rounds.items()))
+
+
+def compress(m, arguments, kind, is_many):
+    """A call of a function that compresses, of which compression.py shows what it does."""
+    lanes = kind.lanes if is_many else 1
+    used = [T.word(T.split(t)[:1]) for t in arguments[3:5]] if not is_many else []
+    for t in arguments[:4 if is_many else 3] + used:
+        need_public(t, "an argument of a compression")
+    if is_many:
+        for t, size in ((arguments[1], 16 * lanes), (arguments[3], 2 * lanes)):
+            need_public(T.word(m.load(t, size)), "a block's address or a flag")
+    m.store(arguments[0], [secret()] * (8 * kind.bytes * lanes))
+
+
+def exports(program):
+    """The functions that C programs call, with their arguments and families."""
+    for name in sorted(program.functions):
+        m = re.fullmatch(r"vulfsjor_ffi_(blake2[bs]|tree|is_same|version)(.*)", name)
+        if m:
+            table = {"tree": TREES, "is_same": {"": (BYTES, BYTES)}, "version": {"": ()}}.get(
+                m[1], EXPORTS)
+            if m[2] not in table:
+                raise CannotShow("the arguments of %s are not known: add them to "
+                                 "tools/machine/calls.py" % name)
+            yield name, table[m[2]], m[1]
+
+
+def show(program, name, kinds, family):
+    """Follows a call, or raises Refused. Returns the analysis."""
+    analysis = Analysis(program)
+    entry = 16, 8 if program.kind == "x86_64" else 0
+    waiting = [(entry, has_key) for has_key in ((False, True) if KEY in kinds else (False,))]
+    while waiting:
+        reset()
+        (size, rest), has_key = waiting.pop()
+        call = Call(program, kinds, family, (size, rest), has_key)
+        try:
+            check(call, analysis.run(name, call.machine, ""), name)
+        except Aligned as e:
+            waiting += [((e.need, k), has_key) for k in range(rest, e.need, size)]
+        except T.Refused as e:
+            at = " ".join(analysis.at.text.split()) if analysis.at else "the entry"
+            raise type(e)("%s: at %s: %s" % (name, at, e))
+    return analysis
+
+
+def check(call, after, name):
+    """What must hold after a call: the result and the public fields of the state do not depend on
+    a secret, so that the next call may assume it, and a wiped state is zero."""
+    if call.state and name.endswith("_wipe"):
+        need_zeros(after, call.state)
+    at = 0
+    for size, is_public in call.layout if call.state else ():
+        if is_public and any(is_secret(after.byte(call.state, at + k, call.regions[call.state]))
+                             for k in range(size)):
+            raise IsWrong("the field at %d of the state depends on a secret" % at)
+        at += size
+    if not name.endswith(ANSWERS + ("_wipe",)):
+        need_public(T.word(after.answer()[:4]), "the result")
+
+
+def need_zeros(m, state):
+    """Refuses a state of which a byte may not be zero."""
+    region = m.regions[state]
+    for k in range(region.high):
+        if m.byte(state, k, region) != 0:
+            raise IsWrong("byte %d of the state is not overwritten" % k)

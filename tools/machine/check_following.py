@@ -1,0 +1,122 @@
+"""Runs each form of instruction of whole calls on the processor twice, over states that differ only
+in bytes that are secret. What the abstract machine calls public must then be the same, and what it
+has as a number must be that number."""
+
+import random
+import struct
+
+import calls
+import check_instructions as check
+import functions
+import terms as T
+from following import Memory, is_secret, reset, secret
+from program import Program
+
+SPAN = (-check.BUFFER, check.BUFFER)
+# Not run alone: other control, what moves the stack pointer, and what may fault or wait.
+SKIPPED = check.SKIPPED | {"call", "bl", "div", "udiv", "mul", "imul", "mulx",
+                            "madd", "msub", "umulh", "pause", "isb", "leave"}
+SKIPPED |= {"j" + c for c in calls.following_x86.CONDITIONS}
+SKIPPED |= {"b." + c for c in calls.following_arm.CONDITIONS} | {"tbz", "tbnz", "br"}
+
+
+def chosen(program, count, rng):
+    """Up to `count` instructions of each form, of all functions that calls reach and follow."""
+    found, kind = {}, program.kind
+    model = calls.MODELS[kind]
+    followed = [name for name in program.functions if "@" not in name and not name.startswith(
+        (functions.SCRUB_STACK, functions.SETTLE, ".plt"))]
+    listed = {name for name, _, _ in functions.FILES[program.path]}
+    for name in followed:
+        for i in program.code(name, model.Instruction) if name not in listed else ():
+            has_index = kind == "aarch64" and any(getattr(o, "index", None) and o.kind == "memory"
+                                                  for o in i.operands)
+            if i.name not in SKIPPED and not has_index and not (
+                    i.name == "lea" and "[rip" in i.text):
+                form = check.form(kind, i)
+                if form is not None:
+                    found.setdefault(form, set()).add(check.rewritten(kind, i))
+    return len(found), [t for f in sorted(found)
+                        for t in rng.sample(sorted(found[f]), min(count, len(found[f])))]
+
+
+def hidden(rng, size):
+    """The places of secret bytes: of some registers and of parts of the memory."""
+    found = set()
+    for j in range(32):
+        if rng.random() < 0.4:
+            found |= set(range(8 * j, 8 * j + 8))
+    for j in range(32):
+        if rng.random() < 0.4:
+            found |= set(range(check.VECTORS + size * j, check.VECTORS + size * j + size))
+    if rng.random() < 0.5:
+        found |= set(range(check.MEMORY, check.SIZE))
+    return found
+
+
+def machine(program, text, base, data, places):
+    """The abstract machine after an instruction, in which bytes at these places are secret."""
+    reset()
+    model = calls.MODELS[program.kind]
+    byte = lambda k: secret() if k in places else data[k]
+    buf = T.var(64, "buffer", T.PUBLIC)
+    m = model.Model({buf: Memory(*SPAN, lambda k: byte(check.MEMORY + check.BUFFER + k))}, {})
+    m.begin((16, 0), {}, 128)
+    m.stack = T.var(64, "sp", T.PUBLIC)
+    for j in range(len(m.general)):
+        m.general[j] = [byte(8 * j + k) for k in range(8)]
+    m.general[base] = T.split(buf)
+    count, size = check.vectors_of(program.path)
+    for j in range(count):
+        m.vector[j][:size] = [byte(check.VECTORS + size * j + k) for k in range(size)]
+    zero = T.const(8, data[check.ZERO])
+    m.flags = "sub", zero, T.const(8, 0), zero
+    m.step(model.Instruction(0, text.replace(" ", "\t", 1) if program.kind == "aarch64" else text))
+    return m, buf
+
+
+def wrong(program, m, buf, one, two):
+    """What is called public and differs between two states, or is another number, or None."""
+    count, size = check.vectors_of(program.path)
+    numbers = {buf: T.const(64, struct.unpack_from("<32Q", one)[31])}
+    places = [(8 * j + k, b) for j, r in enumerate(m.general[:31]) for k, b in enumerate(r)
+              if (program.kind, j) != ("x86_64", 4)]
+    places += [(check.VECTORS + size * j + k, b) for j, r in enumerate(m.vector[:count])
+               for k, b in enumerate(r[:size])]
+    places += [(check.MEMORY + check.BUFFER + k, m.byte(buf, k, m.regions[buf]))
+               for k in range(-64, 256)]
+    for at, b in places:
+        if is_secret(b):
+            continue
+        if one[at] != two[at]:
+            return "byte %d depends on a secret" % at
+        if not isinstance(b, int):
+            b = T.split(T.substitute(T.word([b]), numbers, {}))[0]
+        if isinstance(b, int) and b != one[at]:
+            return "byte %d is %d, not %d" % (at, one[at], b)
+    if m.flags not in (None, ("secret",)) and one[check.ZERO] != two[check.ZERO]:
+        return "the zero flag depends on a secret"
+    return None
+
+
+def run(path, rounds):
+    """Whether the abstract machine agrees with the processor: a verdict, and what differs."""
+    program, rng = Program(path), random.Random(3)
+    forms, tests = chosen(program, 2 if rounds > 4 else 1, rng)
+    vectors, inputs, hiding = check.vectors_of(path), [], []
+    for k, (text, _) in enumerate(tests):
+        for n in range(rounds):
+            data = check.state(rng, text, n % 2 == 0)
+            places, other = hidden(rng, vectors[1]), bytearray(data)
+            for at in places:
+                other[at] = rng.randrange(256)
+            inputs += [(k, bytes(data)), (k, bytes(other))]
+            hiding.append(places)
+    after = check.execute(program.kind, tests, vectors, inputs)
+    for n, places in enumerate(hiding):
+        k, data = inputs[2 * n]
+        m, buf = machine(program, *tests[k], data, places)
+        why = wrong(program, m, buf, after[2 * n], after[2 * n + 1])
+        if why:
+            return "not ok", "%s: %s" % (tests[k][0], why)
+    return "ok", "%d forms, %d instructions, %d runs" % (forms, len(tests), len(inputs))

@@ -1,0 +1,407 @@
+"""Follows secrets through a whole call: an abstract interpretation of the machine code that an
+exported function reaches. Each byte of a register or of memory is public or secret. A branch or an
+address that may depend on a secret is refused.
+
+Public words are terms over public variables, of which each has a range. So the offsets of memory
+are known, or within bounds. Where paths meet, what differs becomes a new variable."""
+
+import copy
+
+import terms as T
+from machine import need_public
+from ranges import TOP, Ranges, merged
+from terms import CannotShow, IsWrong
+
+OPPOSITE = {"==": "!=", "!=": "==", "<": ">=", ">=": "<", ">": "<=", "<=": ">"}
+TABLE_STEP = 64                        # bytes from which an index is into a table, not an array
+_BYTES = []                            # a secret byte, and a public one
+
+
+def reset():
+    """Forgets all terms."""
+    T.reset()
+    _BYTES[:] = [(T.var(8, "secret", T.SECRET), 0), (T.var(8, "public", T.PUBLIC), 0)]
+
+
+def secret():
+    """A secret byte. All are the same term, because nothing is known about any."""
+    return _BYTES[0]
+
+
+def unknown():
+    """A public byte about which nothing is known."""
+    return _BYTES[1]
+
+
+class Memory:
+    """Memory from `low` to `high`. `initial` returns the byte at an offset. If it is uniform,
+    offsets don't matter, and what is written to it is secret already."""
+
+    def __init__(self, low, high, initial, writable=True, uniform=False):
+        self.low, self.high, self.initial = low, high, initial
+        self.writable, self.uniform = writable, uniform
+        self.table = None              # of a table of messages: what returns an entry's bytes
+
+
+def is_secret(b):
+    return not isinstance(b, int) and bool(b[0].taint & ~T.PUBLIC)
+
+
+def joined_byte(a, b):
+    """A byte that is one of both."""
+    if a == b:
+        return a
+    return secret() if is_secret(a) or is_secret(b) else unknown()
+
+
+class Aligned(CannotShow):
+    """The stack is aligned to more bytes than is known of it at the entry."""
+
+    def __init__(self, need):
+        super().__init__("the stack is aligned to %d bytes" % need)
+        self.need = need
+
+
+class Follower(Ranges):
+    """What the abstract machines have in common. It comes before a model among the bases."""
+
+    KNOWN = ("memory", "ranges", "residues")
+
+    def begin(self, alignment, ranges, block):
+        """Adds what the models do not have. `alignment` is that of the stack: a power of two, and
+        the stack pointer modulo that. An index that has no bound stays within a block."""
+        self.alignment, self.block = alignment, block
+        self.facts = {}                # byte -> comparisons that do not hold if it is 0
+        # The range (low, high, step) of each variable that has a smaller one than its width. Sums
+        # of variables without a constant have ranges too; in `residues`, modulo the width.
+        self.ranges, self.residues = dict(ranges), {}
+        self.flags = None              # the comparison that the flags are from
+        self.where = ""                # the path of calls and the instruction, for new variables
+
+    def copy(self):
+        other = copy.copy(self)
+        for name in self.KNOWN:
+            setattr(other, name, dict(getattr(self, name)))
+        for name in self.FILES:
+            setattr(other, name, [list(r) for r in getattr(self, name)])
+        return other
+
+    def cleaned(self, data, is_word):
+        """Bytes as they are kept: what depends on a secret is only secret. A word of which a byte
+        is not known is a new variable."""
+        data = [secret() if is_secret(b) else b for b in data]
+        if not is_word or unknown() not in data:
+            return data
+        if secret() not in data:
+            return T.split(self.new(8 * len(data), "=%d" % len(data)))
+        fresh = lambda k: (self.new(8, "=%d." % k), 0)
+        return [fresh(k) if b is unknown() else b for k, b in enumerate(data)]
+
+    # Flags.
+
+    def computed(self, kind, f, x, y):
+        """The bytes of a result of two words, and the flags from it. f returns a term, the range
+        of one, or None."""
+        a, b = T.word(x), T.word(y)
+        if kind == "product":
+            need_public(T.word(x + y), "the time of a product")
+        if (a.taint | b.taint) & ~T.PUBLIC:
+            self.flags = ("secret",)
+            return [secret()] * len(x)
+        r = f(a, b)
+        if not isinstance(r, T.Term):
+            r = self.new(a.w, "", r)
+        self.flags = kind, a, b, r
+        return T.split(r)
+
+    def compared(self, condition):
+        """What a condition compares, as (relation, word, word), or None."""
+        if self.flags is None:
+            raise CannotShow("the flags are not known")
+        kind, a, b, r = self.flags
+        relation = self.RELATIONS.get(condition)
+        if kind == "sub" and relation:
+            return relation, a, b
+        if relation in ("==", "!=") or kind == "logic" and relation:
+            return relation, r, T.const(r.w, 0)
+        return None
+
+    def learn(self, relation, a, b, holds):
+        """Learns a comparison, and what made a byte that is 0. Returns whether that may be."""
+        relation = relation if holds else OPPOSITE[relation]
+        if relation == "==" and b.op == "const" and b.args == 0:
+            for other in self.facts.get(a, ()):
+                if not self.learn(*other, False):
+                    return False
+        return self.assume(relation, a, b)
+
+    def truth(self, condition):
+        """Whether a condition holds, if that is known, or "secret"."""
+        if self.flags == ("secret",):
+            return "secret"
+        compared = self.compared(condition)
+        for holds in (True, False) if compared else ():
+            kept = self.ranges, self.residues
+            self.ranges, self.residues = map(dict, kept)
+            may = self.learn(*compared, holds)
+            self.ranges, self.residues = kept
+            if not may:
+                return not holds
+        return None
+
+    def chosen(self, condition, a, b):
+        """The bytes a if a condition holds, and otherwise b, without a branch."""
+        truth = self.truth(condition)
+        if truth in (True, False):
+            return a if truth else b
+        if truth == "secret":
+            return [secret()] * len(a)
+        return a if a == b else self.joined(self, self, a, b, "?", 0)
+
+    def bit(self, condition):
+        """A byte that is 1 if a condition holds, and otherwise 0."""
+        truth = self.truth(condition)
+        if truth in (True, False):
+            return int(truth)
+        if truth == "secret":
+            return secret()
+        x = self.new(8, "", (0, 1, 1))
+        compared = self.compared(condition)
+        if compared:
+            self.facts = {**self.facts, x: (compared,)}
+        return x, 0
+
+    def outcomes(self, i):
+        """The states after a conditional jump, each with whether it jumps."""
+        compared = self.condition(i)
+        self.by_numbers = compared is not None and compared[1].op == compared[2].op == "const"
+        self.counts["branches"] += 1
+        for jumps in (True, False):
+            m = self.copy()
+            if compared is None or m.learn(*compared, jumps):
+                yield m, jumps
+
+    def either(self, a, b):
+        """An or, of which the facts about both are kept."""
+        for t, u in ((a, b), (b, a)):
+            if t.op == "const" and (t.args == 0 or self.is_clear(u, t.args)):
+                return T.add(a.w, (1, t), (1, u))
+        bits = max(self.unsigned(a)[1], self.unsigned(b)[1]).bit_length()
+        r = self.new(a.w, "", (0, (1 << bits) - 1, 1))
+        if a in self.facts and b in self.facts:
+            self.facts = {**self.facts, r: self.facts[a] + self.facts[b]}
+        return r
+
+    def is_clear(self, address, n):
+        """Whether an address on the stack has none of the lowest bits that are on in a number."""
+        constant, items = T.linear(address)
+        if items != {self.stack: 1} or n > 256:
+            return False
+        need = 1 << n.bit_length()
+        if need > self.alignment[0]:
+            raise Aligned(need)
+        return (constant + self.alignment[1]) % need & n == 0
+
+    def masked(self, a, b):
+        """An and. One that clears the lowest bits only subtracts them."""
+        n = min((t.args for t in (a, b) if t.op == "const"), default=(1 << a.w) - 1)
+        low = (1 << a.w) - n
+        if set(T.linear(a)[1]) == {self.stack}:
+            return self.aligned_stack(a, low)
+        if b.op == "const" and low <= 4096 and low & low - 1 == 0:
+            r = T.add(a.w, (1, a), (-1, self.new(a.w, "low", (0, low - 1, 1))))
+            self.limit(r, 0, self.unsigned(a)[1])
+            return r
+        return 0, n, n & -n or 1
+
+    def mixed(self, data):
+        """A byte that may depend on all of these."""
+        return secret() if any(map(is_secret, data)) else unknown()
+
+    # Memory.
+
+    def place(self, address, size, aligned):
+        """The base, the first and the last offset, and the region of an access."""
+        need_public(address, "an address")
+        constant, items = T.linear(address)
+        bases = [u for u, k in items.items() if u in self.regions and k == 1]
+        if len(bases) != 1:
+            raise CannotShow("no memory is known at %r" % address)
+        base, = bases
+        region = self.regions[base]
+        self.counts["addresses"] += 1
+        rest = T.add(address.w, (1, address), (-1, base))
+        low, high, step = self.range_of(rest)
+        shift = low + TOP // 2 & -TOP
+        low, high, self.step_of_place = low - shift, high - shift, step
+        fits = region.low <= low <= high <= region.high - size
+        if not region.uniform and not (fits and (high - low < self.block or step >= TABLE_STEP)):
+            if low == high or not region.low <= low <= region.high - self.block:
+                raise CannotShow("no bound is known for %r, from %d on" % (address, low))
+            high = low + self.block - size
+        return base, low, high, region
+
+    def byte(self, base, k, region):
+        found = self.memory.get((base, k))
+        return region.initial(k) if found is None else found
+
+    def load(self, address, size, aligned=False):
+        base, low, high, region = self.place(address, size, aligned)
+        if region.table:
+            return region.table(self, low, size)
+        if region.uniform:
+            return [region.initial(0)] * size
+        if low == high:
+            return [self.byte(base, k, region) for k in range(low, low + size)]
+        data = [self.byte(base, k, region) for k in range(low, high + size)]
+        return [secret() if any(map(is_secret, data)) else unknown()] * size
+
+    def store(self, address, data, aligned=False):
+        base, low, high, region = self.place(address, len(data), aligned)
+        if not region.writable:
+            raise IsWrong("the function writes at %r, which it may only read" % address)
+        data = self.cleaned(data, False)
+        if region.uniform:
+            return
+        if low == high:
+            for k, b in enumerate(data):
+                self.memory[base, low + k] = b
+        else:
+            self.smear(base, low, high + len(data), region, data)
+
+    def smear(self, base, low, high, region, data):
+        """Writes at a place that is not known: each byte may be an old one or a new one."""
+        new = secret() if any(map(is_secret, data)) else unknown()
+        for k in range(low, high):
+            self.memory[base, k] = joined_byte(self.byte(base, k, region), new)
+
+    def copy_memory(self, to, source, length):
+        """memcpy and memmove."""
+        need_public(length, "a length")
+        low, high = self.unsigned(length)
+        if low == high:
+            self.store(to, self.load(source, low))
+            return
+        base, first, _, region = self.place(source, 1, False)
+        data = [region.initial(0)] if region.uniform else [
+            self.byte(base, k, region) for k in range(first, self.end_of(source, length))]
+        self.write_some(to, data, length)
+
+    def fill_memory(self, to, b, length):
+        """memset."""
+        need_public(length, "a length")
+        low, high = self.unsigned(length)
+        if low == high:
+            self.store(to, [b] * low)
+        else:
+            self.write_some(to, [b], length)
+
+    def write_some(self, to, data, length):
+        """Writes some of these bytes, in any order, over a length that is not known."""
+        base, first, _, region = self.place(to, 0, False)
+        if not region.writable:
+            raise IsWrong("the function writes at %r, which it may only read" % to)
+        if not region.uniform:
+            self.smear(base, first, self.end_of(to, length), region, data)
+
+    def end_of(self, address, length):
+        """The end of a range of memory whose length is not known."""
+        base, low, _, region = self.place(address, 0, False)
+        high = self.range_of(T.add(64, (1, address), (1, length), (-1, base)))[1]
+        return min(high, low + self.block)
+
+    def aligned_stack(self, address, low):
+        """An address on the stack, rounded down to a multiple of a power of two."""
+        constant, items = T.linear(address)
+        if items != {self.stack: 1}:
+            raise CannotShow("the stack pointer is not known")
+        if low > self.alignment[0]:
+            raise Aligned(low)
+        return T.add(64, (1, address), (-1, T.const(64, (constant + self.alignment[1]) % low)))
+
+    def forget_below(self):
+        """Forgets the stack below its pointer, which nobody may read later."""
+        low = self.lowest() + self.RED_ZONE
+        for key in [k for k in self.memory if k[0] is self.stack and k[1] < low]:
+            del self.memory[key]
+
+    # Paths that meet.
+
+    def join(self, other, place, visits):
+        """Adds another path to this state. Returns whether anything changed."""
+        old = self.copy()
+        self.where = place
+        self.join_ranges(other)
+        self.facts = {t: f for t, f in self.facts.items() if other.facts.get(t) == f}
+        for name in self.FILES:
+            for at, (a, b) in enumerate(zip(getattr(old, name), getattr(other, name))):
+                if a != b:
+                    getattr(self, name)[at] = self.joined(
+                        old, other, a, b, "%s%d" % (name, at), visits)
+        for base, k in self.different(other):
+            a, b = ([m.byte(base, k + j, self.regions[base]) for j in range(8)]
+                    for m in (old, other))
+            data = self.joined(old, other, a, b, "%s%d" % (base.args, k), visits)
+            self.memory.update({(base, k + j): byte for j, byte in enumerate(data)})
+        if self.flags != other.flags:
+            self.flags = None
+        return any(getattr(self, name) != getattr(old, name)
+                   for name in self.FILES + self.KNOWN + ("facts", "flags"))
+
+    def different(self, other):
+        """The words of memory that are not the same."""
+        keys = {key for key, _ in self.memory.items() ^ other.memory.items()}
+        return sorted({(base, k & ~7) for base, k in keys}, key=lambda p: (p[0].serial, p[1]))
+
+    def join_ranges(self, other):
+        """What holds on both paths. A range that is missing is not known."""
+        for name in ("ranges", "residues"):
+            mine, yours = getattr(self, name), getattr(other, name)
+            setattr(self, name, {t: merged(r, yours[t]) for t, r in mine.items() if t in yours})
+        for t, (low, high, _) in list(self.ranges.items()):
+            if t.op == "var" and high - low > 2 * TOP:
+                self.renew(t, (-TOP, TOP, 1))
+
+    def joined(self, old, other, a, b, name, visits):
+        """The bytes of a word or a vector that is one of both."""
+        if all(x is secret() for x in a):
+            return a
+        if len(a) > 8:
+            return [joined_byte(x, y) for x, y in zip(a, b)]
+        t, u = T.word(a), T.word(b)
+        if (t.taint | u.taint) & ~T.PUBLIC or unknown() in a + b:
+            return self.cleaned([joined_byte(x, y) for x, y in zip(a, b)],
+                                not name.startswith(("image", "sp")) and len(a) <= 8)
+        base = self.common(t, u)
+        old_range, new_range = (m.offset(v, base) for m, v in ((old, t), (other, u)))
+        x = self.renew(T.var(t.w, "%s%s" % (self.where, name), T.PUBLIC), self.widened(
+            old_range, merged(old_range, new_range), t.w, visits))
+        return T.split(T.add(t.w, (1, base), (1, x)))
+
+    def common(self, t, u):
+        """The base that two words have in common, or 0. Bases of memory that is only read become
+        a base of both."""
+        found = [[v for v, k in T.linear(s)[1].items() if v in self.regions and k == 1]
+                 for s in (t, u)]
+        if any(len(f) != 1 for f in found):
+            return T.const(t.w, 0)
+        (x,), (y,) = found
+        if x is not y:
+            if any(self.regions[v].writable for v in (x, y)):
+                return T.const(t.w, 0)
+            names = sorted(set(("%s|%s" % (x.args, y.args)).split("|")))
+            b = joined_byte(*[self.regions[v].initial(0) if self.regions[v].uniform else unknown()
+                              for v in (x, y)])
+            x = T.var(t.w, "|".join(names), T.PUBLIC)
+            self.regions[x] = Memory(0, 0, lambda k: b, False, True)
+        return x
+
+    def offset(self, t, base):
+        """The range of a word without its base, if that is known."""
+        if base.op == "const":
+            return self.range_of(t)
+        if base not in T.linear(t)[1]:
+            return -TOP, TOP, 1
+        low, high, step = self.range_of(T.add(t.w, (1, t), (-1, base)))
+        shift = low + TOP // 2 & -TOP
+        return low - shift, high - shift, step

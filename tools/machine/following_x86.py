@@ -1,0 +1,253 @@
+"""The abstract machine of following.py for x86-64. What only moves bytes is as in x86.py."""
+
+import re
+
+import terms as T
+import x86
+from following import Follower, is_secret, secret, unknown
+from machine import CannotShow, IsWrong, need_public
+
+CONDITIONS = "e ne b ae a be s ns l le g ge o no".split()
+MOVES_ONLY = (x86.MOVES, x86.BROADCASTS, x86.UNARY, x86.INSERTS)
+# Operations on vectors whose result may depend on all bytes of the operands, in a fixed time.
+MIXES = ("paddq paddd pxor xorps xorpd por orps pand andps pandn pshufb psrld psrlq psrlw pslld "
+         "psllq pblendvb blendvps blendvpd").split()
+SHUFFLES = tuple(n for n in x86.BINARY if n not in MIXES) + ("movq", "movd")
+ONE = x86.Operand("number", value=1)
+
+
+class FollowX86(Follower, x86.X86):
+    ARGUMENTS = x86.ARGUMENTS
+    # What a condition compares after `cmp`. Others are not followed: both ways may be taken.
+    RELATIONS = {"e": "==", "ne": "!=", "b": "<", "ae": ">=", "a": ">", "be": "<="}
+
+    def is_jump(self, i):
+        return i.name == "jmp"
+
+    def is_call(self, i):
+        return i.name == "call"
+
+    def is_return(self, i):
+        return i.name == "ret"
+
+    def only_returns(self, code, pc):
+        """Whether only the result is set from here to a return."""
+        for _ in range(4):
+            i = code[pc]
+            if i.name == "ret":
+                return True
+            if i.name != "vzeroupper" and i.text.split("#")[0].split() not in (
+                    ["xor", "eax,eax"], ["mov", "eax,0xffffffff"]):
+                return False
+            pc = i.next
+        return False
+
+    def write(self, o, data, vex=False, aligned=False):
+        super().write(o, self.cleaned(list(data), o.kind == "general"), vex, aligned)
+
+    def argument(self, k):
+        return T.word(self.general[x86.ARGUMENTS[k]])
+
+    def answer(self):
+        return self.general[x86.RAX]
+
+    def enter(self, i):
+        """A call pushes the return address."""
+        self.general[x86.RSP] = T.split(self.moved(-8))
+
+    def leave(self):
+        self.general[x86.RSP] = T.split(self.moved(8))
+
+    def moved(self, n):
+        return T.add(64, (1, self.stack_pointer()), (1, T.const(64, n)))
+
+    def clobber(self):
+        """What a function may leave in the registers that do not belong to its caller."""
+        for r in range(16):
+            if r not in x86.SAVED + (x86.RSP,):
+                self.general[r] = [secret()] * 8
+        self.vector = [[secret()] * x86.WIDTH for _ in range(x86.VECTORS)]
+        self.flags = None
+
+    def step(self, i):
+        """Executes an instruction other than a jump, a call or a return."""
+        name, ops = i.name, i.operands
+        if name.startswith("set") and name[3:] in CONDITIONS:
+            self.write(ops[0], [self.bit(name[3:])])
+        elif name.startswith("cmov") and name[4:] in CONDITIONS:
+            self.write(ops[0], self.chosen(
+                name[4:], self.read(ops[1], ops[0].size), self.read(ops[0])))
+        elif hasattr(self, "do_" + name):
+            getattr(self, "do_" + name)(i, *ops)
+        else:
+            self.vector_step(i)
+
+    def condition(self, i):
+        """What a conditional jump compares."""
+        if i.name[1:] not in CONDITIONS:
+            raise x86.unknown(i)
+        if self.flags == ("secret",):
+            raise IsWrong("a branch depends on secret data")
+        return self.compared(i.name[1:])
+
+    # Words.
+
+    def binary_word(self, kind, f, to, source, keep=True):
+        data = self.read(to)
+        result = self.computed(kind, f, data, self.read(source, len(data)))
+        if keep:
+            self.write(to, result)
+
+    def do_add(self, i, to, source):
+        self.binary_word("other", lambda a, b: T.add(a.w, (1, a), (1, b)), to, source)
+
+    def do_sub(self, i, to, source, keep=True):
+        self.binary_word("sub", lambda a, b: T.add(a.w, (1, a), (-1, b)), to, source, keep)
+
+    def do_cmp(self, i, to, source):
+        self.do_sub(i, to, source, False)
+
+    def do_xor(self, i, to, source):
+        if same(to, source):
+            self.write(to, [0] * to.size)
+            self.flags = ("logic",) + (T.const(8 * to.size, 0),) * 3
+        else:
+            self.binary_word("logic", lambda a, b: None, to, source)
+
+    def do_or(self, i, to, source):
+        self.binary_word("logic", self.either, to, source)
+
+    def do_and(self, i, to, source):
+        self.binary_word("logic", self.masked, to, source)
+
+    def do_test(self, i, to, source):
+        self.binary_word("logic", (lambda a, b: a) if same(to, source) else self.masked, to, source,
+                         False)
+
+    def do_inc(self, i, to):
+        self.do_add(i, to, ONE)
+
+    def do_dec(self, i, to):
+        self.binary_word("other", lambda a, b: T.add(a.w, (1, a), (-1, b)), to, ONE)
+
+    def do_neg(self, i, to):
+        self.binary_word("other", lambda a, b: T.add(a.w, (-1, a)), to, ONE)
+
+    def do_not(self, i, to):
+        flags = self.flags
+        self.binary_word("other", lambda a, b: T.add(a.w, (-1, a), (-1, b)), to, ONE)
+        self.flags = flags
+
+    def do_shl(self, i, to, source=ONE):
+        self.binary_word("other", lambda a, b: T.add(a.w, (1 << source.value, a)), to, source)
+
+    def do_shr(self, i, to, source=ONE):
+        k = source.value
+        self.binary_word("other", lambda a, b: tuple(n >> k for n in self.unsigned(a)) + (1,), to,
+                         source)
+
+    def do_imul(self, i, to, source, factor=None):
+        if factor:
+            self.write(to, self.read(source))
+        self.binary_word("product", lambda a, b: T.add(a.w, (b.args, a)) if b.op == "const" else
+                         None, to, factor or source)
+
+    def with_carry(self, to, source, sign):
+        if self.flags in (None, ("secret",)):
+            raise CannotShow("a carry depends on flags that are not public")
+        carry = lambda w: self.new(w, "carry", (0, 1, 1))
+        self.binary_word("other", lambda a, b: T.add(
+            a.w, (1, a), (sign, b), (sign, carry(a.w))), to, source)
+
+    def do_adc(self, i, to, source):
+        self.with_carry(to, source, 1)
+
+    def do_sbb(self, i, to, source):
+        self.with_carry(to, source, -1)
+
+    def do_mulx(self, i, high, low, source):
+        need_public(T.word(self.general[x86.RDX][:high.size] + self.read(source, high.size)),
+                    "the time of a product")
+        for to in (low, high):
+            self.write(to, [unknown()] * to.size)
+
+    def do_mul(self, i, source):
+        self.of_public((x86.RAX,), source)
+
+    def do_div(self, i, source):
+        self.of_public((x86.RAX, x86.RDX), source)
+
+    def of_public(self, registers, source):
+        """A product or a division, whose time may depend on the operands: these must be public."""
+        pair = [x86.Operand("general", r, source.size) for r in (x86.RAX, x86.RDX)]
+        for o in [o for o in pair if o.index in registers] + [source]:
+            need_public(T.word(self.read(o)), "the time of a product or a division")
+        for o in pair:
+            self.write(o, [unknown()] * o.size)
+        self.flags = None
+
+    def do_xchg(self, i, a, b):
+        x, y = self.read(a), self.read(b)
+        self.write(a, y)
+        self.write(b, x)
+
+    # Vectors.
+
+    def vector_step(self, i):
+        vex = i.name.startswith("v")
+        name, ops = i.name[vex:], i.operands
+        if name == "ptest":
+            data = self.read(ops[0]) + self.read(ops[1], 16)
+            self.flags = ("secret",) if any(map(is_secret, data)) else (
+                ("other",) + (self.new(64),) * 3)
+        elif name in ("movss", "movsd"):
+            self.move_low(4 if name == "movss" else 8, ops, vex)
+        elif re.fullmatch("pextr[bwdq]", name):
+            n = {"b": 1, "w": 2, "d": 4, "q": 8}[name[-1]]
+            at = n * (ops[2].value % (16 // n))
+            data = self.read(ops[1])[at:at + n]
+            self.write(ops[0], data + [0] * ((ops[0].size if ops[0].kind == "general" else n) - n))
+        elif name in ("extracti128", "extractf128"):
+            at = 16 * (ops[2].value & 1)
+            self.write(ops[0], self.read(ops[1])[at:at + 16], vex)
+        elif name in MIXES:
+            self.mix(name, ops, vex)
+        elif name in ("pbroadcastw", "pbroadcastb"):
+            n = 2 if name.endswith("w") else 1
+            self.write(ops[0], self.read(ops[1], n)[:n] * (ops[0].size // n), vex)
+        elif name == "pinsrb":
+            data = list(self.read(ops[vex]))
+            data[ops[-1].value % 16] = self.read(ops[-2], 1)[0]
+            self.write(ops[0], data, vex)
+        elif name in SHUFFLES or any(name in t for t in MOVES_ONLY):
+            super().vector_step(i)
+        else:
+            raise x86.unknown(i)
+
+    def move_low(self, n, ops, vex):
+        """A move of the lowest n bytes of a vector."""
+        if ops[0].kind == "memory":
+            self.write(ops[0], self.read(ops[1])[:n])
+        elif ops[-1].kind == "memory":
+            self.write(ops[0], self.read(ops[1], n)[:n] + [0] * (16 - n), vex)
+        else:
+            self.write(ops[0], self.read(ops[-1])[:n] + self.read(ops[-2])[n:16], vex)
+
+    def mix(self, name, ops, vex):
+        sources = [o for o in (ops[1:] if vex else ops) if o.kind != "number"]
+        if "xor" in name and same(sources[0], sources[-1]):
+            self.write(ops[0], [0] * ops[0].size, vex)
+            return
+        data = [b for o in sources for b in self.read(o, ops[0].size)]
+        if "blend" in name and not vex:
+            data += self.vector[0][:16]
+        new = 0 if all(b == 0 for b in data) else self.mixed(data)
+        self.write(ops[0], [new] * ops[0].size, vex)
+
+
+def same(a, b):
+    """Whether two operands are the same register."""
+    return a.kind == b.kind != "memory" and a.kind != "number" and a.index == b.index
+
+
+Model, Instruction = FollowX86, x86.Instruction
