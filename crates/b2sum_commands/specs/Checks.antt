@@ -23,6 +23,7 @@ item_value Comment = None
 item_value (Listed e) = Some (Some (entry_value e))
 item_value Malformed = Some None
 
+-- Whether the entry of this line has the property. A line without an entry has it.
 abbrev pub IfListed : Item → (Entry → Type 0) → Type 0
 IfListed Comment holds = ⊤
 IfListed (Listed e) holds = holds e
