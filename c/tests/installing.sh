@@ -448,7 +448,7 @@ refusals() {
     refuses 2 usage "${call[@]}" && refuses 2 usage "${call[@]}" "" &&
         refuses 2 usage "${call[@]}" a b &&
         refuses 2 usage "${call[@]}" --cpu &&
-        refuses 2 usage "${call[@]}" --cpu x86-64-v4 "$work/no" &&
+        refuses 2 usage "${call[@]}" --cpu x86-64-v5 "$work/no" &&
         refuses 2 usage "${call[@]}" --from && refuses 2 usage "${call[@]}" --what "$work/no" &&
         cd "$work" && refuses 2 usage "${call[@]}" --from "$dist" --what && [ ! -e --what ] &&
         refuses 2 usage "${call[@]}" --uninstall && refuses 0 'DESTDIR' "${call[@]}" --help &&
