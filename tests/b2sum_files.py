@@ -11,6 +11,7 @@ import errno
 import hashlib
 import itertools
 import os
+import random
 import resource
 import shutil
 import socket
@@ -189,8 +190,8 @@ def root_line(name, data, leaf, bits=512, **texts):
 
 def test_trees(runs):
     """Roots of trees, in one thread and in several."""
-    runs.write("big", bytes(range(256)) * (33 << 12))
-    big = bytes(range(256)) * (33 << 12)
+    big = random.Random(1).randbytes((40 << 20) + 77)  # several pieces that several threads read
+    runs.write("big", big)
     for leaf, data in ((1, b"abc"), (4, b"abcde"), (64, bytes(1000)), (4096, bytes(40960)), (65536, big),
             ((1 << 32) - 1, b"")):
         runs.write("data", data)
@@ -202,6 +203,9 @@ def test_trees(runs):
             runs.wants(["-c", "--strict", "--tree", str(leaf)], "data: OK\n", data=wanted.encode())
     for leaf in (1 << 20, 3 << 20, 5 << 20, 16 << 20, 1 << 25):
         runs.wants(["--tree", str(leaf), "big"], root_line("big", big, leaf))
+    for size in (16 << 20, (16 << 20) + 1, (32 << 20) - 1):
+        runs.write("cut", big[:size])
+        runs.wants(["--tree", "65536", "cut"], root_line("cut", big[:size], 65536))
     runs.wants(["--tree=65536", "--salt", "0102", "--personal=ff", "big"],
                root_line("big", big, 65536, salt=b"\1\2", person=b"\xff"))
     for text in (line("b", b"abc"), line("b", b"abc", tag=True), root_line("b", b"abc", 5),
