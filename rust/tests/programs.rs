@@ -272,13 +272,13 @@ fn the_package() {
     };
     let mut wanted = files(TOP.as_ref(), &["rust/src"]);
     let others = ["rust/README.md", "rust/examples/sum.rs", "dist/MANIFEST"];
-    let texts = [
-        "dist/aarch64/vulfsjor.s",
-        "dist/x86_64/vulfsjor-v2.s",
-        "dist/x86_64/vulfsjor-v3.s",
-        "dist/x86_64/vulfsjor-v4.s",
-    ];
-    wanted.extend([&others[..], &texts].concat().into_iter().map(String::from));
+    wanted.extend(others.map(String::from));
+    for system in ["", "-macos", "-windows"] {
+        wanted.push(format!("dist/aarch64{system}/vulfsjor.s"));
+        for level in ["v2", "v3", "v4"] {
+            wanted.push(format!("dist/x86_64{system}/vulfsjor-{level}.s"));
+        }
+    }
     wanted.sort();
     assert_eq!(files(&root, &["rust", "dist"]), wanted);
     Program::new("packaged", PRINT_ABC, &[&root]).prints("release", ABC);
