@@ -294,7 +294,7 @@ test("workers read an open file of node", async (t) => {
       }));
       assert.equal(root, rootOf(message, { leafLength, salt: SALT, digestLength: 40 }));
       assert.deepEqual(counts.at(-1) ?? [0, 0], [length, length]);
-      const range = leafLength * Math.floor(RANGE / leafLength);
+      const range = 4 * leafLength * Math.max(1, Math.floor(RANGE / leafLength / 4));
       const ranges = threads === 1 ? 0 : Math.max(1, Math.ceil(length / range));
       assert.deepEqual(
         jobs.map(({ file: { fd, at, length: part }, message: bytes }) => [fd, at, part, bytes]),

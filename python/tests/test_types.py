@@ -49,6 +49,12 @@ RESULTS = {
     "vulfsjor.TreeHasher(2).next_leaves(b'ab', skip=1)": "bytes",
     "vulfsjor.TreeHasher(2).update(b'x', threads=3)": "None",
     "vulfsjor.TreeHasher(2).update_leaves(b'', b'')": "None",
+    "vulfsjor.TreeHasher(2)._plan(5, 1, 1, 1, 1)": "tuple[int, int, int, int, bytes]",
+    "vulfsjor._library.tree_leaf(2, 0, True, salt=b'', person=b'')": "vulfsjor.blake2b",
+    "vulfsjor._library.tree_top(2, digest_size=4, salt=b'', person=b'')": "vulfsjor.blake2b",
+    "vulfsjor._library.tree_plan(5, 2, 1, 1, 1, 1)": "tuple[int, int, int, int, bytes]",
+    "vulfsjor._library.tree_part(vulfsjor._library.tree_plan(5, 2, 1, 1, 1, 1)[4], 0)":
+        "tuple[int, int, int, bool]",
 }
 # What a type checker has to refuse, and the package does.
 REFUSED = (
@@ -69,9 +75,10 @@ NAMED = {
     **dict.fromkeys(("data", "digests", "key", "person", "salt", "tag"), "_Bytes"),
     **dict.fromkeys(("digest_size", "fanout", "depth", "node_depth", "inner_size"),
                     "SupportsIndex"),
-    **dict.fromkeys(("leaf_size", "node_offset", "length", "first", "skip", "count"), "int"),
+    **dict.fromkeys(("leaf_size", "node_offset", "length", "first", "skip", "count", "threads",
+                     "least", "part", "most", "place"), "int"),
     **dict.fromkeys(("ends", "last_node", "usedforsecurity"), "bool"),
-    "messages": "Iterable[_Bytes]", "other": "TreeHasher",
+    "messages": "Iterable[_Bytes]", "other": "TreeHasher", "plan": "bytes",
 }
 
 
@@ -81,7 +88,7 @@ class Results(unittest.TestCase):
     def test_results(self):
         for expression, kind in RESULTS.items():
             value = eval(expression)  # pylint: disable=eval-used
-            whole = "list" if kind == "list[bytes]" else kind
+            whole = kind.partition("[")[0]
             wanted = type(None) if kind == "None" else eval(whole)  # pylint: disable=eval-used
             self.assertIs(type(value), wanted, expression)
             if kind == "list[bytes]":
@@ -98,8 +105,11 @@ class Results(unittest.TestCase):
             tree = ast.parse(file.read())
         seen = set()
         for owner in [tree, *(node for node in tree.body if isinstance(node, ast.ClassDef))]:
-            prefix = f"vulfsjor.{owner.name}" if isinstance(owner, ast.ClassDef) else "vulfsjor"
             for node in owner.body:
+                prefix = "vulfsjor" if hasattr(vulfsjor, getattr(node, "name", "")) else (
+                    "vulfsjor._library")
+                if isinstance(owner, ast.ClassDef):
+                    prefix = f"vulfsjor.{owner.name}"
                 if isinstance(node, ast.AnnAssign):
                     self.assertEqual(ast.unparse(node.annotation).replace("ClassVar[int]", "int"),
                                      "str" if node.target.id == "__version__" else "int")
