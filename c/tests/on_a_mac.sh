@@ -10,7 +10,7 @@ failed=0 system=
 [ "$(uname -s)" != Darwin ] || system=-macos
 case $(uname -m) in
     arm64 | aarch64) texts=dist/aarch64$system/vulfsjor.s ;;
-    *) texts="dist/x86_64$system/vulfsjor-v2.s dist/x86_64$system/vulfsjor-v3.s" ;;
+    *) texts=$(echo dist/x86_64$system/vulfsjor-v[234].s) ;;
 esac
 
 try() {
