@@ -24,11 +24,14 @@ def state(n, block):
     return [(8 * n, False)] * 2 + [(8, True)] * 5 + [(block, False)] * 2
 
 
-STATES = {"blake2b": state(8, 128), "blake2s": state(4, 64),
-          "tree": state(8, 128) * 2 + [(8, True)] * 4 + [(16, False)] * 2}
-# The arguments of the functions, by the end of their names: a state, a buffer with its length (of
-# secret or public bytes), a table of messages with its length, or a public number.
-STATE, OUT, BYTES, KEY = "state", "out", "bytes", "key"
+LAYOUTS = {"blake2b": state(8, 128), "blake2s": state(4, 64),
+           "tree": state(8, 128) * 2 + [(8, True)] * 4 + [(16, False)] * 2,
+           "limits": [(8, True)] * 4, "plan": [(8, True)] * 9, "part": [(8, True)] * 6}
+# The arguments of the functions, by the end of their names: a state (of the family, or the node of
+# a tree), another struct, a buffer with its length (of secret or public bytes), a table of messages
+# with its length, or a public number.
+STATE, NODE, PLAN, PART, LIMITS = "state", "blake2b", "plan", "part", "limits"
+OUT, BYTES, KEY = "out", "bytes", "key"
 PUBLIC, TABLE, NUMBER = "public", "table", "number"
 GIVEN = (NUMBER, KEY, BYTES, BYTES)
 EXPORTS = {
@@ -40,11 +43,15 @@ EXPORTS = {
     "": (OUT, BYTES, KEY), "_many": (OUT, NUMBER, TABLE, KEY, BYTES, BYTES),
 }
 TREES = {
-    "_count": (STATE,), "_digest_size": (STATE,), "_final": (STATE, OUT),
-    "_init": (STATE, NUMBER, BYTES, BYTES, NUMBER), "_leaf_count": (NUMBER, NUMBER),
+    "_accepts": (NUMBER,) * 4, "_count": (STATE,), "_digest_size": (STATE,), "_final": (STATE, OUT),
+    "_init": (STATE, NUMBER, BYTES, BYTES, NUMBER),
+    "_init_leaf": (NODE, NUMBER, NUMBER, BYTES, BYTES, NUMBER),
+    "_init_root": (NODE, NUMBER, BYTES, BYTES, NUMBER), "_leaf_count": (NUMBER, NUMBER),
     "_leaf_length": (STATE,),
     "_leaves": (OUT, NUMBER, NUMBER, BYTES, BYTES, BYTES, NUMBER),
-    "_next_leaves": (STATE, OUT, NUMBER, BYTES), "_root": (OUT, BYTES, BYTES, BYTES, NUMBER),
+    "_next_leaves": (STATE, OUT, NUMBER, BYTES), "_part": (PART, PLAN, NUMBER),
+    "_plan": (PLAN, NUMBER, NUMBER, NUMBER, LIMITS), "_plan_update": (PLAN, STATE, NUMBER, LIMITS),
+    "_root": (OUT, BYTES, BYTES, BYTES, NUMBER),
     "_root_of_leaves": (OUT, BYTES, BYTES, BYTES, NUMBER), "_state_size": (),
     "_update": (STATE, BYTES), "_update_leaves": (STATE, BYTES, BYTES), "_wipe": (STATE,),
 }
@@ -61,9 +68,9 @@ class Call:
     def __init__(self, program, kinds, family, alignment, has_key):
         self.sp, self.regions, self.words = T.var(64, "sp", T.PUBLIC), {image(): Memory(
             0, 1 << 32, program.constant, False)}, []
-        self.layout, self.has_key, self.ranges, self.state = STATES.get(family), has_key, {}, None
+        self.has_key, self.ranges, self.structs = has_key, {}, []
         for kind in kinds:
-            self.add(kind)
+            self.add(kind, LAYOUTS.get(family if kind == STATE else kind))
         model = MODELS[program.kind].Model
         spilled = [b for t in self.words[len(model.ARGUMENTS):] for b in T.split(t)]
         top = 8 if program.kind == "x86_64" else 0
@@ -75,19 +82,19 @@ class Call:
         self.machine.begin(alignment, self.ranges, 64 if family == "blake2s" else 128)
         self.machine.start(self.sp, T.var(64, "return address", T.PUBLIC), self.words)
 
-    def add(self, kind):
+    def add(self, kind, layout):
         """Adds an argument, with its memory and its length if it has them."""
         word = T.var(64, "%s%d" % (kind, len(self.words)), T.PUBLIC)
         self.words.append(word)
         if kind == NUMBER:
             return
-        if kind == STATE:
+        if layout:
             cells = []
-            for size, is_public in self.layout:
-                cells += T.split(T.var(64, "field%d" % len(cells), T.PUBLIC)) if is_public else (
-                    [secret()] * size)
+            for size, is_public in layout:
+                cells += [secret()] * size if not is_public else T.split(
+                    T.var(64, "%s.%d" % (word.args, len(cells)), T.PUBLIC))
             self.regions[word] = Memory(0, len(cells), lambda k: cells[k])
-            self.state = word
+            self.structs.append((word, layout))
             return
         b = unknown() if kind == PUBLIC else secret()
         self.regions[word] = Memory(0, 0, lambda k: b, kind == OUT, True)
@@ -186,6 +193,8 @@ class Analysis:
             return i.next
         if m.is_return(i):
             finish(m)
+            return None
+        if m.is_trap(i):               # the program stops here
             return None
         if i.target is None:
             m.step(i)
@@ -298,16 +307,17 @@ def show(program, name, kinds, family):
 
 
 def check(call, after, name):
-    """What must hold after a call: the result and the public fields of the state do not depend on
-    a secret, so that the next call may assume it, and a wiped state is zero."""
-    if call.state and name.endswith("_wipe"):
-        need_zeros(after, call.state)
-    at = 0
-    for size, is_public in call.layout if call.state else ():
-        if is_public and any(is_secret(after.byte(call.state, at + k, call.regions[call.state]))
-                             for k in range(size)):
-            raise IsWrong("the field at %d of the state depends on a secret" % at)
-        at += size
+    """What must hold after a call: the result and the public fields of structs do not depend on a
+    secret, so that the next call may assume it, and a wiped state is zero."""
+    for word, layout in call.structs:
+        if name.endswith("_wipe"):
+            need_zeros(after, word)
+        at = 0
+        for size, is_public in layout:
+            if is_public and any(is_secret(after.byte(word, at + k, call.regions[word]))
+                                 for k in range(size)):
+                raise IsWrong("the field at %d of %s depends on a secret" % (at, word.args))
+            at += size
     if not name.endswith(ANSWERS + ("_wipe",)):
         need_public(T.word(after.answer()[:4]), "the result")
 

@@ -87,6 +87,9 @@ class FollowArm(Follower, arm.Arm):
     def is_return(self, i):
         return i.name == "ret"
 
+    def is_trap(self, i):
+        return i.name == "brk"
+
     def only_returns(self, code, pc):
         for _ in range(3):
             i = code[pc]

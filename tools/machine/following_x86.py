@@ -30,6 +30,9 @@ class FollowX86(Follower, x86.X86):
     def is_return(self, i):
         return i.name == "ret"
 
+    def is_trap(self, i):
+        return i.name == "ud2"
+
     def only_returns(self, code, pc):
         """Whether only the result is set from here to a return."""
         for _ in range(4):
