@@ -235,7 +235,8 @@ class FollowArm(Follower, arm.Arm):
         plus = lambda sign: lambda a, b: T.add(w, (1, a), (sign, b))
         table = {
             "add": plus(1), "adds": plus(1), "sub": plus(-1), "subs": plus(-1), "and": self.masked,
-            "orr": self.either, "eor": lambda a, b: None, "mul": times, "umulh": lambda a, b: None,
+            "ands": self.masked, "orr": self.either, "eor": lambda a, b: None, "mul": times,
+            "umulh": lambda a, b: None,
             "mvn": lambda a, b: T.add(w, (-1, a), (-1, T.const(w, 1))),
             "neg": lambda a, b: T.add(w, (-1, a)),
             "lsl": lambda a, b: T.add(w, (1 << b.args, a)),
@@ -250,8 +251,9 @@ class FollowArm(Follower, arm.Arm):
             self.write(to, self.quietly(plus(1 if name == "madd" else -1), rest[2], product))
         elif name not in table or name in ("lsl", "lsr") and ops[2].kind != "number":
             return False
-        elif name in ("subs", "adds"):
-            self.write(to, self.computed("sub" if name == "subs" else "other", table[name], *rest))
+        elif name in ("subs", "adds", "ands"):
+            kind = {"subs": "sub", "adds": "other", "ands": "test"}[name]
+            self.write(to, self.computed(kind, table[name], *rest))
         else:
             self.write(to, self.quietly(table[name], rest[0], (rest + [[0] * size])[1],
                                         "product" if name in ("mul", "umulh") else "other"))
