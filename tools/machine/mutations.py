@@ -17,6 +17,8 @@ SHORT = {"v4": "dist/x86_64/vulfsjor-v4.s", "v3": "dist/x86_64/vulfsjor-v3.s",
          "v2": "dist/x86_64/vulfsjor-v2.s", "arm": "dist/aarch64/vulfsjor.s",
          "b2-v4": "dist/x86_64/b2-v4.s", "b2-v3": "dist/x86_64/b2-v3.s",
          "b2-v2": "dist/x86_64/b2-v2.s", "b2-arm": "dist/aarch64/b2.s",
+         "b2sum-v4": "dist/x86_64/b2sum-v4.s", "b2sum-v3": "dist/x86_64/b2sum-v3.s",
+         "b2sum-v2": "dist/x86_64/b2sum-v2.s", "b2sum-arm": "dist/aarch64/b2sum.s",
          "wasm": "dist/wasm/vulfsjor.wasm", "js": "js/src/wasm.js"}
 ENTRIES = {"one b": functions.ONE_B, "one s": functions.ONE_S, "many b": functions.MANY_B,
            "many s": functions.MANY_S}
