@@ -15,7 +15,7 @@ from program import Program
 SPAN = (-check.BUFFER, check.BUFFER)
 # Not run alone: other control, what moves the stack pointer, and what may fault or wait.
 SKIPPED = check.SKIPPED | {"call", "bl", "div", "udiv", "mul", "imul", "mulx",
-                            "madd", "msub", "umulh", "pause", "isb", "leave"}
+                            "madd", "msub", "umulh", "pause", "isb", "leave", "brk", "ud2"}
 SKIPPED |= {"j" + c for c in calls.following_x86.CONDITIONS}
 SKIPPED |= {"b." + c for c in calls.following_arm.CONDITIONS} | {"tbz", "tbnz", "br"}
 
