@@ -1,7 +1,7 @@
 #!/usr/bin/env python3
 """Compares `b2` with tests/from_specification.py, which was written only from docs/SPECIFICATION.md, and the worked
-values of that page with what that program, hashlib and the page say. The examples of README.md and docs/PROGRAM.md
-that run `./b2` are cases too.
+values of that page with what that program, hashlib and the page say. The examples of docs/PROGRAM.md that run `./b2`
+are cases too.
 
 For each command it runs random cases from one seed: arguments in random order and case, arguments that are wrong, missing or too
 many, arguments that are not UTF-8, inputs around every boundary, scripts with wrong lines and bad calls, and an input
@@ -206,15 +206,14 @@ def worked():
 
 
 def examples():
-    """The words and the input of each example of README.md and docs/PROGRAM.md that runs `./b2`, and its line."""
-    for page in ("README.md", "docs/PROGRAM.md"):
-        form = r"^    ((?:printf (\S+|'[^']*') \| )?\./b2 (?!--)([^#\n]*[a-z0-9]))  +#"
-        found = re.findall(form, read_file(page), re.M)
-        if not found:
-            yield f"{page}: no example", [], b""
-        for line, given, words in found:
-            message = shlex.split(given)[0].encode().decode("unicode_escape").encode() if given else b""
-            yield f"{page}: {line}", [word.encode() for word in shlex.split(words)], message
+    """The words and the input of each example of docs/PROGRAM.md that runs `./b2`, and its line."""
+    form = r"^    ((?:printf (\S+|'[^']*') \| )?\./b2 (?!--)([^#\n]*[a-z0-9]))  +#"
+    found = re.findall(form, read_file("docs/PROGRAM.md"), re.M)
+    if not found:
+        yield "docs/PROGRAM.md: no example", [], b""
+    for line, given, words in found:
+        message = shlex.split(given)[0].encode().decode("unicode_escape").encode() if given else b""
+        yield f"docs/PROGRAM.md: {line}", [word.encode() for word in shlex.split(words)], message
 
 
 def is_unicode(word):

@@ -133,8 +133,8 @@ static __attribute__((noinline)) void fill_stack(void) {
 
 /* Copies the registers zmm16 to zmm31, and sets one of them. */
 static int has_upper;
-static uint8_t wide[64];
 #ifdef __x86_64__
+static uint8_t wide[64];
 extern unsigned char vulfsjor_ffi_level __attribute__((weak, visibility("hidden")));
 #define STORE(register, place) "vmovdqu64 %%zmm" #register ", " #place "*64(%0)\n"
 #define SET(register) \
