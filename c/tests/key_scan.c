@@ -291,8 +291,9 @@ static void take_length(size_t bytes) {
     wrong[MAX - 1] ^= 1;
 }
 
-/* Copies in the registers, of which each call clears those that it uses. */
-static void finds_registers(void) {
+/* Copies in the registers, of which each call clears those that it uses. It is a call itself: inside
+ * main it would leave the key in registers that calls save on Windows. */
+static __attribute__((noinline)) void finds_registers(void) {
 #ifdef __x86_64__
     int (*const set[])(void) = {set_16, set_31};
 

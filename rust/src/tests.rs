@@ -449,19 +449,25 @@ mod choice {
         }
     }
 
-    type Update = unsafe extern "C" fn(&mut Blake2bState, *const u8, usize) -> i32;
-    type Final = unsafe extern "C" fn(&mut Blake2bState, *mut u8, usize) -> i32;
+    // Calls of the third build or, without it, of the second one.
+    unsafe fn third_update(state: &mut Blake2bState, part: (*const u8, usize)) -> i32 {
+        match level_here() {
+            3 => library::v3::blake2b_update(state, part.0, part.1),
+            _ => library::v4::blake2b_update(state, part.0, part.1),
+        }
+    }
+    unsafe fn third_final(state: &mut Blake2bState, digest: *mut u8) -> i32 {
+        match level_here() {
+            3 => library::v3::blake2b_final(state, digest, 64),
+            _ => library::v4::blake2b_final(state, digest, 64),
+        }
+    }
 
     #[test]
     fn a_run_may_go_from_one_build_to_another() {
         if level_here() < 3 {
             return;
         }
-        // Without the third build the second one is called twice.
-        let third: (Update, Final) = match level_here() {
-            3 => (library::v3::blake2b_update, library::v3::blake2b_final),
-            _ => (library::v4::blake2b_update, library::v4::blake2b_final),
-        };
         let message = [7; 1000];
         let wanted = Blake2b::digest(message);
         for first in 0..=128 {
@@ -475,14 +481,14 @@ mod choice {
             unsafe {
                 let [a, b, c] = parts.map(|part| (part.as_ptr(), part.len()));
                 assert_eq!(library::v2::blake2b_update(state, a.0, a.1), 0);
-                assert_eq!(third.0(state, b.0, b.1), 0);
+                assert_eq!(third_update(state, b), 0);
                 assert_eq!(library::v3::blake2b_update(state, c.0, c.1), 0);
-                let last = if first % 2 == 0 {
-                    third.1
+                let status = if first % 2 == 0 {
+                    third_final(state, digest.as_mut_ptr())
                 } else {
-                    library::v2::blake2b_final
+                    library::v2::blake2b_final(state, digest.as_mut_ptr(), 64)
                 };
-                assert_eq!(last(state, digest.as_mut_ptr(), 64), 0);
+                assert_eq!(status, 0);
             }
             assert_eq!(wanted, digest);
         }
