@@ -361,7 +361,7 @@ choose_by_cmake() {
 chosen_by_cmake() {
     local name system refusal="vulfsjor has no code for"
     for name in x86_64 AMD64 amd64; do
-        choose_by_cmake Linux $name | diff <(printf 'dist/x86_64/vulfsjor-v%s.s\n' 2 3) - ||
+        choose_by_cmake Linux $name | diff <(printf 'dist/x86_64/vulfsjor-v%s.s\n' 2 3 4) - ||
             return 1
     done
     for name in aarch64 arm64; do
@@ -369,7 +369,7 @@ chosen_by_cmake() {
     done
     for system in Darwin,macos Windows,windows; do
         choose_by_cmake ${system%,*} x86_64 | diff - \
-            <(printf "dist/x86_64-${system#*,}/vulfsjor-v%s.s\n" 2 3) &&
+            <(printf "dist/x86_64-${system#*,}/vulfsjor-v%s.s\n" 2 3 4) &&
             choose_by_cmake ${system%,*} arm64 | diff - \
                 <(echo "dist/aarch64-${system#*,}/vulfsjor.s") || return 1
     done
