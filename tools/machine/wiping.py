@@ -7,6 +7,7 @@ import terms as T
 from compression import STACK, Runner
 from machine import Region, junk
 from terms import CannotShow, IsWrong
+from x86 import UPPER
 
 GAP = 64                               # bytes for saved registers between the caller and the zeros
 # The registers of the first three arguments, and those that a call keeps besides the stack pointer.
@@ -29,6 +30,10 @@ class Scrub:
 
     def __init__(self, program, name, count):
         self.program, self.count, self.zeros = program, count, None
+        # Registers that only memset may use, and of which nothing is shown: those that a build
+        # without AVX-512 does not have.
+        has_upper = program.path.endswith("-v4.s") or program.kind != "x86_64"
+        self.unused = () if has_upper else UPPER
         self.runner = Runner(program.code(name))
         self.sp, self.back = (T.var(64, t, T.PUBLIC) for t in ("sp", "return address"))
         top = 8 if program.kind == "x86_64" else 0
@@ -96,6 +101,8 @@ class Scrub:
         m.zero = None
         low_halves = self.program.kind == "aarch64"
         for r, old in enumerate(m.vector):
+            if r in self.unused:
+                continue
             data = junk("vector%d.%d" % (n, r), len(old))
             m.vector[r] = old[:8] + data[8:] if low_halves and 8 <= r < 16 else data
 
