@@ -450,16 +450,22 @@ mod choice {
     }
 
     // Calls of the third build or, without it, of the second one.
-    unsafe fn third_update(state: &mut Blake2bState, part: (*const u8, usize)) -> i32 {
-        match level_here() {
-            3 => library::v3::blake2b_update(state, part.0, part.1),
-            _ => library::v4::blake2b_update(state, part.0, part.1),
+    fn third_update(state: &mut Blake2bState, part: &[u8]) -> i32 {
+        // Safety: the length is that of the slice, and the processor runs these builds.
+        unsafe {
+            match level_here() {
+                3 => library::v3::blake2b_update(state, part.as_ptr(), part.len()),
+                _ => library::v4::blake2b_update(state, part.as_ptr(), part.len()),
+            }
         }
     }
-    unsafe fn third_final(state: &mut Blake2bState, digest: *mut u8) -> i32 {
-        match level_here() {
-            3 => library::v3::blake2b_final(state, digest, 64),
-            _ => library::v4::blake2b_final(state, digest, 64),
+    fn third_final(state: &mut Blake2bState, digest: &mut [u8; 64]) -> i32 {
+        // Safety: as above.
+        unsafe {
+            match level_here() {
+                3 => library::v3::blake2b_final(state, digest.as_mut_ptr(), 64),
+                _ => library::v4::blake2b_final(state, digest.as_mut_ptr(), 64),
+            }
         }
     }
 
@@ -479,12 +485,12 @@ mod choice {
             );
             // Safety: the lengths are those of the arrays, and the processor runs these builds.
             unsafe {
-                let [a, b, c] = parts.map(|part| (part.as_ptr(), part.len()));
+                let [a, _, c] = parts.map(|part| (part.as_ptr(), part.len()));
                 assert_eq!(library::v2::blake2b_update(state, a.0, a.1), 0);
-                assert_eq!(third_update(state, b), 0);
+                assert_eq!(third_update(state, parts[1]), 0);
                 assert_eq!(library::v3::blake2b_update(state, c.0, c.1), 0);
                 let status = if first % 2 == 0 {
-                    third_final(state, digest.as_mut_ptr())
+                    third_final(state, &mut digest)
                 } else {
                     library::v2::blake2b_final(state, digest.as_mut_ptr(), 64)
                 };
