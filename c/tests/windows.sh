@@ -141,9 +141,9 @@ crate_for_windows() {
 
 # The Rust compiler that has that standard library, if there is one.
 rustc_for_windows() {
-    local each library=lib/rustlib/x86_64-pc-windows-gnu/lib
+    local each root library=lib/rustlib/x86_64-pc-windows-gnu/lib
     for each in $(type -ap rustc) /usr/bin/rustc; do
-        if [ -d "$("$each" --print sysroot 2>/dev/null)/$library" ]; then
+        if root=$("$each" --print sysroot 2>/dev/null) && [ -d "$root/$library" ]; then
             readlink -f "$each"
             return
         fi
