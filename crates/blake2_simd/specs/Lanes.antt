@@ -23,3 +23,13 @@ columns_within a b c d =
     slice_index a k ∷ slice_index b k ∷ slice_index c k ∷ slice_index d k ∷ rest in
     let two : ℕ → List ℕ = λ k. column k (column (k + 4) []) in
     two 0 ∷ two 1 ∷ two 2 ∷ two 3 ∷ []
+
+-- The columns of four rows of eight lanes, in four lists of pairs: lanes k of a and b, their lanes
+-- k + 4, and then the same of c and d.
+abbrev pub columns_in_pairs : List ℕ → List ℕ → List ℕ → List ℕ → List (List ℕ)
+columns_in_pairs a b c d =
+    let pair : List ℕ → List ℕ → ℕ → List ℕ → List ℕ = λ p q k rest.
+    slice_index p k ∷ slice_index q k ∷ rest in
+    let column : ℕ → List ℕ = λ k. pair a b k (pair a b (k + 4) (pair c d k (pair c d (k + 4) [])))
+    in
+    column 0 ∷ column 1 ∷ column 2 ∷ column 3 ∷ []

@@ -22,7 +22,7 @@ pub(super) const R1: u32 = 32;
 
 pub(super) const R2: u32 = 24;
 
-const R3: u32 = 16;
+pub(super) const R3: u32 = 16;
 
 pub(super) const R4: u32 = 63;
 
