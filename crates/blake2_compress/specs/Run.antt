@@ -1,7 +1,7 @@
 -- How many steps an input's run has, and what each of them is (RFC 7693, 3.3).
-use Rattle.std.specs.Prelude.{ℕ, ◌-◌, [], length}
+use Rattle.std.specs.Prelude.{ℕ, ◌-◌, length}
 use Rattle.blake2_simd.specs.Family.{Family}
-use Rattle.blake2_compress.specs.Hash.{Input, input_data, input_flags, input_start, inner}
+use Rattle.blake2_compress.specs.Hash.{Input, input_data, input_flags, input_start}
 use Rattle.blake2_compress.specs.Hash.{block_count, Step, step}
 
 -- The number of steps of an input's run.

@@ -1,3 +1,3 @@
-//! Four messages of BLAKE2b in parallel.
+//! Four messages of BLAKE2b in parallel, or eight.
 
-pub use blake2_compress::many::blake2b::{accepts_four, hash_four, hash_four_sized};
+pub use blake2_compress::many::blake2b::{accepts_four, eight, hash_four, hash_four_sized, lanes};

@@ -1,7 +1,9 @@
 //! Four messages of BLAKE2b: eight rows hold their chaining words, row k having word k of each.
 
+pub mod eight;
+
 ghost use Rattle.std.specs.Prelude.{◌≡◌, ◌↔◌, ◌<◌, ◌≤◌, ◌+◌, ◌-◌, ◌*◌, ◌^◌, ◌%◌, ℕ, List, []};
-ghost use Rattle.std.specs.Prelude.{◌++◌, IsTrue, length, bit_xor, map, take, drop};
+ghost use Rattle.std.specs.Prelude.{◌++◌, ◌⊎◌, IsTrue, length, bit_xor, map, take, drop};
 ghost use Rattle.std.specs.Prelude.{slice_index, slice_index_or};
 ghost use Rattle.blake2_simd.specs.Family.{blake2b, output_bytes, sigma};
 ghost use Rattle.blake2_simd.specs.Lanes.{in_lane};
@@ -27,6 +29,15 @@ use crate::params::blake2b::start_words;
 use crate::words::Flags;
 use crate::words::blake2b::{block_words, to_bytes};
 use blake2_simd::rows::u64x4;
+
+/// Returns how many messages are best hashed in parallel: 1, 4 or 8. It is 4, and a build for a
+/// processor on which another number is faster has that number in its place. So a caller must be
+/// right for each of the three.
+pub fn lanes() -> usize
+    ensures { (result ≡ 1) ⊎ (result ≡ 4) ⊎ (result ≡ 8) }
+{
+    4
+}
 
 // The row of word k of each of four messages.
 #[inline(always)]

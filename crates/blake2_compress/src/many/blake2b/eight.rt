@@ -1,0 +1,430 @@
+//! Eight messages of BLAKE2b: eight rows hold their chaining words, row k having word k of each.
+
+ghost use Rattle.std.specs.Prelude.{◌≡◌, ◌↔◌, ◌<◌, ◌≤◌, ◌+◌, ◌-◌, ◌*◌, ◌^◌, ◌%◌, ℕ, List, []};
+ghost use Rattle.std.specs.Prelude.{◌++◌, IsTrue, length, bit_xor, map, take, drop};
+ghost use Rattle.std.specs.Prelude.{slice_index, slice_index_or};
+ghost use Rattle.blake2_simd.specs.Family.{blake2b, output_bytes, sigma};
+ghost use Rattle.blake2_simd.specs.Lanes.{in_lane};
+ghost use Rattle.blake2_simd.specs.Round;
+ghost use Rattle.blake2_simd.specs.Rows.{eight, lane};
+ghost use Rattle.blake2_compress.specs.Hash;
+ghost use Rattle.blake2_compress.specs.Hash.{after_rounds, before_rounds, blocks, bytes_of, chain};
+ghost use Rattle.blake2_compress.specs.Hash.{digest};
+ghost use Rattle.blake2_compress.specs.Hash.{input_data, input_flags, input_start, last_chain};
+ghost use Rattle.blake2_compress.specs.Hash.{words_of, xor_words};
+ghost use Rattle.blake2_compress.specs.Inputs.{Accepts};
+ghost use Rattle.blake2_compress.specs.Lanes.{AcceptsAtOnce, after_blocks, block_lists, flags_at};
+ghost use Rattle.blake2_compress.specs.Lanes.{input_at, texts};
+ghost use Rattle.blake2_compress.specs.Run;
+ghost use Rattle.blake2_compress.specs.Views.{given_flags, input_of};
+
+use super::super::later_blocks;
+use super::{last_words, output};
+use crate::consts::SIGMA;
+use crate::inputs::Input;
+use crate::inputs::blake2b::accepts;
+use crate::inputs::blocks::{block_at, counted, input_parameters, step_count};
+use crate::params::blake2b::start_words;
+use crate::words::Flags;
+use crate::words::blake2b::{block_words, to_rows};
+use blake2_simd::rows::u64x8;
+
+// The row of word k of each of eight messages.
+#[inline(always)]
+fn row(words: &[[u64; 8]; 8], k: usize) -> u64x8
+    requires { k < 8 }
+    ensures { (j : ℕ) → j < 8
+        → slice_index result j ≡ slice_index (slice_index_or words.now j []) k }
+{
+    u64x8::from_array([
+        words[0][k],
+        words[1][k],
+        words[2][k],
+        words[3][k],
+        words[4][k],
+        words[5][k],
+        words[6][k],
+        words[7][k],
+    ])
+}
+
+// The rows of the words of eight messages.
+#[inline(always)]
+fn rows_of(words: &[[u64; 8]; 8]) -> [u64x8; 8]
+    ensures { (j k : ℕ) → j < 8 → k < 8
+        → lane result k j ≡ slice_index (slice_index_or words.now j []) k }
+{
+    [
+        row(words, 0),
+        row(words, 1),
+        row(words, 2),
+        row(words, 3),
+        row(words, 4),
+        row(words, 5),
+        row(words, 6),
+        row(words, 7),
+    ]
+}
+
+// The eight words of a block from word k on.
+#[inline(always)]
+fn eight_words(words: &[u64; 16], k: usize) -> u64x8
+    requires { k ≤ 8 }
+    ensures { (i : ℕ) → i < 8 → slice_index result i ≡ slice_index words.now (k + i) }
+{
+    u64x8::from_array([
+        words[k],
+        words[k + 1],
+        words[k + 2],
+        words[k + 3],
+        words[k + 4],
+        words[k + 5],
+        words[k + 6],
+        words[k + 7],
+    ])
+}
+
+// Row i of the result has the words k + i of eight blocks.
+#[inline(always)]
+fn rows_from(words: &[[u64; 16]; 8], k: usize) -> [u64x8; 8]
+    requires { k ≤ 8 }
+    ensures { (i j : ℕ) → i < 8 → j < 8
+        → lane result i j ≡ slice_index (slice_index_or words.now j []) (k + i) }
+{
+    u64x8::transpose([
+        eight_words(&words[0], k),
+        eight_words(&words[1], k),
+        eight_words(&words[2], k),
+        eight_words(&words[3], k),
+        eight_words(&words[4], k),
+        eight_words(&words[5], k),
+        eight_words(&words[6], k),
+        eight_words(&words[7], k),
+    ])
+}
+
+// The rows of the words of eight blocks.
+#[inline(always)]
+fn block_rows(blocks: &[&[u8; 128]; 8]) -> [u64x8; 16]
+    ensures { (j : ℕ) → j < 8
+        → in_lane j result ≡ words_of blake2b 16 (slice_index_or (texts blocks.now) j []) }
+{
+    let m = [
+        block_words(blocks[0]),
+        block_words(blocks[1]),
+        block_words(blocks[2]),
+        block_words(blocks[3]),
+        block_words(blocks[4]),
+        block_words(blocks[5]),
+        block_words(blocks[6]),
+        block_words(blocks[7]),
+    ];
+    let a = rows_from(&m, 0);
+    let b = rows_from(&m, 8);
+    [
+        a[0], a[1], a[2], a[3], a[4], a[5], a[6], a[7], b[0], b[1], b[2], b[3], b[4], b[5], b[6],
+        b[7],
+    ]
+}
+
+// The rows before the first round: the chaining words, and in each lane the last words under its
+// flags.
+#[inline(always)]
+fn begin(h: &[u64x8; 8], counter: u64, flags: &[Flags; 8]) -> [u64x8; 16]
+    ensures { (j : ℕ) → j < 8
+        → in_lane j result
+        ≡ before_rounds blake2b (in_lane j h.now) counter (flags_at flags.now j) }
+{
+    let last = [
+        last_words(counter, flags[0]),
+        last_words(counter, flags[1]),
+        last_words(counter, flags[2]),
+        last_words(counter, flags[3]),
+        last_words(counter, flags[4]),
+        last_words(counter, flags[5]),
+        last_words(counter, flags[6]),
+        last_words(counter, flags[7]),
+    ];
+    let w = rows_of(&last);
+    [
+        h[0], h[1], h[2], h[3], h[4], h[5], h[6], h[7], w[0], w[1], w[2], w[3], w[4], w[5], w[6],
+        w[7],
+    ]
+}
+
+// The round that comes after `i` others, which uses the words of the blocks in the order of a row
+// of SIGMA (RFC 7693, 2.7).
+#[inline(always)]
+fn round_at(v: &mut [u64x8; 16], m: &[u64x8; 16], i: usize)
+    ensures { (j : ℕ) → j < 8 → in_lane j v.new
+        ≡ Round.round blake2b (in_lane j v.old) (in_lane j m.now)
+        (slice_index_or sigma (i % 10) []) }
+{
+    u64x8::round_each(v, m, &SIGMA[i % 10]);
+}
+
+// The twelve rounds. They are written out, since a loop would look up the index of each word in
+// SIGMA at run time, and work on a copy of the rows, which stays in registers.
+#[inline(always)]
+fn rounds(v: &mut [u64x8; 16], m: &[u64x8; 16])
+    ensures { (j : ℕ) → j < 8
+        → in_lane j v.new ≡ after_rounds blake2b (in_lane j v.old) (in_lane j m.now) 12 }
+{
+    let mut rows = *v;
+    round_at(&mut rows, m, 0);
+    round_at(&mut rows, m, 1);
+    round_at(&mut rows, m, 2);
+    round_at(&mut rows, m, 3);
+    round_at(&mut rows, m, 4);
+    round_at(&mut rows, m, 5);
+    round_at(&mut rows, m, 6);
+    round_at(&mut rows, m, 7);
+    round_at(&mut rows, m, 8);
+    round_at(&mut rows, m, 9);
+    round_at(&mut rows, m, 10);
+    round_at(&mut rows, m, 11);
+    *v = rows;
+}
+
+// The exclusive or of three rows.
+#[inline(always)]
+fn xor(a: u64x8, b: u64x8, c: u64x8) -> u64x8
+    ensures { (j : ℕ) → j < 8 → slice_index result j
+        ≡ bit_xor (bit_xor (slice_index a j) (slice_index b j)) (slice_index c j) }
+{
+    a ^ b ^ c
+}
+
+// The chaining words with both halves of the rows xored into them.
+#[inline(always)]
+fn finish(h: &[u64x8; 8], v: &[u64x8; 16]) -> [u64x8; 8]
+    ensures { (j : ℕ) → j < 8 → in_lane j result
+        ≡ xor_words (xor_words (in_lane j h.now) (take 8 (in_lane j v.now)))
+        (drop 8 (in_lane j v.now)) }
+{
+    let mut result = *h;
+    for k in 0..8 {
+        result[k] = xor(h[k], v[k], v[8 + k]);
+    }
+    result
+}
+
+/// Computes F, the compression (RFC 7693, 3.2), of eight messages in parallel. `h` holds their
+/// chaining words, block j is the next 128 bytes of message j, and its flags are `flags[j]`.
+/// `counter` is the number of bytes counted for each message up to and including this block,
+/// without padding.
+#[inline]
+pub fn compress(h: &mut [u64x8; 8], blocks: &[&[u8; 128]; 8], counter: u64, flags: &[Flags; 8])
+    ensures { (j : ℕ) → j < 8 → in_lane j h.new
+        ≡ Hash.compress blake2b (in_lane j h.old) (slice_index_or (texts blocks.now) j [])
+        counter (flags_at flags.now j) }
+{
+    let m = block_rows(blocks);
+    let mut v = begin(h, counter, flags);
+    rounds(&mut v, &m);
+    *h = finish(h, &v);
+}
+
+// The chaining words that the inputs start from, at digests of `output_size` bytes.
+fn start(output_size: usize, inputs: &[Input<'_>; 8]) -> [u64x8; 8]
+    requires size { output_size ≤ output_bytes blake2b }
+    requires accepted { (j : ℕ) → j < 8 → Accepts blake2b (input_at inputs.now j) }
+    ensures { (j : ℕ) → j < 8
+        → in_lane j result ≡ input_start blake2b output_size (input_at inputs.now j) }
+{
+    let mut words = [[0; 8]; 8];
+    for j in 0..8 {
+        words[j] = start_words(&input_parameters(&inputs[j], output_size));
+    }
+    rows_of(&words)
+}
+
+// Compresses blocks of each of eight messages, one after another, the same number of each, with
+// flags j for message j. `counter` bytes are counted with the first of them, 128 more with each
+// that follows, and less than 2^64 with the last, as `counted` says for any number of blocks. The
+// loop has the only call of `compress`, so that the compiler lays it out there. It works on a
+// copy of the rows, so that what is the same for all blocks is computed once. It is a function of
+// its own also when compiled: only here the compiler may use vectors of 512 bits.
+#[inline(never)]
+fn compress_blocks(h: &mut [u64x8; 8], blocks: &[&[[u8; 128]]; 8], counter: u64, flags: &[Flags; 8])
+    requires same_number { (j : ℕ) → j < 8
+        → length (slice_index_or (block_lists blocks.now) j [])
+        ≡ length (slice_index_or (block_lists blocks.now) 0 []) }
+    requires counted { counter + 128 * length (slice_index_or (block_lists blocks.now) 0 [])
+        ≤ 2 ^ 64 + 127 }
+    ensures { (j : ℕ) → j < 8 → in_lane j h.new
+        ≡ after_blocks blake2b (in_lane j h.old) (slice_index_or (block_lists blocks.now) j [])
+        counter (flags_at flags.now j) (length (slice_index_or (block_lists blocks.now) 0 [])) }
+{
+    let [p0, p1, p2, p3, p4, p5, p6, p7] = *blocks;
+    let mut rows = *h;
+    for i in 0..p0.len() {
+        let here = [
+            &p0[i], &p1[i], &p2[i], &p3[i], &p4[i], &p5[i], &p6[i], &p7[i],
+        ];
+        compress(&mut rows, &here, counter + 128 * i as u64, flags);
+    }
+    *h = rows;
+}
+
+// Compresses block i of each of eight inputs.
+fn compress_at(
+    h: &mut [u64x8; 8],
+    inputs: &[Input<'_>; 8],
+    i: usize,
+    counter: u64,
+    flags: &[Flags; 8],
+)
+    requires accepted { (j : ℕ) → j < 8 → Accepts blake2b (input_at inputs.now j) }
+    requires within { (j : ℕ) → j < 8 → i < Run.step_count blake2b (input_at inputs.now j) }
+    ensures { (j : ℕ) → j < 8 → in_lane j h.new
+        ≡ Hash.compress blake2b (in_lane j h.old)
+        (slice_index_or (blocks blake2b (input_data blake2b (input_at inputs.now j))) i [])
+        counter (flags_at flags.now j) }
+{
+    let b0 = [block_at(&inputs[0], i)];
+    let b1 = [block_at(&inputs[1], i)];
+    let b2 = [block_at(&inputs[2], i)];
+    let b3 = [block_at(&inputs[3], i)];
+    let b4 = [block_at(&inputs[4], i)];
+    let b5 = [block_at(&inputs[5], i)];
+    let b6 = [block_at(&inputs[6], i)];
+    let b7 = [block_at(&inputs[7], i)];
+    compress_blocks(
+        h,
+        &[
+            &b0[..],
+            &b1[..],
+            &b2[..],
+            &b3[..],
+            &b4[..],
+            &b5[..],
+            &b6[..],
+            &b7[..],
+        ],
+        counter,
+        flags,
+    );
+}
+
+// Compresses all blocks of eight inputs except the last. Those from the second on are read from
+// the messages without a copy.
+fn absorb_inner(h: &mut [u64x8; 8], inputs: &[Input<'_>; 8])
+    requires accepted { (j : ℕ) → j < 8 → Accepts blake2b (input_at inputs.now j) }
+    requires same_number { (j : ℕ) → j < 8
+        → Run.step_count blake2b (input_at inputs.now j)
+        ≡ Run.step_count blake2b (input_at inputs.now 0) }
+    ensures { (j : ℕ) → j < 8 → in_lane j h.new
+        ≡ chain blake2b (in_lane j h.old) 0
+        (blocks blake2b (input_data blake2b (input_at inputs.now j)))
+        (Run.step_count blake2b (input_at inputs.now 0) - 1) }
+{
+    let count = step_count::<128>(&inputs[0]) as usize;
+    if count == 1 {
+        return;
+    }
+    let flags = [Flags::INNER; 8];
+    compress_at(h, inputs, 0, 128, &flags);
+    let mut later: [&[[u8; 128]]; 8] = [&[]; 8];
+    for j in 0..8 {
+        later[j] = later_blocks(&inputs[j], count - 2);
+    }
+    compress_blocks(h, &later, 256, &flags);
+}
+
+// The flags of the last compression of eight inputs.
+fn last_flags(inputs: &[Input<'_>; 8]) -> [Flags; 8]
+    ensures { (j : ℕ) → j < 8 → flags_at result j ≡ input_flags (input_at inputs.now j) }
+{
+    [
+        Flags::last_block(inputs[0].last_node),
+        Flags::last_block(inputs[1].last_node),
+        Flags::last_block(inputs[2].last_node),
+        Flags::last_block(inputs[3].last_node),
+        Flags::last_block(inputs[4].last_node),
+        Flags::last_block(inputs[5].last_node),
+        Flags::last_block(inputs[6].last_node),
+        Flags::last_block(inputs[7].last_node),
+    ]
+}
+
+// Compresses all blocks of eight inputs.
+fn absorb(h: &mut [u64x8; 8], inputs: &[Input<'_>; 8])
+    requires accepted { (j : ℕ) → j < 8 → Accepts blake2b (input_at inputs.now j) }
+    requires same_count { (j : ℕ) → j < 8
+        → length (input_data blake2b (input_at inputs.now j))
+        ≡ length (input_data blake2b (input_at inputs.now 0)) }
+    ensures { (j : ℕ) → j < 8 → in_lane j h.new
+        ≡ last_chain blake2b (in_lane j h.old) 0 (input_data blake2b (input_at inputs.now j))
+        (input_flags (input_at inputs.now j)) }
+{
+    absorb_inner(h, inputs);
+    let last = step_count::<128>(&inputs[0]) as usize - 1;
+    let flags = last_flags(inputs);
+    compress_at(h, inputs, last, counted::<128>(&inputs[0]), &flags);
+}
+
+// The first N bytes of the last chaining words of each of eight inputs, at digests of
+// `output_size` bytes.
+fn outputs<const N: usize>(output_size: usize, inputs: &[Input<'_>; 8]) -> [[u8; N]; 8]
+    requires room { N ≤ output_bytes blake2b }
+    requires size { output_size ≤ output_bytes blake2b }
+    requires accepted { AcceptsAtOnce blake2b 8 inputs.now }
+    ensures { (j : ℕ) → j < 8 → slice_index_or result j []
+        ≡ take N (bytes_of blake2b (last_chain blake2b
+        (input_start blake2b output_size (input_at inputs.now j)) 0
+        (input_data blake2b (input_at inputs.now j)) (input_flags (input_at inputs.now j)))) }
+{
+    let mut h = start(output_size, inputs);
+    absorb(&mut h, inputs);
+    let words = u64x8::transpose(h);
+    let mut outputs = [[0; N]; 8];
+    for j in 0..8 {
+        outputs[j] = output(&to_rows(&words[j].to_array()));
+    }
+    outputs
+}
+
+/// Returns whether `hash_eight` accepts these inputs: `accepts` returns true for each, and the
+/// same number of bytes is counted for each, those of its message and 128 if it has a key.
+pub fn accepts_eight(inputs: &[Input<'_>; 8]) -> bool
+    ensures { IsTrue result ↔ AcceptsAtOnce blake2b 8 inputs.now }
+{
+    if !accepts(&inputs[0]) {
+        return false;
+    }
+    let count = counted::<128>(&inputs[0]);
+    for j in 1..8 {
+        if !accepts(&inputs[j]) {
+            return false;
+        }
+        if counted::<128>(&inputs[j]) != count {
+            return false;
+        }
+    }
+    true
+}
+
+/// Returns the digests of eight inputs, in their order, of N bytes each, at most 64 (RFC 7693,
+/// 3.3). The inputs must be such that `accepts_eight` returns true: each is accepted, and the
+/// same number of bytes is counted for each. The call allocates nothing.
+pub fn hash_eight<const N: usize>(inputs: &[Input<'_>; 8]) -> [[u8; N]; 8]
+    requires size { N ≤ output_bytes blake2b }
+    requires accepted { AcceptsAtOnce blake2b 8 inputs.now }
+    ensures { result ≡ map (λ input. digest blake2b N (input_of input)) inputs.now }
+{
+    outputs(N, inputs)
+}
+
+/// Returns the same digests with a size that is chosen at run time: the first `output_size`
+/// bytes, at most 64, of each array are the digest of its input. The remaining bytes are the rest
+/// of the last chaining words. They are not part of the digest, and the contract promises nothing
+/// about them. The inputs must be such that `accepts_eight` returns true.
+pub fn hash_eight_sized(output_size: usize, inputs: &[Input<'_>; 8]) -> [[u8; 64]; 8]
+    requires size { output_size ≤ output_bytes blake2b }
+    requires accepted { AcceptsAtOnce blake2b 8 inputs.now }
+    ensures { map (take output_size) result
+        ≡ map (λ input. digest blake2b output_size (input_of input)) inputs.now }
+{
+    outputs(output_size, inputs)
+}
