@@ -1,7 +1,7 @@
 -- The arguments of the constructors of plain states.
-use Rattle.std.specs.Prelude.{◌≡◌, ℕ, ◌<◌, ◌⊎◌, Bool, List, [], ◌∷◌, length, Option, Some, None}
-use Rattle.blake2_simd.specs.Family.{Family, block_bytes, output_bytes, key_bytes, salt_bytes}
-use Rattle.blake2_compress.specs.Hash.{Tree}
+use Rattle.std.specs.Prelude.{ℕ, ◌≤◌, Bool, List, [], ◌∷◌, length, Option, Some, None}
+use Rattle.blake2_simd.specs.Family.{Family, block_bytes}
+use Rattle.blake2_compress.specs.Hash.{Fits, Parameters, Tree}
 use Rattle.blake2.specs.States.{node_digest_of}
 use Rattle.blake2_state.specs.declared.StateParameters.{StateParameters}
 
@@ -15,21 +15,30 @@ abbrev pub given_count : Family → List ℕ → ℕ
 given_count f [] = 0
 given_count f (x ∷ xs) = block_bytes f
 
--- The output, the key, the salt or the personalization has a length that the family does not accept
--- (RFC 7693, 2.1; the BLAKE2 document, 2.8).
-abbrev pub IsRefusedState : Family → ℕ → List ℕ → List ℕ → List ℕ → Type 0
-IsRefusedState f size key salt persona =
-    (size ≡ 0) ⊎ (output_bytes f < size) ⊎ (key_bytes f < length key)
-    ⊎ (salt_bytes f < length salt) ⊎ (salt_bytes f < length persona)
+-- What the parameter block of a state names, with these tree parameters (RFC 7693, 2.5; the
+-- BLAKE2 document, 2.8).
+abbrev pub parameters_given : StateParameters → Tree → Parameters
+parameters_given given tree = record {
+  size = given.output_size;
+  key_size = length given.key.now;
+  salt = given.salt.now;
+  persona = given.persona.now;
+  tree = tree;
+}
 
--- One of a state's parameters has a length that the family does not accept.
-abbrev pub IsRefusedGiven : Family → StateParameters → Type 0
-IsRefusedGiven f given =
-    IsRefusedState f given.output_size given.key.now given.salt.now given.persona.now
+-- The family accepts the parameters of a state: its limits hold, and the digest is not empty (RFC
+-- 7693, 2.1; the BLAKE2 document, 2.8).
+pub record Admits (f : Family) (p : Parameters) : Type 0 where
+  pub some : 1 ≤ p.size
+  pub fits : Fits f p
+
+-- The BLAKE2 digest with these parameters and a key or none, as a function of the last-node flag
+-- and the message.
+abbrev pub digest_under : Family → Parameters → Option (List ℕ) → Bool → List ℕ → List ℕ
+digest_under f p key = node_digest_of f p.size p.salt p.persona key p.tree
 
 -- The BLAKE2 digest with a state's parameters and these tree parameters, as a function of the
 -- last-node flag and the message.
 abbrev pub digest_given : Family → StateParameters → Tree → Bool → List ℕ → List ℕ
 digest_given f given tree =
-    node_digest_of f given.output_size given.salt.now given.persona.now (given_key given.key.now)
-    tree
+    digest_under f (parameters_given given tree) (given_key given.key.now)

@@ -1,5 +1,5 @@
 -- What a plain state of BLAKE2b means.
-use Rattle.std.specs.Prelude.{◌+◌, ◌^◌, ◌<◌, ◌≤◌, take, replicate}
+use Rattle.std.specs.Prelude.{◌≡◌, ℕ, ◌+◌, ◌^◌, ◌<◌, ◌≤◌, take, replicate}
 use Rattle.blake2_simd.specs.Family.{blake2b}
 use Rattle.blake2_digest.specs.States.{Meaning}
 use Rattle.blake2.specs.States as Held
@@ -28,6 +28,10 @@ pub record IsReady (s : State) : Type 0 where
   pub pending : s.pending_length ≤ 128
   pub start : s.start_length ≤ 128
   pub counted : s.counter + s.pending_length < 2 ^ 64
+
+-- The state returns digests of `size` bytes.
+abbrev pub IsReadyFor : ℕ → State → Type 0
+IsReadyFor size s = IsReady s × (s.output_size ≡ size)
 
 -- The zeroed state, which returns no digests.
 abbrev pub zeros : State

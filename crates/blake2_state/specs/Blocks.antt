@@ -1,5 +1,5 @@
 -- Runs from a parameter block that is given as bytes, whatever its fields are.
-use Rattle.std.specs.Prelude.{◌≡◌, ℕ, ◌*◌, ◌<◌, ◌≢◌, ◌⊎◌, Bool, List, length, take, slice_index}
+use Rattle.std.specs.Prelude.{◌≡◌, ℕ, ◌*◌, ◌≤◌, Bool, List, length, take, slice_index}
 use Rattle.blake2_simd.specs.Family.{Family, word_bytes, output_bytes, key_bytes, iv}
 use Rattle.blake2_compress.specs.Hash.{words_of, xor_words, bytes_of, last_chain, final}
 
@@ -15,9 +15,10 @@ block_digest f block last_node z =
     take (slice_index block 0)
     (bytes_of f (last_chain f (block_start f block) 0 z (final last_node)))
 
--- The parameter block does not have eight words, or it names a length of the output or of the key
--- that the family does not accept (the BLAKE2 document, 2.8).
-abbrev pub IsRefusedBlock : Family → List ℕ → Type 0
-IsRefusedBlock f block =
-    (length block ≢ 8 * word_bytes f) ⊎ (slice_index block 0 ≡ 0)
-    ⊎ (output_bytes f < slice_index block 0) ⊎ (key_bytes f < slice_index block 1)
+-- The parameter block has eight words, and names lengths of the output and of the key that the
+-- family accepts (the BLAKE2 document, 2.8).
+pub record AdmitsBlock (f : Family) (block : List ℕ) : Type 0 where
+  pub whole : length block ≡ 8 * word_bytes f
+  pub some : 1 ≤ slice_index block 0
+  pub size : slice_index block 0 ≤ output_bytes f
+  pub key_size : slice_index block 1 ≤ key_bytes f

@@ -1,6 +1,6 @@
 -- What a plain state of a tree means: the root that it will return, and the bytes that it has
 -- absorbed.
-use Rattle.std.specs.Prelude.{◌≡◌, ℕ, ◌+◌, ◌*◌, ◌^◌, ◌<◌, ◌≤◌, ◌⊎◌, List, take, replicate}
+use Rattle.std.specs.Prelude.{◌≡◌, ℕ, ◌+◌, ◌*◌, ◌^◌, ◌<◌, ◌≤◌, List, take, replicate}
 use Rattle.blake2_state.specs.Blake2b as Node
 use Rattle.blake2_state.specs.declared.tree.TreeState.{TreeState}
 use Rattle.blake2_tree.specs.Nodes.{IsOpened}
@@ -57,6 +57,10 @@ pub record IsReady (t : TreeState) : Type 0 where
   pub lengths : HasLengths t
   pub counts : HasCounts t
 
+-- The state returns a root of `size` bytes.
+abbrev pub IsReadyFor : ℕ → TreeState → Type 0
+IsReadyFor size t = IsReady t × (t.root.output_size ≡ size)
+
 -- The open leaf has just been opened, and has absorbed nothing.
 abbrev pub IsBegun : TreeState → Type 0
 IsBegun t = IsOpened Node.meaning (parameters t) t.closed t.leaf
@@ -65,11 +69,6 @@ IsBegun t = IsOpened Node.meaning (parameters t) t.closed t.leaf
 -- constructor has made, and updates preserve it.
 abbrev pub IsAsOpened : TreeState → Type 0
 IsAsOpened t = (Node.meaning.count t.leaf ≡ 0) → IsBegun t
-
--- The root, the salt, the personalization or a leaf has a length that a tree does not accept.
-abbrev pub IsRefusedTree : ℕ → ℕ → ℕ → ℕ → Type 0
-IsRefusedTree size salt persona leaf_length =
-    (size ≡ 0) ⊎ (64 < size) ⊎ (16 < salt) ⊎ (16 < persona) ⊎ (leaf_length ≡ 0)
 
 -- The zeroed state, which returns no root.
 abbrev pub zeros : TreeState

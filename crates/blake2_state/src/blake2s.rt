@@ -5,18 +5,19 @@ ghost use Rattle.std.specs.Prelude.{length, take, drop, slice_index, None, Some,
 ghost use Rattle.std.specs.Prelude.{IsTrue};
 ghost use Rattle.blake2_simd.specs.Family.{blake2s};
 ghost use Rattle.blake2_compress.specs.Hash.{AdmitsTree, sequential};
-ghost use Rattle.blake2_compress.specs.Views.{tree_of};
+ghost use Rattle.blake2_compress.specs.Views.{given_parameters, tree_of};
 ghost use Rattle.blake2_digest.specs.States.{Fresh, NodeSet, Updated, StartedAgain, digest_now};
 ghost use Rattle.blake2.specs.Cores.{CoreState};
-ghost use Rattle.blake2.specs.States.{node_digest_of};
-ghost use Rattle.blake2_state.specs.Arguments.{given_count, IsRefusedGiven, digest_given};
-ghost use Rattle.blake2_state.specs.Blocks.{block_start, block_digest, IsRefusedBlock};
+ghost use Rattle.blake2_state.specs.Arguments.{Admits, given_count, digest_given};
+ghost use Rattle.blake2_state.specs.Arguments.{digest_under, parameters_given};
+ghost use Rattle.blake2_state.specs.Blocks.{block_start, block_digest, AdmitsBlock};
 ghost use Rattle.blake2_state.specs.Blake2s.{IsReady, meaning, zeros};
 ghost use Rattle.blake2_state.specs.States.{is_on};
 
 use crate::StateParameters;
 use blake2::{Blake2sVarCore, Tree};
-use blake2_compress::params::blake2s::start_of;
+use blake2_compress::params::Parameters;
+use blake2_compress::params::blake2s::{fits, start_of};
 use blake2_compress::words::blake2s::to_words;
 use blake2_digest::{
     InvalidLength, LastNode, LazyBuffer, UpdateCore, VariableOutputCore, digest_into, is_same,
@@ -103,52 +104,37 @@ impl State {
         }
     }
 
-    // A state of these parameters that has absorbed nothing, under no key.
-    fn unkeyed(given: &StateParameters<'_>, tree: &Tree) -> Self
-        requires least { 1 ≤ given.now.output_size }
-        requires most { given.now.output_size ≤ 32 }
-        requires salt { length given.now.salt.now ≤ 8 }
-        requires persona { length given.now.persona.now ≤ 8 }
-        requires tree { AdmitsTree blake2s (tree_of tree.now) }
-        ensures ready { IsReady result }
-        ensures size { result.output_size ≡ given.now.output_size }
-        ensures fresh { Fresh meaning
-            (node_digest_of blake2s given.now.output_size given.now.salt.now given.now.persona.now
-            None (tree_of tree.now))
-            0 result }
+    // Whether Blake2s accepts the parameters of a state.
+    #[inline]
+    fn admits(parameters: &Parameters<'_>) -> bool
+        ensures { IsTrue result ↔ Admits blake2s (given_parameters parameters.now) }
     {
-        let StateParameters {
-            output_size,
-            key: _,
-            salt,
-            persona,
-        } = *given;
-        let core = Blake2sVarCore::new_with_tree(salt, persona, 0, output_size, tree);
-        Self::starting_from(core.first_words(), output_size)
+        parameters.output_size >= 1 && fits(parameters)
+    }
+
+    // A state of these parameters that has absorbed nothing, under no key.
+    fn unkeyed(parameters: &Parameters<'_>) -> Self
+        requires admitted { Admits blake2s (given_parameters parameters.now) }
+        requires keyless { parameters.now.key_size ≡ 0 }
+        ensures ready { IsReady result }
+        ensures size { result.output_size ≡ parameters.now.output_size }
+        ensures fresh { Fresh meaning
+            (digest_under blake2s (given_parameters parameters.now) None) 0 result }
+    {
+        let core = Blake2sVarCore::from_parameters(parameters);
+        Self::starting_from(core.first_words(), parameters.output_size)
     }
 
     // A state under this key that has absorbed nothing else.
-    fn under_key(given: &StateParameters<'_>, tree: &Tree) -> Self
-        requires least { 1 ≤ given.now.output_size }
-        requires most { given.now.output_size ≤ 32 }
-        requires key { length given.now.key.now ≤ 32 }
-        requires salt { length given.now.salt.now ≤ 8 }
-        requires persona { length given.now.persona.now ≤ 8 }
-        requires tree { AdmitsTree blake2s (tree_of tree.now) }
+    fn under_key(parameters: &Parameters<'_>, key: &[u8]) -> Self
+        requires admitted { Admits blake2s (given_parameters parameters.now) }
+        requires key_size { parameters.now.key_size ≡ length key.now }
         ensures ready { IsReady result }
-        ensures size { result.output_size ≡ given.now.output_size }
+        ensures size { result.output_size ≡ parameters.now.output_size }
         ensures fresh { Fresh meaning
-            (node_digest_of blake2s given.now.output_size given.now.salt.now given.now.persona.now
-            (Some given.now.key.now) (tree_of tree.now))
-            64 result }
+            (digest_under blake2s (given_parameters parameters.now) (Some key.now)) 64 result }
     {
-        let StateParameters {
-            output_size,
-            key,
-            salt,
-            persona,
-        } = *given;
-        let core = Blake2sVarCore::new_with_tree(salt, persona, key.len(), output_size, tree);
+        let core = Blake2sVarCore::from_parameters(parameters);
         let first = core.first_words();
         let block = padded::<64>(key);
         State {
@@ -157,18 +143,26 @@ impl State {
             counter: 0,
             pending_length: 64,
             start_length: 64,
-            output_size,
+            output_size: parameters.output_size,
             last_node: 0,
             pending: block,
             start_block: block,
         }
     }
 
+    /// Returns whether Blake2s accepts these parameters: a digest of 1 to 32 bytes, a key of up to
+    /// 32 (no bytes mean no key), a salt and a persona of up to 8 each.
+    pub fn accepts(given: &StateParameters<'_>) -> bool
+        ensures { IsTrue result ↔ Admits blake2s (parameters_given given.now sequential) }
+    {
+        Self::admits(&given.parameters(&Tree::sequential()))
+    }
+
     /// Returns a state of these parameters that has absorbed no message: a digest of 1 to 32
     /// bytes, a key of up to 32 (no bytes mean no key), a salt and a persona of up to 8 each. The
     /// last-node flag is off. The error is `InvalidLength`, exactly for other lengths.
     pub fn init_salt_personal(given: &StateParameters<'_>) -> Result<Self, InvalidLength>
-        ensures refused { IsErr result ↔ IsRefusedGiven blake2s given.now }
+        ensures refused { IsErr result ↔ ¬ Admits blake2s (parameters_given given.now sequential) }
         ensures ready { IfOk result (λ s. IsReady s) }
         ensures size { IfOk result (λ s. s.output_size ≡ given.now.output_size) }
         ensures fresh { IfOk result (λ s. Fresh meaning
@@ -195,23 +189,22 @@ impl State {
     #[inline]
     pub fn init_tree(given: &StateParameters<'_>, tree: &Tree) -> Result<Self, InvalidLength>
         requires tree { AdmitsTree blake2s (tree_of tree.now) }
-        ensures refused { IsErr result ↔ IsRefusedGiven blake2s given.now }
+        ensures refused { IsErr result
+            ↔ ¬ Admits blake2s (parameters_given given.now (tree_of tree.now)) }
         ensures ready { IfOk result (λ s. IsReady s) }
         ensures size { IfOk result (λ s. s.output_size ≡ given.now.output_size) }
         ensures fresh { IfOk result (λ s. Fresh meaning
             (digest_given blake2s given.now (tree_of tree.now))
             (given_count blake2s given.now.key.now) s) }
     {
-        if given.output_size == 0 || given.output_size > 32 {
-            return Err(InvalidLength);
-        }
-        if given.key.len() > 32 || given.salt.len() > 8 || given.persona.len() > 8 {
+        let parameters = given.parameters(tree);
+        if !Self::admits(&parameters) {
             return Err(InvalidLength);
         }
         if given.key.is_empty() {
-            return Ok(Self::unkeyed(given, tree));
+            return Ok(Self::unkeyed(&parameters));
         }
-        Ok(Self::under_key(given, tree))
+        Ok(Self::under_key(&parameters, given.key))
     }
 
     /// Returns the state of a parameter block (the BLAKE2 document, 2.8) that has absorbed
@@ -220,7 +213,7 @@ impl State {
     /// error is `InvalidLength`, exactly for a block that does not have 32 bytes, and for one
     /// that names a digest of 0 or more than 32 bytes or a key of more than 32.
     pub fn init_param(block: &[u8]) -> Result<Self, InvalidLength>
-        ensures refused { IsErr result ↔ IsRefusedBlock blake2s block.now }
+        ensures refused { IsErr result ↔ ¬ AdmitsBlock blake2s block.now }
         ensures ready { IfOk result (λ s. IsReady s) }
         ensures size { IfOk result (λ s. s.output_size ≡ slice_index block.now 0) }
         ensures fresh { IfOk result (λ s. Fresh meaning (block_digest blake2s block.now) 0 s) }

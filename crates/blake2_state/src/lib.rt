@@ -5,10 +5,14 @@
 #![tactic(auto)]
 
 ghost use Rattle.std.specs.Prelude.{◌≡◌, []};
+ghost use Rattle.blake2_compress.specs.Views.{given_parameters, tree_of};
+ghost use Rattle.blake2_state.specs.Arguments.{parameters_given};
 
 pub mod blake2b;
 pub mod blake2s;
 pub mod tree;
+
+use blake2_compress::params::{Parameters, Tree};
 
 /// What a state is made from (RFC 7693, 2.1; the BLAKE2 document, 2.8).
 #[derive(Clone, Copy)]
@@ -37,6 +41,21 @@ impl<'a> StateParameters<'a> {
             key,
             salt: &[],
             persona: &[],
+        }
+    }
+
+    /// Returns what the parameter block of such a state names, with these tree parameters (RFC
+    /// 7693, 2.5; the BLAKE2 document, 2.8).
+    #[inline]
+    pub fn parameters(&self, tree: &Tree) -> Parameters<'a>
+        ensures { given_parameters result ≡ parameters_given self.now (tree_of tree.now) }
+    {
+        Parameters {
+            output_size: self.output_size,
+            key_size: self.key.len(),
+            salt: self.salt,
+            persona: self.persona,
+            tree: *tree,
         }
     }
 }

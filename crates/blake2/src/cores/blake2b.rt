@@ -3,8 +3,8 @@
 ghost use Rattle.std.specs.Prelude.{◌≡◌, ⊤, ℕ, ◌+◌, ◌^◌, ◌<◌, ◌≤◌, ◌↔◌, false, List, [], ◌∷◌};
 ghost use Rattle.std.specs.Prelude.{length, IfOk, IsErr, IsTrue};
 ghost use Rattle.blake2_simd.specs.Family.{blake2b};
-ghost use Rattle.blake2_compress.specs.Hash.{AdmitsTree, parameters_of};
-ghost use Rattle.blake2_compress.specs.Views.{tree_of};
+ghost use Rattle.blake2_compress.specs.Hash.{AdmitsTree, Fits, parameters_of};
+ghost use Rattle.blake2_compress.specs.Views.{given_parameters, tree_of};
 ghost use Rattle.blake2.specs.Cores.{CoreState, absorbed, completed, last_output, core_made};
 ghost use Rattle.blake2.specs.Cores.{node_parameters, core_restarted, core_node_set, core_wiped};
 ghost use Rattle.blake2.specs.CoreLaws.{absorbed-append, absorbed-nil, count-absorbed};
@@ -90,13 +90,22 @@ impl Blake2bVarCore {
         ensures { result ≡ core_made blake2b
             (node_parameters output_size key_size salt.now persona.now (tree_of tree.now)) }
     {
-        let start = params::start_rows(&Parameters {
+        Self::from_parameters(&Parameters {
             output_size,
             key_size,
             salt,
             persona,
             tree: *tree,
-        });
+        })
+    }
+
+    /// Returns the same core for parameters that are one record. `fits` of
+    /// `blake2_compress::params::blake2b` must be true of them.
+    pub fn from_parameters(parameters: &Parameters<'_>) -> Self
+        requires { Fits blake2b (given_parameters parameters.now) }
+        ensures { result ≡ core_made blake2b (given_parameters parameters.now) }
+    {
+        let start = params::start_rows(parameters);
         Blake2bVarCore {
             h: start,
             start,

@@ -1,8 +1,8 @@
-use Rattle.std.proofs.Common.{None, refl, ap, ◌∙◌}
+use Rattle.std.proofs.Common.{None, ℕ, refl, ap, ◌∙◌}
 use Rattle.blake2_simd.specs.Family.{blake2b}
 use Rattle.blake2_compress.specs.Hash.{key_block}
-use Rattle.blake2_compress.specs.Views.{tree_of}
-use Rattle.blake2.specs.Cores.{node_parameters}
+use Rattle.blake2_compress.specs.Views.{given_parameters}
+use Rattle.blake2.specs.Cores.{core_made, node_parameters}
 use Rattle.blake2.proofs.StateLaws.{length-key_block_none}
 use Rattle.blake2_state.specs.declared.blake2b.State.{State}
 use Rattle.blake2_state.specs.Blake2b.{state_of}
@@ -12,12 +12,14 @@ use Rattle.blake2_state.proofs.blake2b.State.unkeyed.Goals as goal
 pub returns-clause-fresh : goal.returns-clause-fresh
 unfolding key_block
 returns-clause-fresh c =
-    Fresh_sized blake2b (λ s. s.output_size) state_of c.args.given.now.output_size
-    c.args.given.now.salt.now c.args.given.now.persona.now None (tree_of c.args.tree.now) 0 _
+    let p = given_parameters c.args.parameters.now in
+    Fresh_sized blake2b (λ s. s.output_size) state_of p.size p.salt p.persona None p.tree 0 _
     (length-key_block_none blake2b)
     (ap (λ (s : State). s.output_size) c.starting_from.ensures)
     (ap state_of c.starting_from.ensures ∙ state-made blake2b
-    (node_parameters c.args.given.now.output_size 0 c.args.given.now.salt.now
-    c.args.given.now.persona.now (tree_of c.args.tree.now)) None
-    c.new_with_tree-core.result c.first_words.result _ _
-    c.new_with_tree-core.ensures c.first_words.ensures refl refl)
+    (node_parameters p.size 0 p.salt p.persona p.tree) None
+    c.from_parameters-core.result c.first_words.result _ _
+    (c.from_parameters-core.ensures
+    ∙ ap (λ (n : ℕ). core_made blake2b (node_parameters p.size n p.salt p.persona p.tree))
+    c.requires.keyless)
+    c.first_words.ensures refl refl)
