@@ -15,14 +15,15 @@ ghost use Rattle.blake2_tree.specs.Ranges.{AreWhole, range_digests, ArePartOfAll
 ghost use Rattle.blake2_tree.specs.Ranges.{IsRootOfCuts, IsRootOfChanges};
 ghost use Rattle.blake2_state.specs.TreeStates.{HasLengths, HasCounts, IsReady, IsBegun};
 ghost use Rattle.blake2_state.specs.TreeStates.{IsAsOpened};
-ghost use Rattle.blake2_state.specs.TreeStates.{IsRefusedTree, Took};
+ghost use Rattle.blake2_state.specs.TreeStates.{Took};
+ghost use Rattle.blake2_tree.specs.TreeLengths.{AcceptsLengths, lengths_of};
 ghost use Rattle.blake2_state.specs.TreeStates.{parameters, state_tree, future, count, zeros};
 ghost use Rattle.blake2_tree.specs.OpenTrees.{room, WentOn};
 ghost use Rattle.blake2_tree.specs.LeafUpdates.{IsAtBoundary, next_leaf, AreNextLeaves};
 ghost use Rattle.blake2_tree.specs.LeafUpdates.{AcceptsLeaves, TookLeaves, TookDigests, root_after};
 
-use crate::StateParameters;
 use crate::blake2b::State;
+use blake2_compress::params::Parameters;
 use blake2_digest::{InvalidLength, padded};
 use blake2_tree::nodes::Nodes;
 use blake2_tree::{LABEL_BYTES, MESSAGE_LIMIT, accepts, has_room_for, hash_leaves, is_range};
@@ -61,18 +62,13 @@ fn node_state(nodes: &Nodes, output_size: usize, node_offset: u64, node_depth: u
     ensures fresh { Fresh meaning
         (node_digest output_size (shared_parameters nodes.now) node_offset node_depth) 0 result }
 {
-    let place = nodes.place(node_offset, node_depth);
-    let given = StateParameters {
+    State::unkeyed(&Parameters {
         output_size,
-        key: &[],
+        key_size: 0,
         salt: nodes.salt(),
         persona: nodes.persona(),
-    };
-    match State::init_tree(&given, &place) {
-        Ok(state) => state,
-        // Never run: `init_tree` refuses none of these lengths.
-        Err(_) => State::zeros(),
-    }
+        tree: nodes.place(node_offset, node_depth),
+    })
 }
 
 /// Returns a state of leaf `i` of a message, which has absorbed nothing, and whose digest has 64
@@ -222,7 +218,8 @@ impl TreeState {
         leaf_length: u32,
     ) -> Result<Self, InvalidLength>
         ensures refused { IsErr result
-            ↔ IsRefusedTree output_size (length salt.now) (length persona.now) leaf_length }
+            ↔ ¬ AcceptsLengths
+            (lengths_of output_size (tree_parameters salt.now persona.now leaf_length)) }
         ensures ready { IfOk result (λ t. IsReady t) }
         ensures size { IfOk result (λ t. t.root.output_size ≡ output_size) }
         ensures root { IfOk result (λ t. (y : List ℕ) → future t y
@@ -325,7 +322,8 @@ impl TreeState {
     pub fn hash_next_leaves(&self, skip: u64, bytes: &[u8], digests: &mut [u8])
         requires ready { IsReady self.now }
         requires next { AreNextLeaves (state_tree self.now) skip (length bytes.now) }
-        requires room { length digests.old ≡ 64 * leaf_count self.now.leaf_length (length bytes.now) }
+        requires room { length digests.old
+            ≡ 64 * leaf_count self.now.leaf_length (length bytes.now) }
         ensures digests { digests.new ≡ range_digests (parameters self.now)
             (next_leaf (state_tree self.now) + skip) false bytes.now }
         ensures part { ArePartOfAll (parameters self.now)
@@ -452,7 +450,7 @@ impl TreeState {
         let mut rest = input;
         while rest.len() as u64 > self.leaf_length {
             rest = if rest.len() as u64 > 4 * self.leaf_length {
-                self.close_four(rest)
+                self.close_next(rest)
             } else {
                 self.close_leaf(rest)
             };
@@ -520,9 +518,10 @@ impl TreeState {
         }
     }
 
-    // Closes four leaves in parallel that are whole and not the last: the open one, which is
-    // empty, and the next three. Opens the next one and returns what is left of the input.
-    fn close_four<'a>(&mut self, input: &'a [u8]) -> &'a [u8]
+    // Closes the next leaves, which are whole and not the last: the open one, which is empty, and
+    // those that are hashed in parallel with it. Opens the next one and returns what is left of the
+    // input.
+    fn close_next<'a>(&mut self, input: &'a [u8]) -> &'a [u8]
         requires ready { IsReady self.old }
         requires begun { IsBegun self.old }
         requires more { 4 * self.old.leaf_length < length input.now }
@@ -533,11 +532,11 @@ impl TreeState {
         ensures went_on { WentOn (state_tree self.old) input.now (state_tree self.new) result.now }
     {
         let nodes = self.nodes();
-        let digests = nodes.hash_four(self.closed, false, input);
-        self.root.update(digests.as_flattened());
-        self.closed += 4;
-        self.leaf = node_state(&nodes, 64, self.closed, 0);
-        &input[4 * self.leaf_length as usize..]
+        let mut digests = [0; 512];
+        let count = nodes.hash_next(self.closed, input, &mut digests);
+        let taken = count * self.leaf_length as usize;
+        self.close_given(&digests[..64 * count]);
+        &input[taken..]
     }
 
     /// Writes the root of all that was absorbed at the beginning of `out`, which must have at

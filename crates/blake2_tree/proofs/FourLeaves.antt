@@ -5,7 +5,9 @@ use Rattle.std.proofs.Common.{◌≡◌, ℕ, ◌+◌, ◌-◌, ◌*◌, ◌<◌
 use Rattle.std.proofs.Common.{false, List, [], ◌++◌, length, take, drop, refl, sym, ap, ◌∙◌}
 use Rattle.std.proofs.Common.{arith, append-nil, length-drop, drop-drop}
 use Rattle.std.proofs.Common.{◌∷◌}
-use Rattle.std.proofs.lemmas.List.{take_all, take-append-le}
+use Rattle.std.proofs.lemmas.List.{take_all, take-append-le, take-append-drop, length-take-le}
+use Rattle.std.proofs.lemmas.List.{take-take, drop-take}
+use Rattle.std.proofs.lemmas.List.Folds.{concat-append}
 use Rattle.std.proofs.lemmas.List.{drop-append-le}
 use Rattle.std.specs.List.{concat}
 use Rattle.blake2_tree.specs.TreeRoot.{TreeParameters, leaf}
@@ -112,3 +114,40 @@ four_digests-append s p x y within =
     ∷ node_digest 64 s (p + 2) 0 false (leaf-append l 2 x y (omega arith) k)
     ∷ node_digest 64 s (p + 3) 0 false (leaf-append l 3 x y (omega arith) k)
     ∷ []
+
+-- ---- whole leaves at the beginning of a text that goes on
+
+-- The digests of the first four.
+pub next-four : (s : TreeParameters) (p : ℕ) (x : List ℕ) → 0 < s.leaf_length
+    → 4 * s.leaf_length ≤ length x
+    → concat (four_digests s p false x) ≡ range_digests s p false (take (4 * s.leaf_length) x)
+next-four s p x some long =
+    let m : ℕ = 4 * s.leaf_length in
+    let size : length (take m x) ≡ m = length-take-le m x long in
+    ap (λ z. concat (four_digests s p false z)) (sym (take-append-drop m x))
+    ∙ ap concat (four_digests-append s p (take m x) (drop m x) (omega (arith, size)))
+    ∙ sym (range_digests-last_four s p false (take m x) some size)
+
+-- The digests of the first eight.
+pub next-eight : (s : TreeParameters) (p : ℕ) (x : List ℕ) → 0 < s.leaf_length
+    → 8 * s.leaf_length ≤ length x
+    → concat (four_digests s p false x
+    ++ four_digests s (p + 4) false (drop (4 * s.leaf_length) x))
+    ≡ range_digests s p false (take (8 * s.leaf_length) x)
+next-eight s p x some long =
+    let m : ℕ = 4 * s.leaf_length in
+    let n : ℕ = 8 * s.leaf_length in
+    let twice : m + m ≡ n = omega arith in
+    let front : List ℕ = take n x in
+    let size : length front ≡ n = length-take-le n x long in
+    let first : take m front ≡ take m x =
+    take-take m n x (omega arith) in
+    let second : drop m front ≡ take m (drop m x) =
+    ap (λ k. drop m (take k x)) (sym twice) ∙ drop-take m m x in
+    concat-append (four_digests s p false x) (four_digests s (p + 4) false (drop m x))
+    ∙ (λ i. next-four s p x some (omega arith) i
+    ++ next-four s (p + 4) (drop m x) some (omega (arith, length-drop m x)) i)
+    ∙ (λ i. range_digests s p false (sym first i) ++ range_digests s (p + 4) false (sym second i))
+    ∙ ap (λ d. d ++ range_digests s (p + 4) false (drop m front))
+    (sym (next-four s p front some (omega (arith, size))))
+    ∙ sym (range_digests-four s p false front some (omega (arith, size)))

@@ -87,6 +87,18 @@ range_digests-cut s first ends x y some whole more =
     range_digests-whole s first k.0 ends x y some k.2 more
     ∙ ap (λ c. range_digests s first false x ++ range_digests s (first + c) ends y) (sym k.1)
 
+-- The digests of the first k leaves, if more follow, and those of the rest.
+pub range_digests-next : (s : TreeParameters) (p k : ℕ) (ends : Bool) (x : List ℕ)
+    → 0 < s.leaf_length → 1 ≤ k → k * s.leaf_length < length x
+    → range_digests s p ends x ≡ range_digests s p false (take (k * s.leaf_length) x)
+    ++ range_digests s (p + k) ends (drop (k * s.leaf_length) x)
+range_digests-next s p zero ends x some one more = absurd (omega arith)
+range_digests-next s p (suc k) ends x some one more =
+    let m : ℕ = suc k * s.leaf_length in
+    ap (range_digests s p ends) (sym (take-append-drop m x))
+    ∙ range_digests-whole s p k ends (take m x) (drop m x) some
+    (length-take-le m x (omega arith)) (omega (arith, length-drop m x))
+
 -- ---- any number of ranges
 
 cut_digests-more : (s : TreeParameters) (first : ℕ) (front : List (List ℕ)) (last : List ℕ)

@@ -79,6 +79,6 @@ room-many size k n some more =
 
 -- The index of the rest is one that a node may have.
 pub place-fits : (size first done rest n : ℕ) → 0 < size → done * size + rest ≡ n
-    → first * size + n < 2 ^ 58 → first + done + 3 < 2 ^ 64
+    → first * size + n < 2 ^ 58 → first + done + 7 < 2 ^ 64
 place-fits size first done rest n some place fits =
     omega (arith, mul-le-mul_left (first + done) (let h : 1 ≤ size = omega arith in h))

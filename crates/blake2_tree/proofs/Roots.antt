@@ -1,20 +1,20 @@
 -- The root that a tree will return, from call to call.
-use Rattle.std.proofs.Common.{◌≡◌, ℕ, ◌+◌, ◌-◌, ◌*◌, ◌/◌, ◌<◌, ◌≤◌, Bool, true, false, List, []}
-use Rattle.std.proofs.Common.{◌++◌, length, take, drop, refl, sym, ap, ◌∙◌, arith}
+use Rattle.std.proofs.Common.{◌≡◌, ℕ, ◌+◌, ◌-◌, ◌*◌, ◌/◌, ◌%◌, ◌<◌, ◌≤◌, Bool, true, false, List}
+use Rattle.std.proofs.Common.{[], ◌++◌, length, take, drop, refl, sym, ap, ◌∙◌, arith}
 use Rattle.std.proofs.Common.{append-nil, append_assoc, length-append, length-drop}
-use Rattle.std.proofs.lemmas.List.{take-append-drop, drop-append-le, length-take-le}
-use Rattle.std.proofs.lemmas.List.{nil_from_length}
+use Rattle.std.proofs.lemmas.List.{take-append-drop, length-take-le}
+use Rattle.std.proofs.lemmas.List.{nil_from_length, take_rest}
+use Rattle.std.proofs.Math.Nat.{mul-le-mul_left, mul-mod_left}
 use Rattle.std.specs.List.{concat, flat_map}
 use Rattle.blake2_digest.specs.States.{Meaning, digest_now, Updated, Fresh, NodeSet}
 use Rattle.blake2_tree.specs.Nodes.{node_digest, IsOpened, four_digests}
 use Rattle.blake2_tree.specs.TreeRoot.{TreeParameters, tree_root}
 use Rattle.blake2_tree.specs.Ranges.{AreWhole, range_digests}
 use Rattle.blake2_tree.specs.OpenTrees.{digests_to_come}
-use Rattle.blake2_tree.specs.OpenTrees.{OpenTree, open_tree, future, Took, WentOn}
+use Rattle.blake2_tree.specs.OpenTrees.{OpenTree, open_tree, count, future, Took, WentOn}
 use Rattle.blake2_tree.proofs.Leaves.{range_digests-first}
 use Rattle.blake2_tree.proofs.RangeLaws.{length-range_digests, range_digests-cut, leaf_count-is}
-use Rattle.blake2_tree.proofs.FourLeaves.{range_digests-four, range_digests-last_four}
-use Rattle.blake2_tree.proofs.FourLeaves.{four_digests-append}
+use Rattle.blake2_tree.proofs.FourLeaves.{range_digests-last_four}
 use Rattle.blake2_tree.proofs.OpenLeaves.{digests_to_come-begun, digests_to_come-took}
 use Rattle.blake2_tree.proofs.OpenLeaves.{digests_to_come-nothing, digests_to_come-full}
 
@@ -126,38 +126,42 @@ WentOn-closed roots leaves s closed old leaf full new room x head rest some with
       fewer = omega (arith, empty);
     }
 
--- The open leaf, which is empty, and three more are closed, and the next one is opened.
-pub WentOn-four : {R S : Type 0} (roots : Meaning R) (leaves : Meaning S) (s : TreeParameters)
-    (closed : ℕ) (old new : R) (leaf opened : S) (x bytes rest : List ℕ)
-    (digests : List (List ℕ)) → 0 < s.leaf_length → 4 * s.leaf_length < length x
-    → IsOpened leaves s closed leaf → digests ≡ four_digests s closed false x
-    → bytes ≡ flat_map (λ digest. digest) digests → rest ≡ drop (4 * s.leaf_length) x
-    → Updated roots old bytes new → Fresh leaves (node_digest 64 s (closed + 4) 0) 0 opened
-    → WentOn (open_tree roots leaves s closed old leaf) x
-    (open_tree roots leaves s (closed + 4) new opened) rest
-unfolding future
-WentOn-four roots leaves s closed old new leaf opened x bytes rest digests some long is_leaf are
-    joined is_rest updated fresh =
-    let four : ℕ = 4 * s.leaf_length in
-    let next : ℕ = closed + 4 in
-    let is_opened = IsOpened-fresh leaves s next opened fresh in
-    let left : length rest ≡ length x - four = ap length is_rest ∙ length-drop four x in
+-- The bytes of k leaves are whole leaves.
+pub AreWhole-taken : (size k : ℕ) (x : List ℕ) → 0 < size → 1 ≤ k → k * size < length x
+    → AreWhole size (take (k * size) x)
+AreWhole-taken size k x some one more =
+    let long : length (take (k * size) x) ≡ k * size = length-take-le (k * size) x (omega arith) in
     record {
+      some = omega (arith, long, mul-le-mul_left k (let h : 1 ≤ size = omega arith in h));
+      whole = ap (λ n. n % size) long ∙ mul-mod_left k size;
+    }
+
+-- The first k leaves of the input are closed, the open one, which is empty, among them. More
+-- follows, and the next one is opened.
+pub WentOn-next : (old new : OpenTree) (k : ℕ) (input : List ℕ) → 0 < old.shared.leaf_length
+    → 1 ≤ k → k * old.shared.leaf_length < length input → old.taken ≡ 0 → new.taken ≡ 0
+    → new.shared ≡ old.shared → count new ≡ count old + k * old.shared.leaf_length
+    → ((y : List ℕ) → 0 < length y
+    → future new y ≡ future old (take (k * old.shared.leaf_length) input ++ y))
+    → WentOn old input new (take (length input - k * old.shared.leaf_length)
+    (drop (k * old.shared.leaf_length) input))
+WentOn-next old new k input some one more empty opened shared counted closed =
+    let m : ℕ = k * old.shared.leaf_length in
+    let rest : List ℕ = drop m input in
+    let size : length rest ≡ length input - m = length-drop m input in
+    let left : length (take (length input - m) rest) ≡ length input - m =
+    ap length (take_rest input m) ∙ size in
+    let bytes : 0 < m =
+    omega (arith, mul-le-mul_left k (let h : 1 ≤ old.shared.leaf_length = some in h)) in
+    record {
+      shared = shared;
       future = λ y.
-          let back : rest ++ y ≡ drop four (x ++ y) =
-          ap (λ z. z ++ y) is_rest ∙ sym (drop-append-le four x y (omega arith)) in
-          let same : bytes ≡ concat (four_digests s closed false (x ++ y)) =
-          joined ∙ ap concat (are ∙ sym (four_digests-append s closed x y (omega arith))) in
-          ap (roots.future new true)
-          (digests_to_come-opened leaves s next opened (rest ++ y) some is_opened)
-          ∙ updated.future true (range_digests s next true (rest ++ y))
-          ∙ ap (roots.future old true)
-          ((λ k. same k ++ range_digests s next true (back k))
-          ∙ sym (range_digests-four s closed true (x ++ y) some (omega (arith, length-append x y)))
-          ∙ sym (digests_to_come-opened leaves s closed leaf (x ++ y) some is_leaf));
-      shared = refl;
-      count = omega (arith, fresh.count, is_leaf.empty);
-      fewer = omega (arith, fresh.count, is_leaf.empty);
+          ap (λ r. future new (r ++ y)) (take_rest input m)
+          ∙ closed (rest ++ y) (omega (arith, length-append rest y, size))
+          ∙ ap (future old) (sym (append_assoc (take m input) rest y)
+          ∙ ap (λ r. r ++ y) (take-append-drop m input));
+      count = omega (arith, counted, left, more);
+      fewer = omega (arith, left, empty, opened, bytes, more);
     }
 
 -- The root absorbs the digest of a full leaf.

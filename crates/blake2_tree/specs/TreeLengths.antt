@@ -1,10 +1,27 @@
 -- The lengths that a tree accepts.
-use Rattle.std.specs.Prelude.{ℕ, ◌≤◌}
+use Rattle.std.specs.Prelude.{ℕ, ◌≤◌, length}
+use Rattle.blake2_tree.specs.TreeRoot.{TreeParameters}
+
+-- The lengths of a tree, in bytes: those of the root, the salt, the personalization and a leaf.
+pub record TreeLengths : Type 0 where
+  pub root : ℕ
+  pub salt : ℕ
+  pub persona : ℕ
+  pub leaf : ℕ
+
+-- The lengths of a tree with these parameters and a root of `size` bytes.
+abbrev pub lengths_of : ℕ → TreeParameters → TreeLengths
+lengths_of size p = record {
+  root = size;
+  salt = length p.salt;
+  persona = length p.persona;
+  leaf = p.leaf_length;
+}
 
 -- The root, the salt, the personalization and a leaf have lengths that a tree accepts.
-pub record AcceptsLengths (size salt persona leaf_length : ℕ) : Type 0 where
-  pub least : 1 ≤ size
-  pub most : size ≤ 64
-  pub salt_fits : salt ≤ 16
-  pub persona_fits : persona ≤ 16
-  pub some_leaf : 1 ≤ leaf_length
+pub record AcceptsLengths (l : TreeLengths) : Type 0 where
+  pub least : 1 ≤ l.root
+  pub most : l.root ≤ 64
+  pub salt_fits : l.salt ≤ 16
+  pub persona_fits : l.persona ≤ 16
+  pub some_leaf : 1 ≤ l.leaf

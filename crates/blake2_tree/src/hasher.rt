@@ -1,6 +1,7 @@
 //! The tree over a message that comes in pieces.
 
-ghost use Rattle.std.specs.Prelude.{◌≡◌, ℕ, ◌+◌, ◌*◌, ◌^◌, ◌<◌, ◌≤◌, List, [], ◌++◌, length, true, false};
+ghost use Rattle.std.specs.Prelude.{◌≡◌, ℕ, ◌+◌, ◌*◌, ◌^◌, ◌<◌, ◌≤◌, List, [], ◌++◌, length, true};
+ghost use Rattle.std.specs.Prelude.{false};
 ghost use Rattle.std.specs.Prelude.{◌/◌, ◌%◌, ◌↔◌, IsTrue};
 ghost use Rattle.blake2.specs.Hashers.{blake2b_meaning};
 ghost use Rattle.blake2_tree.specs.Nodes.{shared_parameters, IsOpened};
@@ -9,13 +10,13 @@ ghost use Rattle.blake2_tree.specs.TreeRoot.{tree_parameters, tree_root as root_
 
 use crate::limits::has_room_for;
 use crate::nodes::Nodes;
-use blake2::Blake2b;
 use blake2::digest::{FixedOutput, LastNode, Update};
+use blake2::{Blake2b, many};
 use std::mem;
 
 /// A tree of hashes with two levels over BLAKE2b (the BLAKE2 document, 2.10), with a root of `N`
-/// bytes, at most 64. It allocates nothing, and hashes four whole leaves in parallel if more
-/// input follows them.
+/// bytes, at most 64. It allocates nothing, and hashes four or eight whole leaves in
+/// parallel if more input follows them and that is faster than one after another.
 // A full leaf stays open until more input comes, since only the end shows which leaf is the last.
 #[derive(Drop)]
 pub struct TreeHasher<const N: usize> {
@@ -73,7 +74,7 @@ impl<const N: usize> TreeHasher<N> {
         let mut rest = input;
         while rest.len() as u64 > self.room() {
             rest = if self.leaf.counted() == 0 && rest.len() > self.nodes.four_leaves() {
-                self.close_four(rest)
+                self.close_next(rest)
             } else {
                 self.close_leaf(rest)
             };
@@ -189,7 +190,8 @@ impl<const N: usize> TreeHasher<N> {
         requires boundary { IsAtBoundary (held_tree self.old) }
         requires fits { count self.old + 1 < 2 ^ 58 }
         ensures future { (y : List ℕ) → 0 < length y → future self.new y ≡ future self.old y }
-        ensures root { (z : List ℕ) → (held_tree self.new).root z ≡ root_after (held_tree self.old) z }
+        ensures root { (z : List ℕ)
+            → (held_tree self.new).root z ≡ root_after (held_tree self.old) z }
         ensures count { count self.new ≡ count self.old }
         ensures closed { self.new.closed ≡ next_leaf (held_tree self.old) }
         ensures nodes { self.new.nodes ≡ self.old.nodes }
@@ -216,30 +218,32 @@ impl<const N: usize> TreeHasher<N> {
         ensures count { count self.new
             ≡ count self.old + length digests.now / 64 * self.old.nodes.leaf_length }
         ensures nodes { self.new.nodes ≡ self.old.nodes }
+        ensures empty { (blake2b_meaning 64).count self.new.leaf ≡ 0 }
     {
         self.root.update(digests);
         self.closed += digests.len() as u64 / 64;
         self.leaf = self.nodes.open_node(self.closed, 0);
     }
 
-    // Closes four leaves in parallel that are whole and not the last: the open one, which is
-    // empty, and the next three. Opens the next one and returns what is left of the input.
-    fn close_four<'a>(&mut self, input: &'a [u8]) -> &'a [u8]
+    // Closes the next leaves, which are whole and not the last: the open one, which is empty, and
+    // those that are hashed in parallel with it. Opens the next one and returns what is left of the
+    // input.
+    fn close_next<'a>(&mut self, input: &'a [u8]) -> &'a [u8]
         requires empty { (blake2b_meaning 64).count self.old.leaf ≡ 0 }
         requires more { 4 * self.old.nodes.leaf_length < length input.now }
         requires fits { count self.old + length input.now < 2 ^ 58 }
         ensures went_on { WentOn (held_tree self.old) input.now (held_tree self.new) result.now }
         ensures empty { (blake2b_meaning 64).count self.new.leaf ≡ 0 }
     {
-        let digests = self.nodes.hash_four(self.closed, false, input);
-        self.root.update(digests.as_flattened());
-        self.closed += 4;
-        self.leaf = self.nodes.open_node(self.closed, 0);
-        &input[self.nodes.four_leaves()..]
+        let mut digests = [0; 512];
+        let count = self.nodes.hash_next(self.closed, input, &mut digests);
+        let taken = count * self.nodes.leaf_length as usize;
+        self.close_given(&digests[..64 * count]);
+        &input[taken..]
     }
 
-    // Closes four leaves in parallel as long as more follows, if the open one is empty. Returns
-    // what is left of the input: at most four leaves, of which none is closed.
+    // Closes leaves in parallel as long as more than four are left, if the open one is empty.
+    // Returns what is left of the input: at most four leaves, of which none is closed.
     fn close_fours<'a>(&mut self, input: &'a [u8]) -> &'a [u8]
         requires empty { (blake2b_meaning 64).count self.old.leaf ≡ 0 }
         requires fits { count self.old + length input.now < 2 ^ 58 }
@@ -251,7 +255,7 @@ impl<const N: usize> TreeHasher<N> {
     {
         let mut rest = input;
         while rest.len() > self.nodes.four_leaves() {
-            rest = self.close_four(rest);
+            rest = self.close_next(rest);
         }
         rest
     }
@@ -283,7 +287,7 @@ impl<const N: usize> TreeHasher<N> {
         ensures { result ≡ future self.entry input.now }
     {
         let rest = self.close_fours(input);
-        if rest.len() == self.nodes.four_leaves() {
+        if many::blake2b::lanes() >= 4 && rest.len() == self.nodes.four_leaves() {
             self.finish_four(rest)
         } else {
             self.update(rest);
@@ -294,7 +298,7 @@ impl<const N: usize> TreeHasher<N> {
 
 /// The root of a message, as [`TreeHasher`] returns it: `N` bytes, at most 64. Salt and persona
 /// have at most 16 bytes each, a leaf has `leaf_length` bytes, 1 to 2^32 - 1, and the message fewer
-/// than 2^58. The call allocates nothing, and hashes whole leaves by fours, the last four too.
+/// than 2^58. The call allocates nothing, and hashes whole leaves in parallel, the last four too.
 pub fn tree_root<const N: usize>(
     salt: &[u8],
     persona: &[u8],

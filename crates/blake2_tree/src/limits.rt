@@ -14,7 +14,8 @@ pub const LABEL_BYTES: usize = 16;
 /// Returns whether a tree accepts these lengths: a root of 1 to 64 bytes, a salt and a persona of
 /// up to 16 bytes each, and leaves of at least 1 byte.
 pub fn accepts(root_size: usize, salt: usize, persona: usize, leaf_length: u32) -> bool
-    ensures { IsTrue result ↔ AcceptsLengths root_size salt persona leaf_length }
+    ensures { IsTrue result ↔ AcceptsLengths
+        (record { root = root_size; salt = salt; persona = persona; leaf = leaf_length }) }
 {
     root_size >= 1
         && root_size <= 64

@@ -1,6 +1,7 @@
 //! The nodes of a tree: their tree parameters, hashers and inputs of them, and their digests.
 
-ghost use Rattle.std.specs.Prelude.{◌≡◌, ◌+◌, ◌*◌, ◌^◌, ◌<◌, ◌≤◌, length, IfOk, true};
+ghost use Rattle.std.specs.Prelude.{◌≡◌, ◌+◌, ◌*◌, ◌^◌, ◌<◌, ◌≤◌, ◌++◌, length, IfOk, true};
+ghost use Rattle.std.specs.Prelude.{take, drop, false};
 ghost use Rattle.blake2.specs.Hashers.{blake2b_meaning};
 ghost use Rattle.blake2_digest.specs.States.{Fresh};
 ghost use Rattle.blake2_simd.specs.Family.{blake2b};
@@ -163,6 +164,56 @@ impl Nodes {
         many::blake2b::hash_four(&leaves)
     }
 
+    // The same of eight whole leaves, none of which is the message's last.
+    fn hash_eight(&self, i: u64, text: &[u8]) -> [[u8; 64]; 8]
+        requires place { i + 7 < 2 ^ 64 }
+        requires whole { 8 * self.now.leaf_length ≤ length text.now }
+        ensures { result ≡ four_digests (shared_parameters self.now) i false text.now
+            ++ four_digests (shared_parameters self.now) (i + 4) false
+            (drop (4 * self.now.leaf_length) text.now) }
+    {
+        let length = self.leaf_length as usize;
+        let behind = &text[4 * length..];
+        let leaves = [
+            self.node(i, 0, false, &text[..length]),
+            self.node(i + 1, 0, false, &text[length..2 * length]),
+            self.node(i + 2, 0, false, &text[2 * length..3 * length]),
+            self.node(i + 3, 0, false, &text[3 * length..4 * length]),
+            self.node(i + 4, 0, false, &behind[..length]),
+            self.node(i + 5, 0, false, &behind[length..2 * length]),
+            self.node(i + 6, 0, false, &behind[2 * length..3 * length]),
+            self.node(i + 7, 0, false, &behind[3 * length..4 * length]),
+        ];
+        many::blake2b::eight::hash_eight(&leaves)
+    }
+
+    /// Hashes the next whole leaves of a message, of which more than four are left: eight or four
+    /// in parallel, or one, as is fastest here. Returns how many, and writes their digests, of 64
+    /// bytes each, at the beginning of `digests`. `text` begins with leaf `i` and goes on after
+    /// those that are hashed, and `i` is at most 2^64 - 8.
+    pub fn hash_next(&self, i: u64, text: &[u8], digests: &mut [u8; 512]) -> usize
+        requires place { i + 7 < 2 ^ 64 }
+        requires more { 4 * self.now.leaf_length < length text.now }
+        ensures some { 1 ≤ result }
+        ensures most { result ≤ 8 }
+        ensures more { result * self.now.leaf_length < length text.now }
+        ensures digests { take (64 * result) digests.new ≡ range_digests
+            (shared_parameters self.now) i false (take (result * self.now.leaf_length) text.now) }
+    {
+        let length = self.leaf_length as usize;
+        let lanes = many::blake2b::lanes();
+        if lanes >= 8 && text.len() > 8 * length {
+            digests.copy_from_slice(self.hash_eight(i, text).as_flattened());
+            8
+        } else if lanes >= 4 {
+            digests[..256].copy_from_slice(self.hash_four(i, false, text).as_flattened());
+            4
+        } else {
+            digests[..64].copy_from_slice(&self.leaf_digest(i, false, &text[..length]));
+            1
+        }
+    }
+
     // The digest of a leaf, which is the message's last or not.
     fn leaf_digest(&self, i: u64, last: bool, bytes: &[u8]) -> [u8; 64]
         ensures { result ≡ node_digest 64 (shared_parameters self.now) i 0 last bytes.now }
@@ -195,22 +246,23 @@ impl Nodes {
         let mut done = 0;
         let mut rest = bytes;
         while rest.len() > self.four_leaves() {
-            let digests = self.hash_four(first + done as u64, false, rest);
-            write_at(out, 64 * done, digests.as_flattened());
-            done += 4;
-            rest = &rest[self.four_leaves()..];
+            let mut digests = [0; 512];
+            let count = self.hash_next(first + done as u64, rest, &mut digests);
+            write_at(out, 64 * done, &digests[..64 * count]);
+            done += count;
+            rest = &rest[count * self.leaf_length as usize..];
         }
         self.write_last(first + done as u64, ends, rest, &mut out[64 * done..]);
     }
 
-    // The same for at most four leaves. Four whole ones are hashed in parallel.
+    // The same for at most four leaves. Four whole ones are hashed in parallel, if that is faster.
     fn write_last(&self, first: u64, ends: bool, bytes: &[u8], out: &mut [u8])
         requires short { length bytes.now ≤ 4 * self.now.leaf_length }
         requires place { first + 3 < 2 ^ 64 }
         requires room { length out.old ≡ 64 * leaf_count self.now.leaf_length (length bytes.now) }
         ensures { out.new ≡ range_digests (shared_parameters self.now) first ends bytes.now }
     {
-        if bytes.len() == self.four_leaves() {
+        if many::blake2b::lanes() >= 4 && bytes.len() == self.four_leaves() {
             out.copy_from_slice(self.hash_four(first, ends, bytes).as_flattened());
         } else {
             self.write_each(first, ends, bytes, out);

@@ -44,7 +44,7 @@ pub fn is_range(leaf_length: u32, first: u64, ends: bool, range_length: u64) -> 
 /// message's last. `is_range` must be true of the bytes, and `digests` must have exactly 64 bytes
 /// for each leaf, of which `leaf_count` returns the number. Salt and persona have at most 16
 /// bytes each, and a leaf has `leaf_length` bytes, 1 to 2^32 - 1. The call allocates nothing, and
-/// hashes whole leaves by fours.
+/// hashes whole leaves in parallel.
 pub fn hash_leaves(
     salt: &[u8],
     persona: &[u8],

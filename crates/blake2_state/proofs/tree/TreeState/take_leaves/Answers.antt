@@ -8,8 +8,8 @@ pub loop-self-smaller-then-rest-self : goal.loop-self-smaller-then-rest-self
 loop-self-smaller-then-rest-self c =
     omega (
       arith,
-      c.close_four-rest.ensures.went_on.fewer,
-      c.close_four-rest.ensures.begun.empty,
+      c.close_next-rest.ensures.went_on.fewer,
+      c.close_next-rest.ensures.begun.empty,
       c.loop-self.invariant.begun.empty,
     )
 

@@ -9,7 +9,7 @@ returns-then-rest-four_leaves g c =
     ∙ c.close_fours-rest.ensures.future []
     ∙ ap (future c.args.self) (append-nil c.args.input.now)
 
-pub returns-else-rest-four_leaves : goal.returns-else-rest-four_leaves
-returns-else-rest-four_leaves g c =
+pub returns-else-lanes-ge4 : goal.returns-else-lanes-ge4
+returns-else-lanes-ge4 g c =
     c.finalize.ensures ∙ c.update.ensures.future [] ∙ c.close_fours-rest.ensures.future []
     ∙ ap (future c.args.self) (append-nil c.args.input.now)

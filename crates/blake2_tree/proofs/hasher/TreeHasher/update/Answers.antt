@@ -6,9 +6,9 @@ use Rattle.blake2_tree.proofs.hasher.TreeHasher.update.Goals as goal
 
 pub loop-rest-preserved-then-rest-four_leaves : goal.loop-rest-preserved-then-rest-four_leaves
 loop-rest-preserved-then-rest-four_leaves g c = record {
-  shared = c.close_four-rest.ensures.went_on.shared ∙ c.loop-rest.invariant.shared;
-  future = λ y. c.close_four-rest.ensures.went_on.future y ∙ c.loop-rest.invariant.future y;
-  count = c.close_four-rest.ensures.went_on.count ∙ c.loop-rest.invariant.count;
+  shared = c.close_next-rest.ensures.went_on.shared ∙ c.loop-rest.invariant.shared;
+  future = λ y. c.close_next-rest.ensures.went_on.future y ∙ c.loop-rest.invariant.future y;
+  count = c.close_next-rest.ensures.went_on.count ∙ c.loop-rest.invariant.count;
 }
 
 pub loop-rest-preserved : goal.loop-rest-preserved
