@@ -1,19 +1,19 @@
 //! BLAKE2b with sizes that are chosen at run time.
 
-ghost use Rattle.std.specs.Prelude.{◌≡◌, ◌≢◌, ◌↔◌, ◌+◌, ◌-◌, ◌^◌, ◌<◌, ◌≤◌, ◌++◌, ◌⊎◌, [], length};
-ghost use Rattle.std.specs.Prelude.{drop};
+ghost use Rattle.std.specs.Prelude.{◌≡◌, ◌↔◌, ◌+◌, ◌-◌, ◌^◌, ◌<◌, ◌≤◌, ◌++◌, [], length, drop};
 ghost use Rattle.std.specs.Prelude.{slice_index, pos, negsuc, None, IsTrue};
+ghost use Rattle.blake2.specs.Cores.{node_parameters};
 ghost use Rattle.blake2.specs.Family.{blake2b};
 ghost use Rattle.blake2.specs.States.{digest_of, node_digest_of};
-ghost use Rattle.blake2_compress.specs.Hash.{AdmitsTree, sequential};
+ghost use Rattle.blake2_compress.specs.Hash.{AdmitsTree, parameters_of, sequential};
 ghost use Rattle.blake2_compress.specs.Views.{tree_of};
 ghost use Rattle.blake2_digest.specs.States.{Fresh, NodeSet, Updated, StartedAgain, digest_now};
 ghost use Rattle.blake2_state.specs.Arguments.{given_key, given_count, digest_given};
-ghost use Rattle.blake2_state.specs.Arguments.{IsRefusedState, IsRefusedGiven};
-ghost use Rattle.blake2_state.specs.Blake2b.{IsReady, meaning, zeros};
-ghost use Rattle.blake2_state.specs.Blocks.{block_digest, IsRefusedBlock};
+ghost use Rattle.blake2_state.specs.Arguments.{Admits, parameters_given};
+ghost use Rattle.blake2_state.specs.Blake2b.{IsReady, IsReadyFor, meaning, zeros};
+ghost use Rattle.blake2_state.specs.Blocks.{block_digest, AdmitsBlock};
 ghost use Rattle.blake2_state.specs.States.{is_on};
-ghost use Rattle.blake2_ffi.specs.Status.{Returns, IsTooLong, IsRefusedUpdate, IsRefusedFinal};
+ghost use Rattle.blake2_ffi.specs.Status.{Returns};
 ghost use Rattle.blake2_ffi.specs.Trees.{given_tree};
 
 mod many;
@@ -51,8 +51,9 @@ fn write_longest(out: &mut [u8], input: &[u8])
 // What `vulfsjor_ffi_blake2b` does under a key, in a separate frame, which the caller scrubs.
 #[inline(never)]
 fn write_keyed(out: &mut [u8], input: &[u8], key: &[u8]) -> i32
-    ensures status { Returns result (IsRefusedState blake2b (length out.old) key.now [] []
-        ⊎ IsTooLong (given_count blake2b key.now) (length input.now)) }
+    ensures status { Returns result
+        (Admits blake2b (parameters_of (length out.old) (length key.now) [] [])
+        × (given_count blake2b key.now + length input.now < 2 ^ 64)) }
     ensures digest { result ≡ pos 0
         → out.new ≡ digest_of blake2b (length out.old) [] [] (given_key key.now) input.now }
     ensures nothing { result ≡ negsuc 0 → out.new ≡ out.old }
@@ -75,8 +76,9 @@ fn write_keyed(out: &mut [u8], input: &[u8], key: &[u8]) -> i32
 /// input and the key's block have 2^64 bytes or more; nothing is then written.
 #[unsafe(no_mangle)]
 pub extern "C" fn vulfsjor_ffi_blake2b(out: &mut [u8], input: &[u8], key: &[u8]) -> i32
-    ensures status { Returns result (IsRefusedState blake2b (length out.old) key.now [] []
-        ⊎ IsTooLong (given_count blake2b key.now) (length input.now)) }
+    ensures status { Returns result
+        (Admits blake2b (parameters_of (length out.old) (length key.now) [] [])
+        × (given_count blake2b key.now + length input.now < 2 ^ 64)) }
     ensures digest { result ≡ pos 0
         → out.new ≡ digest_of blake2b (length out.old) [] [] (given_key key.now) input.now }
     ensures nothing { result ≡ negsuc 0 → out.new ≡ out.old }
@@ -105,9 +107,9 @@ pub extern "C" fn vulfsjor_ffi_blake2b(out: &mut [u8], input: &[u8], key: &[u8])
 #[inline(never)]
 fn initialize(state: &mut State, given: &StateParameters<'_>, tree: &Tree) -> i32
     requires tree { AdmitsTree blake2b (tree_of tree.now) }
-    ensures status { Returns result (IsRefusedGiven blake2b given.now) }
-    ensures ready { result ≡ pos 0 → IsReady state.new }
-    ensures size { result ≡ pos 0 → state.new.output_size ≡ given.now.output_size }
+    ensures status { Returns result
+        (Admits blake2b (parameters_given given.now (tree_of tree.now))) }
+    ensures ready { result ≡ pos 0 → IsReadyFor given.now.output_size state.new }
     ensures fresh { result ≡ pos 0
         → Fresh meaning (digest_given blake2b given.now (tree_of tree.now))
         (given_count blake2b given.now.key.now) state.new }
@@ -133,9 +135,8 @@ pub extern "C" fn vulfsjor_ffi_blake2b_init_salt_personal(
     persona: &[u8],
 ) -> i32
     ensures status { Returns result
-        (IsRefusedState blake2b output_size key.now salt.now persona.now) }
-    ensures ready { result ≡ pos 0 → IsReady state.new }
-    ensures size { result ≡ pos 0 → state.new.output_size ≡ output_size }
+        (Admits blake2b (parameters_of output_size (length key.now) salt.now persona.now)) }
+    ensures ready { result ≡ pos 0 → IsReadyFor output_size state.new }
     ensures fresh { result ≡ pos 0 → Fresh meaning
         (node_digest_of blake2b output_size salt.now persona.now (given_key key.now) sequential)
         (given_count blake2b key.now) state.new }
@@ -164,9 +165,8 @@ pub extern "C" fn vulfsjor_ffi_blake2b_init_key(
     key: &[u8],
 ) -> i32
     ensures status { Returns result
-        ((key.now ≡ []) ⊎ IsRefusedState blake2b output_size key.now [] []) }
-    ensures ready { result ≡ pos 0 → IsReady state.new }
-    ensures size { result ≡ pos 0 → state.new.output_size ≡ output_size }
+        ((1 ≤ length key.now) × Admits blake2b (parameters_of output_size (length key.now) [] [])) }
+    ensures ready { result ≡ pos 0 → IsReadyFor output_size state.new }
     ensures fresh { result ≡ pos 0 → Fresh meaning
         (node_digest_of blake2b output_size [] [] (given_key key.now) sequential)
         (given_count blake2b key.now) state.new }
@@ -197,11 +197,10 @@ pub extern "C" fn vulfsjor_ffi_blake2b_init_tree(
     node_depth: u8,
     inner_length: u8,
 ) -> i32
-    ensures status { Returns result (IsRefusedState blake2b output_size key.now salt.now persona.now
-        ⊎ (¬ AdmitsTree blake2b
+    ensures status { Returns result (Admits blake2b
+        (node_parameters output_size (length key.now) salt.now persona.now
         (given_tree fanout depth leaf_length node_offset node_depth inner_length))) }
-    ensures ready { result ≡ pos 0 → IsReady state.new }
-    ensures size { result ≡ pos 0 → state.new.output_size ≡ output_size }
+    ensures ready { result ≡ pos 0 → IsReadyFor output_size state.new }
     ensures fresh { result ≡ pos 0 → Fresh meaning
         (node_digest_of blake2b output_size salt.now persona.now (given_key key.now)
         (given_tree fanout depth leaf_length node_offset node_depth inner_length))
@@ -240,9 +239,8 @@ pub extern "C" fn vulfsjor_ffi_blake2b_init_tree(
 /// state is then zeroed.
 #[unsafe(no_mangle)]
 pub extern "C" fn vulfsjor_ffi_blake2b_init_param(state: &mut State, block: &[u8]) -> i32
-    ensures status { Returns result (IsRefusedBlock blake2b block.now) }
-    ensures ready { result ≡ pos 0 → IsReady state.new }
-    ensures size { result ≡ pos 0 → state.new.output_size ≡ slice_index block.now 0 }
+    ensures status { Returns result (AdmitsBlock blake2b block.now) }
+    ensures ready { result ≡ pos 0 → IsReadyFor (slice_index block.now 0) state.new }
     ensures fresh { result ≡ pos 0
         → Fresh meaning (block_digest blake2b block.now) 0 state.new }
     ensures zeros { result ≡ negsuc 0 → state.new ≡ zeros }
@@ -260,8 +258,7 @@ pub extern "C" fn vulfsjor_ffi_blake2b_init_param(state: &mut State, block: &[u8
 fn absorb(state: &mut State, input: &[u8])
     requires ready { IsReady state.old }
     requires counted { meaning.count state.old + length input.now < 2 ^ 64 }
-    ensures ready { IsReady state.new }
-    ensures size { state.new.output_size ≡ state.old.output_size }
+    ensures ready { IsReadyFor state.old.output_size state.new }
     ensures taken { Updated meaning state.old input.now state.new }
 {
     state.update(input);
@@ -273,8 +270,7 @@ fn absorb(state: &mut State, input: &[u8])
 fn absorb_scrubbed(state: &mut State, input: &[u8])
     requires ready { IsReady state.old }
     requires counted { meaning.count state.old + length input.now < 2 ^ 64 }
-    ensures ready { IsReady state.new }
-    ensures size { state.new.output_size ≡ state.old.output_size }
+    ensures ready { IsReadyFor state.old.output_size state.new }
     ensures taken { Updated meaning state.old input.now state.new }
 {
     absorb(state, input);
@@ -286,9 +282,8 @@ fn absorb_scrubbed(state: &mut State, input: &[u8])
 #[unsafe(no_mangle)]
 pub extern "C" fn vulfsjor_ffi_blake2b_update(state: &mut State, input: &[u8]) -> i32
     ensures status { Returns result
-        (IsRefusedUpdate (IsReady state.old) (meaning.count state.old) (length input.now)) }
-    ensures ready { result ≡ pos 0 → IsReady state.new }
-    ensures size { state.new.output_size ≡ state.old.output_size }
+        (IsReady state.old × (meaning.count state.old + length input.now < 2 ^ 64)) }
+    ensures ready { result ≡ pos 0 → IsReadyFor state.old.output_size state.new }
     ensures taken { result ≡ pos 0 → Updated meaning state.old input.now state.new }
     ensures same { result ≡ negsuc 0 → state.new ≡ state.old }
 {
@@ -325,7 +320,7 @@ fn finalize(state: &mut State, out: &mut [u8])
 #[unsafe(no_mangle)]
 pub extern "C" fn vulfsjor_ffi_blake2b_final(state: &mut State, out: &mut [u8]) -> i32
     ensures status { Returns result
-        (IsRefusedFinal (IsReady state.old) state.old.output_size (length out.old)) }
+        (IsReady state.old × (state.old.output_size ≤ length out.old)) }
     ensures output { result ≡ pos 0
         → out.new ≡ digest_now meaning state.old ++ drop state.old.output_size out.old }
     ensures wiped { result ≡ pos 0 → state.new ≡ zeros }
@@ -359,7 +354,7 @@ fn is_digest_of(state: &State, tag: &[u8]) -> bool
 #[unsafe(no_mangle)]
 pub extern "C" fn vulfsjor_ffi_blake2b_verify(state: &mut State, tag: &[u8]) -> i32
     ensures status { Returns result
-        ((¬ IsReady state.old) ⊎ (tag.now ≢ digest_now meaning state.old)) }
+        (IsReady state.old × (tag.now ≡ digest_now meaning state.old)) }
     ensures wiped { IsReady state.old → state.new ≡ zeros }
     ensures same { (¬ IsReady state.old) → state.new ≡ state.old }
 {
@@ -380,9 +375,8 @@ pub extern "C" fn vulfsjor_ffi_blake2b_verify(state: &mut State, tag: &[u8]) -> 
 /// 0, or -1 if the state is not ready; the state then stays as it is.
 #[unsafe(no_mangle)]
 pub extern "C" fn vulfsjor_ffi_blake2b_set_last_node(state: &mut State, on: u32) -> i32
-    ensures status { Returns result (¬ IsReady state.old) }
-    ensures ready { result ≡ pos 0 → IsReady state.new }
-    ensures size { state.new.output_size ≡ state.old.output_size }
+    ensures status { Returns result (IsReady state.old) }
+    ensures ready { result ≡ pos 0 → IsReadyFor state.old.output_size state.new }
     ensures set { result ≡ pos 0 → NodeSet meaning state.old (is_on on) state.new }
     ensures same { result ≡ negsuc 0 → state.new ≡ state.old }
 {
@@ -398,9 +392,8 @@ pub extern "C" fn vulfsjor_ffi_blake2b_set_last_node(state: &mut State, on: u32)
 /// stays as it is.
 #[unsafe(no_mangle)]
 pub extern "C" fn vulfsjor_ffi_blake2b_reset(state: &mut State) -> i32
-    ensures status { Returns result (¬ IsReady state.old) }
-    ensures ready { result ≡ pos 0 → IsReady state.new }
-    ensures size { state.new.output_size ≡ state.old.output_size }
+    ensures status { Returns result (IsReady state.old) }
+    ensures ready { result ≡ pos 0 → IsReadyFor state.old.output_size state.new }
     ensures reset { result ≡ pos 0 → StartedAgain meaning state.old state.new }
     ensures same { result ≡ negsuc 0 → state.new ≡ state.old }
 {

@@ -9,7 +9,7 @@
 
 #![tactic(auto)]
 
-ghost use Rattle.std.specs.Prelude.{◌≡◌, ◌≢◌};
+ghost use Rattle.std.specs.Prelude.{◌≡◌};
 ghost use Rattle.blake2_ffi.specs.Status.{Returns};
 
 mod blake2b;
@@ -48,7 +48,7 @@ pub extern "C" fn vulfsjor_ffi_version() -> u32
 /// at all bytes, wherever the first difference is.
 #[unsafe(no_mangle)]
 pub extern "C" fn vulfsjor_ffi_is_same(a: &[u8], b: &[u8]) -> i32
-    ensures { Returns result (a.now ≢ b.now) }
+    ensures { Returns result (a.now ≡ b.now) }
 {
     if is_same(a, b) { 0 } else { -1 }
 }

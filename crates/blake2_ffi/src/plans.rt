@@ -1,18 +1,18 @@
-//! How threads hash a tree: whether its lengths are accepted, states of its nodes, and plans, as the
-//! crates `blake2_tree` and `blake2_state` have them. The threads are the caller's.
+//! How threads hash a tree: whether its lengths are accepted, states of its nodes, and plans, as
+//! the crates `blake2_tree` and `blake2_state` have them. The threads are the caller's.
 
-ghost use Rattle.std.specs.Prelude.{◌≡◌, ◌<◌, ◌≤◌, ◌^◌, ◌+◌, ◌⊎◌, length, pos, negsuc, true};
+ghost use Rattle.std.specs.Prelude.{◌≡◌, ◌<◌, ◌≤◌, ◌^◌, ◌+◌, length, pos, negsuc, true};
 ghost use Rattle.blake2_digest.specs.States.{AtStart};
 ghost use Rattle.blake2_tree.specs.Nodes.{node_digest};
+ghost use Rattle.blake2_tree.specs.TreeLengths.{AcceptsLengths, lengths_of};
 ghost use Rattle.blake2_tree.specs.TreeRoot.{tree_parameters};
 ghost use Rattle.blake2_tree.specs.Plans.{AreLimits, IsPlan, IsPlanOf, AreParts, HasDigests};
 ghost use Rattle.blake2_tree.specs.Plans.{HasLeafDigests, IsOfUpdate, head_length, whole_length};
 ghost use Rattle.blake2_tree.specs.Plans.{IsPart, IsInOrder, threads_for};
-ghost use Rattle.blake2_state.specs.Blake2b.{IsReady as IsNodeReady, meaning, zeros};
+ghost use Rattle.blake2_state.specs.Blake2b.{IsReadyFor, meaning, zeros};
 ghost use Rattle.blake2_state.specs.States.{is_on};
-ghost use Rattle.blake2_state.specs.TreeStates.{IsReady, IsRefusedTree, count, parameters};
+ghost use Rattle.blake2_state.specs.TreeStates.{IsReady, count, parameters};
 ghost use Rattle.blake2_ffi.specs.Status.{Returns};
-ghost use Rattle.blake2_ffi.specs.Trees.{IsRefusedPlan, IsRefusedPlanOfUpdate};
 
 use blake2_state::blake2b::State;
 use blake2_state::tree::{TreeState, leaf_state, root_state};
@@ -29,7 +29,12 @@ pub extern "C" fn vulfsjor_ffi_tree_accepts(
     persona_length: usize,
     leaf_length: u32,
 ) -> i32
-    ensures { Returns result (IsRefusedTree output_size salt_length persona_length leaf_length) }
+    ensures { Returns result (AcceptsLengths (record {
+      root = output_size;
+      salt = salt_length;
+      persona = persona_length;
+      leaf = leaf_length;
+    })) }
 {
     if accepts(output_size, salt_length, persona_length, leaf_length) {
         0
@@ -52,9 +57,8 @@ pub extern "C" fn vulfsjor_ffi_tree_init_leaf(
     leaf_length: u32,
 ) -> i32
     ensures status { Returns result
-        (IsRefusedTree 64 (length salt.now) (length persona.now) leaf_length) }
-    ensures ready { result ≡ pos 0 → IsNodeReady state.new }
-    ensures size { result ≡ pos 0 → state.new.output_size ≡ 64 }
+        (AcceptsLengths (lengths_of 64 (tree_parameters salt.now persona.now leaf_length))) }
+    ensures ready { result ≡ pos 0 → IsReadyFor 64 state.new }
     ensures leaf { result ≡ pos 0 → AtStart meaning
         (node_digest 64 (tree_parameters salt.now persona.now leaf_length) i 0) 0 state.new }
     ensures last { result ≡ pos 0 → meaning.last_node state.new ≡ is_on last }
@@ -81,9 +85,9 @@ pub extern "C" fn vulfsjor_ffi_tree_init_root(
     leaf_length: u32,
 ) -> i32
     ensures status { Returns result
-        (IsRefusedTree output_size (length salt.now) (length persona.now) leaf_length) }
-    ensures ready { result ≡ pos 0 → IsNodeReady state.new }
-    ensures size { result ≡ pos 0 → state.new.output_size ≡ output_size }
+        (AcceptsLengths (lengths_of output_size
+        (tree_parameters salt.now persona.now leaf_length))) }
+    ensures ready { result ≡ pos 0 → IsReadyFor output_size state.new }
     ensures root { result ≡ pos 0 → AtStart meaning (node_digest output_size
         (tree_parameters salt.now persona.now leaf_length) 0 1) 0 state.new }
     ensures last { result ≡ pos 0 → meaning.last_node state.new ≡ true }
@@ -99,9 +103,9 @@ pub extern "C" fn vulfsjor_ffi_tree_init_root(
 
 /// Writes the plan of a message of `length` bytes that begins at offset `start` of a file or a
 /// buffer, with leaves of `leaf_length` bytes. If `vulfsjor_ffi_tree_leaves` writes the digests of
-/// each part, `vulfsjor_ffi_tree_root_of_leaves` writes the root of the message. Returns 0, or -1 if
-/// `leaf_length`, the threads or the least bytes of the limits are 0, the length is 2^58 or more,
-/// or the message ends at offset 2^64 or above; the plan then stays as it is.
+/// each part, `vulfsjor_ffi_tree_root_of_leaves` writes the root of the message. Returns 0, or -1
+/// if `leaf_length`, the threads or the least bytes of the limits are 0, the length is 2^58 or
+/// more, or the message ends at offset 2^64 or above; the plan then stays as it is.
 #[unsafe(no_mangle)]
 pub extern "C" fn vulfsjor_ffi_tree_plan(
     plan: &mut Plan,
@@ -110,7 +114,8 @@ pub extern "C" fn vulfsjor_ffi_tree_plan(
     leaf_length: u32,
     limits: &Limits,
 ) -> i32
-    ensures status { Returns result (IsRefusedPlan limits.now start length leaf_length) }
+    ensures status { Returns result ((1 ≤ leaf_length) × AreLimits limits.now
+        × (length < 2 ^ 58) × (start + length < 2 ^ 64)) }
     ensures plan { result ≡ pos 0 → IsPlan plan.new }
     ensures is { result ≡ pos 0 → IsPlanOf limits.now
         (threads_for limits.now length) leaf_length start length 1 plan.new }
@@ -143,7 +148,8 @@ pub extern "C" fn vulfsjor_ffi_tree_plan_update(
     length: u64,
     limits: &Limits,
 ) -> i32
-    ensures status { Returns result (IsRefusedPlanOfUpdate limits.now state.now length) }
+    ensures status { Returns result
+        (AreLimits limits.now × IsReady state.now × (count state.now + length < 2 ^ 58)) }
     ensures plan { result ≡ pos 0 → IsPlan plan.new }
     ensures is { result ≡ pos 0 → let size = (parameters state.now).leaf_length in
         IsPlanOf limits.now (threads_for limits.now length) size
@@ -173,7 +179,7 @@ pub extern "C" fn vulfsjor_ffi_tree_plan_update(
 /// part then stays as it is.
 #[unsafe(no_mangle)]
 pub extern "C" fn vulfsjor_ffi_tree_part(part: &mut Part, plan: &Plan, i: u64) -> i32
-    ensures status { Returns result ((¬ IsPlan plan.now) ⊎ (plan.now.part_count ≤ i)) }
+    ensures status { Returns result (IsPlan plan.now × (i < plan.now.part_count)) }
     ensures is { result ≡ pos 0 → IsPart plan.now i part.new }
     ensures order { result ≡ pos 0 → IsInOrder plan.now i part.new }
     ensures same { result ≡ negsuc 0 → part.new ≡ part.old }

@@ -1,27 +1,24 @@
 //! The root of a tree of hashes with two levels over BLAKE2b, as the crate `blake2_tree` has it.
 
-ghost use Rattle.std.specs.Prelude.{◌≡◌, ℕ, ◌<◌, ◌≤◌, ◌^◌, ◌⊎◌, List, [], ◌++◌, length, drop, pos};
-ghost use Rattle.std.specs.Prelude.{◌+◌, negsuc, false};
+ghost use Rattle.std.specs.Prelude.{◌≡◌, ℕ, ◌<◌, ◌≤◌, ◌^◌, ◌*◌, ◌%◌, List, [], ◌++◌, length, drop};
+ghost use Rattle.std.specs.Prelude.{◌+◌, pos, negsuc, false};
 ghost use Rattle.blake2_simd.specs.Family.{blake2b};
 ghost use Rattle.blake2_compress.specs.Hash.{digest};
 ghost use Rattle.blake2_tree.specs.TreeRoot.{tree_parameters, tree_root as root_of, root_over};
 ghost use Rattle.blake2_tree.specs.TreeRoot.{leaf_count};
-ghost use Rattle.blake2_tree.specs.TreeLengths.{AcceptsLengths};
-ghost use Rattle.blake2_tree.specs.Ranges.{range_digests, ArePartOfAll, IsRootOfCuts};
+ghost use Rattle.blake2_tree.specs.TreeLengths.{AcceptsLengths, lengths_of};
+ghost use Rattle.blake2_tree.specs.Ranges.{IsRange, range_digests, ArePartOfAll, IsRootOfCuts};
 ghost use Rattle.blake2_tree.specs.Ranges.{IsRootOfChanges};
-ghost use Rattle.blake2_tree.specs.LeafUpdates.{next_leaf, TookLeaves, TookDigests};
+ghost use Rattle.blake2_tree.specs.LeafUpdates.{AcceptsLeaves, AreNextLeaves, next_leaf};
+ghost use Rattle.blake2_tree.specs.LeafUpdates.{TookLeaves, TookDigests};
 ghost use Rattle.blake2_state.specs.States.{is_on};
-ghost use Rattle.blake2_state.specs.TreeStates.{IsReady, IsRefusedTree, Took, future, count, zeros};
+ghost use Rattle.blake2_state.specs.TreeStates.{IsReady, IsReadyFor, Took, future, count, zeros};
 ghost use Rattle.blake2_state.specs.TreeStates.{IsAsOpened, parameters, state_tree};
-ghost use Rattle.blake2_ffi.specs.Status.{Returns, IsRefusedFinal};
-ghost use Rattle.blake2_ffi.specs.Trees.{IsRefusedTreeUpdate, IsRefusedRange, IsRefusedDigests};
-ghost use Rattle.blake2_ffi.specs.Trees.{IsRefusedNext, IsRefusedUpdateLeaves};
+ghost use Rattle.blake2_ffi.specs.Status.{Returns};
 
 use crate::many::is_room_for;
 use blake2_state::tree::{TreeState, write_root_of_leaves};
-use blake2_tree::{
-    LABEL_BYTES, MESSAGE_LIMIT, accepts, hash_leaves, is_range, leaf_count, tree_root,
-};
+use blake2_tree::{MESSAGE_LIMIT, accepts, hash_leaves, is_range, leaf_count, tree_root};
 
 // Writes the root in `N` bytes. It knows the whole input, and so hashes the last four leaves in
 // parallel too, as a state can't.
@@ -46,8 +43,8 @@ fn write_root<const N: usize>(
 
 // The same for a size that only the call knows.
 fn write_root_by_state(out: &mut [u8], input: &[u8], salt: &[u8], persona: &[u8], leaf_length: u32)
-    requires lengths { AcceptsLengths (length out.old) (length salt.now) (length persona.now)
-        leaf_length }
+    requires lengths { AcceptsLengths (lengths_of (length out.old)
+        (tree_parameters salt.now persona.now leaf_length)) }
     requires input { length input.now < 2 ^ 58 }
     ensures { out.new ≡ root_of (length out.old) (tree_parameters salt.now persona.now leaf_length)
         input.now }
@@ -72,8 +69,9 @@ pub extern "C" fn vulfsjor_ffi_tree_root(
     leaf_length: u32,
 ) -> i32
     ensures status { Returns result
-        (IsRefusedTree (length out.old) (length salt.now) (length persona.now) leaf_length
-        ⊎ (2 ^ 58 ≤ length input.now)) }
+        (AcceptsLengths (lengths_of (length out.old)
+        (tree_parameters salt.now persona.now leaf_length))
+        × (length input.now < 2 ^ 58)) }
     ensures root { result ≡ pos 0 → out.new ≡ root_of (length out.old)
         (tree_parameters salt.now persona.now leaf_length) input.now }
     ensures nothing { result ≡ negsuc 0 → out.new ≡ out.old }
@@ -104,9 +102,9 @@ pub extern "C" fn vulfsjor_ffi_tree_init(
     leaf_length: u32,
 ) -> i32
     ensures status { Returns result
-        (IsRefusedTree output_size (length salt.now) (length persona.now) leaf_length) }
-    ensures ready { result ≡ pos 0 → IsReady state.new }
-    ensures size { result ≡ pos 0 → state.new.root.output_size ≡ output_size }
+        (AcceptsLengths (lengths_of output_size
+        (tree_parameters salt.now persona.now leaf_length))) }
+    ensures ready { result ≡ pos 0 → IsReadyFor output_size state.new }
     ensures root { result ≡ pos 0 → (y : List ℕ) → future state.new y
         ≡ root_of output_size (tree_parameters salt.now persona.now leaf_length) y }
     ensures nothing { result ≡ pos 0 → count state.new ≡ 0 }
@@ -128,9 +126,8 @@ pub extern "C" fn vulfsjor_ffi_tree_init(
 #[unsafe(no_mangle)]
 pub extern "C" fn vulfsjor_ffi_tree_update(state: &mut TreeState, input: &[u8]) -> i32
     ensures status { Returns result
-        (IsRefusedTreeUpdate (IsReady state.old) (count state.old) (length input.now)) }
-    ensures ready { result ≡ pos 0 → IsReady state.new }
-    ensures size { state.new.root.output_size ≡ state.old.root.output_size }
+        (IsReady state.old × (count state.old + length input.now < 2 ^ 58)) }
+    ensures ready { result ≡ pos 0 → IsReadyFor state.old.root.output_size state.new }
     ensures taken { result ≡ pos 0 → Took state.old input.now state.new }
     ensures opened { IsAsOpened state.old → IsAsOpened state.new }
     ensures same { result ≡ negsuc 0 → state.new ≡ state.old }
@@ -159,7 +156,8 @@ pub extern "C" fn vulfsjor_ffi_tree_next_leaves(
     input: &[u8],
 ) -> i32
     ensures status { Returns result
-        (IsRefusedNext state.now (length out.old) skip (length input.now)) }
+        (IsReady state.now × AreNextLeaves (state_tree state.now) skip (length input.now)
+        × (length out.old ≡ leaf_count state.now.leaf_length (length input.now) * 64)) }
     ensures digests { result ≡ pos 0 → out.new ≡ range_digests (parameters state.now)
         (next_leaf (state_tree state.now) + skip) false input.now }
     ensures part { result ≡ pos 0 → ArePartOfAll (parameters state.now)
@@ -196,9 +194,9 @@ pub extern "C" fn vulfsjor_ffi_tree_update_leaves(
     input: &[u8],
 ) -> i32
     ensures status { Returns result
-        (IsRefusedUpdateLeaves state.old (length digests.now) (length input.now)) }
-    ensures ready { result ≡ pos 0 → IsReady state.new }
-    ensures size { state.new.root.output_size ≡ state.old.root.output_size }
+        (IsReady state.old
+        × AcceptsLeaves (state_tree state.old) (length digests.now) (length input.now)) }
+    ensures ready { result ≡ pos 0 → IsReadyFor state.old.root.output_size state.new }
     ensures none { result ≡ pos 0 → digests.now ≡ [] → Took state.old input.now state.new }
     ensures digests { result ≡ pos 0
         → TookDigests (state_tree state.old) digests.now input.now (state_tree state.new) }
@@ -221,7 +219,7 @@ pub extern "C" fn vulfsjor_ffi_tree_update_leaves(
 #[unsafe(no_mangle)]
 pub extern "C" fn vulfsjor_ffi_tree_final(state: &mut TreeState, out: &mut [u8]) -> i32
     ensures status { Returns result
-        (IsRefusedFinal (IsReady state.old) state.old.root.output_size (length out.old)) }
+        (IsReady state.old × (state.old.root.output_size ≤ length out.old)) }
     ensures output { result ≡ pos 0
         → out.new ≡ future state.old [] ++ drop state.old.root.output_size out.old }
     ensures wiped { result ≡ pos 0 → state.new ≡ zeros }
@@ -322,15 +320,17 @@ pub extern "C" fn vulfsjor_ffi_tree_leaves(
     persona: &[u8],
     leaf_length: u32,
 ) -> i32
-    ensures status { Returns result (IsRefusedRange (length out.old) (length salt.now)
-        (length persona.now) leaf_length first (is_on ends) (length input.now)) }
+    ensures status { Returns result
+        (AcceptsLengths (lengths_of 64 (tree_parameters salt.now persona.now leaf_length))
+        × IsRange leaf_length first (is_on ends) (length input.now)
+        × (length out.old ≡ leaf_count leaf_length (length input.now) * 64)) }
     ensures digests { result ≡ pos 0 → out.new ≡ range_digests
         (tree_parameters salt.now persona.now leaf_length) first (is_on ends) input.now }
     ensures part { result ≡ pos 0 → ArePartOfAll
         (tree_parameters salt.now persona.now leaf_length) first (is_on ends) input.now out.new }
     ensures nothing { result ≡ negsuc 0 → out.new ≡ out.old }
 {
-    if salt.len() > LABEL_BYTES || persona.len() > LABEL_BYTES || leaf_length == 0 {
+    if !accepts(64, salt.len(), persona.len(), leaf_length) {
         return -1;
     }
     let ends = ends != 0;
@@ -360,8 +360,10 @@ pub extern "C" fn vulfsjor_ffi_tree_root_of_leaves(
     persona: &[u8],
     leaf_length: u32,
 ) -> i32
-    ensures status { Returns result (IsRefusedDigests (length out.old) (length salt.now)
-        (length persona.now) leaf_length (length digests.now)) }
+    ensures status { Returns result
+        (AcceptsLengths (lengths_of (length out.old)
+        (tree_parameters salt.now persona.now leaf_length))
+        × (0 < length digests.now) × (length digests.now % 64 ≡ 0)) }
     ensures root { result ≡ pos 0 → out.new ≡ digest blake2b (length out.old)
         (root_over (tree_parameters salt.now persona.now leaf_length) digests.now) }
     ensures cuts { result ≡ pos 0 → IsRootOfCuts (length out.old)

@@ -1,28 +1,30 @@
 //! Several messages of BLAKE2b.
 
-ghost use Rattle.std.specs.Prelude.{◌≡◌, ◌*◌, ◌≤◌, ◌++◌, [], length, take, drop, pos, negsuc};
-ghost use Rattle.std.specs.Prelude.{false};
+ghost use Rattle.std.specs.Prelude.{◌≡◌, ◌+◌, ◌*◌, ◌^◌, ◌<◌, ◌≤◌, ◌++◌, length, take, drop};
+ghost use Rattle.std.specs.Prelude.{pos, negsuc};
+ghost use Rattle.std.specs.Prelude.{false, IsTrue};
 ghost use Rattle.blake2.specs.Family.{blake2b};
 ghost use Rattle.blake2.specs.States as Held;
 ghost use Rattle.blake2_compress.specs.Views.{input_of};
-ghost use Rattle.blake2_compress.specs.Hash.{sequential};
+ghost use Rattle.blake2_compress.specs.Hash.{parameters_of, sequential};
 ghost use Rattle.blake2_state.specs.Arguments.{given_key, given_count, digest_given};
-ghost use Rattle.blake2_state.specs.Arguments.{IsRefusedGiven};
-ghost use Rattle.blake2_ffi.specs.Many.{AreCounted, IsRefusedMany, digests_of};
-ghost use Rattle.blake2_ffi.specs.Status.{Returns, IsTooLong};
+ghost use Rattle.blake2_state.specs.Arguments.{Admits, parameters_given};
+ghost use Rattle.blake2_ffi.specs.Many.{AreCounted, digests_of};
+ghost use Rattle.blake2_ffi.specs.Status.{Returns};
 
 use crate::Text;
 use crate::many::{are_counted, is_room_for, write_digests};
 use blake2::Tree;
-use blake2::many::blake2b::{accepts_four, hash_four_sized};
+use blake2::many::blake2b::eight::{accepts_eight, hash_eight_sized};
+use blake2::many::blake2b::{accepts_four, hash_four_sized, lanes};
 use blake2::steps::Input;
 use blake2_digest::scrub_stack;
 use blake2_state::StateParameters;
 use blake2_state::blake2b::State;
 
 // Bytes of the stack that `write_all` reaches with all that it calls, rounded up, as built by LLVM
-// for x86-64-v2 and for x86-64-v3.
-const WRITE_BYTES: usize = 5632;
+// for x86-64-v4, where eight messages are hashed in parallel. Other builds reach less.
+const WRITE_BYTES: usize = 9216;
 
 // The input of a message under these.
 fn input<'a>(key: &'a [u8], salt: &'a [u8], persona: &'a [u8], message: &'a [u8]) -> Input<'a>
@@ -39,10 +41,17 @@ fn input<'a>(key: &'a [u8], salt: &'a [u8], persona: &'a [u8], message: &'a [u8]
     }
 }
 
+// The number of bytes that a key counts for.
+fn key_count(key: &[u8]) -> u64
+    ensures { result ≡ given_count blake2b key.now }
+{
+    if key.is_empty() { 0 } else { 128 }
+}
+
 // Writes the digest of one message at the beginning of `out`.
 fn write_one(out: &mut [u8], given: &StateParameters<'_>, message: &[u8])
-    requires taken { ¬ IsRefusedGiven blake2b given.now }
-    requires counted { ¬ IsTooLong (given_count blake2b given.now.key.now) (length message.now) }
+    requires taken { Admits blake2b (parameters_given given.now sequential) }
+    requires counted { given_count blake2b given.now.key.now + length message.now < 2 ^ 64 }
     requires room { given.now.output_size ≤ length out.old }
     ensures { out.new
         ≡ digest_given blake2b given.now sequential false message.now
@@ -58,10 +67,45 @@ fn write_one(out: &mut [u8], given: &StateParameters<'_>, message: &[u8])
     }
 }
 
+// Writes the digests of the first eight messages at the beginning of `out`, if these can be hashed
+// in parallel, and returns whether they can. Otherwise `out` stays as it is.
+fn write_eight(out: &mut [u8], given: &StateParameters<'_>, messages: &[Text<'_>]) -> bool
+    requires size { given.now.output_size ≤ 64 }
+    requires enough { 8 ≤ length messages.now }
+    requires room { 8 * given.now.output_size ≤ length out.old }
+    ensures digests { IsTrue result → out.new
+        ≡ digests_of blake2b given.now.output_size given.now.key.now given.now.salt.now
+        given.now.persona.now (take 8 messages.now)
+        ++ drop (8 * given.now.output_size) out.old }
+    ensures nothing { result ≡ false → out.new ≡ out.old }
+{
+    let StateParameters {
+        output_size,
+        key,
+        salt,
+        persona,
+    } = *given;
+    let inputs = [
+        input(key, salt, persona, messages[0].bytes),
+        input(key, salt, persona, messages[1].bytes),
+        input(key, salt, persona, messages[2].bytes),
+        input(key, salt, persona, messages[3].bytes),
+        input(key, salt, persona, messages[4].bytes),
+        input(key, salt, persona, messages[5].bytes),
+        input(key, salt, persona, messages[6].bytes),
+        input(key, salt, persona, messages[7].bytes),
+    ];
+    if !accepts_eight(&inputs) {
+        return false;
+    }
+    write_digests(out, output_size, &hash_eight_sized(output_size, &inputs));
+    true
+}
+
 // Writes the digests of the first messages at the beginning of `out`, 4 if these are hashed in
 // parallel, otherwise one, and returns how many.
-fn write_next(out: &mut [u8], given: &StateParameters<'_>, messages: &[Text<'_>]) -> usize
-    requires taken { ¬ IsRefusedGiven blake2b given.now }
+fn write_few(out: &mut [u8], given: &StateParameters<'_>, messages: &[Text<'_>]) -> usize
+    requires taken { Admits blake2b (parameters_given given.now sequential) }
     requires counted { AreCounted blake2b given.now.key.now messages.now }
     requires some { 1 ≤ length messages.now }
     requires room { length messages.now * given.now.output_size ≤ length out.old }
@@ -72,7 +116,7 @@ fn write_next(out: &mut [u8], given: &StateParameters<'_>, messages: &[Text<'_>]
         given.now.persona.now (take result messages.now)
         ++ drop (result * given.now.output_size) out.old }
 {
-    if messages.len() >= 4 {
+    if lanes() >= 4 && messages.len() >= 4 {
         let StateParameters {
             output_size,
             key,
@@ -94,11 +138,30 @@ fn write_next(out: &mut [u8], given: &StateParameters<'_>, messages: &[Text<'_>]
     1
 }
 
+// The same with 8 if these are hashed in parallel.
+fn write_next(out: &mut [u8], given: &StateParameters<'_>, messages: &[Text<'_>]) -> usize
+    requires taken { Admits blake2b (parameters_given given.now sequential) }
+    requires counted { AreCounted blake2b given.now.key.now messages.now }
+    requires some { 1 ≤ length messages.now }
+    requires room { length messages.now * given.now.output_size ≤ length out.old }
+    ensures some { 1 ≤ result }
+    ensures most { result ≤ length messages.now }
+    ensures digests { out.new
+        ≡ digests_of blake2b given.now.output_size given.now.key.now given.now.salt.now
+        given.now.persona.now (take result messages.now)
+        ++ drop (result * given.now.output_size) out.old }
+{
+    if lanes() >= 8 && messages.len() >= 8 && write_eight(out, given, messages) {
+        return 8;
+    }
+    write_few(out, given, messages)
+}
+
 /// Writes the digests of the messages, each as `vulfsjor_ffi_blake2b` would with this size and key,
-/// and with a salt and a persona of up to 16 bytes each, one after the other. Four messages in a
-/// row that have one length are hashed in parallel. Returns 0, or -1 if a length is not one that
-/// BLAKE2b accepts, a message and the key's block have 2^64 bytes or more, or `out` does not have
-/// exactly `output_size` bytes for each message; nothing is then written.
+/// and with a salt and a persona of up to 16 bytes each, one after the other. As many messages in a
+/// row that have one length are hashed in parallel as `lanes` says. Returns 0, or -1 if a length is
+/// not one that BLAKE2b accepts, a message and the key's block have 2^64 bytes or more, or `out`
+/// does not have exactly `output_size` bytes for each message; nothing is then written.
 #[unsafe(no_mangle)]
 pub extern "C" fn vulfsjor_ffi_blake2b_many(
     out: &mut [u8],
@@ -108,8 +171,10 @@ pub extern "C" fn vulfsjor_ffi_blake2b_many(
     salt: &[u8],
     persona: &[u8],
 ) -> i32
-    ensures status { Returns result (IsRefusedMany blake2b (length out.old) output_size key.now
-        salt.now persona.now messages.now) }
+    ensures status { Returns result
+        (Admits blake2b (parameters_of output_size (length key.now) salt.now persona.now)
+        × (length out.old ≡ length messages.now * output_size)
+        × AreCounted blake2b key.now messages.now) }
     ensures digests { result ≡ pos 0 → out.new
         ≡ digests_of blake2b output_size key.now salt.now persona.now messages.now }
     ensures nothing { result ≡ negsuc 0 → out.new ≡ out.old }
@@ -120,11 +185,10 @@ pub extern "C" fn vulfsjor_ffi_blake2b_many(
         salt,
         persona,
     };
-    let counted = match State::init_salt_personal(&given) {
-        Ok(run) => run.counted(),
-        Err(_) => return -1,
-    };
-    if !is_room_for(out.len(), messages.len(), output_size) || !are_counted(counted, messages) {
+    if !State::accepts(&given)
+        || !is_room_for(out.len(), messages.len(), output_size)
+        || !are_counted(key_count(key), messages)
+    {
         return -1;
     }
     write_all(out, &given, messages);
@@ -138,7 +202,7 @@ pub extern "C" fn vulfsjor_ffi_blake2b_many(
 // it.
 #[inline(never)]
 fn write_all(out: &mut [u8], given: &StateParameters<'_>, messages: &[Text<'_>])
-    requires taken { ¬ IsRefusedGiven blake2b given.now }
+    requires taken { Admits blake2b (parameters_given given.now sequential) }
     requires counted { AreCounted blake2b given.now.key.now messages.now }
     requires room { length out.old ≡ length messages.now * given.now.output_size }
     ensures { out.new ≡ digests_of blake2b given.now.output_size given.now.key.now

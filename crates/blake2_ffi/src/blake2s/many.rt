@@ -1,15 +1,16 @@
 //! Several messages of BLAKE2s.
 
-ghost use Rattle.std.specs.Prelude.{◌≡◌, ◌*◌, ◌≤◌, ◌++◌, [], length, take, drop, pos, negsuc};
+ghost use Rattle.std.specs.Prelude.{◌≡◌, ◌+◌, ◌*◌, ◌^◌, ◌<◌, ◌≤◌, ◌++◌, length, take, drop};
+ghost use Rattle.std.specs.Prelude.{pos, negsuc};
 ghost use Rattle.std.specs.Prelude.{false};
 ghost use Rattle.blake2.specs.Family.{blake2s};
 ghost use Rattle.blake2.specs.States as Held;
 ghost use Rattle.blake2_compress.specs.Views.{input_of};
-ghost use Rattle.blake2_compress.specs.Hash.{sequential};
+ghost use Rattle.blake2_compress.specs.Hash.{parameters_of, sequential};
 ghost use Rattle.blake2_state.specs.Arguments.{given_key, given_count, digest_given};
-ghost use Rattle.blake2_state.specs.Arguments.{IsRefusedGiven};
-ghost use Rattle.blake2_ffi.specs.Many.{AreCounted, IsRefusedMany, digests_of};
-ghost use Rattle.blake2_ffi.specs.Status.{Returns, IsTooLong};
+ghost use Rattle.blake2_state.specs.Arguments.{Admits, parameters_given};
+ghost use Rattle.blake2_ffi.specs.Many.{AreCounted, digests_of};
+ghost use Rattle.blake2_ffi.specs.Status.{Returns};
 
 use crate::Text;
 use crate::many::{are_counted, is_room_for, write_digests};
@@ -39,10 +40,17 @@ fn input<'a>(key: &'a [u8], salt: &'a [u8], persona: &'a [u8], message: &'a [u8]
     }
 }
 
+// The number of bytes that a key counts for.
+fn key_count(key: &[u8]) -> u64
+    ensures { result ≡ given_count blake2s key.now }
+{
+    if key.is_empty() { 0 } else { 64 }
+}
+
 // Writes the digest of one message at the beginning of `out`.
 fn write_one(out: &mut [u8], given: &StateParameters<'_>, message: &[u8])
-    requires taken { ¬ IsRefusedGiven blake2s given.now }
-    requires counted { ¬ IsTooLong (given_count blake2s given.now.key.now) (length message.now) }
+    requires taken { Admits blake2s (parameters_given given.now sequential) }
+    requires counted { given_count blake2s given.now.key.now + length message.now < 2 ^ 64 }
     requires room { given.now.output_size ≤ length out.old }
     ensures { out.new
         ≡ digest_given blake2s given.now sequential false message.now
@@ -61,7 +69,7 @@ fn write_one(out: &mut [u8], given: &StateParameters<'_>, message: &[u8])
 // Writes the digests of the first messages at the beginning of `out`, 8 if these are hashed in
 // parallel, otherwise one, and returns how many.
 fn write_next(out: &mut [u8], given: &StateParameters<'_>, messages: &[Text<'_>]) -> usize
-    requires taken { ¬ IsRefusedGiven blake2s given.now }
+    requires taken { Admits blake2s (parameters_given given.now sequential) }
     requires counted { AreCounted blake2s given.now.key.now messages.now }
     requires some { 1 ≤ length messages.now }
     requires room { length messages.now * given.now.output_size ≤ length out.old }
@@ -112,8 +120,10 @@ pub extern "C" fn vulfsjor_ffi_blake2s_many(
     salt: &[u8],
     persona: &[u8],
 ) -> i32
-    ensures status { Returns result (IsRefusedMany blake2s (length out.old) output_size key.now
-        salt.now persona.now messages.now) }
+    ensures status { Returns result
+        (Admits blake2s (parameters_of output_size (length key.now) salt.now persona.now)
+        × (length out.old ≡ length messages.now * output_size)
+        × AreCounted blake2s key.now messages.now) }
     ensures digests { result ≡ pos 0 → out.new
         ≡ digests_of blake2s output_size key.now salt.now persona.now messages.now }
     ensures nothing { result ≡ negsuc 0 → out.new ≡ out.old }
@@ -124,11 +134,10 @@ pub extern "C" fn vulfsjor_ffi_blake2s_many(
         salt,
         persona,
     };
-    let counted = match State::init_salt_personal(&given) {
-        Ok(run) => run.counted(),
-        Err(_) => return -1,
-    };
-    if !is_room_for(out.len(), messages.len(), output_size) || !are_counted(counted, messages) {
+    if !State::accepts(&given)
+        || !is_room_for(out.len(), messages.len(), output_size)
+        || !are_counted(key_count(key), messages)
+    {
         return -1;
     }
     write_all(out, &given, messages);
@@ -142,7 +151,7 @@ pub extern "C" fn vulfsjor_ffi_blake2s_many(
 // it.
 #[inline(never)]
 fn write_all(out: &mut [u8], given: &StateParameters<'_>, messages: &[Text<'_>])
-    requires taken { ¬ IsRefusedGiven blake2s given.now }
+    requires taken { Admits blake2s (parameters_given given.now sequential) }
     requires counted { AreCounted blake2s given.now.key.now messages.now }
     requires room { length out.old ≡ length messages.now * given.now.output_size }
     ensures { out.new ≡ digests_of blake2s given.now.output_size given.now.key.now

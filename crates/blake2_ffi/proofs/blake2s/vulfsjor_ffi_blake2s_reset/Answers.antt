@@ -4,8 +4,5 @@ use Rattle.blake2_ffi.proofs.blake2s.vulfsjor_ffi_blake2s_reset.Goals as goal
 pub returns-clause-ready : goal.returns-clause-ready
 returns-clause-ready c = search rules
 
-pub returns-clause-size : goal.returns-clause-size
-returns-clause-size c = search rules
-
 pub returns-clause-reset : goal.returns-clause-reset
 returns-clause-reset c = search rules
