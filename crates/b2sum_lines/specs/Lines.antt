@@ -2,8 +2,8 @@
 -- is a tab, 10 a newline, 13 a carriage return, 32 a space, 40 and 41 the parentheses, 42 `*`, 61
 -- `=`, 92 a backslash, 110 `n` and 114 `r`.
 use Rattle.std.specs.Prelude.{◌≡◌, ℕ, ◌-◌, ◌*◌, ◌≤◌, ◌<◌, ◌==◌, ◌&&◌, ◌||◌, Bool, true, false}
-use Rattle.std.specs.Prelude.{nat_lt, nat_le, if◌then◌else◌, List, [], ◌∷◌, ◌++◌, length, take, drop}
-use Rattle.std.specs.Prelude.{codes, decimal, Option, Some, None, Result, Ok, Err}
+use Rattle.std.specs.Prelude.{nat_lt, nat_le, if◌then◌else◌, List, [], ◌∷◌, ◌++◌, length, take}
+use Rattle.std.specs.Prelude.{drop, codes, decimal, Option, Some, None, Result, Ok, Err}
 use Rattle.std.specs.List.{list_any, flat_map}
 use Rattle.std.specs.Option.{option_and_then, option_map}
 use Rattle.std.specs.Str.{bytes_eq}
@@ -76,7 +76,8 @@ tag_length a n = if n == max_bytes a then [] else 45 ∷ decimal (8 * n)
 -- The line of a name's text and a digest in one style, without a mark and a newline.
 abbrev pub body_line : Style → Algorithm → List ℕ → List ℕ → List ℕ
 body_line Tagged a digest text =
-    tag a ++ (tag_length a (length digest) ++ (codes " (" ++ (text ++ (codes ") = " ++ encode_lower digest))))
+    tag a ++ (tag_length a (length digest)
+    ++ (codes " (" ++ (text ++ (codes ") = " ++ encode_lower digest))))
 body_line Text a digest text = encode_lower digest ++ (32 ∷ 32 ∷ text)
 body_line Binary a digest text = encode_lower digest ++ (32 ∷ 42 ∷ text)
 body_line Bare a digest text = encode_lower digest ++ (32 ∷ text)
@@ -267,8 +268,8 @@ marked_entry a spacing (b ∷ rest) =
 abbrev pub line_entry : Algorithm → Spacing → List ℕ → Option Line
 line_entry a spacing line = marked_entry a spacing (skip is_blank line)
 
--- The entries whose lines can be read: a digest of the algorithm's bytes, a name of a file, and a tag
--- for the root of a tree.
+-- The entries whose lines can be read: a digest of the algorithm's bytes, a name of a file, and a
+-- tag for the root of a tree.
 pub record IsWritable (e : Line) : Type 0 where
   pub are_bytes : IsBytes e.digest
   pub some_digest : 0 < length e.digest
