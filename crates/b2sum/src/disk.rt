@@ -1,6 +1,6 @@
 //! The files of the system, by names of any bytes.
 
-ghost use Rattle.std.specs.Prelude.{◌≡◌, ◌<◌, ◌∷◌, [], None, false, IfOk};
+ghost use Rattle.std.specs.Prelude.{◌≡◌, ◌<◌, ◌∷◌, [], None, true, false, IfOk};
 
 use b2sum_commands::{Disk, OpenFile, Output};
 use blake2::engine::{DeviceError, Sink, Source};
@@ -72,6 +72,8 @@ impl<R: Files> Disk for System<R> {
     ghost holds = { λ _ _. None };
 
     ghost input_holds = { λ _. None };
+
+    ghost refuses = { λ _ _. true };
 
     type File = Opened<R::File>;
 

@@ -1,7 +1,8 @@
 //! BLAKE2 as the hash functions of the commands.
 
-ghost use Rattle.std.specs.Prelude.{◌≡◌, ◌↔◌, ℕ, ◌+◌, ◌<◌, ◌≤◌, ◌^◌, List, length, take, IsTrue, OnOk};
-ghost use Rattle.std.specs.Prelude.{false};
+ghost use Rattle.std.specs.Prelude.{◌≡◌, ◌↔◌, ℕ, ◌+◌, ◌<◌, ◌≤◌, ◌^◌, List, length, take, IsTrue};
+ghost use Rattle.std.specs.Prelude.{OnOk};
+ghost use Rattle.std.specs.Prelude.{true, false};
 ghost use Rattle.std.specs.Result.{IsErrOf};
 ghost use Rattle.blake2_replay.specs.Streams.{GivesAll};
 ghost use Rattle.blake2_simd.specs.Family.{blake2b, blake2s};
@@ -34,6 +35,8 @@ impl Hashes for Blake2 {
     ghost use Rattle.b2sum.specs.Digests.{digest_with};
 
     ghost digest = { digest_with };
+
+    ghost rejects = { λ _ _. true };
 
     fn digest_source<S: Source>(
         &self,

@@ -1,9 +1,24 @@
 -- What follows when one more file or line is done.
-use Rattle.std.proofs.Common.{◌≡◌, ℕ, ◌&&◌, ◌||◌, Bool, true, false, List, [], ◌∷◌, ◌++◌, refl, ap, ◌∙◌}
+use Rattle.std.proofs.Common.{
+  ◌≡◌,
+  ℕ,
+  ◌&&◌,
+  ◌||◌,
+  Bool,
+  true,
+  false,
+  List,
+  [],
+  ◌∷◌,
+  ◌++◌,
+  refl,
+  ap,
+  ◌∙◌,
+}
 use Rattle.std.proofs.Common.{append_assoc, append-nil, sym}
 use Rattle.std.specs.List.{flat_map, list_all, list_any}
 
-and_true : (b : Bool) → (b && true) ≡ b
+pub and_true : (b : Bool) → (b && true) ≡ b
 and_true true = refl
 and_true false = refl
 
@@ -22,12 +37,14 @@ or_assoc false b c = refl
 pub all_more : {A : Type 0} (p : A → Bool) (xs : List A) (y : A)
     → list_all p (xs ++ (y ∷ [])) ≡ (list_all p xs && p y)
 all_more p [] y = and_true (p y)
-all_more p (x ∷ xs) y = ap (λ b. p x && b) (all_more p xs y) ∙ sym (and_assoc (p x) (list_all p xs) (p y))
+all_more p (x ∷ xs) y = ap (λ b. p x && b) (all_more p xs y) ∙ sym
+    (and_assoc (p x) (list_all p xs) (p y))
 
 pub any_more : {A : Type 0} (p : A → Bool) (xs : List A) (y : A)
     → list_any p (xs ++ (y ∷ [])) ≡ (list_any p xs || p y)
 any_more p [] y = or_false (p y)
-any_more p (x ∷ xs) y = ap (λ b. p x || b) (any_more p xs y) ∙ sym (or_assoc (p x) (list_any p xs) (p y))
+any_more p (x ∷ xs) y = ap (λ b. p x || b) (any_more p xs y) ∙ sym
+    (or_assoc (p x) (list_any p xs) (p y))
 
 pub map_more : {A : Type 0} (f : A → List ℕ) (xs : List A) (y : A)
     → flat_map f (xs ++ (y ∷ [])) ≡ flat_map f xs ++ f y

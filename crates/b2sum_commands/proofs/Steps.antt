@@ -1,12 +1,11 @@
 -- What follows when one more file or line is done.
-use Rattle.std.proofs.Common.{◌≡◌, ℕ, ◌&&◌, ◌||◌, Bool, true, false, List, [], ◌∷◌, ◌++◌, Option}
-use Rattle.std.proofs.Common.{Some, None, refl, ap, ◌∙◌, sym, subst, append_assoc, ◌+◌, ◌<◌, length}
+use Rattle.std.proofs.Common.{◌≡◌, ℕ, ◌&&◌, ◌||◌, Bool, List, [], ◌∷◌, ◌++◌, Option}
+use Rattle.std.proofs.Common.{Some, refl, ap, ◌∙◌, sym, subst, append_assoc, ◌+◌, ◌<◌, length}
 use Rattle.std.proofs.Common.{drop, get_or, add-one, drop-cons}
-use Rattle.std.specs.List.{list_all, list_any}
 use Rattle.b2sum_lines.specs.Lines.{Line}
 use Rattle.b2sum_lines.specs.declared.entry.Algorithm.{Algorithm}
 use Rattle.b2sum_lines.specs.declared.entry.Spacing.{Spacing}
-use Rattle.b2sum_commands.specs.Checks.{AreCounted, final_spacing}
+use Rattle.b2sum_commands.specs.Checks.{AreCounted}
 use Rattle.b2sum_commands.specs.Manifests.{item, items, onto_items, next_spacing, IsVerdict}
 use Rattle.b2sum_commands.specs.Manifests.{AreVerdicts, is_equal, is_fine, is_formed}
 use Rattle.b2sum_commands.specs.Manifests.{verdict_line, verdict_lines}
@@ -23,35 +22,43 @@ drop_item xs i x below is =
     rw (add-one) (drop-cons xs i x below) ∙ ap (λ y. y ∷ drop (i + 1) xs) (sym is)
 
 -- One more file follows those that are done.
-pub sum_step : (holds : List ℕ → Option (List ℕ)) (first left mid after : Option (List ℕ))
+pub sum_step : (holds : List ℕ → Option (List ℕ)) (cause : List ℕ → Type 0)
+    (first left mid after : Option (List ℕ))
     (all names : List (List ℕ)) (name : List ℕ) (sums rest : List Sum) (text : Option (List ℕ))
-    → ((rest : List Sum) (after : Option (List ℕ)) → AreSums holds left (name ∷ names) rest after
-    → AreSums holds first all (sums ++ rest) after)
-    → IsRead (is_dash name) (holds name) left mid text → AreSums holds mid names rest after
-    → AreSums holds first all ((sums ++ (record { name = name; text = text } ∷ [])) ++ rest) after
-sum_step holds first left mid after all names name sums rest text done read follows =
+    → ((rest : List Sum) (after : Option (List ℕ)) → AreSums holds cause left (name ∷ names) rest
+    after
+    → AreSums holds cause first all (sums ++ rest) after)
+    → IsRead (cause name) (is_dash name) (holds name) left mid text
+    → AreSums holds cause mid names rest after
+    → AreSums holds cause first all ((sums ++ (record { name = name; text = text } ∷ [])) ++ rest)
+    after
+sum_step holds cause first left mid after all names name sums rest text done read follows =
     let s : Sum = record { name = name; text = text } in
-    subst (λ (ss : List Sum). AreSums holds first all ss after)
+    subst (λ (ss : List Sum). AreSums holds cause first all ss after)
     (sym (append_assoc sums (s ∷ []) rest)) (done (s ∷ rest) after (mid, refl, read, follows))
 
 -- One more line has a verdict.
-pub verdict_step : (holds : List ℕ → Option (List ℕ)) (hash : ℕ → List ℕ → List ℕ) (ignores : Bool)
+pub verdict_step : (holds : List ℕ → Option (List ℕ)) (cause : ℕ → List ℕ → Type 0)
+    (hash : ℕ → List ℕ → List ℕ) (ignores : Bool)
     (a : Algorithm) (input : Bool) (s : Spacing) (first left mid after : Option (List ℕ))
     (all : List (Option Line)) (line : List ℕ) (lines : List (List ℕ)) (i : Option Line)
     (v : Verdict) (vs rest : List Verdict)
     → item a input s line ≡ Some i
     → ((rest : List Verdict) (after : Option (List ℕ))
-    → AreVerdicts holds hash ignores left (items a input s (line ∷ lines)) rest after
-    → AreVerdicts holds hash ignores first all (vs ++ rest) after)
-    → IsVerdict holds hash ignores left i v mid
-    → AreVerdicts holds hash ignores mid (items a input (next_spacing s (Some i)) lines) rest after
-    → AreVerdicts holds hash ignores first all ((vs ++ (v ∷ [])) ++ rest) after
-verdict_step holds hash ignores a input s first left mid after all line lines i v vs rest is done
+    → AreVerdicts holds cause hash ignores left (items a input s (line ∷ lines)) rest after
+    → AreVerdicts holds cause hash ignores first all (vs ++ rest) after)
+    → IsVerdict holds cause hash ignores left i v mid
+    → AreVerdicts holds cause hash ignores mid
+    (items a input (next_spacing s (Some i)) lines) rest after
+    → AreVerdicts holds cause hash ignores first all ((vs ++ (v ∷ [])) ++ rest) after
+verdict_step holds cause hash ignores a input s first left mid after all line lines i v vs rest is
+    done
     verdict follows =
-    subst (λ (xs : List Verdict). AreVerdicts holds hash ignores first all xs after)
+    subst (λ (xs : List Verdict). AreVerdicts holds cause hash ignores first all xs after)
     (sym (append_assoc vs (v ∷ []) rest))
     (done (v ∷ rest) after (subst (λ (it : Option (Option Line)).
-    AreVerdicts holds hash ignores left (onto_items it (items a input (next_spacing s it) lines))
+    AreVerdicts holds cause hash ignores left (onto_items it (items a input (next_spacing s it)
+    lines))
     (v ∷ rest) after) (sym is) (mid, verdict, follows)))
 
 -- The lines that are printed with one more verdict.

@@ -1,5 +1,5 @@
 -- The check of a manifest: its lines, what becomes of each, and when it holds.
-use Rattle.std.specs.Prelude.{◌≡◌, ◌≢◌, ℕ, ◌+◌, ◌-◌, ◌==◌, ◌&&◌, ◌||◌, Bool, true, false, not, nat_lt}
+use Rattle.std.specs.Prelude.{◌≡◌, ◌≢◌, ℕ, ◌-◌, ◌==◌, ◌&&◌, ◌||◌, Bool, true, false, not}
 use Rattle.std.specs.Prelude.{if◌then◌else◌, List, [], ◌∷◌, ◌++◌, length, take, get_or, codes}
 use Rattle.std.specs.Prelude.{Option, Some, None, is_some, position}
 use Rattle.std.specs.List.{list_any, list_all, slice_split, before_first, after_first}
@@ -13,7 +13,6 @@ use Rattle.b2sum_lines.specs.declared.entry.Style.TheVariants.{Tagged, Text, Bin
 use Rattle.b2sum_commands.specs.declared.check.Verdict.{Verdict}
 use Rattle.b2sum_commands.specs.declared.check.Verdict.TheVariants.{Equal, Different, Unread}
 use Rattle.b2sum_commands.specs.declared.check.Verdict.TheVariants.{Skipped, Malformed}
-use Rattle.b2sum_commands.specs.declared.options.Options.{Options}
 use Rattle.b2sum_commands.specs.declared.options.Report.{Report}
 use Rattle.b2sum_commands.specs.declared.options.Report.TheVariants.{Each, Warnings, Failures}
 use Rattle.b2sum_commands.specs.declared.options.Report.TheVariants.{Nothing}
@@ -94,34 +93,38 @@ items a input s (line ∷ lines) =
 -- ---- verdicts
 
 -- The verdict on an entry, or on a malformed line, is right: the digest of the text that the source
--- returned is that of the entry, or it is not.
-abbrev pub IsVerdict : (List ℕ → Option (List ℕ)) → (ℕ → List ℕ → List ℕ) → Bool
+-- returned is that of the entry, or it is not. `cause` is why a file has no digest of a length.
+abbrev pub IsVerdict : (List ℕ → Option (List ℕ)) → (ℕ → List ℕ → Type 0) → (ℕ → List ℕ → List ℕ)
+    → Bool
     → Option (List ℕ) → Option Line → Verdict → Option (List ℕ) → Type 0
-IsVerdict holds hash ignores left None Malformed after = after ≡ left
-IsVerdict holds hash ignores left None Equal after = ⊥
-IsVerdict holds hash ignores left None Different after = ⊥
-IsVerdict holds hash ignores left None Unread after = ⊥
-IsVerdict holds hash ignores left None Skipped after = ⊥
-IsVerdict holds hash ignores left (Some e) Equal after =
+IsVerdict holds cause hash ignores left None Malformed after = after ≡ left
+IsVerdict holds cause hash ignores left None Equal after = ⊥
+IsVerdict holds cause hash ignores left None Different after = ⊥
+IsVerdict holds cause hash ignores left None Unread after = ⊥
+IsVerdict holds cause hash ignores left None Skipped after = ⊥
+IsVerdict holds cause hash ignores left (Some e) Equal after =
     (text : List ℕ) × ReadsAs (is_dash e.name) (holds e.name) left after text
     × (hash (length e.digest) text ≡ e.digest)
-IsVerdict holds hash ignores left (Some e) Different after =
+IsVerdict holds cause hash ignores left (Some e) Different after =
     (text : List ℕ) × ReadsAs (is_dash e.name) (holds e.name) left after text
     × (hash (length e.digest) text ≢ e.digest)
-IsVerdict holds hash ignores left (Some e) Unread after = Leaves (is_dash e.name) left after
-IsVerdict holds hash ignores left (Some e) Skipped after =
-    (ignores ≡ true) × Leaves (is_dash e.name) left after
-IsVerdict holds hash ignores left (Some e) Malformed after = ⊥
+IsVerdict holds cause hash ignores left (Some e) Unread after =
+    Leaves (is_dash e.name) left after × cause (length e.digest) e.name
+IsVerdict holds cause hash ignores left (Some e) Skipped after =
+    (ignores ≡ true) × (is_dash e.name ≡ false) × (after ≡ left)
+    × cause (length e.digest) e.name
+IsVerdict holds cause hash ignores left (Some e) Malformed after = ⊥
 
 -- The verdicts on entries and malformed lines, one after the other: none is left out.
-abbrev pub AreVerdicts : (List ℕ → Option (List ℕ)) → (ℕ → List ℕ → List ℕ) → Bool
+abbrev pub AreVerdicts : (List ℕ → Option (List ℕ)) → (ℕ → List ℕ → Type 0) → (ℕ → List ℕ → List ℕ)
+    → Bool
     → Option (List ℕ) → List (Option Line) → List Verdict → Option (List ℕ) → Type 0
-AreVerdicts holds hash ignores left [] [] after = after ≡ left
-AreVerdicts holds hash ignores left [] (v ∷ vs) after = ⊥
-AreVerdicts holds hash ignores left (i ∷ is) [] after = ⊥
-AreVerdicts holds hash ignores left (i ∷ is) (v ∷ vs) after =
-    (mid : Option (List ℕ)) × IsVerdict holds hash ignores left i v mid
-    × AreVerdicts holds hash ignores mid is vs after
+AreVerdicts holds cause hash ignores left [] [] after = after ≡ left
+AreVerdicts holds cause hash ignores left [] (v ∷ vs) after = ⊥
+AreVerdicts holds cause hash ignores left (i ∷ is) [] after = ⊥
+AreVerdicts holds cause hash ignores left (i ∷ is) (v ∷ vs) after =
+    (mid : Option (List ℕ)) × IsVerdict holds cause hash ignores left i v mid
+    × AreVerdicts holds cause hash ignores mid is vs after
 
 -- ---- when a manifest holds
 

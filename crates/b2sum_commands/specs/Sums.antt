@@ -1,6 +1,6 @@
 -- What is printed for files: a line for each that was read.
 use Rattle.std.specs.Prelude.{◌≡◌, ℕ, Bool, true, false, List, [], ◌∷◌, ◌++◌, Option, Some, None, ⊤}
-use Rattle.std.specs.Prelude.{if◌then◌else◌}
+use Rattle.std.specs.Prelude.{if◌then◌else◌, ◌⊎◌, ◌||◌}
 use Rattle.std.specs.Str.{bytes_eq}
 use Rattle.blake2_replay.specs.Streams.{GivesAll}
 use Rattle.b2sum_lines.specs.Lines.{Line, entry_line, plain_line}
@@ -22,6 +22,29 @@ abbrev pub Leaves : Bool → Option (List ℕ) → Option (List ℕ) → Type 0
 Leaves true left after = ⊤
 Leaves false left after = after ≡ left
 
+-- Standard input cannot be read: a read of it failed, or its digest is rejected. Another file
+-- cannot be read: it is not opened, a read of an open file failed, or its digest is rejected.
+abbrev pub CannotRead : {F : Type 0} → (F → Bool) → Bool → Bool → Bool → F → Type 0
+CannotRead failed rejects refuses true input = (failed input || rejects) ≡ true
+CannotRead {F} failed rejects refuses false input =
+    (refuses ≡ true) ⊎ ((file : F) × ((failed file || rejects) ≡ true))
+
+-- The file of a name cannot be read, or its digest of this many bytes is rejected.
+abbrev pub CannotSum : {F : Type 0} → (F → Bool) → (Options → ℕ → Bool) → (List ℕ → Bool)
+    → Options → ℕ → List ℕ → Type 0
+CannotSum {F} failed rejects refuses o bytes name =
+    (input : F) × CannotRead failed (rejects o bytes) (refuses name) (is_dash name) input
+
+-- A manifest on standard input was not read to its end: a read failed. Another one was not opened,
+-- or a read failed.
+abbrev pub CannotGet : {F : Type 0} → (F → Bool) → Bool → Bool → Type 0
+CannotGet {F} failed refuses true = (file : F) × (failed file ≡ true)
+CannotGet {F} failed refuses false = (refuses ≡ true) ⊎ ((file : F) × (failed file ≡ true))
+
+-- The manifest of a name was not read to its end.
+abbrev pub CannotCheck : {F : Type 0} → (F → Bool) → (List ℕ → Bool) → List ℕ → Type 0
+CannotCheck failed refuses name = CannotGet failed (refuses name) (is_dash name)
+
 -- What became of a file: the text that was read, or none if it cannot be read.
 pub record Sum : Type 0 where
   pub name : List ℕ
@@ -36,21 +59,21 @@ has_text (Some text) = true
 abbrev pub was_read : Sum → Bool
 was_read s = has_text s.text
 
--- The text that was read, if one was, is what the source returned.
-abbrev pub IsRead : Bool → Option (List ℕ) → Option (List ℕ) → Option (List ℕ)
+-- The text that was read, if one was, is what the source returned. If none was, there is a cause.
+abbrev pub IsRead : Type 0 → Bool → Option (List ℕ) → Option (List ℕ) → Option (List ℕ)
     → Option (List ℕ) → Type 0
-IsRead input held left after None = Leaves input left after
-IsRead input held left after (Some text) = ReadsAs input held left after text
+IsRead cause input held left after None = Leaves input left after × cause
+IsRead cause input held left after (Some text) = ReadsAs input held left after text
 
--- What became of the files of these names, one after the other.
-abbrev pub AreSums : (List ℕ → Option (List ℕ)) → Option (List ℕ) → List (List ℕ) → List Sum
-    → Option (List ℕ) → Type 0
-AreSums holds left [] [] after = after ≡ left
-AreSums holds left [] (s ∷ sums) after = ⊥
-AreSums holds left (n ∷ names) [] after = ⊥
-AreSums holds left (n ∷ names) (s ∷ sums) after =
-    (mid : Option (List ℕ)) × (s.name ≡ n) × IsRead (is_dash n) (holds n) left mid s.text
-    × AreSums holds mid names sums after
+-- What became of the files of these names, one after the other. `cause` is why a file is not read.
+abbrev pub AreSums : (List ℕ → Option (List ℕ)) → (List ℕ → Type 0) → Option (List ℕ)
+    → List (List ℕ) → List Sum → Option (List ℕ) → Type 0
+AreSums holds cause left [] [] after = after ≡ left
+AreSums holds cause left [] (s ∷ sums) after = ⊥
+AreSums holds cause left (n ∷ names) [] after = ⊥
+AreSums holds cause left (n ∷ names) (s ∷ sums) after =
+    (mid : Option (List ℕ)) × (s.name ≡ n) × IsRead (cause n) (is_dash n) (holds n) left mid s.text
+    × AreSums holds cause mid names sums after
 
 -- The line of an entry with its end: a newline, or a zero byte after a name as it is.
 abbrev pub ended_line : Bool → Line → List ℕ

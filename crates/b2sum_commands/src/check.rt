@@ -1,13 +1,16 @@
 //! The check of manifests.
 
-ghost use Rattle.std.specs.Prelude.{◌≡◌, ◌≢◌, ◌⊎◌, ℕ, ◌<◌, ◌≤◌, ◌^◌, ◌&&◌, ◌||◌, ◌∷◌, List, Option, Some, None};
+ghost use Rattle.std.specs.Prelude.{◌≡◌, ◌≢◌, ◌⊎◌, ℕ, ◌<◌, ◌≤◌, ◌^◌, ◌&&◌, ◌||◌, ◌∷◌, List, Option};
+ghost use Rattle.std.specs.Prelude.{Some, None};
 ghost use Rattle.std.specs.Prelude.{◌++◌, length, not, true, false, IfOk, IfSome, OnOk};
 ghost use Rattle.std.specs.Io.KnownBytes.{Appends, Consumes, IsAtEnd};
 ghost use Rattle.std.specs.List.{list_any, list_all};
 ghost use Rattle.std.specs.Option.{option_map};
 ghost use Rattle.b2sum_lines.specs.Entries.{entry_value};
-ghost use Rattle.b2sum_commands.specs.Sums.{is_dash};
-ghost use Rattle.b2sum_commands.specs.Manifests.{lines_of, cut_at, trimmed, item, items, spacing_after};
+ghost use Rattle.b2sum_commands.specs.Sums.{is_dash, CannotRead, CannotSum, CannotCheck};
+ghost use Rattle.b2sum_commands.specs.Sums.{CannotGet};
+ghost use Rattle.b2sum_commands.specs.Manifests.{lines_of, cut_at, trimmed, item, items};
+ghost use Rattle.b2sum_commands.specs.Manifests.{spacing_after};
 ghost use Rattle.b2sum_commands.specs.Manifests.{IsVerdict, AreVerdicts, is_equal, is_fine};
 ghost use Rattle.b2sum_commands.specs.Manifests.{is_formed, holds_by, outcome, with_name};
 ghost use Rattle.b2sum_commands.specs.Manifests.{verdict_line, verdict_lines, shown_name};
@@ -15,7 +18,8 @@ ghost use Rattle.b2sum_commands.specs.Checks.{item_value, IfListed, final_spacin
 ghost use Rattle.b2sum_commands.specs.Checks.{IsChecked, IsDone, IsText};
 ghost use Rattle.b2sum_commands.specs.declared.check.Verdict.TheVariants.{Equal, Different};
 ghost use Rattle.b2sum_commands.specs.declared.check.Verdict.TheVariants.{Skipped, Malformed};
-ghost use Rattle.b2sum_commands.specs.declared.sums.Read.TheVariants.{Whole, Missing};
+ghost use Rattle.b2sum_commands.specs.declared.check.Verdict.TheVariants.{Unread};
+ghost use Rattle.b2sum_commands.specs.declared.sums.Read.TheVariants.{Whole, Missing, Failed};
 
 use crate::devices::{Disk, Fault, OpenFile, Output, put};
 use crate::hashes::Hashes;
@@ -139,7 +143,9 @@ pub fn check_manifest<H: Hashes, D: Disk, K: Output, E: Sink>(
 ) -> Result<bool, Fault>
     requires room { 0 < length buffer.old }
     requires most { length buffer.old ≤ 2 ^ 24 }
-    ensures checked { IfOk result (λ holds. IsChecked (D.holds disk.now) H.digest options.now
+    ensures checked { IfOk result (λ holds. IsChecked (D.holds disk.now)
+        (CannotCheck D.File.failed (D.refuses disk.now))
+        (CannotSum D.File.failed H.rejects (D.refuses disk.now)) H.digest options.now
         name.now spacing.old spacing.new (D.File.left input.old) (D.File.left input.new)
         (K.held output.old) (K.held output.new) holds) }
 {
@@ -186,6 +192,10 @@ fn read_manifest<D: Disk, E: Sink>(
     messages: &mut E,
 ) -> Result<Option<Manifest>, Fault>
     requires room { 0 < length buffer.old }
+    ensures none { IfOk result (λ found. found ≡ None → CannotGet D.File.failed
+        (D.refuses disk.now name.now) (is_dash name.now)) }
+    ensures part { IfOk result (λ found. IfSome found (λ m. m.is_whole ≡ false
+        → CannotGet D.File.failed (D.refuses disk.now name.now) (is_dash name.now))) }
     ensures text { IfOk result (λ found. IfSome found (λ m. m.is_whole ≡ true
         → IsText (is_dash name.now) (D.holds disk.now name.now)
         (D.File.left input.old) (D.File.left input.new) m.text.items)) }
@@ -215,13 +225,14 @@ fn title_of(name: &[u8]) -> &[u8] {
     }
 }
 
-// Reads the source to its end. Returns whether no read failed.
+// Reads the source to its end. Returns whether no read failed. The error is `Fault::NoMemory`.
 fn read_whole<S: Source>(
     source: &mut S,
     buffer: &mut [u8],
     text: &mut Vec<u8>,
 ) -> Result<bool, Fault>
     requires room { 0 < length buffer.old }
+    ensures part { IfOk result (λ is_whole. is_whole ≡ false → S.failed source.new ≡ true) }
     ensures whole { IfOk result (λ is_whole. is_whole ≡ true → (more : List ℕ)
         × (text.new.items ≡ text.old.items ++ more)
         × Consumes (S.left source.old) (S.left source.new) more
@@ -236,7 +247,7 @@ fn read_whole<S: Source>(
         }
         text.extend_from_slice(&buffer[..count])?;
     }
-    Ok(false)
+    Err(Fault::NoMemory)
 }
 
 // Checks each line of a manifest's text, and prints what became of the entries.
@@ -257,7 +268,9 @@ fn check_lines<H: Hashes, D: Disk, K: Output, E: Sink>(
     requires room { 0 < length buffer.old }
     requires most { length buffer.old ≤ 2 ^ 24 }
     ensures lines { IfOk result (λ counts. (vs : List Verdict)
-        × AreVerdicts (D.holds disk.now) (H.digest options.now) options.now.ignores_missing
+        × AreVerdicts (D.holds disk.now)
+        (CannotSum D.File.failed H.rejects (D.refuses disk.now) options.now)
+        (H.digest options.now) options.now.ignores_missing
         (D.File.left input.old)
         (items options.now.algorithm is_input spacing.old (lines_of text.now)) vs
         (D.File.left input.new)
@@ -313,7 +326,9 @@ fn check_item<H: Hashes, D: Disk, K: Output, E: Sink>(
     requires room { 0 < length buffer.old }
     requires most { length buffer.old ≤ 2 ^ 24 }
     requires fits { IfListed item.now (λ e. length e.digest.items ≤ 64) }
-    ensures { OnOk result (IsDone (D.holds disk.now) (H.digest options.now) options.now
+    ensures { OnOk result (IsDone (D.holds disk.now)
+        (CannotSum D.File.failed H.rejects (D.refuses disk.now) options.now)
+        (H.digest options.now) options.now
         (item_value item.now) spacing.old spacing.new (D.File.left input.old)
         (D.File.left input.new) (K.held output.old) (K.held output.new) counts.old counts.new) }
 {
@@ -345,7 +360,7 @@ fn split_line(text: &[u8]) -> (&[u8], &[u8])
 
 // Returns what is before the first such byte, and what is after it, or `None` if there is no such
 // byte.
-fn split_once(text: &[u8], byte: u8) -> Option<(&[u8], &[u8])>
+pub(crate) fn split_once(text: &[u8], byte: u8) -> Option<(&[u8], &[u8])>
     ensures { option_map (λ parts. (parts.0.now, parts.1.now)) result ≡ cut_at byte text.now }
 {
     let place = text.iter().position(|b| *b == byte)?;
@@ -427,9 +442,13 @@ fn check_entry<H: Hashes, D: Disk, K: Output, E: Sink>(
     requires room { 0 < length buffer.old }
     requires most { length buffer.old ≤ 2 ^ 24 }
     requires digest { length entry.now.digest.items ≤ 64 }
-    ensures verdict { IfOk result (λ v. IsVerdict (D.holds disk.now) (H.digest options.now)
+    ensures verdict { IfOk result (λ v. IsVerdict (D.holds disk.now)
+        (CannotSum D.File.failed H.rejects (D.refuses disk.now) options.now) (H.digest options.now)
         options.now.ignores_missing (D.File.left input.old) (Some (entry_value entry.now)) v
         (D.File.left input.new)) }
+    ensures unread { IfOk result (λ v. (v ≡ Unread) ⊎ (v ≡ Skipped) → CannotRead D.File.failed
+        (H.rejects options.now (length entry.now.digest.items))
+        (D.refuses disk.now entry.now.name.items) (is_dash entry.now.name.items) input.new) }
     ensures line { IfOk result (λ v. Appends (K.held output.old) (K.held output.new)
         (verdict_line options.now.report (Some (entry_value entry.now)) v)) }
 {
@@ -465,6 +484,7 @@ fn verdict_of(read: Read, digest: &[u8], listed: &[u8]) -> Verdict
     ensures equal { result ≡ Equal → digest.now ≡ listed.now }
     ensures different { result ≡ Different → digest.now ≢ listed.now }
     ensures skipped { result ≡ Skipped → read ≡ Missing }
+    ensures unread { result ≡ Unread → read ≡ Failed }
     ensures formed { result ≢ Malformed }
 {
     match read {

@@ -1,7 +1,9 @@
 //! Files by name, and what is printed where.
 
-ghost use Rattle.std.specs.Prelude.{◌≡◌, ℕ, List, Option, false, IfOk, IsErr, IsTrue, OnOk, ◌↔◌};
+ghost use Rattle.std.specs.Prelude.{◌≡◌, ℕ, List, Option, Bool, true, false, IfOk, IsErr, IsTrue};
+ghost use Rattle.std.specs.Prelude.{OnOk, ◌↔◌};
 ghost use Rattle.std.specs.Io.KnownBytes.{Appends};
+ghost use Rattle.b2sum_commands.specs.Runs.{EndsWith};
 
 use blake2_replay::engine::{DeviceError, Sink, Source, write_whole};
 use std::alloc::{AllocError, Global};
@@ -27,11 +29,15 @@ pub trait Disk {
     // The bytes of standard input, if the disk says which.
     ghost input_holds: { Self → Option (List ℕ) };
 
+    // The file of a name may not be opened.
+    ghost refuses: { Self → List ℕ → Bool };
+
     /// An open file.
     type File: OpenFile + Drop;
 
     /// Opens the file of this name for reading. The error says why it cannot be opened.
     fn open(&self, alloc: Global, name: &[u8]) -> io::Result<Self::File>
+        ensures refused { IsErr result → refuses self.now name.now ≡ true }
         ensures bytes { IfOk result (λ file. Self.File.left file ≡ holds self.now name.now) }
         ensures unfailed { IfOk result (λ file. Self.File.failed file ≡ false) };
 
@@ -64,7 +70,8 @@ impl From<DeviceError> for Fault {
 
 /// Writes the text, if the sink has not failed before.
 pub(crate) fn put<K: Sink>(sink: &mut K, text: &[u8]) -> Result<(), DeviceError>
-    ensures { OnOk result (Appends (K.held sink.old) (K.held sink.new) text.now) }
+    ensures fails { IsErr result → K.failed sink.new ≡ true }
+    ensures whole { OnOk result (Appends (K.held sink.old) (K.held sink.new) text.now) }
 {
     if sink.failed() {
         return Err(DeviceError);
@@ -73,6 +80,8 @@ pub(crate) fn put<K: Sink>(sink: &mut K, text: &[u8]) -> Result<(), DeviceError>
 }
 
 /// Writes a message, and leaves a failure to the sink.
-pub(crate) fn tell<E: Sink>(sink: &mut E, text: &[u8]) {
+pub(crate) fn tell<E: Sink>(sink: &mut E, text: &[u8])
+    ensures { EndsWith E.held E.failed sink.new text.now }
+{
     let _ = put(sink, text);
 }

@@ -1,7 +1,7 @@
 //! The hash functions, which the program passes to the commands.
 
 ghost use Rattle.std.specs.Prelude.{◌≡◌, ◌↔◌, ℕ, ◌<◌, ◌≤◌, ◌^◌, List, length, take, IsTrue, OnOk};
-ghost use Rattle.std.specs.Prelude.{false};
+ghost use Rattle.std.specs.Prelude.{Bool, true, false, ◌||◌, IsErr};
 ghost use Rattle.std.specs.Result.{IsErrOf};
 ghost use Rattle.blake2_replay.specs.Streams.{GivesAll};
 
@@ -14,6 +14,9 @@ pub trait Hashes {
 
     // The digest of this many bytes of a text, by the algorithm and the parameters of the options.
     ghost digest: { Options → ℕ → List ℕ → List ℕ };
+
+    // A digest of this many bytes may be refused by these options, or for the length of a text.
+    ghost rejects: { Options → ℕ → Bool };
 
     /// Writes the digest of all that the source returns at the front of `out`. The digest has
     /// `bytes` bytes, 1 to the most that the algorithm has. The source is read in pieces of the
@@ -32,6 +35,8 @@ pub trait Hashes {
         requires room { 0 < length buffer.old }
         requires most { length buffer.old ≤ 2 ^ 24 }
         ensures read { IsErrOf result StreamFault.Read ↔ IsTrue (S.failed source.new) }
+        ensures refused { IsErr result
+            → (S.failed source.new || rejects options.now bytes) ≡ true }
         ensures whole { OnOk result ((text : List ℕ)
             × GivesAll (S.left source.old) (S.left source.new) text
             × (take bytes out.new ≡ digest options.now bytes text)) };

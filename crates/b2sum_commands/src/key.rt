@@ -1,6 +1,7 @@
 //! The key of digests, from a file.
 
-ghost use Rattle.std.specs.Prelude.{◌<◌, length};
+ghost use Rattle.std.specs.Prelude.{◌≡◌, ◌<◌, length, None, IfOk};
+ghost use Rattle.b2sum_commands.specs.Runs.{IsTold};
 
 use crate::devices::{Disk, Fault, OpenFile};
 use crate::texts::{warn_of_file, warn_of_name};
@@ -15,7 +16,9 @@ pub(crate) fn read_key<D: Disk, E: Sink>(
     name: &[u8],
     most: usize,
     messages: &mut E,
-) -> Result<Option<Vec<u8>>, Fault> {
+) -> Result<Option<Vec<u8>>, Fault>
+    ensures { IfOk result (λ key. key ≡ None → IsTold E.held E.failed messages.new) }
+{
     let mut file = match disk.open(alloc, name) {
         Ok(file) => file,
         Err(error) => {

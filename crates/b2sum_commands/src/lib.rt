@@ -12,6 +12,7 @@ mod program;
 mod quoting;
 mod sums;
 mod texts;
+mod values;
 
 pub use check::{Counts, Verdict, check_manifest};
 pub use devices::{Disk, Fault, OpenFile, Output};

@@ -1,10 +1,32 @@
 //! The options of the command line.
 
-ghost use Rattle.std.specs.Prelude.{◌≤◌, IfOk};
+ghost use Rattle.std.specs.Prelude.{◌≡◌, ◌≢◌, ◌⊎◌, ◌*◌, ◌≤◌, length, true, false, None};
+ghost use Rattle.std.specs.Prelude.{◌↔◌, ◌<◌, ◌/◌, ◌%◌, IfOk, IfSome, IsOk, OnOk, Some};
+ghost use Rattle.b2sum_lines.specs.Lines.{max_bytes, is_tree};
+ghost use Rattle.b2sum_lines.specs.declared.entry.Algorithm.TheVariants.{Blake2b, Blake2s, Tree};
+ghost use Rattle.b2sum_lines.specs.declared.entry.Style.TheVariants.{Tagged, Text, Binary};
+ghost use Rattle.b2sum_commands.specs.declared.options.Report.TheVariants.{Each};
+ghost use Rattle.b2sum_commands.specs.Fitting.{AreFit};
+ghost use Rattle.b2sum_commands.specs.Flags.{long_name, has_value, letter_flag};
+ghost use Rattle.std.specs.Prelude.{Ok, IfErr, ◌++◌, ◌∷◌, [], map, is_none, nat_eq};
+ghost use Rattle.std.specs.List.{starts_with, find, count_by};
+ghost use Rattle.std.specs.Str.{bytes_eq};
+ghost use Rattle.b2sum_commands.specs.CommandLine.{set_flag, set_value, no_choice, all_flags};
+ghost use Rattle.b2sum_commands.specs.CommandLine.{flag_named, value_or_next, read_letters};
+ghost use Rattle.b2sum_commands.specs.CommandLine.{read_alone, read_with, read_long, read_any};
+ghost use Rattle.b2sum_commands.specs.CommandLine.{read_next, reading};
+ghost use Rattle.b2sum_commands.specs.Accepted.{accepted, has_length, has_labels, goes_together};
+ghost use Rattle.b2sum_commands.specs.Accepted.{goes_with_check, goes_with_sums, chosen_style};
+ghost use Rattle.b2sum_commands.specs.Accepted.{with_leaf, AreOptions, AreArguments, command_line};
+ghost use Rattle.b2sum_commands.specs.Readers.{choice_of, next_of, state_of, StopsBy, IsWrong};
+ghost use Rattle.b2sum_commands.specs.Readers.{IsUnfit};
+ghost use Rattle.b2sum_commands.specs.declared.options.Stop.TheVariants.{NoMemory};
+ghost use Rattle.b2sum_commands.specs.declared.options.Next.TheVariants.{Any};
 
+use crate::check::split_once;
 use crate::quoting::quoted_value;
+use crate::values::{algorithm_of, bits_of, bytes_of, leaf_of};
 use b2sum_lines::{Algorithm, Style};
-use hex::FromHexError;
 use std::alloc::{AllocError, Global};
 
 /// What a check prints.
@@ -73,6 +95,8 @@ pub(crate) enum Stop {
 }
 
 impl From<AllocError> for Stop {
+    ghost from_gives = { λ _ stop. stop ≡ NoMemory };
+
     fn from(_: AllocError) -> Stop {
         Stop::NoMemory
     }
@@ -102,7 +126,10 @@ enum Flag {
 }
 
 impl Flag {
-    fn name(self) -> &'static [u8] {
+    // Returns the name of the long option.
+    fn name(self) -> &'static [u8]
+        ensures { result.now ≡ long_name self }
+    {
         match self {
             Flag::Algorithm => b"algorithm",
             Flag::Length => b"length",
@@ -126,7 +153,10 @@ impl Flag {
         }
     }
 
-    fn has_value(self) -> bool {
+    // Returns whether the option has a value.
+    fn has_value(self) -> bool
+        ensures { result ≡ has_value self }
+    {
         matches!(
             self,
             Flag::Algorithm
@@ -138,7 +168,10 @@ impl Flag {
         )
     }
 
-    fn from_letter(letter: u8) -> Option<Flag> {
+    // Returns the option of this letter, or `None` if there is none.
+    fn from_letter(letter: u8) -> Option<Flag>
+        ensures { result ≡ letter_flag letter }
+    {
         match letter {
             b'a' => Some(Flag::Algorithm),
             b'l' => Some(Flag::Length),
@@ -176,7 +209,9 @@ static FLAGS: [Flag; 19] = [
 ];
 
 // Joins the parts.
-fn joined(alloc: Global, a: &[u8], b: &[u8], c: &[u8]) -> Result<Vec<u8>, AllocError> {
+pub(crate) fn joined(alloc: Global, a: &[u8], b: &[u8], c: &[u8]) -> Result<Vec<u8>, AllocError>
+    ensures { IfOk result (λ text. text.items ≡ a.now ++ (b.now ++ c.now)) }
+{
     let mut text = Vec::new(alloc);
     text.extend_from_slice(a)?;
     text.extend_from_slice(b)?;
@@ -204,7 +239,9 @@ struct Reader {
 }
 
 impl Reader {
-    fn new(alloc: Global) -> Reader {
+    fn new(alloc: Global) -> Reader
+        ensures { choice_of result ≡ no_choice }
+    {
         Reader {
             algorithm: Algorithm::Blake2b,
             leaf: None,
@@ -224,97 +261,198 @@ impl Reader {
     }
 }
 
-/// Reads the arguments, which come without the program's name.
+// What the next word is.
+#[derive(Clone, Copy, Debug, PartialEq, Eq)]
+enum Next {
+    /// An option or a file.
+    Any,
+    /// The value of this option, and the letter that named it if that was one.
+    Awaited(Flag, Option<u8>),
+    /// A file, whatever it begins with.
+    File,
+}
+
+/// Reads the arguments, which come without the program's name. The result is what the command line
+/// means as `command_line` of `specs/Accepted.antt` defines it: options and files, or why there are
+/// none. The error is `Stop::NoMemory` if an allocation failed.
 pub(crate) fn read_arguments(alloc: Global, words: &[Vec<u8>]) -> Result<Arguments, Stop>
-    ensures { IfOk result (λ a. a.options.bytes ≤ 64) }
+    ensures size { IfOk result (λ a. a.options.bytes ≤ 64) }
+    ensures fit { IfOk result (λ a. AreFit a.options) }
+    ensures arguments { IfOk result (AreArguments (map (λ word. word.items) words.now)) }
+    ensures stop { IfErr result (StopsBy (command_line (map (λ word. word.items) words.now))) }
+{
+    let (reader, files) = read_words(alloc, words)?;
+    finish(alloc, reader, files)
+}
+
+// Reads the words. Returns the options and the files.
+fn read_words(alloc: Global, words: &[Vec<u8>]) -> Result<(Reader, Vec<Vec<u8>>), Stop>
+    ensures read { IfOk result (λ read. reading (map (λ word. word.items) words.now)
+        ≡ Ok (choice_of read.0, map (λ name. name.items) read.1.items)) }
+    ensures stop { IfErr result (StopsBy (reading (map (λ word. word.items) words.now))) }
 {
     let mut reader = Reader::new(alloc);
     let mut files = Vec::new(alloc);
-    let mut at = 0;
-    let mut are_files = false;
-    'words: while at < words.len() {
-        let word = words[at].as_slice();
-        at += 1;
-        match word {
-            _ if are_files => push_copy(alloc, &mut files, word)?,
-            b"--" => are_files = true,
-            [b'-', b'-', name @ ..] => {
-                if read_long(alloc, &mut reader, name, next_word(words, at))? {
-                    at += 1;
-                }
-            }
-            [b'-', _, ..] => {
-                if read_short(alloc, &mut reader, &word[1..], next_word(words, at))? {
-                    at += 1;
-                }
-            }
-            _ => push_copy(alloc, &mut files, word)?,
-        }
+    let mut next = Next::Any;
+    for word in words {
+        next = read_word(alloc, &mut reader, &mut files, next, word.as_slice())?;
+    }
+    if let Next::Awaited(flag, letter) = next {
+        return Err(Stop::Usage(missing_value(alloc, flag, letter)?));
     }
     if files.is_empty() {
         push_copy(alloc, &mut files, b"-")?;
     }
-    finish(alloc, reader, files)
+    Ok((reader, files))
 }
 
-fn next_word(words: &[Vec<u8>], at: usize) -> Option<&[u8]> {
-    if at < words.len() {
-        Some(words[at].as_slice())
-    } else {
-        None
+// Returns the message of an option without its value.
+fn missing_value(alloc: Global, flag: Flag, letter: Option<u8>) -> Result<Vec<u8>, AllocError> {
+    match letter {
+        Some(letter) => joined(alloc, b"option requires an argument -- '", &[letter], b"'"),
+        None => joined(alloc, b"option '--", flag.name(), b"' requires an argument"),
     }
 }
 
-// Reads a word of short options. Returns whether it used the next word.
-fn read_short(
+// Reads a word. Returns what the one after it is.
+fn read_word(
     alloc: Global,
     reader: &mut Reader,
-    letters: &[u8],
-    next: Option<&[u8]>,
-) -> Result<bool, Stop> {
+    files: &mut Vec<Vec<u8>>,
+    next: Next,
+    word: &[u8],
+) -> Result<Next, Stop>
+    ensures read { IfOk result (λ after.
+        read_next (next_of next) (state_of reader.old (map (λ f. f.items) files.old.items) next)
+        word.now ≡ Ok (state_of reader.new (map (λ f. f.items) files.new.items) after)) }
+    ensures stop { IfErr result (StopsBy (read_next (next_of next)
+        (state_of reader.old (map (λ f. f.items) files.old.items) next) word.now)) }
+{
+    match next {
+        Next::Any => read_any(alloc, reader, files, word),
+        Next::Awaited(flag, _) => {
+            take_value(alloc, reader, flag, word)?;
+            Ok(Next::Any)
+        }
+        Next::File => {
+            push_copy(alloc, files, word)?;
+            Ok(Next::File)
+        }
+    }
+}
+
+// Reads an option or a file. Returns what the word after it is.
+fn read_any(
+    alloc: Global,
+    reader: &mut Reader,
+    files: &mut Vec<Vec<u8>>,
+    word: &[u8],
+) -> Result<Next, Stop>
+    ensures read { IfOk result (λ after.
+        read_any (state_of reader.old (map (λ f. f.items) files.old.items) Any) word.now
+        ≡ Ok (state_of reader.new (map (λ f. f.items) files.new.items) after)) }
+    ensures stop { IfErr result (StopsBy
+        (read_any (state_of reader.old (map (λ f. f.items) files.old.items) Any) word.now)) }
+{
+    if word == b"--".as_slice() {
+        return Ok(Next::File);
+    }
+    if word.starts_with(b"--".as_slice()) {
+        return read_long(alloc, reader, &word[2..]);
+    }
+    if word.starts_with(b"-".as_slice()) && word != b"-".as_slice() {
+        return read_short(alloc, reader, &word[1..]);
+    }
+    push_copy(alloc, files, word)?;
+    Ok(Next::Any)
+}
+
+// Reads the letters of a word of short options. Returns what the next word is.
+fn read_short(alloc: Global, reader: &mut Reader, letters: &[u8]) -> Result<Next, Stop>
+    ensures read { IfOk result (λ next. read_letters (choice_of reader.old) letters.now
+        ≡ Ok (choice_of reader.new, next_of next)) }
+    ensures stop { IfErr result (StopsBy (read_letters (choice_of reader.old) letters.now)) }
+{
     for (i, letter) in letters.iter().enumerate() {
         let Some(flag) = Flag::from_letter(*letter) else {
             return Err(Stop::Usage(joined(alloc, b"invalid option -- '", &[*letter], b"'")?));
         };
-        if !flag.has_value() {
-            take_flag(reader, flag)?;
-            continue;
+        if flag.has_value() {
+            return take_rest(alloc, reader, flag, *letter, &letters[i + 1..]);
         }
-        let rest = &letters[i + 1..];
-        if !rest.is_empty() {
-            take_value(alloc, reader, flag, rest)?;
-            return Ok(false);
-        }
-        let Some(value) = next else {
-            let text = b"option requires an argument -- '";
-            return Err(Stop::Usage(joined(alloc, text, &[*letter], b"'")?));
-        };
-        take_value(alloc, reader, flag, value)?;
-        return Ok(true);
+        take_flag(reader, flag)?;
     }
-    Ok(false)
+    Ok(Next::Any)
+}
+
+// Takes an option that has a value, which the rest of the word is, or the next word if that is
+// empty.
+fn take_rest(
+    alloc: Global,
+    reader: &mut Reader,
+    flag: Flag,
+    letter: u8,
+    rest: &[u8],
+) -> Result<Next, Stop>
+    ensures read { IfOk result (λ next. value_or_next (choice_of reader.old) flag rest.now
+        ≡ Ok (choice_of reader.new, next_of next)) }
+    ensures stop { IfErr result (StopsBy (value_or_next (choice_of reader.old) flag rest.now)) }
+{
+    if rest.is_empty() {
+        return Ok(Next::Awaited(flag, Some(letter)));
+    }
+    take_value(alloc, reader, flag, rest)?;
+    Ok(Next::Any)
 }
 
 // Returns the long option that the name means: the one of this name, or the only one that begins
 // with it.
-fn long_flag(alloc: Global, name: &[u8], word: &[u8]) -> Result<Flag, Stop> {
-    let mut found = None;
-    let mut count = 0u64;
-    for flag in &FLAGS {
-        if flag.name() == name {
-            return Ok(*flag);
-        }
-        if flag.name().starts_with(name) {
-            count = count.saturating_add(1);
-            found = Some(*flag);
-        }
+fn long_flag(alloc: Global, name: &[u8], word: &[u8]) -> Result<Flag, Stop>
+    ensures flag { IfOk result (λ flag. flag_named name.now ≡ Some flag) }
+    ensures stop { IfErr result (IsWrong (flag_named name.now)) }
+{
+    if let Some(flag) = exact_flag(name) {
+        return Ok(flag);
     }
-    let Some(flag) = found else {
+    let count = beginning_flags(name);
+    let Some(flag) = first_beginning(name) else {
         return Err(Stop::Usage(joined(alloc, b"unrecognized option '--", word, b"'")?));
     };
     if count == 1 {
         return Ok(flag);
     }
+    Err(Stop::Usage(ambiguous(alloc, name, word)?))
+}
+
+// Returns the option of this long name.
+fn exact_flag(name: &[u8]) -> Option<Flag>
+    ensures { result ≡ find (λ f. bytes_eq (long_name f) name.now) all_flags }
+{
+    FLAGS.iter().copied().find(|flag| flag.name() == name)
+}
+
+// Returns the first option whose long name begins with these bytes.
+fn first_beginning(name: &[u8]) -> Option<Flag>
+    ensures { result ≡ find (λ f. starts_with nat_eq (long_name f) name.now) all_flags }
+{
+    FLAGS
+        .iter()
+        .copied()
+        .find(|flag| flag.name().starts_with(name))
+}
+
+// Returns the number of options whose long names begin with these bytes.
+fn beginning_flags(name: &[u8]) -> usize
+    ensures { result ≡ count_by (λ f. starts_with nat_eq (long_name f) name.now) all_flags }
+{
+    FLAGS
+        .iter()
+        .filter(|flag| flag.name().starts_with(name))
+        .count()
+}
+
+// Returns the message of a name with which several long options begin.
+fn ambiguous(alloc: Global, name: &[u8], word: &[u8]) -> Result<Vec<u8>, AllocError> {
     let mut text = joined(
         alloc,
         b"option '--",
@@ -328,42 +466,61 @@ fn long_flag(alloc: Global, name: &[u8], word: &[u8]) -> Result<Flag, Stop> {
             text.extend_from_slice(b"'")?;
         }
     }
-    Err(Stop::Usage(text))
+    Ok(text)
 }
 
-// Reads a long option. Returns whether it used the next word.
-fn read_long(
-    alloc: Global,
-    reader: &mut Reader,
-    word: &[u8],
-    next: Option<&[u8]>,
-) -> Result<bool, Stop> {
-    let mut end = 0;
-    'name: while end < word.len() && word[end] != b'=' {
-        end += 1;
-    }
-    let flag = long_flag(alloc, &word[..end], word)?;
-    if end < word.len() {
-        if !flag.has_value() {
-            let text = b"' doesn't allow an argument";
-            return Err(Stop::Usage(joined(alloc, b"option '--", flag.name(), text)?));
+// Reads the rest of a word that two hyphens begin. Returns what the next word is.
+fn read_long(alloc: Global, reader: &mut Reader, word: &[u8]) -> Result<Next, Stop>
+    ensures read { IfOk result (λ next. read_long (choice_of reader.old) word.now
+        ≡ Ok (choice_of reader.new, next_of next)) }
+    ensures stop { IfErr result (StopsBy (read_long (choice_of reader.old) word.now)) }
+{
+    match split_once(word, b'=') {
+        None => {
+            let flag = long_flag(alloc, word, word)?;
+            read_alone(reader, flag)
         }
-        take_value(alloc, reader, flag, &word[end + 1..])?;
-        return Ok(false);
+        Some((name, value)) => {
+            let flag = long_flag(alloc, name, word)?;
+            read_with(alloc, reader, flag, value)
+        }
     }
-    if !flag.has_value() {
-        take_flag(reader, flag)?;
-        return Ok(false);
-    }
-    let Some(value) = next else {
-        let text = b"' requires an argument";
-        return Err(Stop::Usage(joined(alloc, b"option '--", flag.name(), text)?));
-    };
-    take_value(alloc, reader, flag, value)?;
-    Ok(true)
 }
 
-fn take_flag(reader: &mut Reader, flag: Flag) -> Result<(), Stop> {
+// Takes a long option without a value in its word. Returns what the next word is.
+fn read_alone(reader: &mut Reader, flag: Flag) -> Result<Next, Stop>
+    ensures read { IfOk result (λ next. read_alone (choice_of reader.old) (Some flag)
+        ≡ Ok (choice_of reader.new, next_of next)) }
+    ensures stop { IfErr result (StopsBy (read_alone (choice_of reader.old) (Some flag))) }
+{
+    if flag.has_value() {
+        return Ok(Next::Awaited(flag, None));
+    }
+    take_flag(reader, flag)?;
+    Ok(Next::Any)
+}
+
+// Takes a long option with a value in its word. Returns what the next word is.
+fn read_with(alloc: Global, reader: &mut Reader, flag: Flag, value: &[u8]) -> Result<Next, Stop>
+    ensures read { IfOk result (λ next. read_with (choice_of reader.old) (Some flag) value.now
+        ≡ Ok (choice_of reader.new, next_of next)) }
+    ensures stop { IfErr result
+        (StopsBy (read_with (choice_of reader.old) (Some flag) value.now)) }
+{
+    if !flag.has_value() {
+        let text = b"' doesn't allow an argument";
+        return Err(Stop::Usage(joined(alloc, b"option '--", flag.name(), text)?));
+    }
+    take_value(alloc, reader, flag, value)?;
+    Ok(Next::Any)
+}
+
+// Takes an option that has no value.
+fn take_flag(reader: &mut Reader, flag: Flag) -> Result<(), Stop>
+    ensures taken { OnOk result
+        (set_flag flag (choice_of reader.old) ≡ Ok (choice_of reader.new)) }
+    ensures stop { IfErr result (StopsBy (set_flag flag (choice_of reader.old))) }
+{
     match flag {
         Flag::Check => reader.checks = true,
         Flag::IgnoreMissing => reader.ignores_missing = true,
@@ -385,7 +542,12 @@ fn take_flag(reader: &mut Reader, flag: Flag) -> Result<(), Stop> {
     Ok(())
 }
 
-fn take_value(alloc: Global, reader: &mut Reader, flag: Flag, value: &[u8]) -> Result<(), Stop> {
+// Takes an option and its value.
+fn take_value(alloc: Global, reader: &mut Reader, flag: Flag, value: &[u8]) -> Result<(), Stop>
+    ensures taken { OnOk result
+        (set_value flag value.now (choice_of reader.old) ≡ Ok (choice_of reader.new)) }
+    ensures stop { IfErr result (StopsBy (set_value flag value.now (choice_of reader.old))) }
+{
     match flag {
         Flag::Algorithm => reader.algorithm = algorithm_of(alloc, value)?,
         Flag::KeyFile => reader.key_file = Some(copied(alloc, value)?),
@@ -401,105 +563,16 @@ fn take_value(alloc: Global, reader: &mut Reader, flag: Flag, value: &[u8]) -> R
     Ok(())
 }
 
-// Returns the stop of a wrong value: this line and the value, and a line that says why.
-fn wrong_value(alloc: Global, line: &[u8], value: &[u8], reason: &[u8]) -> Stop {
-    let Ok(quoted) = quoted_value(alloc, value) else {
-        return Stop::NoMemory;
-    };
-    let Ok(first) = joined(alloc, line, quoted.as_slice(), b"") else {
-        return Stop::NoMemory;
-    };
-    match joined(alloc, reason, b"", b"") {
-        Ok(second) => Stop::Value(first, second),
-        Err(_) => Stop::NoMemory,
-    }
-}
-
-fn algorithm_of(alloc: Global, value: &[u8]) -> Result<Algorithm, Stop> {
-    match value {
-        b"blake2b" => Ok(Algorithm::Blake2b),
-        b"blake2s" => Ok(Algorithm::Blake2s),
-        _ => {
-            let value = quoted_value(alloc, value)?;
-            let text = joined(alloc, b"invalid algorithm: ", value.as_slice(), b"")?;
-            Err(Stop::Usage(text))
-        }
-    }
-}
-
-// Returns the bytes that hexadecimal digits write.
-fn bytes_of(alloc: Global, line: &[u8], value: &[u8]) -> Result<Vec<u8>, Stop> {
-    match hex::decode(alloc, value) {
-        Ok(bytes) => Ok(bytes),
-        Err(FromHexError::OutOfMemory) => Err(Stop::NoMemory),
-        Err(_) => {
-            let reason = b"the value is not hexadecimal digits, two for each byte";
-            Err(wrong_value(alloc, line, value, reason))
-        }
-    }
-}
-
-// Returns the number of bytes of a leaf.
-fn leaf_of(alloc: Global, value: &[u8]) -> Result<u32, Stop> {
-    match number_of(value) {
-        Ok(leaf) if leaf > 0 && leaf <= u64::from(u32::MAX) => Ok(leaf as u32),
-        _ => {
-            let reason = b"a leaf has 1 to 4294967295 bytes";
-            Err(wrong_value(alloc, b"invalid leaf length: ", value, reason))
-        }
-    }
-}
-
-// Returns the number of bits of the digests.
-fn bits_of(alloc: Global, value: &[u8]) -> Result<u64, Stop> {
-    let line = b"invalid length: ";
-    match number_of(value) {
-        Ok(bits) if bits % 8 == 0 => Ok(bits),
-        Ok(_) => Err(wrong_value(alloc, line, value, b"length is not a multiple of 8")),
-        Err(reason) => {
-            let quoted = quoted_value(alloc, value)?;
-            let first = joined(alloc, line, quoted.as_slice(), reason)?;
-            Err(Stop::Value(first, Vec::new(alloc)))
-        }
-    }
-}
-
-// Returns the number that decimal digits write, with blanks and a plus before them or none. The
-// error is what the message has after the value.
-fn number_of(text: &[u8]) -> Result<u64, &'static [u8]> {
-    let mut at = 0;
-    'blanks: while at < text.len() && (text[at] == b' ' || (9..14).contains(&text[at])) {
-        at += 1;
-    }
-    if at < text.len() && text[at] == b'+' {
-        at += 1;
-    }
-    if at == text.len() {
-        return Err(b"");
-    }
-    let mut number = 0u64;
-    let mut is_large = false;
-    for digit in &text[at..] {
-        if !digit.is_ascii_digit() {
-            return Err(b"");
-        }
-        let more = number
-            .checked_mul(10)
-            .and_then(|n| n.checked_add(u64::from(*digit - b'0')));
-        match more {
-            Some(n) => number = n,
-            None => is_large = true,
-        }
-    }
-    if is_large {
-        return Err(b": Value too large for defined data type");
-    }
-    Ok(number)
-}
-
 // Checks the options against one another.
 fn finish(alloc: Global, reader: Reader, files: Vec<Vec<u8>>) -> Result<Arguments, Stop>
-    ensures { IfOk result (λ a. a.options.bytes ≤ 64) }
+    ensures size { IfOk result (λ a. a.options.bytes ≤ 64) }
+    ensures fit { IfOk result (λ a. AreFit a.options) }
+    ensures accepted { OnOk result (accepted (choice_of reader) ≡ true) }
+    ensures options { IfOk result (λ a. AreOptions (choice_of reader) a.options) }
+    ensures no_key { IfOk result (λ a. a.options.key.items ≡ []) }
+    ensures files { IfOk result (λ a. a.files ≡ files) }
+    ensures key_file { IfOk result (λ a. a.key_file ≡ reader.key_file) }
+    ensures stop { IfErr result (IsUnfit (accepted (choice_of reader))) }
 {
     check_length(alloc, &reader)?;
     if let Some(text) = conflict(&reader) {
@@ -508,9 +581,10 @@ fn finish(alloc: Global, reader: Reader, files: Vec<Vec<u8>>) -> Result<Argument
     check_labels(alloc, &reader)?;
     let bytes = output_bytes(&reader);
     let style = style_of(&reader);
+    let chosen = chosen_algorithm(&reader);
     let Reader {
-        algorithm,
-        leaf,
+        algorithm: _,
+        leaf: _,
         bits: _,
         bits_text: _,
         key_file,
@@ -525,10 +599,7 @@ fn finish(alloc: Global, reader: Reader, files: Vec<Vec<u8>>) -> Result<Argument
         is_strict,
     } = reader;
     let options = Options {
-        algorithm: match leaf {
-            Some(leaf) => Algorithm::Tree(leaf),
-            None => algorithm,
-        },
+        algorithm: chosen,
         bytes,
         key: Vec::new(alloc),
         salt,
@@ -547,9 +618,28 @@ fn finish(alloc: Global, reader: Reader, files: Vec<Vec<u8>>) -> Result<Argument
     })
 }
 
+// Returns the algorithm, with the leaves of a tree.
+fn chosen_algorithm(reader: &Reader) -> Algorithm
+    ensures is { result ≡ with_leaf reader.now.algorithm reader.now.leaf }
+    ensures most { (reader.now.leaf ≢ None → reader.now.algorithm ≢ Blake2s)
+        → max_bytes result ≡ max_bytes reader.now.algorithm }
+    ensures leaf { is_tree result ≡ false → reader.now.leaf ≡ None }
+    ensures plain { reader.now.leaf ≡ None → result ≡ reader.now.algorithm }
+    ensures tree { IfSome reader.now.leaf (λ leaf. result ≡ Tree leaf) }
+{
+    match reader.leaf {
+        Some(leaf) => Algorithm::Tree(leaf),
+        None => reader.algorithm,
+    }
+}
+
 // Returns the number of bytes of the digests that are printed, at most 64.
 fn output_bytes(reader: &Reader) -> usize
-    ensures { result ≤ 64 }
+    ensures size { result ≤ 64 }
+    ensures most { result ≤ max_bytes reader.now.algorithm }
+    ensures whole { reader.now.bits ≡ 0 → result ≡ max_bytes reader.now.algorithm }
+    ensures given { reader.now.bits ≢ 0 → reader.now.bits ≤ 8 * max_bytes reader.now.algorithm
+        → result ≡ reader.now.bits / 8 }
 {
     let most = reader.algorithm.max_bytes();
     if reader.bits == 0 {
@@ -559,7 +649,17 @@ fn output_bytes(reader: &Reader) -> usize
     }
 }
 
-fn style_of(reader: &Reader) -> Style {
+fn style_of(reader: &Reader) -> Style
+    ensures is { result ≡ chosen_style (choice_of reader.now) }
+    ensures tagged { reader.now.leaf ≢ None → result ≡ Tagged }
+    ensures text { reader.now.leaf ≡ None → reader.now.is_tagged ≡ false
+        → reader.now.is_binary ≡ None → result ≡ Text }
+    ensures tags { reader.now.is_tagged ≡ true → result ≡ Tagged }
+    ensures binary { reader.now.leaf ≡ None → reader.now.is_tagged ≡ false
+        → reader.now.is_binary ≡ Some true → result ≡ Binary }
+    ensures plain { reader.now.leaf ≡ None → reader.now.is_tagged ≡ false
+        → reader.now.is_binary ≢ Some true → result ≡ Text }
+{
     if reader.is_tagged || reader.leaf.is_some() {
         Style::Tagged
     } else if reader.is_binary == Some(true) {
@@ -570,7 +670,11 @@ fn style_of(reader: &Reader) -> Style {
 }
 
 // Refuses a length that the algorithm does not have.
-fn check_length(alloc: Global, reader: &Reader) -> Result<(), Stop> {
+fn check_length(alloc: Global, reader: &Reader) -> Result<(), Stop>
+    ensures length { OnOk result (has_length (choice_of reader.now) ≡ true) }
+    ensures bits { OnOk result (reader.now.bits ≤ 8 * max_bytes reader.now.algorithm) }
+    ensures stop { IfErr result (IsUnfit (has_length (choice_of reader.now))) }
+{
     if reader.bits <= 8 * reader.algorithm.max_bytes() as u64 {
         return Ok(());
     }
@@ -584,7 +688,14 @@ fn check_length(alloc: Global, reader: &Reader) -> Result<(), Stop> {
 }
 
 // Refuses a salt and a persona that are longer than the algorithm's.
-fn check_labels(alloc: Global, reader: &Reader) -> Result<(), Stop> {
+fn check_labels(alloc: Global, reader: &Reader) -> Result<(), Stop>
+    ensures labels { OnOk result (has_labels (choice_of reader.now) ≡ true) }
+    ensures salt { OnOk result
+        (4 * length reader.now.salt.items ≤ max_bytes reader.now.algorithm) }
+    ensures persona { OnOk result
+        (4 * length reader.now.persona.items ≤ max_bytes reader.now.algorithm) }
+    ensures stop { IfErr result (IsUnfit (has_labels (choice_of reader.now))) }
+{
     let most = reader.algorithm.max_bytes() / 4;
     let reason: &[u8] = if reader.salt.len() > most {
         b"the salt is too long: at most 16 bytes, 8 for BLAKE2s"
@@ -597,7 +708,15 @@ fn check_labels(alloc: Global, reader: &Reader) -> Result<(), Stop> {
 }
 
 // Returns the message of options that do not go together.
-fn conflict(reader: &Reader) -> Option<&'static [u8]> {
+fn conflict(reader: &Reader) -> Option<&'static [u8]>
+    ensures is { is_none result ≡ goes_together (choice_of reader.now) }
+    ensures tree { result ≡ None → reader.now.leaf ≢ None → reader.now.algorithm ≢ Blake2s }
+    ensures check { result ≡ None → reader.now.checks ≡ true → (reader.now.ends_zero ≡ false)
+        × (reader.now.is_tagged ≡ false) × (reader.now.is_binary ≡ None) }
+    ensures sums { result ≡ None → reader.now.checks ≡ false
+        → (reader.now.ignores_missing ≡ false) × (reader.now.is_strict ≡ false)
+        × (reader.now.report ≡ Each) }
+{
     if reader.is_tagged && reader.is_binary == Some(false) {
         return Some(b"--tag does not support --text mode");
     }
@@ -619,7 +738,11 @@ fn conflict(reader: &Reader) -> Option<&'static [u8]> {
     }
 }
 
-fn conflict_of_check(reader: &Reader) -> Option<&'static [u8]> {
+fn conflict_of_check(reader: &Reader) -> Option<&'static [u8]>
+    ensures is { is_none result ≡ goes_with_check (choice_of reader.now) }
+    ensures check { result ≡ None → (reader.now.ends_zero ≡ false)
+        × (reader.now.is_tagged ≡ false) × (reader.now.is_binary ≡ None) }
+{
     if reader.ends_zero {
         return Some(b"the --zero option is not supported when verifying checksums");
     }
@@ -632,7 +755,11 @@ fn conflict_of_check(reader: &Reader) -> Option<&'static [u8]> {
     None
 }
 
-fn conflict_of_sums(reader: &Reader) -> Option<&'static [u8]> {
+fn conflict_of_sums(reader: &Reader) -> Option<&'static [u8]>
+    ensures is { is_none result ≡ goes_with_sums (choice_of reader.now) }
+    ensures sums { result ≡ None → (reader.now.ignores_missing ≡ false)
+        × (reader.now.is_strict ≡ false) × (reader.now.report ≡ Each) }
+{
     if reader.ignores_missing {
         return Some(b"the --ignore-missing option is meaningful only when verifying checksums");
     }
@@ -655,11 +782,17 @@ fn conflict_of_sums(reader: &Reader) -> Option<&'static [u8]> {
 }
 
 // Returns a copy of the bytes.
-fn copied(alloc: Global, bytes: &[u8]) -> Result<Vec<u8>, AllocError> {
-    joined(alloc, bytes, b"", b"")
+fn copied(alloc: Global, bytes: &[u8]) -> Result<Vec<u8>, AllocError>
+    ensures { IfOk result (λ copy. copy.items ≡ bytes.now) }
+{
+    Vec::from_slice(alloc, bytes)
 }
 
-fn push_copy(alloc: Global, files: &mut Vec<Vec<u8>>, name: &[u8]) -> Result<(), AllocError> {
+// Puts a copy of the name after the files.
+fn push_copy(alloc: Global, files: &mut Vec<Vec<u8>>, name: &[u8]) -> Result<(), AllocError>
+    ensures { OnOk result (map (λ file. file.items) files.new.items
+        ≡ map (λ file. file.items) files.old.items ++ name.now ∷ []) }
+{
     let name = copied(alloc, name)?;
     files.push(name).map_err(|_| AllocError)
 }

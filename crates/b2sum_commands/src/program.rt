@@ -1,8 +1,17 @@
 //! The run of the program.
 
-ghost use Rattle.std.specs.Prelude.{◌≡◌, ◌<◌, ◌≤◌, ◌^◌, length, map, true, IfOk};
+ghost use Rattle.std.specs.Prelude.{◌≡◌, ◌⊎◌, ◌<◌, ◌≤◌, ◌^◌, length, map, true, false, Err, IfOk};
+ghost use Rattle.std.specs.Io.KnownBytes.{Appends};
+ghost use Rattle.b2sum_commands.specs.CommandLine.{Choice, Helped, Versioned, Refused};
 ghost use Rattle.b2sum_lines.specs.declared.entry.Spacing.TheVariants.{Open};
-ghost use Rattle.b2sum_commands.specs.Checks.{AllHold};
+ghost use Rattle.b2sum_commands.specs.Checks.{AreChecked};
+ghost use Rattle.b2sum_commands.specs.Fitting.{AreFit};
+ghost use Rattle.b2sum_commands.specs.Sums.{CannotCheck, CannotSum};
+ghost use Rattle.b2sum_commands.specs.Runs.{DoesTask, EndsTask, IsTold, Succeeds};
+ghost use Rattle.std.specs.Option.{option_map};
+ghost use Rattle.b2sum_commands.specs.Accepted.{AreOptions, command_line};
+ghost use Rattle.b2sum_commands.specs.CommandRuns.{DoesChoice, DoesLine, EndsChoice, EndsLine};
+ghost use Rattle.b2sum_commands.specs.Readers.{IsPrinted, IsAnswered, IsRefusal, IsKept};
 
 use crate::check::check_manifest;
 use crate::devices::{Disk, Fault, Output, put, tell};
@@ -58,7 +67,33 @@ pub fn run<H: Hashes, D: Disk, K: Output, E: Sink>(
     words: &[Vec<u8>],
     output: &mut K,
     messages: &mut E,
-) -> u8 {
+) -> u8
+    ensures status { result ≤ 1 }
+    ensures success { result ≡ 0 → Succeeds HELP.now VERSION.now (D.holds disk.now)
+        (CannotSum D.File.failed H.rejects (D.refuses disk.now)) H.digest
+        (D.input_holds disk.now) (K.held output.old) (K.held output.new) }
+    ensures failure { result ≡ 1 → EndsTask (D.holds disk.now)
+        (CannotCheck D.File.failed (D.refuses disk.now))
+        (CannotSum D.File.failed H.rejects (D.refuses disk.now)) H.digest (D.input_holds disk.now)
+        (K.held output.old) (K.held output.new) false ⊎ IsTold E.held E.failed messages.new }
+    ensures task { result ≡ 0 → DoesLine (D.holds disk.now)
+        (CannotSum D.File.failed H.rejects (D.refuses disk.now)) H.digest
+        (D.input_holds disk.now) (K.held output.old) (K.held output.new)
+        (command_line (map (λ word. word.items) words.now)) }
+    ensures ended { result ≡ 1 → EndsLine (D.holds disk.now)
+        (CannotCheck D.File.failed (D.refuses disk.now))
+        (CannotSum D.File.failed H.rejects (D.refuses disk.now)) H.digest
+        (D.input_holds disk.now) (K.held output.old) (K.held output.new)
+        (command_line (map (λ word. word.items) words.now)) false
+        ⊎ IsTold E.held E.failed messages.new }
+    ensures help { command_line (map (λ word. word.items) words.now) ≡ Err Helped → result ≡ 0
+        → Appends (K.held output.old) (K.held output.new) HELP.now }
+    ensures version { command_line (map (λ word. word.items) words.now) ≡ Err Versioned
+        → result ≡ 0 → Appends (K.held output.old) (K.held output.new) VERSION.now }
+    ensures refused { command_line (map (λ word. word.items) words.now) ≡ Err Refused
+        → (result ≡ 1) × (K.held output.new ≡ K.held output.old)
+        × IsTold E.held E.failed messages.new }
+{
     match run_words(alloc, hashes, disk, words, output, messages) {
         Ok(true) => 0,
         Ok(false) => 1,
@@ -74,7 +109,9 @@ pub fn run<H: Hashes, D: Disk, K: Output, E: Sink>(
 }
 
 // Prints the message of a write that failed.
-fn warn_of_write<E: Sink>(alloc: Global, error: io::Error, messages: &mut E) {
+fn warn_of_write<E: Sink>(alloc: Global, error: io::Error, messages: &mut E)
+    ensures { IsTold E.held E.failed messages.new }
+{
     let Ok(reason) = reason_of(alloc, error) else {
         return tell(messages, b"b2sum: write error\n");
     };
@@ -90,30 +127,71 @@ fn run_words<H: Hashes, D: Disk, K: Output, E: Sink>(
     words: &[Vec<u8>],
     output: &mut K,
     messages: &mut E,
-) -> Result<bool, Fault> {
+) -> Result<bool, Fault>
+    ensures success { IfOk result (λ is_right. is_right ≡ true → Succeeds HELP.now VERSION.now
+        (D.holds disk.now) (CannotSum D.File.failed H.rejects (D.refuses disk.now)) H.digest
+        (D.input_holds disk.now)
+        (K.held output.old) (K.held output.new)) }
+    ensures fails { IfOk result (λ is_right. is_right ≡ false → EndsTask (D.holds disk.now)
+        (CannotCheck D.File.failed (D.refuses disk.now))
+        (CannotSum D.File.failed H.rejects (D.refuses disk.now)) H.digest (D.input_holds disk.now)
+        (K.held output.old) (K.held output.new) false ⊎ IsTold E.held E.failed messages.new) }
+    ensures answered { IfOk result (IsAnswered HELP.now VERSION.now
+        (IsTold E.held E.failed messages.new) (K.held output.old) (K.held output.new)
+        (command_line (map (λ word. word.items) words.now))) }
+    ensures task { IfOk result (λ is_right. is_right ≡ true → DoesLine (D.holds disk.now)
+        (CannotSum D.File.failed H.rejects (D.refuses disk.now)) H.digest
+        (D.input_holds disk.now) (K.held output.old) (K.held output.new)
+        (command_line (map (λ word. word.items) words.now))) }
+    ensures ended { IfOk result (λ is_right. is_right ≡ false → EndsLine (D.holds disk.now)
+        (CannotCheck D.File.failed (D.refuses disk.now))
+        (CannotSum D.File.failed H.rejects (D.refuses disk.now)) H.digest
+        (D.input_holds disk.now) (K.held output.old) (K.held output.new)
+        (command_line (map (λ word. word.items) words.now)) false
+        ⊎ IsTold E.held E.failed messages.new) }
+    ensures kept { IsKept (K.held output.old) (K.held output.new)
+        (command_line (map (λ word. word.items) words.now)) }
+{
     match read_arguments(alloc, words) {
         Ok(arguments) => run_task(alloc, hashes, disk, arguments, output, messages),
-        Err(Stop::Help) => {
+        Err(stop) => print_stop(alloc, stop, output, messages),
+    }
+}
+
+// Prints what a command line without a task asks for: the help, the version or a message. Returns
+// whether it is right.
+fn print_stop<K: Output, E: Sink>(
+    alloc: Global,
+    stop: Stop,
+    output: &mut K,
+    messages: &mut E,
+) -> Result<bool, Fault>
+    ensures printed { IfOk result (IsPrinted HELP.now VERSION.now
+        (IsTold E.held E.failed messages.new) (K.held output.old) (K.held output.new) stop) }
+    ensures refused { IsRefusal stop → K.held output.new ≡ K.held output.old }
+{
+    match stop {
+        Stop::Help => {
             put(output, HELP)?;
             Ok(true)
         }
-        Err(Stop::Version) => {
+        Stop::Version => {
             put(output, VERSION)?;
             Ok(true)
         }
-        Err(Stop::Usage(text)) => {
+        Stop::Usage(text) => {
             warn(alloc, messages, text.as_slice(), b"", b"")?;
             tell(messages, TRY_HELP);
             Ok(false)
         }
-        Err(Stop::Value(first, second)) => {
+        Stop::Value(first, second) => {
             warn(alloc, messages, first.as_slice(), b"", b"")?;
             if !second.is_empty() {
                 warn(alloc, messages, second.as_slice(), b"", b"")?;
             }
             Ok(false)
         }
-        Err(Stop::NoMemory) => Err(Fault::NoMemory),
+        Stop::NoMemory => Err(Fault::NoMemory),
     }
 }
 
@@ -126,7 +204,29 @@ fn run_task<H: Hashes, D: Disk, K: Output, E: Sink>(
     output: &mut K,
     messages: &mut E,
 ) -> Result<bool, Fault>
-    requires { arguments.options.bytes ≤ 64 }
+    requires size { arguments.options.bytes ≤ 64 }
+    requires fit { AreFit arguments.options }
+    ensures fails { IfOk result (λ is_right. is_right ≡ false → EndsTask (D.holds disk.now)
+        (CannotCheck D.File.failed (D.refuses disk.now))
+        (CannotSum D.File.failed H.rejects (D.refuses disk.now)) H.digest (D.input_holds disk.now)
+        (K.held output.old) (K.held output.new) false ⊎ IsTold E.held E.failed messages.new) }
+    ensures success { IfOk result (λ is_right. is_right ≡ true → DoesTask (D.holds disk.now)
+        (CannotSum D.File.failed H.rejects (D.refuses disk.now)) H.digest
+        (D.input_holds disk.now) (K.held output.old) (K.held output.new)) }
+    ensures chosen { (c : Choice) → AreOptions c arguments.options
+        → option_map (λ name. name.items) arguments.key_file ≡ c.key_file
+        → IfOk result (λ is_right. is_right ≡ true → DoesChoice (D.holds disk.now)
+        (CannotSum D.File.failed H.rejects (D.refuses disk.now)) H.digest
+        (D.input_holds disk.now) (K.held output.old) (K.held output.new)
+        c (map (λ name. name.items) arguments.files.items)) }
+    ensures ended { (c : Choice) → AreOptions c arguments.options
+        → option_map (λ name. name.items) arguments.key_file ≡ c.key_file
+        → IfOk result (λ is_right. is_right ≡ false → EndsChoice (D.holds disk.now)
+        (CannotCheck D.File.failed (D.refuses disk.now))
+        (CannotSum D.File.failed H.rejects (D.refuses disk.now)) H.digest
+        (D.input_holds disk.now) (K.held output.old) (K.held output.new)
+        c (map (λ name. name.items) arguments.files.items) false
+        ⊎ IsTold E.held E.failed messages.new) }
 {
     let Arguments {
         mut options,
@@ -169,10 +269,11 @@ fn check_all<H: Hashes, D: Disk, K: Output, E: Sink>(
 ) -> Result<bool, Fault>
     requires room { 0 < length buffer.old }
     requires most { length buffer.old ≤ 2 ^ 24 }
-    ensures all { IfOk result (λ is_right. is_right ≡ true → (spaced : Spacing)
-        × AllHold (D.holds disk.now) H.digest options.now (map (λ name. name.items) names.now) Open
-        (D.File.left input.old) (K.held output.old) spaced
-        (D.File.left input.new) (K.held output.new)) }
+    ensures checked { IfOk result (λ is_right. (spaced : Spacing)
+        × AreChecked (D.holds disk.now) (CannotCheck D.File.failed (D.refuses disk.now))
+        (CannotSum D.File.failed H.rejects (D.refuses disk.now)) H.digest options.now
+        (map (λ name. name.items) names.now) Open (D.File.left input.old) (K.held output.old)
+        spaced (D.File.left input.new) (K.held output.new) is_right) }
 {
     let mut is_right = true;
     let mut spacing = Spacing::Open;

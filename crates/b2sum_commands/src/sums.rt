@@ -1,10 +1,12 @@
 //! The digests of files.
 
-ghost use Rattle.std.specs.Prelude.{◌≡◌, ℕ, ◌<◌, ◌≤◌, ◌^◌, List, Option, length, map, take, true, IfOk};
+ghost use Rattle.std.specs.Prelude.{◌≡◌, ℕ, ◌<◌, ◌≤◌, ◌^◌, List, Option, length, map, take};
+ghost use Rattle.std.specs.Prelude.{true, false, IfOk};
 ghost use Rattle.std.specs.Io.KnownBytes.{Appends};
 ghost use Rattle.std.specs.List.{flat_map, list_all};
-ghost use Rattle.b2sum_commands.specs.declared.sums.Read.TheVariants.{Whole, Missing};
+ghost use Rattle.b2sum_commands.specs.declared.sums.Read.TheVariants.{Whole, Missing, Failed};
 ghost use Rattle.b2sum_commands.specs.Sums.{Sum, is_dash, ReadsAs, Leaves, AreSums, IsRead};
+ghost use Rattle.b2sum_commands.specs.Sums.{CannotRead, CannotSum};
 ghost use Rattle.b2sum_commands.specs.Sums.{ended_line, text_line, sum_line, was_read, has_text};
 
 use crate::devices::{Disk, Fault, OpenFile, Output, put};
@@ -47,7 +49,11 @@ pub(crate) fn digest_file<H: Hashes, D: Disk, E: Sink>(
         × ReadsAs (is_dash name.now) (D.holds disk.now name.now)
         (D.File.left input.old) (D.File.left input.new) text
         × (take bytes out.new ≡ H.digest options.now bytes text)) }
-    ensures missing { IfOk result (λ read. read ≡ Missing → options.now.ignores_missing ≡ true) }
+    ensures missing { IfOk result (λ read. read ≡ Missing → (options.now.ignores_missing ≡ true)
+        × (is_dash name.now ≡ false) × (D.refuses disk.now name.now ≡ true)) }
+    ensures failed { IfOk result (λ read. read ≡ Failed → CannotRead D.File.failed
+        (H.rejects options.now bytes) (D.refuses disk.now name.now) (is_dash name.now)
+        input.new) }
     ensures leaves { Leaves (is_dash name.now) (D.File.left input.old) (D.File.left input.new) }
 {
     if is_dash(name) {
@@ -82,8 +88,8 @@ pub(crate) fn digest_file<H: Hashes, D: Disk, E: Sink>(
 }
 
 /// Prints the line of each file, and nothing else. Returns whether all were read. A file that
-/// cannot be read has a message. The digests have at most 64 bytes. The buffer has 1 byte to 16 MiB.
-/// The error is `Fault::NoMemory` or `Fault::WriteFailed`; the lines before it are printed.
+/// cannot be read has a message. The digests have at most 64 bytes. The buffer has 1 byte to 16
+/// MiB. The error is `Fault::NoMemory` or `Fault::WriteFailed`; the lines before it are printed.
 pub fn print_sums<H: Hashes, D: Disk, K: Output, E: Sink>(
     alloc: Global,
     hashes: &H,
@@ -99,7 +105,9 @@ pub fn print_sums<H: Hashes, D: Disk, K: Output, E: Sink>(
     requires room { 0 < length buffer.old }
     requires most { length buffer.old ≤ 2 ^ 24 }
     ensures sums { IfOk result (λ are_read. (sums : List Sum)
-        × AreSums (D.holds disk.now) (D.File.left input.old)
+        × AreSums (D.holds disk.now)
+        (CannotSum D.File.failed H.rejects (D.refuses disk.now) options.now options.now.bytes)
+        (D.File.left input.old)
         (map (λ name. name.items) names.now) sums (D.File.left input.new)
         × Appends (K.held output.old) (K.held output.new)
         (flat_map (sum_line options.now H.digest) sums)
@@ -139,11 +147,16 @@ fn print_sum<H: Hashes, D: Disk, K: Output, E: Sink>(
     requires room { 0 < length buffer.old }
     requires most { length buffer.old ≤ 2 ^ 24 }
     ensures sum { IfOk result (λ is_read. (text : Option (List ℕ))
-        × IsRead (is_dash name.now) (D.holds disk.now name.now)
+        × IsRead
+        (CannotSum D.File.failed H.rejects (D.refuses disk.now) options.now options.now.bytes
+        name.now) (is_dash name.now) (D.holds disk.now name.now)
         (D.File.left input.old) (D.File.left input.new) text
         × Appends (K.held output.old) (K.held output.new)
         (text_line options.now H.digest name.now text)
         × (is_read ≡ has_text text)) }
+    ensures unread { IfOk result (λ is_read. is_read ≡ false → CannotRead D.File.failed
+        (H.rejects options.now options.now.bytes) (D.refuses disk.now name.now)
+        (is_dash name.now) input.new) }
 {
     let mut digest = [0u8; 64];
     let size = options.bytes;

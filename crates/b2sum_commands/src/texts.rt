@@ -1,5 +1,8 @@
 //! Messages.
 
+ghost use Rattle.std.specs.Prelude.{◌++◌, ◌∷◌, [], codes, OnOk};
+ghost use Rattle.b2sum_commands.specs.Runs.{EndsWith, IsTold};
+
 use crate::devices::tell;
 use crate::quoting::quoted_name;
 use blake2_replay::engine::Sink;
@@ -13,7 +16,10 @@ pub(crate) fn warn<E: Sink>(
     first: &[u8],
     second: &[u8],
     third: &[u8],
-) -> Result<(), AllocError> {
+) -> Result<(), AllocError>
+    ensures { OnOk result (EndsWith E.held E.failed sink.new
+        (codes "b2sum: " ++ first.now ++ second.now ++ third.now ++ (10 ∷ []))) }
+{
     let mut line = Vec::new(alloc);
     line.extend_from_slice(b"b2sum: ")?;
     line.extend_from_slice(first)?;
@@ -30,7 +36,9 @@ pub(crate) fn warn_of_name<E: Sink>(
     sink: &mut E,
     name: &[u8],
     reason: &[u8],
-) -> Result<(), AllocError> {
+) -> Result<(), AllocError>
+    ensures { OnOk result (IsTold E.held E.failed sink.new) }
+{
     let name = quoted_name(alloc, name)?;
     warn(alloc, sink, name.as_slice(), b": ", reason)
 }
@@ -41,7 +49,9 @@ pub(crate) fn warn_of_file<E: Sink>(
     error: io::Error,
     sink: &mut E,
     name: &[u8],
-) -> Result<(), AllocError> {
+) -> Result<(), AllocError>
+    ensures { OnOk result (IsTold E.held E.failed sink.new) }
+{
     let text = reason_of(alloc, error)?;
     warn_of_name(alloc, sink, name, text.as_bytes())
 }

@@ -4,8 +4,8 @@ use Rattle.b2sum_commands.specs.declared.sums.Read.TheVariants.{Whole}
 use Rattle.b2sum_commands.specs.Sums.{ended_line, text_line}
 use Rattle.b2sum_commands.proofs.sums.print_sum.Goals as goal
 
-pub returns : goal.returns
-returns g c =
+pub returns-clause-sum : goal.returns-clause-sum
+returns-clause-sum g c =
     let o = c.args.options.now in
     let name = c.args.name.now in
     let whole : c.in_ok-read.read ≡ Whole = search rules in
@@ -16,13 +16,10 @@ returns g c =
       digest = d;
       name = name;
       style = o.style;
-    })) read.2 in
-    record {
-      sum = (
-        Some read.0,
-        read.1,
-        subst (Appends (g.K.Sink.held c.args.output.now) (g.K.Sink.held c.put.new.sink))
-            (c.as_slice.ensures.value ∙ line) c.in_ok-put.ensures,
-        refl,
-      );
-    }
+    })) read.2 in (
+      Some read.0,
+      read.1,
+      subst (Appends (g.K.Sink.held c.args.output.now) (g.K.Sink.held c.put.new.sink))
+          (c.as_slice.ensures.value ∙ line) c.in_ok-put.ensures.whole,
+      refl,
+    )

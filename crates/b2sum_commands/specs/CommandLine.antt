@@ -1,0 +1,303 @@
+-- What a command line means, in the terms of getopt: options, which one or two hyphens begin, their
+-- values, and files.
+use Rattle.std.specs.Prelude.{ℕ, ◌+◌, ◌-◌, ◌*◌, ◌^◌, ◌%◌, ◌==◌, ◌&&◌, ◌||◌, nat_lt, nat_le}
+use Rattle.std.specs.Prelude.{nat_eq, Bool, true, false, not, if◌then◌else◌, List, [], ◌∷◌, ◌++◌}
+use Rattle.std.specs.Prelude.{drop, codes, Option, Some, None, Result, Ok, Err}
+use Rattle.std.specs.List.{starts_with, find, count_by}
+use Rattle.std.specs.Result.{result_ok}
+use Rattle.std.specs.Str.{bytes_eq}
+use Rattle.hex.specs.Hex.{decode_of}
+use Rattle.b2sum_lines.specs.declared.entry.Algorithm as entry
+use Rattle.b2sum_lines.specs.declared.entry.Algorithm.TheVariants.{Blake2b, Blake2s}
+use Rattle.b2sum_commands.specs.declared.options.Flag.{Flag}
+use Rattle.b2sum_commands.specs.declared.options.Flag.TheVariants.{Algorithm, Length}
+use Rattle.b2sum_commands.specs.declared.options.Flag.TheVariants.{KeyFile, Personal, Salt}
+use Rattle.b2sum_commands.specs.declared.options.Flag.TheVariants.{Tree, Progress, Check}
+use Rattle.b2sum_commands.specs.declared.options.Flag.TheVariants.{IgnoreMissing, Quiet}
+use Rattle.b2sum_commands.specs.declared.options.Flag.TheVariants.{Status, Warn, Strict}
+use Rattle.b2sum_commands.specs.declared.options.Flag.TheVariants.{Tag, Zero, Binary}
+use Rattle.b2sum_commands.specs.declared.options.Flag.TheVariants.{Text, Help, Version}
+use Rattle.b2sum_commands.specs.declared.options.Report.{Report}
+use Rattle.b2sum_commands.specs.declared.options.Report.TheVariants.{Each, Warnings, Failures}
+use Rattle.b2sum_commands.specs.declared.options.Report.TheVariants.{Nothing}
+use Rattle.b2sum_commands.specs.Flags.{long_name, has_value, letter_flag}
+use Rattle.b2sum_commands.specs.Manifests.{cut_at}
+
+-- ---- what is chosen
+
+-- Why a command line names no task: it asks for the help or the version, or it is wrong.
+pub data End : Type 0 where
+  Helped : End
+  Versioned : End
+  Refused : End
+
+-- What the options choose. A length of 0 bits is the algorithm's longest. `is_binary` is that of
+-- the last of `--binary`, `--text` and `--tag`.
+pub record Choice : Type 0 where
+  pub algorithm : entry.Algorithm
+  pub leaf : Option ℕ
+  pub bits : ℕ
+  pub key_file : Option (List ℕ)
+  pub salt : List ℕ
+  pub persona : List ℕ
+  pub checks : Bool
+  pub is_binary : Option Bool
+  pub is_tagged : Bool
+  pub ends_zero : Bool
+  pub ignores_missing : Bool
+  pub report : Report
+  pub is_strict : Bool
+
+-- The choice of no options.
+abbrev pub no_choice : Choice
+no_choice = record {
+  algorithm = Blake2b;
+  leaf = None;
+  bits = 0;
+  key_file = None;
+  salt = [];
+  persona = [];
+  checks = false;
+  is_binary = None;
+  is_tagged = false;
+  ends_zero = false;
+  ignores_missing = false;
+  report = Each;
+  is_strict = false;
+}
+
+-- ---- values
+
+-- The number, if it passes the test.
+abbrev pub passing : (ℕ → Bool) → Option ℕ → Option ℕ
+passing test None = None
+passing test (Some n) = if test n then Some n else None
+
+-- A blank: a space, or a byte of 9 to 13, such as a tab or a newline.
+abbrev pub is_blank : ℕ → Bool
+is_blank b = (b == 32) || (nat_le 9 b && nat_lt b 14)
+
+-- A text without the blanks at its front.
+abbrev pub without_blanks : List ℕ → List ℕ
+without_blanks [] = []
+without_blanks (b ∷ text) = if is_blank b then without_blanks text else b ∷ text
+
+-- A text without one plus at its front.
+abbrev pub without_plus : List ℕ → List ℕ
+without_plus [] = []
+without_plus (b ∷ text) = if b == 43 then text else b ∷ text
+
+-- The number of decimal digits that follow those of `n`.
+abbrev pub digits_after : ℕ → List ℕ → Option ℕ
+digits_after n [] = Some n
+digits_after n (d ∷ digits) =
+    if nat_le 48 d && nat_le d 57 then digits_after (n * 10 + (d - 48)) digits else None
+
+-- The number of one or more decimal digits.
+abbrev pub decimal_number : List ℕ → Option ℕ
+decimal_number [] = None
+decimal_number (d ∷ digits) = digits_after 0 (d ∷ digits)
+
+-- The number that a value writes, below 2^64. Blanks and a plus may be before its digits.
+abbrev pub number_in : List ℕ → Option ℕ
+number_in value =
+    passing (λ n. nat_lt n (2 ^ 64)) (decimal_number (without_plus (without_blanks value)))
+
+-- The number of bits of a digest: a multiple of 8.
+abbrev pub bits_in : List ℕ → Option ℕ
+bits_in value = passing (λ n. n % 8 == 0) (number_in value)
+
+-- The number of bytes of a leaf: 1 to 2^32 - 1.
+abbrev pub leaf_in : List ℕ → Option ℕ
+leaf_in value = passing (λ n. nat_lt 0 n && nat_lt n (2 ^ 32)) (number_in value)
+
+-- The algorithm of this name.
+abbrev pub algorithm_in : List ℕ → Option entry.Algorithm
+algorithm_in value =
+    if bytes_eq value (codes "blake2b") then Some Blake2b
+    else if bytes_eq value (codes "blake2s") then Some Blake2s
+    else None
+
+-- The bytes that hexadecimal digits of either case write.
+abbrev pub bytes_in : List ℕ → Option (List ℕ)
+bytes_in value = result_ok (decode_of value)
+
+-- ---- options
+
+-- The choice with one more option, which has no value.
+abbrev pub set_flag : Flag → Choice → Result Choice End
+set_flag Check c = Ok (record c { checks = true })
+set_flag IgnoreMissing c = Ok (record c { ignores_missing = true })
+set_flag Quiet c = Ok (record c { report = Failures })
+set_flag Status c = Ok (record c { report = Nothing })
+set_flag Warn c = Ok (record c { report = Warnings })
+set_flag Strict c = Ok (record c { is_strict = true })
+set_flag Tag c = Ok (record c { is_tagged = true; is_binary = Some true })
+set_flag Zero c = Ok (record c { ends_zero = true })
+set_flag Binary c = Ok (record c { is_binary = Some true })
+set_flag Text c = Ok (record c { is_binary = Some false })
+set_flag Progress c = Ok c
+set_flag Help c = Err Helped
+set_flag Version c = Err Versioned
+set_flag Algorithm c = Ok c
+set_flag Length c = Ok c
+set_flag KeyFile c = Ok c
+set_flag Personal c = Ok c
+set_flag Salt c = Ok c
+set_flag Tree c = Ok c
+
+-- The choice with a value, which is refused if it is none.
+abbrev pub with_value : {A : Type 0} → Option A → (A → Choice) → Result Choice End
+with_value None choose = Err Refused
+with_value (Some value) choose = Ok (choose value)
+
+-- The choice with one more option and its value.
+abbrev pub set_value : Flag → List ℕ → Choice → Result Choice End
+set_value Algorithm v c = with_value (algorithm_in v) (λ a. record c { algorithm = a })
+set_value Length v c = with_value (bits_in v) (λ n. record c { bits = n })
+set_value KeyFile v c = Ok (record c { key_file = Some v })
+set_value Personal v c = with_value (bytes_in v) (λ bytes. record c { persona = bytes })
+set_value Salt v c = with_value (bytes_in v) (λ bytes. record c { salt = bytes })
+set_value Tree v c = with_value (leaf_in v) (λ n. record c { leaf = Some n })
+set_value Progress v c = Ok c
+set_value Check v c = Ok c
+set_value IgnoreMissing v c = Ok c
+set_value Quiet v c = Ok c
+set_value Status v c = Ok c
+set_value Warn v c = Ok c
+set_value Strict v c = Ok c
+set_value Tag v c = Ok c
+set_value Zero v c = Ok c
+set_value Binary v c = Ok c
+set_value Text v c = Ok c
+set_value Help v c = Ok c
+set_value Version v c = Ok c
+
+-- All options.
+abbrev pub all_flags : List Flag
+all_flags =
+    Length ∷ Check ∷ IgnoreMissing ∷ Quiet ∷ Status ∷ Warn ∷ Strict ∷ Tag ∷ Zero ∷ Binary ∷ Text
+    ∷ Algorithm ∷ KeyFile ∷ Personal ∷ Salt ∷ Tree ∷ Progress ∷ Help ∷ Version ∷ []
+
+-- The first of two options that is there.
+abbrev pub or_else : Option Flag → Option Flag → Option Flag
+or_else None other = other
+or_else (Some flag) other = Some flag
+
+-- The option whose long name begins with these bytes, if only one does.
+abbrev pub only_beginning : List ℕ → Option Flag
+only_beginning name =
+    if count_by (λ f. starts_with nat_eq (long_name f) name) all_flags == 1
+    then find (λ f. starts_with nat_eq (long_name f) name) all_flags
+    else None
+
+-- The option that a long name means: the one of this name, or else the only one whose name begins
+-- with it.
+abbrev pub flag_named : List ℕ → Option Flag
+flag_named name = or_else (find (λ f. bytes_eq (long_name f) name) all_flags) (only_beginning name)
+
+-- ---- words
+
+-- What the next word is: an option or a file, the value of this option, or, after `--`, a file.
+pub data Next : Type 0 where
+  Anything : Next
+  ValueOf : Flag → Next
+  OnlyFile : Next
+
+-- The choice, if there is one, and what the next word is.
+abbrev pub choosing : Next → Result Choice End → Result (Choice × Next) End
+choosing n (Ok c) = Ok (c, n)
+choosing n (Err e) = Err e
+
+-- An option whose value is these bytes, or the next word if there are none.
+abbrev pub value_or_next : Choice → Flag → List ℕ → Result (Choice × Next) End
+value_or_next c f [] = Ok (c, ValueOf f)
+value_or_next c f (b ∷ bytes) = choosing Anything (set_value f (b ∷ bytes) c)
+
+-- The letters of a word that one hyphen begins. After an option that has a value, the rest of the
+-- word is the value.
+abbrev pub read_letters : Choice → List ℕ → Result (Choice × Next) End
+read_letters c [] = Ok (c, Anything)
+read_letters c (letter ∷ letters) =
+    elim (letter_flag letter) [
+      | None ↦ Err Refused
+      | Some f ↦
+          if has_value f then value_or_next c f letters
+          else elim (set_flag f c) [ Err e ↦ Err e | Ok d ↦ read_letters d letters ]
+    ]
+
+-- A long option without a value in its word: the value is the next word, if it has one.
+abbrev pub read_alone : Choice → Option Flag → Result (Choice × Next) End
+read_alone c None = Err Refused
+read_alone c (Some f) = if has_value f then Ok (c, ValueOf f) else choosing Anything (set_flag f c)
+
+-- A long option with a value in its word.
+abbrev pub read_with : Choice → Option Flag → List ℕ → Result (Choice × Next) End
+read_with c None value = Err Refused
+read_with c (Some f) value =
+    if has_value f then choosing Anything (set_value f value c) else Err Refused
+
+-- A long option, cut at `=`.
+abbrev pub read_cut : Choice → List ℕ → Option (List ℕ × List ℕ) → Result (Choice × Next) End
+read_cut c word None = read_alone c (flag_named word)
+read_cut c word (Some cut) = read_with c (flag_named cut.0) cut.1
+
+-- The rest of a word that two hyphens begin: a name, or a name, `=` and a value.
+abbrev pub read_long : Choice → List ℕ → Result (Choice × Next) End
+read_long c word = read_cut c word (cut_at 61 word)
+
+-- What is read so far.
+pub record State : Type 0 where
+  pub choice : Choice
+  pub files : List (List ℕ)
+  pub next : Next
+
+-- The state after an option. The files stay.
+abbrev pub with_option : State → Result (Choice × Next) End → Result State End
+with_option s (Ok read) = Ok (record { choice = read.0; files = s.files; next = read.1 })
+with_option s (Err e) = Err e
+
+-- The state with one more file.
+abbrev pub with_file : State → List ℕ → State
+with_file s name = record s { files = s.files ++ name ∷ [] }
+
+-- A word that is not a value: `--`, a long option, letters, or a file. `-` alone is a file.
+abbrev pub read_any : State → List ℕ → Result State End
+read_any s word =
+    if bytes_eq word (codes "--") then Ok (record s { next = OnlyFile })
+    else if starts_with nat_eq word (codes "--")
+    then with_option s (read_long s.choice (drop 2 word))
+    else if starts_with nat_eq word (codes "-") && not (bytes_eq word (codes "-"))
+    then with_option s (read_letters s.choice (drop 1 word))
+    else Ok (with_file s word)
+
+-- A word, which is what the state says.
+abbrev pub read_next : Next → State → List ℕ → Result State End
+read_next Anything s word = read_any s word
+read_next (ValueOf f) s word = with_option s (choosing Anything (set_value f word s.choice))
+read_next OnlyFile s word = Ok (with_file s word)
+
+-- Words from a state on.
+abbrev pub read_words : State → List (List ℕ) → Result State End
+read_words s [] = Ok s
+read_words s (word ∷ words) =
+    elim (read_next s.next s word) [ Err e ↦ Err e | Ok t ↦ read_words t words ]
+
+-- The files, or `-` alone if there are none.
+abbrev pub or_dash : List (List ℕ) → List (List ℕ)
+or_dash [] = codes "-" ∷ []
+or_dash (name ∷ names) = name ∷ names
+
+-- The choice and the files at the end of the words. A value that is still to come is missing.
+abbrev pub ended : Next → State → Result (Choice × List (List ℕ)) End
+ended Anything s = Ok (s.choice, or_dash s.files)
+ended (ValueOf f) s = Err Refused
+ended OnlyFile s = Ok (s.choice, or_dash s.files)
+
+-- What a command line means: a choice and files, or why it names no task.
+abbrev pub reading : List (List ℕ) → Result (Choice × List (List ℕ)) End
+reading words =
+    elim (read_words (record { choice = no_choice; files = []; next = Anything }) words) [
+      | Err e ↦ Err e
+      | Ok s ↦ ended s.next s
+    ]

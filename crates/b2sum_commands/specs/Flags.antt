@@ -1,0 +1,66 @@
+-- The options of the command line: their names, their letters, and which of them have a value.
+use Rattle.std.specs.Prelude.{ℕ, ◌==◌, Bool, true, false, if◌then◌else◌, List, codes}
+use Rattle.std.specs.Prelude.{Option, Some, None}
+use Rattle.b2sum_commands.specs.declared.options.Flag.{Flag}
+use Rattle.b2sum_commands.specs.declared.options.Flag.TheVariants.{Algorithm, Length}
+use Rattle.b2sum_commands.specs.declared.options.Flag.TheVariants.{KeyFile, Personal, Salt}
+use Rattle.b2sum_commands.specs.declared.options.Flag.TheVariants.{Tree, Progress, Check}
+use Rattle.b2sum_commands.specs.declared.options.Flag.TheVariants.{IgnoreMissing, Quiet}
+use Rattle.b2sum_commands.specs.declared.options.Flag.TheVariants.{Status, Warn, Strict}
+use Rattle.b2sum_commands.specs.declared.options.Flag.TheVariants.{Tag, Zero, Binary}
+use Rattle.b2sum_commands.specs.declared.options.Flag.TheVariants.{Text, Help, Version}
+
+-- The name of the long option, which follows two hyphens.
+abbrev pub long_name : Flag → List ℕ
+long_name Algorithm = codes "algorithm"
+long_name Length = codes "length"
+long_name KeyFile = codes "key-file"
+long_name Personal = codes "personal"
+long_name Salt = codes "salt"
+long_name Tree = codes "tree"
+long_name Progress = codes "progress"
+long_name Check = codes "check"
+long_name IgnoreMissing = codes "ignore-missing"
+long_name Quiet = codes "quiet"
+long_name Status = codes "status"
+long_name Warn = codes "warn"
+long_name Strict = codes "strict"
+long_name Tag = codes "tag"
+long_name Zero = codes "zero"
+long_name Binary = codes "binary"
+long_name Text = codes "text"
+long_name Help = codes "help"
+long_name Version = codes "version"
+
+-- The option has a value.
+abbrev pub has_value : Flag → Bool
+has_value Algorithm = true
+has_value Length = true
+has_value KeyFile = true
+has_value Personal = true
+has_value Salt = true
+has_value Tree = true
+has_value Progress = false
+has_value Check = false
+has_value IgnoreMissing = false
+has_value Quiet = false
+has_value Status = false
+has_value Warn = false
+has_value Strict = false
+has_value Tag = false
+has_value Zero = false
+has_value Binary = false
+has_value Text = false
+has_value Help = false
+has_value Version = false
+
+-- The option of a letter, which follows one hyphen.
+abbrev pub letter_flag : ℕ → Option Flag
+letter_flag letter =
+    if letter == 97 then Some Algorithm else
+    if letter == 108 then Some Length else
+    if letter == 99 then Some Check else
+    if letter == 119 then Some Warn else
+    if letter == 122 then Some Zero else
+    if letter == 98 then Some Binary else
+    if letter == 116 then Some Text else None

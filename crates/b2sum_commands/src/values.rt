@@ -1,0 +1,140 @@
+//! The values of options.
+
+ghost use Rattle.std.specs.Prelude.{◌≡◌, IfErr, IfOk, Some};
+ghost use Rattle.std.specs.Result.{result_ok};
+ghost use Rattle.b2sum_commands.specs.CommandLine.{number_in, without_blanks, without_plus};
+ghost use Rattle.b2sum_commands.specs.CommandLine.{leaf_in, bits_in, bytes_in, algorithm_in};
+ghost use Rattle.b2sum_commands.specs.Readers.{IsRefusal, IsWrong};
+
+use crate::options::{Stop, joined};
+use crate::quoting::quoted_value;
+use b2sum_lines::Algorithm;
+use hex::FromHexError;
+use std::alloc::Global;
+
+// Returns the stop of a wrong value: this line and the value, and a line that says why.
+fn wrong_value(alloc: Global, line: &[u8], value: &[u8], reason: &[u8]) -> Stop
+    ensures { IsRefusal result }
+{
+    let Ok(quoted) = quoted_value(alloc, value) else {
+        return Stop::NoMemory;
+    };
+    let Ok(first) = joined(alloc, line, quoted.as_slice(), b"") else {
+        return Stop::NoMemory;
+    };
+    match joined(alloc, reason, b"", b"") {
+        Ok(second) => Stop::Value(first, second),
+        Err(_) => Stop::NoMemory,
+    }
+}
+
+// Returns the algorithm of this name.
+pub(crate) fn algorithm_of(alloc: Global, value: &[u8]) -> Result<Algorithm, Stop>
+    ensures algorithm { IfOk result (λ a. algorithm_in value.now ≡ Some a) }
+    ensures stop { IfErr result (IsWrong (algorithm_in value.now)) }
+{
+    if value == b"blake2b".as_slice() {
+        return Ok(Algorithm::Blake2b);
+    }
+    if value == b"blake2s".as_slice() {
+        return Ok(Algorithm::Blake2s);
+    }
+    let value = quoted_value(alloc, value)?;
+    let text = joined(alloc, b"invalid algorithm: ", value.as_slice(), b"")?;
+    Err(Stop::Usage(text))
+}
+
+// Returns the bytes that hexadecimal digits write.
+pub(crate) fn bytes_of(alloc: Global, line: &[u8], value: &[u8]) -> Result<Vec<u8>, Stop>
+    ensures bytes { IfOk result (λ bytes. bytes_in value.now ≡ Some bytes.items) }
+    ensures stop { IfErr result (IsWrong (bytes_in value.now)) }
+{
+    match hex::decode(alloc, value) {
+        Ok(bytes) => Ok(bytes),
+        Err(FromHexError::OutOfMemory) => Err(Stop::NoMemory),
+        Err(_) => {
+            let reason = b"the value is not hexadecimal digits, two for each byte";
+            Err(wrong_value(alloc, line, value, reason))
+        }
+    }
+}
+
+// Returns the number of bytes of a leaf.
+pub(crate) fn leaf_of(alloc: Global, value: &[u8]) -> Result<u32, Stop>
+    ensures leaf { IfOk result (λ leaf. leaf_in value.now ≡ Some leaf) }
+    ensures stop { IfErr result (IsWrong (leaf_in value.now)) }
+{
+    match number_of(value) {
+        Ok(leaf) if leaf > 0 && leaf <= u64::from(u32::MAX) => Ok(leaf as u32),
+        _ => {
+            let reason = b"a leaf has 1 to 4294967295 bytes";
+            Err(wrong_value(alloc, b"invalid leaf length: ", value, reason))
+        }
+    }
+}
+
+// Returns the number of bits of the digests.
+pub(crate) fn bits_of(alloc: Global, value: &[u8]) -> Result<u64, Stop>
+    ensures bits { IfOk result (λ bits. bits_in value.now ≡ Some bits) }
+    ensures stop { IfErr result (IsWrong (bits_in value.now)) }
+{
+    let line = b"invalid length: ";
+    match number_of(value) {
+        Ok(bits) if bits % 8 == 0 => Ok(bits),
+        Ok(_) => Err(wrong_value(alloc, line, value, b"length is not a multiple of 8")),
+        Err(reason) => {
+            let quoted = quoted_value(alloc, value)?;
+            let first = joined(alloc, line, quoted.as_slice(), reason)?;
+            Err(Stop::Value(first, Vec::new(alloc)))
+        }
+    }
+}
+
+// Returns the number that decimal digits write, with blanks and a plus before them or none. The
+// error is what the message has after the value.
+fn number_of(text: &[u8]) -> Result<u64, &'static [u8]>
+    ensures { result_ok result ≡ number_in text.now }
+{
+    let digits = after_plus(after_blanks(text));
+    if digits.is_empty() {
+        return Err(b"");
+    }
+    let mut number = 0u64;
+    let mut is_large = false;
+    for digit in digits {
+        if *digit < b'0' || *digit > b'9' {
+            return Err(b"");
+        }
+        let unit = u64::from(*digit - b'0');
+        if number > (u64::MAX - unit) / 10 {
+            is_large = true;
+        } else {
+            number = number * 10 + unit;
+        }
+    }
+    if is_large {
+        return Err(b": Value too large for defined data type");
+    }
+    Ok(number)
+}
+
+// Returns the text without the blanks at its front.
+fn after_blanks(text: &[u8]) -> &[u8]
+    ensures { result.now ≡ without_blanks text.now }
+{
+    let mut at = 0;
+    'blanks: while at < text.len() && (text[at] == b' ' || (text[at] >= 9 && text[at] < 14)) {
+        at += 1;
+    }
+    &text[at..]
+}
+
+// Returns the text without one plus at its front.
+fn after_plus(text: &[u8]) -> &[u8]
+    ensures { result.now ≡ without_plus text.now }
+{
+    match text {
+        [b'+', rest @ ..] => rest,
+        _ => text,
+    }
+}
