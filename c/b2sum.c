@@ -4,7 +4,7 @@
  *
  * UPDATE_TREE is the name of update_tree in the assembly file, such as
  * b2sum..hashes..update_tree_0_1_0_v2. If three files are linked, UPDATE_TREE_V3 and UPDATE_TREE_V4
- * are those of the others. Without it, --tree hashes in one thread. */
+ * are those of the others. */
 #define _GNU_SOURCE
 #include <errno.h>
 #include <fcntl.h>
@@ -19,6 +19,8 @@
 #include <sys/uio.h>
 #include <time.h>
 #include <unistd.h>
+
+#include "vulfsjor_threads.h"
 
 ssize_t rattle_arg(size_t i, char *bytes, size_t size);
 
@@ -106,6 +108,16 @@ static void note(int file, ssize_t count) {
 
 /* ---- Files. */
 
+/* The state of --tree after its last update, if is_known. If length is not 0, the threads that made
+ * the last read have hashed the leaves of its bytes too, and an update with these bytes leads from
+ * state to next. */
+static struct {
+    bool is_known;
+    vulfsjor_tree_state state, next;
+    const void *bytes;
+    size_t length;
+} tree;
+
 /* A name that is not UTF-8, or that has a byte 0xF4, comes with each of its bytes from 0x80 on as
  * the character U+10FF00 + byte, which UTF-8 writes in four bytes. This turns these back. */
 static void decode(char *name) {
@@ -137,76 +149,120 @@ int open(const char *name, int flags, ...) {
     decode(path);
     do file = openat(AT_FDCWD, path, flags);
     while (file < 0 && errno == EINTR);
+    tree.is_known = false;
     if (file >= 0 && is_shown()) begin(file, path);
     return file;
 }
 
-/* ---- Large reads of regular files, by several threads. */
+/* ---- Large reads of regular files, and trees, by several threads. */
 
-enum { LEAST_PART = 1 << 20, MOST_PARTS = 16 };
-
-/* A part of a buffer, the place of its bytes in the file, and how many of them were read before the
- * file ended or a read failed. */
-struct part {
-    pthread_t thread;
-    bool is_started;
-    int file;
-    char *bytes;
-    size_t size, count;
-    off_t from;
+enum {
+    LEAST_BYTES = 1 << 20, /* at most one thread for each: for fewer, it costs what it saves */
+    PART_BYTES = 1 << 18,  /* about what a thread reads at a time, and hashes while it is cached */
+    MOST_THREADS = 16
 };
 
-static void *read_part(void *given) {
-    struct part *part = given;
-    ssize_t n = 1;
+/* A read by several threads. Each reads the next part of the plan until none is left. */
+struct job {
+    int file;
+    off_t from; /* the place of the first byte in the file */
+    unsigned char *bytes;
+    vulfsjor_plan plan;
+    unsigned char *digests; /* of the leaves of all parts; null: they are not hashed */
+    uint64_t next;          /* the first part that no thread reads yet; atomic */
+    uint64_t end;           /* the first byte that could not be read, or the size; atomic */
+};
 
-    while (part->count < part->size && n) {
-        n = pread(part->file, part->bytes + part->count, part->size - part->count,
-                  part->from + (off_t)part->count);
-        if (n > 0) part->count += (size_t)n;
-        if (n < 0 && errno != EINTR) n = 0;
+/* Reads these bytes. Returns whether all were read, and otherwise lowers j->end. */
+static bool read_at(struct job *j, uint64_t start, uint64_t length) {
+    const uint64_t end = start + length;
+    uint64_t least = __atomic_load_n(&j->end, __ATOMIC_RELAXED);
+
+    while (start < end) {
+        ssize_t n = pread(j->file, j->bytes + start, end - start, j->from + (off_t)start);
+        if (n > 0) start += (uint64_t)n;
+        if (!n || (n < 0 && errno != EINTR)) break;
     }
+    while (start < end && start < least &&
+           !__atomic_compare_exchange_n(&j->end, &least, start, false, __ATOMIC_RELAXED,
+                                        __ATOMIC_RELAXED)) {
+    }
+    return start == end;
+}
+
+/* What each thread does. */
+static void *run(void *given) {
+    struct job *j = given;
+    vulfsjor_part part;
+
+    while (!vulfsjor_tree_part(&part, &j->plan, __atomic_fetch_add(&j->next, 1, __ATOMIC_RELAXED)))
+        if (read_at(j, part.start, part.length) && j->digests &&
+            vulfsjor_tree_next_leaves(&tree.next, j->digests + part.digests_start,
+                                      part.digests_length, part.first, j->bytes + part.start,
+                                      part.length))
+            abort();
     return NULL;
 }
 
-/* How many parts a read of so many bytes has: 1, unless a regular file has them all. Sets *from to
- * the file's position if there are more. */
-static unsigned parts_of(int file, size_t size, off_t *from) {
-    struct stat about;
-    cpu_set_t set;
-    unsigned parts;
+/* Reads all parts, by the threads of the plan, the caller's among them. */
+static void run_all(struct job *j) {
+    pthread_t others[MOST_THREADS];
+    unsigned started = 0;
 
-    if (size < 2 * LEAST_PART || fstat(file, &about) || !S_ISREG(about.st_mode)) return 1;
-    *from = lseek(file, 0, SEEK_CUR);
-    if (*from < 0 || about.st_size - *from < (off_t)size) return 1;
-    parts = sched_getaffinity(0, sizeof set, &set) ? 1 : (unsigned)CPU_COUNT(&set);
-    if (parts > size / LEAST_PART) parts = (unsigned)(size / LEAST_PART);
-    return parts < MOST_PARTS ? parts : MOST_PARTS;
+    while (started + 1 < j->plan.threads && !pthread_create(&others[started], NULL, run, j))
+        started++;
+    run(j);
+    for (unsigned i = 0; i < started; i++) pthread_join(others[i], NULL);
+}
+
+/* Makes the plan of a read of so many bytes: if the state of a tree is known, and several threads
+ * can hash, that of its update; otherwise one whose leaves are not hashed. Returns whether there is
+ * one. */
+static bool is_planned(struct job *j, size_t size, unsigned threads) {
+    const vulfsjor_limits limits = {threads, LEAST_BYTES, PART_BYTES, UINT64_MAX};
+
+    return (tree.is_known && !vulfsjor_tree_plan_update(&j->plan, &tree.state, size, &limits) &&
+            j->plan.threads > 1 && (j->digests = malloc(j->plan.digests_length))) ||
+           !vulfsjor_tree_plan(&j->plan, 0, size, PART_BYTES, &limits);
 }
 
 /* Reads by so many threads. Returns the number of bytes without a gap, from the front on, after
  * which the file's position then is. If there are none, the caller reads again. */
-static size_t read_parts(int file, char *bytes, size_t size, off_t from, unsigned count) {
-    struct part parts[MOST_PARTS];
-    size_t length = size / count, total = 0;
-    bool is_whole = true;
+static size_t read_parts(int file, void *bytes, size_t size, off_t from, unsigned threads) {
+    struct job j = {.file = file, .from = from, .bytes = bytes, .end = size};
+    const vulfsjor_plan *plan = &j.plan;
+    bool is_hashed;
 
-    for (unsigned i = 0; i < count; i++) {
-        parts[i] = (struct part){.file = file, .bytes = bytes + i * length,
-                                 .size = i + 1 < count ? length : size - i * length,
-                                 .from = from + (off_t)(i * length)};
-        parts[i].is_started =
-            i > 0 && !pthread_create(&parts[i].thread, NULL, read_part, &parts[i]);
+    if (!is_planned(&j, size, threads)) return 0;
+    tree.next = tree.state;
+    if (read_at(&j, 0, plan->start)) {
+        if (j.digests && vulfsjor_tree_update(&tree.next, bytes, plan->start)) abort();
+        run_all(&j);
     }
-    for (unsigned i = 0; i < count; i++) {
-        if (parts[i].is_started)
-            pthread_join(parts[i].thread, NULL);
-        else
-            read_part(&parts[i]);
-        if (is_whole) total += parts[i].count;
-        is_whole = is_whole && parts[i].count == parts[i].size;
+    is_hashed = read_at(&j, plan->end, plan->rest_length) && j.digests && j.end == size &&
+                !vulfsjor_tree_update_leaves(&tree.next, j.digests, plan->digests_length,
+                                             j.bytes + plan->end, plan->rest_length);
+    free(j.digests);
+    if (lseek(file, from + (off_t)j.end, SEEK_SET) < 0) return 0;
+    if (is_hashed) {
+        tree.bytes = bytes;
+        tree.length = size;
     }
-    return lseek(file, from + (off_t)total, SEEK_SET) < 0 ? 0 : total;
+    return j.end;
+}
+
+/* How many threads read: 1, unless a regular file has enough bytes after its position. Then sets
+ * *from to that, and lowers *size to the bytes that there are. */
+static unsigned threads_of(int file, size_t *size, off_t *from) {
+    struct stat about;
+    cpu_set_t set;
+
+    if (*size < 2 * LEAST_BYTES || fstat(file, &about) || !S_ISREG(about.st_mode)) return 1;
+    *from = lseek(file, 0, SEEK_CUR);
+    if (*from < 0 || about.st_size - *from < 2 * LEAST_BYTES) return 1;
+    if (about.st_size - *from < (off_t)*size) *size = (size_t)(about.st_size - *from);
+    if (sched_getaffinity(0, sizeof set, &set)) return 1;
+    return CPU_COUNT(&set) < MOST_THREADS ? (unsigned)CPU_COUNT(&set) : MOST_THREADS;
 }
 
 /* Reads at most size bytes, after a signal again. Returns their number, 0 at the end, or -1 and
@@ -214,10 +270,12 @@ static size_t read_parts(int file, char *bytes, size_t size, off_t from, unsigne
 ssize_t read(int file, void *bytes, size_t size) {
     const struct iovec room = {bytes, size};
     off_t from = 0;
-    unsigned parts = parts_of(file, size, &from);
-    ssize_t count = parts > 1 ? (ssize_t)read_parts(file, bytes, size, from, parts) : 0;
+    unsigned threads = threads_of(file, &size, &from);
+    ssize_t count;
     int error;
 
+    tree.length = 0;
+    count = threads > 1 ? (ssize_t)read_parts(file, bytes, size, from, threads) : 0;
     if (!count)
         do count = readv(file, &room, 1);
         while (count < 0 && errno == EINTR);
@@ -227,27 +285,31 @@ ssize_t read(int file, void *bytes, size_t size) {
     return count;
 }
 
-/* ---- Trees by all processors. */
-
-#ifdef UPDATE_TREE
-#include "vulfsjor_threads.h"
+/* Absorbs the bytes into a state of the library. */
+static void update(vulfsjor_tree_state *state, const void *bytes, size_t length) {
+    if (tree.length && length == tree.length && bytes == tree.bytes &&
+        !memcmp(state, &tree.state, sizeof *state))
+        *state = tree.next;
+    else if (vulfsjor_tree_update_threads(state, bytes, length, 0) &&
+             vulfsjor_tree_update(state, bytes, length))
+        abort();
+    tree.state = *state;
+    tree.is_known = true;
+    tree.length = 0;
+}
 
 #define TEXT_OF(words) #words
 #define TEXT(words) TEXT_OF(words)
 
-/* Absorbs the bytes, as the function of this name of the assembly file does in one thread. The
- * states are those of the library. */
+/* The function of this name of the assembly file, which absorbs the bytes in one thread there. */
 #define UPDATE(function, name)                                                                 \
     void function(vulfsjor_tree_state *state, const void *bytes, size_t length) __asm__(name); \
     void function(vulfsjor_tree_state *state, const void *bytes, size_t length) {              \
-        if (vulfsjor_tree_update_threads(state, bytes, length, 0) &&                           \
-            vulfsjor_tree_update(state, bytes, length))                                        \
-            abort();                                                                           \
+        update(state, bytes, length);                                                          \
     }
 
 UPDATE(b2sum_update, TEXT(UPDATE_TREE))
 #ifdef UPDATE_TREE_V3
 UPDATE(b2sum_update_v3, TEXT(UPDATE_TREE_V3))
 UPDATE(b2sum_update_v4, TEXT(UPDATE_TREE_V4))
-#endif
 #endif

@@ -75,6 +75,7 @@ int __wrap_clock_gettime(clockid_t clock, struct timespec *t) {
 ssize_t __wrap_write(int file, const void *bytes, size_t size) {
     CHECK(file == 2);
     strncat(written, bytes, size);
+    errno = ENOSPC;
     return write_fails ? -1 : (ssize_t)size;
 }
 
@@ -168,20 +169,33 @@ ssize_t __wrap_pread(int file, void *bytes, size_t size, off_t from) {
     return __real_pread(file, bytes, size, from);
 }
 
-/* Whether a read of so many bytes from a place of the file of whole returns these many, by so many
- * threads that are started, writes no other byte and moves the position. */
-static int reads(int file, const char *whole, off_t from, size_t size, ssize_t wanted,
-                 int threads) {
-    static char bytes[ALL + 1];
+/* The place in a file at which none can be set. */
+static off_t unset_place = -1;
+off_t __real_lseek(int file, off_t place, int whence);
+off_t __wrap_lseek(int file, off_t place, int whence) {
+    return whence == SEEK_SET && place == unset_place ? -1 : __real_lseek(file, place, whence);
+}
+
+/* Whether a read of so many bytes from a place of the file of whole returns these many into bytes,
+ * writes no other byte and moves the position. */
+static int reads_into(char *bytes, int file, const char *whole, off_t from, size_t size,
+                      ssize_t wanted) {
     ssize_t count;
 
-    memset(bytes, '#', sizeof bytes);
+    memset(bytes, '#', size + 1);
     started = 0;
     CHECK(lseek(file, from, SEEK_SET) == from);
     count = read(file, bytes, size);
-    return count == wanted && started == threads &&
-           lseek(file, 0, SEEK_CUR) == from + (count > 0 ? count : 0) &&
+    return count == wanted && lseek(file, 0, SEEK_CUR) == from + (count > 0 ? count : 0) &&
            (count <= 0 || !memcmp(bytes, whole + from, (size_t)count)) && bytes[size] == '#';
+}
+
+/* The same, by so many threads that are started. */
+static int reads(int file, const char *whole, off_t from, size_t size, ssize_t wanted,
+                 int threads) {
+    static char bytes[ALL + 1];
+
+    return reads_into(bytes, file, whole, from, size, wanted) && started == threads;
 }
 
 static void check_parts(int file, const char *whole) {
@@ -190,10 +204,11 @@ static void check_parts(int file, const char *whole) {
         CHECK(reads(file, whole, 0, ALL, ALL, most - 1));
         CHECK(reads(file, whole, 12345, 7 * MIB + 7, 7 * MIB + 7, seven - 1));
         CHECK(reads(file, whole, ALL - 2 * MIB, 2 * MIB, 2 * MIB, 1));
+        CHECK(reads(file, whole, ALL - 2 * MIB - 7, 9 * MIB, 2 * MIB + 7, 1)); /* it ends before */
     }
     processors = 4;
     for (unstarted = 1; unstarted < 4; unstarted++)
-        CHECK(reads(file, whole, 1, 16 * MIB, 16 * MIB, 3));
+        CHECK(reads(file, whole, 1, 16 * MIB, 16 * MIB, unstarted)); /* none is tried after it */
     unstarted = 0;
     pread_interrupts = 50;
     CHECK(reads(file, whole, 3, 16 * MIB, 16 * MIB, 3));
@@ -215,7 +230,7 @@ static void check_plain(int file, const char *whole) {
 
     next_count = 0;
     CHECK(reads(file, whole, 0, 2 * MIB - 1, 0, 0) && read_from == file);
-    CHECK(reads(file, whole, ALL - 4 * MIB + 1, 4 * MIB, 0, 0)); /* the file ends before */
+    CHECK(reads(file, whole, ALL - 2 * MIB + 1, 4 * MIB, 0, 0)); /* the file ends before */
     for (processors = 0; processors < 2; processors++)
         CHECK(reads(file, whole, 0, 4 * MIB, 0, 0));
     processors = 4;
@@ -229,6 +244,177 @@ static void check_plain(int file, const char *whole) {
     CHECK(read(-1, bytes, sizeof bytes) == 0 && started == 0);
 }
 
+/* ---- Trees. */
+
+void update_two(vulfsjor_tree_state *state, const void *bytes, size_t length) __asm__("update.2");
+void update_three(vulfsjor_tree_state *state, const void *bytes, size_t length) __asm__("update.3");
+void update_four(vulfsjor_tree_state *state, const void *bytes, size_t length) __asm__("update.4");
+
+/* How many updates were made by threads, and how many by the library alone; whether the first fail;
+ * and whether there is no memory. */
+static int updates, plain_updates, status_of_threads, has_no_memory;
+
+void *__real_malloc(size_t size);
+void *__wrap_malloc(size_t size) { return has_no_memory ? NULL : __real_malloc(size); }
+
+int32_t __real_vulfsjor_ffi_tree_update(vulfsjor_tree_state *state, const uint8_t *input,
+                                        size_t length);
+int32_t __wrap_vulfsjor_ffi_tree_update(vulfsjor_tree_state *state, const uint8_t *input,
+                                        size_t length) {
+    plain_updates++;
+    return __real_vulfsjor_ffi_tree_update(state, input, length);
+}
+
+int vulfsjor_tree_update_threads(vulfsjor_tree_state *S, const void *in, size_t inlen,
+                                 unsigned threads) {
+    CHECK(threads == 0);
+    updates++;
+    return status_of_threads ? status_of_threads
+                             : __real_vulfsjor_ffi_tree_update(S, vulfsjor_text(in), inlen);
+}
+
+/* Whether the state, which is not used any more, has absorbed these bytes. */
+static int is_of(vulfsjor_tree_state *state, const char *bytes, size_t length) {
+    const uint32_t leaf = vulfsjor_ffi_tree_leaf_length(state);
+    unsigned char got[64], wanted[64];
+
+    return !vulfsjor_tree_final(state, got, 64) &&
+           !vulfsjor_tree_root(wanted, 64, bytes, length, "salt", 4, "", 0, leaf) &&
+           !memcmp(got, wanted, 64);
+}
+
+/* A state with leaves of this length that has absorbed the first head bytes of whole. */
+static vulfsjor_tree_state state_after(uint32_t leaf, const char *whole, size_t head) {
+    vulfsjor_tree_state state;
+
+    CHECK(!vulfsjor_tree_init(&state, 64, "salt", 4, "", 0, leaf));
+    update_two(&state, whole, head);
+    return state;
+}
+
+/* Each function absorbs the bytes, by threads or, if that fails, alone. */
+static void check_updates(void) {
+    vulfsjor_tree_state state = state_after(4, "abc", 3);
+
+    CHECK(updates == 1 && plain_updates == 0);
+    update_three(&state, "defg", 4);
+    CHECK(updates == 2 && plain_updates == 0);
+    status_of_threads = -1;
+    update_two(&state, "h", 1);
+    update_three(&state, "", 0);
+    update_four(&state, "i", 1);
+    CHECK(updates == 5 && plain_updates == 3 && is_of(&state, "abcdefghi", 9));
+    status_of_threads = 0;
+}
+
+/* Reads a file into `ahead` after an update with all before. Returns the state of the update. */
+static char ahead[ALL + 1];
+static vulfsjor_tree_state read_ahead(int file, const char *whole, uint32_t leaf, size_t head,
+                                      size_t size) {
+    vulfsjor_tree_state state = state_after(leaf, whole, head);
+
+    CHECK(reads_into(ahead, file, whole, (off_t)head, size, (ssize_t)size));
+    updates = plain_updates = 0;
+    return state;
+}
+
+/* The threads that read have hashed the leaves too, so that no update has to. */
+static void check_ahead(int file, const char *whole) {
+    static const struct {
+        uint32_t leaf;
+        size_t head, size;
+        int is_hashed;
+    } cases[] = {
+        {65536, 65536, 16 * MIB, 1},
+        {65536, 1, 16 * MIB, 1},
+        {65536, 65535, 16 * MIB - 1, 1},
+        {65536, 0, 2 * MIB, 1},
+        {64, 100, 2 * MIB + 1, 1},
+        {1000, 16 * MIB, 3 * MIB + 5, 1},
+        {MIB, 3, 16 * MIB, 1},
+        {65536, 5, 16 * MIB + 65537, 1},
+        {5 * MIB, 5 * MIB, 16 * MIB, 1},
+        {8 * MIB, 0, 16 * MIB, 0},  /* one whole leaf before the last, for one thread */
+        {20 * MIB, 3, 16 * MIB, 0}, /* none */
+    };
+    vulfsjor_tree_state state;
+
+    for (size_t i = 0; i < sizeof cases / sizeof *cases; i++) {
+        const size_t all = cases[i].head + cases[i].size;
+        for (unstarted = 0; unstarted < 4; unstarted += 2) {
+            state = read_ahead(file, whole, cases[i].leaf, cases[i].head, cases[i].size);
+            update_two(&state, ahead, cases[i].size);
+            CHECK(updates == !cases[i].is_hashed && plain_updates == 0);
+            CHECK(is_of(&state, whole, all));
+        }
+    }
+    unstarted = 0;
+    state = read_ahead(file, whole, 65536, 10, 3 * MIB);
+    update_three(&state, ahead, 3 * MIB);
+    CHECK(reads_into(ahead, file, whole, 3 * MIB + 10, 4 * MIB, 4 * MIB));
+    update_three(&state, ahead, 4 * MIB);
+    CHECK(updates == 0 && is_of(&state, whole, 7 * MIB + 10));
+}
+
+/* They have hashed for nothing if the update is another one. */
+static void check_others(int file, const char *whole) {
+    static char other[ALL];
+    vulfsjor_tree_state state = read_ahead(file, whole, 65536, 10, 3 * MIB), first;
+
+    update_two(&state, ahead, 3 * MIB - 1);
+    CHECK(updates == 1 && is_of(&state, whole, 3 * MIB + 9));
+    state = read_ahead(file, whole, 65536, 10, 3 * MIB);
+    memcpy(other, ahead, 3 * MIB);
+    update_two(&state, other, 3 * MIB);
+    CHECK(updates == 1 && is_of(&state, whole, 3 * MIB + 10));
+    first = state_after(65536, whole, 9);
+    state = read_ahead(file, whole, 65536, 10, 3 * MIB);
+    update_two(&first, ahead, 3 * MIB);
+    memcpy(other, whole, 9);
+    memcpy(other + 9, whole + 10, 3 * MIB);
+    CHECK(updates == 1 && is_of(&first, other, 3 * MIB + 9));
+    state = read_ahead(file, whole, 65536, 10, 3 * MIB);
+    update_two(&state, ahead, 3 * MIB);
+    update_two(&state, ahead, 3 * MIB);
+    memcpy(other, whole, 3 * MIB + 10);
+    memcpy(other + 3 * MIB + 10, whole + 10, 3 * MIB);
+    CHECK(updates == 1 && is_of(&state, other, 6 * MIB + 10));
+}
+
+/* Nothing is hashed after another file was opened, or without memory; and what was hashed before
+ * another read is not used, nor if readv has to read again. */
+static void check_unhashed(int file, const char *whole) {
+    vulfsjor_tree_state state = state_after(65536, whole, 10);
+
+    CHECK(opens_as("a", "a") && reads_into(ahead, file, whole, 10, 3 * MIB, 3 * MIB));
+    updates = 0;
+    update_two(&state, ahead, 3 * MIB);
+    CHECK(updates == 1 && is_of(&state, whole, 3 * MIB + 10));
+    state = state_after(65536, whole, 10);
+    CHECK(reads_into(ahead, file, whole, 7 * MIB, 3 * MIB, 3 * MIB));
+    has_no_memory = 1;
+    CHECK(reads_into(ahead, file, whole, 10, 3 * MIB, 3 * MIB));
+    has_no_memory = updates = 0;
+    update_two(&state, ahead, 3 * MIB);
+    CHECK(updates == 1 && is_of(&state, whole, 3 * MIB + 10));
+    state = state_after(65536, whole, 10);
+    unset_place = (next_count = 3 * MIB) + 10;
+    CHECK(lseek(file, 10, SEEK_SET) == 10 && read(file, ahead, 3 * MIB) == 3 * MIB);
+    updates = next_count = 0;
+    update_two(&state, ahead, 3 * MIB);
+    CHECK(updates == 1 && ahead[0] == 'r');
+    unset_place = -1;
+    for (bad_place = 10; bad_place < 3 * MIB + 10; bad_place += MIB / 2 - 3) {
+        const ssize_t count = bad_place - 10;
+        state = state_after(65536, whole, 10);
+        CHECK(reads_into(ahead, file, whole, 10, 3 * MIB, count));
+        updates = 0;
+        update_two(&state, ahead, (size_t)count);
+        CHECK(updates == 1 && is_of(&state, whole, (size_t)bad_place));
+    }
+    bad_place = ALL;
+}
+
 static void check_large(void) {
     static char whole[ALL];
     FILE *stream = tmpfile();
@@ -240,48 +426,11 @@ static void check_large(void) {
     CHECK(stream && fwrite(whole, 1, ALL, stream) == ALL && !fflush(stream));
     check_parts(fileno(stream), whole);
     check_plain(fileno(stream), whole);
+    check_updates();
+    check_ahead(fileno(stream), whole);
+    check_others(fileno(stream), whole);
+    check_unhashed(fileno(stream), whole);
     fclose(stream);
-}
-
-/* ---- Trees. */
-
-void update_two(vulfsjor_tree_state *state, const void *bytes, size_t length) __asm__("update.2");
-void update_three(vulfsjor_tree_state *state, const void *bytes, size_t length) __asm__("update.3");
-void update_four(vulfsjor_tree_state *state, const void *bytes, size_t length) __asm__("update.4");
-
-static const void *given_state, *given_bytes;
-static size_t given_length;
-static int updates, plain_updates, status_of_threads;
-
-int vulfsjor_tree_update_threads(vulfsjor_tree_state *S, const void *in, size_t inlen,
-                                 unsigned threads) {
-    CHECK(threads == 0);
-    given_state = S;
-    given_bytes = in;
-    given_length = inlen;
-    updates++;
-    return status_of_threads;
-}
-
-int32_t vulfsjor_ffi_tree_update(vulfsjor_tree_state *state, const uint8_t *input, size_t length) {
-    CHECK(state == given_state && input == given_bytes && length == given_length);
-    plain_updates++;
-    return 0;
-}
-
-static void check_trees(void) {
-    vulfsjor_tree_state state = {0};
-
-    update_two(&state, "abc", 3);
-    CHECK(given_state == &state && !memcmp(given_bytes, "abc", 3) && given_length == 3);
-    CHECK(updates == 1 && plain_updates == 0);
-    update_three(&state, "abcd", 4);
-    CHECK(given_length == 4 && updates == 2 && plain_updates == 0);
-    status_of_threads = -1;
-    update_two(&state, "a", 1);
-    update_three(&state, "a", 1);
-    update_four(&state, "a", 1);
-    CHECK(updates == 5 && plain_updates == 3);
 }
 
 /* ---- Progress. */
@@ -304,9 +453,9 @@ static void check_progress(void) {
     char name[50];
 
     time_now = 1000;
-    CHECK(opens_as("some\x01\x7f\xff" "file", "some\x01\x7f\xff" "file"));
-    CHECK(shows(1499, 1 << 20, "") && shows(1500, 1 << 20, "\rsome???file: 2 MiB\033[K"));
-    CHECK(shows(1599, 1 << 20, "") && shows(1600, (1 << 20) - 1, "\rsome???file: 3 MiB\033[K"));
+    CHECK(opens_as("some\x1f\x7f\xf4\x8f\xbf\xbf ~", "some\x1f\x7f\xff ~"));
+    CHECK(shows(1499, 1 << 20, "") && shows(1500, 1 << 20, "\rsome??? ~: 2 MiB\033[K"));
+    CHECK(shows(1599, 1 << 20, "") && shows(1600, (1 << 20) - 1, "\rsome??? ~: 3 MiB\033[K"));
     CHECK(shows(1601, 0, "\r\033[K") && shows(1602, 0, ""));
     memset(name, 'n', 49);
     strcpy(name + 41, "end");
@@ -317,6 +466,12 @@ static void check_progress(void) {
     CHECK(shows(2700, 1, "\rnnnnnnnnnnnnnnnnnnnnnnnnnnnnnnnnnnnnnend: 0 MiB\033[K"));
     write_fails = 0;
     CHECK(shows(2701, 0, ""));
+    CHECK(shows(2801, 1, "\rnnnnnnnnnnnnnnnnnnnnnnnnnnnnnnnnnnnnnend: 0 MiB\033[K"));
+    write_fails = 1;
+    error_of_calls = EIO;
+    CHECK(read(9, name, 1) == -1 && errno == EIO && !strcmp(written, "\r\033[K"));
+    write_fails = error_of_calls = 0;
+    next_count = written[0] = 0;
     time_now = 3000;
     CHECK(read(0, name, 1) == 0 && !written[0]); /* standard input is another file */
     time_now = 3600;
@@ -325,14 +480,16 @@ static void check_progress(void) {
     written[0] = 0;
 }
 
-/* The length of a regular file is shown too. */
+/* The length of a regular file is shown too, which makes the longest line. */
 static void check_length(void) {
     int file = dup(fileno(tmpfile()));
+    char name[41] = "", line[99];
 
-    CHECK(file > 2 && !ftruncate(file, 5 << 20) && dup2(file, 9) == 9);
+    CHECK(file > 2 && !ftruncate(file, (off_t)1 << 40) && dup2(file, 9) == 9);
     time_now = 5000;
-    CHECK(opens_as("whole", "whole"));
-    CHECK(shows(5500, 1 << 20, "\rwhole: 1 MiB of 5\033[K"));
+    memset(name, 'n', sizeof name - 1);
+    sprintf(line, "\r%s: 1 MiB of 1048576\033[K", name);
+    CHECK(opens_as(name, name) && shows(5500, 1 << 20, line));
     close(9);
 }
 
@@ -349,8 +506,7 @@ int checks(void) {
     }
     check_open();
     check_read();
-    check_large();
-    check_trees();
+    if (!is_terminal) check_large(); /* once, since it takes long */
     CHECK(!strcmp(written, ""));
     return fails ? 1 : 7;
 }

@@ -12,17 +12,20 @@ functions_of_program() {
 
 # ../b2sum.c over its tests, with progress that is to be shown, and with progress that is not.
 functions_of_b2sum() {
-    local words
+    local words build=v2 text=$dist/x86_64/vulfsjor-v2.s
     local calls=openat,readv,isatty,clock_gettime,write,pread,pthread_create,sched_getaffinity
+    calls+=,lseek,malloc,vulfsjor_ffi_tree_update
+    is_x86 || build=arm text=$dist/aarch64/vulfsjor.s
     cc -O2 -g "${warnings[@]}" -DMAIN=checks -DUPDATE_TREE=update.2 -DUPDATE_TREE_V3=update.3 \
         -DUPDATE_TREE_V4=update.4 "-Wl,--wrap=${calls//,/,--wrap=}" "-I$here/include" \
-        "$here/b2.c" "$here/b2sum.c" "$tests/b2sum.c" -pthread -o "$work/sums" "$@" || return
-    for words in --progress "a --prog" "--pr --"; do
+        "-DCHOOSE_ONE=$build" "$here"/{b2,b2sum,choose}.c "$text" "$tests/b2sum.c" -pthread \
+        -o "$work/sums" "$@" || return
+    for words in --progress "a-longer-word --prog" "--pr --"; do
         SHOWS=1 timeout 60 "$work/sums" $words
         [ $? -eq 7 ] || return
     done
     for words in "" "-- --progress" --progressx --p --; do
-        timeout 60 "$work/sums" $words
+        timeout 60 bash -c 'exec -a --progress "$@"' - "$work/sums" $words
         [ $? -eq 7 ] || return
     done
     NO_TERMINAL=1 timeout 60 "$work/sums" --progress
