@@ -53,13 +53,11 @@ sources() {
     mapfile -t folders < <(crates_of "${crates[@]}" | sort -u | sed 's|.*|crates/&/src|')
     cd "$top"
     {
-        find "${folders[@]}" -name '*.rt' | LC_ALL=C sort | while IFS= read -r file; do
-            echo "== $file"
-            sed '/^[[:space:]]*\/\//d' "$file"
-        done
+        find "${folders[@]}" -name '*.rt' | LC_ALL=C sort |
+            xargs awk 'FNR == 1 { print "== " FILENAME } !/^[ \t]*\/\//'
         version _
-        cat tools/plain_names.py tools/aarch64_attributes.csv tools/x86_64_v4.sed \
-            tools/clear_registers.py tools/object_format.py
+        cat tools/plain_names.py tools/aarch64_attributes.csv tools/x86_64_v2.sed \
+            tools/x86_64_v4.sed tools/clear_registers.py tools/object_format.py
     } | sha256sum | cut -d ' ' -f 1
 }
 
@@ -90,8 +88,10 @@ build() {
     local make=make_toolchain
     crate=$(crate_of "$file") room=$work/$crate
     case $file in
-        x86_64/*-v[23].s) target=x86_64-unknown-linux-gnu cpu=x86-64-${file: -4:2} \
-            end=${file: -4:2} more=(-mllvm -force-attribute=noredzone) ;;
+        x86_64/*-v2.s) target=x86_64-unknown-linux-gnu cpu=x86-64-v2 end=v2 \
+            make=make_v2_toolchain more=(-mllvm -force-attribute=noredzone) ;;
+        x86_64/*-v3.s) target=x86_64-unknown-linux-gnu cpu=x86-64-v3 end=v3 \
+            more=(-mllvm -force-attribute=noredzone) ;;
         x86_64/*-v4.s) target=x86_64-unknown-linux-gnu cpu=x86-64-v3 end=v4 \
             make=make_v4_toolchain more=(-mllvm -force-attribute=noredzone) ;;
         aarch64/*.s)

@@ -109,7 +109,7 @@ target=\$1 module=module.bc
 if [ -e "$folder.sed" ]; then
     module="$folder/module.ll"
     run "\$target" -S -emit-llvm -Xclang -disable-llvm-passes -x ir module.bc -o "\$module"
-    /bin/sed -i -f "$folder.sed" "\$module"
+    /bin/sed -i -f "$folder.sed" "\$module" || exit
 fi
 for word; do
     shift
@@ -128,6 +128,13 @@ fi
 run "\$target" -c "$folder/module.s" -o module.o
 END
     chmod +x "$folder/bin/clang"
+}
+
+# The same for x86-64-v2.
+make_v2_toolchain() {
+    mkdir -p "$1"
+    cp "$top/tools/x86_64_v2.sed" "$1.sed"
+    make_toolchain "$@"
 }
 
 # The same for x86-64-v4, which Rattle does not have: to use with its --cpu x86-64-v3.
