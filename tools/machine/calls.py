@@ -56,10 +56,10 @@ TREES = {
     "_update": (STATE, BYTES), "_update_leaves": (STATE, BYTES, BYTES), "_wipe": (STATE,),
 }
 ANSWERS = ("_verify", "is_same")       # whose result may depend on secrets
-# What is not shown: the bounds of the code's pointers are too hard for the ranges.
 NOT_FOLLOWED = ("dist/x86_64/vulfsjor-v4.s",)   # masks of AVX-512 are not followed
-NOT_SHOWN = {("dist/aarch64/vulfsjor.s", "vulfsjor_ffi_tree_root"),
-             ("dist/x86_64/vulfsjor-v2.s", "vulfsjor_ffi_tree_leaves")}
+# What is not shown, as pairs of a file and a function: those whose pointers have bounds that are
+# too hard for the ranges. There is none now.
+NOT_SHOWN = set()
 
 
 class Call:
@@ -122,8 +122,8 @@ class Analysis:
 
     def __init__(self, program):
         self.program, self.codes = program, {}
-        self.listed = {functions.in_file(program.path, name): (kind, is_many)
-                       for name, kind, is_many in functions.FILES[program.path]}
+        self.listed = {functions.in_file(program.path, name): (kind, lanes)
+                       for name, kind, lanes in functions.FILES[program.path]}
         self.reached, self.at = set(), None
 
     def code(self, name):
@@ -262,13 +262,12 @@ def rounds_at(m, head, origin):
     return tuple(sorted(rounds.items()))
 
 
-def compress(m, arguments, kind, is_many):
+def compress(m, arguments, kind, lanes):
     """A call of a function that compresses, of which compression.py shows what it does."""
-    lanes = kind.lanes if is_many else 1
-    used = [T.word(T.split(t)[:1]) for t in arguments[3:5]] if not is_many else []
-    for t in arguments[:4 if is_many else 3] + used:
+    used = [T.word(T.split(t)[:1]) for t in arguments[3:5]] if lanes == 1 else []
+    for t in arguments[:4 if lanes > 1 else 3] + used:
         need_public(t, "an argument of a compression")
-    if is_many:
+    if lanes > 1:
         for t, size in ((arguments[1], 16 * lanes), (arguments[3], 2 * lanes)):
             need_public(T.word(m.load(t, size)), "a block's address or a flag")
     m.store(arguments[0], [secret()] * (8 * kind.bytes * lanes))

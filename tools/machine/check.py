@@ -49,20 +49,35 @@ def missing(path):
     return next((tool for tool in needed if not shutil.which(tool)), None)
 
 
-def prove(path, entry):
-    """The claim for one function of a file."""
-    name, kind, is_many = entry
-    count = "%d messages" % kind.lanes if is_many else "one message"
+def prove(paths, entry):
+    """The claim for one function of the files of one build. A function that has the same content
+    as that of an earlier file is not executed again."""
+    shown, results = {}, []
+    for path in paths:
+        results += prove_one(path, entry, shown)
+    return results
+
+
+def prove_one(path, entry, shown):
+    """The claim for one function of a file. `shown` has the contents that are shown already, and
+    of which file."""
+    name, kind, lanes = entry
+    count = "%d messages" % lanes if lanes > 1 else "one message"
     title = "%s: F of %s, %s" % (path, FAMILIES[kind.name], count)
     if missing(path):
         return [("skip", title, "no " + missing(path))]
     try:
-        program = programs.Program(path)
-        runner, seconds = compression.show(program, functions.in_file(path, name), kind, is_many)
+        program, name = programs.read(path), functions.in_file(path, name)
+        content = program.content(name)
+        if content in shown:
+            return [("ok", title, "the instructions and constants of %s" % shown[content])]
+        runner, seconds = compression.show(program, name, kind, lanes)
     except T.IsWrong as e:
         return [("not ok", title, "is wrong: %s" % e)]
     except (T.CannotShow, programs.NotAssembled) as e:
         return [("not ok", title, "cannot show: %s" % e)]
+    if content:
+        shown[content] = path
     return [("ok", title, "%d instructions, %d executed on %d paths, %d branches and %d addresses "
              "without a secret, %.1f s" % (len(runner.code), runner.count, runner.paths,
                                            runner.branches, runner.addresses, seconds))]
@@ -73,7 +88,7 @@ def search(path):
     title = "%s: no other function has a copy of the rounds" % path
     if missing(path):
         return [("skip", title, "no " + missing(path))]
-    found = functions.unlisted(programs.Program(path))
+    found = functions.unlisted(programs.read(path))
     why = "%s: rotates words as G does: add it to FILES in tools/machine/functions.py"
     return [("not ok", title, why % ", ".join(found)) if found else ("ok", title, "")]
 
@@ -130,7 +145,7 @@ def follow(path, family):
     title = "%s: no branch and no address of a call depends on a secret: %s" % (path, family)
     if missing(path):
         return [("skip", title, "no " + missing(path))]
-    program, count, reached = programs.Program(path), 0, set()
+    program, count, reached = programs.read(path), 0, set()
     for entry in calls.exports(program):
         if entry[2] not in FOLLOWED[family]:
             continue
@@ -152,7 +167,7 @@ def scrub(path):
     title = "%s: scrub_stack overwrites its bytes" % path
     if missing(path):
         return [("skip", title, "no " + missing(path))]
-    program = programs.Program(path)
+    program = programs.read(path)
     found = wiping.names(program)
     try:
         for name, count in found.items():
@@ -186,9 +201,13 @@ def rules(width):
 def jobs(arguments):
     """The jobs, as a function and its arguments: the long ones first."""
     chosen = arguments or list(functions.FILES)
-    found = [(prove, (path, entry)) for path in chosen
-             for entry in sorted(functions.FILES[path], key=lambda e: not e[2])]
-    libraries = [path for path in chosen if functions.FILES[path] is functions.LIBRARY
+    builds = {}
+    for path in chosen:
+        for entry in functions.FILES[path]:
+            builds.setdefault((functions.build(path), entry), []).append(path)
+    found = [(prove, (paths, entry)) for (_, entry), paths in sorted(
+        builds.items(), key=lambda b: -b[0][1][2])]
+    libraries = [path for path in chosen if "/vulfsjor" in path
                  and functions.architecture(path) != "wasm"]
     found += [(search, (path,)) for path in chosen]
     found += [(scrub, (path,)) for path in libraries]
@@ -219,6 +238,16 @@ def refuse(*line):
     if missing(path):
         return [("skip", "refused: %s: %s" % (path, line[3]), "no " + missing(path))]
     return mutations.refuse(*line)
+
+
+def read_all(paths):
+    """Reads the files, which all jobs share. What is wrong with one, its jobs say."""
+    for path in paths:
+        try:
+            if not missing(path):
+                programs.read(path)
+        except (T.Refused, programs.NotAssembled):
+            pass
 
 
 def run(job):
@@ -260,6 +289,7 @@ def main(arguments):
     if unknown:
         print("check.py: there is no list of functions for %s" % unknown[0], file=sys.stderr)
         return 2
+    read_all(arguments or functions.FILES)
     with multiprocessing.Pool() as pool:
         found = (r for results in pool.imap(run, jobs(arguments), chunksize=1) for r in results)
         return 0 if report(found) else 1

@@ -10,7 +10,7 @@ import check_instructions as check
 import functions
 import terms as T
 from following import Memory, is_secret, reset, secret
-from program import Program
+from program import read
 
 SPAN = (-check.BUFFER, check.BUFFER)
 # Not run alone: other control, what moves the stack pointer, and what may fault or wait.
@@ -56,7 +56,6 @@ def hidden(rng, size):
 
 def machine(program, text, base, data, places):
     """The abstract machine after an instruction, in which bytes at these places are secret."""
-    reset()
     model = calls.MODELS[program.kind]
     byte = lambda k: secret() if k in places else data[k]
     buf = T.var(64, "buffer", T.PUBLIC)
@@ -101,19 +100,21 @@ def wrong(program, m, buf, one, two):
 
 def run(path, rounds):
     """Whether the abstract machine agrees with the processor: a verdict, and what differs."""
-    program, rng = Program(path), random.Random(3)
+    program, rng = read(path), random.Random(3)
     forms, tests = chosen(program, 2 if rounds > 4 else 1, rng)
     vectors, inputs, hiding = check.vectors_of(path), [], []
     for k, (text, _) in enumerate(tests):
         for n in range(rounds):
             data = check.state(rng, text, n % 2 == 0)
             places, other = hidden(rng, vectors[1]), bytearray(data)
-            for at in places:
-                other[at] = rng.randrange(256)
+            for at, b in zip(sorted(places), rng.randbytes(len(places))):
+                other[at] = b
             inputs += [(k, bytes(data)), (k, bytes(other))]
             hiding.append(places)
     after = check.execute(program.kind, tests, vectors, inputs)
     for n, places in enumerate(hiding):
+        if n % 50 == 0:
+            reset()
         k, data = inputs[2 * n]
         m, buf = machine(program, *tests[k], data, places)
         why = wrong(program, m, buf, after[2 * n], after[2 * n + 1])

@@ -7,7 +7,7 @@ import random
 import compression
 import functions
 import terms as T
-from program import Program
+from program import read
 
 
 def numbers_of(call, texts, size):
@@ -42,16 +42,15 @@ def concrete(call, numbers):
 
 def digests(program, entry, rng):
     """The digests of random messages by the model, and those of hashlib."""
-    name, kind, is_many = entry
+    name, kind, lanes = entry
     name = functions.in_file(program.path, name)
     T.reset()
-    lanes = kind.lanes if is_many else 1
     size = rng.randrange(1, kind.block + 1)
     texts = [rng.randbytes(size) for _ in range(lanes)]
     nodes = [bool(rng.randrange(2)) for _ in range(lanes)]
     assumed = {"last%d" % j: True for j in range(lanes)}
     assumed.update({"node%d" % j: node for j, node in enumerate(nodes)})
-    call = compression.Call(program, name, kind, is_many, assumed)
+    call = compression.Call(program, name, kind, lanes, assumed)
     concrete(call, numbers_of(call, texts, size))
     compression.Runner(program.code(name)).run(call.machine)
     found = [b"".join(bytes(T.split(call.result(call.machine, j, k))) for k in range(8))
@@ -62,7 +61,7 @@ def digests(program, entry, rng):
 
 def check(path, count):
     """Whether the model of each function of a file agrees with hashlib, in `count` runs."""
-    program, rng, total = Program(path), random.Random(2), 0
+    program, rng, total = read(path), random.Random(2), 0
     for entry in functions.FILES[path]:
         for _ in range(count):
             found, wanted = digests(program, entry, rng)

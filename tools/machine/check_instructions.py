@@ -13,7 +13,7 @@ import functions
 import terms as T
 import x86
 from machine import Region
-from program import Program, TOOLS
+from program import read, TOOLS
 
 BUFFER = 4096                          # bytes on each side of the base of an access
 SKIPPED = {"push", "pop", "ret", "jmp", "je", "jne", "nop", "adrp", "cbz", "cbnz", "b.ne", "b.eq",
@@ -194,9 +194,12 @@ def difference(program, m, buf, before, after):
         zero = T.substitute(m.zero, numbers, {})
         if (zero.op == "const" and zero.args == 0) != bool(after[ZERO]):
             return "the zero flag is %d" % after[ZERO]
-    for k in range(2 * BUFFER):
-        if m.memory.get((buf, k - BUFFER), before[MEMORY + k]) != after[MEMORY + k]:
-            return "the memory at %d differs" % (k - BUFFER)
+    memory = list(before[MEMORY:])
+    for (_, k), b in m.memory.items():
+        memory[BUFFER + k] = b
+    if memory != list(after[MEMORY:]):
+        return "the memory at %d differs" % next(
+            k - BUFFER for k, b in enumerate(memory) if b != after[MEMORY + k])
     return None
 
 
@@ -243,7 +246,7 @@ def execute(kind, tests, vectors, inputs):
 
 def check(path, rounds):
     """Whether the model agrees with the processor: a verdict, and the numbers or what differs."""
-    program, rng = Program(path), random.Random(1)
+    program, rng = read(path), random.Random(1)
     forms, tests = chosen(program, functions.FILES[path], rng, 3 if rounds > 4 else 1)
     inputs = []
     for k, (text, _) in enumerate(tests):

@@ -32,9 +32,9 @@ def mask(w, name, assumed):
 class Call:
     """A call of a compression function: its variables, its memory, and what it must return."""
 
-    def __init__(self, program, name, kind, is_many, assumed):
+    def __init__(self, program, name, kind, lanes, assumed):
         self.program, self.kind, self.assumed = program, kind, assumed
-        self.lanes = lanes = kind.lanes if is_many else 1
+        self.lanes = lanes
         w, n = kind.w, kind.bytes
         public = lambda what: T.var(64, what, T.PUBLIC)
         secret = lambda what, count: [[T.var(w, "%s%d.%d" % (what, j, k), T.SECRET)
@@ -52,7 +52,7 @@ class Call:
         if program.kind != "wasm":
             self.regions[image()] = Region(0, 1 << 32, program.constant, None, (4096, 0))
         self.machine = program.machine(name, self.regions, assumed)
-        arguments = self.arguments_of_many() if is_many else self.arguments_of_one()
+        arguments = self.arguments_of_many() if lanes > 1 else self.arguments_of_one()
         self.at_block(0)
         self.machine.start(self.sp, self.back, [self.h] + arguments)
         self.saved = self.machine.saved()
@@ -179,7 +179,7 @@ def show_one(program, name, kind, runner):
     waiting = [{}]
     while waiting:
         assumed = waiting.pop()
-        call = Call(program, name, kind, False, assumed)
+        call = Call(program, name, kind, 1, assumed)
         try:
             runner.run(call.machine)
         except Fork as f:
@@ -195,7 +195,7 @@ class Loop:
     """A function that compresses a number of blocks of each of several messages: a proof by
     induction over the iterations of its only loop."""
 
-    def __init__(self, program, name, kind, runner):
+    def __init__(self, program, name, kind, lanes, runner):
         self.runner, self.kind = runner, kind
         heads = {i.target for i in runner.code.values()
                  if i.target is not None and i.target <= i.address}
@@ -204,10 +204,10 @@ class Loop:
                              "it, tools/machine/compression.py needs a proof for that" % len(heads))
         self.head, = heads
         self.count = T.var(64, "length0", T.PUBLIC)
-        self.none = Call(program, name, kind, True, {self.count: True})
+        self.none = Call(program, name, kind, lanes, {self.count: True})
         for p in self.none.blocks:
             del self.none.regions[self.none.pointer(p)]
-        self.call = Call(program, name, kind, True, {self.count: False})
+        self.call = Call(program, name, kind, lanes, {self.count: False})
 
     def show(self):
         """All of the proof."""
@@ -352,14 +352,14 @@ class Loop:
         return wrong
 
 
-def show(program, name, kind, is_many):
+def show(program, name, kind, lanes):
     """Proves the claim for a function, or raises Refused. Returns the runner, and the seconds."""
     T.reset()
     started = time.time()
     runner = Runner(program.code(name))
     try:
-        if is_many:
-            Loop(program, name, kind, runner).show()
+        if lanes > 1:
+            Loop(program, name, kind, lanes, runner).show()
         else:
             show_one(program, name, kind, runner)
         runner.check_all_reached(program.model.Model.FREE)

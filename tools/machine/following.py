@@ -71,7 +71,8 @@ class Follower(Ranges):
         """Adds what the models do not have. `alignment` is that of the stack: a power of two, and
         the stack pointer modulo that. An index that has no bound stays within a block."""
         self.alignment, self.block = alignment, block
-        self.facts = {}                # byte -> comparisons that do not hold if it is 0
+        # Byte -> what holds if it is 0, and what if it is not: comparisons, as for learn().
+        self.facts = {}
         # The range (low, high, step) of each variable that has a smaller one than its width. Sums
         # of variables without a constant have ranges too; in `residues`, modulo the width.
         self.ranges, self.residues = dict(ranges), {}
@@ -127,13 +128,13 @@ class Follower(Ranges):
         return None
 
     def learn(self, relation, a, b, holds):
-        """Learns a comparison, and what made a byte that is 0. Returns whether that may be."""
-        relation = relation if holds else OPPOSITE[relation]
-        if relation == "==" and b.op == "const" and b.args == 0:
-            for other in self.facts.get(a, ()):
-                if not self.learn(*other, False):
-                    return False
-        return self.assume(relation, a, b)
+        """Learns that a comparison holds or does not, and what made a byte that is now known to be
+        0 or not. Returns whether that may be."""
+        if not self.assume(relation if holds else OPPOSITE[relation], a, b):
+            return False
+        low, high = self.unsigned(a)
+        known = self.facts[a][low > 0] if a in self.facts and (low > 0 or high == 0) else ()
+        return all(self.learn(*other) for other in known)
 
     def truth(self, condition):
         """Whether a condition holds, if that is known, or "secret"."""
@@ -168,7 +169,7 @@ class Follower(Ranges):
         x = self.new(8, "", (0, 1, 1))
         compared = self.compared(condition)
         if compared:
-            self.facts = {**self.facts, x: (compared,)}
+            self.facts = {**self.facts, x: tuple(((*compared, on),) for on in (False, True))}
         return x, 0
 
     def outcomes(self, i):
@@ -182,14 +183,14 @@ class Follower(Ranges):
                 yield m, jumps
 
     def either(self, a, b):
-        """An or, of which the facts about both are kept."""
+        """An or. If it is 0, both are."""
         for t, u in ((a, b), (b, a)):
             if t.op == "const" and (t.args == 0 or self.is_clear(u, t.args)):
                 return T.add(a.w, (1, t), (1, u))
         bits = max(self.unsigned(a)[1], self.unsigned(b)[1]).bit_length()
         r = self.new(a.w, "", (0, (1 << bits) - 1, 1))
         if a in self.facts and b in self.facts:
-            self.facts = {**self.facts, r: self.facts[a] + self.facts[b]}
+            self.facts = {**self.facts, r: (self.facts[a][0] + self.facts[b][0], ())}
         return r
 
     def is_clear(self, address, n):
@@ -203,7 +204,18 @@ class Follower(Ranges):
         return (constant + self.alignment[1]) % need & n == 0
 
     def masked(self, a, b):
-        """An and. One that clears the lowest bits only subtracts them."""
+        """An and. One that clears the lowest bits only subtracts them. If it is not 0, neither of
+        both is 0."""
+        if a.op == b.op == "const":
+            return T.const(a.w, a.args & b.args)
+        for t, u in ((a, b), (b, a)):
+            ones = (1 << self.unsigned(t)[1].bit_length()) - 1
+            if u.op == "const" and u.args & ones == ones:
+                return t
+        if a in self.facts and b in self.facts:
+            r = self.new(a.w, "", (0, min(self.unsigned(a)[1], self.unsigned(b)[1]), 1))
+            self.facts = {**self.facts, r: ((), self.facts[a][1] + self.facts[b][1])}
+            return r
         n = min((t.args for t in (a, b) if t.op == "const"), default=(1 << a.w) - 1)
         low = (1 << a.w) - n
         if set(T.linear(a)[1]) == {self.stack}:

@@ -5,28 +5,29 @@ import re
 
 import rfc7693 as R
 
-# The name without the version, the family, and whether it compresses blocks of several messages.
-ONE_B = ("blake2_compress..words..blake2b..compress", R.BLAKE2B, False)
-ONE_S = ("blake2_compress..words..blake2s..compress", R.BLAKE2S, False)
-MANY_B = ("blake2_compress..many..blake2b..compress_blocks", R.BLAKE2B, True)
-MANY_S = ("blake2_compress..many..blake2s..compress_blocks", R.BLAKE2S, True)
+# The name without the version, the family, and of how many messages it compresses blocks.
+ONE_B = ("blake2_compress..words..blake2b..compress", R.BLAKE2B, 1)
+ONE_S = ("blake2_compress..words..blake2s..compress", R.BLAKE2S, 1)
+MANY_B = ("blake2_compress..many..blake2b..compress_blocks", R.BLAKE2B, 4)
+MANY_S = ("blake2_compress..many..blake2s..compress_blocks", R.BLAKE2S, 8)
+EIGHT_B = ("blake2_compress..many..blake2b..eight..compress_blocks", R.BLAKE2B, 8)
 SCRUB_STACK = "blake2_digest..wiping..scrub_stack.."
 SETTLE = "blake2_digest..wiping..settle.."
 
 LIBRARY = (ONE_B, MANY_B, ONE_S, MANY_S)
 PROGRAM = (ONE_B, MANY_B, ONE_S)       # b2 and b2sum hash several messages with BLAKE2b only
 FILES = {
-    "dist/x86_64/vulfsjor-v4.s": LIBRARY,
+    "dist/x86_64/vulfsjor-v4.s": LIBRARY + (EIGHT_B,),
     "dist/x86_64/vulfsjor-v3.s": LIBRARY,
-    "dist/x86_64/vulfsjor-v2.s": LIBRARY,
+    "dist/x86_64/vulfsjor-v2.s": (ONE_B, ONE_S, MANY_S),
     "dist/aarch64/vulfsjor.s": LIBRARY,
-    "dist/x86_64/b2-v4.s": PROGRAM,
+    "dist/x86_64/b2-v4.s": PROGRAM + (EIGHT_B,),
     "dist/x86_64/b2-v3.s": PROGRAM,
-    "dist/x86_64/b2-v2.s": PROGRAM,
+    "dist/x86_64/b2-v2.s": (ONE_B, ONE_S),
     "dist/aarch64/b2.s": PROGRAM,
-    "dist/x86_64/b2sum-v4.s": PROGRAM,
+    "dist/x86_64/b2sum-v4.s": PROGRAM + (EIGHT_B,),
     "dist/x86_64/b2sum-v3.s": PROGRAM,
-    "dist/x86_64/b2sum-v2.s": PROGRAM,
+    "dist/x86_64/b2sum-v2.s": (ONE_B, ONE_S),
     "dist/aarch64/b2sum.s": PROGRAM,
     "dist/wasm/vulfsjor.wasm": LIBRARY,
     "js/src/wasm.js": LIBRARY,
@@ -36,6 +37,12 @@ FILES = {
 def architecture(path):
     """What runs a file: x86_64, aarch64 or wasm."""
     return next((kind for kind in ("x86_64", "aarch64") if "/%s/" % kind in path), "wasm")
+
+
+def build(path):
+    """The folder and the end of a file's name, which the same build of other libraries shares."""
+    folder, _, file = path.rpartition("/")
+    return folder, file.partition("-")[2]
 
 
 def in_file(path, name):

@@ -177,7 +177,11 @@ def need_public(t, what):
 
 def junk(name, n):
     """n bytes of undefined data."""
-    return [(T.var(8, "%s.%d" % (name, k), T.JUNK), 0) for k in range(n)]
+    return list(T.remembered(_junk, name, n))
+
+
+def _junk(name, n):
+    return tuple((T.var(8, "%s.%d" % (name, k), T.JUNK), 0) for k in range(n))
 
 
 def chunks(data, n):

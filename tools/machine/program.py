@@ -1,6 +1,7 @@
 """Reads the code and the constants of a file: assembles and links it, and disassembles it with
 objdump; or reads a WebAssembly module."""
 
+import functools
 import os
 import re
 import struct
@@ -21,6 +22,9 @@ MODELS = {"x86_64": x86, "aarch64": arm, "wasm": wasm}
 
 CONSTANTS = ".rodata"                  # the section of the constants
 RELOCATIONS = 4                        # the type of a section of relocations
+# The kinds of relocation that fill in 4 bytes of constants, R_X86_64_PC32 and R_AARCH64_PREL32.
+# Any other fills in at most 8.
+OF_FOUR_BYTES = (2, 261)
 # What the linker fills in where the code has the address of a constant.
 OF_CONSTANTS = ("R_X86_64_PC32", "R_AARCH64_ADR_PREL_PG_HI21", "R_AARCH64_ADD_ABS_LO12_NC",
                 "R_AARCH64_LDST64_ABS_LO12_NC", "R_AARCH64_LDST128_ABS_LO12_NC")
@@ -29,6 +33,12 @@ LINE = re.compile(r"\s*([0-9a-f]+):\t([0-9a-f ]+?)\s*\t(.*)")
 
 class NotAssembled(Exception):
     """The assembler or the linker refuses the file."""
+
+
+@functools.lru_cache(maxsize=None)
+def read(path):
+    """The program of a file, which is read once."""
+    return Program(path)
 
 
 class Program:
@@ -122,6 +132,36 @@ class Program:
             raise CannotShow("objdump does not show all bytes of %s, one after the other" % name)
         return found
 
+    def content(self, name):
+        """All that executing a function depends on: the text of its instructions, their places
+        from its start on, and constants instead of their addresses. None if it has an address of
+        constants that is not only read from."""
+        if self.kind == "wasm":
+            return None
+        start, found = self.extent(name)[0], []
+        for i in self.code(name):
+            text = re.split("#|//" if self.kind == "x86_64" else "//", i.text)[0]
+            place = i.address - start, i.next - start
+            constant = None
+            if i.target is not None:
+                text = re.sub(r"\b[0-9a-f]+ <.*>", "", text)
+                place += i.target - start,
+            elif "[rip" in text or i.name == "adrp":
+                text = re.sub(r"\[rip[^]]*\]", "[constant]", text)
+                constant = self.constant_of(i)
+                if constant is None:
+                    return None
+            found.append((text, place, constant))
+        return tuple(found)
+
+    def constant_of(self, i):
+        """The constant that an instruction for x86-64 reads: its bytes, and its alignment."""
+        for o in i.operands if self.kind == "x86_64" else ():
+            if o.kind == "memory" and o.parts[-1][1] == x86.IMAGE and o.size:
+                at = o.parts[0][2]
+                return tuple(self.constant(at + k) for k in range(o.size)), at % o.size
+        return None
+
     def extent(self, name):
         """Where the code of a function begins and ends. No other symbol may be in it."""
         found = [s for s in self.symbols if without_version(s[3]) == name]
@@ -187,7 +227,8 @@ def constants(data):
             start, found = address, list(data[at:at + length])
     for _, kind, _, _, at, length in headers:
         for entry in range(at, at + length, 24) if kind == RELOCATIONS else ():
-            place, = struct.unpack_from("<Q", data, entry)
-            for k in range(max(place - start, 0), min(place + 8 - start, len(found))):
+            place, info = struct.unpack_from("<QQ", data, entry)
+            end = place + (4 if info & 0xffffffff in OF_FOUR_BYTES else 8)
+            for k in range(max(place - start, 0), min(end - start, len(found))):
                 found[k] = None
     return start, found

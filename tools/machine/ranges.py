@@ -166,11 +166,10 @@ class Ranges:
         may = self.limit(a, p, min(q, s - strict)) and self.limit(b, max(r, p + strict), s)
         return may and self.limit(T.add(a.w, (1, b), (-1, a)), strict + 0, s - p)
 
-    @staticmethod
-    def widened(old, new, w, visits):
-        """A range that stops to grow after some visits."""
+    def widened(self, old, new, w, visits):
+        """A range that stops to grow after some visits. Its end goes to a block's size first."""
         if new == old or visits <= VISITS:
             return new
         low = new[0] if new[0] >= old[0] else 0 if new[0] >= 0 else -TOP
-        high = new[1] if new[1] <= old[1] else TOP if low else (1 << w) - 1
-        return low, high, new[2]
+        top = self.block if new[1] <= self.block else TOP if low else (1 << w) - 1
+        return low, top if new[1] > old[1] else new[1], new[2]

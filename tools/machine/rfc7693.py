@@ -22,11 +22,10 @@ COLUMNS_AND_DIAGONALS = (
 
 
 class Kind:
-    """The numbers of a family (2.1), and how many messages our functions hash in parallel."""
+    """The numbers of a family (2.1)."""
 
-    def __init__(self, name, w, rounds, rotations, lanes):
+    def __init__(self, name, w, rounds, rotations):
         self.name, self.w, self.rounds, self.rotations = name, w, rounds, rotations
-        self.lanes = lanes
         self.bytes = w // 8
         self.block = 2 * w
         # The first w bits of the fractions of the square roots of the first eight primes (2.6).
@@ -41,8 +40,8 @@ def root_bits(n, w):
     return x & ((1 << w) - 1)
 
 
-BLAKE2B = Kind("blake2b", 64, 12, (32, 24, 16, 63), 4)
-BLAKE2S = Kind("blake2s", 32, 10, (16, 12, 8, 7), 8)
+BLAKE2B = Kind("blake2b", 64, 12, (32, 24, 16, 63))
+BLAKE2S = Kind("blake2s", 32, 10, (16, 12, 8, 7))
 
 
 def F(kind, h, m, low, high, last, last_node):

@@ -52,7 +52,7 @@ class Term:
 
 
 _table = {}
-_slices = {}                           # what slice_of has returned
+_results = {}                          # what remembered() has returned
 
 
 def _too_wide(args):
@@ -76,7 +76,16 @@ def _term(op, w, args, taint):
 def reset():
     """Forgets all terms. Older terms must not be used with later ones."""
     _table.clear()
-    _slices.clear()
+    _results.clear()
+
+
+def remembered(f, *arguments):
+    """The result of a function, computed once for the same arguments."""
+    key = (f,) + arguments
+    found = _results.get(key)
+    if found is None:
+        found = _results[key] = f(*arguments)
+    return found
 
 
 def show(t, depth):
@@ -216,9 +225,10 @@ def _ror_number(w, n, k):
 def ror(w, t, k):
     """A rotation to the right by k bits."""
     assert t.w == w
-    k %= w
-    if k == 0:
-        return t
+    return remembered(_ror, w, t, k % w) if k % w else t
+
+
+def _ror(w, t, k):
     simple = leaves(lambda a: _ror_number(w, a, k), w, t)
     if simple:
         return simple
@@ -353,9 +363,7 @@ def word(bs):
 
 def slice_of(t, i, n):
     """Bytes i to i + n - 1 of a term."""
-    if (t, i, n) not in _slices:
-        _slices[t, i, n] = _slice_of(t, i, n)
-    return _slices[t, i, n]
+    return remembered(_slice_of, t, i, n)
 
 
 def _slice_of(t, i, n):

@@ -31,20 +31,30 @@ for _first, _type, _names in ((0x45, "i32.", _COMPARISONS), (0x50, "i64.", _COMP
 PLAIN.update({0xa7: "i32.wrap_i64", 0xac: "i64.extend_i32_s", 0xad: "i64.extend_i32_u",
               0xc0: "i32.extend8_s", 0xc1: "i32.extend16_s", 0xc2: "i64.extend8_s",
               0xc3: "i64.extend16_s", 0xc4: "i64.extend32_s"})
+# All vector instructions of the standard that have numbers, and some of those that have none. The
+# opcodes of its others are UNNAMED. What is in neither is refused, because it may have numbers.
 VECTOR = {
-    0: "v128.load m", 9: "v128.load32_splat m", 10: "v128.load64_splat m", 11: "v128.store m",
     12: "v128.const v", 13: "i8x16.shuffle v", 15: "i8x16.splat", 16: "i16x8.splat",
-    17: "i32x4.splat", 18: "i64x2.splat", 21: "i8x16.extract_lane_s l",
-    22: "i8x16.extract_lane_u l", 23: "i8x16.replace_lane l", 27: "i32x4.extract_lane l",
-    28: "i32x4.replace_lane l", 29: "i64x2.extract_lane l", 30: "i64x2.replace_lane l",
+    17: "i32x4.splat", 18: "i64x2.splat",
     77: "v128.not", 78: "v128.and", 80: "v128.or", 81: "v128.xor", 82: "v128.bitselect",
     92: "v128.load32_zero m", 93: "v128.load64_zero m",
     107: "i8x16.shl", 109: "i8x16.shr_u", 139: "i16x8.shl", 141: "i16x8.shr_u",
     171: "i32x4.shl", 172: "i32x4.shr_s", 173: "i32x4.shr_u", 174: "i32x4.add",
     203: "i64x2.shl", 204: "i64x2.shr_s", 205: "i64x2.shr_u", 206: "i64x2.add",
 }
+VECTOR.update({k: "v128.%s m" % n for k, n in enumerate(
+    "load load8x8_s load8x8_u load16x4_s load16x4_u load32x2_s load32x2_u load8_splat load16_splat "
+    "load32_splat load64_splat store".split())})
+VECTOR.update({21 + k: n + " l" for k, n in enumerate(
+    "i8x16.extract_lane_s i8x16.extract_lane_u i8x16.replace_lane i16x8.extract_lane_s "
+    "i16x8.extract_lane_u i16x8.replace_lane i32x4.extract_lane i32x4.replace_lane "
+    "i64x2.extract_lane i64x2.replace_lane f32x4.extract_lane f32x4.replace_lane "
+    "f64x2.extract_lane f64x2.replace_lane".split())})
 VECTOR.update({84 + k: "v128.%s%d_lane ml" % (n, 8 << k % 4) for k, n in enumerate(
     ["load"] * 4 + ["store"] * 4)})
+_UNUSED = (154, 162, 165, 166, 175, 176, 178, 179, 180, 187, 194, 197, 198, 207, 208, 210, 211, 212,
+           226, 238)
+UNNAMED = {14, 19, 20, *range(35, 84), *range(94, 256)} - {*_UNUSED} - {*VECTOR}
 MORE = {8: "memory.init uu", 10: "memory.copy ll", 11: "memory.fill l"}
 
 
@@ -78,8 +88,8 @@ class Reader:
         found = []
         for kind in kinds:
             if kind == "b":
-                b = self.byte()
-                found += [] if b == 0x40 else [TYPES.get(b, "type")]
+                n = self.number(True)      # below 0: none, or a type of values
+                found += [] if n == -64 else [TYPES.get(n & 127, "type") if n < 0 else "type"]
             elif kind == "m":
                 if self.number() > 0x3f:
                     raise CannotShow("the module has several memories")
@@ -99,7 +109,8 @@ class Reader:
         if table is not PLAIN:
             code = self.number()
         known = table.get(code)
-        if known is None and table is PLAIN or known is None and table is MORE and code > 7:
+        if known is None and not (table is VECTOR and code in UNNAMED
+                                  or table is MORE and code < 8):
             raise CannotShow("the opcode %#x is not known: add it to tools/machine/wasm_format.py"
                              % code)
         name, _, kinds = (known or "vector_%d" % code).partition(" ")

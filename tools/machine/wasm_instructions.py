@@ -11,7 +11,7 @@ import terms as T
 import wasm
 import wasm_format
 from machine import Region
-from program import Program
+from program import read
 
 SKIPPED = ("block", "loop", "end", "br", "br_if", "return", "unreachable", "local.get",
            "local.set", "local.tee", "global.get", "i64.lt_s")
@@ -121,7 +121,7 @@ def model(text, data):
 
 def chosen(path, rng, count):
     """Up to `count` instructions of each name, over all functions of the list."""
-    program, found = Program(path), {}
+    program, found = read(path), {}
     for name, _, _ in functions.FILES[path]:
         for text in program.functions[functions.in_file(path, name)]:
             if text.split()[0] not in SKIPPED:

@@ -99,12 +99,15 @@ class Scrub:
         low = m.lowest() + m.RED_ZONE
         m.memory = {(b, k): v for (b, k), v in m.memory.items() if k >= low}
         m.zero = None
-        low_halves = self.program.kind == "aarch64"
+        is_arm = self.program.kind == "aarch64"
         for r, old in enumerate(m.vector):
             if r in self.unused:
                 continue
-            data = junk("vector%d.%d" % (n, r), len(old))
-            m.vector[r] = old[:8] + data[8:] if low_halves and 8 <= r < 16 else data
+            data = m.vector[r] = junk("vector%d.%d" % (n, r), len(old))
+            if is_arm and 8 <= r < 16:
+                data[:8] = old[:8]
+            elif not is_arm and r not in UPPER:
+                data[16:] = old[16:]   # of what memset leaves there, nothing is shown
 
 
 def show(program, name, count):

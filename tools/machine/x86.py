@@ -369,9 +369,11 @@ class X86(Machine):
             raise IsWrong("the stack pointer is not restored")
         if self.saved() != saved:
             raise IsWrong("a register that belongs to the caller is not restored")
-        for j in UPPER:
-            if self.vector[j] not in ([0] * WIDTH, junk("v%d" % j, WIDTH)):
-                raise IsWrong("the vector register %d is neither zero nor as before" % j)
+        for j, data in enumerate(self.vector):
+            start = 0 if j in UPPER else 16
+            if data[start:] not in ([0] * (WIDTH - start), junk("v%d" % j, WIDTH)[start:]):
+                raise IsWrong("the vector register %d from byte %d on is neither zero nor as before"
+                              % (j, start))
 
     def address(self, o):
         parts = []
