@@ -1,8 +1,10 @@
 #!/usr/bin/env python3
 """Looks at the assembly files of dist/, with no toolchain: each symbol ends in the version and the build, exported
 functions are hidden, nothing is called that is not there except a few functions of the C library, and nothing is used
-that Windows or macOS reserves. On ARM one message is compressed without vector registers and several messages with them. For x86-64-v4 no instruction has 512 bits, and each
-function clears those of the upper 16 vector registers that it uses, after a call with a key all of them.
+that Windows or macOS reserves. Messages of BLAKE2b are compressed one by one for x86-64-v2, by fours elsewhere, and by
+eights too for x86-64-v4. On ARM one message is compressed without vector registers and several messages with them. For
+x86-64-v4 only the compression of eight messages has instructions of 512 bits, and each function clears those of the
+upper 16 vector registers that it uses, after a call with a key all of them.
 
     tests/assembly.py [DIST]
 
@@ -30,6 +32,10 @@ CLEARS = re.compile(r"\tvpxord\t%xmm(\d+), %xmm\1, %xmm\1")
 # The bytes below the stack pointer, which Windows may overwrite, and the register that macOS and Windows reserve.
 RESERVED = re.compile(r"[\t ,]-\w+\(%rsp|\[sp, #-\w+\](?!!)|\b[wx]18\b")
 FAMILIES = ("blake2b", "blake2s")
+# The compressions of several messages of BLAKE2b that each build has.
+FOUR = "blake2_compress..many..blake2b..compress_blocks"
+EIGHT = "blake2_compress..many..blake2b..eight..compress_blocks"
+PARALLEL = {"v2": [], "v3": [FOUR], "v4": [FOUR, EIGHT], "arm": [FOUR]}
 # The version as it is in names.
 VERSION = version().replace(".", "_")
 
@@ -68,6 +74,13 @@ def check_text(name, text, end):
     yield "it uses no red zone and no x18", not any(map(RESERVED.search, lines))
 
 
+def check_parallel(text, build):
+    """Whether as many messages of BLAKE2b are compressed in parallel as is fastest."""
+    found = sorted(it for it in functions(text.split("\n")) if it.startswith((FOUR, EIGHT)))
+    yield "it compresses as many messages of BLAKE2b in parallel as is fastest", found == [
+        f"{it}_{VERSION}_{build}" for it in PARALLEL[build]]
+
+
 def check_arm(name, text):
     """Whether the compressions use the registers that they are to use."""
     code = functions(text.split("\n"))
@@ -97,7 +110,11 @@ def check_upper(name, text):
     """Whether the code for AVX-512 leaves nothing in the upper vector registers."""
     code = functions(text.split("\n"))
     used = {it: {number for line in lines for number in UPPER.findall(line)} for it, lines in code.items()}
-    yield "no instruction has 512 bits", "%zmm" not in text
+    wide = f"{EIGHT}_{VERSION}_v4"
+    yield "only the compression of eight messages of BLAKE2b has instructions of 512 bits", [
+        it for it, lines in code.items() if any("%zmm" in line for line in lines)] == [wide]
+    yield "it has little else, and keeps its rows in registers", 1300 < sum(
+        "%zmm" in line for line in code.get(wide, [])) < 1700
     yield "each function clears the upper registers that it uses", all(
         used[it] <= before_returns(code[it]) for it in code) and any(used.values())
     keyed = [it for it in code if "wiping..scrub_stack.." in it]
@@ -110,7 +127,8 @@ def main():
     for name, build in TEXTS.items():
         with open(os.path.join(dist, name), encoding="utf-8") as file:
             text = file.read()
-        checks = [*check_text(name, text, f"{VERSION}_{build}"), *(check_arm(name, text) if build == "arm" else []),
+        checks = [*check_text(name, text, f"{VERSION}_{build}"), *check_parallel(text, build),
+                  *(check_arm(name, text) if build == "arm" else []),
                   *(check_upper(name, text) if build == "v4" else [])]
         for words, holds in checks:
             tap.result(holds, f"{name}: {words}")

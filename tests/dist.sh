@@ -5,10 +5,7 @@
 set -u
 source "$(dirname "$(readlink -f "$0")")/tap.sh"
 shown=("$work/shown")
-has python3 || {
-    skip "the script that makes dist/" "no python3"
-    finish
-}
+has python3 || { skip "the script that makes dist/" "no python3"; finish; }
 
 # The kit. Its prover leaves assembly that holds the crate, the processor and the file `turn`.
 kit=$work/kit
@@ -36,7 +33,8 @@ word() { sed "s/.* \$1 \([^ ]*\).*/\1/" <<<"\$words"; }
 crate=\$(word --crate-name) cpu=\$(word --cpu)
 while [ "\$1" != --toolchain ]; do shift; done
 more=\$(sed -n 's/^run .*"\(-march=[^"]*\)".*/ \1/p' "\$2/bin/clang")
-[ ! -e "\$2.sed" ] || [ ! -e "\$2.py" ] || more+=" edited"
+[ ! -e "\$2.sed" ] || more+=" edited\$(sed -n 's|.*s/i64 4/i64 \(.\)/.*|\1|p' "\$2.sed")"
+[ ! -e "\$2.py" ] || more+=" cleared"
 line="\$crate for \$cpu\$more, \$(cat "$work/turn" 2>/dev/null)"
 printf '\t.globl\tf\n\tcallq\tmemcpy@PLT\nf:\n\tjmp\t.L1\n.L1:\n\t.ascii\t"%s"\n' "\$line" \
     >"\$2/module.s"
@@ -50,7 +48,7 @@ chmod +x "$work/bin/rt" "$kit"/bin/*
 # The repository.
 repository=$work/a\ repository
 mkdir -p "$repository/tools" "$repository/tests" "$repository/dist"
-cp "$top"/tools/{dist.sh,kit.sh,aarch64_attributes.csv,x86_64_v4.sed} "$repository/tools/"
+cp "$top"/tools/{dist.sh,kit.sh,aarch64_attributes.csv,x86_64_v{2,4}.sed} "$repository/tools/"
 cp "$top"/tools/{plain_names,clear_registers,object_format}.py "$repository/tools/"
 cp "$top/tests/tap.sh" "$repository/tests/"
 printf '# Changes\n\n## 1.2.3\n\n## 0.9.0\n' >"$repository/CHANGELOG.md"
@@ -90,53 +88,34 @@ changed() {
     cp "$work/kept" "$file"
     [ "$status" -eq "$1" ]
 }
-proves() { : >"$work/calls" && counts 31 0 0 && diff <(printf '%s' "$1") "$work/calls"; }
+# What is proved for a file of each crate.
+proves() {
+    : >"$work/calls" && dist make "$work/proved" x86_64/{b2,b2sum,vulfsjor}-v2.s &&
+        diff <(printf '%s' "$1") "$work/calls"
+}
 both=$'check blake2_ffi\ncheck b2sum\ncheck b2\n'
 
+# The files, and what each is made of.
+wanted_files() {
+    local system name crate level
+    for system in "" -macos -windows; do
+        for name in b2:b2 vulfsjor:blake2_ffi b2sum:b2sum; do
+            crate=${name#*:} name=${name%:*}
+            [ "$system" = "" ] || [ "$name" != b2sum ] || continue
+            echo "aarch64$system/$name.s:$crate for generic,"
+            for level in "2 edited1" 3 "3 -march=x86-64-v4 edited8 cleared"; do
+                set -- ${level/*v4*/4} && echo "x86_64$system/$name-v$1.s:$crate for x86-64-v$level,"
+            done
+        done
+    done
+    echo "wasm/vulfsjor.wasm:blake2_ffi for lime1,"
+}
 check "make" dist make
 check "each file is made of its crate, for its processor" \
-    diff <(cd dist && grep -ao '[a-z0-9_]* for .*,' */* | LC_ALL=C sort) - <<'END'
-aarch64-macos/b2.s:b2 for generic,
-aarch64-macos/vulfsjor.s:blake2_ffi for generic,
-aarch64-windows/b2.s:b2 for generic,
-aarch64-windows/vulfsjor.s:blake2_ffi for generic,
-aarch64/b2.s:b2 for generic,
-aarch64/b2sum.s:b2sum for generic,
-aarch64/vulfsjor.s:blake2_ffi for generic,
-wasm/vulfsjor.wasm:blake2_ffi for lime1,
-x86_64-macos/b2-v2.s:b2 for x86-64-v2,
-x86_64-macos/b2-v3.s:b2 for x86-64-v3,
-x86_64-macos/b2-v4.s:b2 for x86-64-v3 -march=x86-64-v4 edited,
-x86_64-macos/vulfsjor-v2.s:blake2_ffi for x86-64-v2,
-x86_64-macos/vulfsjor-v3.s:blake2_ffi for x86-64-v3,
-x86_64-macos/vulfsjor-v4.s:blake2_ffi for x86-64-v3 -march=x86-64-v4 edited,
-x86_64-windows/b2-v2.s:b2 for x86-64-v2,
-x86_64-windows/b2-v3.s:b2 for x86-64-v3,
-x86_64-windows/b2-v4.s:b2 for x86-64-v3 -march=x86-64-v4 edited,
-x86_64-windows/vulfsjor-v2.s:blake2_ffi for x86-64-v2,
-x86_64-windows/vulfsjor-v3.s:blake2_ffi for x86-64-v3,
-x86_64-windows/vulfsjor-v4.s:blake2_ffi for x86-64-v3 -march=x86-64-v4 edited,
-x86_64/b2-v2.s:b2 for x86-64-v2,
-x86_64/b2-v3.s:b2 for x86-64-v3,
-x86_64/b2-v4.s:b2 for x86-64-v3 -march=x86-64-v4 edited,
-x86_64/b2sum-v2.s:b2sum for x86-64-v2,
-x86_64/b2sum-v3.s:b2sum for x86-64-v3,
-x86_64/b2sum-v4.s:b2sum for x86-64-v3 -march=x86-64-v4 edited,
-x86_64/vulfsjor-v2.s:blake2_ffi for x86-64-v2,
-x86_64/vulfsjor-v3.s:blake2_ffi for x86-64-v3,
-x86_64/vulfsjor-v4.s:blake2_ffi for x86-64-v3 -march=x86-64-v4 edited,
-END
+    diff <(cd dist && grep -ao '[a-z0-9_]* for .*,' */* | LC_ALL=C sort) <(wanted_files | LC_ALL=C sort)
 check "only b2sum has a weak function" diff <(cd dist && grep -hE 'weak|hidden.b2sum' */*.s |
-    LC_ALL=C sort -u) - <<'END'
-	.hidden	b2sum..hashes..update_tree_1_2_3_arm
-	.hidden	b2sum..hashes..update_tree_1_2_3_v2
-	.hidden	b2sum..hashes..update_tree_1_2_3_v3
-	.hidden	b2sum..hashes..update_tree_1_2_3_v4
-	.weak	b2sum..hashes..update_tree_1_2_3_arm
-	.weak	b2sum..hashes..update_tree_1_2_3_v2
-	.weak	b2sum..hashes..update_tree_1_2_3_v3
-	.weak	b2sum..hashes..update_tree_1_2_3_v4
-END
+    LC_ALL=C sort -u) \
+    <(printf '\t.%s\n' {hidden,weak}$'\tb2sum..hashes..update_tree_1_2_3_'{arm,v2,v3,v4})
 check "it is current" dist current
 check "it is what the sources compile to" counts 31 0 0
 rm crates/*/out/rlib/stamp
@@ -157,13 +136,13 @@ check "it is the same, and there is no other" \
 echo other >"$work/turn"
 check "other code is found" counts 2 29 0
 rm "$work/turn"
+cp -r dist "$work/old"
 for file in aarch64/b2.s wasm/vulfsjor.wasm; do
     check "a change of $file is found" changed 1 "dist/$file" '$a\ '
-    cp "dist/$file" "$work/old"
     echo >>"dist/$file"
-    check "by check, twice" counts 29 2 0
-    mv "$work/old" "dist/$file"
 done
+check "by check, each of both, and by their hashes" counts 28 3 0
+rm -r dist && mv "$work/old" dist
 mv dist/wasm/vulfsjor.wasm "$work/old"
 check "a file that is absent is found" eval "! dist current"
 mv "$work/old" dist/wasm/vulfsjor.wasm
@@ -179,7 +158,7 @@ check "nor a file next to src/" dist current
 mv crates/blake2_ffi/src/lib.rt crates/blake2_ffi/src/more.rt
 check "another name of a file is found" eval "! dist current"
 mv crates/blake2_ffi/src/more.rt crates/blake2_ffi/src/lib.rt
-for file in tools/{{plain_names,clear_registers,object_format}.py,aarch64_attributes.csv,x86_64_v4.sed}; do
+for file in tools/{{plain_names,clear_registers,object_format}.py,aarch64_attributes.csv,x86_64_v{2,4}.sed}; do
     check "a change of $file is found" changed 1 "$file" '$a # more'
 done
 check "another version is found" changed 1 CHANGELOG.md 's/1\.2\.3/1.2.4/'
@@ -225,6 +204,29 @@ define void @f() #1 "min-legal-vector-width"="256" {
 }
 declare void @g() #1
 END
+check "only the compression of eight messages needs 512" diff - \
+    <(printf 'define void @"blake2_compress::many::blake2b::%s" {\n}\n' eight::compress_blocks compress_blocks |
+        sed -f tools/x86_64_v4.sed) <<'END'
+define void @"blake2_compress::many::blake2b::eight::compress_blocks" "min-legal-vector-width"="512" {
+}
+define void @"blake2_compress::many::blake2b::compress_blocks" "min-legal-vector-width"="256" {
+}
+END
+# What the edits of a level make of a function of these lines, and of one of another name.
+lanes() {
+    printf '%s\n' 'define i64 @"blake2_compress::many::blake2b::lanes"() {' "${@:2}" '}' \
+        'define i64 @"lanes"() {' '  store i64 4, ptr %r0' '}' | sed -f "tools/x86_64_$1.sed"
+}
+for pair in v2,1 v4,8; do
+    check "x86-64-${pair%,*} hashes ${pair#*,} in parallel" diff \
+        <(lanes "${pair%,*}" '  store i64 4, ptr %r0' '  ret i64 %r1' | grep store) \
+        <(printf '  store i64 %d, ptr %%r0\n' "${pair#*,}" 4)
+    check "and refuses another number" eval '! lanes "${pair%,*}" "  store i64 2, ptr %r0" >/dev/null'
+    check "and two numbers" eval \
+        '! lanes "${pair%,*}" "  store i64 4, ptr %r0" "  store i64 4, ptr %r1" >/dev/null'
+    check "a text without this function is none to refuse" eval \
+        'echo "  store i64 4, ptr %r0" | sed -f "tools/x86_64_${pair%,*}.sed" >/dev/null'
+done
 clear() { printf '%s\n' "$@" | tools/clear_registers.py; }
 check "registers are cleared that a function uses, and all after a call with a key" diff - \
     <(clear 'f:' '	vpaddq	%ymm16, %ymm3, %ymm31' '	je	.L1' '	retq' '.L1:' '	retq' \

@@ -2,7 +2,7 @@
 # Runs the program b2 as a shell does, and checks what no proof covers of `main`: that it passes
 # every argument and the three streams on, and ends with the status that `run` returns. Then it runs
 # each command within the memory that docs/REVIEW.md states, and checks by a count of instructions
-# that `tree` hashes four leaves in parallel.
+# whether `tree` hashes leaves in parallel.
 #
 # usage: tests/program.sh [PROGRAM..]
 #
@@ -269,36 +269,36 @@ test_memory() {
     check_memory_of_witness
 }
 
-# ---- Four leaves at once, by a count of instructions.
+# ---- Leaves in parallel, by a count of instructions.
 
 # How many of 100 instructions of the run that was counted are those of functions that hash several
-# messages at once.
-share_at_once() {
-    awk '/^fn=/ { is_one = /^fn=blake2_compress(::|[.][.])many/ }
+# messages in parallel.
+share_in_parallel() {
+    awk '/^fn=/ { is_one = /^fn=blake2_compress(::|[.][.])many.*compress_blocks/ }
         /^calls=/ { getline; next }
-        /^[0-9]/ { all += $2; if (is_one) at_once += $2 }
-        END { print all ? int(100 * at_once / all) : 0 }' "$work/instructions"
+        /^[0-9]/ { all += $2; if (is_one) count += $2 }
+        END { print all ? int(100 * count / all) : -1 }' "$work/instructions"
 }
 
-# Checks a run of `tree` over so many zeros, of whose instructions LEAST in 100 are to be those that
-# hash leaves at once: no root tells whether they were. usage: hashes_at_once LEAST BYTES LEAF
-hashes_at_once() {
-    local least=$1 leaf=$3 \
-        name="b2 tree b512 $3, of whose instructions $1 in 100 hash leaves at once" share status
+# Checks a run of `tree` over so many zeros: at least 75 in 100 of its instructions are to be those
+# that hash leaves in parallel, or none in the build for x86-64-v2, where one leaf after another is
+# faster. No root tells which they were. usage: hashes_leaves BYTES LEAF
+hashes_leaves() {
+    local least=75 most=100 leaf=$2 level=${program##*-} name share status
+    [ "$program" != "$work/b2" ] || level=$("$top/tools/processor.sh")
+    [ "${level##*-}" != v2 ] || least=0 most=0
+    name="b2 tree b512 $leaf, $least to $most in 100 of whose instructions hash leaves in parallel"
     has valgrind || { skip "$name" "no valgrind" && return; }
-    if [ "$program" = "$work/b2" ] && [ "$("$top/tools/processor.sh")" = x86-64-v4 ]; then
-        skip "$name" "valgrind has no AVX-512"
-        return
-    fi
-    take_zeros "$2"
+    [ "$level" != x86-64-v4 ] || { skip "$name" "valgrind has no AVX-512" && return; }
+    take_zeros "$1"
     rm -f "$work/instructions"
     valgrind --tool=callgrind --compress-strings=no --compress-pos=no \
         --callgrind-out-file="$work/instructions" --log-file="$work/log" "$program" tree b512 \
         "$leaf" <"$work/input" >"$work/output" 2>"$work/errors"
     status=$?
-    share=0
-    [ ! -s "$work/instructions" ] || share=$(share_at_once)
-    if [ "$share" -lt "$least" ]; then
+    share=-1
+    [ ! -s "$work/instructions" ] || share=$(share_in_parallel)
+    if [ "$share" -lt "$least" ] || [ "$share" -gt "$most" ]; then
         fail "$name: $share"
     else
         ended "$name" "$status" 0 "$(root_of_input "$leaf")"
@@ -306,10 +306,10 @@ hashes_at_once() {
 }
 
 # Pieces of 17 leaves, and with leaves of 1 MiB of 13, of which the last is closed alone.
-test_at_once() {
-    hashes_at_once 75 $((320 * 4096 + 1)) 4096
-    hashes_at_once 75 $((34 * 65536 + 1)) 65536
-    hashes_at_once 75 $(((26 << 20) + 1)) 1048576
+test_leaves() {
+    hashes_leaves $((320 * 4096 + 1)) 4096
+    hashes_leaves $((34 * 65536 + 1)) 65536
+    hashes_leaves $(((26 << 20) + 1)) 1048576
 }
 
 has python3 || { skip "the program" "no python3" && finish; }
@@ -335,6 +335,6 @@ for program; do
     test_outputs
     test_bytes
     test_memory
-    test_at_once
+    test_leaves
 done
 finish

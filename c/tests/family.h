@@ -1,5 +1,5 @@
 /* The names and numbers of the family that a test program tests: BLAKE2s if TEST_S is defined, and
- * otherwise BLAKE2b. LANES is how many messages are hashed in parallel. */
+ * otherwise BLAKE2b. LANES is how many messages are hashed in parallel at most. */
 #include <vulfsjor.h>
 
 #ifdef TEST_S
@@ -17,7 +17,7 @@ typedef uint32_t word;
 #define MAX 64
 #define SALT 16
 #define BLOCK 128
-#define LANES 4
+#define LANES 8
 #define FAMILY "b"
 #define BLAKE(name) vulfsjor_blake2b_##name
 #define LIBRARY(name) vulfsjor_ffi_blake2b_##name

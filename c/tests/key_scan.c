@@ -98,6 +98,8 @@ static int call_refused_null(void) {
 
 static int call_many_one(void) { return BLAKE(many)(out, MAX, messages, 1, key, MAX, 0, 0, 0, 0); }
 
+static int call_many_four(void) { return BLAKE(many)(out, MAX, messages, 4, key, MAX, 0, 0, 0, 0); }
+
 static int call_many_lanes(void) {
     return BLAKE(many)(out, MAX, messages, LANES, key, MAX, 0, 0, 0, 0);
 }
@@ -270,6 +272,7 @@ static const struct {
     {call_refused, nothing, 0, "which argument of a keyed call is refused, its depth"},
     {call_refused_null, nothing, 0, "which argument of a keyed call is refused, a null salt"},
     {call_many_one, nothing, 0, "many, one message"},
+    {call_many_four, nothing, 0, "many, four messages"},
     {call_many_lanes, nothing, 0, "many, as many as are hashed at once"},
     {call_many_more, nothing, 0, "many, one more, of another length"},
     {call_set_last_node, start_and_take, 0, "set_last_node"},
