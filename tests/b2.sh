@@ -106,6 +106,7 @@ check "after a change during the build it is built again" builds "$program"
 # The other script, which shares all but the names of its files.
 other=$repository/out/b2sum-$machine
 run "$repository/b2sum" "two words" --help
+check "with the threads of glibc before 2.34" grep -q -- ' -pthread ' "$work/calls"
 check "b2sum builds the other program, and passes on all arguments" \
     ends 7 "[two words>[--help>in$here" 1
 check "and says so" says "b2sum: built $other"
@@ -116,7 +117,11 @@ are_replaced() {
 check "C replaces the function of trees in each file" are_replaced
 run PATH="$work" "$BASH" "$repository/b2sum" --build
 check "the next run does not" ends 7 "[--build>in$here" 0
-for file in b2sum c/b2.c c/b2sum.c c/threads.c dist/*/b2sum* dist/*/vulfsjor*; do
+ln -s "$repository/b2sum" "$work/linked sum" && run "$work/linked sum" a
+check "a link to b2sum is the script" ends 7 "[a>in$here" 0
+run PATH="$work" "$BASH" b2sum a
+check "so is b2sum in its folder" ends 7 "[a>in$here" 0
+for file in b2sum c/{b2,b2sum,threads}.c c/include/vulfsjor_threads.h dist/*/{b2sum,vulfsjor}*; do
     touch "$file" && run "$repository/b2sum" a
     check "after a change of $file it is built again" ends 7 "[a>in$here" 1
 done
@@ -157,6 +162,8 @@ while IFS=: read -r machine_of files; do
     done
     run CC="for $machine_of" "$repository/b2" --build "$work/other"
     check "the files for $machine_of" says "b2: assembling $files, which is done once"
+    run CC="for $machine_of" "$repository/b2sum" --build "$work/other"
+    check "b2sum has none" says "b2sum: there is no build for $machine_of"
 done <<'END'
 x86_64-w64-mingw32:dist/x86_64-windows/b2-v2.s dist/x86_64-windows/b2-v3.s dist/x86_64-windows/b2-v4.s
 x86_64-w64-windows-gnu:dist/x86_64-windows/b2-v2.s dist/x86_64-windows/b2-v3.s dist/x86_64-windows/b2-v4.s
@@ -260,38 +267,76 @@ b2 steps b512 k:key=
 b2 other .:
 END
 }
-# The long options of b2sum that a shell offers, one on each line.
-long_options() {
+# The completions of b2sum: what bash and fish offer for the last word of a line, in bash after the
+# options of compopt, and what zsh is told of each word.
+sums_by_bash() {
+    bash --norc -c 'source "$0/completions/b2sum.bash"; compopt() { printf "%s\n" "$@"; }
+        COMP_WORDS=("$@") COMP_CWORD=$(($# - 1)); _b2sum
+        printf "%s\n" "${COMPREPLY[@]}"' "$top" "$@"
+}
+sums_by_fish() {
+    fish --no-config -c 'source "$argv[1]/completions/b2sum.fish"; complete -C "$argv[2..]"' \
+        "$top" "$@" | cut -f 1
+}
+sums_by_zsh() {
+    zsh -fc '_arguments() { print -rl -- "$@" }; source "$0"' "$top/completions/_b2sum"
+}
+# The options that a shell offers: bash only long ones.
+options_by() {
     case $1 in
-        bash) bash --norc -c 'source completions/b2sum.bash; compopt() { :; }
-            COMP_WORDS=(b2sum --) COMP_CWORD=1; _b2sum; printf "%s\n" "${COMPREPLY[@]}"' ;;
-        zsh) zsh -fc '_arguments() { print -rl -- "$@" }; source completions/_b2sum' |
-            grep -o -e '--[a-z-]*=*\[' | tr -d '=[' ;;
-        fish) fish --no-config -c 'source completions/b2sum.fish; complete -C "b2sum --"' |
-            cut -f 1 | tr -d = ;;
+        bash) sums_by_bash b2sum -- ;;
+        zsh) sums_by_zsh |
+            sed -nE 's/^(\((-.) (--[a-z-]+)\)(\2|\3)|(--[a-z-]+))=?\[[^]]*\].*/\4\5/p' ;;
+        fish) sums_by_fish b2sum - ;;
     esac | sort
 }
 # Whether they are those of the manual.
 offers_options() {
-    diff <(long_options "$1") <(grep -o -e '^| `.*' docs/B2SUM.md | sed 's/ | .*//' |
-        grep -o -e '--[a-z-]*' | sort -u)
+    diff <(options_by "$1") <(sed -n '/^| `-/s/ | .*//p' "$top/docs/B2SUM.md" |
+        grep -oE -e "--$([ "$1" = bash ] || echo '?')[a-z-]+" | sort -u)
 }
-# What bash offers for the last word of a line of b2sum.
-bash_offers() {
-    diff <(bash --norc -c 'source completions/b2sum.bash; compopt() { :; }
-        COMP_WORDS=("$@") COMP_CWORD=$(($# - 1)); _b2sum; printf "%s\n" "${COMPREPLY[@]}"' - "${@:2}") \
-        <(printf '%s\n' $1)
+# What a shell offers after an option of b2sum, in a folder with one file.
+value_by() {
+    local spec equals="="
+    case $1 in
+        bash) sums_by_bash b2sum "$2" "" ;;
+        fish) sums_by_fish "b2sum $2 " ;;
+        zsh)
+            [[ $2 == --* ]] || equals=
+            spec=$(sums_by_zsh | sed -nE "s/^(\(.*\))?$2$equals\[[^]]*\]//p")
+            spec=$(sed 's/.*://; s/_files/file/' <<<"${spec:-$(sums_by_zsh | grep '^\*:')}")
+            tr -d '()' <<<"$spec" | tr ' ' '\n'
+            ;;
+    esac | sed '/^$/d'
 }
-bash_values() {
-    (cd "$work" && mkdir -p completions && cp "$top/completions/b2sum.bash" completions/ &&
-        touch "a file" && bash_offers "blake2b blake2s" b2sum -a "" &&
-        bash_offers blake2s b2sum --algorithm = blake2s &&
-        bash_offers "128 160 224 256 384 512" b2sum --length = && bash_offers 65536 b2sum --tree 6 &&
-        bash_offers "" b2sum --salt "" && bash_offers --zero b2sum a --z &&
-        [ "$(bash_offers "" b2sum -c "a f")" = "1c1
-< a file
----
-> " ])
+offers_values() {
+    local option values
+    mkdir -p "$work/folder" && cd "$work/folder" && touch file &&
+        while IFS=: read -r option values; do
+            [ "$1,$values" != bash,file ] || values="-o filenames file"
+            diff <(value_by "$1" "$option") <(printf '%s\n' $values | sed '/^$/d') || return
+        done <<'END'
+-a:blake2b blake2s
+--algorithm:blake2b blake2s
+-l:128 160 224 256 384 512
+--length:128 160 224 256 384 512
+--tree:65536
+--personal:
+--salt:
+--key-file:file
+--check:file
+none:file
+END
+}
+# Lines that bash cuts into words at =, and the commands whose completions these are.
+bash_words() {
+    diff <(sums_by_bash b2sum --algorithm = blake2s && sums_by_bash b2sum --tree = &&
+        sums_by_bash b2sum a --z) <(printf '%s\n' blake2s 65536 --zero) &&
+        cd "$work/folder" && touch "a file" &&
+        [ "$(sums_by_bash b2sum "a f" | tail -n 1)" = "a file" ] &&
+        bash --norc -c 'source "$0/completions/b2sum.bash" && complete -p b2sum' "$top" |
+        grep -x 'complete -F _b2sum b2sum' &&
+        [ "$(grep -cxE '#compdef b2sum|_arguments -s \\' "$top/completions/_b2sum")" -eq 2 ]
 }
 
 # tools/processor.sh: what it makes of the features in a file such as /proc/cpuinfo.
@@ -315,7 +360,8 @@ cd "$top" && for shell in bash zsh fish; do
     needs $shell
     check "what $shell completes" offers $shell
     check "which options of b2sum $shell completes" offers_options $shell
+    check "which values and files $shell completes after them" offers_values $shell
 done
 needs bash
-check "which values and files of b2sum bash completes" bash_values
+check "which words of b2sum bash completes" bash_words
 finish

@@ -1,9 +1,9 @@
 /* A library to preload into b2sum: some calls of one function of the system fail.
  *
- *   FAULT_CALL   readv, openat, write, malloc or realloc
+ *   FAULT_CALL   readv, pread, openat, write, malloc or realloc
  *   FAULT_AT     the number of the call that fails, from 1
  *   FAULT_LAST   the number of the last one that does
- *   FAULT_ERROR  its errno; 0: it reads or writes one byte
+ *   FAULT_ERROR  its errno; 0: it reads or writes one byte; -1: it returns 0, as at the end
  *   FAULT_HIT    a file that is made if a call fails */
 #define _GNU_SOURCE
 #include <errno.h>
@@ -25,10 +25,11 @@ static long number(const char *name) {
 static int is_hit(const char *call) {
     static long calls;
     const char *wanted = getenv("FAULT_CALL");
+    long count;
 
-    if (!wanted || strcmp(call, wanted) || ++calls < number("FAULT_AT") ||
-        calls > number("FAULT_LAST"))
-        return 0;
+    if (!wanted || strcmp(call, wanted)) return 0;
+    count = __atomic_add_fetch(&calls, 1, __ATOMIC_RELAXED);
+    if (count < number("FAULT_AT") || count > number("FAULT_LAST")) return 0;
     syscall(SYS_openat, AT_FDCWD, getenv("FAULT_HIT"), O_CREAT | O_WRONLY, 0600);
     return 1;
 }
@@ -42,10 +43,20 @@ ssize_t readv(int file, const struct iovec *room, int count) {
     struct iovec first = *room;
 
     if (is_hit("readv")) {
+        if (number("FAULT_ERROR") < 0) return 0;
         if (number("FAULT_ERROR")) return failed();
         if (first.iov_len > 1) first.iov_len = 1;
     }
     return syscall(SYS_readv, file, &first, count);
+}
+
+ssize_t pread(int file, void *bytes, size_t size, off_t from) {
+    if (is_hit("pread")) {
+        if (number("FAULT_ERROR") < 0) return 0;
+        if (number("FAULT_ERROR")) return failed();
+        if (size > 1) size = 1;
+    }
+    return syscall(SYS_pread64, file, bytes, size, from);
 }
 
 int openat(int folder, const char *name, int flags, ...) {
@@ -55,6 +66,7 @@ int openat(int folder, const char *name, int flags, ...) {
 
 ssize_t write(int file, const void *bytes, size_t size) {
     if (is_hit("write")) {
+        if (number("FAULT_ERROR") < 0) return 0;
         if (number("FAULT_ERROR")) return failed();
         if (size > 1) size = 1;
     }

@@ -3,11 +3,13 @@
 print is known from hashlib and from the system's texts of errors. Then it makes single calls of the system fail, one
 after the other (tests/b2sum_faults.c), and checks that no line is wrong, and that the status shows it.
 
-tests/b2sum.py compares the program with that of coreutils.
+Without VULFSJOR_TEST_HUGE only the first program has all tests, and the others those of what they compute: all are
+built from the same sources. tests/b2sum.py compares the program with that of coreutils.
 
 usage: tests/b2sum_files.py [PROGRAM..]
 """
 import errno
+import functools
 import hashlib
 import itertools
 import os
@@ -44,6 +46,22 @@ WRONG = {
     "--tree 4 --text": "--tree does not support --text mode",
 }
 FILES = {"a": b"", "b": b"abc", "with\nline": b"x" * 1000, "caf\udcff": bytes(range(256)) * 5}
+
+
+zeros = functools.cache(bytes)
+
+
+class Zeros:
+    """So many zero bytes, whose slices of one length are one object."""
+
+    def __init__(self, size):
+        self.size = size
+
+    def __len__(self):
+        return self.size
+
+    def __getitem__(self, part):
+        return zeros(len(range(*part.indices(self.size))))
 
 
 class Runs:
@@ -141,6 +159,9 @@ def test_names(runs):
     names = [os.fsdecode(bytes([120, byte])) for byte in range(1, 256) if byte != 47]
     names += ["\u00e9", "\u20ac", "\U0001f600", "\U0010ff80", "\U0010ffff", "\U0010ff7f", "a\U0010ff80\udc80",
               os.fsdecode(b"\xf4\x8f\xbe"), os.fsdecode(b"\xed\xa0\x80"), os.fsdecode(b"\xc3"), "\u00e9\udce9"]
+    deep = ("\udcff" * 255 + "/") * 3  # 4,083 bytes as a text, with 255 more
+    os.makedirs(runs.path(deep))
+    names.append(deep + "\udcff" * 255)
     for number, name in enumerate(names):
         runs.write(name, str(number).encode())
         runs.wants([name], line(name, str(number).encode()))
@@ -182,10 +203,19 @@ def test_parameters(runs):
     runs.ends("keys, salts, personalizations, and what is refused of them")
 
 
+def stop(process):
+    """Ends a process, which waits for a reader of its pipe if there was none."""
+    process.kill()
+    process.wait()
+
+
+root = functools.cache(tree_root)
+
+
 def root_line(name, data, leaf, bits=512, **texts):
     """The line of the root of a tree."""
     tag = f"BLAKE2b-tree-{leaf}{'' if bits == 512 else f'-{bits}'}"
-    return f"{tag} ({name}) = {tree_root(data, leaf, bits // 8, **texts).hex()}\n"
+    return f"{tag} ({name}) = {root(data, leaf, bits // 8, **texts).hex()}\n"
 
 
 def test_trees(runs):
@@ -206,6 +236,10 @@ def test_trees(runs):
     for size in (16 << 20, (16 << 20) + 1, (32 << 20) - 1):
         runs.write("cut", big[:size])
         runs.wants(["--tree", "65536", "cut"], root_line("cut", big[:size], 65536))
+    for count in (1, 2, 4):
+        some = sorted(os.sched_getaffinity(0))[:count]
+        runs.wants(["--tree", "65536", "big", "big"], root_line("big", big, 65536) * 2,
+                   preexec_fn=lambda some=some: os.sched_setaffinity(0, some))
     runs.wants(["--tree=65536", "--salt", "0102", "--personal=ff", "big"],
                root_line("big", big, 65536, salt=b"\1\2", person=b"\xff"))
     for text in (line("b", b"abc"), line("b", b"abc", tag=True), root_line("b", b"abc", 5),
@@ -215,6 +249,28 @@ def test_trees(runs):
     got = runs.run(["-c"], root_line("b", b"abc", 4).encode())
     runs.holds("a root is no digest", got[0] == b"" and got[2] == 1, got)
     runs.ends("roots of trees")
+
+
+def test_coreutils(runs):
+    """What coreutils' own tests of b2sum and of its kin check."""
+    names = ("a", " b", "*c", "44", " ")
+    for name in names:
+        runs.write(name, name.encode() + b"\n")
+    tagged, plain = ("".join(line(name, name.encode() + b"\n", bits, tag=tag) for name in names for bits in (512, 128))
+                     for tag in (True, False))
+    oks = "".join(f"{name}: OK\n" * 2 for name in names)
+    for text in (tagged, plain, tagged.replace(" (", "(").replace(") =", ")=")):
+        runs.wants(["--strict", "-c"], oks, data=text.encode())
+    runs.write("check.vals", (line("/dev/null", b"") + line("/dev/null", b"", 128)).encode())
+    runs.wants(["-l", "128", "check.vals"], "796485dd32fe9b754ea5fd6c721271d9  check.vals\n")
+    for text in ("0A0BA0", "BLAKE2", "BLAKE2b", "BLAKE2-", "BLAKE2(", "BLAKE2 (", "BLAKE2b (", "BLAKE2b-8 ("):
+        runs.wants(["-c"], "", "'standard input': no properly formatted checksum lines found", 1, text.encode())
+    for more, status in ((line("a", b"a\n"), 0), ("", 1)):
+        err = "" if more else "'standard input': no file was verified"
+        text = (more + line("none", b"")).encode()
+        runs.wants(["-c", "--ignore-missing"], more and "a: OK\n", err, status, text)
+        runs.wants(["-c", "--ignore-missing", "--status"], "", "", status, text)
+    runs.ends("what coreutils' own tests check")
 
 
 def test_differences(runs):
@@ -239,6 +295,10 @@ def test_differences(runs):
         shown = subprocess.run(["bash", "-c", b"printf %s " + quoted], stdout=subprocess.PIPE).stdout
         runs.holds([name], shown == os.fsencode(name) and b"$'" in said, said)
     runs.wants(["b", "-l", "256"], f"{digits}  b\n", env={"POSIXLY_CORRECT": "1"})
+    os.makedirs(runs.path(deep := ("\udcff" * 255 + "/") * 4))
+    runs.write(deep + "\udcff\udcff\udcff", b"")
+    said = runs.run([deep + "\udcff\udcff\udcff"])
+    runs.holds("a long name", said[2] == 1 and os.fsencode(os.strerror(errno.ENAMETOOLONG)) in said[1], said)
     for option, possible in (("--s", "'--status' '--strict' '--salt'"), ("--t", "'--tag' '--text' '--tree'")):
         runs.wants([option], "", f"option '{option}' is ambiguous; possibilities: {possible}", 1, Try=1)
     runs.ends("the differences from coreutils")
@@ -247,10 +307,12 @@ def test_differences(runs):
 def test_system(runs):
     """What cannot be opened or read, and files that are no regular ones."""
     os.mkdir(runs.path("dir"))
-    os.symlink("loop", runs.path("loop"))
+    for target, name in (("loop", "loop"), ("b", "link"), ("dir", "folder"), ("nothing", "dangling")):
+        os.symlink(target, runs.path(name))
     server = socket.socket(socket.AF_UNIX)
     server.bind(runs.path("socket"))
     reasons = {"none": errno.ENOENT, "dir": errno.EISDIR, "loop": errno.ELOOP, "a/x": errno.ENOTDIR,
+               "folder": errno.EISDIR, "dangling": errno.ENOENT, "link/": errno.ENOTDIR,
                "n" * 256: errno.ENAMETOOLONG, "n" * 131071: errno.ENAMETOOLONG, "x/" * 2050: errno.ENAMETOOLONG,
                "socket": errno.ENXIO,
                "/proc/self/mem": errno.EIO, "": errno.ENOENT}
@@ -263,16 +325,42 @@ def test_system(runs):
                        os.fsencode(line(name, b"abc") + line("b", b"abc")))
             runs.wants(["-c", name], "", f"{name}: {'read error' if error in (errno.EISDIR, errno.EIO) else os.strerror(error)}",
                        1)
+    runs.wants(["link", "dir/../b"], line("link", b"abc") + line("dir/../b", b"abc"))
     runs.wants(["/dev/null"], line("/dev/null", b""))
+    runs.wants(["/dev/stdin", "/dev/fd/0"], line("/dev/stdin", b"abc") + line("/dev/fd/0", b""), data=b"abc")
+    with open("/proc/version", "rb") as file:  # whose length is 0 for the system
+        data = file.read()
+    runs.wants(["/proc/version"], line("/proc/version", data))
+    runs.wants(["--tree", "64", "/proc/version"], root_line("/proc/version", data, 64))
     runs.wants(["-"], "", f"-: {os.strerror(errno.EISDIR)}", 1, stdin=os.open(runs.folder, os.O_RDONLY))
     runs.wants(["b", "-"], line("b", b"abc"), f"-: {os.strerror(errno.EBADF)}", 1, stdin=None,
                preexec_fn=lambda: os.close(0))
     os.mkfifo(runs.path("pipe"))
-    writer = subprocess.Popen(["sh", "-c", "(printf ab; sleep 0.3; printf c) >pipe"], cwd=runs.folder)
+    writer = subprocess.Popen(["sh", "-c", "exec >pipe; printf ab; sleep 0.3; printf c"], cwd=runs.folder)
     runs.wants(["pipe"], line("pipe", b"abc"))
-    writer.wait()
+    stop(writer)
+    writer = subprocess.Popen(["sh", "-c", "exec >pipe; cat a b"], cwd=runs.folder)
+    runs.wants(["--tree", "2", "pipe"], root_line("pipe", b"abc", 2))
+    stop(writer)
     server.close()
     runs.ends("what cannot be read, pipes and devices")
+
+
+def test_changes(runs):
+    """Files that end before their length, and large reads by threads of which some fail or are cut short: the digest
+    is that of the bytes that were read, each of them once."""
+    data = random.Random(2).randbytes((4 << 20) + 5)
+    runs.write("data", data)
+    for at in range(1, 6):
+        runs.holds(["ends", at], fault(runs, ["data"], b"", "readv", at, 1 << 30, -1) ==
+                   (line("data", data[:(at - 1) << 16]).encode(), b"", 0))
+    wanted = (root_line("data", data, 65536).encode(), b"", 0)
+    for error in (0, -1, errno.EIO, errno.EINTR):
+        for at, last in ((1, 1), (2, 2), (3, 4), (9, 9), (1, 1 << 30)):
+            if (error, last) != (errno.EINTR, 1 << 30):  # no call would end
+                got = fault(runs, ["--tree", "65536", "data"], b"", "pread", at, last, error)
+                runs.holds(["threads", at, last, error], got in (wanted, None) and (got or at > 1), got)
+    runs.ends("files that end early, and threads whose reads fail")
 
 
 def test_outputs(runs):
@@ -305,9 +393,9 @@ def test_progress(runs):
             (["--prog", "--tag"], b"\rslow: 0 MiB\x1b[K\r\x1b[K"),
                           ([], b"")):
         terminal, end = os.openpty()
-        writer = subprocess.Popen(["sh", "-c", "(printf ab; sleep 0.7; printf c) >slow"], cwd=runs.folder)
+        writer = subprocess.Popen(["sh", "-c", "exec >slow; printf ab; sleep 0.7; printf c"], cwd=runs.folder)
         runs.wants([*words, "slow"], line("slow", b"abc", tag="--tag" in words), stderr=end)
-        writer.wait()
+        stop(writer)
         os.write(end, b"end")
         got = b""
         while not got.endswith(b"end"):
@@ -332,6 +420,7 @@ def test_large(runs):
             state.update(bytes(1 << 20))
         state.update(bytes(4097))
         runs.wants(["sparse"], f"{state.hexdigest()}  sparse\n", timeout=1000)
+        runs.wants(["--tree", "1048576", "sparse"], root_line("sparse", Zeros(size), 1 << 20), timeout=1000)
         os.remove(runs.path("sparse"))
     runs.ends(f"a long line{' and a file beyond 4 GiB' if HUGE else ''}")
 
@@ -404,6 +493,8 @@ def test_faults(runs):
         for call in ("readv", "write"):
             for at, last in ((1, 1), (2, 2), (3, 3), (1, 1 << 30)):
                 runs.holds([words, call, at, last], fault(runs, words, data, call, at, last, 0) == whole)
+    runs.holds("a write of no byte", fault(runs, ["b"], b"", "write", 1, 1, -1) ==
+               (b"", b"b2sum: write error: write zero\n", 1))
     runs.ends("each read, open, write and request for memory fails in turn")
 
 
@@ -416,7 +507,8 @@ def said(call, error, err):
     return os.fsencode(os.strerror(error)) in err or b"read error" in err
 
 
-TESTS = (test_lengths, test_names, test_parameters, test_trees, test_differences, test_system, test_outputs,
+COMPUTING = (test_lengths, test_parameters, test_trees)
+TESTS = (*COMPUTING, test_names, test_coreutils, test_differences, test_system, test_changes, test_outputs,
          test_progress, test_large, test_memory, test_faults)
 
 
@@ -427,8 +519,8 @@ def main():
         ["cc", "-shared", "-fPIC", "-O1", os.path.join(TOP, "tests", "b2sum_faults.c"), "-o", os.environ["FAULTS"]],
         stdout=subprocess.DEVNULL).returncode == 0
     with programs(sys.argv[1:]) as built:
-        for program in built:
-            for test in TESTS:
+        for number, program in enumerate(built):
+            for test in TESTS if HUGE or number == 0 else COMPUTING:
                 if test is test_faults and not has_faults:
                     tap.result(True, "calls that fail", skipped="no C compiler cc")
                     continue
