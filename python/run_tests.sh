@@ -6,15 +6,11 @@
 # It runs the unit tests of python/tests in each interpreter that PYTHONS names (python3 and
 # /usr/bin/python3), from 3.11 on, over one module, which the first of them builds that has
 # setuptools and its headers. Tests that do not depend on the interpreter run only in the last of
-# them, which finds Debian's packages, unless VULFSJOR_TEST_HUGE is 1. `python3 -m unittest discover python/tests` does the same in one
-# interpreter. A test whose tool is missing is skipped, and a line says so. The last line counts,
-# and the status is 0 if no test failed.
+# them, which finds Debian's packages, unless VULFSJOR_TEST_HUGE is 1. `python3 -m unittest discover
+# python/tests` does the same in one interpreter. If a tool is missing, its tests are skipped.
 set -u
 source "$(dirname "$(readlink -f "$0")")/../tests/tap.sh"
-if [ $# -ne 0 ]; then
-    echo "usage: python/run_tests.sh" >&2
-    exit 2
-fi
+[ $# -eq 0 ] || { echo "usage: python/run_tests.sh" >&2 && exit 2; }
 tests=$top/python/tests
 export PYTHONDONTWRITEBYTECODE=1 VULFSJOR_PACKAGE=$work/package
 
@@ -49,14 +45,8 @@ skipped_tests() {
 build >"$work/built" 2>&1
 case $? in
     0) pass "the package for Python is built" ;;
-    77)
-        skip "the package for Python" "no cc, or no python3 with setuptools and headers"
-        finish
-        ;;
-    *)
-        fail "the package for Python is built" "$work/built"
-        finish
-        ;;
+    77) skip "the package for Python" "no cc, or no python3 with setuptools and headers"; finish ;;
+    *) fail "the package for Python is built" "$work/built"; finish ;;
 esac
 for each in "${interpreters[@]}"; do
     for file in "$tests"/test_*.py; do

@@ -10,6 +10,8 @@
 set -u
 source "$(dirname "$(readlink -f "$0")")/../tests/tap.sh"
 export CARGO_TARGET_DIR=$work/target CARGO_NET_OFFLINE=true
+# What only later builds or a debugger would use.
+export CARGO_INCREMENTAL=0 CARGO_PROFILE_DEV_DEBUG=0
 arm=aarch64-unknown-linux-gnu
 short=(--lib --test glue --test known_answers)
 

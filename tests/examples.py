@@ -2,7 +2,7 @@
 """Compiles and runs every example of the README, the tutorial and the guides for C, Rust and large data, or of the
 pages that are named, and compares what it prints.
 
-    tests/examples.py [--library FOLDER] [PAGE..]
+    tests/examples.py [PAGE..]
 
 An example is a fenced block in c, cpp, rust, python, cmake or sh; js/tests/readme.test.mjs runs those in JavaScript,
 and python/tests/test_package.py those in Python's guide. A block in C, C++ or Rust is a whole program, in C `hello.c`.
@@ -12,11 +12,10 @@ block leaves there is the next one's. If a block in `text` follows an example, i
 that ends with `...` is the beginning of a line. In cmake and sh, PATH is the repository and FOLDER the installed
 library.
 
-FOLDER is where c/install.sh has installed the library; without it the script installs it. The module for Python is
+The installed library is that in the folder VULFSJOR_INSTALLED, if that is set, as by ./test. The module for Python is
 built here, and the script ends with an error if that fails. An example whose tool is absent is skipped: for Python
 that is also cc, setuptools or Python's headers.
 """
-import argparse
 import os
 import pathlib
 import re
@@ -136,18 +135,14 @@ def built_module(folder):
 
 
 def main():
-    words = argparse.ArgumentParser(usage="tests/examples.py [--library FOLDER] [PAGE..]")
-    words.add_argument("--library", type=pathlib.Path)
-    words.add_argument("pages", nargs="*", type=pathlib.Path, default=[TOP / page for page in PAGES])
-    words = words.parse_args()
     with tempfile.TemporaryDirectory() as work:
         work = pathlib.Path(work)
         module = bool(shutil.which("python3")) and built_module(work / "module")
-        library = words.library or work / "installed"
-        if not words.library:
-            subprocess.run([str(TOP / "c/install.sh"), str(library)], check=True, capture_output=True)
-        for page in words.pages:
-            runner = Runner(pathlib.Path(tempfile.mkdtemp(dir=work)), library.resolve(), work / "module")
+        library = pathlib.Path(os.environ.get("VULFSJOR_INSTALLED") or work / "installed")
+        if not library.exists():
+            subprocess.run([TOP / "c/install.sh", library], check=True, capture_output=True)
+        for page in map(pathlib.Path, sys.argv[1:] or (TOP / page for page in PAGES)):
+            runner = Runner(pathlib.Path(tempfile.mkdtemp(dir=work)), library, work / "module")
             for line, language, text, wanted in examples(page):
                 name = f"{page.resolve().relative_to(TOP)}, line {line}"
                 missing = absent(language, text, module)

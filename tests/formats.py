@@ -33,6 +33,7 @@ def run(*words, stdin=None):
     return subprocess.run(words, stdin=stdin, capture_output=True, text=True, check=True).stdout
 
 
+@functools.lru_cache(maxsize=None)
 def plain(name):
     """A name without what an object format or a calling convention adds."""
     name = re.sub(r"^(?:\.L|L|l)(?=\d)", "", name.lstrip("_"))
@@ -43,23 +44,35 @@ def plain(name):
 @functools.lru_cache(maxsize=2)  # the text for Linux is compared twice
 def plain_lines(text):
     """The lines of a text that decide what the processor does and reads, with plain names."""
-    lines = []
-    for line in re.sub(r"\t\.section\t\.text\$sysv_.*", "", text, flags=re.S).split("\n"):
-        line = re.sub(r"@PLT|@PAGE(OFF)?|:lo12:", "", line)
-        section = re.match(r"\t\.section\t(?:\.|__)(text|TEXT,__text|rodata|rdata|TEXT,__const)", line)
-        if section:
-            line = "code" if "text" in section[1] else "data"
-        elif re.match(r"\t\.(?:type|size|ident|file|hidden|private_extern|section)|\.subsections|/\*|$", line):
-            continue
-        line = re.sub(r"^\t(\.[hx]?word)", lambda it: "\t" + NUMBERS[it[1]], line)
-        if not line.startswith("\t.ascii"):
-            line = re.sub(r"(?<![\w.$%])[.A-Za-z_][\w.]*(?![\w.])", lambda it: plain(it[0]), line)
-        lines.append(line)
-    return lines
+    lines = re.sub(r"\t\.section\t\.text\$sysv_.*", "", text, flags=re.S).split("\n")
+    return [line for line in map(plain_line, lines) if line is not None]
+
+
+@functools.lru_cache(maxsize=None)
+def plain_line(line):
+    """A line with plain names, or None if it decides nothing."""
+    line = re.sub(r"@PLT|@PAGE(OFF)?|:lo12:", "", line)
+    section = re.match(r"\t\.section\t(?:\.|__)(text|TEXT,__text|rodata|rdata|TEXT,__const)", line)
+    if section:
+        line = "code" if "text" in section[1] else "data"
+    elif re.match(r"\t\.(?:type|size|ident|file|hidden|private_extern|section)|\.subsections|/\*|$", line):
+        return None
+    line = re.sub(r"^\t(\.[hx]?word)", lambda it: "\t" + NUMBERS[it[1]], line)
+    if line.startswith("\t.ascii"):
+        return line
+    return re.sub(r"(?<![\w.$%])[.A-Za-z_][\w.]*(?![\w.])", lambda it: plain(it[0]), line)
 
 
 def symbols(path, *kinds):
     return {line.split()[-1] for line in run("llvm-nm", *kinds, path).splitlines()}
+
+
+@functools.lru_cache(maxsize=None)
+def instruction(text):
+    """An instruction without comments and without what labels decide."""
+    text = re.sub(r"\s*(##|# |//|;).*", "", text)
+    text = re.sub(r"(0x)?[0-9a-f]+ <.*>", "TARGET", text)
+    return re.sub(r"\s+", " ", re.sub(r"-?(0x)?[0-9a-f]*\(%rip\)", "PLACE", text))
 
 
 def functions(path, arch):
@@ -80,11 +93,9 @@ def functions(path, arch):
             elif body and body[-1].startswith(("add ", "adrp ")):
                 body[-1] = body[-1].rsplit(",", 1)[0] + ", PLACE"
         elif re.match(r"\s*[0-9a-f]+:\s", line):
-            text = re.sub(r"\s*(##|# |//|;).*", "", line.split(":", 1)[1].strip())
-            text = re.sub(r"(0x)?[0-9a-f]+ <.*>", "TARGET", text)
-            text = re.sub(r"-?(0x)?[0-9a-f]*\(%rip\)", "PLACE", text)
+            text = instruction(line.split(":", 1)[1].strip())
             if not PADDING.match(text):
-                body.append(re.sub(r"\s+", " ", text))
+                body.append(text)
     return {name: body for name, body in found.items() if not name.startswith("sysv_")}
 
 

@@ -252,23 +252,23 @@ def ratio_rows():
 
 def summary():
     """The first table of docs/SPEED.md, and the sentences above it."""
-    memory, b, s, many_b, many_s, roots = map(measured, (
-        "1 MiB in memory . BLAKE2b-512, GB", "one BLAKE2b-512", "one BLAKE2s-256", "4 messages of",
-        "8 messages of", "16 MiB"))
+    memory, b, s, four_b, eight_b, eight_s, roots = map(measured, (
+        "1 MiB in memory . BLAKE2b-512, GB", "one BLAKE2b-512", "one BLAKE2s-256", "4 messages of BLAKE2b",
+        "8 messages of BLAKE2b", "8 messages of BLAKE2s", "16 MiB"))
     def cell(speed, ratio):
         return f"{float(speed):.2f} GB/s, {2.5 / float(speed):.2f} cycles a byte | {ratio}"
     one, short_b, short_s = (newest(rows, "`vulfsjor`") for rows in (memory, b, s))
     root, short = newest(roots, "root"), (short_b[3], short_s[3])
-    several = ((count, newest(rows, "in parallel")) for count, rows in ((4, many_b), (8, many_s)))
+    several = ((count, newest(rows, "in parallel")) for count, rows in ((4, four_b), (8, eight_b), (8, eight_s)))
     many = [(count * 1024 / int(row[2]), row[3]) for count, row in several]
     yield f"| 1 MiB in memory | {cell(*one[:2])} | {cell(*one[2:4])} |"
     yield f"| a digest of 64 bytes | {short_b[2]} ns | {short[0]} | {short_s[2]} ns | {short[1]} |"
-    yield f"4, or 8 of BLAKE2s | {cell(*many[0])} | {cell(*many[1])} |"
+    yield f"| 4 messages of 1,024 bytes in parallel | {cell(*many[0])} | | |"
+    yield f"| 8 messages of 1,024 bytes in parallel | {cell(*many[1])} | {cell(*many[2])} |"
     yield f"leaves of 64 KiB | {cell(*root[2:4])} | | |"
-    percents = [[round(100 * float(ratio) - 100) for ratio in ratios] for ratios in (
-        (one[1], one[3], *short), (many[0][1], many[1][1], root[3]))]
-    yield f"the library is {min(percents[0])} to {max(percents[0])} percent faster"
-    yield f"it is between {-min(percents[1])} percent slower and {max(percents[1])} percent faster"
+    for what, ratios in (("the library is", (one[1], one[3], *short)), ("it is", (*(it[1] for it in many), root[3]))):
+        percents = [round(100 * float(ratio) - 100) for ratio in ratios]
+        yield f"{what} {min(percents)} to {max(percents)} percent faster"
 
 
 def check_speeds():

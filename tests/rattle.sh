@@ -13,10 +13,7 @@ if [ -n "${RT_CI-}" ]; then
     finish
 fi
 [ $# -gt 0 ] || set -- blake2_tests blake2_kat b2_tests
-has rt || {
-    skip "the tests in Rattle" "no rt"
-    finish
-}
+has rt || { skip "the tests in Rattle" "no rt"; finish; }
 log=$work/rt
 for crate; do
     (cd "$top/crates/$crate" && rt try --test --seconds 900) >"$log" 2>&1

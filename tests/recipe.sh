@@ -9,10 +9,7 @@
 # needs about 2 GB in the folder for temporary files.
 set -u
 source "$(dirname "$(readlink -f "$0")")/tap.sh"
-has rt || {
-    fail "the steps of CALLING.md: the toolchain's command rt is not on the PATH"
-    finish
-}
+has rt || { fail "the steps of CALLING.md: the command rt is not on the PATH"; finish; }
 ln -s "$top" "$work/vulfsjor"
 mkdir "$work/other"
 cd "$work/other" || exit 1

@@ -89,20 +89,13 @@ assemble() {
 
 # The programs of dist/ that this processor runs, newest first, as files in `work`: b2, or NAME.
 assemble_all() {
-    local name=${1:-b2}
-    case $("$top/tools/processor.sh") in
-        aarch64) assemble "$top/dist/aarch64/$name.s" "$work/$name" ;;
-        x86-64-v2) assemble "$top/dist/x86_64/$name-v2.s" "$work/$name" ;;
-        x86-64-v3)
-            assemble "$top/dist/x86_64/$name-v3.s" "$work/$name" &&
-                assemble "$top/dist/x86_64/$name-v2.s" "$work/$name-v2"
-            ;;
-        x86-64-v4)
-            assemble "$top/dist/x86_64/$name-v4.s" "$work/$name" &&
-                assemble "$top/dist/x86_64/$name-v3.s" "$work/$name-v3" &&
-                assemble "$top/dist/x86_64/$name-v2.s" "$work/$name-v2"
-            ;;
-    esac
+    local name=${1:-b2} level newest
+    newest=$("$top/tools/processor.sh")
+    [ "$newest" != aarch64 ] || { assemble "$top/dist/aarch64/$name.s" "$work/$name"; return; }
+    for level in $(seq "${newest#x86-64-v}" -1 2); do
+        assemble "$top/dist/x86_64/$name-v$level.s" "$work/$name-v$level" || return
+    done
+    mv "$work/$name-${newest#x86-64-}" "$work/$name"
 }
 
 # The lines of b2sum for these files, by hashlib.

@@ -4,20 +4,23 @@
 #
 #   c/tests/PART.sh [--cpu CPU] [--from DIST]
 #
-# c/install.sh explains the options. Without DIST the library is that of dist/.
+# c/install.sh explains the options. Without DIST the library is that of dist/. Without options it
+# is the one in the folder VULFSJOR_INSTALLED, if that is set, as by ./test.
 declare -F part >/dev/null && return
 set -u
 source "$(dirname "$(readlink -f "${BASH_SOURCE[0]}")")/../../tests/tap.sh"
 here=$top/c
 tests=$here/tests
 prefix=$work/installed
-dist=$top/dist
+# In these words, so that install.sh does not compare dist/ with the sources each time.
+dist=$top/./dist
 cases=$work/vectors
-cpu=()
+cpu=() from=()
+[ $# -gt 0 ] || prefix=${VULFSJOR_INSTALLED:-$prefix}
 while [ $# -gt 0 ]; do
     case $1,$# in
         --cpu,[2-9]) cpu=(--cpu "$2") ;;
-        --from,[2-9]) dist=$(readlink -f "$2") ;;
+        --from,[2-9]) dist=$(readlink -f "$2") from=(--from "$dist") ;;
         *) echo "usage: $0 [--cpu CPU] [--from DIST]" >&2 && exit 2 ;;
     esac
     shift 2
@@ -81,7 +84,8 @@ part() {
     [ "${BASH_SOURCE[1]}" = "$0" ] || return 0
     if ! has cc; then
         skip "all tests" "no C compiler cc"
-    elif check "install.sh" "$here/install.sh" "${cpu[@]}" --from "$dist" "$prefix" &&
+    elif { [ "$prefix" = "${VULFSJOR_INSTALLED-}" ] ||
+        check "install.sh" "$here/install.sh" "${cpu[@]}" "${from[@]}" "$prefix"; } &&
         { [ $# -eq 1 ] || ! has python3 || check "tests/vectors.json in lines" write_cases; }; then
         "$1"
     fi

@@ -30,7 +30,7 @@
 #define LEAST_BYTES (1 << 18)
 #endif
 
-enum { BYTES = 44 << 20 };
+enum { BYTES = 35 << 20 };
 
 static int fails;
 #define CHECK(condition)                                                      \
@@ -444,7 +444,7 @@ static void *take_signals(void *given) {
     sigemptyset(&one);
     sigaddset(&one, SIGUSR1);
     pthread_sigmask(SIG_UNBLOCK, &one, NULL);
-    for (int i = 0; i < 30; i++) compare(5 << 20, 64, 65536, 4);
+    for (int i = 0; i < 12; i++) compare(5 << 20, 64, 65536, 4);
     CHECK(!pthread_sigmask(SIG_BLOCK, &one, &now) && !sigismember(&now, SIGUSR1));
     __atomic_store_n((int *)given, 1, __ATOMIC_RELEASE);
     return NULL;
@@ -563,12 +563,16 @@ static void calls_at_the_same_time(void) {
 
 int main(int count, char **words) {
     int files, threads, turns = count > 2 ? atoi(words[2]) : 400;
+    uint64_t word;
 
     if (count < 2 || !(message = malloc(BYTES))) return 2;
     snprintf(path, sizeof path, "%s/message", words[1]);
     snprintf(other, sizeof other, "%s/other", words[1]);
     memset(blank, 0xaa, sizeof blank);
-    for (size_t i = 0; i < BYTES; i++) message[i] = (unsigned char)(random_below(256));
+    for (size_t i = 0; i < BYTES; i += sizeof word) {
+        word = random_below(UINT64_MAX);
+        memcpy(message + i, &word, sizeof word);
+    }
     RUN(calls_at_the_same_time());
     usleep(100000);
     files = entries("/proc/self/fd");

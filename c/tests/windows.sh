@@ -35,8 +35,7 @@ wanted_for_windows() {
 # What is installed, and that all of it goes again.
 installs() {
     (cd "$prefix" && find . -type f -o -type l) | sed 's|^\./||' | LC_ALL=C sort |
-        diff - <(wanted_for_windows) &&
-        CC=$mingw "$here/install.sh" --from "$dist" "$work/again" >"$work/said" 2>&1 &&
+        diff - <(wanted_for_windows) && cp -a "$prefix" "$work/again" &&
         "$here/install.sh" --uninstall "$work/again" && [ -z "$(find "$work/again" -type f)" ]
 }
 
@@ -57,11 +56,11 @@ one_build_for_windows() {
         compile_and_run "$work/test_one" -O2 "$archive"
 }
 
-# A library for tests that goes from one build to the others.
+# Over a library for tests that goes from one build to the others, which the first family makes.
 all_builds_for_windows() {
-    CC=$mingw "$here/join.sh" --test "$(seq -s '' 2 "$level")" "$work/both" \
-        "$dist"/x86_64-windows/vulfsjor-v[234].s &&
-        archive=$work/both/libvulfsjor.a family=$1 &&
+    [ -e "$work/both" ] || CC=$mingw "$here/join.sh" --test "$(seq -s '' 2 "$level")" "$work/both" \
+        "$dist"/x86_64-windows/vulfsjor-v[234].s || return 1
+    archive=$work/both/libvulfsjor.a family=$1 &&
         compile_and_run "$work/test_both" -O2 $(family_words "$1") "$archive"
 }
 

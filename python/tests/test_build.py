@@ -259,20 +259,19 @@ class Time(Test):
 
     @unittest.skipIf(absent(tools=["valgrind"]), "no valgrind")
     def test_verify_takes_equal_time(self):
-        """The instructions of a comparison do not depend on the place where a tag differs. The
-        arguments have the same length, since that decides where the stack begins."""
-        def count(place):
-            shown = self.succeeds(
-                "valgrind", "--tool=callgrind", "--callgrind-out-file=/dev/null",
-                "--toggle-collect=verify", sys.executable, "-S",
-                os.path.join(HERE, "verify_at.py"), MODULE, place,
-                env={**os.environ, "PYTHONHASHSEED": "0", "PYTHONMALLOC": "malloc"})
-            return int(re.search(r"Collected : (\d+)", shown)[1])
-
-        with concurrent.futures.ThreadPoolExecutor(3) as pool:
-            counts = set(pool.map(count, ("00", "31", "63")))
-        self.assertEqual(len(counts), 1, counts)
-        self.assertGreater(min(counts), 1000)
+        """The instructions of a comparison do not depend on the place where a tag differs. Each is
+        counted in a file of its own."""
+        self.succeeds(
+            "valgrind", "--tool=callgrind", f"--callgrind-out-file={self.folder}/count",
+            "--toggle-collect=verify", "--dump-after=verify", sys.executable, "-S",
+            os.path.join(HERE, "verify_at.py"), MODULE,
+            env={**os.environ, "PYTHONHASHSEED": "0", "PYTHONMALLOC": "malloc"})
+        counts = []
+        for name in glob.glob(f"{self.folder}/count.*"):
+            with open(name, encoding="utf-8") as file:
+                counts.append(int(re.search(r"^totals: (\d+)", file.read(), re.MULTILINE)[1]))
+        self.assertEqual((len(counts), len(set(counts))), (30, 1), counts)
+        self.assertGreater(counts[0], 1000)
 
 
 class CPython(Test):

@@ -1,4 +1,4 @@
-"""Compares a tag that differs at one byte, to count instructions: verify_at.py MODULE INDEX, where
+"""Compares tags that differ at one byte each, to count instructions: verify_at.py MODULE, where
 MODULE is the file of vulfsjor._library, which is loaded by itself."""
 import importlib.util
 import sys
@@ -7,6 +7,7 @@ spec = importlib.util.spec_from_file_location("vulfsjor._library", sys.argv[1])
 library = importlib.util.module_from_spec(spec)
 spec.loader.exec_module(library)
 mac = library.blake2b(b"message", key=b"key")
-wrong = bytearray(mac.digest())
-wrong[int(sys.argv[2])] ^= 1
-assert not any(mac.verify(wrong) for _ in range(20))
+for place in [0, 31, 63] * 10:
+    wrong = bytearray(mac.digest())
+    wrong[place] ^= 1
+    assert not mac.verify(wrong)

@@ -71,8 +71,11 @@ impl Program {
     fn new(name: &str, lines: &str, crates: &[&Path]) -> Self {
         let folder = folder(name);
         let mut text = package(name);
-        text.push_str("[profile.thin]\ninherits = \"release\"\nlto = \"thin\"\n");
-        text.push_str("[profile.fat]\ninherits = \"release\"\nlto = \"fat\"\n[dependencies]\n");
+        for lto in ["thin", "fat"] {
+            let profile = format!("[profile.{lto}]\ninherits = \"release\"\nlto = \"{lto}\"\n");
+            text += &(profile + "opt-level = 1\n");
+        }
+        text.push_str("[dependencies]\n");
         for (name, path) in ["a", "b"].into_iter().zip(crates) {
             let path = path.display();
             text += &format!("{name} = {{ package = \"vulfsjor\", path = \"{path}\" }}\n");
@@ -141,11 +144,12 @@ const BUILDS: &[&str] = &["v2", "v3", "v4"];
 #[cfg(target_arch = "aarch64")]
 const BUILDS: &[&str] = &["arm"];
 
-// A program contains of the assembly what it calls, and no name that another object could see.
+// A program contains of the assembly what it calls, and no name that another object could see. For
+// link-time optimization two_versions() shows it.
 #[test]
 fn a_program_holds_what_it_calls() {
     let program = Program::new("holds", PRINT_ABC, &[TOP.as_ref()]);
-    for profile in PROFILES {
+    for profile in ["dev", "release"] {
         let built = program.prints(profile, ABC);
         for build in BUILDS {
             assert_eq!(held(&built, VERSION, build), ["blake2b"], "{profile}");
@@ -312,19 +316,14 @@ fn two_versions() {
         "99_8_7_",
         &texts,
     );
-    let same = "assert!(b::Blake2b::digest(b\"abc\") == *a::Blake2b::digest(b\"abc\").as_bytes());";
-    let lines = format!("{PRINT_ABC} {same}");
+    let same = ["a", "b"].map(|name| format!("{name}::Blake2b::digest(b\"abc\").as_bytes()"));
+    let lines = format!("{PRINT_ABC} assert_eq!({});", same.join(", "));
     let program = Program::new("two_versions", &lines, &[TOP.as_ref(), &other]);
     for profile in PROFILES {
         let built = program.prints(profile, ABC);
         for build in BUILDS {
             for version in [VERSION, "99.8.7"] {
-                let held = held(&built, version, build);
-                assert_eq!(
-                    held.iter().filter(|name| *name == "blake2b").count(),
-                    1,
-                    "{profile}"
-                );
+                assert_eq!(held(&built, version, build), ["blake2b"], "{profile}");
             }
         }
     }

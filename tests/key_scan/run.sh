@@ -15,15 +15,10 @@ here=$(dirname "$(readlink -f "$0")")
 source "$here/../tap.sh"
 cpu=$("$top/tools/processor.sh")
 [ "${1-}" != --cpu ] || cpu=${2-}
-if ! [[ $#,$cpu =~ ^[02],x86-64-v[234]$ ]]; then
-    echo "usage: tests/key_scan/run.sh [--cpu x86-64-v2|x86-64-v3|x86-64-v4]" >&2
-    exit 2
-fi
+[[ $#,$cpu =~ ^[02],x86-64-v[234]$ ]] ||
+    { echo "usage: tests/key_scan/run.sh [--cpu x86-64-v2|x86-64-v3|x86-64-v4]" >&2 && exit 2; }
 for tool in rt cc python3; do
-    has "$tool" || {
-        skip "copies of a secret on the stack after calls in Rattle" "no $tool"
-        finish
-    }
+    has $tool || { skip "copies of a secret on the stack, by calls in Rattle" "no $tool"; finish; }
 done
 source "$top/tools/kit.sh"
 
