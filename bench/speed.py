@@ -7,7 +7,7 @@ Tables, as Markdown on standard output:
   time (user and system) of the whole program.
 - kernel: one message of 1 MiB in memory.
 - short: messages of 0, 64 and 1,024 bytes in memory.
-- several: four messages of BLAKE2b-512 and eight of BLAKE2s-256, digested one after another and in parallel.
+- several: four and eight messages of BLAKE2b-512 and eight of BLAKE2s-256, digested one after another and in parallel.
 - tree: the roots of trees over one message of 16 MiB in memory, next to one stream over it.
 
 With --write all of them go into docs/SPEED.md, between two marks, and a plot of messages of 64 bytes to 1 MiB goes into
@@ -52,6 +52,7 @@ KERNEL_BYTES = 1 << 20
 SHORT_BYTES = (0, 64, 1024)
 SEVERAL_BYTES = (64, 1024, 4096)
 SEVERAL = {"b512": 4, "s256": 8}  # how many messages in parallel
+MORE = {"b512": 8}  # and how many with AVX-512
 TREE_MEBIBYTES = 16  # of the message
 TREE_LEAVES = (1 << 12, 1 << 16, 1 << 20)
 PLOT_BYTES = tuple(1 << power for power in range(6, 21))
@@ -461,32 +462,34 @@ def short_table(kind, memory):
 
 
 def several_functions():
-    """The functions that write the digests of several messages, by their names and their kinds' words."""
+    """The libraries with functions that write the digests of several messages, and the prefixes of these functions, by
+    the names of the rows."""
     found = {}
     for cpu in CPUS:
-        path = library_of(cpu)
-        found[f"ours: one after another, {cpu}"] = functions_of(path, "each_")
-        found[f"ours: in parallel, {cpu}"] = functions_of(path, "several_")
+        found[f"ours: one after another, {cpu}"] = library_of(cpu), "each_"
+        found[f"ours: in parallel, {cpu}"] = library_of(cpu), "several_"
     path = blake2_simd()[1]
     if path:
-        found["blake2b/s_simd: one after another"] = functions_of(path, "each_")
-        found["blake2b/s_simd: `hash_many`"] = functions_of(path, "several_")
+        found["blake2b/s_simd: one after another"] = path, "each_"
+        found["blake2b/s_simd: `hash_many`"] = path, "several_"
     return found
 
 
-def several_table(kind, functions, turns):
-    """The table of several messages in parallel."""
+def several_table(kind, count, functions, turns):
+    """The table of so many messages in parallel."""
+    function = kind.function if count == SEVERAL[kind.word] else f"{kind.function}_{count}"
     columns = []
     for length in SEVERAL_BYTES:
-        say(f"timing several messages at {kind.title} of {length:,} bytes")
-        messages = bytearray(os.urandom(SEVERAL[kind.word] * length))
+        say(f"timing {count} messages at {kind.title} of {length:,} bytes")
+        messages = bytearray(os.urandom(count * length))
         wanted = b"".join(hashlib.new(kind.algorithm, messages[at:at + length]).digest()
                           for at in range(0, len(messages), length))
-        timers = {name: loop_timer(checked_loop(name, found[kind.word], messages, len(messages), wanted))
-                  for name, found in functions.items()}
+        timers = {name: loop_timer(checked_loop(name, getattr(ctypes.CDLL(path), prefix + function), messages,
+                                                len(messages), wanted))
+                  for name, (path, prefix) in functions.items()}
         best = best_of(turns * MEMORY_TURNS, timers)
         columns.append(Column(f"{length:,} bytes, ns", best, "{:.0f}".format))
-    return table(f"{SEVERAL[kind.word]} messages of {kind.title}", columns)
+    return table(f"{count} messages of {kind.title}", columns)
 
 
 def tree_functions():
@@ -593,7 +596,8 @@ def parts_of(options):
         yield from (with_load(short_table(kind, memory)) for kind in TIMED)
     if options.only in (None, "several"):
         functions = several_functions()
-        yield from (with_load(several_table(kind, functions, options.turns)) for kind in TIMED)
+        yield from (with_load(several_table(kind, counts[kind.word], functions, options.turns))
+                    for kind in TIMED for counts in (SEVERAL, MORE) if kind.word in counts)
     if options.only in (None, "tree"):
         yield with_load(tree_table(options.turns * TREE_TURNS))
     if options.write:

@@ -6,7 +6,8 @@ coreutils' `b2sum` over the same files (more than 1 is faster):
 
 - one: a file of 1 GiB
 - small: 10,000 files of 1,000 bytes, as arguments of one command
-- tree: that file by `--tree 65536`, on one processor and on all. b3sum is another hash, made for this.
+- tree: that file by `--tree 65536`, on one processor and on all. b3sum is another hash, made for this. It maps the file
+  into memory, and with --no-mmap reads it and hashes in one thread.
 
 With --write it goes into docs/SPEED.md, between the two marks for sums. The program is the one that ./b2sum builds from
 dist/, so nothing is proved here. The digests are first compared with those of coreutils. Then the candidates are timed
@@ -38,14 +39,15 @@ def printed(folder, words, processors=ALL):
 
 def commands(program):
     """The commands by what they read and by their names."""
-    threads = ["b3sum", "--no-mmap", "--num-threads"]
+    threads, unmapped = ["b3sum", "--num-threads"], ["b3sum", "--no-mmap"]
     return {
         "one": {"`b2sum` (ours)": ([program], 1), "`b2sum` of coreutils": ([PEER], 1),
-        "`b3sum`, 1 thread": ([*threads, "1"], 1)},
+                "`b3sum --no-mmap`": (unmapped, 1)},
         "small": {"`b2sum` (ours)": ([program], 1), "`b2sum` of coreutils": ([PEER], 1)},
         "tree": {"`b2sum --tree 65536`, 1 processor": ([program, "--tree", "65536"], 1),
                  f"`b2sum --tree 65536`, {ALL} processors": ([program, "--tree", "65536"], ALL),
-                 "`b3sum`, 1 thread": ([*threads, "1"], 1), f"`b3sum`, {ALL} threads": ([*threads, str(ALL)], ALL)},
+                 "`b3sum --no-mmap`": (unmapped, ALL), "`b3sum`, 1 thread": ([*threads, "1"], 1),
+                 f"`b3sum`, {ALL} threads": ([*threads, str(ALL)], ALL)},
     }
 
 

@@ -8,10 +8,20 @@ enum { MOST = 8 };
 
 static const uint8_t none;
 
+static void each_blake2b(size_t count, const uint8_t *messages, size_t length, uint8_t *out)
+{
+    for (size_t j = 0; j < count; j++)
+        vulfsjor_ffi_blake2b(out + 64 * j, 64, messages + j * (length / count), length / count, &none, 0);
+}
+
 void each_blake2b512(const uint8_t *messages, size_t length, uint8_t *out)
 {
-    for (size_t j = 0; j < 4; j++)
-        vulfsjor_ffi_blake2b(out + 64 * j, 64, messages + j * (length / 4), length / 4, &none, 0);
+    each_blake2b(4, messages, length, out);
+}
+
+void each_blake2b512_8(const uint8_t *messages, size_t length, uint8_t *out)
+{
+    each_blake2b(8, messages, length, out);
 }
 
 void each_blake2s256(const uint8_t *messages, size_t length, uint8_t *out)
@@ -26,12 +36,22 @@ static void cut(vulfsjor_message *given, size_t count, const uint8_t *messages, 
         given[j] = (vulfsjor_message){messages + j * (length / count), length / count};
 }
 
-void several_blake2b512(const uint8_t *messages, size_t length, uint8_t *out)
+static void several_blake2b(size_t count, const uint8_t *messages, size_t length, uint8_t *out)
 {
     vulfsjor_message given[MOST];
-    cut(given, 4, messages, length);
-    if (vulfsjor_ffi_blake2b_many(out, 4 * 64, 64, given, 4, &none, 0, &none, 0, &none, 0))
+    cut(given, count, messages, length);
+    if (vulfsjor_ffi_blake2b_many(out, count * 64, 64, given, count, &none, 0, &none, 0, &none, 0))
         abort();
+}
+
+void several_blake2b512(const uint8_t *messages, size_t length, uint8_t *out)
+{
+    several_blake2b(4, messages, length, out);
+}
+
+void several_blake2b512_8(const uint8_t *messages, size_t length, uint8_t *out)
+{
+    several_blake2b(8, messages, length, out);
 }
 
 void several_blake2s256(const uint8_t *messages, size_t length, uint8_t *out)

@@ -27,29 +27,51 @@ pub unsafe extern "C" fn blake2s256(message: *const u8, length: usize, out: *mut
     *out = *blake2s_simd::blake2s(message).as_array();
 }
 
-/// # Safety
-/// `messages` has `length` bytes, and `out` has room for 256.
-#[no_mangle]
-pub unsafe extern "C" fn each_blake2b512(messages: *const u8, length: usize, out: *mut [[u8; 64]; 4]) {
-    for j in 0..4 {
-        let message = std::slice::from_raw_parts(messages.add(j * (length / 4)), length / 4);
+unsafe fn each_blake2b<const N: usize>(messages: *const u8, length: usize, out: *mut [[u8; 64]; N]) {
+    for j in 0..N {
+        let message = std::slice::from_raw_parts(messages.add(j * (length / N)), length / N);
         (*out)[j] = *blake2b_simd::blake2b(message).as_array();
     }
 }
 
-/// # Safety
-/// `messages` has `length` bytes, and `out` has room for 256.
-#[no_mangle]
-pub unsafe extern "C" fn several_blake2b512(messages: *const u8, length: usize, out: *mut [[u8; 64]; 4]) {
+unsafe fn several_blake2b<const N: usize>(messages: *const u8, length: usize, out: *mut [[u8; 64]; N]) {
     let parameters = blake2b_simd::Params::new();
-    let mut jobs: [_; 4] = std::array::from_fn(|j| {
-        let message = std::slice::from_raw_parts(messages.add(j * (length / 4)), length / 4);
+    let mut jobs: [_; N] = std::array::from_fn(|j| {
+        let message = std::slice::from_raw_parts(messages.add(j * (length / N)), length / N);
         blake2b_simd::many::HashManyJob::new(&parameters, message)
     });
     blake2b_simd::many::hash_many(jobs.iter_mut());
     for (digest, job) in (*out).iter_mut().zip(&jobs) {
         *digest = *job.to_hash().as_array();
     }
+}
+
+/// # Safety
+/// `messages` has `length` bytes, and `out` has room for 256.
+#[no_mangle]
+pub unsafe extern "C" fn each_blake2b512(messages: *const u8, length: usize, out: *mut [[u8; 64]; 4]) {
+    each_blake2b(messages, length, out)
+}
+
+/// # Safety
+/// `messages` has `length` bytes, and `out` has room for 256.
+#[no_mangle]
+pub unsafe extern "C" fn several_blake2b512(messages: *const u8, length: usize, out: *mut [[u8; 64]; 4]) {
+    several_blake2b(messages, length, out)
+}
+
+/// # Safety
+/// `messages` has `length` bytes, and `out` has room for 512.
+#[no_mangle]
+pub unsafe extern "C" fn each_blake2b512_8(messages: *const u8, length: usize, out: *mut [[u8; 64]; 8]) {
+    each_blake2b(messages, length, out)
+}
+
+/// # Safety
+/// `messages` has `length` bytes, and `out` has room for 512.
+#[no_mangle]
+pub unsafe extern "C" fn several_blake2b512_8(messages: *const u8, length: usize, out: *mut [[u8; 64]; 8]) {
+    several_blake2b(messages, length, out)
 }
 
 /// # Safety
