@@ -503,11 +503,11 @@ VULFSJOR_MUST_USE static inline int vulfsjor_blake2b(void *out, size_t outlen, c
 
 /* Writes the digests of count messages to out, which has room for count * outlen bytes. Digest i is
  * at out + i * outlen. All have the same digest length, key, salt and personalization, with the
- * lengths of vulfsjor_blake2b_init_salt_personal. Four messages in a row that have the same length
- * are hashed in parallel. Built for x86-64-v3, that needs fewer instructions than one after another
- * (docs/SPEED.md has times). Returns -1 and writes nothing if a length is out of range, if a
- * message and a key's block have 2^64 bytes or more, or if out, messages or the bytes of a message
- * are null, even if count or the length is 0. */
+ * lengths of vulfsjor_blake2b_init_salt_personal. Messages in a row that have the same length are
+ * hashed by fours in parallel, or by eights with AVX-512; on x86-64 without AVX2 one after another
+ * is faster (docs/SPEED.md has times). Returns -1 and writes nothing if a length is out of range,
+ * if a message and a key's block have 2^64 bytes or more, or if out, messages or the bytes of a
+ * message are null, even if count or the length is 0. */
 VULFSJOR_MUST_USE static inline int vulfsjor_blake2b_many(
     void *out, size_t outlen, const vulfsjor_message *messages, size_t count, const void *key,
     size_t keylen, const void *salt, size_t saltlen, const void *personal, size_t personallen) {
