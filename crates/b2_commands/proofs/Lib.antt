@@ -1,5 +1,4 @@
 mod Accepting
-mod CutLemmas
 mod Filling
 mod Hashing
 mod LineLemmas

@@ -6,6 +6,7 @@ use Rattle.std.specs.List.{before_first, after_first, slice_split}
 use Rattle.std.specs.Option.{option_and_then, option_map}
 use Rattle.std.specs.Result.{result_map_both}
 use Rattle.std.specs.Str.{bytes_eq}
+use Rattle.b2sum_lines.specs.Cuts.{cut_at, lines_of}
 use Rattle.blake2.specs.Play.{play_fresh}
 use Rattle.blake2_replay.specs.declared.calls.Call.{Call}
 use Rattle.blake2_replay.specs.declared.calls.Call.TheVariants.{Update, Clone, Reset, Finalize}
@@ -18,28 +19,6 @@ use Rattle.b2_commands.specs.declared.fault.Fault.TheVariants.{WrongLine, NoSuch
 use Rattle.b2_commands.specs.declared.fault.Fault.TheVariants.{NoMemory}
 use Rattle.b2_commands.specs.Numbers.{number_value}
 use Rattle.b2_commands.specs.Words.{and_then, message_value}
-
--- The line in the part after the last newline. An empty part is not a line.
-abbrev pub last_line : List ℕ → List (List ℕ)
-last_line [] = []
-last_line (b ∷ part) = (b ∷ part) ∷ []
-
--- The lines in the parts between newlines.
-abbrev pub lines_of_parts : List (List ℕ) → List (List ℕ)
-lines_of_parts [] = []
-lines_of_parts (part ∷ []) = last_line part
-lines_of_parts (part ∷ next ∷ parts) = part ∷ lines_of_parts (next ∷ parts)
-
--- The lines of a script, without their newlines, which the last line may lack.
-abbrev pub lines_of : List ℕ → List (List ℕ)
-lines_of text = lines_of_parts (slice_split (λ b. b == 10) text)
-
--- The bytes before the first byte equal to `byte` and those after it, if there is such a byte.
-abbrev pub cut_at : ℕ → List ℕ → Option (List ℕ × List ℕ)
-cut_at byte text =
-    if is_some (position (λ b. b == byte) text)
-    then Some (before_first (λ b. b == byte) text, after_first (λ b. b == byte) text)
-    else None
 
 -- The slot that a field names: 1 to 9 decimal digits with no leading zero.
 abbrev pub slot_value : List ℕ → Option ℕ

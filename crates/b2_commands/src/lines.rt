@@ -1,15 +1,14 @@
 //! The lines of a script, read as calls.
 
-ghost use Rattle.std.specs.Prelude.{◌≡◌, ◌<◌, ◌∷◌, length, map, IfOk, IfErr, ok_or};
-ghost use Rattle.std.specs.Option.{option_map};
+ghost use Rattle.std.specs.Prelude.{◌≡◌, map, IfOk, IfErr, ok_or};
 ghost use Rattle.b2_commands.specs.declared.fault.Fault.TheVariants.{WrongLine};
-ghost use Rattle.b2_commands.specs.Scripts.{cut_at, lines_of, slot_value, call_at, script_calls};
-ghost use Rattle.b2_commands.specs.Scripts.{update_fields};
+ghost use Rattle.b2_commands.specs.Scripts.{slot_value, call_at, script_calls, update_fields};
 ghost use Rattle.b2_commands.specs.Reading.{call_value, unplaced, IsLineFault};
 
 use crate::fault::Fault;
 use crate::numbers::number_of;
 use crate::words::message_of;
+use b2sum_lines::{split_line, split_once};
 use blake2::calls::Call;
 use std::alloc::{AllocError, Global};
 
@@ -121,25 +120,6 @@ pub(crate) fn calls_of(alloc: Global, script: &[ScriptCall]) -> Result<Vec<Call<
         calls.push(call.as_call())?;
     }
     Ok(calls)
-}
-
-// Returns the first line of `text`, without its newline, and what comes after that. `text` must
-// not be empty.
-fn split_line(text: &[u8]) -> (&[u8], &[u8])
-    requires { 0 < length text.now }
-    ensures lines { lines_of text.now ≡ result.0.now ∷ lines_of result.1.now }
-    ensures shorter { length result.1.now < length text.now }
-{
-    split_once(text, b'\n').unwrap_or((text, &[]))
-}
-
-// Returns what is before the first such byte, and what is after it, or `None` if there is no such
-// byte.
-fn split_once(text: &[u8], byte: u8) -> Option<(&[u8], &[u8])>
-    ensures { option_map (λ parts. (parts.0.now, parts.1.now)) result ≡ cut_at byte text.now }
-{
-    let place = text.iter().position(|b| *b == byte)?;
-    Some((&text[..place], &text[place + 1..]))
 }
 
 // Returns the slot that a field names, in 1 to 9 decimal digits without a leading zero, or `None`

@@ -152,10 +152,8 @@ impl Line {
         requires { length self.old + length (decimal n) ≤ LINE_BYTES }
         ensures { self.new ≡ self.old ++ decimal n }
     {
-        if n >= 10 {
-            self.push_decimal(n / 10);
-        }
-        self.push(&[b'0' + (n % 10) as u8]);
+        let mut digits = itoa::Buffer::new();
+        self.push(digits.format(n).as_bytes());
     }
 
     /// Appends a field: a space, and a number in decimal, without leading zeros. The line must

@@ -1,4 +1,3 @@
-pub mod CutLemmas
 pub mod Joining
 pub mod Progress
 pub mod Steps

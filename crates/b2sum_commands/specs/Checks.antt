@@ -18,6 +18,7 @@ use Rattle.std.specs.Prelude.{
 }
 use Rattle.std.specs.Io.KnownBytes.{Appends, Consumes, IsAtEnd}
 use Rattle.std.specs.List.{list_any, list_all}
+use Rattle.b2sum_lines.specs.Cuts.{lines_of}
 use Rattle.b2sum_lines.specs.Entries.{entry_value}
 use Rattle.b2sum_lines.specs.Lines.{Line}
 use Rattle.b2sum_lines.specs.declared.entry.Algorithm.{Algorithm}
@@ -29,7 +30,7 @@ use Rattle.b2sum_commands.specs.declared.check.Item.TheVariants.{Comment, Listed
 use Rattle.b2sum_commands.specs.declared.check.Verdict.{Verdict}
 use Rattle.b2sum_commands.specs.declared.options.Options.{Options}
 use Rattle.b2sum_commands.specs.Sums.{is_dash}
-use Rattle.b2sum_commands.specs.Manifests.{lines_of, item, items, next_spacing, AreVerdicts}
+use Rattle.b2sum_commands.specs.Manifests.{item, items, next_spacing, AreVerdicts}
 use Rattle.b2sum_commands.specs.Manifests.{is_equal, is_fine, is_formed, holds_by, verdict_lines}
 use Rattle.b2sum_commands.specs.Manifests.{IsVerdict, verdict_line}
 

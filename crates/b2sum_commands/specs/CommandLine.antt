@@ -7,6 +7,7 @@ use Rattle.std.specs.List.{starts_with, find, count_by}
 use Rattle.std.specs.Result.{result_ok}
 use Rattle.std.specs.Str.{bytes_eq}
 use Rattle.hex.specs.Hex.{decode_of}
+use Rattle.b2sum_lines.specs.Cuts.{cut_at}
 use Rattle.b2sum_lines.specs.declared.entry.Algorithm as entry
 use Rattle.b2sum_lines.specs.declared.entry.Algorithm.TheVariants.{Blake2b, Blake2s}
 use Rattle.b2sum_commands.specs.declared.options.Flag.{Flag}
@@ -21,7 +22,6 @@ use Rattle.b2sum_commands.specs.declared.options.Report.{Report}
 use Rattle.b2sum_commands.specs.declared.options.Report.TheVariants.{Each, Warnings, Failures}
 use Rattle.b2sum_commands.specs.declared.options.Report.TheVariants.{Nothing}
 use Rattle.b2sum_commands.specs.Flags.{long_name, has_value, letter_flag}
-use Rattle.b2sum_commands.specs.Manifests.{cut_at}
 
 -- ---- what is chosen
 

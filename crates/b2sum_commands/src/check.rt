@@ -6,11 +6,11 @@ ghost use Rattle.std.specs.Prelude.{◌++◌, length, not, true, false, IfOk, If
 ghost use Rattle.std.specs.Io.KnownBytes.{Appends, Consumes, IsAtEnd};
 ghost use Rattle.std.specs.List.{list_any, list_all};
 ghost use Rattle.std.specs.Option.{option_map};
+ghost use Rattle.b2sum_lines.specs.Cuts.{lines_of};
 ghost use Rattle.b2sum_lines.specs.Entries.{entry_value};
 ghost use Rattle.b2sum_commands.specs.Sums.{is_dash, CannotRead, CannotSum, CannotCheck};
 ghost use Rattle.b2sum_commands.specs.Sums.{CannotGet};
-ghost use Rattle.b2sum_commands.specs.Manifests.{lines_of, cut_at, trimmed, item, items};
-ghost use Rattle.b2sum_commands.specs.Manifests.{spacing_after};
+ghost use Rattle.b2sum_commands.specs.Manifests.{trimmed, item, items, spacing_after};
 ghost use Rattle.b2sum_commands.specs.Manifests.{IsVerdict, AreVerdicts, is_equal, is_fine};
 ghost use Rattle.b2sum_commands.specs.Manifests.{is_formed, holds_by, outcome, with_name};
 ghost use Rattle.b2sum_commands.specs.Manifests.{verdict_line, verdict_lines, shown_name};
@@ -26,8 +26,8 @@ use crate::hashes::Hashes;
 use crate::options::{Options, Report};
 use crate::quoting::quoted_name;
 use crate::sums::{Read, digest_file, is_dash};
-use crate::texts::{push_decimal, warn, warn_of_count, warn_of_file};
-use b2sum_lines::{Entry, Spacing, Style, push_escaped, read_line};
+use crate::texts::{warn, warn_of_count, warn_of_file};
+use b2sum_lines::{Entry, Spacing, Style, push_decimal, push_escaped, read_line, split_line};
 use blake2_digest::is_same;
 use blake2_replay::engine::{Sink, Source};
 use std::alloc::Global;
@@ -347,24 +347,6 @@ fn check_item<H: Hashes, D: Disk, K: Output, E: Sink>(
         }
     }
     Ok(())
-}
-
-// Returns the first line of a text that is not empty, without its newline, and what follows it.
-fn split_line(text: &[u8]) -> (&[u8], &[u8])
-    requires { 0 < length text.now }
-    ensures first { lines_of text.now ≡ result.0.now ∷ lines_of result.1.now }
-    ensures shorter { length result.1.now < length text.now }
-{
-    split_once(text, b'\n').unwrap_or((text, &[]))
-}
-
-// Returns what is before the first such byte, and what is after it, or `None` if there is no such
-// byte.
-pub(crate) fn split_once(text: &[u8], byte: u8) -> Option<(&[u8], &[u8])>
-    ensures { option_map (λ parts. (parts.0.now, parts.1.now)) result ≡ cut_at byte text.now }
-{
-    let place = text.iter().position(|b| *b == byte)?;
-    Some((&text[..place], &text[place + 1..]))
 }
 
 // What a line of a manifest is.

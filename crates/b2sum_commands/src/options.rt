@@ -23,10 +23,9 @@ ghost use Rattle.b2sum_commands.specs.Readers.{IsUnfit};
 ghost use Rattle.b2sum_commands.specs.declared.options.Stop.TheVariants.{NoMemory};
 ghost use Rattle.b2sum_commands.specs.declared.options.Next.TheVariants.{Any};
 
-use crate::check::split_once;
 use crate::quoting::quoted_value;
 use crate::values::{algorithm_of, bits_of, bytes_of, leaf_of};
-use b2sum_lines::{Algorithm, Style};
+use b2sum_lines::{Algorithm, Style, split_once};
 use std::alloc::{AllocError, Global};
 
 /// What a check prints.

@@ -5,6 +5,7 @@ ghost use Rattle.b2sum_commands.specs.Runs.{EndsWith, IsTold};
 
 use crate::devices::tell;
 use crate::quoting::quoted_name;
+use b2sum_lines::push_decimal;
 use blake2_replay::engine::Sink;
 use std::alloc::{AllocError, Global};
 use std::io;
@@ -65,15 +66,6 @@ pub(crate) fn reason_of(alloc: Global, error: io::Error) -> Result<String, Alloc
     let mut short = String::new(alloc);
     short.push_str(reason)?;
     Ok(short)
-}
-
-/// Appends a number in decimal.
-pub(crate) fn push_decimal(line: &mut Vec<u8>, n: u64) -> Result<(), AllocError> {
-    if n >= 10 {
-        push_decimal(line, n / 10)?;
-    }
-    line.push(b'0' + (n % 10) as u8)?;
-    Ok(())
 }
 
 /// Prints `b2sum: WARNING: N` and one of two texts, for one or for several, if there are any.

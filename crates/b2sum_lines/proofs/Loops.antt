@@ -1,11 +1,8 @@
 -- Steps of loops over the bytes of a text.
-use Rattle.std.proofs.Common.{◌≡◌, ℕ, ◌+◌, ◌<◌, ◌==◌, Bool, true, false, List, [], ◌∷◌, ◌++◌, length}
+use Rattle.std.proofs.Common.{◌≡◌, ℕ, ◌+◌, ◌<◌, ◌==◌, true, List, [], ◌∷◌, ◌++◌, length}
 use Rattle.std.proofs.Common.{take, drop, get_or, Some, None, refl, sym, ap, ◌∙◌, add-one, drop-cons}
-use Rattle.std.proofs.Common.{append_assoc}
 use Rattle.std.proofs.lemmas.List.{take-append-drop}
-use Rattle.std.specs.List.{list_any}
-use Rattle.b2sum_lines.specs.Lines.{skip, cut_last, escape, escaped}
-use Rattle.b2sum_lines.specs.Lines.{unescape_onto, escape_value}
+use Rattle.b2sum_lines.specs.Lines.{cut_last}
 
 -- The rest of a text from an index is the byte there and the rest after it.
 pub rest_is : (text : List ℕ) (i : ℕ) → i < length text

@@ -1,6 +1,6 @@
 //! Writing lines.
 
-ghost use Rattle.std.specs.Prelude.{◌≡◌, ◌++◌, ◌*◌, ◌≤◌, codes, decimal, length, IfOk, OnOk, Some};
+ghost use Rattle.std.specs.Prelude.{◌≡◌, ◌++◌, ◌*◌, ◌≤◌, decimal, length, IfOk, OnOk};
 ghost use Rattle.hex.specs.Hex.{encode_lower};
 ghost use Rattle.b2sum_lines.specs.Lines.{entry_line, plain_line, body_line, tag_length, IsReadBack};
 ghost use Rattle.b2sum_lines.specs.Entries.{entry_value};
@@ -109,13 +109,11 @@ fn push_tag_length(line: &mut Vec<u8>, algorithm: Algorithm, bytes: usize) -> Re
     push_decimal(line, 8 * bytes as u64)
 }
 
-// Appends a number in decimal, without leading zeros.
-pub(crate) fn push_decimal(line: &mut Vec<u8>, n: u64) -> Result<(), AllocError>
+/// Appends a number in decimal, without leading zeros. The error is `AllocError`, if an allocation
+/// fails.
+pub fn push_decimal(line: &mut Vec<u8>, n: u64) -> Result<(), AllocError>
     ensures { OnOk result (line.new.items ≡ line.old.items ++ decimal n) }
 {
-    if n >= 10 {
-        push_decimal(line, n / 10)?;
-    }
-    line.push(b'0' + (n % 10) as u8)?;
-    Ok(())
+    let mut digits = itoa::Buffer::new();
+    line.extend_from_slice(digits.format(n).as_bytes())
 }

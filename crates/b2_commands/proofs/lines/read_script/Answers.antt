@@ -1,7 +1,8 @@
 use Rattle.std.proofs.Common.{◌≡◌, ◌+◌, [], ◌∷◌, ◌++◌, length, length-append, map, Ok, rules}
 use Rattle.std.proofs.lemmas.List.{map-append}
+use Rattle.b2sum_lines.specs.Cuts.{lines_of}
 use Rattle.b2_commands.specs.Reading.{call_value}
-use Rattle.b2_commands.specs.Scripts.{call_at, lines_of, script_calls}
+use Rattle.b2_commands.specs.Scripts.{call_at, script_calls}
 use Rattle.b2_commands.proofs.LineLemmas.{read_on}
 use Rattle.b2_commands.proofs.lines.read_script.Goals as goal
 
@@ -17,5 +18,5 @@ lines-preserved c =
     let pushed : c.push.new.self.items ≡ items ++ call ∷ [] = search rules in
     let on = read_on (script_calls c.args.text.now) (map call_value items) (call_value call)
     (length items + 1) line (lines_of after) (lines_of c.lines.rest.now) c.lines.invariant
-    c.split_line.ensures.lines read in
+    c.split_line.ensures.first read in
     rw (pushed, map-append call_value items (call ∷ []), length-append items (call ∷ [])) on

@@ -1,6 +1,7 @@
 use Rattle.std.proofs.Common.{◌≡◌, ◌+◌, length, map}
+use Rattle.b2sum_lines.specs.Cuts.{lines_of}
 use Rattle.b2_commands.specs.Reading.{call_value}
-use Rattle.b2_commands.specs.Scripts.{calls_from, lines_of, script_calls}
+use Rattle.b2_commands.specs.Scripts.{calls_from, script_calls}
 use Rattle.b2_commands.proofs.LineLemmas.{behind}
 use Rattle.b2_commands.proofs.lines.read_script.Given as goal
 

@@ -1,4 +1,4 @@
--- Lists that are cut at a byte, and scripts that are cut into lines.
+-- Lists that are cut at a byte, and texts that are cut into lines.
 use Rattle.std.proofs.Common.{◌≡◌, ℕ, ◌+◌, ◌<◌, ◌≤◌, ◌==◌, Bool, true, false, not, nat_lt, List, []}
 use Rattle.std.proofs.Common.{◌∷◌, length, take, drop, Option, Some, None, Bor, inl, inr, refl, ap}
 use Rattle.std.proofs.Common.{◌∙◌, arith}
@@ -8,7 +8,7 @@ use Rattle.std.proofs.lemmas.List.Splits.{length-slice_split, slice_split-cons_n
 use Rattle.std.proofs.lemmas.List.Splits.{slice_split_first}
 use Rattle.std.specs.List.{after_first, before_first, onto_first, position_or_len, slice_split}
 use Rattle.std.specs.Option.{option_map, unwrap_or}
-use Rattle.b2_commands.specs.Scripts.{cut_at, lines_of, lines_of_parts}
+use Rattle.b2sum_lines.specs.Cuts.{cut_at, lines_of, lines_of_parts}
 
 -- A list in which the byte is first at this index is cut there.
 pub cut_found : (byte : ℕ) (text : List ℕ) (i : ℕ) → position_or_len (λ (b : ℕ). b == byte) text ≡ i
@@ -51,7 +51,7 @@ line_last : (part : List ℕ) → 0 < length part → lines_of_parts (part ∷ [
 line_last [] some = absurd (omega (arith, some))
 line_last (b ∷ part) some = refl
 
--- The first line of a script that is not empty is what comes before the first newline. The other
+-- The first line of a text that is not empty is what comes before the first newline. The other
 -- lines are those of the rest.
 first_line : (text : List ℕ) (cut : Option (List ℕ × List ℕ)) → cut ≡ cut_at 10 text
     → 0 < length text

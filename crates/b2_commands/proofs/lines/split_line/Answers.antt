@@ -1,8 +1,0 @@
-use Rattle.std.proofs.Common.{refl}
-use Rattle.b2_commands.proofs.CutLemmas.{first_line_of}
-use Rattle.b2_commands.proofs.lines.split_line.Goals as goal
-
-pub returns-clause-lines : goal.returns-clause-lines
-returns-clause-lines c =
-    first_line_of c.args.text.now c.split_once.result _ c.unwrap_or.result c.requires
-    c.split_once.ensures c.unwrap_or.ensures refl refl
