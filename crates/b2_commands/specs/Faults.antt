@@ -9,8 +9,6 @@ use Rattle.b2_commands.specs.declared.fault.Fault.TheVariants.{NoSuchSlot, LineT
 use Rattle.b2_commands.specs.declared.fault.Fault.TheVariants.{ReadFailed, NoMemory, WriteFailed}
 use Rattle.blake2_replay.specs.declared.engine.stream.StreamFault.{StreamFault}
 use Rattle.blake2_replay.specs.declared.engine.stream.StreamFault.TheVariants.{Read, Write}
-use Rattle.blake2_replay.specs.declared.engine.stream.StreamFault.TheVariants.{}
-use Rattle.blake2_replay.specs.declared.engine.stream.StreamFault.TheVariants.{}
 use Rattle.blake2_replay.specs.declared.engine.stream.StreamFault.TheVariants.{TooLong as StreamTooLong}
 use Rattle.b2_commands.specs.Words.{Task, task_of, IsReadingFault}
 use Rattle.b2_commands.specs.Tasks.{IsRefusedTask, IsTooLongFor, IsFaultOfScript, TakesMemory}

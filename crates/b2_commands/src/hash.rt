@@ -1,6 +1,6 @@
 //! `b2 sum`, `b2 script` and `b2 steps` with the hash function that the arguments name.
 
-ghost use Rattle.std.specs.Prelude.{◌≡◌, ◌≤◌, ◌↔◌, false, IsTrue, IfOk, IsErr, IsOkUnless};
+ghost use Rattle.std.specs.Prelude.{◌≡◌, ◌≤◌, ◌↔◌, false, IfOk, IsErr, IsOkUnless};
 ghost use Rattle.blake2.specs.States.{Fresh};
 ghost use Rattle.blake2.specs.Family.{blake2b, blake2s};
 ghost use Rattle.blake2.specs.Hashers.{blake2b_mac_meaning, blake2s_mac_meaning};

@@ -1,7 +1,6 @@
 -- What follows when one more piece passes from a source to a hasher, or from a buffer to a sink.
 use Rattle.std.proofs.Common.{◌≡◌, ℕ, zero, suc, Bool, true, false, ◌||◌, ◌&&◌, ◌==◌, List, ◌++◌}
-use Rattle.std.proofs.Common.{refl, sym, ap, ◌∙◌}
-use Rattle.std.proofs.Common.{arith, append_assoc, length-append}
+use Rattle.std.proofs.Common.{refl, sym, ap, ◌∙◌, arith, append_assoc, length-append}
 use Rattle.std.proofs.Math.Dec.{eqb-suc-zero}
 use Rattle.blake2_digest.specs.States.{Meaning, Updated}
 use Rattle.blake2_state.specs.TreeStates.{future, Took}

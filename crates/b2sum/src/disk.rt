@@ -1,6 +1,6 @@
 //! The files of the system, by names of any bytes.
 
-ghost use Rattle.std.specs.Prelude.{◌≡◌, ◌<◌, ◌∷◌, [], None, true, false, IfOk};
+ghost use Rattle.std.specs.Prelude.{◌<◌, None, true};
 
 use b2sum_commands::{Disk, OpenFile, Output};
 use blake2::engine::{DeviceError, Sink, Source};

@@ -1,8 +1,7 @@
 //! BLAKE2 as the hash functions of the commands.
 
 ghost use Rattle.std.specs.Prelude.{◌≡◌, ◌↔◌, ℕ, ◌+◌, ◌<◌, ◌≤◌, ◌^◌, List, length, take, IsTrue};
-ghost use Rattle.std.specs.Prelude.{OnOk};
-ghost use Rattle.std.specs.Prelude.{true, false};
+ghost use Rattle.std.specs.Prelude.{OnOk, true, false};
 ghost use Rattle.std.specs.Result.{IsErrOf};
 ghost use Rattle.blake2_replay.specs.Streams.{GivesAll};
 ghost use Rattle.blake2_simd.specs.Family.{blake2b, blake2s};

@@ -11,13 +11,11 @@ use Rattle.b2sum_lines.specs.Cuts.{cut_at}
 use Rattle.b2sum_lines.specs.declared.entry.Algorithm as entry
 use Rattle.b2sum_lines.specs.declared.entry.Algorithm.TheVariants.{Blake2b, Blake2s}
 use Rattle.b2sum_commands.specs.declared.options.Flag.{Flag}
-use Rattle.b2sum_commands.specs.declared.options.Flag.TheVariants.{Algorithm, Length}
-use Rattle.b2sum_commands.specs.declared.options.Flag.TheVariants.{KeyFile, Personal, Salt}
-use Rattle.b2sum_commands.specs.declared.options.Flag.TheVariants.{Tree, Progress, Check}
-use Rattle.b2sum_commands.specs.declared.options.Flag.TheVariants.{IgnoreMissing, Quiet}
-use Rattle.b2sum_commands.specs.declared.options.Flag.TheVariants.{Status, Warn, Strict}
-use Rattle.b2sum_commands.specs.declared.options.Flag.TheVariants.{Tag, Zero, Binary}
-use Rattle.b2sum_commands.specs.declared.options.Flag.TheVariants.{Text, Help, Version}
+use Rattle.b2sum_commands.specs.declared.options.Flag.TheVariants.{Algorithm, Length, KeyFile}
+use Rattle.b2sum_commands.specs.declared.options.Flag.TheVariants.{Personal, Salt, Tree, Progress}
+use Rattle.b2sum_commands.specs.declared.options.Flag.TheVariants.{Check, IgnoreMissing, Quiet}
+use Rattle.b2sum_commands.specs.declared.options.Flag.TheVariants.{Status, Warn, Strict, Tag, Zero}
+use Rattle.b2sum_commands.specs.declared.options.Flag.TheVariants.{Binary, Text, Help, Version}
 use Rattle.b2sum_commands.specs.declared.options.Report.{Report}
 use Rattle.b2sum_commands.specs.declared.options.Report.TheVariants.{Each, Warnings, Failures}
 use Rattle.b2sum_commands.specs.declared.options.Report.TheVariants.{Nothing}

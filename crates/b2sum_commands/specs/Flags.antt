@@ -2,13 +2,11 @@
 use Rattle.std.specs.Prelude.{ℕ, ◌==◌, Bool, true, false, if◌then◌else◌, List, codes}
 use Rattle.std.specs.Prelude.{Option, Some, None}
 use Rattle.b2sum_commands.specs.declared.options.Flag.{Flag}
-use Rattle.b2sum_commands.specs.declared.options.Flag.TheVariants.{Algorithm, Length}
-use Rattle.b2sum_commands.specs.declared.options.Flag.TheVariants.{KeyFile, Personal, Salt}
-use Rattle.b2sum_commands.specs.declared.options.Flag.TheVariants.{Tree, Progress, Check}
-use Rattle.b2sum_commands.specs.declared.options.Flag.TheVariants.{IgnoreMissing, Quiet}
-use Rattle.b2sum_commands.specs.declared.options.Flag.TheVariants.{Status, Warn, Strict}
-use Rattle.b2sum_commands.specs.declared.options.Flag.TheVariants.{Tag, Zero, Binary}
-use Rattle.b2sum_commands.specs.declared.options.Flag.TheVariants.{Text, Help, Version}
+use Rattle.b2sum_commands.specs.declared.options.Flag.TheVariants.{Algorithm, Length, KeyFile}
+use Rattle.b2sum_commands.specs.declared.options.Flag.TheVariants.{Personal, Salt, Tree, Progress}
+use Rattle.b2sum_commands.specs.declared.options.Flag.TheVariants.{Check, IgnoreMissing, Quiet}
+use Rattle.b2sum_commands.specs.declared.options.Flag.TheVariants.{Status, Warn, Strict, Tag, Zero}
+use Rattle.b2sum_commands.specs.declared.options.Flag.TheVariants.{Binary, Text, Help, Version}
 
 -- The name of the long option, which follows two hyphens.
 abbrev pub long_name : Flag → List ℕ

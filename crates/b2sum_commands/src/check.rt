@@ -1,19 +1,15 @@
 //! The check of manifests.
 
-ghost use Rattle.std.specs.Prelude.{◌≡◌, ◌≢◌, ◌⊎◌, ℕ, ◌<◌, ◌≤◌, ◌^◌, ◌&&◌, ◌||◌, ◌∷◌, List, Option};
-ghost use Rattle.std.specs.Prelude.{Some, None};
-ghost use Rattle.std.specs.Prelude.{◌++◌, length, not, true, false, IfOk, IfSome, OnOk};
+ghost use Rattle.std.specs.Prelude.{◌≡◌, ◌≢◌, ◌⊎◌, ℕ, ◌<◌, ◌≤◌, ◌^◌, ◌&&◌, ◌||◌, List, Option};
+ghost use Rattle.std.specs.Prelude.{Some, None, ◌++◌, length, not, true, false, IfOk, IfSome, OnOk};
 ghost use Rattle.std.specs.Io.KnownBytes.{Appends, Consumes, IsAtEnd};
-ghost use Rattle.std.specs.List.{list_any, list_all};
 ghost use Rattle.std.specs.Option.{option_map};
 ghost use Rattle.b2sum_lines.specs.Cuts.{lines_of};
 ghost use Rattle.b2sum_lines.specs.Entries.{entry_value};
-ghost use Rattle.b2sum_commands.specs.Sums.{is_dash, CannotRead, CannotSum, CannotCheck};
-ghost use Rattle.b2sum_commands.specs.Sums.{CannotGet};
-ghost use Rattle.b2sum_commands.specs.Manifests.{trimmed, item, items, spacing_after};
-ghost use Rattle.b2sum_commands.specs.Manifests.{IsVerdict, AreVerdicts, is_equal, is_fine};
-ghost use Rattle.b2sum_commands.specs.Manifests.{is_formed, holds_by, outcome, with_name};
-ghost use Rattle.b2sum_commands.specs.Manifests.{verdict_line, verdict_lines, shown_name};
+ghost use Rattle.b2sum_commands.specs.Sums.{is_dash, CannotRead, CannotSum, CannotCheck, CannotGet};
+ghost use Rattle.b2sum_commands.specs.Manifests.{trimmed, item, items, spacing_after, IsVerdict};
+ghost use Rattle.b2sum_commands.specs.Manifests.{AreVerdicts, is_equal, is_fine, is_formed};
+ghost use Rattle.b2sum_commands.specs.Manifests.{outcome, with_name, verdict_line, verdict_lines};
 ghost use Rattle.b2sum_commands.specs.Checks.{item_value, IfListed, final_spacing, AreCounted};
 ghost use Rattle.b2sum_commands.specs.Checks.{IsChecked, IsDone, IsText};
 ghost use Rattle.b2sum_commands.specs.declared.check.Verdict.TheVariants.{Equal, Different};

@@ -1,7 +1,6 @@
 //! Files by name, and what is printed where.
 
-ghost use Rattle.std.specs.Prelude.{◌≡◌, ℕ, List, Option, Bool, true, false, IfOk, IsErr, IsTrue};
-ghost use Rattle.std.specs.Prelude.{OnOk, ◌↔◌};
+ghost use Rattle.std.specs.Prelude.{◌≡◌, ℕ, List, Option, Bool, true, false, IfOk, IsErr, OnOk};
 ghost use Rattle.std.specs.Io.KnownBytes.{Appends};
 ghost use Rattle.b2sum_commands.specs.Runs.{EndsWith};
 

@@ -1,6 +1,6 @@
 //! The key of digests, from a file.
 
-ghost use Rattle.std.specs.Prelude.{◌≡◌, ◌<◌, length, None, IfOk};
+ghost use Rattle.std.specs.Prelude.{◌≡◌, ◌<◌, None, IfOk};
 ghost use Rattle.b2sum_commands.specs.Runs.{IsTold};
 
 use crate::devices::{Disk, Fault, OpenFile};

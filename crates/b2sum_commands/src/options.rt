@@ -1,14 +1,14 @@
 //! The options of the command line.
 
-ghost use Rattle.std.specs.Prelude.{◌≡◌, ◌≢◌, ◌⊎◌, ◌*◌, ◌≤◌, length, true, false, None};
-ghost use Rattle.std.specs.Prelude.{◌↔◌, ◌<◌, ◌/◌, ◌%◌, IfOk, IfSome, IsOk, OnOk, Some};
+ghost use Rattle.std.specs.Prelude.{◌≡◌, ◌≢◌, ◌*◌, ◌≤◌, length, true, false, None, ◌<◌, ◌/◌, IfOk};
+ghost use Rattle.std.specs.Prelude.{IfSome, OnOk, Some, Ok, IfErr, ◌++◌, ◌∷◌, [], map, is_none};
+ghost use Rattle.std.specs.Prelude.{nat_eq};
 ghost use Rattle.b2sum_lines.specs.Lines.{max_bytes, is_tree};
 ghost use Rattle.b2sum_lines.specs.declared.entry.Algorithm.TheVariants.{Blake2b, Blake2s, Tree};
 ghost use Rattle.b2sum_lines.specs.declared.entry.Style.TheVariants.{Tagged, Text, Binary};
 ghost use Rattle.b2sum_commands.specs.declared.options.Report.TheVariants.{Each};
 ghost use Rattle.b2sum_commands.specs.Fitting.{AreFit};
 ghost use Rattle.b2sum_commands.specs.Flags.{long_name, has_value, letter_flag};
-ghost use Rattle.std.specs.Prelude.{Ok, IfErr, ◌++◌, ◌∷◌, [], map, is_none, nat_eq};
 ghost use Rattle.std.specs.List.{starts_with, find, count_by};
 ghost use Rattle.std.specs.Str.{bytes_eq};
 ghost use Rattle.b2sum_commands.specs.CommandLine.{set_flag, set_value, no_choice, all_flags};

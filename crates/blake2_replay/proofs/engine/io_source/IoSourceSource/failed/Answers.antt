@@ -1,5 +1,0 @@
-use Rattle.std.proofs.Common.{rules}
-use Rattle.blake2_replay.proofs.engine.io_source.IoSourceSource.failed.Goals as goal
-
-pub returns : goal.returns
-returns g c = search rules
