@@ -1,8 +1,7 @@
 -- What a script says, and the digests that it returns. 10 is a newline and 32 a space.
-use Rattle.std.specs.Prelude.{ℕ, ◌+◌, ◌==◌, if◌then◌else◌, List, [], ◌∷◌, codes, Option, Some, None}
-use Rattle.std.specs.Prelude.{is_some, ok_or, position, Result, Ok, Err}
+use Rattle.std.specs.Prelude.{ℕ, ◌+◌, if◌then◌else◌, List, [], ◌∷◌, codes, Option, Some, None}
+use Rattle.std.specs.Prelude.{ok_or, Result, Ok, Err}
 use Rattle.std.specs.Borrow.{Bor}
-use Rattle.std.specs.List.{before_first, after_first, slice_split}
 use Rattle.std.specs.Option.{option_and_then, option_map}
 use Rattle.std.specs.Result.{result_map_both}
 use Rattle.std.specs.Str.{bytes_eq}
