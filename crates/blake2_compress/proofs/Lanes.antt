@@ -157,7 +157,7 @@ xored_lanes h v out j lh lv long at =
     (λ k lt. at k lt
     ∙ (λ i. bit_xor (bit_xor (lane_word h j k [] (omega (arith, lh)) i)
     (lane_word v j k [] (omega (arith, lv)) i)) (lane_word v j (8 + k) [] (omega (arith, lv)) i))
-    ∙ sym (lane_of 8 x k lt))
+    ∙ sym (lane_of 8 x 0 k lt))
     ∙ xored (in_lane j h) (in_lane j v) (length-map h word ∙ lh) (length-map v word ∙ lv)
 
 -- Word k of column j of some rows is the word in lane j of row k, which is row p of h.

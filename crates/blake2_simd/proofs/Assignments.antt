@@ -11,7 +11,7 @@ use mir.Val.{bits}
 use Rattle.blake2_simd.specs.Family.{Family, word, blake2b, blake2s}
 use Rattle.blake2_simd.specs.Round.{AreWords, plus, rotate}
 use Rattle.blake2_simd.proofs.Rotations.{rotate_left-rotate_right, rotate_right-rotate_left}
-use Rattle.blake2_simd.proofs.Words.{AreWords-set, AreWords-plus, AreWords-rotate, rotate_left-lt}
+use Rattle.blake2_simd.proofs.Words.{AreWords-set, rotate_left-lt, rotate_right-lt}
 
 -- v after v[a] := (v[a] - v[b] - x) mod 2^w.
 abbrev pub minus : Family → List ℕ → ℕ → ℕ → ℕ → List ℕ
@@ -73,19 +73,26 @@ xor_twice a b = xor_assoc a b b ∙ ap (bit_xor a) (xor_self b) ∙ xor_zero_r a
 
 -- A second write at the index of the first, of a number x made of the first one and the word at
 -- another index.
-written_twice : (f : Family) (v : List ℕ) (a b p : ℕ) (g : ℕ → ℕ → ℕ) → a < length v → b ≢ a
+written_twice : (v : List ℕ) (a b p : ℕ) (g : ℕ → ℕ → ℕ) → a < length v → b ≢ a
     → set (set v a p) a (g (slice_index (set v a p) a) (slice_index (set v a p) b))
     ≡ set v a (g p (slice_index v b))
-written_twice f v a b p g fits other =
+written_twice v a b p g fits other =
     rw (get_or-set_same v a p 0 fits, get_or-set_other v a b p 0 other)
     (set-set v a p (g p (slice_index v b)))
 
--- The same, if that number is the one that was there.
-restored : (f : Family) (v : List ℕ) (a b p : ℕ) (g : ℕ → ℕ → ℕ) → a < length v → b ≢ a
-    → g p (slice_index v b) ≡ slice_index v a
-    → set (set v a p) a (g (slice_index (set v a p) a) (slice_index (set v a p) b)) ≡ v
-restored f v a b p g fits other same = written_twice f v a b p g fits other ∙ ap (set v a) same
-    ∙ set-get_or v a 0
+-- The assignment of a word p to v[a] is undone by that of g v[a] v[b], if this is what was there.
+assigned : (f : Family) (v : List ℕ) (a b p : ℕ) (g : ℕ → ℕ → ℕ) → AreWords f v
+    → p < 2 ^ bits (word f) → a < length v → b ≢ a → g p (slice_index v b) ≡ slice_index v a
+    → Undoes f v (set v a p) (λ w. set w a (g (slice_index w a) (slice_index w b)))
+assigned f v a b p g words low fits other same = record {
+  words = AreWords-set f v a p words low;
+  long = length-set v a p;
+  undone = written_twice v a b p g fits other ∙ ap (set v a) same ∙ set-get_or v a 0;
+}
+
+-- A number modulo 2^w is a word.
+reduced : (f : Family) (n : ℕ) → n % 2 ^ bits (word f) < 2 ^ bits (word f)
+reduced f n = mod-lt n (pow_pos (bits (word f)))
 
 -- The assignment v[a] := v[a] + v[b] + x is undone by `minus`.
 pub plus_step : (f : Family) (v : List ℕ) (a b x : ℕ) → AreWords f v → x < 2 ^ bits (word f)
@@ -93,49 +100,31 @@ pub plus_step : (f : Family) (v : List ℕ) (a b x : ℕ) → AreWords f v → x
     → Undoes f v (plus f v a b x) (λ w. minus f w a b x)
 plus_step f v a b x words low fits other =
     let m : ℕ = 2 ^ bits (word f) in
-    record {
-      words = AreWords-plus f v a b x words;
-      long = length-set v a _;
-      undone = restored f v a b _ (λ p q. ((p + (m - q)) % m + (m - x)) % m) fits other
-          (sum_undone f _ _ x (words a) (words b) low);
-    }
+    assigned f v a b _ (λ p q. ((p + (m - q)) % m + (m - x)) % m) words (reduced f _) fits other
+    (sum_undone f _ _ x (words a) (words b) low)
 
 -- `minus` is undone by v[a] := v[a] + v[b] + x.
 pub minus_step : (f : Family) (v : List ℕ) (a b x : ℕ) → AreWords f v → x < 2 ^ bits (word f)
     → a < length v → b ≢ a
     → Undoes f v (minus f v a b x) (λ w. plus f w a b x)
 minus_step f v a b x words low fits other =
-    let m : ℕ = 2 ^ bits (word f) in
-    record {
-      words = AreWords-set f v a _ words (mod-lt _ (pow_pos (bits (word f))));
-      long = length-set v a _;
-      undone = restored f v a b _ (λ p q. (p + q + x) % m) fits other
-          (difference_undone f _ _ x (words a) (words b) low);
-    }
+    assigned f v a b _ (λ p q. (p + q + x) % 2 ^ bits (word f)) words (reduced f _) fits other
+    (difference_undone f _ _ x (words a) (words b) low)
 
 -- The assignment v[c] := v[c] + v[d] is undone by `less`.
 pub single_plus_step : (f : Family) (v : List ℕ) (c d : ℕ) → AreWords f v → c < length v → d ≢ c
     → Undoes f v (plus f v c d 0) (λ w. less f w c d)
 single_plus_step f v c d words fits other =
     let m : ℕ = 2 ^ bits (word f) in
-    record {
-      words = AreWords-plus f v c d 0 words;
-      long = length-set v c _;
-      undone = restored f v c d _ (λ p q. (p + (m - q)) % m) fits other
-          (single_sum_undone f _ _ (words c) (words d));
-    }
+    assigned f v c d _ (λ p q. (p + (m - q)) % m) words (reduced f _) fits other
+    (single_sum_undone f _ _ (words c) (words d))
 
 -- `less` is undone by v[c] := v[c] + v[d].
 pub less_step : (f : Family) (v : List ℕ) (c d : ℕ) → AreWords f v → c < length v → d ≢ c
     → Undoes f v (less f v c d) (λ w. plus f w c d 0)
 less_step f v c d words fits other =
-    let m : ℕ = 2 ^ bits (word f) in
-    record {
-      words = AreWords-set f v c _ words (mod-lt _ (pow_pos (bits (word f))));
-      long = length-set v c _;
-      undone = restored f v c d _ (λ p q. (p + q + 0) % m) fits other
-          (single_difference_undone f _ _ (words c) (words d));
-    }
+    assigned f v c d _ (λ p q. (p + q + 0) % 2 ^ bits (word f)) words (reduced f _) fits other
+    (single_difference_undone f _ _ (words c) (words d))
 
 -- The assignment v[d] := (v[d] ^ v[a]) >>> r is undone by `unrotate`.
 pub rotate_step : (f : Family) (v : List ℕ) (d a r : ℕ) → AreWords f v → d < length v → a ≢ d
@@ -143,13 +132,10 @@ pub rotate_step : (f : Family) (v : List ℕ) (d a r : ℕ) → AreWords f v →
 rotate_step f v d a r words fits other =
     let x : ℕ = slice_index v d in
     let y : ℕ = slice_index v a in
-    record {
-      words = AreWords-rotate f v d a r words;
-      long = length-set v d _;
-      undone = restored f v d a _ (λ p q. bit_xor (rotate_left (word f) p r) q) fits other
-          (ap (λ p. bit_xor p y) (rotate_left-rotate_right f (bit_xor x y) r
-          (xor_lt (bits (word f)) x y (words d) (words a))) ∙ xor_twice x y);
-    }
+    let low : bit_xor x y < 2 ^ bits (word f) = xor_lt (bits (word f)) x y (words d) (words a) in
+    assigned f v d a _ (λ p q. bit_xor (rotate_left (word f) p r) q) words
+    (rotate_right-lt f _ r low) fits other
+    (ap (λ p. bit_xor p y) (rotate_left-rotate_right f (bit_xor x y) r low) ∙ xor_twice x y)
 
 -- `unrotate` is undone by v[d] := (v[d] ^ v[a]) >>> r.
 pub unrotate_step : (f : Family) (v : List ℕ) (d a r : ℕ) → AreWords f v → d < length v → a ≢ d
@@ -157,11 +143,7 @@ pub unrotate_step : (f : Family) (v : List ℕ) (d a r : ℕ) → AreWords f v �
 unrotate_step f v d a r words fits other =
     let x : ℕ = slice_index v d in
     let y : ℕ = slice_index v a in
-    record {
-      words = AreWords-set f v d _ words (xor_lt (bits (word f)) _ y
-          (rotate_left-lt f x r (words d)) (words a));
-      long = length-set v d _;
-      undone = restored f v d a _ (λ p q. rotate_right (word f) (bit_xor p q) r) fits other
-          (ap (λ p. rotate_right (word f) p r) (xor_twice (rotate_left (word f) x r) y)
-          ∙ rotate_right-rotate_left f x r (words d));
-    }
+    assigned f v d a _ (λ p q. rotate_right (word f) (bit_xor p q) r) words
+    (xor_lt (bits (word f)) _ y (rotate_left-lt f x r (words d)) (words a)) fits other
+    (ap (λ p. rotate_right (word f) p r) (xor_twice (rotate_left (word f) x r) y)
+    ∙ rotate_right-rotate_left f x r (words d))

@@ -21,11 +21,12 @@ abbrev pub lanes : {X : Type 0} → ℕ → (ℕ → X) → List X
 lanes zero p = []
 lanes (suc n) p = p 0 ∷ lanes n (λ j. p (suc j))
 
--- Lane j of a row that is given lane by lane.
-pub lane_of : (n : ℕ) (f : ℕ → ℕ) (j : ℕ) → j < n → slice_index (lanes n f) j ≡ f j
-lane_of zero f j h = absurd (omega arith)
-lane_of (suc n) f zero h = refl
-lane_of (suc n) f (suc j) h = lane_of n (λ k. f (suc k)) j (omega arith)
+-- Element j of a list that is given element by element.
+pub lane_of : {X : Type 0} (n : ℕ) (f : ℕ → X) (d : X) (j : ℕ) → j < n
+    → slice_index_or (lanes n f) j d ≡ f j
+lane_of zero f d j h = absurd (omega arith)
+lane_of (suc n) f d zero h = refl
+lane_of (suc n) f d (suc j) h = lane_of n (λ k. f (suc k)) d j (omega arith)
 
 -- A list without its first element.
 abbrev rest : List (List ℕ) → List (List ℕ)

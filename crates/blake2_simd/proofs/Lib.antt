@@ -8,3 +8,4 @@ pub mod Words
 pub mod Assignments
 pub mod Undoing
 pub mod Places
+pub mod Columns

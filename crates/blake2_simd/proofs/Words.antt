@@ -3,12 +3,12 @@ use Rattle.std.proofs.Common.{◌≡◌, ℕ, zero, suc, ◌+◌, ◌-◌, ◌%�
 use Rattle.std.proofs.Common.{length, get_or, drop, set, refl, sym, arith, pow_pos, mod-lt}
 use Rattle.std.proofs.lemmas.List.{length-set, get_or-set_same, get_or-set_other, set_past}
 use Rattle.std.proofs.lemmas.List.{drop_all, drop_more}
-use Rattle.std.proofs.lemmas.Nat.{xor_lt, or_lt, shr_le}
+use Rattle.std.proofs.lemmas.Nat.{or_lt, shr_le}
 use Rattle.std.proofs.lemmas.Bool.{cases_eq, cases_lt}
 use Rattle.std.specs.Int.{rotate_left, rotate_right}
 use mir.Val.{bits}
 use Rattle.blake2_simd.specs.Family.{Family, word}
-use Rattle.blake2_simd.specs.Round.{AreWords, plus, rotate, mix, round}
+use Rattle.blake2_simd.specs.Round.{AreWords, mix, round}
 
 -- A list of words is still one after a word is written over another.
 pub AreWords-set : (f : Family) (v : List ℕ) (i x : ℕ) → AreWords f v → x < 2 ^ bits (word f)
@@ -38,17 +38,6 @@ pub length-mix : (f : Family) (v : List ℕ) (a b c d x y : ℕ)
     → length (mix f v a b c d x y) ≡ length v
 unfolding mix
 length-mix f v a b c d x y = simp length-set
-
--- A sum modulo 2^w is a word.
-pub AreWords-plus : (f : Family) (v : List ℕ) (a b x : ℕ) → AreWords f v
-    → AreWords f (plus f v a b x)
-AreWords-plus f v a b x h = AreWords-set f v a _ h (mod-lt _ (pow_pos (bits (word f))))
-
--- An exclusive or of words, rotated, is a word.
-pub AreWords-rotate : (f : Family) (v : List ℕ) (d a r : ℕ) → AreWords f v
-    → AreWords f (rotate f v d a r)
-AreWords-rotate f v d a r h = AreWords-set f v d _ h
-    (rotate_right-lt f _ r (xor_lt (bits (word f)) _ _ (h d) (h a)))
 
 -- A round keeps the length.
 pub length-round : (f : Family) (v m s : List ℕ) → length (round f v m s) ≡ length v

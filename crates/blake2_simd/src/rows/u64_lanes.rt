@@ -7,9 +7,8 @@ ghost use Rattle.blake2_simd.specs.Family.{blake2b, word};
 ghost use Rattle.blake2_simd.specs.Round.{AreWords, mix, round};
 ghost use Rattle.blake2_simd.specs.Lanes.{columns_of_four, in_lane};
 ghost use Rattle.blake2_simd.specs.Rows.{four, lane, lane_sums, lane_xors, lane_rotations};
-ghost use Rattle.blake2_simd.specs.Rows.{shuffle_left};
-ghost use Rattle.blake2_simd.specs.Rows.{shuffle_right, word_at, lane_bytes, sixteen, columns};
-ghost use Rattle.blake2_simd.specs.Rows.{rows_rotated, last_row_rotated, shuffled_rows};
+ghost use Rattle.blake2_simd.specs.Rows.{shuffle_left, shuffle_right, word_at, lane_bytes, sixteen};
+ghost use Rattle.blake2_simd.specs.Rows.{columns, rows_rotated, last_row_rotated, shuffled_rows};
 
 use blake2_digest::Wipe;
 use std::marker::Model;

@@ -1,18 +1,15 @@
-use Rattle.std.proofs.Common.{◌≡◌, [], ◌∷◌, length, ◌∙◌, arith, rules}
-use Rattle.std.proofs.lemmas.List.{get_or_default}
+use Rattle.std.proofs.Common.{◌≡◌, [], length, ap, ◌∙◌, rules}
+use Rattle.std.proofs.lemmas.List.{append-nil}
 use Rattle.blake2_simd.specs.Family.{blake2b}
 use Rattle.blake2_simd.specs.Rows.{sixteen, columns, lane_rotations}
+use Rattle.blake2_simd.proofs.Columns.{four_read}
 use Rattle.blake2_simd.proofs.Lanes.{columns_by_lanes}
 use Rattle.blake2_simd.proofs.rows.u64_lanes.u64x4.mix_rows.Goals as goal
 
 pub returns : goal.returns
 returns c =
-    let v = c.args.v in
-    let long : length v ≡ 4 = search rules in
-    let row0 = get_or_default v 0 c.index-v-0.result [] (omega arith) in
-    let row1 = get_or_default v 1 c.index-v-1.result [] (omega arith) in
-    let row2 = get_or_default v 2 c.index-v-2.result [] (omega arith) in
-    let row3 = get_or_default v 3 c.index-v-3.result [] (omega arith) in
+    let long : length c.args.v ≡ 4 = search rules in
     columns_by_lanes blake2b _ _ _ _ c.args.x c.args.y _ _ _
     (lane_rotations blake2b c.mix.result.3 16) c.mix.ensures
-    ∙ (λ i. columns blake2b (sixteen (row0 i ∷ row1 i ∷ row2 i ∷ row3 i ∷ [])) c.args.x c.args.y)
+    ∙ ap (λ rows. columns blake2b (sixteen rows) c.args.x c.args.y)
+    (four_read c.args.v [] _ _ _ _ long ∙ append-nil c.args.v)
