@@ -1,5 +1,0 @@
-use Rattle.std.proofs.Common.{rules}
-use Rattle.blake2_simd.proofs.rows.u32_lanes.U32x4Add.add.Goals as goal
-
-pub returns : goal.returns
-returns c = search rules

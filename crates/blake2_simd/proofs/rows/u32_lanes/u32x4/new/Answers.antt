@@ -1,5 +1,0 @@
-use Rattle.std.proofs.Common.{rules}
-use Rattle.blake2_simd.proofs.rows.u32_lanes.u32x4.new.Goals as goal
-
-pub returns : goal.returns
-returns c = search rules
