@@ -1,15 +1,13 @@
--- The third rotation of G is by whole bytes. So it is a choice of the bytes of a row, and so is the
--- rotation followed by a move of the lanes.
+-- The third rotation of G is by whole bytes. So it is a choice of the bytes of a row.
 use Rattle.std.proofs.Common.{◌≡◌, ℕ, suc, ◌+◌, ◌*◌, ◌/◌, ◌%◌, ◌^◌, ◌<◌, List, [], ◌∷◌, ◌++◌}
-use Rattle.std.proofs.Common.{length, get_or, slice_index, map, refl, sym, ap, ◌∙◌, arith, lit<}
-use Rattle.std.proofs.Common.{zero, pow_pos}
+use Rattle.std.proofs.Common.{length, slice_index, map, refl, sym, ap, ◌∙◌, arith, lit<}
 use Rattle.std.specs.Int.{byte_at, rotate_right}
 use Rattle.std.specs.List.{flat_map}
 use Rattle.std.specs.Simd.Lanes.{number_l, digits_l, pick_l}
 use mir.Val.{bits}
 use Rattle.blake2_simd.specs.Family.{Family, word, word_bytes, rotations, blake2b, blake2s}
 use Rattle.blake2_simd.specs.Round.{AreWords}
-use Rattle.blake2_simd.specs.Rows.{lane_rotations, shuffle_left, lane_bytes}
+use Rattle.blake2_simd.specs.Rows.{lane_bytes}
 use Rattle.blake2_simd.proofs.Bytes.{lanes_written}
 use Rattle.blake2_simd.proofs.Rotations.{rotate_right-sum}
 use Rattle.blake2_simd.proofs.Words.{cells, cells-drop, rotate_right-lt}
@@ -71,60 +69,7 @@ row_rotated f (x ∷ xs) words =
     ∙ ap (digits_l q (length xs)) (other_digits f (word_after f x) y low)
     ∙ row_rotated f xs (λ k. words (suc k))) i
 
--- The lanes of a vector xs whose bytes are chosen to be those of ys, rotated.
-chosen_rotated : (f : Family) (n m : ℕ) (xs ys at : List ℕ) → n ≡ word_bytes f * length xs
-    → m ≡ length ys → AreWords f xs → AreWords f ys
-    → pick_l 0 (lane_bytes f xs ++ lane_bytes f xs) at ≡ row_bytes f ys
-    → let bytes = digits_l 256 n (number_l (2 ^ bits (word f)) xs) in
-    digits_l (2 ^ bits (word f)) m (number_l 256 (pick_l 0 (bytes ++ bytes) at))
-    ≡ map (word_after f) ys
-chosen_rotated f n m xs ys at size long words chosen picked =
-    let q : ℕ = 2 ^ bits (word f) in
-    let written = lanes_written f n xs size words in
-    ap (λ (zs : List ℕ). digits_l q m (number_l 256 (pick_l 0 (zs ++ zs) at))) written
-    ∙ ap (λ (zs : List ℕ). digits_l q m (number_l 256 zs)) picked
-    ∙ ap (λ (k : ℕ). digits_l q k (number_l 256 (row_bytes f ys))) long ∙ row_rotated f ys chosen
-
--- ---- the lanes also moved
-
--- The indices of the bytes of lanes 2, 3, 0 and 1 in a row of four.
-abbrev pub places : Family → List ℕ
-places blake2b =
-    18 ∷ 19 ∷ 20 ∷ 21 ∷ 22 ∷ 23 ∷ 16 ∷ 17 ∷ 26 ∷ 27 ∷ 28 ∷ 29 ∷ 30 ∷ 31 ∷ 24 ∷ 25 ∷
-    2 ∷ 3 ∷ 4 ∷ 5 ∷ 6 ∷ 7 ∷ 0 ∷ 1 ∷ 10 ∷ 11 ∷ 12 ∷ 13 ∷ 14 ∷ 15 ∷ 8 ∷ 9 ∷ []
-places blake2s = 9 ∷ 10 ∷ 11 ∷ 8 ∷ 13 ∷ 14 ∷ 15 ∷ 12 ∷ 1 ∷ 2 ∷ 3 ∷ 0 ∷ 5 ∷ 6 ∷ 7 ∷ 4 ∷ []
-
--- The bytes at these indices.
-picked : (f : Family) (a b c d : ℕ) → let bytes = lane_bytes f (a ∷ b ∷ c ∷ d ∷ []) in
-    pick_l 0 (bytes ++ bytes) (places f) ≡ row_bytes f (c ∷ d ∷ a ∷ b ∷ [])
-picked blake2b a b c d = refl
-picked blake2s a b c d = refl
-
--- Four words.
-four_words : (f : Family) (a b c d : ℕ) → a < 2 ^ bits (word f) → b < 2 ^ bits (word f)
-    → c < 2 ^ bits (word f) → d < 2 ^ bits (word f) → AreWords f (a ∷ b ∷ c ∷ d ∷ [])
-four_words f a b c d la lb lc ld zero = la
-four_words f a b c d la lb lc ld (suc zero) = lb
-four_words f a b c d la lb lc ld (suc (suc zero)) = lc
-four_words f a b c d la lb lc ld (suc (suc (suc zero))) = ld
-four_words f a b c d la lb lc ld (suc (suc (suc (suc i)))) = pow_pos (bits (word f))
-
--- The lanes of a vector whose bytes are chosen in this way: rotated, and moved by two lanes.
-pub bytes_rotated : (f : Family) (n : ℕ) (xs : List ℕ) → n ≡ word_bytes f * 4 → length xs ≡ 4
-    → AreWords f xs
-    → let bytes = digits_l 256 n (number_l (2 ^ bits (word f)) xs) in
-    digits_l (2 ^ bits (word f)) 4 (number_l 256 (pick_l 0 (bytes ++ bytes) (places f)))
-    ≡ shuffle_left 2 (lane_rotations f xs (slice_index (rotations f) 2))
-bytes_rotated f n xs size long words =
-    let at : ℕ → ℕ = λ j. get_or xs j 0 in
-    let listed : xs ≡ at 0 ∷ at 1 ∷ at 2 ∷ at 3 ∷ [] = sym (cells-drop xs 0 4 long) in
-    chosen_rotated f n 4 xs (at 2 ∷ at 3 ∷ at 0 ∷ at 1 ∷ []) (places f)
-    (size ∙ ap (λ (k : ℕ). word_bytes f * k) (sym long)) refl words
-    (four_words f (at 2) (at 3) (at 0) (at 1) (words 2) (words 3) (words 0) (words 1))
-    (ap (λ (ys : List ℕ). pick_l 0 (lane_bytes f ys ++ lane_bytes f ys) (places f)) listed
-    ∙ picked f (at 0) (at 1) (at 2) (at 3))
-
--- ---- lanes that are not moved, in a row of 32 bytes
+-- ---- a row of 32 bytes
 
 -- The number of words in such a row.
 abbrev pub wide : Family → ℕ
@@ -152,12 +97,17 @@ pub lanes_rotated : (f : Family) (xs : List ℕ) → length xs ≡ wide f → Ar
     digits_l (2 ^ bits (word f)) (wide f) (number_l 256 (pick_l 0 (bytes ++ bytes) (kept f)))
     ≡ map (word_after f) xs
 lanes_rotated f xs long words =
+    let q : ℕ = 2 ^ bits (word f) in
+    let chosen : List ℕ → List ℕ = λ zs. pick_l 0 (zs ++ zs) (kept f) in
     let all : length xs ≡ 0 + wide f = omega arith in
     let listed : cells xs 0 (wide f) ≡ xs = cells-drop xs 0 (wide f) all in
-    chosen_rotated f 32 (wide f) xs xs (kept f) (row_size f
-    ∙ ap (λ (k : ℕ). word_bytes f * k) (sym long)) (sym long) words words
-    (ap (λ (ys : List ℕ). pick_l 0 (lane_bytes f ys ++ lane_bytes f ys) (kept f)) (sym listed)
-    ∙ picked_kept f xs ∙ ap (row_bytes f) listed)
+    let picked : chosen (lane_bytes f xs) ≡ row_bytes f xs =
+    ap (λ ys. chosen (lane_bytes f ys)) (sym listed) ∙ picked_kept f xs ∙ ap (row_bytes f) listed in
+    ap (λ (zs : List ℕ). digits_l q (wide f) (number_l 256 (chosen zs)))
+    (lanes_written f 32 xs (row_size f ∙ ap (λ (k : ℕ). word_bytes f * k) (sym long)) words)
+    ∙ ap (λ (zs : List ℕ). digits_l q (wide f) (number_l 256 zs)) picked
+    ∙ ap (λ (k : ℕ). digits_l q k (number_l 256 (row_bytes f xs))) (sym long)
+    ∙ row_rotated f xs words
   where
     row_size : (f : Family) → 32 ≡ word_bytes f * wide f
     row_size blake2b = refl

@@ -1,12 +1,10 @@
 -- G reads and writes only four words of a list: it is G on the list of those four words.
-use Rattle.std.proofs.Common.{◌≡◌, ℕ, ◌+◌, ◌%◌, ◌^◌, ◌<◌, List, [], ◌∷◌, length, get_or, set}
-use Rattle.std.proofs.Common.{bit_xor, slice_index, sym, ap, ◌∙◌, arith}
+use Rattle.std.proofs.Common.{◌≡◌, ℕ, ◌<◌, List, [], ◌∷◌, length, get_or, set}
+use Rattle.std.proofs.Common.{slice_index, sym, ap, ◌∙◌, arith}
 use Rattle.std.proofs.lemmas.List.{length-map, length-set, map-set, get_or-map, set-get_or}
 use Rattle.std.proofs.lemmas.List.{set_comm, get_or-set_same, get_or-set_other}
-use Rattle.std.specs.Int.{rotate_right}
-use mir.Val.{bits}
-use Rattle.blake2_simd.specs.Family.{Family, word, rotations}
-use Rattle.blake2_simd.specs.Round.{plus, rotate, mix}
+use Rattle.blake2_simd.specs.Family.{Family}
+use Rattle.blake2_simd.specs.Round.{mix}
 use Rattle.blake2_simd.specs.Lanes.{in_lane}
 use Rattle.blake2_simd.proofs.Assignments.{set-set}
 
@@ -22,72 +20,56 @@ abbrev pub written : List ℕ → ℕ → ℕ → ℕ → ℕ → ℕ → ℕ �
 written v a b c d p q r s = set (set (set (set v a p) b q) c r) d s
 
 -- The word at each of these indices.
-at_a : (v : List ℕ) (a b c d p q r s : ℕ) → Places v a b c d
+at_a : (v : List ℕ) (a b c d : ℕ) → Places v a b c d → (p q r s : ℕ)
     → slice_index (written v a b c d p q r s) a ≡ p
-at_a v a b c d p q r s h =
+at_a v a b c d h p q r s =
     get_or-set_other (set (set (set v a p) b q) c r) d a s 0 (omega arith)
     ∙ get_or-set_other (set (set v a p) b q) c a r 0 (omega arith)
     ∙ get_or-set_other (set v a p) b a q 0 (omega arith) ∙ get_or-set_same v a p 0 (omega arith)
 
-at_b : (v : List ℕ) (a b c d p q r s : ℕ) → Places v a b c d
+at_b : (v : List ℕ) (a b c d : ℕ) → Places v a b c d → (p q r s : ℕ)
     → slice_index (written v a b c d p q r s) b ≡ q
-at_b v a b c d p q r s h =
+at_b v a b c d h p q r s =
     get_or-set_other (set (set (set v a p) b q) c r) d b s 0 (omega arith)
     ∙ get_or-set_other (set (set v a p) b q) c b r 0 (omega arith)
     ∙ get_or-set_same (set v a p) b q 0 (omega (arith, length-set {A = ℕ}))
 
-at_c : (v : List ℕ) (a b c d p q r s : ℕ) → Places v a b c d
+at_c : (v : List ℕ) (a b c d : ℕ) → Places v a b c d → (p q r s : ℕ)
     → slice_index (written v a b c d p q r s) c ≡ r
-at_c v a b c d p q r s h =
+at_c v a b c d h p q r s =
     get_or-set_other (set (set (set v a p) b q) c r) d c s 0 (omega arith)
     ∙ get_or-set_same (set (set v a p) b q) c r 0 (omega (arith, length-set {A = ℕ}))
 
-at_d : (v : List ℕ) (a b c d p q r s : ℕ) → Places v a b c d
+at_d : (v : List ℕ) (a b c d : ℕ) → Places v a b c d → (p q r s : ℕ)
     → slice_index (written v a b c d p q r s) d ≡ s
-at_d v a b c d p q r s h = get_or-set_same (set (set (set v a p) b q) c r) d s 0
+at_d v a b c d h p q r s = get_or-set_same (set (set (set v a p) b q) c r) d s 0
     (omega (arith, length-set {A = ℕ}))
 
--- A word made of those at a and b, written at a, and so on.
-write_a : (v : List ℕ) (a b c d p q r s : ℕ) (g : ℕ → ℕ → ℕ) → Places v a b c d
-    → set (written v a b c d p q r s) a (g (slice_index (written v a b c d p q r s) a)
-    (slice_index (written v a b c d p q r s) b)) ≡ written v a b c d (g p q) q r s
-write_a v a b c d p q r s g h =
-    let t : ℕ = g p q in
-    (λ i. set (written v a b c d p q r s) a (g (at_a v a b c d p q r s h i)
-    (at_b v a b c d p q r s h i)))
-    ∙ set_comm (set (set (set v a p) b q) c r) d a s t (omega arith)
+-- Another word written at each of these indices.
+write_a : (v : List ℕ) (a b c d : ℕ) → Places v a b c d → (p q r s t : ℕ)
+    → set (written v a b c d p q r s) a t ≡ written v a b c d t q r s
+write_a v a b c d h p q r s t =
+    set_comm (set (set (set v a p) b q) c r) d a s t (omega arith)
     ∙ ap (λ l. set l d s) (set_comm (set (set v a p) b q) c a r t (omega arith))
     ∙ ap (λ l. set (set l c r) d s) (set_comm (set v a p) b a q t (omega arith))
     ∙ ap (λ l. set (set (set l b q) c r) d s) (set-set v a p t)
 
-write_b : (v : List ℕ) (a b c d p q r s : ℕ) (g : ℕ → ℕ → ℕ) → Places v a b c d
-    → set (written v a b c d p q r s) b (g (slice_index (written v a b c d p q r s) b)
-    (slice_index (written v a b c d p q r s) c)) ≡ written v a b c d p (g q r) r s
-write_b v a b c d p q r s g h =
-    let t : ℕ = g q r in
-    (λ i. set (written v a b c d p q r s) b (g (at_b v a b c d p q r s h i)
-    (at_c v a b c d p q r s h i)))
-    ∙ set_comm (set (set (set v a p) b q) c r) d b s t (omega arith)
+write_b : (v : List ℕ) (a b c d : ℕ) → Places v a b c d → (p q r s t : ℕ)
+    → set (written v a b c d p q r s) b t ≡ written v a b c d p t r s
+write_b v a b c d h p q r s t =
+    set_comm (set (set (set v a p) b q) c r) d b s t (omega arith)
     ∙ ap (λ l. set l d s) (set_comm (set (set v a p) b q) c b r t (omega arith))
     ∙ ap (λ l. set (set l c r) d s) (set-set (set v a p) b q t)
 
-write_c : (v : List ℕ) (a b c d p q r s : ℕ) (g : ℕ → ℕ → ℕ) → Places v a b c d
-    → set (written v a b c d p q r s) c (g (slice_index (written v a b c d p q r s) c)
-    (slice_index (written v a b c d p q r s) d)) ≡ written v a b c d p q (g r s) s
-write_c v a b c d p q r s g h =
-    let t : ℕ = g r s in
-    (λ i. set (written v a b c d p q r s) c (g (at_c v a b c d p q r s h i)
-    (at_d v a b c d p q r s h i)))
-    ∙ set_comm (set (set (set v a p) b q) c r) d c s t (omega arith)
+write_c : (v : List ℕ) (a b c d : ℕ) → Places v a b c d → (p q r s t : ℕ)
+    → set (written v a b c d p q r s) c t ≡ written v a b c d p q t s
+write_c v a b c d h p q r s t =
+    set_comm (set (set (set v a p) b q) c r) d c s t (omega arith)
     ∙ ap (λ l. set l d s) (set-set (set (set v a p) b q) c r t)
 
-write_d : (v : List ℕ) (a b c d p q r s : ℕ) (g : ℕ → ℕ → ℕ) → Places v a b c d
-    → set (written v a b c d p q r s) d (g (slice_index (written v a b c d p q r s) d)
-    (slice_index (written v a b c d p q r s) a)) ≡ written v a b c d p q r (g s p)
-write_d v a b c d p q r s g h =
-    (λ i. set (written v a b c d p q r s) d (g (at_d v a b c d p q r s h i)
-    (at_a v a b c d p q r s h i)))
-    ∙ set-set (set (set (set v a p) b q) c r) d s (g s p)
+write_d : (v : List ℕ) (a b c d p q r s t : ℕ)
+    → set (written v a b c d p q r s) d t ≡ written v a b c d p q r t
+write_d v a b c d p q r s t = set-set (set (set (set v a p) b q) c r) d s t
 
 -- Four words written over themselves.
 rewritten : (v : List ℕ) (a b c d : ℕ) → Places v a b c d
@@ -98,46 +80,34 @@ rewritten v a b c d h =
     ∙ ap (λ l. set (set l c (slice_index v c)) d (slice_index v d)) (set-get_or v b 0)
     ∙ ap (λ l. set l d (slice_index v d)) (set-get_or v c 0) ∙ set-get_or v d 0)
 
+-- G at the indices of four written words is G on these words, written back.
+mix_written : (f : Family) (v : List ℕ) (a b c d x y p q r s : ℕ) → Places v a b c d
+    → (let m = mix f (p ∷ q ∷ r ∷ s ∷ []) 0 1 2 3 x y in written v a b c d (slice_index m 0)
+    (slice_index m 1) (slice_index m 2) (slice_index m 3))
+    ≡ mix f (written v a b c d p q r s) a b c d x y
+unfolding mix
+mix_written f v a b c d x y p q r s h =
+    simp (
+      at_a v a b c d h,
+      at_b v a b c d h,
+      at_c v a b c d h,
+      at_d v a b c d h,
+      write_a v a b c d h,
+      write_b v a b c d h,
+      write_c v a b c d h,
+      write_d v a b c d,
+    )
+
 -- G at four indices of v is G on the four words there, written back.
-pub mix_at : (f : Family) (v : List ℕ) (a b c d x y p q r s : ℕ)
-    → (a < b) × (b < c) × (c < d) × (d < length v)
+mix_at : (f : Family) (v : List ℕ) (a b c d x y p q r s : ℕ) → Places v a b c d
     → p ∷ q ∷ r ∷ s ∷ [] ≡ mix f (slice_index v a ∷ slice_index v b ∷ slice_index v c
     ∷ slice_index v d ∷ []) 0 1 2 3 x y
     → written v a b c d p q r s ≡ mix f v a b c d x y
-unfolding mix
-mix_at f v a b c d x y p q r s order e =
-    let h : Places v a b c d = record {
-      ab = order.0;
-      bc = order.1;
-      cd = order.2;
-      fits = order.3;
-    } in
-    let sum : ℕ → ℕ → ℕ → ℕ = λ z m n. (m + n + z) % 2 ^ bits (word f) in
-    let rotated : ℕ → ℕ → ℕ → ℕ = λ k m n. rotate_right (word f) (bit_xor m n)
-    (slice_index (rotations f) k) in
-    let p0 : ℕ = slice_index v a in
-    let q0 : ℕ = slice_index v b in
-    let r0 : ℕ = slice_index v c in
-    let s0 : ℕ = slice_index v d in
-    let p1 : ℕ = sum x p0 q0 in
-    let s1 : ℕ = rotated 0 s0 p1 in
-    let r1 : ℕ = sum 0 r0 s1 in
-    let q1 : ℕ = rotated 1 q0 r1 in
-    let p2 : ℕ = sum y p1 q1 in
-    let s2 : ℕ = rotated 2 s1 p2 in
-    let r2 : ℕ = sum 0 r1 s2 in
-    let at = λ (k : ℕ). slice_index (rotations f) k in
-    let e1 = ap (λ w. plus f w a b x) (rewritten v a b c d h)
-    ∙ write_a v a b c d p0 q0 r0 s0 (sum x) h in
-    let e2 = ap (λ w. rotate f w d a (at 0)) e1 ∙ write_d v a b c d p1 q0 r0 s0 (rotated 0) h in
-    let e3 = ap (λ w. plus f w c d 0) e2 ∙ write_c v a b c d p1 q0 r0 s1 (sum 0) h in
-    let e4 = ap (λ w. rotate f w b c (at 1)) e3 ∙ write_b v a b c d p1 q0 r1 s1 (rotated 1) h in
-    let e5 = ap (λ w. plus f w a b y) e4 ∙ write_a v a b c d p1 q1 r1 s1 (sum y) h in
-    let e6 = ap (λ w. rotate f w d a (at 2)) e5 ∙ write_d v a b c d p2 q1 r1 s1 (rotated 2) h in
-    let e7 = ap (λ w. plus f w c d 0) e6 ∙ write_c v a b c d p2 q1 r1 s2 (sum 0) h in
-    let e8 = ap (λ w. rotate f w b c (at 3)) e7 ∙ write_b v a b c d p2 q1 r2 s2 (rotated 3) h in
+mix_at f v a b c d x y p q r s h e =
     (λ i. written v a b c d (slice_index (e i) 0) (slice_index (e i) 1) (slice_index (e i) 2)
-    (slice_index (e i) 3)) ∙ sym e8
+    (slice_index (e i) 3))
+    ∙ mix_written f v a b c d x y _ _ _ _ h
+    ∙ ap (λ w. mix f w a b c d x y) (sym (rewritten v a b c d h))
 
 -- The same in one lane of several rows, four of which are written.
 pub mix_in_lane : (f : Family) (v : List (List ℕ)) (a b c d : ℕ) (da db dc dd p q r s : List ℕ)
@@ -157,5 +127,6 @@ mix_in_lane f v a b c d da db dc dd p q r s j x y order e =
     ∙ ap (λ l. set l d (at s)) (map-set at (set (set v a p) b q) c r
     ∙ ap (λ l. set l c (at r)) (map-set at (set v a p) b q
     ∙ ap (λ l. set l b (at q)) (map-set at v a p)))
-    ∙ mix_at f u a b c d x y (at p) (at q) (at r) (at s) (order.0, order.1, order.2, omega arith)
+    ∙ mix_at f u a b c d x y (at p) (at q) (at r) (at s)
+    (record { ab = order.0; bc = order.1; cd = order.2; fits = omega arith })
     (e ∙ (λ i. mix f (ea i ∷ eb i ∷ ec i ∷ ed i ∷ []) 0 1 2 3 x y))
