@@ -17,5 +17,6 @@ pub mod Tables
 pub mod Padding
 pub mod InputBlocks
 pub mod Lanes
+pub mod ManyMessages
 pub mod LaterBlocks
 pub mod Pieces
