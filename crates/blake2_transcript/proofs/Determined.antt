@@ -1,17 +1,16 @@
 -- What parameter words, blocks and counters determine of their input.
-use Rattle.std.proofs.Common.{◌≡◌, ℕ, ◌*◌, ◌≤◌, List, [], ◌++◌, length, refl, sym, ap}
+use Rattle.std.proofs.Common.{◌≡◌, ℕ, ◌*◌, ◌≤◌, List, ◌++◌, length, refl, sym, ap}
 use Rattle.std.proofs.Common.{◌∙◌, arith, Option, Some, None}
 use Rattle.blake2_simd.specs.Family.{Family, block_bytes, key_bytes, output_bytes}
-use Rattle.blake2_compress.specs.Hash.{Flags, inner, Fits, input_parameters, padded}
-use Rattle.blake2_compress.specs.Hash.{parameter_words}
+use Rattle.blake2_compress.specs.Hash.{Flags, Fits, Parameters, input_parameters, padded}
 use Rattle.blake2_compress.specs.Hash.{key_block, key_size, Input, input_data}
-use Rattle.blake2_compress.specs.Inputs.{Accepts, KeyFits, Same}
-use Rattle.blake2_transcript.specs.Transcript.{Entry, TranscriptsDetermine}
+use Rattle.blake2_compress.specs.Inputs.{Accepts, KeyFits}
+use Rattle.blake2_transcript.specs.Transcript.{no_entry, TranscriptsDetermine}
 use Rattle.blake2_compress.proofs.ParameterSizes.{AreParameters, key_bytes_fit}
 use Rattle.blake2_compress.proofs.ByteSizes.{length-padded}
 use Rattle.blake2_transcript.proofs.Cancelled.{padded_cancel}
 use Rattle.blake2_compress.proofs.JoinedBlocks.{append_parts}
-use Rattle.blake2_transcript.proofs.ParametersTold.{parameter_words_cancel}
+use Rattle.blake2_transcript.proofs.ParametersNamed.{parameter_words_cancel}
 
 -- The length of a key and the data determine the key and the message.
 same_key : (f : Family) (k k' : Option (List ℕ)) (m m' : List ℕ) → KeyFits f k → KeyFits f k'
@@ -54,35 +53,26 @@ accepted-parameters f size a p h = record {
   persona_are = p.persona_bytes;
 }
 
--- The parameter words, the data and the last-node flag determine the input.
-pub determined : (f : Family) (size size' : ℕ) (a b : Input) → Accepts f a → Accepts f b
-    → size ≤ output_bytes f → size' ≤ output_bytes f
-    → parameter_words f (input_parameters size a) ≡ parameter_words f (input_parameters size' b)
-    → input_data f a ≡ input_data f b → a.last_node ≡ b.last_node → (size ≡ size') × Same f a b
-determined f size size' a b p q h h' words joined nodes =
-    let same = parameter_words_cancel f (input_parameters size a) (input_parameters size' b)
-    (accepted-parameters f size a p h) (accepted-parameters f size' b q h') words in
-    let both =
-    same_key f a.key b.key a.message b.message p.key_fits q.key_fits same.keys joined in (
-      same.sizes,
-      record {
-        salt = same.salts;
-        persona = same.personas;
-        key = both.0;
-        tree = same.trees;
-        last_node = nodes;
-        message = both.1;
-      },
-    )
-
 -- The law: a transcript determines its digest length and its input.
 pub transcripts_determine : (f : Family) → TranscriptsDetermine f
 transcripts_determine f words entries size other a b r s =
-    let none : Entry = record { block = []; counter = 0; flags = inner } in
     let counted : length (input_data f a) ≡ length (input_data f b) =
-    sym (r.is.ends none).0 ∙ (s.is.ends none).0 in
-    let same : input_data f a ≡ input_data f b = padded_cancel
+    sym (r.is.ends no_entry).0 ∙ (s.is.ends no_entry).0 in
+    let joined : input_data f a ≡ input_data f b = padded_cancel
     (length entries * block_bytes f) _ _ counted (sym r.is.blocks ∙ s.is.blocks) in
-    determined f size other a b r.accepted s.accepted r.fits s.fits
-    (sym r.is.parameters ∙ s.is.parameters) same
-    (ap (λ (g : Flags). g.last_node) (sym (r.is.ends none).1 ∙ (s.is.ends none).1))
+    let same = parameter_words_cancel f (input_parameters size a) (input_parameters other b)
+    (accepted-parameters f size a r.accepted r.fits)
+    (accepted-parameters f other b s.accepted s.fits) (sym r.is.parameters ∙ s.is.parameters) in
+    let keyed = same_key f a.key b.key a.message b.message r.accepted.key_fits s.accepted.key_fits
+    (ap (λ (p : Parameters). p.key_size) same) joined in (
+      ap (λ (p : Parameters). p.size) same,
+      record {
+        salt = ap (λ (p : Parameters). p.salt) same;
+        persona = ap (λ (p : Parameters). p.persona) same;
+        key = keyed.0;
+        tree = ap (λ (p : Parameters). p.tree) same;
+        last_node =
+            ap (λ (g : Flags). g.last_node) (sym (r.is.ends no_entry).1 ∙ (s.is.ends no_entry).1);
+        message = keyed.1;
+      },
+    )

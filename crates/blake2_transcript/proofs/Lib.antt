@@ -1,11 +1,10 @@
 pub mod Cancelled
-pub mod ParametersTold
+pub mod ParametersNamed
 pub mod Determined
-pub mod Pairs
 pub mod Transcripts
+pub mod Pairs
 pub mod RunEntries
 pub mod GivenEntries
-pub mod ParametersNamed
 pub mod KeyAndMessage
 pub mod Readable
 pub mod Front

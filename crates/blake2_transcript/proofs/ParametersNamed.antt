@@ -5,14 +5,15 @@ use Rattle.std.proofs.lemmas.List.{take_at, drop_at}
 use Rattle.std.proofs.lemmas.Nat.{from_le_bytes-to_le_bytes_4, from_le_bytes-to_le_bytes_8}
 use Rattle.std.specs.Int.{from_le_bytes, to_le_bytes, w64}
 use Rattle.blake2_simd.specs.Family.{Family, blake2b, blake2s, offset_bytes, reserved_bytes}
-use Rattle.blake2_simd.specs.Family.{salt_bytes}
+use Rattle.blake2_simd.specs.Family.{salt_bytes, iv}
 use Rattle.blake2_compress.specs.Hash.{AreBytes, Fits, Parameters, bytes_of, words_of, padded}
-use Rattle.blake2_compress.specs.Hash.{parameter_block, parameter_words}
+use Rattle.blake2_compress.specs.Hash.{parameter_block, parameter_words, start}
 use Rattle.blake2_compress.specs.ParameterBlock.{parameters_in}
-use Rattle.blake2_compress.proofs.ParameterSizes.{AreParameters}
+use Rattle.blake2_compress.proofs.ParameterSizes.{AreParameters, length-parameter_words}
 use Rattle.blake2_compress.proofs.ByteSizes.{length-padded, AreBytes-take, AreBytes-drop}
 use Rattle.blake2_compress.proofs.RunSizes.{AreBytes-bytes_of}
-use Rattle.blake2_transcript.proofs.Cancelled.{bytes_of-parameter_words}
+use Rattle.blake2_transcript.proofs.Cancelled.{bytes_of-parameter_words, xor_words_cancel}
+use Rattle.blake2_compress.proofs.WordSizes.{length-iv}
 use Rattle.blake2_compress.proofs.ParameterTexts.{parameter_block-texts}
 use Rattle.blake2_compress.proofs.Padding.{padded-whole}
 
@@ -46,46 +47,59 @@ whole-words f p h =
 six_bytes : (n : ℕ) → n < 2 ^ 48 → from_le_bytes w64 (take 6 (to_le_bytes w64 n)) ≡ n
 six_bytes n h = omega (arith, h)
 
+-- The padded parameters, with both texts cut from the end of a block.
+whole_from : (f : Family) (p : Parameters) (leaf offset : ℕ) → Fits f p
+    → leaf ≡ p.tree.leaf_length → offset ≡ p.tree.node_offset
+    → (let s = salt_bytes f in let texts = padded s p.salt ++ padded s p.persona in record {
+      size = p.size;
+      key_size = p.key_size;
+      salt = take s texts;
+      persona = drop s texts;
+      tree = record p.tree { leaf_length = leaf; node_offset = offset };
+    }) ≡ whole f p
+whole_from f p leaf offset h leaf_is offset_is =
+    let s : ℕ = salt_bytes f in
+    let front : length (padded s p.salt) ≡ s = length-padded s p.salt h.salt in
+    let salt = take_at (padded s p.salt) (padded s p.persona) s front in
+    let persona = drop_at (padded s p.salt) (padded s p.persona) s front in
+    λ i. record {
+      size = p.size;
+      key_size = p.key_size;
+      salt = salt i;
+      persona = persona i;
+      tree = record p.tree { leaf_length = leaf_is i; node_offset = offset_is i };
+    }
+
 -- A parameter block contains the padded parameters.
 parameters_in-block : (f : Family) (p : Parameters) → Fits f p
     → parameters_in f (parameter_block f p) ≡ whole f p
 unfolding parameter_block
 parameters_in-block blake2b p h =
-    let front : length (padded 16 p.salt) ≡ 16 = length-padded 16 p.salt h.salt in
-    let salt : take 16 (padded 16 p.salt ++ padded 16 p.persona) ≡ padded 16 p.salt =
-    take_at (padded 16 p.salt) (padded 16 p.persona) 16 front in
-    let persona : drop 16 (padded 16 p.salt ++ padded 16 p.persona) ≡ padded 16 p.persona =
-    drop_at (padded 16 p.salt) (padded 16 p.persona) 16 front in
-    let leaf = from_le_bytes-to_le_bytes_4 p.tree.leaf_length h.tree.leaf_length in
-    let offset = from_le_bytes-to_le_bytes_8 p.tree.node_offset h.tree.node_offset in
-    λ i. record {
-      size = p.size;
-      key_size = p.key_size;
-      salt = salt i;
-      persona = persona i;
-      tree = record p.tree { leaf_length = leaf i; node_offset = offset i };
-    }
+    whole_from blake2b p _ _ h (from_le_bytes-to_le_bytes_4 p.tree.leaf_length h.tree.leaf_length)
+    (from_le_bytes-to_le_bytes_8 p.tree.node_offset h.tree.node_offset)
 parameters_in-block blake2s p h =
-    let front : length (padded 8 p.salt) ≡ 8 = length-padded 8 p.salt h.salt in
-    let salt : take 8 (padded 8 p.salt ++ padded 8 p.persona) ≡ padded 8 p.salt =
-    take_at (padded 8 p.salt) (padded 8 p.persona) 8 front in
-    let persona : drop 8 (padded 8 p.salt ++ padded 8 p.persona) ≡ padded 8 p.persona =
-    drop_at (padded 8 p.salt) (padded 8 p.persona) 8 front in
-    let leaf = from_le_bytes-to_le_bytes_4 p.tree.leaf_length h.tree.leaf_length in
-    let offset = six_bytes p.tree.node_offset h.tree.node_offset in
-    λ i. record {
-      size = p.size;
-      key_size = p.key_size;
-      salt = salt i;
-      persona = persona i;
-      tree = record p.tree { leaf_length = leaf i; node_offset = offset i };
-    }
+    whole_from blake2s p _ _ h (from_le_bytes-to_le_bytes_4 p.tree.leaf_length h.tree.leaf_length)
+    (six_bytes p.tree.node_offset h.tree.node_offset)
 
 -- The law: the bytes of parameter words contain the parameters, padded with zeros.
 pub parameters_in-words : (f : Family) (p : Parameters) → AreParameters f p
     → parameters_in f (bytes_of f (parameter_words f p)) ≡ whole f p
 parameters_in-words f p h = ap (parameters_in f) (bytes_of-parameter_words f p h)
     ∙ parameters_in-block f p h.fits
+
+-- Equal parameter words have the same parameters, padded with zeros.
+pub parameter_words_cancel : (f : Family) (p q : Parameters) → AreParameters f p → AreParameters f q
+    → parameter_words f p ≡ parameter_words f q → whole f p ≡ whole f q
+parameter_words_cancel f p q hp hq h = sym (parameters_in-words f p hp)
+    ∙ ap (λ (words : List ℕ). parameters_in f (bytes_of f words)) h ∙ parameters_in-words f q hq
+
+-- Equal start words come from equal parameter words.
+pub start_cancel : (f : Family) (p q : Parameters) → start f p ≡ start f q
+    → parameter_words f p ≡ parameter_words f q
+unfolding start
+start_cancel f p q h =
+    xor_words_cancel (iv f) _ _ (length-parameter_words f p ∙ sym (length-iv f))
+    (length-parameter_words f q ∙ sym (length-iv f)) h
 
 -- The salt and the personalization that the bytes of words contain are bytes.
 pub named_texts : (f : Family) (p : Parameters) (words : List ℕ)

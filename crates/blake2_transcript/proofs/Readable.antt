@@ -1,5 +1,5 @@
 -- Words and entries are the transcript of some input exactly if the reader's tests hold.
-use Rattle.std.proofs.Common.{Bool, ◌≡◌, ℕ, ◌-◌, ◌*◌, ◌<◌, ◌≤◌, inl, inr, List, length, take, sym}
+use Rattle.std.proofs.Common.{Bool, IsTrue, ◌↔◌, ◌≡◌, ℕ, ◌-◌, ◌*◌, ◌<◌, ◌≤◌, inl, inr, List, length, take, sym}
 use Rattle.std.proofs.Common.{ap, subst, ◌∙◌, arith, get_or, length-append, Option, Some, None}
 use Rattle.std.proofs.lemmas.List.{get_or-take, get_or_append_left, length-take-le, get_or_default}
 use Rattle.std.proofs.lemmas.Bool.{cases_lt}
@@ -144,33 +144,45 @@ reads_readable f words entries size a r =
     } in
     subst (λ (q : Parameters). IsReadable f q words entries) (sym named) test
 
--- The law: if the tests hold, some input has this transcript.
-pub some_input : (f : Family) (p : Parameters) (words : List ℕ) (entries : List Entry)
-    → p ≡ parameters_in f (bytes_of f words)
-    → AreTyped f entries → IsReadable f p words entries → IsOfSomeInput f words entries
-some_input f p words entries named typed test =
-    (p.size, told_input f p entries, readable_reads f p words entries named typed test)
+-- ---- the reader's test
 
--- If some input has this transcript, the tests hold.
-pub input_readable : (f : Family) (p : Parameters) (words : List ℕ) (entries : List Entry)
-    → p ≡ parameters_in f (bytes_of f words)
-    → IsOfSomeInput f words entries → IsReadable f p words entries
-input_readable f p words entries named (size, a, r) =
-    subst (λ (q : Parameters). IsReadable f q words entries) (sym named)
-    (reads_readable f words entries size a r)
+-- Parameters in the bytes of words that were read into rows.
+named_by : (f : Family) (words rows block : List ℕ) (p : Parameters) → rows ≡ words
+    → block ≡ bytes_of f rows → p ≡ parameters_in f block → p ≡ parameters_in f (bytes_of f words)
+named_by f words rows block p rows_are bytes_are named =
+    named ∙ ap (parameters_in f) (bytes_are ∙ ap (bytes_of f) rows_are)
+
+-- The law: the test r holds exactly if some input has this transcript.
+pub test_tells : (f : Family) (words rows block : List ℕ) (p : Parameters)
+    (given entries : List Entry) (r : Bool) → rows ≡ words → block ≡ bytes_of f rows
+    → p ≡ parameters_in f block → given ≡ entries
+    → IsTrue r ↔ IsReadable f p words given → (IsTrue r → AreTyped f given)
+    → IsTrue r ↔ IsOfSomeInput f words entries
+test_tells f words rows block p given entries r rows_are bytes_are at are readable typed =
+    let named = named_by f words rows block p rows_are bytes_are at in (
+      λ t. subst (IsOfSomeInput f words) are (
+        p.size,
+        told_input f p given,
+        readable_reads f p words given named (typed t) (readable.0 t),
+      ),
+      λ (size, a, reads). readable.1 (subst (λ (es : List Entry). IsReadable f p words es) (sym are)
+          (subst (λ (q : Parameters). IsReadable f q words entries) (sym named)
+          (reads_readable f words entries size a reads))),
+    )
 
 -- The law: what is read is an input of this transcript, and no other input is.
-pub reads_told : (f : Family) (p : Parameters) (words : List ℕ) (entries : List Entry) (size : ℕ)
-    (x : Input) → p ≡ parameters_in f (bytes_of f words)
-    → AreTyped f entries → IsReadable f p words entries → size ≡ p.size → x ≡ told_input f p entries
-    → ReadsOnly f words entries size x
-reads_told f p words entries size x named typed test size_is told =
+pub reads_told : (f : Family) (words rows block : List ℕ) (p : Parameters)
+    (given entries : List Entry) (size : ℕ) (x : Input) → rows ≡ words → block ≡ bytes_of f rows
+    → p ≡ parameters_in f block → given ≡ entries → IsReadable f p words given → AreTyped f given
+    → size ≡ p.size → x ≡ told_input f p given → ReadsOnly f words entries size x
+reads_told f words rows block p given entries size x of by at are test typed sized told =
+    let named = named_by f words rows block p of by at in
     let reads : Reads f words entries size x =
-    subst (λ (k : ℕ). Reads f words entries k x) (sym size_is)
-    (subst (Reads f words entries p.size) (sym told)
-    (readable_reads f p words entries named typed test)) in
+    subst (λ (es : List Entry). Reads f words es size x) are
+    (subst (λ (k : ℕ). Reads f words given k x) (sym sized)
+    (subst (Reads f words given p.size) (sym told)
+    (readable_reads f p words given named typed test))) in
     record {
       reads = reads;
-      only = λ other b s. transcripts_determine f words entries size other x b
-          reads s;
+      only = λ other b s. transcripts_determine f words entries size other x b reads s;
     }

@@ -1,9 +1,7 @@
-use Rattle.std.proofs.Common.{◌≡◌, ◌<◌}
 use Rattle.blake2_simd.specs.Family.{blake2s}
 use Rattle.blake2_simd.specs.Rows.{eight}
 use Rattle.blake2_compress.specs.Views.{input_of}
-use Rattle.blake2_compress.specs.Run.{step_count, run_step}
-use Rattle.blake2_transcript.proofs.Front.{Kept}
+use Rattle.blake2_transcript.proofs.Front.{Walk}
 use Rattle.blake2_transcript.proofs.compare.blake2s.last_pair.Given as goal
 
 abbrev pub ghost-step_count : goal.ghost-step_count
@@ -13,10 +11,5 @@ abbrev pub ghost-entry_at : goal.ghost-entry_at
 ghost-entry_at a = blake2s
 
 abbrev pub invariant-loop-i : goal.invariant-loop-i
-invariant-loop-i l = record {
-  of_a : l.i < step_count blake2s (input_of l.a)
-      → eight l.chain_a ≡ (run_step blake2s l.output_size (input_of l.a) l.i).chain;
-  of_b : l.i < step_count blake2s (input_of l.b)
-      → eight l.chain_b ≡ (run_step blake2s l.output_size (input_of l.b) l.i).chain;
-  kept : Kept blake2s l.output_size (input_of l.a) (input_of l.b) l.i l.kept;
-}
+invariant-loop-i l = Walk 64 blake2s l.output_size (input_of l.a) (input_of l.b) l.i
+    (eight l.chain_a) (eight l.chain_b) l.kept
