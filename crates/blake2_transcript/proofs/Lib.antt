@@ -4,7 +4,6 @@ pub mod Determined
 pub mod Transcripts
 pub mod Pairs
 pub mod RunEntries
-pub mod GivenEntries
 pub mod KeyAndMessage
 pub mod Readable
 pub mod Front

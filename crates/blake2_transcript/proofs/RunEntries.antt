@@ -1,36 +1,33 @@
--- Lists of entries, which make a run: the bytes of their blocks, and a run's last entry.
-use Rattle.std.proofs.Common.{◌≡◌, ℕ, zero, suc, ◌+◌, ◌-◌, ◌*◌, ◌<◌, ◌≤◌, inl, inr, List, [], ◌∷◌}
-use Rattle.std.proofs.Common.{◌++◌, length, map, take, drop, refl, sym, ap, subst, ◌∙◌, arith}
-use Rattle.std.proofs.Common.{get_or, length-append, length-drop, EachIndex, Some}
-use Rattle.std.proofs.lemmas.List.{get_or_append_left, get_or-append_right, get_or_past}
-use Rattle.std.proofs.lemmas.List.{get_or-drop, length-take, append-nil, map-append, drop_at}
-use Rattle.std.proofs.lemmas.List.{drop-take, take-append-le, take_all, take-take}
-use Rattle.std.proofs.lemmas.List.Folds.{concat-append}
+-- Entries joined, and a run of entries from its last entry and those before. The entries of the
+-- code are seen as those of the definitions.
+use Rattle.std.proofs.Common.{◌≡◌, ℕ, zero, suc, ◌+◌, ◌-◌, ◌*◌, ◌<◌, ◌≤◌, ◌↔◌, inl, inr, List, []}
+use Rattle.std.proofs.Common.{◌∷◌, ◌++◌, length, map, take, drop, refl, sym, ap, subst, ◌∙◌, arith}
+use Rattle.std.proofs.Common.{get_or, append-nil, append_assoc, length-append, length-drop}
+use Rattle.std.proofs.Common.{EachIndex, Some}
+use Rattle.std.proofs.lemmas.List.{get_or_append_left, get_or-append_right, get_or-append-add}
+use Rattle.std.proofs.lemmas.List.{get_or_past, get_or_at, get_or-drop, get_or-map, length-take}
+use Rattle.std.proofs.lemmas.List.{length-map, map-append, take_more, drop_at, drop-take}
+use Rattle.std.proofs.lemmas.List.{take-append-le, take_all, take-take}
 use Rattle.std.proofs.lemmas.Bool.{cases_lt}
 use Rattle.std.proofs.Math.Seq.{take-append-add}
-use Rattle.std.specs.List.{concat}
 use Rattle.blake2_simd.specs.Family.{Family, block_bytes}
 use Rattle.blake2_compress.specs.Hash.{AreBytes, block_count}
-use Rattle.blake2_transcript.specs.Transcript.{Entry, joined}
-use Rattle.blake2_transcript.specs.Transcript.{no_entry}
+use Rattle.blake2_transcript.specs.declared.steps.Entry as GivenEntry
+use Rattle.blake2_transcript.specs.StepViews.{entry_of}
+use Rattle.blake2_transcript.specs.Transcript.{Entry, joined, no_entry}
 use Rattle.blake2_transcript.specs.Reader.{told_count, last_entry, told_key, told_message, AreInner}
-use Rattle.blake2_transcript.specs.Reader.{IsInner, AreWhole, IsRun, HasKey, EndsRun}
-use Rattle.blake2_transcript.specs.Reader.{IsZeroFrom}
+use Rattle.blake2_transcript.specs.Reader.{IsInner, AreWhole, IsRun, HasKey, EndsRun, IsZeroFrom}
 use Rattle.blake2_simd.proofs.Texts.{AreBytes-append}
 use Rattle.blake2_compress.proofs.InputBlocks.{block_within}
 
 -- ---- the bytes of blocks joined
 
--- Entries after others.
-pub joined-append : (xs ys : List Entry) → joined (xs ++ ys) ≡ joined xs ++ joined ys
-joined-append xs ys =
-    let block : Entry → List ℕ = λ (e : Entry). e.block in
-    ap concat (map-append block xs ys) ∙ concat-append (map block xs) (map block ys)
-
 -- One more entry.
-pub joined-snoc : (xs : List Entry) (e : Entry) → joined (xs ++ e ∷ []) ≡ joined xs ++ e.block
-joined-snoc xs e = joined-append xs (e ∷ []) ∙ ap (λ (l : List ℕ). joined xs ++ l)
-    (append-nil e.block)
+joined-snoc : (xs : List Entry) (e : Entry) → joined (xs ++ e ∷ []) ≡ joined xs ++ e.block
+joined-snoc [] e = append-nil e.block
+joined-snoc (x ∷ xs) e =
+    ap (λ (l : List ℕ). x.block ++ l) (joined-snoc xs e)
+    ∙ sym (append_assoc x.block (joined xs) e.block)
 
 -- The number of bytes in blocks of bb bytes.
 pub joined-length : (f : Family) (es : List Entry) → AreWhole f es
@@ -50,113 +47,157 @@ joined-bytes f [] whole = λ i. omega arith
 joined-bytes f (e ∷ es) whole = AreBytes-append e.block (joined es) (whole 0 (omega arith)).bytes
     (joined-bytes f es (λ i h. whole (suc i) (omega arith)))
 
--- ---- a list with one more entry at its end
+-- ---- the entries of the code
 
--- The last entry of such a list is that entry.
-pub last_entry-snoc : (xs : List Entry) (e : Entry) → last_entry (xs ++ e ∷ []) ≡ e
-last_entry-snoc xs e =
-    let at : length (xs ++ e ∷ []) - 1 ≡ length xs = omega (arith, length-append xs (e ∷ [])) in
-    let first : length xs - length xs ≡ 0 = omega arith in
-    ap (λ (i : ℕ). get_or (xs ++ e ∷ []) i no_entry) at
-    ∙ get_or-append_right xs (e ∷ []) (length xs) (length xs) no_entry refl (omega arith)
-    ∙ ap (λ (i : ℕ). get_or (e ∷ []) i no_entry) first
+-- The entry at index i.
+pub entry_of-at : {B : ℕ} (es : List (GivenEntry.Entry B)) (i : ℕ) (e : GivenEntry.Entry B)
+    → i < length es → e ≡ get_or es i e
+    → get_or (map entry_of es) i no_entry ≡ entry_of e
+entry_of-at es i e h at = get_or-map entry_of es i e no_entry h ∙ ap entry_of (sym at)
+
+-- One more entry.
+entries_of-snoc : {B : ℕ} (es xs : List (GivenEntry.Entry B)) (e : GivenEntry.Entry B)
+    → es ≡ xs ++ e ∷ []
+    → map entry_of es ≡ map entry_of xs ++ entry_of e ∷ []
+entries_of-snoc es xs e split = ap (map entry_of) split ∙ map-append entry_of xs (e ∷ [])
+
+-- The bytes of the first blocks, if one more is known.
+pub given_joined : {B : ℕ} (es : List (GivenEntry.Entry B)) (i : ℕ) (e : GivenEntry.Entry B)
+    → i < length es → e ≡ get_or es i e
+    → joined (map entry_of (take (i + 1) es)) ≡ joined (map entry_of (take i es)) ++ e.block
+given_joined es i e h at =
+    let more : take (i + 1) es ≡ take i es ++ e ∷ [] =
+    take_more es i e h ∙ ap (λ (x : GivenEntry.Entry _). take i es ++ x ∷ []) (sym at) in
+    ap joined (entries_of-snoc (take (i + 1) es) (take i es) e more)
+    ∙ joined-snoc (map entry_of (take i es)) (entry_of e)
+
+-- The bytes of all blocks, if the first is known.
+pub given_blocks : {B : ℕ} (es : List (GivenEntry.Entry B)) (e : GivenEntry.Entry B)
+    → 0 < length es → e ≡ get_or es 0 e
+    → joined (map entry_of es) ≡ e.block ++ joined (map entry_of (drop 1 es))
+given_blocks [] e some at = absurd (omega arith)
+given_blocks (x ∷ es) e some at =
+    ap (λ (y : GivenEntry.Entry _). y.block ++ joined (map entry_of es)) (sym at)
+
+-- The number of counted bytes is the counter of the last entry.
+pub given_count : {B : ℕ} (es : List (GivenEntry.Entry B)) (e : GivenEntry.Entry B) → 0 < length es
+    → e ≡ get_or es (length es - 1) e
+    → told_count (map entry_of es) ≡ e.counter
+given_count es e some at =
+    ap (λ (n : ℕ). (get_or (map entry_of es) (n - 1) no_entry).counter) (length-map es entry_of)
+    ∙ ap (λ (x : Entry). x.counter) (entry_of-at es (length es - 1) e (omega arith) at)
+
+-- A run has entries.
+pub given_some : {B : ℕ} (f : Family) (es : List (GivenEntry.Entry B)) → IsRun f (map entry_of es)
+    → 0 < length es
+given_some f es run = omega (arith, run.number, length-map es entry_of)
+
+-- The first block has bb bytes.
+pub given_first : {B : ℕ} (f : Family) (es : List (GivenEntry.Entry B)) (e : GivenEntry.Entry B)
+    → AreWhole f (map entry_of es) → 0 < length es
+    → e ≡ get_or es 0 e → length e.block ≡ block_bytes f
+given_first f es e whole some at =
+    sym (ap (λ (x : Entry). length x.block) (entry_of-at es 0 e some at))
+    ∙ (whole 0 (omega (arith, length-map es entry_of))).length_is
 
 -- ---- a run from its last entry and those before
 
--- A run's last entry ends it.
-pub run_ends : (f : Family) (xs : List Entry) (e : Entry) → IsRun f (xs ++ e ∷ [])
-    → EndsRun f (length xs) e
-run_ends f xs e run =
-    let at : last_entry (xs ++ e ∷ []) ≡ e = last_entry-snoc xs e in
-    record {
-      number = sym (length-append xs (e ∷ [])) ∙ run.number
-          ∙ ap (λ (x : Entry). block_count f x.counter) at;
-      last = sym (ap (λ (x : Entry). x.flags.last) at) ∙ run.last;
-    }
+-- Both lists are zero from index c on if the second is.
+zeros-append : (xs ys : List ℕ) (c : ℕ) → length xs ≤ c
+    → IsZeroFrom (c - length xs) ys ↔ IsZeroFrom c (xs ++ ys)
+zeros-append xs ys c low = (
+  λ zeros i past. get_or-append_right xs ys (length xs) i 0 refl (omega arith)
+      ∙ zeros (i - length xs) (omega arith),
+  λ zeros j past. sym (get_or-append-add xs ys j 0) ∙ zeros (length xs + j) (omega arith),
+)
+
+-- The last entry of such a list is that entry.
+last_entry-snoc : (xs : List Entry) (e : Entry) → last_entry (xs ++ e ∷ []) ≡ e
+last_entry-snoc xs e = get_or_at xs e [] no_entry (length (xs ++ e ∷ []) - 1)
+    (omega (arith, length-append xs (e ∷ [])))
 
 -- Others follow those before the last entry.
-pub run_inner : (f : Family) (xs : List Entry) (e : Entry) → IsRun f (xs ++ e ∷ []) → AreInner f xs
-run_inner f xs e run i h =
-    subst (IsInner f i) (get_or_append_left xs (e ∷ []) no_entry i h)
-    (run.below i (omega (arith, length-append xs (e ∷ []))))
+pub given_inner : {B : ℕ} (f : Family) (es xs : List (GivenEntry.Entry B)) (e : GivenEntry.Entry B)
+    → es ≡ xs ++ e ∷ [] → IsRun f (map entry_of es) → AreInner f (map entry_of xs)
+given_inner f es xs e split run i h =
+    let ys : List Entry = map entry_of xs in
+    let of_code = entries_of-snoc es xs e split in
+    subst (IsInner f i) (ap (λ (l : List Entry). get_or l i no_entry) of_code
+    ∙ get_or_append_left ys (entry_of e ∷ []) no_entry i h)
+    (run.below i (omega (arith, ap length of_code, length-append ys (entry_of e ∷ []))))
 
--- The block of the last entry is zero after the counted bytes.
-pub run_zeros : (f : Family) (xs : List Entry) (e : Entry) → AreWhole f xs → IsRun f (xs ++ e ∷ [])
-    → IsZeroFrom (e.counter - length xs * block_bytes f) e.block
-run_zeros f xs e whole run j past =
-    let n : ℕ = length xs * block_bytes f in
-    let end : EndsRun f (length xs) e = run_ends f xs e run in
-    let low : n ≤ e.counter = block_within f e.counter (length xs) (omega (arith, end.number)) in
-    let counts : told_count (xs ++ e ∷ []) ≡ e.counter =
-    ap (λ (x : Entry). x.counter) (last_entry-snoc xs e) in
-    let at : n + j - n ≡ j = omega arith in
-    sym (ap (λ (l : List ℕ). get_or l (n + j) 0) (joined-snoc xs e)
-    ∙ get_or-append_right (joined xs) e.block n (n + j) 0 (joined-length f xs whole) (omega arith)
-    ∙ ap (λ (k : ℕ). get_or e.block k 0) at)
-    ∙ run.zeros (n + j) (omega arith)
-
--- These three facts make a run.
-pub run_from : (f : Family) (xs : List Entry) (e : Entry) → AreWhole f xs → EndsRun f (length xs) e
-    → AreInner f xs
-    → IsZeroFrom (e.counter - length xs * block_bytes f) e.block → IsRun f (xs ++ e ∷ [])
-run_from f xs e whole end inners zeros =
-    let n : ℕ = length xs * block_bytes f in
-    let total = length-append xs (e ∷ []) in
-    let at : last_entry (xs ++ e ∷ []) ≡ e = last_entry-snoc xs e in
-    let counts : told_count (xs ++ e ∷ []) ≡ e.counter = ap (λ (x : Entry). x.counter) at in
-    let low : n ≤ e.counter = block_within f e.counter (length xs) (omega (arith, end.number)) in
-    record {
-      number = total ∙ end.number ∙ ap (block_count f) (sym counts);
-      below = λ i h. subst (IsInner f i) (sym (get_or_append_left xs (e
-          ∷ []) no_entry i (omega arith))) (inners i (omega arith));
-      last = ap (λ (x : Entry). x.flags.last) at ∙ end.last;
-      zeros = λ i past. ap (λ (l : List ℕ). get_or l i 0) (joined-snoc xs e)
-          ∙ get_or-append_right (joined xs) e.block n i 0 (joined-length f xs whole) (omega arith)
-          ∙ zeros (i - n) (omega arith);
-    }
+-- A run's counted bytes end in the last block, which is zero after them.
+pub given_run : {B : ℕ} (f : Family) (b : ℕ) (es xs : List (GivenEntry.Entry B))
+    (e : GivenEntry.Entry B) → block_bytes f ≡ b → es ≡ xs ++ e ∷ []
+    → AreWhole f (map entry_of xs) → EndsRun f (length xs) (entry_of e)
+    → AreInner f (map entry_of xs)
+    → IsZeroFrom (e.counter - length xs * b) e.block ↔ IsRun f (map entry_of es)
+given_run f b es xs e family split whole end inners =
+    let ys : List Entry = map entry_of xs in
+    let y : Entry = entry_of e in
+    let of_code : map entry_of es ≡ ys ++ y ∷ [] = entries_of-snoc es xs e split in
+    let count : length ys ≡ length xs = length-map xs entry_of in
+    let total = length-append ys (y ∷ []) in
+    let bytes : length (joined ys) ≡ length xs * b =
+    joined-length f ys whole ∙ (λ i. count i * family i) in
+    let at : last_entry (ys ++ y ∷ []) ≡ y = last_entry-snoc ys y in
+    let counts : told_count (ys ++ y ∷ []) ≡ e.counter = ap (λ (x : Entry). x.counter) at in
+    let low : length xs * block_bytes f ≤ e.counter =
+    block_within f e.counter (length xs) (omega (arith, end.number)) in
+    let order : length xs * block_bytes f ≡ length xs * b =
+    ap (λ (n : ℕ). length xs * n) family in
+    let rest : e.counter - length (joined ys) ≡ e.counter - length xs * b =
+    ap (λ (n : ℕ). e.counter - n) bytes in
+    let zeros : IsZeroFrom (e.counter - length xs * b) e.block
+    ↔ IsZeroFrom e.counter (joined ys ++ e.block) =
+    subst (λ (n : ℕ). IsZeroFrom n e.block ↔ IsZeroFrom e.counter (joined ys ++ e.block)) rest
+    (zeros-append (joined ys) e.block e.counter (omega arith)) in
+    rw of_code (
+      λ z. record {
+        number = total ∙ ap (λ (n : ℕ). n + 1) count ∙ end.number ∙ ap (block_count f) (sym counts);
+        below = λ i h. subst (IsInner f i)
+            (sym (get_or_append_left ys (y ∷ []) no_entry i (omega arith)))
+            (inners i (omega arith));
+        last = ap (λ (x : Entry). x.flags.last) at ∙ end.last;
+        zeros = λ i past. ap (λ (l : List ℕ). get_or l i 0) (joined-snoc ys y)
+            ∙ zeros.0 z i (omega arith);
+      },
+      λ run. zeros.1 (λ i past. ap (λ (l : List ℕ). get_or l i 0) (sym (joined-snoc ys y))
+          ∙ run.zeros i (omega arith)),
+    )
 
 -- ---- zeros at the end of a block
 
--- A list is zero from index n on if the rest of it is zero.
+-- A list is zero from index n on exactly if the rest of it is zero.
 pub zero_rest : (xs : List ℕ) (n : ℕ) → n ≤ length xs
-    → EachIndex (drop n xs) (λ i. get_or (drop n xs) i 0 ≡ 0) → IsZeroFrom n xs
-zero_rest xs n fits each i past = elim (cases_lt i (length xs)) [
-  | inr out ↦ get_or_past xs i 0 out
-  | inl within ↦
-      (let at : n + (i - n) ≡ i = omega arith in
-      ap (λ (k : ℕ). get_or xs k 0) (sym at) ∙ sym (get_or-drop n xs (i - n) 0)
-      ∙ each (i - n) (omega (arith, length-drop n xs)))
-]
-
--- The rest of a list is zero if the list is zero from index n on.
-pub rest_zero : (xs : List ℕ) (n : ℕ) → IsZeroFrom n xs
-    → EachIndex (drop n xs) (λ i. get_or (drop n xs) i 0 ≡ 0)
-rest_zero xs n zeros i h = get_or-drop n xs i 0 ∙ zeros (n + i) (omega arith)
+    → EachIndex (drop n xs) (λ i. get_or (drop n xs) i 0 ≡ 0) ↔ IsZeroFrom n xs
+zero_rest xs n fits = (
+  λ each i past. elim (cases_lt i (length xs)) [
+    | inr out ↦ get_or_past xs i 0 out
+    | inl within ↦
+        (let at : n + (i - n) ≡ i = omega arith in
+        ap (λ (k : ℕ). get_or xs k 0) (sym at) ∙ sym (get_or-drop n xs (i - n) 0)
+        ∙ each (i - n) (omega (arith, length-drop n xs)))
+  ],
+  λ zeros i h. get_or-drop n xs i 0 ∙ zeros (n + i) (omega arith),
+)
 
 -- ---- the block of a key at the beginning
 
--- The first bytes are those of the first block.
-pub joined-first : (f : Family) (e : Entry) (es : List Entry) (i : ℕ)
-    → length e.block ≡ block_bytes f → i < block_bytes f
-    → get_or (joined (e ∷ es)) i 0 ≡ get_or e.block i 0
-joined-first f e es i whole lt = get_or_append_left e.block (joined es) 0 i (omega arith)
-
--- The first block is that of a key if it is zero after the key.
-pub has_key : (f : Family) (n : ℕ) (e : Entry) (es : List Entry) → length e.block ≡ block_bytes f
-    → block_bytes f ≤ told_count (e ∷ es)
-    → IsZeroFrom n e.block → HasKey f n (e ∷ es)
-has_key f n e es whole counted zeros = record {
-  counted = counted;
-  zeros = λ i past below. joined-first f e es i whole below ∙ zeros i past;
-}
-
--- The first block is that of a key only if it is zero after the key.
-pub key_zeros : (f : Family) (n : ℕ) (e : Entry) (es : List Entry) → length e.block ≡ block_bytes f
-    → HasKey f n (e ∷ es) → IsZeroFrom n e.block
-key_zeros f n e es whole key i past = elim (cases_lt i (block_bytes f)) [
-  | inl below ↦ sym (joined-first f e es i whole below) ∙ key.zeros i past below
-  | inr out ↦ get_or_past e.block i 0 (omega arith)
-]
+-- The first block is that of a key exactly if it is zero after the key.
+pub has_key : (f : Family) (n : ℕ) (es : List Entry) (block rest : List ℕ)
+    → joined es ≡ block ++ rest → length block ≡ block_bytes f → block_bytes f ≤ told_count es
+    → IsZeroFrom n block ↔ HasKey f n es
+has_key f n es block rest split whole counted =
+    let first : (i : ℕ) → i < block_bytes f → get_or (joined es) i 0 ≡ get_or block i 0 =
+    λ i below. ap (λ (l : List ℕ). get_or l i 0) split
+    ∙ get_or_append_left block rest 0 i (omega arith) in (
+      λ zeros. record { counted = counted; zeros = λ i past below. first i below ∙ zeros i past },
+      λ key i past. elim (cases_lt i (block_bytes f)) [
+        | inl below ↦ sym (first i below) ∙ key.zeros i past below
+        | inr out ↦ get_or_past block i 0 (omega arith)
+      ],
+    )
 
 -- ---- the beginning of lists
 
@@ -178,20 +219,21 @@ take-append n xs ys = elim (cases_lt n (length xs)) [
 -- ---- key and message at the beginning of the data
 
 -- A key is at the beginning of the first block.
-pub key_told : (n c : ℕ) (block rest : List ℕ) → 0 < n → n ≤ length block → n ≤ c
-    → told_key n (take c (block ++ rest)) ≡ Some (take n block)
-key_told zero c block rest some short within = absurd (omega arith)
-key_told (suc k) c block rest some short within =
-    ap (λ (l : List ℕ). Some l) (take-take (suc k) c (block ++ rest) within
+pub key_told : (n c : ℕ) (z block rest : List ℕ) → z ≡ block ++ rest → 0 < n → n ≤ length block
+    → n ≤ c → told_key n (take c z) ≡ Some (take n block)
+key_told zero c z block rest split some short within = absurd (omega arith)
+key_told (suc k) c z block rest split some short within =
+    ap (λ (l : List ℕ). Some l) (take-take (suc k) c z within ∙ ap (take (suc k)) split
     ∙ take-append-le (suc k) block rest short)
 
 -- The message comes after the key.
-pub message_told : (f : Family) (n c : ℕ) (block rest : List ℕ) → 0 < n
+pub message_told : (f : Family) (n c : ℕ) (z block rest : List ℕ) → z ≡ block ++ rest → 0 < n
     → length block ≡ block_bytes f → block_bytes f ≤ c
-    → told_message f n (take c (block ++ rest)) ≡ take (c - block_bytes f) rest
-message_told f zero c block rest some whole within = absurd (omega arith)
-message_told f (suc k) c block rest some whole within =
+    → told_message f n (take c z) ≡ take (c - block_bytes f) rest
+message_told f zero c z block rest split some whole within = absurd (omega arith)
+message_told f (suc k) c z block rest split some whole within =
     let b : ℕ = block_bytes f in
     let more : b + (c - b) ≡ c = omega arith in
-    ap (λ (m : ℕ). drop b (take m (block ++ rest))) (sym more) ∙ drop-take b (c - b) (block ++ rest)
+    ap (λ (m : ℕ). drop b (take m z)) (sym more) ∙ drop-take b (c - b) z
+    ∙ ap (λ (l : List ℕ). take (c - b) (drop b l)) split
     ∙ ap (take (c - b)) (drop_at block rest b whole)
