@@ -1,9 +1,9 @@
 -- What parameter words, blocks and counters determine of their input.
-use Rattle.std.proofs.Common.{◌≡◌, ℕ, ◌*◌, ◌≤◌, List, ◌++◌, length, refl, sym, ap}
-use Rattle.std.proofs.Common.{◌∙◌, arith, Option, Some, None}
+use Rattle.std.proofs.Common.{◌≡◌, ℕ, ◌*◌, ◌≤◌, List, ◌++◌, length, refl, sym, ap, ◌∙◌, arith}
+use Rattle.std.proofs.Common.{Option, Some, None}
 use Rattle.blake2_simd.specs.Family.{Family, block_bytes, key_bytes, output_bytes}
-use Rattle.blake2_compress.specs.Hash.{Flags, Fits, Parameters, input_parameters, padded}
-use Rattle.blake2_compress.specs.Hash.{key_block, key_size, Input, input_data}
+use Rattle.blake2_compress.specs.Hash.{Flags, Fits, Parameters, input_parameters, padded, key_block}
+use Rattle.blake2_compress.specs.Hash.{key_size, Input, input_data}
 use Rattle.blake2_compress.specs.Inputs.{Accepts, KeyFits}
 use Rattle.blake2_transcript.specs.Transcript.{no_entry, TranscriptsDetermine}
 use Rattle.blake2_compress.proofs.ParameterSizes.{AreParameters, key_bytes_fit}

@@ -1,6 +1,7 @@
 -- Words and entries are the transcript of some input exactly if the reader's tests hold.
-use Rattle.std.proofs.Common.{Bool, IsTrue, ◌↔◌, ◌≡◌, ℕ, ◌-◌, ◌*◌, ◌<◌, ◌≤◌, inl, inr, List, length, take, sym}
-use Rattle.std.proofs.Common.{ap, subst, ◌∙◌, arith, get_or, length-append, Option, Some, None}
+use Rattle.std.proofs.Common.{Bool, IsTrue, ◌↔◌, ◌≡◌, ℕ, ◌-◌, ◌*◌, ◌<◌, ◌≤◌, inl, inr, List, length}
+use Rattle.std.proofs.Common.{take, sym, ap, subst, ◌∙◌, arith, get_or, length-append, Option, Some}
+use Rattle.std.proofs.Common.{None}
 use Rattle.std.proofs.lemmas.List.{get_or-take, get_or_append_left, length-take-le, get_or_default}
 use Rattle.std.proofs.lemmas.Bool.{cases_lt}
 use Rattle.blake2_simd.specs.Family.{Family, block_bytes, key_bytes, salt_bytes}
@@ -10,9 +11,8 @@ use Rattle.blake2_compress.specs.Hash.{input_data, data_bytes, key_block, key_si
 use Rattle.blake2_compress.specs.Inputs.{KeyFits}
 use Rattle.blake2_transcript.specs.Transcript.{Entry, joined, Reads, ReadsOnly, IsOfSomeInput}
 use Rattle.blake2_transcript.specs.Transcript.{no_entry}
-use Rattle.blake2_transcript.specs.Reader.{last_entry, told_count, IsReadable}
+use Rattle.blake2_transcript.specs.Reader.{last_entry, told_count, IsReadable, told_input, AreTyped}
 use Rattle.blake2_compress.specs.ParameterBlock.{parameters_in}
-use Rattle.blake2_transcript.specs.Reader.{told_input, AreTyped}
 use Rattle.blake2_compress.proofs.ParameterSizes.{AreParameters, key_bytes_fit}
 use Rattle.blake2_compress.proofs.ByteSizes.{length-padded, AreBytes-padded, AreBytes-take}
 use Rattle.blake2_compress.proofs.JoinedBlocks.{block_count-fits}

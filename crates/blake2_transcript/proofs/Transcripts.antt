@@ -1,6 +1,6 @@
 -- The run of an input is its transcript, and the words of its parameter block.
-use Rattle.std.proofs.Common.{ne_eqb, eq-eqb, ◌≡◌, ℕ, ◌+◌, ◌-◌, ◌*◌, ◌<◌, Bool, false, List}
-use Rattle.std.proofs.Common.{[], map, length, refl, sym, ap, subst, ◌∙◌, arith, get_or, nat_eq}
+use Rattle.std.proofs.Common.{ne_eqb, eq-eqb, ◌≡◌, ℕ, ◌+◌, ◌-◌, ◌*◌, ◌<◌, Bool, false, List, []}
+use Rattle.std.proofs.Common.{map, length, refl, sym, ap, subst, ◌∙◌, arith, get_or, nat_eq}
 use Rattle.std.proofs.lemmas.List.{length-map, same_lists, get_or_default, get_or-map}
 use Rattle.std.proofs.Math.Nat.{min-eq_left, min-eq_right}
 use Rattle.std.specs.Prelude.{if◌then◌else◌}

@@ -3,10 +3,9 @@
 use Rattle.std.specs.Prelude.{◌≡◌, ℕ, zero, suc, ◌+◌, ◌-◌, ◌*◌, ◌^◌, ◌<◌, ◌≤◌, List, length, take}
 use Rattle.std.specs.Prelude.{drop, slice_index, slice_index_or, Option, Some, None, IsTrue}
 use Rattle.blake2_simd.specs.Family.{Family, block_bytes, salt_bytes}
-use Rattle.blake2_compress.specs.Hash.{AreBytes, Input, inner, block_count, padded}
-use Rattle.blake2_compress.specs.Hash.{Fits, Parameters, parameter_words}
-use Rattle.blake2_transcript.specs.Transcript.{Entry, joined}
-use Rattle.blake2_transcript.specs.Transcript.{no_entry}
+use Rattle.blake2_compress.specs.Hash.{AreBytes, Input, inner, block_count, padded, Fits}
+use Rattle.blake2_compress.specs.Hash.{Parameters, parameter_words}
+use Rattle.blake2_transcript.specs.Transcript.{Entry, joined, no_entry}
 
 -- ---- the entries of a run
 

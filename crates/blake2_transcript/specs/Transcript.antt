@@ -5,8 +5,7 @@ use Rattle.std.specs.Prelude.{slice_index_or}
 use Rattle.std.specs.List.{concat}
 use Rattle.blake2_simd.specs.Family.{Family, block_bytes, output_bytes}
 use Rattle.blake2_compress.specs.Hash.{Flags, inner, Input, input_flags, input_parameters}
-use Rattle.blake2_compress.specs.Hash.{input_data}
-use Rattle.blake2_compress.specs.Hash.{padded, block_count, parameter_words, Step}
+use Rattle.blake2_compress.specs.Hash.{input_data, padded, block_count, parameter_words, Step}
 use Rattle.blake2_compress.specs.Inputs.{Accepts, Same}
 
 -- One compression by the arguments of F, except for the chaining words (3.2).

@@ -1,12 +1,11 @@
 //! The witness of BLAKE2s: steps of eight words of 32 bits and blocks of 64 bytes.
 
-ghost use Rattle.std.specs.Prelude.{◌≡◌, ◌+◌, ◌<◌, ◌≤◌, ◌↔◌, take, IsTrue, IsOk, IsSome, IfOk};
-ghost use Rattle.std.specs.Prelude.{IfSome, MatchOption};
+ghost use Rattle.std.specs.Prelude.{◌≡◌, ◌≤◌, ◌↔◌, IsTrue, IsOk, IsSome, IfOk, IfSome, MatchOption};
 ghost use Rattle.blake2_simd.specs.Family.{blake2s, output_bytes};
 ghost use Rattle.blake2_simd.specs.Rows.{eight};
 ghost use Rattle.blake2_compress.specs.Hash;
 ghost use Rattle.blake2_compress.specs.Hash.{bytes_of, digest, input_start, output};
-ghost use Rattle.blake2_compress.specs.Inputs.{Accepts, Same};
+ghost use Rattle.blake2_compress.specs.Inputs.{Accepts};
 ghost use Rattle.blake2_transcript.specs.Transcript;
 ghost use Rattle.blake2_transcript.specs.Witness.{Collide, IsWitness};
 ghost use Rattle.blake2_compress.specs.Views.{input_of};

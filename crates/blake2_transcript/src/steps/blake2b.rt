@@ -5,9 +5,8 @@ ghost use Rattle.blake2_simd.specs.Family.{blake2b, output_bytes};
 ghost use Rattle.blake2_compress.specs.Hash.{steps};
 ghost use Rattle.blake2_compress.specs.Inputs.{Accepts};
 ghost use Rattle.blake2_transcript.specs.Transcript.{entry, IsOfSomeInput, IsTranscript, ReadsOnly};
-ghost use Rattle.blake2_compress.specs.Views.{input_of};
+ghost use Rattle.blake2_compress.specs.Views.{input_of, given_parameters};
 ghost use Rattle.blake2_transcript.specs.StepViews.{entries_of, entry_of, reading_of};
-ghost use Rattle.blake2_compress.specs.Views.{given_parameters};
 ghost use Rattle.blake2_transcript.specs.Reader.{AreTyped, IsReadable};
 
 use super::{Entry, Reading, Transcript, entries, reader};

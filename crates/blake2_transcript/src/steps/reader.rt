@@ -1,17 +1,15 @@
 //! Whether entries are those of a run, and the key and the message of one, for blocks of any
 //! length.
 
-ghost use Rattle.std.specs.Prelude.{◌≡◌, ◌+◌, ◌<◌, ◌≤◌, ◌*◌, ◌-◌, ◌^◌, ◌↔◌, ℕ, length, map, take};
-ghost use Rattle.std.specs.Prelude.{IsTrue, IfOk, slice_index, EachIndex};
+ghost use Rattle.std.specs.Prelude.{◌≡◌, ◌+◌, ◌<◌, ◌≤◌, ◌*◌, ◌^◌, ◌↔◌, length, map, take, IsTrue};
+ghost use Rattle.std.specs.Prelude.{IfOk, slice_index, EachIndex};
 ghost use Rattle.blake2_simd.specs.Family.{Family, block_bytes, salt_bytes};
 ghost use Rattle.blake2_compress.specs.Hash.{Fits};
 ghost use Rattle.blake2_compress.specs.Views.{given_parameters};
 ghost use Rattle.blake2_transcript.specs.StepViews.{entry_of, items_of, reading_of};
 ghost use Rattle.blake2_transcript.specs.Reader.{AreInner, AreWhole, EndsRun, HasKey, IsInner};
-ghost use Rattle.blake2_transcript.specs.Reader.{IsRun};
-ghost use Rattle.blake2_transcript.specs.Reader.{IsWhole, IsZeroFrom};
-ghost use Rattle.blake2_transcript.specs.Reader.{told_count, told_data, told_input, told_key};
-ghost use Rattle.blake2_transcript.specs.Reader.{told_message};
+ghost use Rattle.blake2_transcript.specs.Reader.{IsRun, IsWhole, IsZeroFrom, told_count, told_data};
+ghost use Rattle.blake2_transcript.specs.Reader.{told_input, told_key, told_message};
 ghost use Rattle.blake2_transcript.specs.Transcript.{joined};
 
 use super::{Entry, Reading};

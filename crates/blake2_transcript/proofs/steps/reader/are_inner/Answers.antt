@@ -1,8 +1,7 @@
 use Rattle.std.proofs.Common.{◌≡◌, ℕ, map, get_or, refl, sym, subst, below_more, arith}
-use Rattle.blake2_transcript.specs.Transcript.{Entry}
+use Rattle.blake2_transcript.specs.Transcript.{Entry, no_entry}
 use Rattle.blake2_transcript.specs.StepViews.{entry_of}
 use Rattle.blake2_transcript.specs.Reader.{IsInner, IsWhole}
-use Rattle.blake2_transcript.specs.Transcript.{no_entry}
 use Rattle.blake2_transcript.proofs.RunEntries.{entry_of-at}
 use Rattle.blake2_transcript.proofs.steps.reader.are_inner.Goals as goal
 

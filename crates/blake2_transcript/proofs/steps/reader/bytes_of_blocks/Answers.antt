@@ -2,8 +2,7 @@ use Rattle.std.proofs.Common.{◌≡◌, ◌-◌, ◌++◌, ℕ, List, length, m
 use Rattle.std.proofs.lemmas.List.{take_min}
 use Rattle.blake2_transcript.specs.Transcript.{joined}
 use Rattle.blake2_transcript.specs.StepViews.{entry_of}
-use Rattle.blake2_transcript.proofs.RunEntries.{take-append}
-use Rattle.blake2_transcript.proofs.RunEntries.{given_joined}
+use Rattle.blake2_transcript.proofs.RunEntries.{take-append, given_joined}
 use Rattle.blake2_transcript.proofs.steps.reader.bytes_of_blocks.Goals as goal
 
 pub loop-entry-preserved : goal.loop-entry-preserved

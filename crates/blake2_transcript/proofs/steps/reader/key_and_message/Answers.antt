@@ -1,5 +1,5 @@
-use Rattle.std.proofs.Common.{◌≡◌, ◌<◌, ◌-◌, ℕ, List, length, map, take, get_or, sym, ap, ◌∙◌, arith}
-use Rattle.std.proofs.Common.{Some}
+use Rattle.std.proofs.Common.{◌≡◌, ◌<◌, ◌-◌, ℕ, List, length, map, take, get_or, sym, ap, ◌∙◌}
+use Rattle.std.proofs.Common.{arith, Some}
 use Rattle.std.proofs.lemmas.List.{take_rest}
 use Rattle.blake2_simd.specs.Family.{block_bytes}
 use Rattle.blake2_transcript.specs.declared.steps.Entry.{Entry}
