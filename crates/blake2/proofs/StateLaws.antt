@@ -24,29 +24,17 @@ updated f s x = record s {
   pending = held_back (block_bytes f) (s.pending ++ x);
 }
 
+-- States with equal parts are equal.
+pub same_state : {s t : State} → s.core ≡ t.core → s.pending ≡ t.pending
+    → s.start_block ≡ t.start_block → s ≡ t
+same_state core pending start_block =
+    λ i. record { core = core i; pending = pending i; start_block = start_block i }
+
 -- ---- updates
 
 pub block_positive : (f : Family) → 0 < block_bytes f
 block_positive blake2b = omega arith
 block_positive blake2s = omega arith
-
-future-updated : (f : Family) (n : ℕ) (s : State) (x : List ℕ) (flag : Bool) (y : List ℕ)
-    → future f n (updated f s x) flag y ≡ future f n s flag (x ++ y)
-unfolding future
-future-updated f n s x flag y =
-    let assoc = ap (λ (z : List ℕ). tail f s.core.h s.core.count z (final flag))
-    (append_assoc s.pending x y) in
-    ap (take n) (tail_handed f (final flag) s.core (s.pending ++ x) y ∙ assoc)
-
-started-updated : (f : Family) (n : ℕ) (s : State) (x : List ℕ) (flag : Bool) (y : List ℕ)
-    → started f n (updated f s x) flag y ≡ started f n s flag y
-unfolding started absorbed
-started-updated f n s x flag y = refl
-
-last_node-updated : (f : Family) (s : State) (x : List ℕ)
-    → (updated f s x).core.last_node ≡ s.core.last_node
-unfolding absorbed
-last_node-updated f s x = refl
 
 pub count-updated : (f : Family) (s : State) (x : List ℕ)
     → count (updated f s x) ≡ count s + length x
@@ -62,11 +50,16 @@ count-updated f s x =
 pub Updated_by : {S : Type 0} (f : Family) (n : ℕ) (state_of : S → State) (old : S) (x : List ℕ)
     (new : S)
     → state_of new ≡ updated f (state_of old) x → Updated (meaning_by f n state_of) old x new
+unfolding future started absorbed
 Updated_by f n state_of old x new e = record {
-  future = λ flag y. ap (λ s. future f n s flag y) e ∙ future-updated f n (state_of old) x flag y;
-  started = λ flag y. ap (λ s. started f n s flag y) e
-      ∙ started-updated f n (state_of old) x flag y;
-  last_node = ap (λ s. s.core.last_node) e ∙ last_node-updated f (state_of old) x;
+  future = λ flag y.
+      let s : State = state_of old in
+      let moved = tail_handed f (final flag) s.core (s.pending ++ x) y in
+      let assoc = ap (λ (z : List ℕ). tail f s.core.h s.core.count z (final flag))
+      (append_assoc s.pending x y) in
+      ap (λ s. future f n s flag y) e ∙ ap (take n) (moved ∙ assoc);
+  started = λ flag y. ap (λ s. started f n s flag y) e;
+  last_node = ap (λ s. s.core.last_node) e;
   count = ap count e ∙ count-updated f (state_of old) x;
   start_count = ap start_count e;
 }
@@ -110,31 +103,16 @@ kept-updated f s new x e one_left fits =
 
 -- ---- constructors
 
-future-fresh : (f : Family) (n : ℕ) (salt persona : List ℕ) (key : Option (List ℕ)) (tree : Tree)
-    (flag : Bool) (y : List ℕ)
-    → future f n (fresh f (node_parameters n (key_size key) salt persona tree) key) flag y
-    ≡ node_digest_of f n salt persona key tree flag y
-unfolding future digest
-future-fresh f n salt persona key tree flag y = refl
-
-started-fresh : (f : Family) (n : ℕ) (salt persona : List ℕ) (key : Option (List ℕ)) (tree : Tree)
-    (flag : Bool) (y : List ℕ)
-    → started f n (fresh f (node_parameters n (key_size key) salt persona tree) key) flag y
-    ≡ node_digest_of f n salt persona key tree flag y
-unfolding started digest
-started-fresh f n salt persona key tree flag y = refl
-
 -- A constructor satisfies its contract: the digests are BLAKE2.
 pub Fresh_by : {S : Type 0} (f : Family) (n : ℕ) (state_of : S → State) (salt persona : List ℕ)
     (key : Option (List ℕ)) (tree : Tree) (counted : ℕ) (new : S)
     → length (key_block f key) ≡ counted → state_of new
     ≡ fresh f (node_parameters n (key_size key) salt persona tree) key
     → Fresh (meaning_by f n state_of) (node_digest_of f n salt persona key tree) counted new
+unfolding future started digest
 Fresh_by f n state_of salt persona key tree counted new counts e = record {
-  future = λ flag y. ap (λ s. future f n s flag y) e
-      ∙ future-fresh f n salt persona key tree flag y;
-  started = λ flag y. ap (λ s. started f n s flag y) e
-      ∙ started-fresh f n salt persona key tree flag y;
+  future = λ flag y. ap (λ s. future f n s flag y) e;
+  started = λ flag y. ap (λ s. started f n s flag y) e;
   last_node = ap (λ s. s.core.last_node) e;
   count = ap count e ∙ zero-add (length (key_block f key)) ∙ counts;
   start_count = ap start_count e ∙ counts;
@@ -142,24 +120,14 @@ Fresh_by f n state_of salt persona key tree counted new counts e = record {
 
 -- ---- the last-node flag
 
-future-node_set : (f : Family) (n : ℕ) (s : State) (on flag : Bool) (y : List ℕ)
-    → future f n (node_set s on) flag y ≡ future f n s flag y
-unfolding future
-future-node_set f n s on flag y = refl
-
-started-node_set : (f : Family) (n : ℕ) (s : State) (on flag : Bool) (y : List ℕ)
-    → started f n (node_set s on) flag y ≡ started f n s flag y
-unfolding started
-started-node_set f n s on flag y = refl
-
 -- Setting the flag satisfies its contract.
 pub NodeSet_by : {S : Type 0} (f : Family) (n : ℕ) (state_of : S → State) (old : S) (on : Bool)
     (new : S)
     → state_of new ≡ node_set (state_of old) on → NodeSet (meaning_by f n state_of) old on new
+unfolding future started
 NodeSet_by f n state_of old on new e = record {
-  future = λ flag y. ap (λ s. future f n s flag y) e ∙ future-node_set f n (state_of old) on flag y;
-  started = λ flag y. ap (λ s. started f n s flag y) e
-      ∙ started-node_set f n (state_of old) on flag y;
+  future = λ flag y. ap (λ s. future f n s flag y) e;
+  started = λ flag y. ap (λ s. started f n s flag y) e;
   last_node = ap (λ s. s.core.last_node) e;
   count = ap count e;
   start_count = ap start_count e;

@@ -3,6 +3,7 @@ use Rattle.std.proofs.Common.{◌≡◌, ℕ, zero, suc, ◌+◌, ◌-◌, ◌*�
 use Rattle.std.proofs.Common.{length, take, drop, refl, sym, ap, arith, append-nil, length-append}
 use Rattle.std.proofs.Common.{length-drop}
 use Rattle.std.proofs.lemmas.List.{length-take-le, drop-append-le}
+use Rattle.std.proofs.lemmas.Bool.{cases_lt}
 use Rattle.std.specs.Simd.{first_chunks}
 use Rattle.blake2_simd.specs.Family.{Family, blake2b, blake2s, block_bytes}
 use Rattle.blake2_compress.specs.Hash.{Flags, padded, bytes_of, cut, chain, block_count}
@@ -39,10 +40,6 @@ handed_on-cut : (f : Family) (y : List ℕ) → handed_on (block_bytes f) y ≡ 
 unfolding handed_on
 handed_on-cut f y = first_chunks-cut f (handed_count f y) y (handed_fits f y)
 
-zero_or_positive : (n : ℕ) → (n ≡ 0) ⊎ (0 < n)
-zero_or_positive zero = inl refl
-zero_or_positive (suc n) = inr (omega arith)
-
 -- If something is passed on, something is held back.
 handed_less : (f : Family) (y : List ℕ) → 0 < handed_count f y
     → handed_count f y * block_bytes f < length y
@@ -52,9 +49,10 @@ handed_less blake2s y h = omega arith
 held_some : (f : Family) (y : List ℕ) → (handed_count f y ≡ 0) ⊎
     (0 < length (held_back (block_bytes f) y))
 unfolding held_back
-held_some f y = elim (zero_or_positive (handed_count f y)) [
-  | inl e ↦ inl e
-  | inr h ↦ inr (omega (arith, length-drop (handed_count f y * block_bytes f) y, handed_less f y h))
+held_some f y = elim (cases_lt 0 (handed_count f y)) [
+  | inr none ↦ inl (omega arith)
+  | inl some ↦
+      inr (omega (arith, length-drop (handed_count f y * block_bytes f) y, handed_less f y some))
 ]
 
 -- With the first k blocks of y compressed and the rest pending, the tail is as before.

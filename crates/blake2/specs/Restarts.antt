@@ -6,23 +6,13 @@ use Rattle.blake2_digest.specs.States.{Meaning, StartedAgain}
 use Rattle.blake2.specs.States.{State, future, started, count, start_count, meaning_by, unflagged}
 use Rattle.blake2.specs.States.{restarted, IsRestarted}
 
-future-restarted : (f : Family) (n : ℕ) (s : State) (flag : Bool) (y : List ℕ)
-    → future f n (restarted s) flag y ≡ started f n s flag y
-unfolding future started
-future-restarted f n s flag y = refl
-
-started-restarted : (f : Family) (n : ℕ) (s : State) (flag : Bool) (y : List ℕ)
-    → started f n (restarted s) flag y ≡ started f n s flag y
-unfolding started
-started-restarted f n s flag y = refl
-
 -- A reset of the state that a value holds satisfies the contract of a reset.
 pub StartedAgain_by : {S : Type 0} (f : Family) (n : ℕ) (state_of : S → State) (old new : S)
     → IsRestarted state_of old new → StartedAgain (meaning_by f n state_of) old new
+unfolding future started
 StartedAgain_by f n state_of old new e = record {
-  future = λ flag y. ap (λ s. future f n s flag y) e ∙ future-restarted f n (state_of old) flag y;
-  started = λ flag y. ap (λ s. started f n s flag y) e
-      ∙ started-restarted f n (state_of old) flag y;
+  future = λ flag y. ap (λ s. future f n s flag y) e;
+  started = λ flag y. ap (λ s. started f n s flag y) e;
   last_node = ap (λ s. s.core.last_node) e;
   count = ap count e ∙ zero-add (length (state_of old).start_block);
   start_count = ap start_count e;

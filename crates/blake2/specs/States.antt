@@ -1,6 +1,5 @@
 -- What the state of a hasher or a MAC means: the digests that it will return.
-use Rattle.std.specs.Prelude.{◌≡◌, ℕ, ◌+◌, Bool, false, List, ◌++◌, length, take, replicate}
-use Rattle.std.specs.Prelude.{Option}
+use Rattle.std.specs.Prelude.{◌≡◌, ℕ, ◌+◌, Bool, false, List, ◌++◌, length, take, replicate, Option}
 use Rattle.blake2_simd.specs.Family.{Family}
 use Rattle.blake2_compress.specs.Hash.{Flags, final, bytes_of, last_chain, Parameters, key_block}
 use Rattle.blake2_compress.specs.Hash.{Input, Tree, digest, sequential}

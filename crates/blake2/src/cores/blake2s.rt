@@ -1,7 +1,6 @@
 //! The block core of BLAKE2s.
 
-ghost use Rattle.std.specs.Prelude.{◌≡◌, ⊤, ℕ, ◌+◌, ◌^◌, ◌<◌, ◌≤◌, ◌↔◌, false, List, [], ◌∷◌};
-ghost use Rattle.std.specs.Prelude.{length, IfOk, IsErr, IsTrue};
+ghost use Rattle.std.specs.Prelude.{◌≡◌, ⊤, ◌<◌, ◌≤◌, ◌↔◌, false, [], length, IfOk, IsErr, IsTrue};
 ghost use Rattle.blake2_simd.specs.Family.{blake2s};
 ghost use Rattle.blake2_compress.specs.Hash.{AdmitsTree, Fits, parameters_of};
 ghost use Rattle.blake2_compress.specs.Views.{given_parameters, tree_of};

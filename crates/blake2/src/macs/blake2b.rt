@@ -1,7 +1,7 @@
 //! The MAC of BLAKE2b.
 
-ghost use Rattle.std.specs.Prelude.{◌≡◌, ⊤, ℕ, ◌+◌, ◌-◌, ◌*◌, ◌^◌, ◌<◌, ◌≤◌, ◌↔◌, ◌⊎◌, List, []};
-ghost use Rattle.std.specs.Prelude.{length, false, None, Some, IfOk, IsErr};
+ghost use Rattle.std.specs.Prelude.{◌≡◌, ⊤, ◌<◌, ◌≤◌, ◌↔◌, ◌⊎◌, [], length, false, None, Some};
+ghost use Rattle.std.specs.Prelude.{IfOk, IsErr};
 ghost use Rattle.std.proofs.Common.{arith};
 ghost use Rattle.blake2_simd.specs.Family.{blake2b};
 ghost use Rattle.blake2_compress.specs.Hash.{sequential};

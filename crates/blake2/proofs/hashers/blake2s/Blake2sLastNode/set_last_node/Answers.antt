@@ -1,14 +1,10 @@
-use Rattle.std.proofs.Common.{[]}
+use Rattle.std.proofs.Common.{refl}
 use Rattle.blake2_simd.specs.Family.{blake2s}
 use Rattle.blake2.specs.Hashers.{blake2s_state}
-use Rattle.blake2.proofs.StateLaws.{NodeSet_by}
+use Rattle.blake2.proofs.StateLaws.{same_state, NodeSet_by}
 use Rattle.blake2.proofs.hashers.blake2s.Blake2sLastNode.set_last_node.Goals as goal
 
 pub returns : goal.returns
 returns g c =
     NodeSet_by blake2s g.row.N blake2s_state c.args.self.now c.args.on _
-    (λ i. record {
-      core = c.set_last_node.ensures.core i;
-      pending = c.set_last_node.ensures.pending i;
-      start_block = [];
-    })
+    (same_state c.set_last_node.ensures.core c.set_last_node.ensures.pending refl)

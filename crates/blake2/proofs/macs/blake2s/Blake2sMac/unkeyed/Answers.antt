@@ -2,15 +2,13 @@ use Rattle.std.proofs.Common.{None, refl, ◌∙◌}
 use Rattle.blake2_simd.specs.Family.{blake2s}
 use Rattle.blake2_compress.specs.Hash.{key_block, sequential}
 use Rattle.blake2.specs.Hashers.{blake2s_mac_state}
-use Rattle.blake2.proofs.StateLaws.{Fresh_by, Fresh_unflagged}
+use Rattle.blake2.proofs.StateLaws.{same_state, Fresh_by, Fresh_unflagged}
 use Rattle.blake2.proofs.macs.blake2s.Blake2sMac.unkeyed.Goals as goal
 
 pub returns : goal.returns
 unfolding key_block
 returns g c =
-    let made = c.new.ensures.core ∙ c.new_with_params-core.ensures in
-    let pending = c.new.ensures.pending ∙ c.default.ensures in
     Fresh_unflagged _ _ _ _
     (Fresh_by blake2s g.row.N blake2s_mac_state c.args.salt.now c.args.persona.now None sequential
-    0 _ refl
-    (λ i. record { core = made i; pending = pending i; start_block = c.default-2.ensures i }))
+    0 _ refl (same_state (c.new.ensures.core ∙ c.new_with_params-core.ensures)
+    (c.new.ensures.pending ∙ c.default.ensures) c.default-2.ensures))

@@ -1,4 +1,4 @@
-use Rattle.std.proofs.Common.{[], refl, ◌∙◌}
+use Rattle.std.proofs.Common.{[], ◌∙◌, rules}
 use Rattle.blake2.proofs.macs.blake2s.Blake2sMacUpdate.update.Goals as goal
 
 pub invariant_of-self : goal.invariant_of-self
@@ -11,10 +11,4 @@ invariant_of-self g c =
 
 pub returns : goal.returns
 returns g c =
-    let kept = c.update.ensures g.row.N c.args.self.now.start_block in record {
-      future = kept.future;
-      started = kept.started;
-      last_node = refl;
-      count = kept.count;
-      start_count = kept.start_count;
-    }
+    let kept = c.update.ensures g.row.N c.args.self.now.start_block in search (rules, kept)

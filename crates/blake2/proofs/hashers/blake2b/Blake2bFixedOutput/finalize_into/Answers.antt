@@ -1,5 +1,0 @@
-use Rattle.std.proofs.Common.{rules}
-use Rattle.blake2.proofs.hashers.blake2b.Blake2bFixedOutput.finalize_into.Goals as goal
-
-pub returns : goal.returns
-returns g c = search rules
