@@ -2,7 +2,7 @@
 -- leave.
 use Rattle.std.proofs.Common.{◌≡◌, ℕ, ◌+◌, ◌-◌, ◌*◌, ◌^◌, ◌<◌, ◌≤◌, List, [], ◌++◌, length, take}
 use Rattle.std.proofs.Common.{Bool, Option, Some, None, refl, sym, ap, ◌∙◌, arith, zero-add}
-use Rattle.std.proofs.Common.{append-nil, append_assoc, length-append}
+use Rattle.std.proofs.Common.{append-nil, append_assoc, length-append, rules}
 use Rattle.std.proofs.lemmas.List.{take_all}
 use Rattle.blake2_simd.specs.Family.{Family, blake2b, blake2s, block_bytes, key_bytes}
 use Rattle.blake2_compress.specs.Hash.{Tree, final, cut, chain, last_chain, block_count, key_size}
@@ -136,13 +136,7 @@ NodeSet_by f n state_of old on new e = record {
 -- If the flag is always off, a constructor and an update satisfy their contracts too.
 pub Fresh_unflagged : {S : Type 0} (m : Meaning S) (digest : Bool → List ℕ → List ℕ) (counted : ℕ)
     (new : S) → Fresh m digest counted new → Fresh (unflagged m) digest counted new
-Fresh_unflagged m digest counted new made = record {
-  future = made.future;
-  started = made.started;
-  last_node = refl;
-  count = made.count;
-  start_count = made.start_count;
-}
+Fresh_unflagged m digest counted new made = search (rules, made)
 
 -- ---- keys
 

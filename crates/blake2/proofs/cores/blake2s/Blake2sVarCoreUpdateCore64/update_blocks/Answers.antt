@@ -13,16 +13,9 @@ each-init c = record {
 }
 
 pub each-preserved : goal.each-preserved
-each-preserved c =
-    let block = get_or c.args.blocks.now c.each.block-index [] in
-    let held : CoreState = record {
-      h = eight c.each.self-inside.h;
-      start = eight c.each.self-inside.start;
-      count = c.each.self-inside.counter;
-      last_node = c.each.self-inside.last_node;
-    } in record {
-      taken = absorbed-next blake2s c.args.self.now held _ c.args.blocks.now c.each.block-index
-          c.each-test.true c.each.invariant.taken
-          (absorbed-one blake2s held block (eight c.compress.new.h) c.compress.ensures);
-      counted = omega (arith, c.each.invariant.counted);
-    }
+each-preserved c = record {
+  taken = absorbed-next blake2s c.args.self.now _ _ c.args.blocks.now c.each.block-index
+      c.each-test.true c.each.invariant.taken
+      (absorbed-one blake2s _ _ (eight c.compress.new.h) c.compress.ensures);
+  counted = omega (arith, c.each.invariant.counted);
+}

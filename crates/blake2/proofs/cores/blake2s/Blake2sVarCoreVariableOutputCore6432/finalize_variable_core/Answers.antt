@@ -8,13 +8,7 @@ use Rattle.blake2.proofs.cores.blake2s.Blake2sVarCoreVariableOutputCore6432.fina
 
 pub returns-clause-core : goal.returns-clause-core
 returns-clause-core c =
-    let held : CoreState = record {
-      h = eight c.self.inside.h;
-      start = eight c.self.inside.start;
-      count = c.self.inside.counter;
-      last_node = c.self.inside.last_node;
-    } in
-    completed-by blake2s held c.args.buffer.now c.get_pos.result c.pad_with_zeros-block.result
+    completed-by blake2s _ c.args.buffer.now c.get_pos.result c.pad_with_zeros-block.result
     (eight c.compress.new.h) _
     c.get_pos.ensures.pending c.pad_with_zeros-block.ensures.padded c.last_block-flags.ensures c.compress.ensures
     ∙ ap (λ (core : CoreState). completed blake2s core c.args.buffer.now) c.self.view_is
