@@ -1,24 +1,27 @@
 -- The contracts of plain states, from the fields that a call leaves.
-use Rattle.std.proofs.Common.{◌≡◌, ℕ, ◌+◌, ◌≤◌, ◌==◌, Bool, true, false, List, [], ◌∷◌, ◌++◌}
-use Rattle.std.proofs.Common.{length, slice_index, Option, Some, None, sym, ap, ◌∙◌, rules}
-use Rattle.blake2_simd.specs.Family.{Family, block_bytes}
-use Rattle.blake2_compress.specs.Hash.{Parameters, Tree, key_size, key_block}
+use Rattle.std.proofs.Common.{◌≡◌, ℕ, ◌+◌, ◌≤◌, ◌==◌, Bool, true, false, List, [], ◌∷◌, ◌++◌, length}
+use Rattle.std.proofs.Common.{take, slice_index, Option, Some, None, refl, sym, ap, subst, ◌∙◌, rules}
+use Rattle.std.proofs.Common.{arith, length-append}
+use Rattle.std.proofs.lemmas.List.{take_all}
+use Rattle.blake2_simd.specs.Family.{Family, block_bytes, key_bytes}
+use Rattle.blake2_compress.specs.Hash.{Parameters, key_size, key_block, padded, start}
 use Rattle.blake2_digest.specs.Blocks.{handed_on, held_back}
-use Rattle.blake2_digest.specs.States.{Meaning, Updated, Fresh, NodeSet, StartedAgain}
+use Rattle.blake2_digest.specs.States.{Meaning, Updated, Fresh, AtStart, NodeSet, StartedAgain}
 use Rattle.blake2_digest.proofs.Cutting.{handed_none, held_all}
 use Rattle.blake2.specs.CoreLaws.{absorbed-nil}
 use Rattle.blake2.specs.Cores.{CoreState, node_parameters, core_made, absorbed}
 use Rattle.blake2.specs.Restarts.{StartedAgain_by}
-use Rattle.blake2.specs.States.{State, future, started, fresh, restarted, node_set, node_digest_of}
+use Rattle.blake2.specs.States.{State, future, started, fresh, restarted, node_set}
 use Rattle.blake2.proofs.StateLaws.{block_positive, updated, Updated_by, Fresh_by, NodeSet_by}
-use Rattle.blake2_state.specs.Arguments.{given_key, given_count}
+use Rattle.blake2.proofs.StateLaws.{length-key_block_none, length-key_block_some}
+use Rattle.blake2_state.specs.Arguments.{given_key, given_count, digest_under}
 use Rattle.blake2_state.specs.Blocks.{block_start, block_digest}
 use Rattle.blake2_state.specs.States.{meaning_sized}
 
--- ---- contracts of states that hold the length of their digests
+-- ---- updates
 
 -- An update satisfies its contract.
-pub Updated_sized : {S : Type 0} (f : Family) (size_of : S → ℕ) (state_of : S → State) (old : S)
+Updated_sized : {S : Type 0} (f : Family) (size_of : S → ℕ) (state_of : S → State) (old : S)
     (x : List ℕ) (new : S)
     → size_of new ≡ size_of old → state_of new ≡ updated f (state_of old) x
     → Updated (meaning_sized f size_of state_of) old x new
@@ -31,28 +34,59 @@ Updated_sized f size_of state_of old x new size e =
       start_count = u.start_count;
     }
 
--- A constructor satisfies its contract.
-pub Fresh_sized : {S : Type 0} (f : Family) (size_of : S → ℕ) (state_of : S → State) (n : ℕ)
-    (salt persona : List ℕ) (key : Option (List ℕ)) (tree : Tree) (counted : ℕ) (new : S)
-    → length (key_block f key) ≡ counted → size_of new ≡ n
-    → state_of new ≡ fresh f (node_parameters n (key_size key) salt persona tree) key
-    → Fresh (meaning_sized f size_of state_of) (node_digest_of f n salt persona key tree) counted
-    new
-Fresh_sized f size_of state_of n salt persona key tree counted new counts size e =
-    let u = Fresh_by f n state_of salt persona key tree counted new counts e in record {
-      future = λ flag y. ap (λ (m : ℕ). future f m (state_of new) flag y) size ∙ u.future flag y;
-      started = λ flag y. ap (λ (m : ℕ). started f m (state_of new) flag y) size ∙ u.started flag y;
-      last_node = u.last_node;
-      count = u.count;
-      start_count = u.start_count;
-    }
+-- An input that the pending block has room for.
+pub Updated_kept : {S : Type 0} (f : Family) (size_of : S → ℕ) (state_of : S → State) {old : S}
+    {x : List ℕ} {new : S} → length (state_of old).pending + length x ≤ block_bytes f
+    → (state_of new).pending ≡ (state_of old).pending ++ x → size_of new ≡ size_of old
+    → state_of new ≡ record (state_of old) { pending = (state_of new).pending }
+    → Updated (meaning_sized f size_of state_of) old x new
+Updated_kept f size_of state_of {old} {x} {new} fits e size same =
+    let s = state_of old in
+    let b : ℕ = block_bytes f in
+    let room : length (s.pending ++ x) ≤ b = omega (arith, length-append s.pending x, fits) in
+    let none : s.core ≡ absorbed f s.core (handed_on b (s.pending ++ x)) =
+    sym (ap (absorbed f s.core) (handed_none b (s.pending ++ x) (block_positive f) room)
+    ∙ absorbed-nil f s.core) in
+    let all : (state_of new).pending ≡ held_back b (s.pending ++ x) =
+    e ∙ sym (held_all b (s.pending ++ x) (block_positive f) room) in
+    Updated_sized f size_of state_of old x new size
+    (same ∙ (λ i. record s { core = none i; pending = all i }))
+
+-- A state that has the words and the count of this core, and these bytes pending.
+abbrev after : State → CoreState → List ℕ → State
+after s core pending = record s {
+  core = record s.core { h = core.h; count = core.count };
+  pending = pending;
+}
+
+-- Any input, from the core that absorbed it.
+pub Updated_absorbed : {S : Type 0} (f : Family) (size_of : S → ℕ) (state_of : S → State) {old : S}
+    {x : List ℕ} {new : S} {begun core : CoreState} → begun ≡ (state_of old).core
+    → core ≡ absorbed f begun (handed_on (block_bytes f) ((state_of old).pending ++ x))
+    → (state_of new).pending ≡ held_back (block_bytes f) ((state_of old).pending ++ x)
+    → (state_of new).core.h ≡ core.h → (state_of new).core.count ≡ core.count
+    → size_of new ≡ size_of old
+    → state_of new ≡ after (state_of old) (state_of new).core (state_of new).pending
+    → Updated (meaning_sized f size_of state_of) old x new
+unfolding absorbed
+Updated_absorbed f size_of state_of {old} {x} {new} begins taken pends words counted size same =
+    let s = state_of old in
+    let e = taken ∙ ap (λ (b : CoreState). absorbed f b
+    (handed_on (block_bytes f) (s.pending ++ x))) begins in
+    let chain = words ∙ ap (λ (b : CoreState). b.h) e in
+    let counts = counted ∙ ap (λ (b : CoreState). b.count) e in
+    Updated_sized f size_of state_of old x new size (same ∙ (λ i. record s {
+      core = record s.core { h = chain i; count = counts i };
+      pending = pends i;
+    }))
+
+-- ---- the start and the last-node flag
 
 -- A reset satisfies its contract.
 pub StartedAgain_sized : {S : Type 0} (f : Family) (size_of : S → ℕ) (state_of : S → State)
-    (old new : S)
-    → size_of new ≡ size_of old → state_of new ≡ restarted (state_of old)
+    {old new : S} → size_of new ≡ size_of old → state_of new ≡ restarted (state_of old)
     → StartedAgain (meaning_sized f size_of state_of) old new
-StartedAgain_sized f size_of state_of old new size e =
+StartedAgain_sized f size_of state_of {old} {new} size e =
     let u = StartedAgain_by f (size_of old) state_of old new e in record {
       future = λ flag y. ap (λ (n : ℕ). future f n (state_of new) flag y) size ∙ u.future flag y;
       started = λ flag y. ap (λ (n : ℕ). started f n (state_of new) flag y) size ∙ u.started flag y;
@@ -62,11 +96,10 @@ StartedAgain_sized f size_of state_of old new size e =
     }
 
 -- Setting the last-node flag satisfies its contract.
-pub NodeSet_sized : {S : Type 0} (f : Family) (size_of : S → ℕ) (state_of : S → State) (old : S)
-    (on : Bool) (new : S)
-    → size_of new ≡ size_of old → state_of new ≡ node_set (state_of old) on
+pub NodeSet_sized : {S : Type 0} (f : Family) (size_of : S → ℕ) (state_of : S → State) {old : S}
+    {on : Bool} {new : S} → size_of new ≡ size_of old → state_of new ≡ node_set (state_of old) on
     → NodeSet (meaning_sized f size_of state_of) old on new
-NodeSet_sized f size_of state_of old on new size e =
+NodeSet_sized f size_of state_of {old} {on} {new} size e =
     let u = NodeSet_by f (size_of old) state_of old on new e in record {
       future = λ flag y. ap (λ (n : ℕ). future f n (state_of new) flag y) size ∙ u.future flag y;
       started = λ flag y. ap (λ (n : ℕ). started f n (state_of new) flag y) size ∙ u.started flag y;
@@ -75,108 +108,98 @@ NodeSet_sized f size_of state_of old on new size e =
       start_count = u.start_count;
     }
 
--- ---- the fields
-
--- A state that has absorbed nothing, from the words of a core.
-pub state-made : (f : Family) (parameters : Parameters) (key : Option (List ℕ)) (core : CoreState)
-    (words pending start_block : List ℕ) → core ≡ core_made f parameters
-    → words ≡ core.start → pending ≡ key_block f key → start_block ≡ key_block f key
-    → record {
-      core = record { h = words; start = words; count = 0; last_node = false };
-      pending = pending;
-      start_block = start_block;
-    } ≡ fresh f parameters key
-state-made f parameters key core words pending start_block made starts pends begins =
-    let first = starts ∙ ap (λ (b : CoreState). b.start) made in
-    λ i. record {
-      core = record { h = first i; start = first i; count = 0; last_node = false };
-      pending = pends i;
-      start_block = begins i;
-    }
-
--- An input that the pending block has room for.
-pub state-kept : (f : Family) (s : State) (x pending : List ℕ)
-    → length (s.pending ++ x) ≤ block_bytes f → pending ≡ s.pending ++ x
-    → record { core = s.core; pending = pending; start_block = s.start_block } ≡ updated f s x
-state-kept f s x pending room e =
-    let none : s.core ≡ absorbed f s.core (handed_on (block_bytes f) (s.pending ++ x)) =
-    sym (ap (absorbed f s.core) (handed_none (block_bytes f) (s.pending ++ x)
-    (block_positive f) room) ∙ absorbed-nil f s.core) in
-    let all : pending ≡ held_back (block_bytes f) (s.pending ++ x) =
-    e ∙ sym (held_all (block_bytes f) (s.pending ++ x) (block_positive f) room) in
-    λ i. record { core = none i; pending = all i; start_block = s.start_block }
-
--- Any input, from the words of the core that absorbed it.
-pub state-absorbed : (f : Family) (s : State) (x : List ℕ) (begun core : CoreState) (h : List ℕ)
-    (c : ℕ) (pending : List ℕ) → begun ≡ s.core
-    → core ≡ absorbed f begun (handed_on (block_bytes f) (s.pending ++ x))
-    → pending ≡ held_back (block_bytes f) (s.pending ++ x) → h ≡ core.h → c ≡ core.count
-    → record {
-      core = record {
-        h = h;
-        start = s.core.start;
-        count = c;
-        last_node = s.core.last_node;
-      };
-      pending = pending;
-      start_block = s.start_block;
-    } ≡ updated f s x
-unfolding absorbed
-state-absorbed f s x begun core h c pending begins taken pends words counted =
-    let e = taken ∙ ap (λ (b : CoreState). absorbed f b
-    (handed_on (block_bytes f) (s.pending ++ x))) begins in
-    let chain = words ∙ ap (λ (b : CoreState). b.h) e in
-    let counts = counted ∙ ap (λ (b : CoreState). b.count) e in
-    λ i. record {
-      core = record {
-        h = chain i;
-        start = s.core.start;
-        count = counts i;
-        last_node = s.core.last_node;
-      };
-      pending = pends i;
-      start_block = s.start_block;
-    }
-
--- ---- runs from a block
-
--- The state of a parameter block's words.
-abbrev from_words : List ℕ → State
-from_words words = record {
-  core = record {
-    h = words;
-    start = words;
-    count = 0;
-    last_node = false;
-  };
-  pending = [];
-  start_block = [];
+-- A new state whose flag is set is at its start.
+pub AtStart_set : {S : Type 0} {m : Meaning S} {digest : Bool → List ℕ → List ℕ} {n : ℕ}
+    {on : Bool} {made new : S} → Fresh m digest n made → NodeSet m made on new
+    → AtStart m digest n new
+AtStart_set made set = record {
+  future = λ flag y. set.future flag y ∙ made.future flag y;
+  started = λ flag y. set.started flag y ∙ made.started flag y;
+  count = set.count ∙ made.count;
+  start_count = set.start_count ∙ made.start_count;
 }
 
-future-from_words : (f : Family) (block words : List ℕ) (flag : Bool) (y : List ℕ)
+-- ---- constructors
+
+-- A state that starts from these words, after this start block.
+abbrev begun : List ℕ → List ℕ → State
+begun words block = record {
+  core = record { h = words; start = words; count = 0; last_node = false };
+  pending = block;
+  start_block = block;
+}
+
+-- A constructor satisfies its contract.
+Fresh_made : {S : Type 0} (f : Family) (size_of : S → ℕ) (state_of : S → State) (p : Parameters)
+    (key : Option (List ℕ)) (core : CoreState) (words block : List ℕ) (counted : ℕ) (new : S)
+    → p.key_size ≡ key_size key → core ≡ core_made f p → words ≡ core.start
+    → block ≡ key_block f key → length (key_block f key) ≡ counted → size_of new ≡ p.size
+    → state_of new ≡ begun words block
+    → Fresh (meaning_sized f size_of state_of) (digest_under f p key) counted new
+Fresh_made f size_of state_of p key core words block counted new named made starts is counts size e =
+    let first : words ≡ start f p = starts ∙ ap (λ (b : CoreState). b.start) made in
+    let u = Fresh_by f p.size state_of p.salt p.persona key p.tree counted new counts
+    (e ∙ (λ i. begun (first i) (is i)) ∙ ap (λ (n : ℕ).
+    fresh f (node_parameters p.size n p.salt p.persona p.tree) key) named) in
+    record {
+      future = λ flag y. ap (λ (n : ℕ). future f n (state_of new) flag y) size ∙ u.future flag y;
+      started = λ flag y. ap (λ (n : ℕ). started f n (state_of new) flag y) size ∙ u.started flag y;
+      last_node = u.last_node;
+      count = u.count;
+      start_count = u.start_count;
+    }
+
+-- Under no key.
+pub Fresh_unkeyed : {S : Type 0} (f : Family) (size_of : S → ℕ) (state_of : S → State)
+    (p : Parameters) {core : CoreState} {words : List ℕ} {new : S} → p.key_size ≡ 0
+    → core ≡ core_made f p → words ≡ core.start → size_of new ≡ p.size
+    → state_of new ≡ begun words []
+    → Fresh (meaning_sized f size_of state_of) (digest_under f p None) 0 new
+unfolding key_block
+Fresh_unkeyed f size_of state_of p {core} {words} {new} named made starts size e =
+    Fresh_made f size_of state_of p None core words [] 0 new named made starts refl
+    (length-key_block_none f) size e
+
+-- Under a key that is padded to a block.
+pub Fresh_keyed : {S : Type 0} (f : Family) (size_of : S → ℕ) (state_of : S → State)
+    (p : Parameters) (key : List ℕ) {core : CoreState} {words block : List ℕ} {new : S}
+    → p.key_size ≡ length key → p.key_size ≤ key_bytes f → core ≡ core_made f p
+    → words ≡ core.start → block ≡ padded (block_bytes f) key → size_of new ≡ p.size
+    → state_of new ≡ begun words (take (block_bytes f) block)
+    → Fresh (meaning_sized f size_of state_of) (digest_under f p (Some key)) (block_bytes f) new
+unfolding key_block
+Fresh_keyed f size_of state_of p key {core} {words} {block} {new} named fits made starts is size e =
+    let whole : length (key_block f (Some key)) ≡ block_bytes f =
+    length-key_block_some f key (omega (arith, named, fits)) in
+    Fresh_made f size_of state_of p (Some key) core words _ (block_bytes f) new named made starts
+    (ap (take (block_bytes f)) is
+    ∙ take_all (block_bytes f) (key_block f (Some key)) (omega (arith, whole)))
+    whole size e
+
+future-begun : (f : Family) (block words : List ℕ) (flag : Bool) (y : List ℕ)
     → words ≡ block_start f block
-    → future f (slice_index block 0) (from_words words) flag y ≡ block_digest f block flag y
+    → future f (slice_index block 0) (begun words []) flag y ≡ block_digest f block flag y
 unfolding future
-future-from_words f block words flag y e = ap
-    (λ (w : List ℕ). future f (slice_index block 0) (from_words w) flag y) e
+future-begun f block words flag y e = ap
+    (λ (w : List ℕ). future f (slice_index block 0) (begun w []) flag y) e
 
-started-from_words : (f : Family) (block words : List ℕ) (flag : Bool) (y : List ℕ)
+started-begun : (f : Family) (block words : List ℕ) (flag : Bool) (y : List ℕ)
     → words ≡ block_start f block
-    → started f (slice_index block 0) (from_words words) flag y ≡ block_digest f block flag y
+    → started f (slice_index block 0) (begun words []) flag y ≡ block_digest f block flag y
 unfolding started
-started-from_words f block words flag y e = ap
-    (λ (w : List ℕ). started f (slice_index block 0) (from_words w) flag y) e
+started-begun f block words flag y e = ap
+    (λ (w : List ℕ). started f (slice_index block 0) (begun w []) flag y) e
 
--- A constructor from a parameter block satisfies its contract.
+-- From a parameter block.
 pub Fresh_block : {S : Type 0} (f : Family) (size_of : S → ℕ) (state_of : S → State)
-    (block words : List ℕ) (new : S) → size_of new ≡ slice_index block 0
-    → state_of new ≡ from_words words → words ≡ block_start f block
+    (block : List ℕ) {words : List ℕ} {new : S} → size_of new ≡ slice_index block 0
+    → state_of new ≡ begun words [] → words ≡ block_start f block
     → Fresh (meaning_sized f size_of state_of) (block_digest f block) 0 new
-Fresh_block f size_of state_of block words new size e starts = record {
+Fresh_block f size_of state_of block {words} size e starts = record {
   future = λ flag y. (λ i. future f (size i) (e i) flag y)
-      ∙ future-from_words f block words flag y starts;
+      ∙ future-begun f block words flag y starts;
   started = λ flag y. (λ i. started f (size i) (e i) flag y)
-      ∙ started-from_words f block words flag y starts;
+      ∙ started-begun f block words flag y starts;
   last_node = λ i. (e i).core.last_node;
   count = λ i. (e i).core.count + length (e i).pending;
   start_count = λ i. length (e i).start_block;
@@ -185,17 +208,17 @@ Fresh_block f size_of state_of block words new size e starts = record {
 -- ---- keys
 
 -- An empty list is not a key.
-pub Fresh-given_none : {S : Type 0} (m : Meaning S) (f : Family) (n : ℕ) (salt persona key : List ℕ)
-    (tree : Tree) (s : S) → (length key == 0) ≡ true
-    → Fresh m (node_digest_of f n salt persona None tree) 0 s
-    → Fresh m (node_digest_of f n salt persona (given_key key) tree) (given_count f key) s
-Fresh-given_none m f n salt persona [] tree s e h = h
-Fresh-given_none m f n salt persona (x ∷ xs) tree s e h = absurd (search rules)
+pub Fresh-given_none : {S : Type 0} (m : Meaning S) (f : Family) {p q : Parameters} (key : List ℕ)
+    {s : S} → p ≡ q → (length key == 0) ≡ true → Fresh m (digest_under f p None) 0 s
+    → Fresh m (digest_under f q (given_key key)) (given_count f key) s
+Fresh-given_none m f [] {s} same e h = subst (λ p. Fresh m (digest_under f p None) 0 s) same h
+Fresh-given_none m f (x ∷ xs) same e h = absurd (search rules)
 
 -- A list that is not empty is a key.
-pub Fresh-given_some : {S : Type 0} (m : Meaning S) (f : Family) (n : ℕ) (salt persona key : List ℕ)
-    (tree : Tree) (s : S) → (length key == 0) ≡ false
-    → Fresh m (node_digest_of f n salt persona (Some key) tree) (block_bytes f) s
-    → Fresh m (node_digest_of f n salt persona (given_key key) tree) (given_count f key) s
-Fresh-given_some m f n salt persona [] tree s e h = absurd (search rules)
-Fresh-given_some m f n salt persona (x ∷ xs) tree s e h = h
+pub Fresh-given_some : {S : Type 0} (m : Meaning S) (f : Family) {p q : Parameters} (key : List ℕ)
+    {s : S} → p ≡ q → (length key == 0) ≡ false
+    → Fresh m (digest_under f p (Some key)) (block_bytes f) s
+    → Fresh m (digest_under f q (given_key key)) (given_count f key) s
+Fresh-given_some m f [] same e h = absurd (search rules)
+Fresh-given_some m f (x ∷ xs) {s} same e h =
+    subst (λ p. Fresh m (digest_under f p (Some (x ∷ xs))) (block_bytes f) s) same h

@@ -1,18 +1,7 @@
-use Rattle.std.proofs.Common.{ap, ◌∙◌}
-use Rattle.blake2_tree.specs.Nodes.{node_digest}
-use Rattle.blake2_tree.specs.TreeRoot.{TreeParameters}
+use Rattle.blake2_state.proofs.StateLaws.{AtStart_set}
 use Rattle.blake2_state.proofs.tree.leaf_state.Goals as goal
 
--- The flag changes no digest under a given flag.
 pub returns-clause-leaf : goal.returns-clause-leaf
 returns-clause-leaf c =
-    let set = c.set_last_node.ensures.set in
-    let fresh = c.node_state-leaf.ensures.fresh in
-    record {
-      future = λ flag y. set.future flag y ∙ fresh.future flag y
-          ∙ ap (λ (p : TreeParameters). node_digest 64 p c.args.i 0 flag y) c.new-nodes.ensures;
-      started = λ flag y. set.started flag y ∙ fresh.started flag y
-          ∙ ap (λ (p : TreeParameters). node_digest 64 p c.args.i 0 flag y) c.new-nodes.ensures;
-      count = set.count ∙ fresh.count;
-      start_count = set.start_count ∙ fresh.start_count;
-    }
+    rw c.new-nodes.ensures at
+    (AtStart_set c.node_state-leaf.ensures.fresh c.set_last_node.ensures.set)

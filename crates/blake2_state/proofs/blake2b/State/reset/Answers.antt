@@ -1,9 +1,6 @@
 use Rattle.std.proofs.Common.{refl}
-use Rattle.blake2_simd.specs.Family.{blake2b}
-use Rattle.blake2_state.specs.Blake2b.{state_of}
 use Rattle.blake2_state.proofs.StateLaws.{StartedAgain_sized}
 use Rattle.blake2_state.proofs.blake2b.State.reset.Goals as goal
 
 pub returns-clause-reset : goal.returns-clause-reset
-returns-clause-reset c = StartedAgain_sized blake2b
-    (λ s. s.output_size) state_of c.args.self.now _ refl refl
+returns-clause-reset c = StartedAgain_sized _ _ _ refl refl

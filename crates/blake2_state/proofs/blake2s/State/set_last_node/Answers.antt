@@ -1,5 +1,4 @@
 use Rattle.std.proofs.Common.{◌≡◌, refl, sym, ap, ◌∙◌}
-use Rattle.blake2_simd.specs.Family.{blake2s}
 use Rattle.blake2.specs.States.{node_set}
 use Rattle.blake2_state.specs.Blake2s.{state_of}
 use Rattle.blake2_state.specs.States.{is_on}
@@ -9,10 +8,8 @@ use Rattle.blake2_state.proofs.blake2s.State.set_last_node.Goals.{then-on, else-
 
 pub returns-clause-set : goal.returns-clause-set
 returns-clause-set c =
-    let old = c.args.self.now in
     let flag : is_on c.if-on.self ≡ c.args.on = elim c.if-on.branch [
       | then-on w ↦ ap is_on w.self-is ∙ sym w.if-on.true
       | else-on w ↦ ap is_on w.self-is ∙ sym w.if-on.false
     ] in
-    NodeSet_sized blake2s (λ s. s.output_size) state_of old c.args.on _ refl
-    (ap (node_set (state_of old)) flag)
+    NodeSet_sized _ _ _ refl (ap (node_set (state_of c.args.self.now)) flag)
