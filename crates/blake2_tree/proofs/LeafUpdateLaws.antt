@@ -1,29 +1,34 @@
 -- A tree that absorbs whole leaves by their digests, from call to call.
-use Rattle.std.proofs.Common.{◌≡◌, ℕ, suc, ◌+◌, ◌*◌, ◌/◌, ◌%◌, ◌<◌, true, false, List, [], ◌∷◌}
-use Rattle.std.proofs.Common.{◌++◌, length, sym, ap, subst, ◌∙◌, arith, append-nil, append_assoc}
-use Rattle.std.proofs.Common.{length-append}
-use Rattle.std.proofs.Math.Nat.{mod-add-div', mul-mod_left}
+use Rattle.std.proofs.Common.{◌≡◌, ℕ, suc, ◌+◌, ◌*◌, ◌/◌, ◌%◌, ◌^◌, ◌<◌, inl, inr, true, false, List}
+use Rattle.std.proofs.Common.{[], ◌∷◌, ◌++◌, length, sym, ap, subst, ◌∙◌, arith, append-nil}
+use Rattle.std.proofs.Common.{append_assoc, length-append}
+use Rattle.std.proofs.Math.Nat.{mul-mod_left}
 use Rattle.std.specs.List.{All, concat}
 use Rattle.blake2_tree.specs.TreeRoot.{TreeParameters}
 use Rattle.blake2_tree.specs.OpenTrees.{OpenTree, future, count, Took}
-use Rattle.blake2_tree.specs.LeafUpdates.{next_leaf, joined_digests, root_after}
+use Rattle.blake2_tree.specs.LeafUpdates.{AcceptsLeaves, next_leaf, joined_digests, root_after}
 use Rattle.blake2_tree.specs.LeafUpdates.{TookDigests, TookLeaves}
 use Rattle.blake2_tree.specs.Ranges.{AreWhole, range_digests}
 use Rattle.blake2_tree.proofs.RangeLaws.{length-range_digests, leaf_count-is, AreWhole-count}
 use Rattle.blake2_tree.proofs.RangeLaws.{range_digests-cut}
 
 -- Whole leaves and their digests have the same number.
-length-given : (old : OpenTree) (first : ℕ) (x : List ℕ) → 0 < old.shared.leaf_length
+length-given : (old : OpenTree) (digests x : List ℕ) → 0 < old.shared.leaf_length
     → AreWhole old.shared.leaf_length x
-    → length (range_digests old.shared first false x) / 64 * old.shared.leaf_length ≡ length x
-length-given old first x some whole =
+    → digests ≡ range_digests old.shared (next_leaf old) false x
+    → length digests / 64 * old.shared.leaf_length ≡ length x
+length-given old digests x some whole are =
     let l : ℕ = old.shared.leaf_length in
-    let q : ℕ = length x / l in
-    let many : length (range_digests old.shared first false x) ≡ q * 64 =
-    length-range_digests old.shared first false x
-    ∙ ap (λ n. n * 64) (leaf_count-is l x some whole) in
-    let leaves : length (range_digests old.shared first false x) / 64 ≡ q = omega (arith, many) in
-    ap (λ n. n * l) leaves ∙ omega (arith, mod-add-div' (length x) l, whole.whole)
+    let k = AreWhole-count l x some whole in
+    let many : length digests ≡ suc k.0 * 64 =
+    ap length are ∙ length-range_digests old.shared (next_leaf old) false x
+    ∙ ap (λ n. n * 64) (leaf_count-is l x some whole ∙ k.1) in
+    let leaves : length digests / 64 ≡ suc k.0 = omega (arith, many) in
+    ap (λ n. n * l) leaves ∙ sym k.2
+
+-- No digests are no leaves.
+no_leaves : (d l : ℕ) → d ≡ 0 → d / 64 * l ≡ 0
+no_leaves d l none = rw none (omega arith)
 
 -- Whole leaves after whole leaves are whole leaves.
 AreWhole-append : (size : ℕ) (x y : List ℕ) → 0 < size → AreWhole size x → AreWhole size y
@@ -71,110 +76,124 @@ took-ranges old new digests input some none leaves (x ∷ xs) whole are =
     leaves (concat (x ∷ xs)) all.0 (are ∙ all.1)
 
 -- Without digests the tree absorbs only the input.
-pub TookDigests-none : (old new : OpenTree) (digests input : List ℕ) → 0 < old.shared.leaf_length
-    → length digests ≡ 0 → Took old input new → TookDigests old digests input new
-TookDigests-none old new digests input some nothing took =
-    let none : length digests / 64 ≡ 0 = omega (arith, nothing) in
-    let zero : 0 * old.shared.leaf_length ≡ 0 = omega arith in
-    let no_leaves : length digests / 64 * old.shared.leaf_length ≡ 0 =
-    ap (λ n. n * old.shared.leaf_length) none ∙ zero in
+pub TookDigests-none : {old new : OpenTree} {digests input : List ℕ} → length digests ≡ 0
+    → Took old input new → TookDigests old digests input new
+TookDigests-none {old} {new} {digests} {input} nothing took = record {
+  shared = took.shared;
+  none = λ _. took;
+  root = λ more. absurd (omega (arith, more, nothing));
+  count = omega (arith, took.count, no_leaves (length digests) old.shared.leaf_length nothing);
+}
+
+pub TookLeaves-none : {old new : OpenTree} {digests input : List ℕ} → 0 < old.shared.leaf_length
+    → length digests ≡ 0 → Took old input new → TookLeaves old digests input new
+TookLeaves-none {old} {new} {digests} {input} some nothing took =
+    let none : length digests / 64 * old.shared.leaf_length ≡ 0 =
+    no_leaves (length digests) old.shared.leaf_length nothing in
+    let leaves : (x : List ℕ) → AreWhole old.shared.leaf_length x
+    → digests ≡ range_digests old.shared (next_leaf old) false x → Took old (x ++ input) new =
+    λ x whole are. absurd (omega (
+      arith,
+      whole.some,
+      none,
+      length-given old digests x some whole are,
+    )) in
     record {
       shared = took.shared;
       none = λ _. took;
-      root = λ more. absurd (omega (arith, more, nothing));
-      count = omega (arith, took.count, no_leaves);
+      leaves = leaves;
+      ranges = took-ranges old new digests input some (λ _. took) leaves;
+      count = omega (arith, took.count, none);
     }
+
+-- Bytes follow digests that a tree accepts.
+followed : (old : OpenTree) (d n : ℕ) → AcceptsLeaves old d n → 0 < d → 0 < n
+followed old d n accepted more = elim accepted.followed [
+  | inl none ↦ absurd (omega (arith, none, more))
+  | inr some ↦ some
+]
+
+-- The message stays below its limit, after the tree closes a full leaf and absorbs the digests.
+pub fits-given : {old : OpenTree} (begun : OpenTree) {d n : ℕ} → AcceptsLeaves old d n → 0 < d
+    → begun.shared ≡ old.shared → count begun ≡ count old
+    → count begun + d / 64 * begun.shared.leaf_length + 1 < 2 ^ 58
+fits-given {old} begun {d} {n} accepted more first counted =
+    omega (
+      arith,
+      ap (λ (s : TreeParameters). d / 64 * s.leaf_length) first,
+      counted,
+      followed old d n accepted more,
+      accepted.fits,
+    )
 
 -- The tree closes a full leaf, and absorbs any digests and then the input.
-pub TookDigests-given : (old begun given new : OpenTree) (digests input : List ℕ)
-    → 0 < length digests → 0 < length input
-    → ((z : List ℕ) → begun.root z ≡ root_after old z) → begun.closed ≡ next_leaf old
-    → begun.shared ≡ old.shared
-    → ((y : List ℕ) → 0 < length y → future given y ≡ begun.root
+pub TookDigests-given : {old given new : OpenTree} (begun : OpenTree) {digests input : List ℕ}
+    → 0 < length digests → ((z : List ℕ) → begun.root z ≡ root_after old z)
+    → begun.closed ≡ next_leaf old → begun.shared ≡ old.shared → count begun ≡ count old
+    → ((y : List ℕ) → future given y ≡ begun.root
     (digests ++ range_digests begun.shared (begun.closed + length digests / 64) true y))
-    → given.shared ≡ old.shared
-    → count given ≡ count old + length digests / 64 * old.shared.leaf_length
+    → given.shared ≡ begun.shared
+    → count given ≡ count begun + length digests / 64 * begun.shared.leaf_length
     → Took given input new → TookDigests old digests input new
-TookDigests-given old begun given new digests input more followed begins closed first takes same
-    counts took =
+TookDigests-given {old} begun {digests} {input} more begins closed first counted takes same counts
+    took =
+    let k : ℕ = length digests / 64 in
     record {
-      shared = took.shared ∙ same;
+      shared = took.shared ∙ same ∙ first;
       none = λ nothing. absurd (omega (arith, more, ap length nothing));
       root = λ _ y.
-          took.future y
-          ∙ takes (input ++ y) (omega (arith, followed, length-append input y))
-          ∙ begins (digests
-          ++ range_digests begun.shared (begun.closed + length digests / 64) true (input ++ y))
-          ∙ (λ i. root_after old (digests
-          ++ range_digests (first i) (closed i + length digests / 64) true (input ++ y)));
-      count = omega (arith, took.count, counts);
-    }
-
--- Without digests the tree absorbs only the input.
-pub TookLeaves-none : (old new : OpenTree) (digests input : List ℕ) → 0 < old.shared.leaf_length
-    → length digests ≡ 0 → Took old input new → TookLeaves old digests input new
-TookLeaves-none old new digests input some nothing took =
-    let none : length digests / 64 ≡ 0 = omega (arith, nothing) in
-    let zero : 0 * old.shared.leaf_length ≡ 0 = omega arith in
-    let no_leaves : length digests / 64 * old.shared.leaf_length ≡ 0 =
-    ap (λ n. n * old.shared.leaf_length) none ∙ zero in
-    record {
-      shared = took.shared;
-      none = λ _. took;
-      leaves = λ x whole are. absurd (omega (
-        arith,
-        whole.some,
-        no_leaves,
-        ap (λ d. length d / 64 * old.shared.leaf_length) are,
-        length-given old (next_leaf old) x some whole,
-      ));
-      ranges = took-ranges old new digests input some (λ _. took)
-          (λ x whole are. absurd (omega (
-            arith,
-            whole.some,
-            no_leaves,
-            ap (λ d. length d / 64 * old.shared.leaf_length) are,
-            length-given old (next_leaf old) x some whole,
-          )));
-      count = omega (arith, took.count, no_leaves);
+          took.future y ∙ takes (input ++ y)
+          ∙ begins (digests ++ range_digests begun.shared (begun.closed + k) true (input ++ y))
+          ∙ (λ i. root_after old
+          (digests ++ range_digests (first i) (closed i + k) true (input ++ y)));
+      count = took.count ∙ ap (λ (n : ℕ). n + length input)
+          (counts ∙ (λ i. counted i + k * (first i).leaf_length));
     }
 
 -- The tree closes a full leaf, and absorbs the digests and then the input.
-pub TookLeaves-given : (old begun given new : OpenTree) (digests input : List ℕ)
-    → 0 < old.shared.leaf_length → 0 < length digests → 0 < length input
-    → ((y : List ℕ) → 0 < length y → future begun y ≡ future old y)
-    → ((x y : List ℕ) → AreWhole old.shared.leaf_length x → 0 < length y
-    → digests ≡ range_digests old.shared (next_leaf old) false x
+pub TookLeaves-given : {old given new : OpenTree} (begun : OpenTree) {digests input : List ℕ}
+    → 0 < old.shared.leaf_length → AcceptsLeaves old (length digests) (length input)
+    → 0 < length digests → ((y : List ℕ) → 0 < length y → future begun y ≡ future old y)
+    → begun.closed ≡ next_leaf old → begun.shared ≡ old.shared → count begun ≡ count old
+    → ((x y : List ℕ) → AreWhole begun.shared.leaf_length x → 0 < length y
+    → digests ≡ range_digests begun.shared begun.closed false x
     → future given y ≡ future begun (x ++ y))
-    → given.shared ≡ old.shared
-    → count given ≡ count old + length digests / 64 * old.shared.leaf_length
+    → given.shared ≡ begun.shared
+    → count given ≡ count begun + length digests / 64 * begun.shared.leaf_length
     → Took given input new → TookLeaves old digests input new
-TookLeaves-given old begun given new digests input some more followed begins takes same counts took =
+TookLeaves-given {old} {given} {new} begun {digests} {input} some accepted more begins closed first
+    counted takes same counts took =
+    let k : ℕ = length digests / 64 in
+    let is : count given ≡ count old + k * old.shared.leaf_length =
+    counts ∙ (λ i. counted i + k * (first i).leaf_length) in
+    let bytes : 0 < length input = followed old (length digests) (length input) accepted more in
     let none : digests ≡ [] → Took old input new =
     λ nothing. absurd (omega (arith, ap length nothing)) in
     let leaves : (x : List ℕ) → AreWhole old.shared.leaf_length x
     → digests ≡ range_digests old.shared (next_leaf old) false x → Took old (x ++ input) new =
     λ x whole are. record {
-      shared = took.shared ∙ same;
+      shared = took.shared ∙ same ∙ first;
       future = λ y.
           took.future y
-          ∙ takes x (input ++ y) whole (omega (arith, length-append input y)) are
+          ∙ takes x (input ++ y)
+          (subst (λ (s : TreeParameters). AreWhole s.leaf_length x) (sym first) whole)
+          (omega (arith, length-append input y))
+          (are ∙ (λ i. range_digests (sym first i) (sym closed i) false x))
           ∙ begins (x ++ (input ++ y))
           (omega (arith, length-append x (input ++ y), length-append input y))
           ∙ ap (future old) (sym (append_assoc x input y));
       count = omega (
         arith,
         took.count,
-        counts,
-        ap (λ d. length d / 64 * old.shared.leaf_length) are,
-        length-given old (next_leaf old) x some whole,
+        is,
+        length-given old digests x some whole are,
         length-append x input,
       );
     } in
     record {
-      shared = took.shared ∙ same;
+      shared = took.shared ∙ same ∙ first;
       none = none;
       leaves = leaves;
       ranges = took-ranges old new digests input some none leaves;
-      count = omega (arith, took.count, counts);
+      count = omega (arith, took.count, is);
     }
