@@ -4,93 +4,13 @@
 
 ghost use Rattle.std.specs.Prelude.{◌≤◌};
 
-use crate::inputs::{check_digest_of, count_up, input, read_input, transcript};
+use crate::families::Word;
+use crate::inputs::{check_digest_of, count_up, input, transcript, unkeyed};
 use blake2::steps::{Entry, Input, Transcript};
-use blake2::{Blake2bVarCore, Blake2sVarCore};
 use std::process::Abort;
 
-// The transcripts of a family, whose words are W, in blocks of B bytes.
-trait Steps<W, const B: usize> {
-    // The words with a bit of one of them turned.
-    fn turned(words: &[W; 8], place: usize, bit: usize) -> [W; 8];
-
-    // The transcript of an input, which is checked to be accepted, at a size that the family has.
-    fn written(
-        rt: &(impl Abort + AllocGlobal),
-        input: &Input<'_>,
-        output_size: usize,
-    ) -> Transcript<W, B>;
-
-    // Whether the transcript is read. It is then checked to be that of the input that is read.
-    fn is_read(rt: &(impl Abort + AllocGlobal), told: &Transcript<W, B>) -> bool;
-}
-
-impl Steps<u64, 128> for Blake2bVarCore {
-    fn turned(words: &[u64; 8], place: usize, bit: usize) -> [u64; 8] {
-        let mut turned = *words;
-        if let Some(word) = turned.get_mut(place) {
-            *word ^= 1u64.wrapping_shl((bit % 64) as u32);
-        }
-        turned
-    }
-
-    fn written(
-        rt: &(impl Abort + AllocGlobal),
-        input: &Input<'_>,
-        output_size: usize,
-    ) -> Transcript<u64, 128> {
-        assert!(rt; Blake2bVarCore::accepts(input) && output_size <= 64);
-        Blake2bVarCore::transcript(rt.alloc(), input, output_size).expect(
-            rt,
-            "room for a transcript",
-        )
-    }
-
-    fn is_read(rt: &(impl Abort + AllocGlobal), told: &Transcript<u64, 128>) -> bool {
-        let read = Blake2bVarCore::read_transcript(rt.alloc(), told);
-        let Some(read) = read.expect(rt, "room for a reading") else {
-            return false;
-        };
-        let written = Self::written(rt, &read_input(&read), read.output_size);
-        assert!(rt; written == *told, "{told:?}");
-        true
-    }
-}
-
-impl Steps<u32, 64> for Blake2sVarCore {
-    fn turned(words: &[u32; 8], place: usize, bit: usize) -> [u32; 8] {
-        let mut turned = *words;
-        if let Some(word) = turned.get_mut(place) {
-            *word ^= 1u32.wrapping_shl((bit % 32) as u32);
-        }
-        turned
-    }
-
-    fn written(
-        rt: &(impl Abort + AllocGlobal),
-        input: &Input<'_>,
-        output_size: usize,
-    ) -> Transcript<u32, 64> {
-        assert!(rt; Blake2sVarCore::accepts(input) && output_size <= 32);
-        Blake2sVarCore::transcript(rt.alloc(), input, output_size).expect(
-            rt,
-            "room for a transcript",
-        )
-    }
-
-    fn is_read(rt: &(impl Abort + AllocGlobal), told: &Transcript<u32, 64>) -> bool {
-        let read = Blake2sVarCore::read_transcript(rt.alloc(), told);
-        let Some(read) = read.expect(rt, "room for a reading") else {
-            return false;
-        };
-        let written = Self::written(rt, &read_input(&read), read.output_size);
-        assert!(rt; written == *told, "{told:?}");
-        true
-    }
-}
-
 // Whether the transcript is read under these words, with another entry at this index.
-fn is_read_with<C: Steps<W, B>, W: Copy + Drop, const B: usize>(
+fn is_read_with<W: Word<B>, const B: usize>(
     rt: &(impl Abort + AllocGlobal),
     told: &Transcript<W, B>,
     words: [W; 8],
@@ -103,11 +23,11 @@ fn is_read_with<C: Steps<W, B>, W: Copy + Drop, const B: usize>(
     if let Some(other) = changed.entries.get_mut(place) {
         *other = entry;
     }
-    C::is_read(rt, &changed)
+    W::is_read(rt, &changed)
 }
 
 // Whether the transcript is read with two entries exchanged.
-fn is_read_swapped<C: Steps<W, B>, W: Copy + Drop, const B: usize>(
+fn is_read_swapped<W: Word<B>, const B: usize>(
     rt: &(impl Abort + AllocGlobal),
     told: &Transcript<W, B>,
     i: usize,
@@ -120,13 +40,13 @@ fn is_read_swapped<C: Steps<W, B>, W: Copy + Drop, const B: usize>(
     if i < entries.len() && j < entries.len() {
         entries.swap(i, j);
     }
-    C::is_read(rt, &changed)
+    W::is_read(rt, &changed)
 }
 
 // How many transcripts are read of those with one bit of a word turned: of the sizes that the
 // first word begins with, and of the words of salt and persona. The words between are checked
 // separately. A word has B / 2 bits, since a block has sixteen words.
-fn read_words<C: Steps<W, B>, W: Copy + Drop, const B: usize>(
+fn read_words<W: Word<B>, const B: usize>(
     rt: &(impl Abort + AllocGlobal),
     told: &Transcript<W, B>,
 ) -> (u32, u32)
@@ -139,8 +59,11 @@ fn read_words<C: Steps<W, B>, W: Copy + Drop, const B: usize>(
     };
     for place in 0..8 {
         for bit in 0..B / 2 {
-            let words = C::turned(&told.words, place, bit);
-            let is_read = is_read_with::<C, W, B>(rt, told, words, 0, *first);
+            let mut words = told.words;
+            if let Some(word) = words.get_mut(place) {
+                *word = word.turn(bit);
+            }
+            let is_read = is_read_with(rt, told, words, 0, *first);
             sizes = sizes.saturating_add(u32::from(is_read && place == 0 && bit < 16));
             texts = texts.saturating_add(u32::from(is_read && place >= 4));
         }
@@ -165,7 +88,7 @@ fn turned_entry<const B: usize>(entry: &Entry<B>, bit: usize) -> Entry<B> {
 
 // How many transcripts are read of those with one bit of an entry turned: of a counter, of one of
 // the two flags, and of a block.
-fn read_entries<C: Steps<W, B>, W: Copy + Drop, const B: usize>(
+fn read_entries<W: Word<B>, const B: usize>(
     rt: &(impl Abort + AllocGlobal),
     told: &Transcript<W, B>,
 ) -> (u32, u32, u32)
@@ -175,7 +98,7 @@ fn read_entries<C: Steps<W, B>, W: Copy + Drop, const B: usize>(
     for (place, entry) in told.entries.iter().enumerate() {
         for bit in 0..66 + 8 * B {
             let other = turned_entry(entry, bit);
-            let is_read = is_read_with::<C, W, B>(rt, told, told.words, place, other);
+            let is_read = is_read_with(rt, told, told.words, place, other);
             counters = counters.saturating_add(u32::from(is_read && bit < 64));
             flags = flags.saturating_add(u32::from(is_read && 64 <= bit && bit < 66));
             blocks = blocks.saturating_add(u32::from(is_read && 66 <= bit));
@@ -185,7 +108,7 @@ fn read_entries<C: Steps<W, B>, W: Copy + Drop, const B: usize>(
 }
 
 // Whether the transcript is read with these entries instead of its entries.
-fn is_read_of<C: Steps<W, B>, W: Copy + Drop, const B: usize>(
+fn is_read_of<W: Word<B>, const B: usize>(
     rt: &(impl Abort + AllocGlobal),
     told: &Transcript<W, B>,
     entries: &[Entry<B>],
@@ -193,11 +116,11 @@ fn is_read_of<C: Steps<W, B>, W: Copy + Drop, const B: usize>(
     requires { B ≤ 128 }
 {
     let changed = transcript(rt, told.words, entries);
-    C::is_read(rt, &changed)
+    W::is_read(rt, &changed)
 }
 
 // Whether the transcript is read with one more entry after its entries.
-fn is_read_longer<C: Steps<W, B>, W: Copy + Drop, const B: usize>(
+fn is_read_longer<W: Word<B>, const B: usize>(
     rt: &(impl Abort + AllocGlobal),
     told: &Transcript<W, B>,
     more: Entry<B>,
@@ -206,12 +129,12 @@ fn is_read_longer<C: Steps<W, B>, W: Copy + Drop, const B: usize>(
 {
     let mut longer = transcript(rt, told.words, told.entries.as_slice());
     longer.entries.push(more).expect(rt, "room for an entry");
-    C::is_read(rt, &longer)
+    W::is_read(rt, &longer)
 }
 
 // Checks that no other list of the same entries is read: none that lacks its first or its last
 // ones, none that has one of them twice, and none that has two of them exchanged.
-fn check_other_lists<C: Steps<W, B>, W: Copy + Drop, const B: usize>(
+fn check_other_lists<W: Word<B>, const B: usize>(
     rt: &(impl Abort + AllocGlobal),
     told: &Transcript<W, B>,
 )
@@ -219,86 +142,70 @@ fn check_other_lists<C: Steps<W, B>, W: Copy + Drop, const B: usize>(
 {
     let entries = told.entries.as_slice();
     for (i, first) in entries.iter().enumerate() {
-        let is_beginning_read = is_read_of::<C, W, B>(rt, told, &entries[..i]);
+        let is_beginning_read = is_read_of(rt, told, &entries[..i]);
         assert!(rt; !is_beginning_read, "{i}");
-        let is_end_read = is_read_of::<C, W, B>(rt, told, &entries[i + 1..]);
+        let is_end_read = is_read_of(rt, told, &entries[i + 1..]);
         assert!(rt; !is_end_read, "{i}");
-        assert!(rt; !is_read_longer::<C, W, B>(rt, told, *first), "{i}");
+        assert!(rt; !is_read_longer(rt, told, *first), "{i}");
         for j in 0..i {
-            assert!(rt; !is_read_swapped::<C, W, B>(rt, told, i, j), "{i} {j}");
+            assert!(rt; !is_read_swapped(rt, told, i, j), "{i} {j}");
         }
     }
 }
 
-// Checks a transcript that is read and all its changes, and how many of these are read.
-fn check_changes<C: Steps<W, B>, W: Copy + Drop, const B: usize>(
+// Checks the transcript of an input and all its changes, and how many of these are read.
+fn check_changes<W: Word<B>, const B: usize>(
     rt: &(impl Abort + AllocGlobal),
-    told: &Transcript<W, B>,
+    input: &Input<'_>,
+    output_size: usize,
     words: (u32, u32),
     entries: (u32, u32, u32),
 )
     requires { B ≤ 128 }
 {
-    assert!(rt; C::is_read(rt, told));
-    assert!(rt; read_words::<C, W, B>(rt, told) == words, "{words:?}");
-    assert!(rt; read_entries::<C, W, B>(rt, told) == entries, "{entries:?}");
-    check_other_lists::<C, W, B>(rt, told);
+    let told: Transcript<W, B> = W::written(rt, input, output_size);
+    assert!(rt; W::is_read(rt, &told));
+    assert!(rt; read_words(rt, &told) == words, "{words:?}");
+    assert!(rt; read_entries(rt, &told) == entries, "{entries:?}");
+    check_other_lists(rt, &told);
 }
 
 #[test]
 fn read_changed_transcripts_of_blake2b(rt: HostRuntime) {
     let message = [0x2a; 200];
-    for (key, salt, persona, length, words, entries) in [
-        (None, "", "", 128, (1, 256), (0, 1, 1024)),
-        (None, "", "", 129, (1, 256), (6, 1, 1032)),
-        (
-            Some(&[1u8][..]),
-            "abc",
-            "0123456789abcdef",
-            200,
-            (7, 256),
-            (5, 1, 1608),
-        ),
-    ] {
-        assert!(rt; length <= 200);
-        let input = input(key, salt.as_bytes(), persona.as_bytes(), &message[..length]);
-        let told = Blake2bVarCore::written(&rt, &input, 64);
-        check_changes::<Blake2bVarCore, u64, 128>(&rt, &told, words, entries);
-    }
+    let whole = unkeyed(&message[..128]);
+    check_changes::<u64, 128>(&rt, &whole, 64, (1, 256), (0, 1, 1024));
+    let longer = unkeyed(&message[..129]);
+    check_changes::<u64, 128>(&rt, &longer, 64, (1, 256), (6, 1, 1032));
+    let keyed = input(Some(&[1]), b"abc", b"0123456789abcdef", &message);
+    check_changes::<u64, 128>(&rt, &keyed, 64, (7, 256), (5, 1, 1608));
 }
 
 #[test]
 fn read_changed_transcripts_of_blake2s(rt: HostRuntime) {
-    let message = [0x2a; 200];
-    for (key, salt, persona, length, words, entries) in [
-        (None, "", "", 64, (1, 128), (0, 1, 512)),
-        (None, "", "", 65, (1, 128), (5, 1, 520)),
-        (
-            Some(&[1u8][..]),
-            "abc",
-            "01234567",
-            100,
-            (6, 128),
-            (4, 1, 808),
-        ),
-    ] {
-        assert!(rt; length <= 200);
-        let input = input(key, salt.as_bytes(), persona.as_bytes(), &message[..length]);
-        let told = Blake2sVarCore::written(&rt, &input, 32);
-        check_changes::<Blake2sVarCore, u32, 64>(&rt, &told, words, entries);
-    }
+    let message = [0x2a; 100];
+    let whole = unkeyed(&message[..64]);
+    check_changes::<u32, 64>(&rt, &whole, 32, (1, 128), (0, 1, 512));
+    let longer = unkeyed(&message[..65]);
+    check_changes::<u32, 64>(&rt, &longer, 32, (1, 128), (5, 1, 520));
+    let keyed = input(Some(&[1]), b"abc", b"01234567", &message);
+    check_changes::<u32, 64>(&rt, &keyed, 32, (6, 128), (4, 1, 808));
 }
 
-// Checks that a transcript is read, and the digest of all its entries: for each the counter, low
-// byte first, the flag and the block.
-fn check_long<C: Steps<W, B>, W: Copy + Drop, const B: usize>(
+// Checks that the transcript of 5,000 bytes is read, and the digest of all its entries: for each
+// the counter, low byte first, the flag and the block.
+fn check_long<W: Word<B>, const B: usize>(
     rt: &(impl Abort + AllocGlobal),
-    told: &Transcript<W, B>,
+    key: Option<&[u8]>,
+    output_size: usize,
     wanted: &str,
 )
     requires { B ≤ 128 }
 {
-    assert!(rt; C::is_read(rt, told), "{wanted}");
+    let mut message = [0; 5000];
+    count_up(&mut message);
+    let told: Transcript<W, B> = W::written(rt, &input(key, b"abc", b"", &message), output_size);
+    assert!(rt; W::is_read(rt, &told), "{wanted}");
     let mut bytes = Vec::new(rt.alloc());
     for entry in &told.entries {
         let counter = entry.counter.to_le_bytes();
@@ -313,24 +220,16 @@ fn check_long<C: Steps<W, B>, W: Copy + Drop, const B: usize>(
 
 #[test]
 fn read_long_transcripts_of_blake2b(rt: HostRuntime) {
-    let mut message = [0; 5000];
-    count_up(&mut message);
-    let told = Blake2bVarCore::written(&rt, &input(None, b"abc", b"", &message), 64);
     let wanted = "627c8498d916e3c73578b3d3a0867789b206876e18b85c6df87fd17b6ef61cf2";
-    check_long::<Blake2bVarCore, u64, 128>(&rt, &told, wanted);
-    let told = Blake2bVarCore::written(&rt, &input(Some(b"key"), b"abc", b"", &message), 64);
+    check_long::<u64, 128>(&rt, None, 64, wanted);
     let wanted = "39dfbca685e20c68df095466a71ddbe744b8709eceb51e17c600634eeeade99c";
-    check_long::<Blake2bVarCore, u64, 128>(&rt, &told, wanted);
+    check_long::<u64, 128>(&rt, Some(b"key"), 64, wanted);
 }
 
 #[test]
 fn read_long_transcripts_of_blake2s(rt: HostRuntime) {
-    let mut message = [0; 5000];
-    count_up(&mut message);
-    let told = Blake2sVarCore::written(&rt, &input(None, b"abc", b"", &message), 32);
     let wanted = "c41cdc40bb9aa198750f6166224cf6da97940a05281ff7770bc948b695cdf0ed";
-    check_long::<Blake2sVarCore, u32, 64>(&rt, &told, wanted);
-    let told = Blake2sVarCore::written(&rt, &input(Some(b"key"), b"abc", b"", &message), 32);
+    check_long::<u32, 64>(&rt, None, 32, wanted);
     let wanted = "b3c7f5521bfe970ac92d42852d1a70abbce5df9be93269d4ed4797656fa93b21";
-    check_long::<Blake2sVarCore, u32, 64>(&rt, &told, wanted);
+    check_long::<u32, 64>(&rt, Some(b"key"), 32, wanted);
 }

@@ -5,20 +5,20 @@ ghost use Rattle.std.specs.Prelude.{◌≡◌, ◌≤◌, [], length};
 
 use blake2::calls::Call;
 use blake2::digest::Update;
-pub(crate) use blake2::digest::padded;
+pub use blake2::digest::padded;
 use blake2::steps::{Entry, Input, Reading, Step, Transcript, Tree};
-use blake2::{Blake2b256, Blake2bVarCore, Blake2sVarCore, Digest};
+use blake2::{Blake2b256, Digest};
 use std::process::Abort;
 
 /// The bytes 0 to 31.
-pub(crate) const KEY: [u8; 32] = [
+pub const KEY: [u8; 32] = [
     0, 1, 2, 3, 4, 5, 6, 7, 8, 9, 10, 11, 12, 13, 14, 15, 16, 17, 18, 19, 20, 21, 22, 23, 24, 25,
     26, 27, 28, 29, 30, 31,
 ];
 
 /// The words of BLAKE2b for the output size 64, a key of one byte, the salt `abc` and the persona
 /// `0123456789abcdef`.
-pub(crate) const WORDS: [u64; 8] = [
+pub const WORDS: [u64; 8] = [
     0x01010140,
     0,
     0,
@@ -30,7 +30,7 @@ pub(crate) const WORDS: [u64; 8] = [
 ];
 
 /// Calls that return the digest of `abc` twice, and then that of no bytes.
-pub(crate) const CALLS: [Call<'static>; 7] = [
+pub const CALLS: [Call<'static>; 7] = [
     Call::Update(0, b"ab"),
     Call::Clone(0),
     Call::Update(0, b"c"),
@@ -41,10 +41,10 @@ pub(crate) const CALLS: [Call<'static>; 7] = [
 ];
 
 /// Lengths in bytes about the ends of blocks, and of two blocks.
-pub(crate) const LENGTHS: [usize; 11] = [0, 1, 63, 64, 65, 127, 128, 129, 255, 256, 257];
+pub const LENGTHS: [usize; 11] = [0, 1, 63, 64, 65, 127, 128, 129, 255, 256, 257];
 
 /// A node's place: the eighth of its level, over leaves, in a tree of two levels.
-pub(crate) fn place() -> Tree {
+pub fn place() -> Tree {
     Tree {
         fanout: 3,
         depth: 2,
@@ -56,14 +56,20 @@ pub(crate) fn place() -> Tree {
 }
 
 /// Fills the bytes with 0 to 250, again and again.
-pub(crate) fn count_up(bytes: &mut [u8]) {
+pub fn count_up(bytes: &mut [u8]) {
     for (i, byte) in bytes.iter_mut().enumerate() {
         *byte = (i % 251) as u8;
     }
 }
 
+/// The number that a row begins with, and what is after it and a bar.
+pub fn numbered(row: &str) -> Option<(usize, &str)> {
+    let (number, rest) = row.split_once('|')?;
+    Some((number.parse().ok()?, rest))
+}
+
 /// Whether these digits, two for each byte, are the bytes in hexadecimal.
-pub(crate) fn reads(bytes: &[u8], digits: &str) -> bool {
+pub fn reads(bytes: &[u8], digits: &str) -> bool {
     let mut decoded = [0u8; 128];
     match decoded.get_mut(..bytes.len()) {
         Some(room) => hex::decode_to_slice(digits, room).is_ok() && *room == *bytes,
@@ -72,17 +78,17 @@ pub(crate) fn reads(bytes: &[u8], digits: &str) -> bool {
 }
 
 /// Checks that these digits are the bytes, as `reads` returns.
-pub(crate) fn check_digits(rt: &impl Abort, bytes: &[u8], digits: &str) {
+pub fn check_digits(rt: &impl Abort, bytes: &[u8], digits: &str) {
     assert!(rt; reads(bytes, digits), "not {digits}");
 }
 
 /// Checks that BLAKE2b-256 of the bytes is this in hexadecimal.
-pub(crate) fn check_digest_of(rt: &impl Abort, bytes: &[u8], wanted: &str) {
+pub fn check_digest_of(rt: &impl Abort, bytes: &[u8], wanted: &str) {
     check_digits(rt, &Blake2b256::digest(bytes), wanted);
 }
 
 /// Absorbs a short piece, if few bytes are counted so far, and checks the new count.
-pub(crate) fn take<S: Update>(rt: &impl Abort, state: &mut S, piece: &[u8]) {
+pub fn take<S: Update>(rt: &impl Abort, state: &mut S, piece: &[u8]) {
     let before = state.counted();
     assert!(rt; before <= 0x10_0000 && piece.len() <= 0x1000);
     state.update(piece);
@@ -91,7 +97,7 @@ pub(crate) fn take<S: Update>(rt: &impl Abort, state: &mut S, piece: &[u8]) {
 }
 
 /// An input of these parts, of a hash that is the whole tree, with the last-node flag off.
-pub(crate) fn input<'a>(
+pub fn input<'a>(
     key: Option<&'a [u8]>,
     salt: &'a [u8],
     persona: &'a [u8],
@@ -111,7 +117,7 @@ pub(crate) fn input<'a>(
 }
 
 /// An input without key, salt and persona.
-pub(crate) fn unkeyed<'a>(message: &'a [u8]) -> Input<'a>
+pub fn unkeyed<'a>(message: &'a [u8]) -> Input<'a>
     ensures salt { result.salt.now ≡ [] }
     ensures persona { result.persona.now ≡ [] }
 {
@@ -119,7 +125,7 @@ pub(crate) fn unkeyed<'a>(message: &'a [u8]) -> Input<'a>
 }
 
 /// An entry whose block has zeros after these bytes, with the last-node flag off.
-pub(crate) fn entry<const B: usize>(beginning: &[u8], counter: u64, last: bool) -> Entry<B>
+pub fn entry<const B: usize>(beginning: &[u8], counter: u64, last: bool) -> Entry<B>
     requires { length beginning.now ≤ B }
 {
     Entry {
@@ -131,7 +137,7 @@ pub(crate) fn entry<const B: usize>(beginning: &[u8], counter: u64, last: bool) 
 }
 
 /// A transcript of these words and entries.
-pub(crate) fn transcript<W: Drop, const B: usize>(
+pub fn transcript<W: Drop, const B: usize>(
     rt: &(impl Abort + AllocGlobal),
     words: [W; 8],
     entries: &[Entry<B>],
@@ -141,7 +147,7 @@ pub(crate) fn transcript<W: Drop, const B: usize>(
 }
 
 /// A step whose block has zeros after these bytes, with the last-node flag off.
-pub(crate) fn step<W: Drop, const B: usize>(
+pub fn step<W: Drop, const B: usize>(
     chain: [W; 8],
     beginning: &[u8],
     counter: u64,
@@ -160,7 +166,7 @@ pub(crate) fn step<W: Drop, const B: usize>(
 
 /// A last step of BLAKE2b, whose chaining words are the start words after the first of them: IV's
 /// (RFC 7693, 2.6).
-pub(crate) fn blake2b_last(first_word: u64, beginning: &[u8], counter: u64) -> Step<u64, 128>
+pub fn blake2b_last(first_word: u64, beginning: &[u8], counter: u64) -> Step<u64, 128>
     requires { length beginning.now ≤ 128 }
 {
     let chain = [
@@ -177,7 +183,7 @@ pub(crate) fn blake2b_last(first_word: u64, beginning: &[u8], counter: u64) -> S
 }
 
 /// A last step of BLAKE2s, whose chaining words are the start words after the first of them.
-pub(crate) fn blake2s_last(first_word: u32, beginning: &[u8], counter: u64) -> Step<u32, 64>
+pub fn blake2s_last(first_word: u32, beginning: &[u8], counter: u64) -> Step<u32, 64>
     requires { length beginning.now ≤ 64 }
 {
     let chain = [
@@ -188,7 +194,7 @@ pub(crate) fn blake2s_last(first_word: u32, beginning: &[u8], counter: u64) -> S
 }
 
 /// What a transcript of this input and output size is read as.
-pub(crate) fn reading<const S: usize>(
+pub fn reading<const S: usize>(
     rt: &(impl Abort + AllocGlobal),
     input: &Input<'_>,
     output_size: usize,
@@ -213,7 +219,7 @@ pub(crate) fn reading<const S: usize>(
 }
 
 /// The input that a reading names.
-pub(crate) fn read_input<'a, const S: usize>(read: &'a Reading<S>) -> Input<'a> {
+pub fn read_input<'a, const S: usize>(read: &'a Reading<S>) -> Input<'a> {
     let key = match &read.key {
         Some(key) => Some(key.as_slice()),
         None => None,
@@ -223,32 +229,4 @@ pub(crate) fn read_input<'a, const S: usize>(read: &'a Reading<S>) -> Input<'a> 
         last_node: read.last_node,
         ..input(key, &read.salt, &read.persona, read.message.as_slice())
     }
-}
-
-/// Whether BLAKE2b reads the transcript as this input, which it accepts, at this output size.
-pub(crate) fn blake2b_reads_as(
-    rt: &(impl Abort + AllocGlobal),
-    told: &Transcript<u64, 128>,
-    input: &Input<'_>,
-    output_size: usize,
-) -> bool {
-    if !Blake2bVarCore::accepts(input) {
-        return false;
-    }
-    let wanted = reading(rt, input, output_size);
-    Blake2bVarCore::read_transcript(rt.alloc(), told) == Ok(Some(wanted))
-}
-
-/// Whether BLAKE2s reads the transcript as this input, which it accepts, at this output size.
-pub(crate) fn blake2s_reads_as(
-    rt: &(impl Abort + AllocGlobal),
-    told: &Transcript<u32, 64>,
-    input: &Input<'_>,
-    output_size: usize,
-) -> bool {
-    if !Blake2sVarCore::accepts(input) {
-        return false;
-    }
-    let wanted = reading(rt, input, output_size);
-    Blake2sVarCore::read_transcript(rt.alloc(), told) == Ok(Some(wanted))
 }

@@ -14,13 +14,15 @@ mod calls;
 #[cfg(test)]
 mod copies;
 #[cfg(test)]
+mod families;
+#[cfg(test)]
 mod flags;
 #[cfg(test)]
 mod forged;
 #[cfg(test)]
 mod hashers;
-#[cfg(test)]
-mod inputs;
+pub mod hoards;
+pub mod inputs;
 #[cfg(test)]
 mod lanes;
 #[cfg(test)]

@@ -3,6 +3,7 @@
 
 ghost use Rattle.std.specs.Prelude.{◌≤◌};
 
+use crate::hoards::{SPARE_BYTES, TRIES, hoard, is_refused, plug};
 use crate::inputs::{
     CALLS, WORDS, blake2b_last, blake2s_last, entry, input, reading, transcript, unkeyed,
 };
@@ -11,39 +12,6 @@ use blake2::steps::{Input, Reading, Transcript};
 use blake2::{Blake2b512, Blake2bVarCore, Blake2sVarCore, Digest};
 use std::alloc::{AllocError, Global};
 use std::process::Abort;
-
-// Allocates all memory of the process except 65,536 bytes that lie together, in blocks that
-// halve, down to the smallest.
-//
-// A process has 2^47 bytes of addresses, and a machine with a GiB of memory grants blocks of half
-// of that, so that 300,000 blocks are enough; there is room for them from the start. The turns
-// are more than the blocks and the sizes together, so that the smallest size ends the loop.
-fn hoard(alloc: Global) -> Result<Vec<Vec<u8>>, AllocError> {
-    let mut blocks = Vec::with_capacity(alloc, 300_000)?;
-    let spare: Vec<u8> = Vec::with_capacity(alloc, 65536)?;
-    let mut size = 1usize << 46;
-    for _ in 0..400_000 {
-        if size < 16 {
-            break;
-        }
-        match Vec::with_capacity(alloc, size) {
-            Ok(block) => blocks.push(block)?,
-            Err(_) => size /= 2,
-        }
-    }
-    drop(spare);
-    Ok(blocks)
-}
-
-// Allocates what a hoard left, except a number of bytes.
-fn plug(alloc: Global, left: usize) -> Result<Vec<u8>, AllocError>
-    requires { left ≤ 65536 }
-{
-    Vec::with_capacity(alloc, 65536 - left)
-}
-
-// Under a hoard each try has 16 bytes more than the one before, and the first has none.
-const TRIES: usize = 512;
 
 // What a try finds: the result, a refused allocation, or anything else.
 #[derive(Copy, Clone, PartialEq, Eq)]
@@ -65,13 +33,6 @@ fn check_found(rt: &impl Abort, found: &[Found]) {
         }
     }
     assert!(rt; 0 < refused && refused < found.len(), "{refused}");
-}
-
-// Whether requests for a byte of memory, and for sixteen, are refused.
-fn is_refused(alloc: Global) -> bool {
-    let one: Result<Vec<u8>, AllocError> = Vec::with_capacity(alloc, 1);
-    let sixteen: Result<Vec<u8>, AllocError> = Vec::with_capacity(alloc, 16);
-    one.is_err() && sixteen.is_err()
 }
 
 // BLAKE2b-512 of `abc` and of no bytes, from `hashlib`.
@@ -108,7 +69,7 @@ fn replay_with(alloc: Global, left: usize) -> Found
 #[test]
 fn refuse_memory_to_replay(rt: HostRuntime) {
     let mut found = [Found::Other; TRIES];
-    let hoard = hoard(rt.alloc()).expect(&rt, "room for the hoard");
+    let hoard = hoard(rt.alloc(), SPARE_BYTES).expect(&rt, "room for the hoard");
     for tries in 0..TRIES {
         found[tries] = replay_with(rt.alloc(), 16 * tries);
     }
@@ -171,7 +132,7 @@ fn replay_bad_with(alloc: Global, left: usize) -> Found
 #[test]
 fn refuse_no_memory_before_a_bad_call(rt: HostRuntime) {
     let mut found = [Found::Other; TRIES];
-    let hoard = hoard(rt.alloc()).expect(&rt, "room for the hoard");
+    let hoard = hoard(rt.alloc(), SPARE_BYTES).expect(&rt, "room for the hoard");
     for tries in 0..TRIES {
         found[tries] = replay_bad_with(rt.alloc(), 16 * tries);
     }
@@ -232,7 +193,7 @@ fn refuse_memory_to_transcripts_and_their_reader(rt: HostRuntime) {
     let wanted = transcript(&rt, WORDS, &entries);
     let wanted_reading = reading(&rt, &input, 64);
     let (mut written, mut read) = ([Found::Other; TRIES], [Found::Other; TRIES]);
-    let hoard = hoard(alloc).expect(&rt, "room for the hoard");
+    let hoard = hoard(alloc, SPARE_BYTES).expect(&rt, "room for the hoard");
     for tries in 0..TRIES {
         written[tries] = transcript_with(alloc, 16 * tries, &input, &wanted);
         read[tries] = reading_with(alloc, 16 * tries, &wanted, &wanted_reading);
@@ -277,7 +238,7 @@ fn read_no_input_without_memory(rt: HostRuntime) {
     let alloc = rt.alloc();
     let told = forged(&rt);
     let mut are_read = true;
-    let hoard = hoard(alloc).expect(&rt, "room for the hoard");
+    let hoard = hoard(alloc, SPARE_BYTES).expect(&rt, "room for the hoard");
     let plug = plug(alloc, 0).expect(&rt, "a plug");
     let refused_before = is_refused(alloc);
     for transcript in &told {
@@ -320,7 +281,7 @@ fn blake2s_witnesses(alloc: Global) -> bool {
 #[test]
 fn witness_without_memory(rt: HostRuntime) {
     let alloc = rt.alloc();
-    let hoard = hoard(alloc).expect(&rt, "room for the hoard");
+    let hoard = hoard(alloc, SPARE_BYTES).expect(&rt, "room for the hoard");
     let plug = plug(alloc, 0).expect(&rt, "a plug");
     let refused_before = is_refused(alloc);
     let by_blake2b = blake2b_witnesses(alloc);

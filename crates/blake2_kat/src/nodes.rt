@@ -4,12 +4,12 @@
 
 ghost use Rattle.std.specs.Prelude.{◌≤◌};
 
+use crate::families::Word;
 use crate::inputs::{
-    blake2b_last, blake2b_reads_as, blake2s_reads_as, check_digest_of, count_up, entry, input,
-    transcript, unkeyed,
+    blake2b_last, check_digest_of, count_up, entry, input, transcript, unkeyed,
 };
-use blake2::steps::{Entry, Input, Step, Tree};
-use blake2::{Blake2b512, Blake2bVarCore, Blake2s256, Blake2sVarCore, Digest, LastNode};
+use blake2::Blake2bVarCore;
+use blake2::steps::{Entry, Input, Step, Transcript, Tree};
 use std::process::Abort;
 
 // The tree parameters of the node with this number among 64, if node offsets have 64 bits less
@@ -41,93 +41,60 @@ fn add_entries<const B: usize>(rt: &impl Abort, bytes: &mut Vec<u8>, entries: &[
     }
 }
 
-// Adds BLAKE2b's digest of a node, and the words and the entries of its transcript, and checks that
-// this is read as the node.
-fn add_node_of_blake2b(
+// Checks the digests over 64 nodes' digests, and over the words and the entries of their
+// transcripts, and that these are read as the nodes. Node offsets have 64 bits less `shift`, outputs
+// `longest` bytes, and salts and personas fewer than `texts` bytes.
+fn check_nodes<W: Word<B>, const B: usize>(
     rt: &(impl Abort + AllocGlobal),
-    node: &Input<'_>,
-    outputs: &mut Vec<u8>,
-    transcripts: &mut Vec<u8>,
-) {
-    assert!(rt; Blake2bVarCore::accepts(node) && Blake2bVarCore::admits_tree(&node.tree));
-    let mut hasher = Blake2b512::new_with_tree(node.salt, node.persona, &node.tree);
-    hasher.set_last_node(node.last_node);
-    Digest::update(&mut hasher, node.message);
-    add(rt, outputs, &hasher.finalize());
-    let told = Blake2bVarCore::transcript(rt.alloc(), node, 64);
-    let told = told.expect(rt, "room for a transcript");
-    let words = told.words.map(|word| word.to_le_bytes());
-    add(rt, transcripts, words.as_flattened());
-    add_entries(rt, transcripts, told.entries.as_slice());
-    let is_read = blake2b_reads_as(rt, &told, node, 64);
-    assert!(rt; is_read, "{} bytes", node.message.len());
+    shift: u32,
+    longest: u8,
+    texts: usize,
+    wanted: [&str; 2],
+)
+    requires block { B ≤ 128 }
+    requires least { 1 ≤ texts }
+    requires most { texts ≤ 17 }
+{
+    let mut bytes = [0; 320];
+    count_up(&mut bytes);
+    let (mut outputs, mut transcripts) = (Vec::new(rt.alloc()), Vec::new(rt.alloc()));
+    for number in 0..64u8 {
+        let i = number as usize;
+        let (salt, persona) = (&bytes[..i % texts], &bytes[..2 * i % texts]);
+        let node = Input {
+            tree: place(number, shift, u32::from(longest)),
+            last_node: i % 3 == 0,
+            ..input(None, salt, persona, &bytes[..5 * i])
+        };
+        add(rt, &mut outputs, W::digest(rt, &node).as_slice());
+        let told: Transcript<W, B> = W::written(rt, &node, usize::from(longest));
+        for word in told.words {
+            add(rt, &mut transcripts, &word.to_bytes()[..B / 16]);
+        }
+        add_entries(rt, &mut transcripts, told.entries.as_slice());
+        let is_read = W::is_read_as(rt, &told, &node, usize::from(longest));
+        assert!(rt; is_read, "{} bytes", node.message.len());
+    }
+    check_digest_of(rt, outputs.as_slice(), wanted[0]);
+    check_digest_of(rt, transcripts.as_slice(), wanted[1]);
 }
 
 #[test]
 fn hash_nodes_of_blake2b(rt: HostRuntime) {
-    let mut bytes = [0; 320];
-    count_up(&mut bytes);
-    let (mut outputs, mut transcripts) = (Vec::new(rt.alloc()), Vec::new(rt.alloc()));
-    for number in 0..64u8 {
-        let i = number as usize;
-        let node = Input {
-            tree: place(number, 0, 64),
-            last_node: i % 3 == 0,
-            ..input(
-                None,
-                &bytes[..i % 17],
-                &bytes[..2 * i % 17],
-                &bytes[..5 * i],
-            )
-        };
-        add_node_of_blake2b(&rt, &node, &mut outputs, &mut transcripts);
-    }
-    let wanted = "743494e239b845379ce3db0c03d9c6c6828864db7264aedb66b4fa41ec51901d";
-    check_digest_of(&rt, outputs.as_slice(), wanted);
-    let wanted = "9dc50af7ecb732cdb106a820c118ee976b365e5733a15eb5a95d514e6236a0db";
-    check_digest_of(&rt, transcripts.as_slice(), wanted);
-}
-
-// Adds BLAKE2s's digest of a node, and the words and the entries of its transcript, and checks that
-// this is read as the node.
-fn add_node_of_blake2s(
-    rt: &(impl Abort + AllocGlobal),
-    node: &Input<'_>,
-    outputs: &mut Vec<u8>,
-    transcripts: &mut Vec<u8>,
-) {
-    assert!(rt; Blake2sVarCore::accepts(node) && Blake2sVarCore::admits_tree(&node.tree));
-    let mut hasher = Blake2s256::new_with_tree(node.salt, node.persona, &node.tree);
-    hasher.set_last_node(node.last_node);
-    Digest::update(&mut hasher, node.message);
-    add(rt, outputs, &hasher.finalize());
-    let told = Blake2sVarCore::transcript(rt.alloc(), node, 32);
-    let told = told.expect(rt, "room for a transcript");
-    let words = told.words.map(|word| word.to_le_bytes());
-    add(rt, transcripts, words.as_flattened());
-    add_entries(rt, transcripts, told.entries.as_slice());
-    let is_read = blake2s_reads_as(rt, &told, node, 32);
-    assert!(rt; is_read, "{} bytes", node.message.len());
+    let wanted = [
+        "743494e239b845379ce3db0c03d9c6c6828864db7264aedb66b4fa41ec51901d",
+        "9dc50af7ecb732cdb106a820c118ee976b365e5733a15eb5a95d514e6236a0db",
+    ];
+    check_nodes::<u64, 128>(&rt, 0, 64, 17, wanted);
 }
 
 #[test]
 fn hash_nodes_of_blake2s(rt: HostRuntime) {
-    let mut bytes = [0; 320];
-    count_up(&mut bytes);
-    let (mut outputs, mut transcripts) = (Vec::new(rt.alloc()), Vec::new(rt.alloc()));
-    for number in 0..64u8 {
-        let i = number as usize;
-        let node = Input {
-            tree: place(number, 16, 32),
-            last_node: i % 3 == 0,
-            ..input(None, &bytes[..i % 9], &bytes[..2 * i % 9], &bytes[..5 * i])
-        };
-        add_node_of_blake2s(&rt, &node, &mut outputs, &mut transcripts);
-    }
-    let wanted = "d2d1ec99c81c273452aa7241f907a5dabf6cc3a797c4fef5894148c7d8a4194a";
-    check_digest_of(&rt, outputs.as_slice(), wanted);
-    let wanted = "2aa6df9354f3469b353a468efcf02435da6adc234e18c1d3efe639626d6a8b13";
-    check_digest_of(&rt, transcripts.as_slice(), wanted);
+    let wanted = [
+        "d2d1ec99c81c273452aa7241f907a5dabf6cc3a797c4fef5894148c7d8a4194a",
+        "2aa6df9354f3469b353a468efcf02435da6adc234e18c1d3efe639626d6a8b13",
+    ];
+    check_nodes::<u32, 64>(&rt, 16, 32, 9, wanted);
 }
 
 // Tree parameters of depth 1 with this fanout, leaf length, node offset, node depth and inner
@@ -153,7 +120,7 @@ fn blake2b_reads(
 ) -> bool {
     let told = transcript(rt, words, entries);
     match wanted {
-        Some(input) => blake2b_reads_as(rt, &told, &input, 64),
+        Some(input) => u64::is_read_as(rt, &told, &input, 64),
         None => Blake2bVarCore::read_transcript(rt.alloc(), &told) == Ok(None),
     }
 }

@@ -3,50 +3,24 @@
 
 ghost use Rattle.std.specs.Prelude.{◌≤◌};
 
-use crate::inputs::{
-    WORDS, blake2b_reads_as, blake2s_reads_as, count_up, entry, input, transcript, unkeyed,
-};
-use blake2::laws::transcripts;
+use crate::families::Word;
+use crate::inputs::{WORDS, count_up, entry, input, transcript, unkeyed};
 use blake2::steps::{Entry, Input, Transcript};
-use blake2::{Blake2bVarCore, Blake2sVarCore};
 use std::process::Abort;
 
-// BLAKE2b writes the transcript of these words and entries for the input, and reads it as that.
-fn check_blake2b(
+// The transcript of these words and entries is written for the input, and is read as that.
+fn check<W: Word<B>, const B: usize>(
     rt: &(impl Abort + AllocGlobal),
     input: &Input<'_>,
     output_size: usize,
-    words: [u64; 8],
-    entries: &[Entry<128>],
-)
-    requires { output_size ≤ 64 }
-{
-    assert!(rt; Blake2bVarCore::accepts(input));
+    words: [W; 8],
+    entries: &[Entry<B>],
+) {
     let wanted = transcript(rt, words, entries);
-    let written = Blake2bVarCore::transcript(rt.alloc(), input, output_size);
-    let written = written.expect(rt, "room for a transcript");
+    let written = W::written(rt, input, output_size);
     assert!(rt; written == wanted, "{written:?}");
-    assert!(rt; transcripts::blake2b::equal(&written, &wanted));
-    assert!(rt; blake2b_reads_as(rt, &wanted, input, output_size));
-}
-
-// BLAKE2s writes the transcript of these words and entries for the input, and reads it as that.
-fn check_blake2s(
-    rt: &(impl Abort + AllocGlobal),
-    input: &Input<'_>,
-    output_size: usize,
-    words: [u32; 8],
-    entries: &[Entry<64>],
-)
-    requires { output_size ≤ 32 }
-{
-    assert!(rt; Blake2sVarCore::accepts(input));
-    let wanted = transcript(rt, words, entries);
-    let written = Blake2sVarCore::transcript(rt.alloc(), input, output_size);
-    let written = written.expect(rt, "room for a transcript");
-    assert!(rt; written == wanted, "{written:?}");
-    assert!(rt; transcripts::blake2s::equal(&written, &wanted));
-    assert!(rt; blake2s_reads_as(rt, &wanted, input, output_size));
+    assert!(rt; W::are_equal(&written, &wanted));
+    assert!(rt; W::is_read_as(rt, &wanted, input, output_size));
 }
 
 #[test]
@@ -55,12 +29,12 @@ fn write_and_read_messages_of_blake2b(rt: HostRuntime) {
     let block = &message[..128];
     let words = [0x01010040, 0, 0, 0, 0, 0, 0, 0];
     let entries = [entry(block, 128, true)];
-    check_blake2b(&rt, &unkeyed(block), 64, words, &entries);
+    check::<u64, 128>(&rt, &unkeyed(block), 64, words, &entries);
     let entries = [entry(block, 128, false), entry(&[0x2a], 129, true)];
-    check_blake2b(&rt, &unkeyed(&message), 64, words, &entries);
+    check::<u64, 128>(&rt, &unkeyed(&message), 64, words, &entries);
     let words = [0x01010010, 0, 0, 0, 0, 0, 0, 0];
     let entries = [entry(b"", 128, false), entry(b"", 256, true)];
-    check_blake2b(&rt, &unkeyed(&[0; 256]), 16, words, &entries);
+    check::<u64, 128>(&rt, &unkeyed(&[0; 256]), 16, words, &entries);
 }
 
 #[test]
@@ -69,18 +43,18 @@ fn write_and_read_messages_of_blake2s(rt: HostRuntime) {
     let block = &message[..64];
     let words = [0x01010020, 0, 0, 0, 0, 0, 0, 0];
     let entries = [entry(block, 64, true)];
-    check_blake2s(&rt, &unkeyed(block), 32, words, &entries);
+    check::<u32, 64>(&rt, &unkeyed(block), 32, words, &entries);
     let (input, entries) = (
         unkeyed(&message[..128]),
         [entry(block, 64, false), entry(block, 128, true)],
     );
-    check_blake2s(&rt, &input, 32, words, &entries);
+    check::<u32, 64>(&rt, &input, 32, words, &entries);
     let entries = [
         entry(block, 64, false),
         entry(block, 128, false),
         entry(&[0x2a], 129, true),
     ];
-    check_blake2s(&rt, &unkeyed(&message), 32, words, &entries);
+    check::<u32, 64>(&rt, &unkeyed(&message), 32, words, &entries);
 }
 
 #[test]
@@ -90,10 +64,10 @@ fn write_and_read_a_key_and_a_persona(rt: HostRuntime) {
     let input = input(Some(&key), b"", b"personal", b"");
     let words = [0x01012040, 0, 0, 0, 0, 0, 0x6c616e6f73726570, 0];
     let entries = [entry(&key, 128, true)];
-    check_blake2b(&rt, &input, 64, words, &entries);
+    check::<u64, 128>(&rt, &input, 64, words, &entries);
     let words = [0x01012020, 0, 0, 0, 0, 0, 0x73726570, 0x6c616e6f];
     let entries = [entry(&key, 64, true)];
-    check_blake2s(&rt, &input, 32, words, &entries);
+    check::<u32, 64>(&rt, &input, 32, words, &entries);
 }
 
 #[test]
@@ -105,7 +79,7 @@ fn write_and_read_all_parts_of_blake2b(rt: HostRuntime) {
         entry(&message[..128], 256, false),
         entry(&message[..72], 328, true),
     ];
-    check_blake2b(&rt, &input, 64, WORDS, &entries);
+    check::<u64, 128>(&rt, &input, 64, WORDS, &entries);
 }
 
 #[test]
@@ -118,14 +92,16 @@ fn write_and_read_all_parts_of_blake2s(rt: HostRuntime) {
         entry(&message[..64], 128, false),
         entry(&message[..36], 164, true),
     ];
-    check_blake2s(&rt, &input, 32, words, &entries);
+    check::<u32, 64>(&rt, &input, 32, words, &entries);
 }
 
-// Whether some input of BLAKE2b has a transcript of these words and entries.
-fn blake2b_reads(rt: &(impl Abort + AllocGlobal), words: [u64; 8], entries: &[Entry<128>]) -> bool {
-    let told = transcript(rt, words, entries);
-    let read = Blake2bVarCore::read_transcript(rt.alloc(), &told);
-    read.expect(rt, "room for a reading").is_some()
+// Whether some input has a transcript of these words and entries.
+fn is_read<W: Word<B>, const B: usize>(
+    rt: &(impl Abort + AllocGlobal),
+    words: [W; 8],
+    entries: &[Entry<B>],
+) -> bool {
+    W::is_read(rt, &transcript(rt, words, entries))
 }
 
 #[test]
@@ -138,7 +114,7 @@ fn read_no_input_from_other_words(rt: HostRuntime) {
         (0x01014140, 0, false),
     ] {
         let words = [first, second, 0, 0, 0, 0, 0, 0];
-        let read = blake2b_reads(&rt, words, &entries);
+        let read = is_read::<u64, 128>(&rt, words, &entries);
         assert!(rt; read == is_read, "{first:x} {second}");
     }
 }
@@ -153,7 +129,7 @@ fn read_no_sizes_past_the_limits(rt: HostRuntime) {
         (0x01010040, true),
         (0x01010041, false),
     ] {
-        let read = blake2b_reads(&rt, [first, 0, 0, 0, 0, 0, 0, 0], &entries);
+        let read = is_read::<u64, 128>(&rt, [first, 0, 0, 0, 0, 0, 0, 0], &entries);
         assert!(rt; read == is_read, "BLAKE2b {first:x}");
     }
     let entries = [entry(b"", 64, true)];
@@ -172,7 +148,7 @@ fn read_no_sizes_past_the_limits(rt: HostRuntime) {
 #[test]
 fn read_no_input_from_other_entries(rt: HostRuntime) {
     let words = [0x01010040, 0, 0, 0, 0, 0, 0, 0];
-    assert!(rt; !blake2b_reads(&rt, words, &[]));
+    assert!(rt; !is_read::<u64, 128>(&rt, words, &[]));
     let first = [0x2a; 128];
     for (first_is_last, counter, is_read) in [
         (false, 129, true),
@@ -183,17 +159,17 @@ fn read_no_input_from_other_entries(rt: HostRuntime) {
             entry(&first, 128, first_is_last),
             entry(&[0x2a], counter, true),
         ];
-        let read = blake2b_reads(&rt, words, &entries);
+        let read = is_read::<u64, 128>(&rt, words, &entries);
         assert!(rt; read == is_read, "{first_is_last} {counter}");
     }
     for place in 1..128usize {
         let mut second = entry(&[0x2a], 129, true);
         second.block[place] = 1;
-        let read = blake2b_reads(&rt, words, &[entry(&first, 128, false), second]);
+        let read = is_read::<u64, 128>(&rt, words, &[entry(&first, 128, false), second]);
         assert!(rt; !read, "{place}");
     }
     for (counter, is_read) in [(128, true), (127, false)] {
-        let read = blake2b_reads(&rt, WORDS, &[entry(&[1], counter, true)]);
+        let read = is_read::<u64, 128>(&rt, WORDS, &[entry(&[1], counter, true)]);
         assert!(rt; read == is_read, "{counter}");
     }
 }
@@ -209,9 +185,7 @@ fn blake2s_told(
 
 // Whether some input of BLAKE2s has it.
 fn blake2s_reads(rt: &(impl Abort + AllocGlobal), first_word: u32, entries: &[Entry<64>]) -> bool {
-    let told = blake2s_told(rt, first_word, entries);
-    let read = Blake2sVarCore::read_transcript(rt.alloc(), &told);
-    read.expect(rt, "room for a reading").is_some()
+    u32::is_read(rt, &blake2s_told(rt, first_word, entries))
 }
 
 #[test]
@@ -220,7 +194,7 @@ fn read_a_key_of_a_zero_byte(rt: HostRuntime) {
     assert!(rt; !read);
     let input = input(Some(&[0]), b"", b"", b"");
     let told = blake2s_told(&rt, 0x01010120, &[entry(b"", 64, true)]);
-    assert!(rt; blake2s_reads_as(&rt, &told, &input, 32));
+    assert!(rt; u32::is_read_as(&rt, &told, &input, 32));
 }
 
 #[test]
@@ -230,5 +204,5 @@ fn read_zero_blocks(rt: HostRuntime) {
     let entries = [entry(b"", 64, false), entry(b"", 64, true)];
     assert!(rt; !blake2s_reads(&rt, 0x01010020, &entries));
     let told = blake2s_told(&rt, 0x01010000, &none);
-    assert!(rt; blake2s_reads_as(&rt, &told, &unkeyed(b""), 0));
+    assert!(rt; u32::is_read_as(&rt, &told, &unkeyed(b""), 0));
 }

@@ -4,60 +4,20 @@
 
 ghost use Rattle.std.specs.Prelude.{◌≤◌};
 
+use crate::families::Word;
 use crate::inputs::{blake2b_last, blake2s_last, input, padded, step, unkeyed};
-use blake2::steps::{Input, Step};
-use blake2::{Blake2b, Blake2bVarCore, Blake2sVarCore, Digest};
-use std::alloc::AllocError;
+use blake2::steps::Input;
+use blake2::{Blake2b, Digest};
 use std::process::Abort;
 
-// The witness of two inputs, which BLAKE2b is checked to accept.
-fn blake2b_witness(
-    rt: &(impl Abort + AllocGlobal),
-    a: &Input<'_>,
-    b: &Input<'_>,
-    output_size: usize,
-) -> Result<Option<(Step<u64, 128>, Step<u64, 128>)>, AllocError>
-    requires { output_size ≤ 64 }
-{
-    assert!(rt; Blake2bVarCore::accepts(a) && Blake2bVarCore::accepts(b));
-    Blake2bVarCore::witness(rt.alloc(), a, b, output_size)
-}
-
-// The witness of two inputs, which BLAKE2s is checked to accept.
-fn blake2s_witness(
-    rt: &(impl Abort + AllocGlobal),
-    a: &Input<'_>,
-    b: &Input<'_>,
-    output_size: usize,
-) -> Result<Option<(Step<u32, 64>, Step<u32, 64>)>, AllocError>
-    requires { output_size ≤ 32 }
-{
-    assert!(rt; Blake2sVarCore::accepts(a) && Blake2sVarCore::accepts(b));
-    Blake2sVarCore::witness(rt.alloc(), a, b, output_size)
-}
-
 // Whether two inputs have no witness.
-fn blake2b_has_none(
+fn have_none<W: Word<B>, const B: usize>(
     rt: &(impl Abort + AllocGlobal),
     a: &Input<'_>,
     b: &Input<'_>,
     output_size: usize,
-) -> bool
-    requires { output_size ≤ 64 }
-{
-    matches!(blake2b_witness(rt, a, b, output_size), Ok(None))
-}
-
-// The same for BLAKE2s.
-fn blake2s_has_none(
-    rt: &(impl Abort + AllocGlobal),
-    a: &Input<'_>,
-    b: &Input<'_>,
-    output_size: usize,
-) -> bool
-    requires { output_size ≤ 32 }
-{
-    matches!(blake2s_witness(rt, a, b, output_size), Ok(None))
+) -> bool {
+    matches!(W::witness(rt, a, b, output_size), Ok(None))
 }
 
 // An input that has only a salt.
@@ -78,25 +38,25 @@ fn witness_nothing(rt: HostRuntime) {
         (salted(b"a"), salted(b"a\0")),
     ] {
         let (length, salt) = (a.message.len(), a.salt.len());
-        let found = blake2b_has_none(&rt, &a, &b, 0) && blake2b_has_none(&rt, &a, &b, 64);
+        let found = have_none::<u64, 128>(&rt, &a, &b, 0) && have_none::<u64, 128>(&rt, &a, &b, 64);
         assert!(rt; found, "{length} {salt}");
-        let found = blake2s_has_none(&rt, &a, &b, 0) && blake2s_has_none(&rt, &a, &b, 32);
+        let found = have_none::<u32, 64>(&rt, &a, &b, 0) && have_none::<u32, 64>(&rt, &a, &b, 32);
         assert!(rt; found, "{length} {salt}");
     }
     let (a, b) = (unkeyed(b"abc"), unkeyed(b""));
-    assert!(rt; blake2b_has_none(&rt, &a, &b, 64));
-    assert!(rt; blake2s_has_none(&rt, &a, &b, 32));
+    assert!(rt; have_none::<u64, 128>(&rt, &a, &b, 64));
+    assert!(rt; have_none::<u32, 64>(&rt, &a, &b, 32));
 }
 
 #[test]
 fn witness_a_key_and_a_message_like_its_block(rt: HostRuntime) {
     let block: [u8; 128] = padded(b"a");
-    let found = blake2b_witness(&rt, &keyed(b"a"), &unkeyed(&block), 0);
+    let found = u64::witness(&rt, &keyed(b"a"), &unkeyed(&block), 0);
     let x = blake2b_last(0x6a09e667f2bdc808, b"a", 128);
     let y = blake2b_last(0x6a09e667f2bdc908, b"a", 128);
     assert!(rt; found == Ok(Some((x, y))));
     let block: [u8; 64] = padded(b"a");
-    let found = blake2s_witness(&rt, &keyed(b"a"), &unkeyed(&block), 0);
+    let found = u32::witness(&rt, &keyed(b"a"), &unkeyed(&block), 0);
     let x = blake2s_last(0x6b08e767, b"a", 64);
     let y = blake2s_last(0x6b08e667, b"a", 64);
     assert!(rt; found == Ok(Some((x, y))));
@@ -105,7 +65,7 @@ fn witness_a_key_and_a_message_like_its_block(rt: HostRuntime) {
 #[test]
 fn witness_different_numbers_of_steps(rt: HostRuntime) {
     let message = [0x2a; 129];
-    let found = blake2b_witness(&rt, &unkeyed(&message[..128]), &unkeyed(&message), 0);
+    let found = u64::witness(&rt, &unkeyed(&message[..128]), &unkeyed(&message), 0);
     let chain = [
         0x13673313fdf2b8ad,
         0xb2290069c00c8332,
@@ -148,5 +108,5 @@ fn witness_equal_digests_of_one_byte(rt: HostRuntime) {
     let (a, b) = (a.to_be_bytes(), b.to_be_bytes());
     let word = 0x6a09e667f2bdc909;
     let (x, y) = (blake2b_last(word, &a, 2), blake2b_last(word, &b, 2));
-    assert!(rt; blake2b_witness(&rt, &unkeyed(&a), &unkeyed(&b), 1) == Ok(Some((x, y))));
+    assert!(rt; u64::witness(&rt, &unkeyed(&a), &unkeyed(&b), 1) == Ok(Some((x, y))));
 }

@@ -2,7 +2,7 @@
 
 ghost use Rattle.std.specs.Prelude.{◌≤◌};
 
-use crate::inputs::{entry, input, reading, step, transcript, unkeyed};
+use blake2_kat::inputs::{entry, input, reading, step, transcript, unkeyed};
 use blake2::calls::{Call, ReplayFault};
 use blake2::digest::{InvalidLength, InvalidOutputSize, Lazy, MacError, TruncSide};
 use blake2::engine::{DeviceError, StreamFault};

@@ -10,10 +10,10 @@ mod derives;
 #[cfg(test)]
 mod engine;
 #[cfg(test)]
-mod inputs;
-#[cfg(test)]
 mod many;
 #[cfg(test)]
 mod state;
 #[cfg(test)]
 mod traits;
+#[cfg(test)]
+mod trees;

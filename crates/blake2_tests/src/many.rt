@@ -1,5 +1,65 @@
-//! Several messages in parallel, without and with keys.
+//! Several messages in parallel, without and with keys: inputs against the digests of Python's
+//! hashlib, each of 16 bytes, one after the other in hexadecimal.
+
+ghost use Rattle.std.specs.Prelude.{◌+◌, ◌≤◌};
 
 mod blake2b;
 mod blake2b_eight;
 mod blake2s;
+
+use blake2::steps::Input;
+use blake2_kat::inputs::{count_up, input, numbered, unkeyed};
+
+// Bytes that count up from 0, and begin anew after 250.
+fn counted() -> [u8; 4306] {
+    let mut bytes = [0; 4306];
+    count_up(&mut bytes);
+    bytes
+}
+
+// The first n bytes of a message: they count up from its start, and begin anew after 250.
+fn text<'a>(bytes: &'a [u8; 4306], start: usize, n: usize) -> &'a [u8]
+    requires start { start ≤ 210 }
+    requires bytes { n ≤ 4096 }
+{
+    &bytes[start..start + n]
+}
+
+// Eight inputs without keys, each of the first n bytes of its message.
+fn eight_of<'a>(bytes: &'a [u8; 4306], n: usize) -> [Input<'a>; 8]
+    requires { n ≤ 4096 }
+{
+    [
+        unkeyed(text(bytes, 0, n)),
+        input(None, b"salt", b"", text(bytes, 30, n)),
+        input(None, b"", b"persona", text(bytes, 60, n)),
+        input(None, b"01234567", b"76543210", text(bytes, 90, n)),
+        input(None, b"s", b"p", text(bytes, 120, n)),
+        input(None, b"", b"two", text(bytes, 150, n)),
+        input(None, b"saltier", b"", text(bytes, 180, n)),
+        unkeyed(text(bytes, 210, n)),
+    ]
+}
+
+// An input of these two.
+fn keyed<'a>(key: &'a [u8], message: &'a [u8]) -> Input<'a> {
+    input(Some(key), b"", b"", message)
+}
+
+// What a row says: what the inputs are, the length of their messages, and their digests.
+fn read_row(row: &str) -> (&str, usize, &str) {
+    let (what, rest) = row.split_once('|').unwrap_or((row, ""));
+    let (n, wanted) = numbered(rest).unwrap_or((usize::MAX, row));
+    (what, n, wanted)
+}
+
+// Makes the inputs what a row says. Under keys, each key is a byte shorter than the one before.
+// Every other node is the last of its level.
+fn make<'a>(inputs: &mut [Input<'a>], what: &str, key: &'a [u8]) {
+    for (j, input) in inputs.iter_mut().enumerate() {
+        if what == "keyed" {
+            input.key = key.get(j..);
+        }
+        input.last_node = what == "nodes" && j % 2 == 1;
+    }
+}

@@ -21,8 +21,6 @@ mod limits;
 pub mod nodes;
 pub mod plan;
 mod ranges;
-#[cfg(test)]
-mod tests;
 mod witness;
 
 pub use hasher::{TreeHasher, tree_root};

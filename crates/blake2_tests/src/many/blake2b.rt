@@ -1,59 +1,30 @@
-//! Inputs in parallel against the digests of Python's hashlib, each of 16 bytes, one after the
-//! other in hexadecimal.
+//! Four messages of BLAKE2b in parallel.
 
-ghost use Rattle.std.specs.Prelude.{◌+◌, ◌≤◌, ◌<◌};
+ghost use Rattle.std.specs.Prelude.{◌≤◌};
 
-use crate::inputs::{count_up, input, numbered};
+use super::{counted, keyed, make, read_row, text};
 use blake2::many::blake2b::{accepts_four, hash_four};
 use blake2::steps::Input;
-
-// Bytes that count up from 0, and begin anew after 250.
-fn counted() -> [u8; 4216] {
-    let mut bytes = [0; 4216];
-    count_up(&mut bytes);
-    bytes
-}
-
-// The first n bytes of message j: they count up from 40j, and begin anew after 250.
-fn text<'a>(bytes: &'a [u8; 4216], j: usize, n: usize) -> &'a [u8]
-    requires text { j < 4 }
-    requires bytes { n ≤ 4096 }
-{
-    &bytes[40 * j..40 * j + n]
-}
-
-fn unkeyed<'a>(salt: &'a [u8], persona: &'a [u8], message: &'a [u8]) -> Input<'a> {
-    input(None, salt, persona, message)
-}
-
-fn keyed<'a>(key: &'a [u8], message: &'a [u8]) -> Input<'a> {
-    input(Some(key), b"", b"", message)
-}
+use blake2_kat::inputs::{input, numbered, reads, unkeyed};
 
 // Inputs without keys, each of the first n bytes of its message.
-fn inputs_of<'a>(bytes: &'a [u8; 4216], n: usize) -> [Input<'a>; 4]
+fn inputs_of<'a>(bytes: &'a [u8; 4306], n: usize) -> [Input<'a>; 4]
     requires { n ≤ 4096 }
 {
     [
-        unkeyed(b"", b"", text(bytes, 0, n)),
-        unkeyed(b"salt", b"", text(bytes, 1, n)),
-        unkeyed(b"", b"persona", text(bytes, 2, n)),
-        unkeyed(b"0123456789abcdef", b"fedcba9876543210", text(bytes, 3, n)),
+        unkeyed(text(bytes, 0, n)),
+        input(None, b"salt", b"", text(bytes, 40, n)),
+        input(None, b"", b"persona", text(bytes, 80, n)),
+        input(None, b"0123456789abcdef", b"fedcba9876543210", text(bytes, 120, n)),
     ]
 }
 
 // Whether the inputs are accepted, and have these digests.
 fn digests_are(inputs: &[Input<'_>; 4], wanted: &str) -> bool {
-    if !accepts_four(inputs) {
-        return false;
-    }
-    let mut decoded = [0; 64];
-    let is_read = hex::decode_to_slice(wanted, &mut decoded).is_ok();
-    is_read && hash_four::<16>(inputs).as_flattened() == decoded.as_slice()
+    accepts_four(inputs) && reads(hash_four::<16>(inputs).as_flattened(), wanted)
 }
 
-// What the inputs are, the length of their messages, and their digests. Under keys, each key is a
-// byte shorter than the one before. Every other node is the last of its level.
+// What the inputs are, the length of their messages, and their digests.
 const DIGESTS: &str = "\
 unkeyed|0|cae66941d9efbd404e4d88758ea67670c8d682029e33a968ffedfdc5d3226a70\
 dc46b8aa218ba780ffa2d9b38e235d0455019f5c950b7e418c30981e11a09102\n\
@@ -74,16 +45,10 @@ fn hash_four_inputs(rt: HostRuntime) {
     let key = [7; 64];
     let bytes = counted();
     for row in DIGESTS.lines() {
-        let (what, rest) = row.split_once('|').unwrap_or((row, ""));
-        let (n, wanted) = numbered(rest).unwrap_or((usize::MAX, row));
+        let (what, n, wanted) = read_row(row);
         assert!(rt; n <= 4096, "{row}");
         let mut inputs = inputs_of(&bytes, n);
-        for (j, input) in inputs.iter_mut().enumerate() {
-            if what == "keyed" {
-                input.key = key.get(j..);
-            }
-            input.last_node = what == "nodes" && j % 2 == 1;
-        }
+        make(&mut inputs, what, &key);
         assert!(rt; digests_are(&inputs, wanted), "{n} bytes");
     }
 }
@@ -104,12 +69,12 @@ fn hash_four_that_count_alike(rt: HostRuntime) {
         let (n, wanted) = numbered(row).unwrap_or((usize::MAX, row));
         assert!(rt; n <= 3000, "{row}");
         let p0 = keyed(&key, text(&bytes, 0, n));
-        let p1 = unkeyed(b"", b"", text(&bytes, 1, n + 128));
-        let p2 = keyed(&key, text(&bytes, 2, n));
-        let p3 = unkeyed(b"", b"", text(&bytes, 3, n + 128));
+        let p1 = unkeyed(text(&bytes, 40, n + 128));
+        let p2 = keyed(&key, text(&bytes, 80, n));
+        let p3 = unkeyed(text(&bytes, 120, n + 128));
         let mut inputs = [p0, p1, p2, p3];
         assert!(rt; digests_are(&inputs, wanted), "{n} bytes");
-        inputs[3] = unkeyed(b"", b"", text(&bytes, 3, n + 129));
+        inputs[3] = unkeyed(text(&bytes, 120, n + 129));
         assert!(rt; !accepts_four(&inputs), "{n} bytes");
     }
 }

@@ -1,59 +1,16 @@
-//! Inputs in parallel against the digests of Python's hashlib, each of 16 bytes, one after the
-//! other in hexadecimal.
+//! Eight messages of BLAKE2b in parallel.
 
-ghost use Rattle.std.specs.Prelude.{◌+◌, ◌≤◌, ◌<◌};
-
-use crate::inputs::{count_up, input, numbered};
+use super::{counted, eight_of, make, read_row};
 use blake2::many::blake2b::eight::{accepts_eight, hash_eight};
 use blake2::steps::Input;
-
-// Bytes that count up from 0, and begin anew after 250.
-fn counted() -> [u8; 4306] {
-    let mut bytes = [0; 4306];
-    count_up(&mut bytes);
-    bytes
-}
-
-// The first n bytes of message j: they count up from 30j, and begin anew after 250.
-fn text<'a>(bytes: &'a [u8; 4306], j: usize, n: usize) -> &'a [u8]
-    requires text { j < 8 }
-    requires bytes { n ≤ 4096 }
-{
-    &bytes[30 * j..30 * j + n]
-}
-
-fn unkeyed<'a>(salt: &'a [u8], persona: &'a [u8], message: &'a [u8]) -> Input<'a> {
-    input(None, salt, persona, message)
-}
-
-// Inputs without keys, each of the first n bytes of its message.
-fn inputs_of<'a>(bytes: &'a [u8; 4306], n: usize) -> [Input<'a>; 8]
-    requires { n ≤ 4096 }
-{
-    [
-        unkeyed(b"", b"", text(bytes, 0, n)),
-        unkeyed(b"salt", b"", text(bytes, 1, n)),
-        unkeyed(b"", b"persona", text(bytes, 2, n)),
-        unkeyed(b"01234567", b"76543210", text(bytes, 3, n)),
-        unkeyed(b"s", b"p", text(bytes, 4, n)),
-        unkeyed(b"", b"two", text(bytes, 5, n)),
-        unkeyed(b"saltier", b"", text(bytes, 6, n)),
-        unkeyed(b"", b"", text(bytes, 7, n)),
-    ]
-}
+use blake2_kat::inputs::reads;
 
 // Whether the inputs are accepted, and have these digests.
 fn digests_are(inputs: &[Input<'_>; 8], wanted: &str) -> bool {
-    if !accepts_eight(inputs) {
-        return false;
-    }
-    let mut decoded = [0; 128];
-    let is_read = hex::decode_to_slice(wanted, &mut decoded).is_ok();
-    is_read && hash_eight::<16>(inputs).as_flattened() == decoded.as_slice()
+    accepts_eight(inputs) && reads(hash_eight::<16>(inputs).as_flattened(), wanted)
 }
 
-// What the inputs are, the length of their messages, and their digests. Under keys, each key is a
-// byte shorter than the one before. Every other node is the last of its level.
+// What the inputs are, the length of their messages, and their digests.
 const DIGESTS: &str = "\
 unkeyed|0|cae66941d9efbd404e4d88758ea67670c8d682029e33a968ffedfdc5d3226a70\
 dc46b8aa218ba780ffa2d9b38e235d046847c2d04a31f52ff8d0bd15911fb6ff\
@@ -86,16 +43,10 @@ fn hash_eight_inputs(rt: HostRuntime) {
     let key = [7; 32];
     let bytes = counted();
     for row in DIGESTS.lines() {
-        let (what, rest) = row.split_once('|').unwrap_or((row, ""));
-        let (n, wanted) = numbered(rest).unwrap_or((usize::MAX, row));
+        let (what, n, wanted) = read_row(row);
         assert!(rt; n <= 4096, "{row}");
-        let mut inputs = inputs_of(&bytes, n);
-        for (j, input) in inputs.iter_mut().enumerate() {
-            if what == "keyed" {
-                input.key = key.get(j..);
-            }
-            input.last_node = what == "nodes" && j % 2 == 1;
-        }
+        let mut inputs = eight_of(&bytes, n);
+        make(&mut inputs, what, &key);
         assert!(rt; digests_are(&inputs, wanted), "{n} bytes");
     }
 }

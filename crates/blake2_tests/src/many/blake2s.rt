@@ -1,63 +1,16 @@
-//! Inputs in parallel against the digests of Python's hashlib, each of 16 bytes, one after the
-//! other in hexadecimal.
+//! Eight messages of BLAKE2s in parallel.
 
-ghost use Rattle.std.specs.Prelude.{◌+◌, ◌≤◌, ◌<◌};
-
-use crate::inputs::{count_up, input, numbered};
+use super::{counted, eight_of, keyed, make, read_row, text};
 use blake2::many::blake2s::{accepts_eight, hash_eight};
 use blake2::steps::Input;
-
-// Bytes that count up from 0, and begin anew after 250.
-fn counted() -> [u8; 4306] {
-    let mut bytes = [0; 4306];
-    count_up(&mut bytes);
-    bytes
-}
-
-// The first n bytes of message j: they count up from 30j, and begin anew after 250.
-fn text<'a>(bytes: &'a [u8; 4306], j: usize, n: usize) -> &'a [u8]
-    requires text { j < 8 }
-    requires bytes { n ≤ 4096 }
-{
-    &bytes[30 * j..30 * j + n]
-}
-
-fn unkeyed<'a>(salt: &'a [u8], persona: &'a [u8], message: &'a [u8]) -> Input<'a> {
-    input(None, salt, persona, message)
-}
-
-fn keyed<'a>(key: &'a [u8], message: &'a [u8]) -> Input<'a> {
-    input(Some(key), b"", b"", message)
-}
-
-// Inputs without keys, each of the first n bytes of its message.
-fn inputs_of<'a>(bytes: &'a [u8; 4306], n: usize) -> [Input<'a>; 8]
-    requires { n ≤ 4096 }
-{
-    [
-        unkeyed(b"", b"", text(bytes, 0, n)),
-        unkeyed(b"salt", b"", text(bytes, 1, n)),
-        unkeyed(b"", b"persona", text(bytes, 2, n)),
-        unkeyed(b"01234567", b"76543210", text(bytes, 3, n)),
-        unkeyed(b"s", b"p", text(bytes, 4, n)),
-        unkeyed(b"", b"two", text(bytes, 5, n)),
-        unkeyed(b"saltier", b"", text(bytes, 6, n)),
-        unkeyed(b"", b"", text(bytes, 7, n)),
-    ]
-}
+use blake2_kat::inputs::{numbered, reads, unkeyed};
 
 // Whether the inputs are accepted, and have these digests.
 fn digests_are(inputs: &[Input<'_>; 8], wanted: &str) -> bool {
-    if !accepts_eight(inputs) {
-        return false;
-    }
-    let mut decoded = [0; 128];
-    let is_read = hex::decode_to_slice(wanted, &mut decoded).is_ok();
-    is_read && hash_eight::<16>(inputs).as_flattened() == decoded.as_slice()
+    accepts_eight(inputs) && reads(hash_eight::<16>(inputs).as_flattened(), wanted)
 }
 
-// What the inputs are, the length of their messages, and their digests. Under keys, each key is a
-// byte shorter than the one before. Every other node is the last of its level.
+// What the inputs are, the length of their messages, and their digests.
 const DIGESTS: &str = "\
 unkeyed|0|64550d6ffe2c0a01a14aba1eade0200caed1c4d0bd01a637869f76c6b5bedada\
 234c544d829c832e6508c83f20234d4ed685c35b649ad39ee94988a19462c14a\
@@ -90,16 +43,10 @@ fn hash_eight_inputs(rt: HostRuntime) {
     let key = [7; 32];
     let bytes = counted();
     for row in DIGESTS.lines() {
-        let (what, rest) = row.split_once('|').unwrap_or((row, ""));
-        let (n, wanted) = numbered(rest).unwrap_or((usize::MAX, row));
+        let (what, n, wanted) = read_row(row);
         assert!(rt; n <= 4096, "{row}");
-        let mut inputs = inputs_of(&bytes, n);
-        for (j, input) in inputs.iter_mut().enumerate() {
-            if what == "keyed" {
-                input.key = key.get(j..);
-            }
-            input.last_node = what == "nodes" && j % 2 == 1;
-        }
+        let mut inputs = eight_of(&bytes, n);
+        make(&mut inputs, what, &key);
         assert!(rt; digests_are(&inputs, wanted), "{n} bytes");
     }
 }
@@ -124,16 +71,16 @@ fn hash_eight_that_count_alike(rt: HostRuntime) {
         let (n, wanted) = numbered(row).unwrap_or((usize::MAX, row));
         assert!(rt; n <= 3000, "{row}");
         let p0 = keyed(&key, text(&bytes, 0, n));
-        let p1 = unkeyed(b"", b"", text(&bytes, 1, n + 64));
-        let p2 = keyed(&key, text(&bytes, 2, n));
-        let p3 = unkeyed(b"", b"", text(&bytes, 3, n + 64));
-        let p4 = keyed(&key, text(&bytes, 4, n));
-        let p5 = unkeyed(b"", b"", text(&bytes, 5, n + 64));
-        let p6 = keyed(&key, text(&bytes, 6, n));
-        let p7 = unkeyed(b"", b"", text(&bytes, 7, n + 64));
+        let p1 = unkeyed(text(&bytes, 30, n + 64));
+        let p2 = keyed(&key, text(&bytes, 60, n));
+        let p3 = unkeyed(text(&bytes, 90, n + 64));
+        let p4 = keyed(&key, text(&bytes, 120, n));
+        let p5 = unkeyed(text(&bytes, 150, n + 64));
+        let p6 = keyed(&key, text(&bytes, 180, n));
+        let p7 = unkeyed(text(&bytes, 210, n + 64));
         let mut inputs = [p0, p1, p2, p3, p4, p5, p6, p7];
         assert!(rt; digests_are(&inputs, wanted), "{n} bytes");
-        inputs[7] = unkeyed(b"", b"", text(&bytes, 7, n + 65));
+        inputs[7] = unkeyed(text(&bytes, 210, n + 65));
         assert!(rt; !accepts_eight(&inputs), "{n} bytes");
     }
 }

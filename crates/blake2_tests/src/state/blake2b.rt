@@ -1,6 +1,6 @@
 //! Digests from hashlib: in pieces and after a reset, and of nodes of trees.
 
-use crate::inputs::{count_up, reads};
+use blake2_kat::inputs::{count_up, reads};
 use blake2::Tree;
 use blake2_state::StateParameters;
 use blake2_state::blake2b::State;

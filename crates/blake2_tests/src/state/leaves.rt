@@ -3,14 +3,19 @@
 
 ghost use Rattle.std.specs.Prelude.{◌≤◌, length};
 
-use crate::inputs::count_up;
 use blake2_state::tree::TreeState;
-use blake2_tree::{leaf_count, tree_root};
+use blake2_tree::leaf_count;
 use std::process::Abort;
 
 // The root that a state returns for a message of which the leaves between these two come as their
 // digests, which the state hashes one by one, and what follows in two pieces.
-fn root_by_state(rt: &impl Abort, message: &[u8], from: usize, to: usize, cut: usize) -> [u8; 64]
+pub(crate) fn root_by_state(
+    rt: &impl Abort,
+    message: &[u8],
+    from: usize,
+    to: usize,
+    cut: usize,
+) -> [u8; 64]
     requires { length message.now ≤ 44 }
 {
     let mut digests = [0; 704];
@@ -38,25 +43,6 @@ fn root_by_state(rt: &impl Abort, message: &[u8], from: usize, to: usize, cut: u
     assert!(rt; state.is_ready() && state.counted() == message.len() as u64);
     state.write_root(&mut root);
     root
-}
-
-// Up to six leaves of four bytes, and each run of whole leaves that does not end the message.
-#[test]
-fn plain_leaves_by_digests_at_every_cut(rt: HostRuntime) {
-    let mut text = [0; 24];
-    count_up(&mut text);
-    for length in 5..25 {
-        let message = &text[..length];
-        let root = tree_root::<64>(b"salt", b"persona", 4, message);
-        for from in 0..6 {
-            for to in from + 1..6 {
-                for cut in 4 * to + 1..length + 1 {
-                    let found = root_by_state(&rt, message, 4 * from, 4 * to, cut);
-                    assert!(rt; found == root, "{length}, {from}, {to}, {cut}");
-                }
-            }
-        }
-    }
 }
 
 #[test]

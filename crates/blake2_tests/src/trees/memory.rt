@@ -5,43 +5,11 @@ ghost use Rattle.std.specs.Prelude.{◌≤◌};
 
 use super::witness::witness_of_a_and_b;
 use super::{node, root_step};
-use crate::{TreeWitness, tree_root, tree_witness};
 use blake2::steps::Step;
+use blake2_kat::hoards::{SPARE_BYTES, TRIES, hoard, plug};
+use blake2_tree::{TreeWitness, tree_root, tree_witness};
 use std::alloc::{AllocError, Global};
 use std::process::Abort;
-
-// Allocates all memory of the process except 65,536 bytes that lie together, in blocks that
-// halve, down to the smallest.
-//
-// A process has 2^47 bytes of addresses, and a machine with a GiB of memory grants blocks of half
-// of that, so that 300,000 blocks are enough; there is room for them from the start. The turns
-// are more than the blocks and the sizes together, so that the smallest size ends the loop.
-fn hoard(alloc: Global) -> Result<Vec<Vec<u8>>, AllocError> {
-    let mut blocks = Vec::with_capacity(alloc, 300_000)?;
-    let spare: Vec<u8> = Vec::with_capacity(alloc, 65536)?;
-    let mut size = 1usize << 46;
-    for _ in 0..400_000 {
-        if size < 16 {
-            break;
-        }
-        match Vec::with_capacity(alloc, size) {
-            Ok(block) => blocks.push(block)?,
-            Err(_) => size /= 2,
-        }
-    }
-    drop(spare);
-    Ok(blocks)
-}
-
-// Allocates what a hoard left, except a number of bytes.
-fn plug(alloc: Global, left: usize) -> Result<Vec<u8>, AllocError>
-    requires { left ≤ 65536 }
-{
-    Vec::with_capacity(alloc, 65536 - left)
-}
-
-// Under a hoard each try has 16 bytes more than the one before, and the first has none.
-const TRIES: usize = 512;
 
 // Two messages whose roots of no bytes are equal: `a` and `b`, of one leaf each, or 2,000 times
 // these letters, of two leaves.
@@ -94,7 +62,7 @@ fn tries(
     let mut refused = 0;
     let mut is_behind_the_first = false;
     let mut wrong = None;
-    let hoard = hoard(alloc)?;
+    let hoard = hoard(alloc, SPARE_BYTES)?;
     for tries in 0..TRIES {
         let (found, first_fits) = witness_within(alloc, messages, 16 * tries)?;
         let is_right = match found {
@@ -185,7 +153,7 @@ fn root_of_letters() -> [u8; 64] {
 
 // That root under a hoard, and whether a byte is granted then.
 fn root_without_memory(alloc: Global) -> Result<([u8; 64], bool), AllocError> {
-    let hoard = hoard(alloc)?;
+    let hoard = hoard(alloc, SPARE_BYTES)?;
     let plug = plug(alloc, 0)?;
     let one_byte: Result<Vec<u8>, AllocError> = Vec::with_capacity(alloc, 1);
     let root = root_of_letters();

@@ -1,8 +1,8 @@
 //! Witnesses of two messages with one root.
 
 use super::root_step;
-use crate::{TreeWitness, tree_root, tree_witness};
 use blake2::steps::Step;
+use blake2_tree::{TreeWitness, tree_root, tree_witness};
 use std::process::Abort;
 
 // The digests of the only leaf of `a` and of `b`, in leaves of four bytes, from hashlib.

@@ -3,10 +3,13 @@
 
 ghost use Rattle.std.specs.Prelude.{◌≤◌, length};
 
-use super::{check_digest, count_up};
-use crate::{TreeHasher, hash_leaves, is_range, leaf_count, root_of_leaves, tree_root};
+use crate::state::root_by_state;
 use blake2::Blake2b256;
 use blake2::digest::{Digest, Update};
+use blake2_kat::inputs::{check_digits, count_up, numbered};
+use blake2_tree::{
+    TreeHasher, hash_leaves, is_range, leaf_count, root_of_leaves, tree_root,
+};
 use std::process::Abort;
 
 // Writes the digests of a range to the front of these bytes, and returns how many bytes they are.
@@ -30,7 +33,7 @@ fn hash_range(
 }
 
 // Checks the digest of the digests of ranges from several leaves on.
-fn check_ranges(rt: &impl Abort, leaf_length: u32, wanted: [u128; 2])
+fn check_ranges(rt: &impl Abort, leaf_length: u32, wanted: &str)
     requires least { 1 ≤ leaf_length }
     requires most { leaf_length ≤ 200 }
 {
@@ -51,77 +54,28 @@ fn check_ranges(rt: &impl Abort, leaf_length: u32, wanted: [u128; 2])
             }
         }
     }
-    check_digest(rt, &all.finalize(), &wanted);
+    check_digits(rt, &all.finalize(), wanted);
 }
 
-// The expected digests are those of `tests/expected_values.py`, under `ranges`, for each length of
-// a leaf.
+// The length of a leaf, and the digest, as `tests/expected_values.py` prints them under `ranges`.
+const DIGESTS: &str = "\
+1|ac89d5c6c8c0c96af7bf5d0e18f28e48a4668ee606d93f07bc59a1be2ad0c0d1\n\
+2|a5ccdbd7904c16c687c247ea1dd3416e07c9613dc2c0127ee1ce9564dc1d51c5\n\
+3|b60c1e608b6f2d63c117409c414991f25f366a588e24a752e8b40170cc0f4201\n\
+64|137b03e526fa82a73add0038f0a87df44caba3be39d5c0221db04ce0309ec5c3\n\
+127|ea2532f5b4c3b0455e0ae14b9d9e2c07696ce2900f08868cc80eaebf722cde1d\n\
+128|149e5a656cbc4e63cee97b6cdf16ab556060aec34aeb395551151060bef34582\n\
+129|81edd4f8ee44d0ad83ac84749c64926cbb6c4c92856f444246835ff9befaa229\n\
+200|c11911ad5384952115fa08cf4d70a42d39b62518a5ce6e0d30509a478b2c774a\n\
+";
+
 #[test]
 fn digests_of_ranges(rt: HostRuntime) {
-    check_ranges(
-        &rt,
-        1,
-        [
-            0xac89d5c6c8c0c96af7bf5d0e18f28e48,
-            0xa4668ee606d93f07bc59a1be2ad0c0d1,
-        ],
-    );
-    check_ranges(
-        &rt,
-        2,
-        [
-            0xa5ccdbd7904c16c687c247ea1dd3416e,
-            0x07c9613dc2c0127ee1ce9564dc1d51c5,
-        ],
-    );
-    check_ranges(
-        &rt,
-        3,
-        [
-            0xb60c1e608b6f2d63c117409c414991f2,
-            0x5f366a588e24a752e8b40170cc0f4201,
-        ],
-    );
-    check_ranges(
-        &rt,
-        64,
-        [
-            0x137b03e526fa82a73add0038f0a87df4,
-            0x4caba3be39d5c0221db04ce0309ec5c3,
-        ],
-    );
-    check_ranges(
-        &rt,
-        127,
-        [
-            0xea2532f5b4c3b0455e0ae14b9d9e2c07,
-            0x696ce2900f08868cc80eaebf722cde1d,
-        ],
-    );
-    check_ranges(
-        &rt,
-        128,
-        [
-            0x149e5a656cbc4e63cee97b6cdf16ab55,
-            0x6060aec34aeb395551151060bef34582,
-        ],
-    );
-    check_ranges(
-        &rt,
-        129,
-        [
-            0x81edd4f8ee44d0ad83ac84749c64926c,
-            0xbb6c4c92856f444246835ff9befaa229,
-        ],
-    );
-    check_ranges(
-        &rt,
-        200,
-        [
-            0xc11911ad5384952115fa08cf4d70a42d,
-            0x39b62518a5ce6e0d30509a478b2c774a,
-        ],
-    );
+    for row in DIGESTS.lines() {
+        let (leaf_length, wanted) = numbered(row).unwrap_or((0, row));
+        assert!(rt; 1 <= leaf_length && leaf_length <= 200, "{row}");
+        check_ranges(&rt, leaf_length as u32, wanted);
+    }
 }
 
 // The root from two ranges of a message, of which the first ends at `cut`.
@@ -239,7 +193,8 @@ fn root_by_hasher(rt: &impl Abort, message: &[u8], from: usize, to: usize, cut: 
     hasher.finalize()
 }
 
-// Up to six leaves of four bytes, and each run of whole leaves that does not end the message.
+// Up to six leaves of four bytes, and each run of whole leaves that does not end the message, by a
+// hasher and by a plain state.
 #[test]
 fn leaves_by_digests_at_every_cut(rt: HostRuntime) {
     let mut text = [0; 24];
@@ -251,6 +206,8 @@ fn leaves_by_digests_at_every_cut(rt: HostRuntime) {
             for to in from + 1..6 {
                 for cut in 4 * to + 1..length + 1 {
                     let found = root_by_hasher(&rt, message, 4 * from, 4 * to, cut);
+                    assert!(rt; found == root, "{length}, {from}, {to}, {cut}");
+                    let found = root_by_state(&rt, message, 4 * from, 4 * to, cut);
                     assert!(rt; found == root, "{length}, {from}, {to}, {cut}");
                 }
             }

@@ -3,10 +3,11 @@
 
 ghost use Rattle.std.specs.Prelude.{◌≡◌, ◌≤◌, length};
 
-use super::{check_digest, count_up, node};
-use crate::{TreeHasher, tree_root};
+use super::node;
 use blake2::Blake2b256;
 use blake2::digest::{Digest, Update};
+use blake2_kat::inputs::{check_digits, count_up, numbered};
+use blake2_tree::{TreeHasher, tree_root};
 use std::process::Abort;
 
 // The root of a message, node by node, and how many bytes its message has.
@@ -62,13 +63,13 @@ fn check_root(
     length: usize,
     leaves: u64,
     root_message: usize,
-    wanted: [u128; 4],
+    wanted: &str,
 ) {
     let message = b"abcdefghi";
     assert!(rt; length <= message.len() && leaves <= 3);
     let message = &message[..length];
     let root = tree_root::<64>(&[], &[], 4, message);
-    check_digest(rt, &root, &wanted);
+    check_digits(rt, &root, wanted);
     let by_nodes = root_by_nodes(rt, message, leaves);
     assert!(rt; by_nodes == (root, root_message), "{length}");
     check_cuts(rt, message, root);
@@ -76,40 +77,20 @@ fn check_root(
 
 #[test]
 fn roots_by_nodes(rt: HostRuntime) {
-    let wanted = [
-        0x0a69959bd9aee74e029fe7398f08e6d2,
-        0xac3ff6f7d444317962d76c65f57bad89,
-        0xcbe18314d10ca47ab5926f8efa4fecde,
-        0x12dbaf655fbdd52437174ca8fcab8037,
-    ];
+    let wanted = "0a69959bd9aee74e029fe7398f08e6d2ac3ff6f7d444317962d76c65f57bad89\
+        cbe18314d10ca47ab5926f8efa4fecde12dbaf655fbdd52437174ca8fcab8037";
     check_root(&rt, 0, 1, 64, wanted);
-    let wanted = [
-        0xd13bf66d341b8a441dd9592ba27e2661,
-        0xae3ec480eb51bfb58ab7f2c48a772629,
-        0x08588dc29f84f01bff65d687b946d723,
-        0xd5affc1a4449f039a236f53d1a5e8ed5,
-    ];
+    let wanted = "d13bf66d341b8a441dd9592ba27e2661ae3ec480eb51bfb58ab7f2c48a772629\
+        08588dc29f84f01bff65d687b946d723d5affc1a4449f039a236f53d1a5e8ed5";
     check_root(&rt, 4, 1, 64, wanted);
-    let wanted = [
-        0x14b0752e3ca5c2b4f5df98dcb4fab97c,
-        0xaeda23424260d531f9b0b52310bb58ee,
-        0xcb6e13211a8298c3e52d543a21efa545,
-        0x053f3006100629ff6bd181611b38f8c8,
-    ];
+    let wanted = "14b0752e3ca5c2b4f5df98dcb4fab97caeda23424260d531f9b0b52310bb58ee\
+        cb6e13211a8298c3e52d543a21efa545053f3006100629ff6bd181611b38f8c8";
     check_root(&rt, 5, 2, 128, wanted);
-    let wanted = [
-        0xd1c746476ff20334428bec346f84e167,
-        0xad8d38238a4101b213de160da378bce3,
-        0xe083629eb99294e0a0a76ae1a1959d8a,
-        0x7ebe89ca4f47ae640163303670edf789,
-    ];
+    let wanted = "d1c746476ff20334428bec346f84e167ad8d38238a4101b213de160da378bce3\
+        e083629eb99294e0a0a76ae1a1959d8a7ebe89ca4f47ae640163303670edf789";
     check_root(&rt, 8, 2, 128, wanted);
-    let wanted = [
-        0x2a6dca2bf6c1cbff1afe73228acd003d,
-        0x96f055f29871990244afb9379738dd21,
-        0x67f63eb8f6859d9038334a573a147e50,
-        0x7542a63a0940f0d3cf2d5f172db208b9,
-    ];
+    let wanted = "2a6dca2bf6c1cbff1afe73228acd003d96f055f29871990244afb9379738dd21\
+        67f63eb8f6859d9038334a573a147e507542a63a0940f0d3cf2d5f172db208b9";
     check_root(&rt, 9, 3, 192, wanted);
 }
 
@@ -131,7 +112,7 @@ fn roots_of_every_cut(rt: HostRuntime) {
 }
 
 // Checks the digest of the roots, one after the other, of messages around each number of leaves.
-fn check_roots(rt: &impl Abort, leaf_length: u32, wanted: [u128; 2])
+fn check_roots(rt: &impl Abort, leaf_length: u32, wanted: &str)
     requires leaf_length { 1 ≤ leaf_length }
     requires within { leaf_length ≤ 200 }
 {
@@ -147,85 +128,35 @@ fn check_roots(rt: &impl Abort, leaf_length: u32, wanted: [u128; 2])
             Update::update(&mut roots, &root);
         }
     }
-    check_digest(rt, &roots.finalize(), &wanted);
+    check_digits(rt, &roots.finalize(), wanted);
 }
 
-// The expected digests are those of `tests/expected_values.py`, under `trees`, for each length of
-// a leaf.
+// The length of a leaf, and the digest, as `tests/expected_values.py` prints them under `trees`.
+const ROOTS: &str = "\
+1|49a062c168580112fc107f1e33225fddc1f391c5137b9334e18084f9b364686a\n\
+2|e26126c768572bc469a254cfa09e6e7e48483d44a0e488c867e236404599510f\n\
+3|7d0c2a88598c2e32119327789551e6d48e3c05426fc48e94e7d7e8d7cc5df28c\n\
+64|df7244d92a9de544be536d0c239c056d8c1de98aeb53ac263c49d0bbe1f2d3eb\n\
+127|8ebebd3cb69fc3aba6ddcd6313cccfd48d13a8475bacda20a6a4dfc218cf2fa8\n\
+128|faccdd90b7edb611795f9259089185f4f3967e9038aee848fcd846ada88dc3f2\n\
+129|5c0a2242bf300cba48ac6f0fab92fc5e15c3d3851913373da861c663e9c5b9c6\n\
+200|2e0e3d01bf81b73ca78d54d65b85e83a87a4f75fc6b273afa196c80f0386717b\n\
+";
+
 #[test]
 fn roots_around_each_number_of_leaves(rt: HostRuntime) {
-    check_roots(
-        &rt,
-        1,
-        [
-            0x49a062c168580112fc107f1e33225fdd,
-            0xc1f391c5137b9334e18084f9b364686a,
-        ],
-    );
-    check_roots(
-        &rt,
-        2,
-        [
-            0xe26126c768572bc469a254cfa09e6e7e,
-            0x48483d44a0e488c867e236404599510f,
-        ],
-    );
-    check_roots(
-        &rt,
-        3,
-        [
-            0x7d0c2a88598c2e32119327789551e6d4,
-            0x8e3c05426fc48e94e7d7e8d7cc5df28c,
-        ],
-    );
-    check_roots(
-        &rt,
-        64,
-        [
-            0xdf7244d92a9de544be536d0c239c056d,
-            0x8c1de98aeb53ac263c49d0bbe1f2d3eb,
-        ],
-    );
-    check_roots(
-        &rt,
-        127,
-        [
-            0x8ebebd3cb69fc3aba6ddcd6313cccfd4,
-            0x8d13a8475bacda20a6a4dfc218cf2fa8,
-        ],
-    );
-    check_roots(
-        &rt,
-        128,
-        [
-            0xfaccdd90b7edb611795f9259089185f4,
-            0xf3967e9038aee848fcd846ada88dc3f2,
-        ],
-    );
-    check_roots(
-        &rt,
-        129,
-        [
-            0x5c0a2242bf300cba48ac6f0fab92fc5e,
-            0x15c3d3851913373da861c663e9c5b9c6,
-        ],
-    );
-    check_roots(
-        &rt,
-        200,
-        [
-            0x2e0e3d01bf81b73ca78d54d65b85e83a,
-            0x87a4f75fc6b273afa196c80f0386717b,
-        ],
-    );
+    for row in ROOTS.lines() {
+        let (leaf_length, wanted) = numbered(row).unwrap_or((0, row));
+        assert!(rt; 1 <= leaf_length && leaf_length <= 200, "{row}");
+        check_roots(&rt, leaf_length as u32, wanted);
+    }
 }
 
 // Leaves of the maximum length, with the longest salt and persona.
 #[test]
 fn root_of_one_leaf(rt: HostRuntime) {
     let root = tree_root::<20>(b"0123456789abcdef", b"fedcba9876543210", u32::MAX, b"abc");
-    check_digest(&rt, &root[..16], &[0xe48365e95438791be6e2a59b38f636c8]);
-    assert!(rt; root[16..] == [0xba, 0xd1, 0xb7, 0x03]);
+    check_digits(&rt, &root, "e48365e95438791be6e2a59b38f636c8bad1b703");
     let none: [u8; 0] = tree_root(b"", b"", 1, b"abc");
     assert!(rt; none == []);
 }

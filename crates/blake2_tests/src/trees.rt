@@ -13,22 +13,6 @@ use blake2::digest::{FixedOutput, LastNode, Update};
 use blake2::steps::{Step, Tree};
 use std::process::Abort;
 
-// Fills the bytes with 0 to 250, again and again.
-fn count_up(bytes: &mut [u8]) {
-    for (i, byte) in bytes.iter_mut().enumerate() {
-        *byte = (i % 251) as u8;
-    }
-}
-
-// Checks that a digest is these numbers of 16 bytes, high byte first.
-fn check_digest(rt: &impl Abort, digest: &[u8], wanted: &[u128]) {
-    let (found, rest) = digest.as_chunks::<16>();
-    assert!(rt; found.len() == wanted.len() && rest.is_empty());
-    for (bytes, number) in found.iter().zip(wanted) {
-        assert!(rt; u128::from_be_bytes(*bytes) == *number, "{number:x}");
-    }
-}
-
 // The digest of a node of a tree, without salt and persona.
 fn node(leaf_length: u32, node_offset: u64, node_depth: u8, last: bool, bytes: &[u8]) -> [u8; 64]
     requires { length bytes.now < 2 ^ 58 }
