@@ -77,7 +77,10 @@ impl Word<128> for u64 {
         let mut hasher = Blake2b512::new_with_tree(node.salt, node.persona, &node.tree);
         hasher.set_last_node(node.last_node);
         Digest::update(&mut hasher, node.message);
-        hasher.finalize().to_vec(rt.alloc()).expect(rt, "room for a digest")
+        hasher
+            .finalize()
+            .to_vec(rt.alloc())
+            .expect(rt, "room for a digest")
     }
 
     fn written(
@@ -136,7 +139,10 @@ impl Word<64> for u32 {
         let mut hasher = Blake2s256::new_with_tree(node.salt, node.persona, &node.tree);
         hasher.set_last_node(node.last_node);
         Digest::update(&mut hasher, node.message);
-        hasher.finalize().to_vec(rt.alloc()).expect(rt, "room for a digest")
+        hasher
+            .finalize()
+            .to_vec(rt.alloc())
+            .expect(rt, "room for a digest")
     }
 
     fn written(

@@ -8,6 +8,7 @@ use blake2::digest::Update;
 pub use blake2::digest::padded;
 use blake2::steps::{Entry, Input, Reading, Step, Transcript, Tree};
 use blake2::{Blake2b256, Digest};
+use std::fmt;
 use std::process::Abort;
 
 /// The bytes 0 to 31.
@@ -80,6 +81,12 @@ pub fn reads(bytes: &[u8], digits: &str) -> bool {
 /// Checks that these digits are the bytes, as `reads` returns.
 pub fn check_digits(rt: &impl Abort, bytes: &[u8], digits: &str) {
     assert!(rt; reads(bytes, digits), "not {digits}");
+}
+
+/// Checks that `Debug` writes this of the value.
+pub fn check_debug<T: fmt::Debug>(rt: &(impl Abort + AllocGlobal), value: &T, wanted: &str) {
+    let text = format!(in rt.alloc(); "{value:?}").expect(rt, wanted);
+    assert!(rt; text.as_str() == wanted, "{text} in place of {wanted}");
 }
 
 /// Checks that BLAKE2b-256 of the bytes is this in hexadecimal.

@@ -5,9 +5,7 @@
 ghost use Rattle.std.specs.Prelude.{◌≤◌};
 
 use crate::families::Word;
-use crate::inputs::{
-    blake2b_last, check_digest_of, count_up, entry, input, transcript, unkeyed,
-};
+use crate::inputs::{blake2b_last, check_digest_of, count_up, entry, input, transcript, unkeyed};
 use blake2::Blake2bVarCore;
 use blake2::steps::{Entry, Input, Step, Transcript, Tree};
 use std::process::Abort;

@@ -3,18 +3,13 @@
 
 ghost use Rattle.std.specs.Prelude.{◌≤◌};
 
+use crate::inputs::check_debug;
 use blake2::digest::{AlgorithmName, KeyInit};
 use blake2::{
     Blake2bMac, Blake2bMac512, Blake2bVarCore, Blake2sMac, Blake2sMac256, Blake2sVarCore,
 };
 use std::fmt;
 use std::process::Abort;
-
-// Checks that `Debug` writes this of the value.
-fn check_debug<T: fmt::Debug>(rt: &(impl Abort + AllocGlobal), value: &T, wanted: &str) {
-    let text = format!(in rt.alloc(); "{value:?}").expect(rt, wanted);
-    assert!(rt; text.as_str() == wanted, "{text} in place of {wanted}");
-}
 
 // Checks that `Debug` writes this of a MAC.
 fn check_mac<M, const K: usize>(rt: &(impl Abort + AllocGlobal), wanted: &str)

@@ -96,7 +96,7 @@ fn write_and_read_all_parts_of_blake2s(rt: HostRuntime) {
 }
 
 // Whether some input has a transcript of these words and entries.
-fn is_read<W: Word<B>, const B: usize>(
+fn are_read<W: Word<B>, const B: usize>(
     rt: &(impl Abort + AllocGlobal),
     words: [W; 8],
     entries: &[Entry<B>],
@@ -114,7 +114,7 @@ fn read_no_input_from_other_words(rt: HostRuntime) {
         (0x01014140, 0, false),
     ] {
         let words = [first, second, 0, 0, 0, 0, 0, 0];
-        let read = is_read::<u64, 128>(&rt, words, &entries);
+        let read = are_read::<u64, 128>(&rt, words, &entries);
         assert!(rt; read == is_read, "{first:x} {second}");
     }
 }
@@ -129,7 +129,7 @@ fn read_no_sizes_past_the_limits(rt: HostRuntime) {
         (0x01010040, true),
         (0x01010041, false),
     ] {
-        let read = is_read::<u64, 128>(&rt, [first, 0, 0, 0, 0, 0, 0, 0], &entries);
+        let read = are_read::<u64, 128>(&rt, [first, 0, 0, 0, 0, 0, 0, 0], &entries);
         assert!(rt; read == is_read, "BLAKE2b {first:x}");
     }
     let entries = [entry(b"", 64, true)];
@@ -148,7 +148,7 @@ fn read_no_sizes_past_the_limits(rt: HostRuntime) {
 #[test]
 fn read_no_input_from_other_entries(rt: HostRuntime) {
     let words = [0x01010040, 0, 0, 0, 0, 0, 0, 0];
-    assert!(rt; !is_read::<u64, 128>(&rt, words, &[]));
+    assert!(rt; !are_read::<u64, 128>(&rt, words, &[]));
     let first = [0x2a; 128];
     for (first_is_last, counter, is_read) in [
         (false, 129, true),
@@ -159,17 +159,17 @@ fn read_no_input_from_other_entries(rt: HostRuntime) {
             entry(&first, 128, first_is_last),
             entry(&[0x2a], counter, true),
         ];
-        let read = is_read::<u64, 128>(&rt, words, &entries);
+        let read = are_read::<u64, 128>(&rt, words, &entries);
         assert!(rt; read == is_read, "{first_is_last} {counter}");
     }
     for place in 1..128usize {
         let mut second = entry(&[0x2a], 129, true);
         second.block[place] = 1;
-        let read = is_read::<u64, 128>(&rt, words, &[entry(&first, 128, false), second]);
+        let read = are_read::<u64, 128>(&rt, words, &[entry(&first, 128, false), second]);
         assert!(rt; !read, "{place}");
     }
     for (counter, is_read) in [(128, true), (127, false)] {
-        let read = is_read::<u64, 128>(&rt, WORDS, &[entry(&[1], counter, true)]);
+        let read = are_read::<u64, 128>(&rt, WORDS, &[entry(&[1], counter, true)]);
         assert!(rt; read == is_read, "{counter}");
     }
 }

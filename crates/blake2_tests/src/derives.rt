@@ -2,12 +2,12 @@
 
 ghost use Rattle.std.specs.Prelude.{◌≤◌};
 
-use blake2_kat::inputs::{entry, input, reading, step, transcript, unkeyed};
 use blake2::calls::{Call, ReplayFault};
 use blake2::digest::{InvalidLength, InvalidOutputSize, Lazy, MacError, TruncSide};
 use blake2::engine::{DeviceError, StreamFault};
 use blake2::rows::{u32x4, u64x4};
 use blake2::steps::{Entry, Input, Reading, Step, Tree};
+use blake2_kat::inputs::{check_debug, entry, input, reading, step, transcript, unkeyed};
 use blake2_tree::TreeWitness;
 use std::alloc::AllocError;
 use std::fmt;
@@ -30,12 +30,6 @@ fn check_copies<T: Copy + Eq>(rt: &impl Abort, values: &[T]) {
         let clone: Result<T, AllocError> = value.clone();
         assert!(rt; copy == *value && clone == Ok(*value), "{i}");
     }
-}
-
-// Checks that `Debug` writes this of the value.
-fn check_debug<T: fmt::Debug>(rt: &(impl Abort + AllocGlobal), value: &T, wanted: &str) {
-    let text = format!(in rt.alloc(); "{value:?}").expect(rt, wanted);
-    assert!(rt; text.as_str() == wanted, "{text} in place of {wanted}");
 }
 
 // Checks that what `Debug` writes of the value begins with its name.

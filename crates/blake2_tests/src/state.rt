@@ -5,4 +5,28 @@ mod blake2s;
 mod leaves;
 mod trees;
 
+use blake2::Tree;
+use blake2_state::StateParameters;
 pub(crate) use leaves::root_by_state;
+
+// What a keyed state is made from.
+fn keyed<'a>() -> StateParameters<'a> {
+    StateParameters {
+        output_size: 20,
+        key: b"key",
+        salt: b"salt",
+        persona: b"persona",
+    }
+}
+
+// A node of a tree whose digests below the root have this length.
+fn node(inner_length: u8) -> Tree {
+    Tree {
+        fanout: 2,
+        depth: 3,
+        leaf_length: 4096,
+        node_offset: 5,
+        node_depth: 1,
+        inner_length,
+    }
+}

@@ -13,7 +13,6 @@ ghost use Rattle.blake2.specs.Hashers.{blake2s_meaning, blake2s_mac_meaning, bla
 ghost use Rattle.blake2.specs.Hashers.{blake2b_mac_state, blake2s_mac_state};
 ghost use Rattle.blake2.specs.States.{Fresh, IsWiped, digest_of, node_digest_of};
 
-use blake2_kat::inputs::check_digits;
 use blake2::digest::{
     CustomizedInit, Digest, FixedOutput, InvalidLength, InvalidOutputSize, KeyInit, LazyBuffer,
     Mac, TreeNode, Update, VariableOutputCore, VariableOutputCoreCustomized, Wipe,
@@ -21,6 +20,7 @@ use blake2::digest::{
 use blake2::{
     Blake2b512, Blake2bMac512, Blake2bVarCore, Blake2s256, Blake2sMac256, Blake2sVarCore, Tree,
 };
+use blake2_kat::inputs::{check_digits, place};
 
 // ---- Wipe
 
@@ -218,18 +218,6 @@ fn blake2s_mac(key: &[u8]) -> Result<Blake2sMac256, InvalidLength>
 
 // ---- the calls at work: digests are those of `hashlib`
 
-// The eighth node of its level, over leaves, in a tree of two levels.
-fn inner_node() -> Tree {
-    Tree {
-        fanout: 3,
-        depth: 2,
-        leaf_length: 4096,
-        node_offset: 7,
-        node_depth: 1,
-        inner_length: 32,
-    }
-}
-
 #[test]
 fn wipe_buffers_and_cores_by_the_trait(rt: HostRuntime) {
     let mut buffer = LazyBuffer::<128>::new(b"abc");
@@ -302,7 +290,7 @@ fn hash_by_the_traits_of_blake2b(rt: HostRuntime) {
     let wanted = "5c6a9a4ae911c02fb7e71a991eb9aea371ae993d4842d206e6020d46f5e41358\
          c6d5c277c110ef86c959ed63e6ecaaaceaaff38019a43264ae06acf73b9550b1";
     check_digits(&rt, &keyed.finalize_fixed(), wanted);
-    let tree = inner_node();
+    let tree = place();
     assert!(rt; Blake2bVarCore::admits_tree(&tree));
     let wanted = "339840bfb4fcf86bd23f4e22e0fb7220814bce9a254d3b25b1df24479ec1a883\
          57e85c7881ba2ddc1349170d681cade2e6b10e4336349113a0d95f860cd4585b";
@@ -321,7 +309,7 @@ fn hash_by_the_traits_of_blake2s(rt: HostRuntime) {
         .chain_update(b"abc");
     let wanted = "3f9723437b033bf0c1f4df43cafd0776068cb0a95912de13f3b2952a3aba764d";
     check_digits(&rt, &keyed.finalize_fixed(), wanted);
-    let tree = inner_node();
+    let tree = place();
     assert!(rt; Blake2sVarCore::admits_tree(&tree));
     let wanted = "310f6db4d75ec40e5d9bec0cc45d228b46dec4e075cf61a8da736206a24f3196";
     check_digits(&rt, &last_blake2s_digest(&tree, b"abc"), wanted);

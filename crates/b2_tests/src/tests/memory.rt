@@ -7,6 +7,7 @@ use super::witness::B0;
 use super::{text_of, words_of};
 use b2_commands::run;
 use blake2::engine::{SliceSink, SliceSource};
+use blake2_kat::hoards::{hoard, is_refused};
 use std::alloc::{AllocError, Global};
 use std::process::Abort;
 
@@ -16,29 +17,6 @@ const SPARE_BYTES: usize = 131_072;
 
 // The number of times that a command is tried.
 const TRIES: usize = 1024;
-
-// Allocates all memory of the process except the spare, in blocks whose sizes halve, down to the
-// smallest.
-//
-// A process has 2^47 bytes of addresses, and a machine with a GiB of memory grants blocks of half
-// a GiB, so that 300,000 blocks are enough. There is room for them from the start. The loop has
-// more turns than there are blocks and sizes together, so that the smallest size ends it.
-fn hoard(alloc: Global) -> Result<Vec<Vec<u8>>, AllocError> {
-    let mut blocks = Vec::with_capacity(alloc, 300_000)?;
-    let spare: Vec<u8> = Vec::with_capacity(alloc, SPARE_BYTES)?;
-    let mut size = 1usize << 46;
-    for _ in 0..400_000 {
-        if size < 16 {
-            break;
-        }
-        match Vec::with_capacity(alloc, size) {
-            Ok(block) => blocks.push(block)?,
-            Err(_) => size /= 2,
-        }
-    }
-    drop(spare);
-    Ok(blocks)
-}
 
 // Runs a command under a hoard, with `left` bytes of memory left, at most 131,072. Returns its
 // status, and how many bytes it prints into the room.
@@ -129,7 +107,7 @@ fn count_refused_of(
 {
     let words = words_of(alloc, text)?;
     let wanted = text_of(alloc, wanted)?;
-    let hoard = hoard(alloc)?;
+    let hoard = hoard(alloc, SPARE_BYTES)?;
     let refused = count_refused(alloc, words.as_slice(), input, wanted.as_str(), step);
     drop(hoard);
     Ok(refused)
@@ -154,13 +132,6 @@ fn check_refusals(
     );
 }
 
-// Returns whether allocations of one byte and of 16 bytes both fail.
-fn is_refused(alloc: Global) -> bool {
-    let one: Result<Vec<u8>, AllocError> = Vec::with_capacity(alloc, 1);
-    let sixteen: Result<Vec<u8>, AllocError> = Vec::with_capacity(alloc, 16);
-    one.is_err() && sixteen.is_err()
-}
-
 // Runs a command with no memory left. Returns its status, and how many bytes it prints into the
 // room. The result is `None` if an allocation of one byte or of 16 bytes succeeds before it or
 // after it.
@@ -171,7 +142,7 @@ fn run_without_memory(
     room: &mut [u8],
 ) -> Result<Option<(u8, usize)>, AllocError> {
     let words = words_of(alloc, text)?;
-    let hoard = hoard(alloc)?;
+    let hoard = hoard(alloc, SPARE_BYTES)?;
     let plug: Vec<u8> = Vec::with_capacity(alloc, SPARE_BYTES)?;
     let refused_before = is_refused(alloc);
     let mut source = SliceSource::new(input, 4096, None);

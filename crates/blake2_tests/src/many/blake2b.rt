@@ -15,7 +15,12 @@ fn inputs_of<'a>(bytes: &'a [u8; 4306], n: usize) -> [Input<'a>; 4]
         unkeyed(text(bytes, 0, n)),
         input(None, b"salt", b"", text(bytes, 40, n)),
         input(None, b"", b"persona", text(bytes, 80, n)),
-        input(None, b"0123456789abcdef", b"fedcba9876543210", text(bytes, 120, n)),
+        input(
+            None,
+            b"0123456789abcdef",
+            b"fedcba9876543210",
+            text(bytes, 120, n),
+        ),
     ]
 }
 

@@ -1,8 +1,7 @@
 //! Digests from hashlib: in pieces and after a reset, and of nodes of trees.
 
+use super::{keyed, node};
 use blake2_kat::inputs::{count_up, reads};
-use blake2::Tree;
-use blake2_state::StateParameters;
 use blake2_state::blake2b::State;
 use std::process::Abort;
 
@@ -29,16 +28,6 @@ fn check_digest(rt: &impl Abort, state: &State, wanted: &str) {
         state.is_digest(digest) && !state.is_digest(&digest[1..]),
         "{wanted}"
     );
-}
-
-// What a keyed state is made from.
-fn keyed<'a>() -> StateParameters<'a> {
-    StateParameters {
-        output_size: 20,
-        key: b"key",
-        salt: b"salt",
-        persona: b"persona",
-    }
 }
 
 #[test]
@@ -68,14 +57,7 @@ fn from_a_node_of_a_tree(rt: HostRuntime) {
 
 #[test]
 fn a_keyed_node_of_a_tree(rt: HostRuntime) {
-    let tree = Tree {
-        fanout: 2,
-        depth: 3,
-        leaf_length: 4096,
-        node_offset: 5,
-        node_depth: 1,
-        inner_length: 64,
-    };
+    let tree = node(64);
     assert!(rt; State::admits_tree(&tree));
     let mut state = State::init_tree(&keyed(), &tree).expect(&rt, "a node");
     take(&rt, &mut state, b"abc");

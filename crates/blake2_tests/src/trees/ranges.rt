@@ -7,9 +7,7 @@ use crate::state::root_by_state;
 use blake2::Blake2b256;
 use blake2::digest::{Digest, Update};
 use blake2_kat::inputs::{check_digits, count_up, numbered};
-use blake2_tree::{
-    TreeHasher, hash_leaves, is_range, leaf_count, root_of_leaves, tree_root,
-};
+use blake2_tree::{TreeHasher, hash_leaves, is_range, leaf_count, root_of_leaves, tree_root};
 use std::process::Abort;
 
 // Writes the digests of a range to the front of these bytes, and returns how many bytes they are.
