@@ -1,12 +1,13 @@
 -- Several messages side by side: their words, and the result of the last step of a compression.
-use Rattle.std.proofs.Common.{false, ◌≡◌, ℕ, zero, suc, ◌+◌, ◌-◌, ◌*◌, ◌<◌, ◌≤◌, List, [], ◌∷◌}
+use Rattle.std.proofs.Common.{false, ◌≡◌, ℕ, zero, suc, ◌+◌, ◌-◌, ◌*◌, ◌<◌, List, [], ◌∷◌}
 use Rattle.std.proofs.Common.{length, get_or, slice_index, slice_index_or, bit_xor, replicate, map}
 use Rattle.std.proofs.Common.{take, drop, refl, sym, ap, subst, ◌∙◌, arith, below_more, slice_set}
-use Rattle.std.proofs.lemmas.List.{ext_get_or, get_or-map, get_or_default, length-map}
+use Rattle.std.proofs.lemmas.List.{append-nil, ext_get_or, get_or-map, get_or_default, length-map}
 use Rattle.std.proofs.lemmas.List.{get_or-set_other, get_or-set_same}
 use Rattle.std.specs.Borrow.{Bor}
 use Rattle.blake2_simd.specs.Family.{Family, block_bytes}
 use Rattle.blake2_simd.specs.Rows.{eight, lane}
+use Rattle.blake2_simd.proofs.Columns.{eight_read}
 use Rattle.blake2_simd.proofs.Lanes.{lane_of, lanes}
 use Rattle.blake2_simd.proofs.Words.{cells, cells-drop}
 use Rattle.blake2_compress.specs.Hash.{Flags, Input, block_count, blocks}
@@ -45,13 +46,6 @@ blocks_at lists j d h = sym (get_or-map (λ b. b.now) lists j d [] h)
 -- The default for an index that a list of references to blocks does not have.
 abbrev pub no_blocks : Bor (List (List ℕ))
 no_blocks = record { ref_ptr = (0, 0); now = [] }
-
--- What holds for the blocks that each of n references points to holds for their list.
-pub in_lists : (P : ℕ → List (List ℕ) → Type 0) (lists : List (Bor (List (List ℕ)))) (n i : ℕ)
-    → length lists ≡ n → n ≤ i → ((k : ℕ) → k < i → P k (slice_index_or lists k no_blocks).now)
-    → (k : ℕ) → k < n → P k (slice_index_or (block_lists lists) k [])
-in_lists P lists n i long all each k lt =
-    subst (P k) (blocks_at lists k no_blocks (omega arith)) (each k (omega arith))
 
 -- n blocks of an input's data from the second on.
 abbrev pub AreLater : Family → Input → ℕ → List (List ℕ) → Type 0
@@ -94,10 +88,12 @@ one_more_after f h d t flags i u old new block before compressed is_block counte
     ∙ ap (after_blocks f h d t flags) next
 
 -- A single block.
-pub single_after : (f : Family) (h block : List ℕ) (t : ℕ) (flags : Flags)
-    → after_blocks f h (block ∷ []) t flags 1 ≡ compress f h block t flags
+pub single_after : (f : Family) (h block : List ℕ) (d : List (List ℕ)) (t : ℕ) (flags : Flags)
+    → d ≡ block ∷ [] → after_blocks f h d t flags 1 ≡ compress f h block t flags
 unfolding after_blocks
-single_after f h block t flags = ap (λ (u : ℕ). compress f h block u flags) (omega arith)
+single_after f h block d t flags single =
+    ap (λ l. after_blocks f h l t flags 1) single
+    ∙ ap (λ (u : ℕ). compress f h block u flags) (omega arith)
 
 -- The first block and then all others are all blocks.
 pub later_after : (f : Family) (h first : List ℕ) (d later : List (List ℕ)) (n : ℕ)
@@ -160,51 +156,19 @@ xored_lanes h v out j lh lv long at =
     ∙ sym (lane_of 8 x 0 k lt))
     ∙ xored (in_lane j h) (in_lane j v) (length-map h word ∙ lh) (length-map v word ∙ lv)
 
--- Word k of column j of some rows is the word in lane j of row k, which is row p of h.
-pub column_word : (h rows columns : List (List ℕ)) (p j k : ℕ) (d : List ℕ)
-    → lane columns j k ≡ lane rows k j → slice_index_or rows k [] ≡ slice_index_or h p []
-    → j < length columns → p < length h
-    → slice_index (get_or columns j d) k ≡ slice_index (in_lane j h) p
-column_word h rows columns p j k d turned is_row here within =
-    ap (λ l. slice_index l k) (get_or_default columns j d [] here) ∙ turned
-    ∙ ap (λ l. slice_index l j) is_row ∙ lane_word h j p [] within
-
--- The words of column j, from all rows in one list of columns.
-pub whole_column : (h columns : List (List ℕ)) (j : ℕ) (d w : List ℕ) → w ≡ get_or columns j d
-    → length w ≡ 8 → length h ≡ 8 → j < length columns
-    → ((k : ℕ) → k < 8 → lane columns j k ≡ lane h k j) → w ≡ in_lane j h
-whole_column h columns j d w e long long_h here turned =
-    let at : (k : ℕ) → k < 8 → slice_index w k ≡ slice_index (in_lane j h) k =
-    λ k lt. ap (λ l. slice_index l k) e
-    ∙ column_word h h columns k j k d (turned k lt) refl here (omega arith) in
-    sym (cells-drop w 0 8 long)
-    ∙ (λ i. at 0 (omega arith) i ∷ at 1 (omega arith) i ∷ at 2 (omega arith) i
-    ∷ at 3 (omega arith) i ∷ at 4 (omega arith) i ∷ at 5 (omega arith) i ∷ at 6 (omega arith) i
-    ∷ at 7 (omega arith) i ∷ [])
-    ∙ cells-drop (in_lane j h) 0 8 (length-map h (λ (row : List ℕ). slice_index row j) ∙ long_h)
-
--- And from columns of the first four rows and of the last four.
-pub two_columns : (h first last columns more : List (List ℕ)) (j : ℕ) (d e : List ℕ)
-    → length h ≡ 8 → length columns ≡ 4 → length more ≡ 4 → j < 4
-    → ((k : ℕ) → k < 4 → lane columns j k ≡ lane first k j)
-    → ((k : ℕ) → k < 4 → lane more j k ≡ lane last k j)
-    → ((k : ℕ) → k < 4 → slice_index_or first k [] ≡ slice_index_or h k [])
-    → ((k : ℕ) → k < 4 → slice_index_or last k [] ≡ slice_index_or h (4 + k) [])
-    → eight (get_or columns j d ∷ get_or more j e ∷ []) ≡ in_lane j h
-two_columns h first last columns more j d e long long_c long_m here turned turned_m is_first
-    is_last =
-    let at : (k : ℕ) → k < 4
-    → slice_index (get_or columns j d) k ≡ slice_index (in_lane j h) k =
-    λ k lt. column_word h first columns k j k d (turned k lt) (is_first k lt) (omega arith)
-    (omega arith) in
-    let after : (k : ℕ) → k < 4
-    → slice_index (get_or more j e) k ≡ slice_index (in_lane j h) (4 + k) =
-    λ k lt. column_word h last more (4 + k) j k e (turned_m k lt) (is_last k lt) (omega arith)
-    (omega arith) in
-    (λ i. at 0 (omega arith) i ∷ at 1 (omega arith) i ∷ at 2 (omega arith) i ∷ at 3 (omega arith) i
-    ∷ after 0 (omega arith) i ∷ after 1 (omega arith) i ∷ after 2 (omega arith) i
-    ∷ after 3 (omega arith) i ∷ [])
-    ∙ cells-drop (in_lane j h) 0 8 (length-map h (λ (row : List ℕ). slice_index row j) ∙ long)
+-- The eight words in a lane, from the columns of the first four rows and of the last four.
+pub two_columns : (h low high : List (List ℕ)) (j : ℕ) (d0 d1 d2 d3 d4 d5 d6 d7 : List ℕ)
+    → length h ≡ 8
+    → ((k : ℕ) → k < 4 → lane low j k ≡ lane (get_or h 0 d0 ∷ get_or h 1 d1 ∷ get_or h 2 d2
+    ∷ get_or h 3 d3 ∷ []) k j)
+    → ((k : ℕ) → k < 4 → lane high j k ≡ lane (get_or h 4 d4 ∷ get_or h 5 d5 ∷ get_or h 6 d6
+    ∷ get_or h 7 d7 ∷ []) k j)
+    → eight (slice_index_or low j [] ∷ slice_index_or high j [] ∷ []) ≡ in_lane j h
+two_columns h low high j d0 d1 d2 d3 d4 d5 d6 d7 long first last =
+    (λ i. first 0 (omega arith) i ∷ first 1 (omega arith) i ∷ first 2 (omega arith) i
+    ∷ first 3 (omega arith) i ∷ last 0 (omega arith) i ∷ last 1 (omega arith) i
+    ∷ last 2 (omega arith) i ∷ last 3 (omega arith) i ∷ [])
+    ∙ ap (in_lane j) (eight_read h [] d0 d1 d2 d3 d4 d5 d6 d7 long ∙ append-nil h)
 
 -- The flags of a block that others follow are off, whichever the message.
 pub inner_at : (n j : ℕ) → flags_at (replicate n (record { last = false; last_node = false })) j

@@ -37,7 +37,7 @@ length-iv blake2s = refl
 -- ---- F
 
 -- F works on sixteen numbers.
-length-before_rounds : (f : Family) (h : List ℕ) (t : ℕ) (flags : Flags) → length h ≡ 8
+pub length-before_rounds : (f : Family) (h : List ℕ) (t : ℕ) (flags : Flags) → length h ≡ 8
     → length (before_rounds f h t flags) ≡ 16
 unfolding before_rounds
 length-before_rounds f h t flags e =

@@ -1,58 +1,32 @@
-use Rattle.std.proofs.lemmas.List.{get_or_default}
-use Rattle.std.proofs.Common.{◌≡◌, ◌+◌, ◌<◌, get_or, slice_index, List, ℕ, [], ◌∷◌, length}
-use Rattle.std.proofs.Common.{slice_index_or, ap, ◌∙◌, arith, rules}
+use Rattle.std.proofs.Common.{◌≡◌, ◌<◌, ℕ, List, [], length, slice_index_or, ap, ◌∙◌, arith, rules}
+use Rattle.std.specs.Borrow.{Bor}
 use Rattle.blake2_simd.specs.Family.{blake2b}
-use Rattle.blake2_simd.proofs.Words.{cells-drop}
+use Rattle.blake2_simd.specs.Lanes.{in_lane}
 use Rattle.blake2_simd.proofs.Lanes.{listed_in_four}
 use Rattle.blake2_compress.specs.Hash.{words_of}
 use Rattle.blake2_compress.specs.Lanes.{texts}
-use Rattle.blake2_compress.proofs.Lanes.{text_at}
 use Rattle.blake2_compress.proofs.ByteSizes.{length-words_of}
+use Rattle.blake2_compress.proofs.Lanes.{text_at}
+use Rattle.blake2_compress.proofs.ManyMessages.{four_parts, sixteen_in_fours}
 use Rattle.blake2_compress.proofs.many.blake2b.block_rows.Goals as goal
 
 pub returns : goal.returns
 returns c j h =
     let blocks = c.args.blocks.now in
     let long : length blocks ≡ 4 = search rules in
-    let m : List (List ℕ) = c.block_words.result ∷ c.block_words-2.result ∷ c.block_words-3.result
-    ∷ c.block_words-4.result ∷ [] in
-    let words = listed_in_four (λ k. words_of blake2b 16
-    (slice_index_or (texts blocks) k [])) _ _ _ _
-    (c.block_words.ensures ∙ ap (words_of blake2b 16) (text_at blocks 0 _ (omega arith)))
-    (c.block_words-2.ensures ∙ ap (words_of blake2b 16) (text_at blocks 1 _ (omega arith)))
-    (c.block_words-3.ensures ∙ ap (words_of blake2b 16) (text_at blocks 2 _ (omega arith)))
-    (c.block_words-4.ensures ∙ ap (words_of blake2b 16) (text_at blocks 3 _ (omega arith))) j h in
     let long_a : length c.rows_from-a.result ≡ 4 = search rules in
     let long_b : length c.rows_from-b.result ≡ 4 = search rules in
     let long_c : length c.rows_from-c.result ≡ 4 = search rules in
     let long_d : length c.rows_from-d.result ≡ 4 = search rules in
-    let at_a : (i : ℕ) (e : List ℕ) → i < 4 → slice_index (get_or c.rows_from-a.result i e) j
-    ≡ slice_index (slice_index_or m j []) (0 + i) =
-    λ i e lt. ap (λ (w : List ℕ). slice_index w j)
-    (get_or_default c.rows_from-a.result i e [] (omega (arith, long_a)))
-    ∙ c.rows_from-a.ensures i j lt h in
-    let at_b : (i : ℕ) (e : List ℕ) → i < 4 → slice_index (get_or c.rows_from-b.result i e) j
-    ≡ slice_index (slice_index_or m j []) (4 + i) =
-    λ i e lt. ap (λ (w : List ℕ). slice_index w j)
-    (get_or_default c.rows_from-b.result i e [] (omega (arith, long_b)))
-    ∙ c.rows_from-b.ensures i j lt h in
-    let at_c : (i : ℕ) (e : List ℕ) → i < 4 → slice_index (get_or c.rows_from-c.result i e) j
-    ≡ slice_index (slice_index_or m j []) (8 + i) =
-    λ i e lt. ap (λ (w : List ℕ). slice_index w j)
-    (get_or_default c.rows_from-c.result i e [] (omega (arith, long_c)))
-    ∙ c.rows_from-c.ensures i j lt h in
-    let at_d : (i : ℕ) (e : List ℕ) → i < 4 → slice_index (get_or c.rows_from-d.result i e) j
-    ≡ slice_index (slice_index_or m j []) (12 + i) =
-    λ i e lt. ap (λ (w : List ℕ). slice_index w j)
-    (get_or_default c.rows_from-d.result i e [] (omega (arith, long_d)))
-    ∙ c.rows_from-d.ensures i j lt h in
-    (λ i. at_a 0 c.index-a-0.result (omega arith) i ∷ at_a 1 c.index-a-1.result (omega arith) i
-    ∷ at_a 2 c.index-a-2.result (omega arith) i ∷ at_a 3 c.index-a-3.result (omega arith) i
-    ∷ at_b 0 c.index-b-0.result (omega arith) i ∷ at_b 1 c.index-b-1.result (omega arith) i
-    ∷ at_b 2 c.index-b-2.result (omega arith) i ∷ at_b 3 c.index-b-3.result (omega arith) i
-    ∷ at_c 0 c.index-c-0.result (omega arith) i ∷ at_c 1 c.index-c-1.result (omega arith) i
-    ∷ at_c 2 c.index-c-2.result (omega arith) i ∷ at_c 3 c.index-c-3.result (omega arith) i
-    ∷ at_d 0 c.index-d-0.result (omega arith) i ∷ at_d 1 c.index-d-1.result (omega arith) i
-    ∷ at_d 2 c.index-d-2.result (omega arith) i ∷ at_d 3 c.index-d-3.result (omega arith) i ∷ [])
-    ∙ cells-drop (slice_index_or m j []) 0 16 (ap length words ∙ length-words_of blake2b 16 _)
+    let read = λ (k : ℕ) (d : Bor (List ℕ)) (lt : k < 4).
+    ap (words_of blake2b 16) (text_at blocks k d (omega arith)) in
+    let words = listed_in_four (λ k. words_of blake2b 16 (slice_index_or (texts blocks) k [])) _ _ _ _
+    (c.block_words.ensures ∙ read 0 _ (omega arith))
+    (c.block_words-2.ensures ∙ read 1 _ (omega arith))
+    (c.block_words-3.ensures ∙ read 2 _ (omega arith))
+    (c.block_words-4.ensures ∙ read 3 _ (omega arith)) j h in
+    ap (in_lane j) (sixteen_in_fours _ _ _ _ _ _ _ _ _ _ _ _ _ _ _ _ _ _ _ _ long_a long_b long_c long_d)
+    ∙ four_parts j _ _ _ _ _ long_a long_b long_c long_d (ap length words ∙ length-words_of blake2b 16 _)
+    (λ i lt. c.rows_from-a.ensures i j lt h) (λ i lt. c.rows_from-b.ensures i j lt h)
+    (λ i lt. c.rows_from-c.ensures i j lt h) (λ i lt. c.rows_from-d.ensures i j lt h)
     ∙ words

@@ -1,12 +1,10 @@
-use Rattle.std.proofs.Common.{◌≡◌, ◌<◌, ℕ, [], ◌∷◌, length, slice_index_or, take}
+use Rattle.std.proofs.Common.{◌≡◌, [], ◌∷◌, slice_index_or, take}
 use Rattle.blake2_simd.specs.Family.{blake2b}
 use Rattle.blake2_simd.specs.Rows.{eight}
 use Rattle.blake2_compress.specs.Hash.{bytes_of}
+use Rattle.blake2_compress.proofs.ManyMessages.{Filled}
 use Rattle.blake2_compress.proofs.many.blake2b.outputs.Given as goal
 
 abbrev pub invariant-loop-j : goal.invariant-loop-j
-invariant-loop-j g l = record {
-  long : length l.outputs ≡ 4;
-  at : (k : ℕ) → k < l.j → slice_index_or l.outputs k [] ≡ take g.row.N (bytes_of blake2b
-      (eight (slice_index_or l.low k [] ∷ slice_index_or l.high k [] ∷ [])));
-}
+invariant-loop-j g l = Filled 4 [] (λ k x. x ≡ take g.row.N (bytes_of blake2b
+    (eight (slice_index_or l.low k [] ∷ slice_index_or l.high k [] ∷ [])))) l.outputs l.j

@@ -1,23 +1,17 @@
-use Rattle.std.proofs.Common.{◌≡◌, ◌+◌, ◌<◌, ℕ, List, [], ◌∷◌, length, get_or, slice_index}
-use Rattle.std.proofs.Common.{slice_index_or, ap, ◌∙◌, arith, rules}
-use Rattle.std.proofs.lemmas.List.{get_or_default}
-use Rattle.blake2_simd.proofs.Lanes.{in_four}
+use Rattle.std.proofs.Common.{◌≡◌, ◌+◌, ℕ, List, [], ◌∷◌, length, ap, ◌∙◌, arith, rules}
+use Rattle.blake2_simd.specs.Lanes.{in_lane}
+use Rattle.blake2_simd.proofs.Columns.{four_read}
+use Rattle.blake2_compress.proofs.ManyMessages.{word_in_lane}
 use Rattle.blake2_compress.proofs.many.blake2b.rows_from.Goals as goal
 
 pub returns : goal.returns
 returns c i j low h =
     let words = c.args.words.now in
     let long : length words ≡ 4 = search rules in
-    let read : List (List ℕ) = c.four_words.result ∷ c.four_words-2.result ∷ c.four_words-3.result
-    ∷ c.four_words-4.result ∷ [] in
-    let at : (l : ℕ) (d : List ℕ) → l < 4 → slice_index (get_or words l d) (c.args.k + i)
-    ≡ slice_index (slice_index_or words l []) (c.args.k + i) =
-    λ l d lt. ap (λ (w : List ℕ). slice_index w (c.args.k + i))
-    (get_or_default words l d [] (omega arith)) in
+    let read : List (List ℕ) =
+    c.four_words.result ∷ c.four_words-2.result ∷ c.four_words-3.result ∷ c.four_words-4.result ∷ [] in
     c.transpose.ensures j i h low
-    ∙ in_four (λ l. slice_index (slice_index_or read l []) i
-    ≡ slice_index (slice_index_or words l []) (c.args.k + i))
-    (c.four_words.ensures i low ∙ at 0 _ (omega arith))
-    (c.four_words-2.ensures i low ∙ at 1 _ (omega arith))
-    (c.four_words-3.ensures i low ∙ at 2 _ (omega arith))
-    (c.four_words-4.ensures i low ∙ at 3 _ (omega arith)) j h
+    ∙ word_in_lane words read i (c.args.k + i) j (omega arith) ((λ t.
+    c.four_words.ensures i low t ∷ c.four_words-2.ensures i low t ∷ c.four_words-3.ensures i low t ∷
+    c.four_words-4.ensures i low t ∷ [])
+    ∙ ap (in_lane (c.args.k + i)) (four_read words [] _ _ _ _ long))

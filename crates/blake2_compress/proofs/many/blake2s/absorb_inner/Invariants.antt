@@ -1,7 +1,7 @@
-use Rattle.std.proofs.Common.{◌≡◌, ◌-◌, ◌<◌, ℕ, length, slice_index_or}
+use Rattle.std.proofs.Common.{◌-◌}
 use Rattle.blake2_simd.specs.Family.{blake2s}
-use Rattle.blake2_compress.specs.Lanes.{input_at}
-use Rattle.blake2_compress.proofs.Lanes.{AreLater, no_blocks}
+use Rattle.blake2_compress.proofs.Lanes.{no_blocks}
+use Rattle.blake2_compress.proofs.ManyMessages.{Filled, LaterOf}
 use Rattle.blake2_compress.proofs.many.blake2s.absorb_inner.Given as goal
 
 abbrev pub ghost-step_count : goal.ghost-step_count
@@ -11,8 +11,4 @@ abbrev pub ghost-later_blocks : goal.ghost-later_blocks
 ghost-later_blocks a = blake2s
 
 abbrev pub invariant-loop-j : goal.invariant-loop-j
-invariant-loop-j l = record {
-  long : length l.later ≡ 8;
-  at : (k : ℕ) → k < l.j → AreLater blake2s (input_at l.inputs k) (l.count - 2)
-      (slice_index_or l.later k no_blocks).now;
-}
+invariant-loop-j l = Filled 8 no_blocks (LaterOf blake2s l.inputs (l.count - 2)) l.later l.j
