@@ -1,7 +1,6 @@
 -- The blocks of the data, joined, are the data followed by zeros.
 use Rattle.std.proofs.Common.{◌≡◌, ℕ, zero, suc, ◌+◌, ◌-◌, ◌*◌, ◌≤◌, inl, inr, List, [], ◌∷◌, ◌++◌}
-use Rattle.std.proofs.Common.{length, take, drop, replicate, refl, sym, ap, ◌∙◌, arith}
-use Rattle.std.proofs.Common.{length-drop}
+use Rattle.std.proofs.Common.{length, take, drop, replicate, refl, sym, ap, ◌∙◌, arith, length-drop}
 use Rattle.std.proofs.lemmas.List.{take_at, drop_at, take_all, drop_all, append_assoc, append-nil}
 use Rattle.std.proofs.lemmas.List.{take-append-drop, length-take-le, replicate-append-replicate}
 use Rattle.std.proofs.lemmas.Bool.{cases_lt}

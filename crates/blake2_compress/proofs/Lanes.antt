@@ -1,7 +1,7 @@
 -- Several messages side by side: their words, and the result of the last step of a compression.
-use Rattle.std.proofs.Common.{false, ◌≡◌, ℕ, zero, suc, ◌+◌, ◌-◌, ◌*◌, ◌<◌, List, [], ◌∷◌}
-use Rattle.std.proofs.Common.{length, get_or, slice_index, slice_index_or, bit_xor, replicate, map}
-use Rattle.std.proofs.Common.{take, drop, refl, sym, ap, subst, ◌∙◌, arith, below_more, slice_set}
+use Rattle.std.proofs.Common.{false, ◌≡◌, ℕ, zero, suc, ◌+◌, ◌-◌, ◌*◌, ◌<◌, List, [], ◌∷◌, length}
+use Rattle.std.proofs.Common.{get_or, slice_index, slice_index_or, bit_xor, replicate, map, take}
+use Rattle.std.proofs.Common.{drop, refl, sym, ap, subst, ◌∙◌, arith, below_more, slice_set}
 use Rattle.std.proofs.lemmas.List.{append-nil, ext_get_or, get_or-map, get_or_default, length-map}
 use Rattle.std.proofs.lemmas.List.{get_or-set_other, get_or-set_same}
 use Rattle.std.specs.Borrow.{Bor}
@@ -10,9 +10,8 @@ use Rattle.blake2_simd.specs.Rows.{eight, lane}
 use Rattle.blake2_simd.proofs.Columns.{eight_read}
 use Rattle.blake2_simd.proofs.Lanes.{lane_of, lanes}
 use Rattle.blake2_simd.proofs.Words.{cells, cells-drop}
-use Rattle.blake2_compress.specs.Hash.{Flags, Input, block_count, blocks}
-use Rattle.blake2_compress.specs.Hash.{chain, compress, inner, input_data}
-use Rattle.blake2_compress.specs.Hash.{last_chain, xor_words}
+use Rattle.blake2_compress.specs.Hash.{Flags, Input, block_count, blocks, chain, compress, inner}
+use Rattle.blake2_compress.specs.Hash.{input_data, last_chain, xor_words}
 use Rattle.blake2_simd.specs.Lanes.{in_lane}
 use Rattle.blake2_compress.specs.Lanes.{after_blocks, block_lists, flags_at, texts}
 

@@ -1,11 +1,12 @@
 -- Several inputs side by side: what a loop over them has made, and their runs, over the family and
 -- the number of inputs.
-use Rattle.std.proofs.Common.{◌≡◌, ℕ, suc, ◌+◌, ◌-◌, ◌*◌, ◌<◌, ◌≤◌, List, [], ◌∷◌, ◌++◌}
-use Rattle.std.proofs.Common.{length, get_or, slice_index, slice_index_or, slice_set, bit_xor, drop, take}
+use Rattle.std.proofs.Common.{◌≡◌, ℕ, suc, ◌+◌, ◌-◌, ◌*◌, ◌<◌, ◌≤◌, List, [], ◌∷◌, ◌++◌, length}
+use Rattle.std.proofs.Common.{get_or, slice_index, slice_index_or, slice_set, bit_xor, drop, take}
 use Rattle.std.proofs.Common.{below_more, refl, sym, ap, subst, ◌∙◌, arith, length-append}
 use Rattle.std.proofs.Math.Nat.{lt_of_lt_of_le}
 use Rattle.std.proofs.Math.Seq.{drop-cons}
-use Rattle.std.proofs.lemmas.List.{append-nil, drop_all, get_or_default, length-map, length-set, map-append}
+use Rattle.std.proofs.lemmas.List.{append-nil, drop_all, get_or_default, length-map, length-set}
+use Rattle.std.proofs.lemmas.List.{map-append}
 use Rattle.std.specs.Borrow.{Bor}
 use Rattle.blake2_simd.specs.Family.{Family, block_bytes}
 use Rattle.blake2_simd.specs.Lanes.{in_lane}
@@ -13,14 +14,15 @@ use Rattle.blake2_simd.specs.Rows.{eight, lane}
 use Rattle.blake2_simd.proofs.Columns.{eight_read, four_read}
 use Rattle.blake2_simd.proofs.Lanes.{in_eight}
 use Rattle.blake2_compress.specs.declared.inputs.Input as GivenInput
-use Rattle.blake2_compress.specs.Hash.{Flags, bytes_of, before_rounds, block_count, blocks, chain, compress}
-use Rattle.blake2_compress.specs.Hash.{Input, inner, input_data, input_flags, input_start, last_chain}
+use Rattle.blake2_compress.specs.Hash.{Flags, bytes_of, before_rounds, block_count, blocks, chain}
+use Rattle.blake2_compress.specs.Hash.{compress, Input, inner, input_data, input_flags, input_start}
+use Rattle.blake2_compress.specs.Hash.{last_chain}
 use Rattle.blake2_compress.specs.Inputs.{Accepts}
 use Rattle.blake2_compress.specs.Lanes.{AcceptsAtOnce, after_blocks, block_lists, input_at}
 use Rattle.blake2_compress.specs.Run.{step_count}
 use Rattle.blake2_compress.proofs.Lanes.{AreLater, block_in_list, block_more, blocks_at, lane_is}
-use Rattle.blake2_compress.proofs.Lanes.{lane_word, later_after, no_block, no_blocks, run_end, set_more}
-use Rattle.blake2_compress.proofs.Lanes.{xor_at, xor_read}
+use Rattle.blake2_compress.proofs.Lanes.{lane_word, later_after, no_block, no_blocks, run_end}
+use Rattle.blake2_compress.proofs.Lanes.{set_more, xor_at, xor_read}
 use Rattle.blake2_compress.proofs.ParameterSizes.{length-start}
 use Rattle.blake2_compress.proofs.RunSizes.{length-last_chain}
 use Rattle.blake2_compress.proofs.WordSizes.{length-before_rounds}

@@ -1,7 +1,6 @@
 -- The parameter block, as its fields are written over zeros.
 use Rattle.std.proofs.Common.{◌≡◌, ℕ, ◌+◌, ◌-◌, ◌≤◌, List, [], ◌∷◌, ◌++◌, length, drop, take}
-use Rattle.std.proofs.Common.{replicate}
-use Rattle.std.proofs.Common.{refl, sym, ap, ◌∙◌, arith, length-append}
+use Rattle.std.proofs.Common.{replicate, refl, sym, ap, ◌∙◌, arith, length-append}
 use Rattle.std.proofs.lemmas.List.{take_at, drop_at, append_assoc, length-replicate, drop-replicate}
 use Rattle.std.proofs.lemmas.List.{length-take-le}
 use Rattle.std.specs.Int.{to_le_bytes, w32, w64}

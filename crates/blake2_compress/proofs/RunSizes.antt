@@ -1,11 +1,10 @@
 -- The lengths of the chaining words of a run and of its digest. The bytes of words are bytes.
-use Rattle.std.proofs.Common.{◌≡◌, ℕ, zero, suc, ◌+◌, ◌*◌, ◌≤◌, List, [], ◌∷◌}
-use Rattle.std.proofs.Common.{length, refl, ap, ◌∙◌, arith, length-append}
+use Rattle.std.proofs.Common.{◌≡◌, ℕ, zero, suc, ◌+◌, ◌*◌, ◌≤◌, List, [], ◌∷◌, length, refl, ap}
+use Rattle.std.proofs.Common.{◌∙◌, arith, length-append}
 use Rattle.std.proofs.lemmas.List.{length-take-le}
 use Rattle.std.specs.Int.{to_le_bytes}
 use Rattle.std.specs.List.{flat_map}
-use Rattle.blake2_simd.specs.Family.{Family, blake2b, blake2s, word, word_bytes}
-use Rattle.blake2_simd.specs.Family.{output_bytes}
+use Rattle.blake2_simd.specs.Family.{Family, blake2b, blake2s, word, word_bytes, output_bytes}
 use Rattle.blake2_simd.proofs.Texts.{AreBytes-append}
 use Rattle.blake2_compress.specs.Hash.{input_flags, Flags, inner, input_parameters, AreBytes}
 use Rattle.blake2_compress.specs.Hash.{bytes_of, chain, last_chain, Input, input_start, input_data}

@@ -9,8 +9,7 @@ use Rattle.blake2_simd.specs.Round.{mix, round}
 use Rattle.blake2_compress.specs.Hash.{words_of, bytes_of, xor_words, padded, after_rounds}
 use Rattle.blake2_compress.specs.Hash.{before_rounds, compress, parameter_block, parameter_words}
 use Rattle.blake2_compress.specs.Hash.{start, key_block, cut, chain, last_chain, Input, Tree}
-use Rattle.blake2_compress.specs.Hash.{digest}
-use Rattle.blake2_compress.specs.Hash.{sequential}
+use Rattle.blake2_compress.specs.Hash.{digest, sequential}
 
 -- An input without salt, personalization and key.
 abbrev no_key : List ℕ → Input

@@ -2,8 +2,7 @@
 -- unless the BLAKE2 document is named.
 use Rattle.std.specs.Prelude.{ℕ, zero, suc, ◌+◌, ◌-◌, ◌*◌, ◌/◌, ◌%◌, ◌^◌, ◌<◌, ◌≤◌, min, nat_eq}
 use Rattle.std.specs.Prelude.{Bool, true, false, if◌then◌else◌, List, [], ◌∷◌, ◌++◌, length, map}
-use Rattle.std.specs.Prelude.{take}
-use Rattle.std.specs.Prelude.{drop, replicate, bit_xor, slice_index_or, Option, Some, None}
+use Rattle.std.specs.Prelude.{take, drop, replicate, bit_xor, slice_index_or, Option, Some, None}
 use Rattle.std.specs.Int.{from_le_bytes, to_le_bytes, w32, w64}
 use Rattle.std.specs.List.{flat_map, range_with_len}
 use mir.Val.{bits}
@@ -11,8 +10,8 @@ use Rattle.blake2_simd.specs.Blocks.{chunk_count}
 pub use Rattle.blake2_simd.specs.Texts.{AreBytes}
 unfoldable pub use Rattle.blake2_simd.specs.Texts.{padded}
 use Rattle.blake2_simd.specs.Family.{Family, word, word_bytes, block_bytes, rounds, key_bytes}
-use Rattle.blake2_simd.specs.Family.{output_bytes, salt_bytes, offset_bytes, reserved_bytes}
-use Rattle.blake2_simd.specs.Family.{iv, sigma}
+use Rattle.blake2_simd.specs.Family.{output_bytes, salt_bytes, offset_bytes, reserved_bytes, iv}
+use Rattle.blake2_simd.specs.Family.{sigma}
 use Rattle.blake2_simd.specs.Round.{round}
 
 -- ---- words and bytes

@@ -1,6 +1,6 @@
 //! The blocks of an input's data (RFC 7693, 3.3).
 
-ghost use Rattle.std.specs.Prelude.{◌≡◌, ◌+◌, ◌<◌, ◌≤◌, ◌*◌, ◌-◌, ◌^◌, length, take, drop};
+ghost use Rattle.std.specs.Prelude.{◌≡◌, ◌+◌, ◌<◌, ◌≤◌, ◌*◌, ◌-◌, length, take, drop};
 ghost use Rattle.std.specs.Prelude.{slice_index_or, []};
 ghost use Rattle.blake2_simd.specs.Family.{Family, block_bytes};
 ghost use Rattle.blake2_compress.specs.Hash;

@@ -1,6 +1,6 @@
 //! The lengths of an input's parts, for a family of any sizes.
 
-ghost use Rattle.std.specs.Prelude.{◌≡◌, ◌+◌, ◌<◌, ◌≤◌, ◌^◌, ◌↔◌, length, IsTrue, Some};
+ghost use Rattle.std.specs.Prelude.{◌≡◌, ◌<◌, ◌≤◌, ◌^◌, ◌↔◌, length, IsTrue, Some};
 ghost use Rattle.blake2_simd.specs.Family.{Family, block_bytes, key_bytes, salt_bytes};
 ghost use Rattle.blake2_compress.specs.Hash.{AdmitsTree, AreBytes, data_bytes};
 ghost use Rattle.blake2_compress.specs.Inputs.{Accepts, KeyFits};

@@ -1,22 +1,21 @@
 //! Eight messages of BLAKE2b: eight rows hold their chaining words, row k having word k of each.
 
-ghost use Rattle.std.specs.Prelude.{◌≡◌, ◌↔◌, ◌<◌, ◌≤◌, ◌+◌, ◌-◌, ◌*◌, ◌^◌, ◌%◌, ℕ, List, []};
-ghost use Rattle.std.specs.Prelude.{◌++◌, IsTrue, length, bit_xor, map, take, drop};
-ghost use Rattle.std.specs.Prelude.{slice_index, slice_index_or};
+ghost use Rattle.std.specs.Prelude.{◌≡◌, ◌↔◌, ◌<◌, ◌≤◌, ◌+◌, ◌-◌, ◌*◌, ◌^◌, ◌%◌, ℕ, List, [], ◌++◌};
+ghost use Rattle.std.specs.Prelude.{IsTrue, length, bit_xor, map, take, drop, slice_index};
+ghost use Rattle.std.specs.Prelude.{slice_index_or};
 ghost use Rattle.blake2_simd.specs.Family.{blake2b, output_bytes, sigma};
 ghost use Rattle.blake2_simd.specs.Lanes.{in_lane};
 ghost use Rattle.blake2_simd.specs.Round;
-ghost use Rattle.blake2_simd.specs.Rows.{eight, lane};
+ghost use Rattle.blake2_simd.specs.Rows.{lane};
 ghost use Rattle.blake2_compress.specs.Hash;
 ghost use Rattle.blake2_compress.specs.Hash.{after_rounds, before_rounds, blocks, bytes_of, chain};
-ghost use Rattle.blake2_compress.specs.Hash.{digest};
-ghost use Rattle.blake2_compress.specs.Hash.{input_data, input_flags, input_start, last_chain};
-ghost use Rattle.blake2_compress.specs.Hash.{words_of, xor_words};
+ghost use Rattle.blake2_compress.specs.Hash.{digest, input_data, input_flags, input_start};
+ghost use Rattle.blake2_compress.specs.Hash.{last_chain, words_of, xor_words};
 ghost use Rattle.blake2_compress.specs.Inputs.{Accepts};
 ghost use Rattle.blake2_compress.specs.Lanes.{AcceptsAtOnce, after_blocks, block_lists, flags_at};
 ghost use Rattle.blake2_compress.specs.Lanes.{input_at, texts};
 ghost use Rattle.blake2_compress.specs.Run;
-ghost use Rattle.blake2_compress.specs.Views.{given_flags, input_of};
+ghost use Rattle.blake2_compress.specs.Views.{input_of};
 
 use super::super::later_blocks;
 use super::{last_words, output};

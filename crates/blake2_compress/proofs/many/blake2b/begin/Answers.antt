@@ -18,7 +18,7 @@ returns c j h =
     ≡ before_rounds blake2b u c.args.counter (flags_at c.args.flags.now k))
     (c.last_words.ensures u) (c.last_words-2.ensures u) (c.last_words-3.ensures u)
     (c.last_words-4.ensures u) j h in
-    ap (in_lane j) (sixteen_read c.args.h.now c.rows_of-w.result _ _ _ _ _ _ _ _ _ _ _ _ _ _ _ _ long
-    many)
+    ap (in_lane j) (sixteen_read c.args.h.now c.rows_of-w.result
+    _ _ _ _ _ _ _ _ _ _ _ _ _ _ _ _ long many)
     ∙ begun_rows blake2b j c.args.h.now c.rows_of-w.result _ _ _ long many
     (λ k lt. c.rows_of-w.ensures j k h lt) begun

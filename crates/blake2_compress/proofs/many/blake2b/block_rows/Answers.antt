@@ -1,4 +1,5 @@
-use Rattle.std.proofs.Common.{◌≡◌, ◌<◌, ℕ, List, [], length, slice_index_or, ap, ◌∙◌, arith, rules}
+use Rattle.std.proofs.Common.{◌≡◌, ◌<◌, ℕ, List, [], length, slice_index_or, ap, ◌∙◌, arith, lit<}
+use Rattle.std.proofs.Common.{rules}
 use Rattle.std.specs.Borrow.{Bor}
 use Rattle.blake2_simd.specs.Family.{blake2b}
 use Rattle.blake2_simd.specs.Lanes.{in_lane}
@@ -20,13 +21,14 @@ returns c j h =
     let long_d : length c.rows_from-d.result ≡ 4 = search rules in
     let read = λ (k : ℕ) (d : Bor (List ℕ)) (lt : k < 4).
     ap (words_of blake2b 16) (text_at blocks k d (omega arith)) in
-    let words = listed_in_four (λ k. words_of blake2b 16 (slice_index_or (texts blocks) k [])) _ _ _ _
-    (c.block_words.ensures ∙ read 0 _ (omega arith))
-    (c.block_words-2.ensures ∙ read 1 _ (omega arith))
-    (c.block_words-3.ensures ∙ read 2 _ (omega arith))
-    (c.block_words-4.ensures ∙ read 3 _ (omega arith)) j h in
-    ap (in_lane j) (sixteen_in_fours _ _ _ _ _ _ _ _ _ _ _ _ _ _ _ _ _ _ _ _ long_a long_b long_c long_d)
-    ∙ four_parts j _ _ _ _ _ long_a long_b long_c long_d (ap length words ∙ length-words_of blake2b 16 _)
+    let words = listed_in_four (λ k. words_of blake2b 16 (slice_index_or (texts blocks) k []))
+    _ _ _ _ (c.block_words.ensures ∙ read 0 _ (lit< tt))
+    (c.block_words-2.ensures ∙ read 1 _ (lit< tt)) (c.block_words-3.ensures ∙ read 2 _ (lit< tt))
+    (c.block_words-4.ensures ∙ read 3 _ (lit< tt)) j h in
+    ap (in_lane j) (sixteen_in_fours _ _ _ _ _ _ _ _ _ _ _ _ _ _ _ _ _ _ _ _
+    long_a long_b long_c long_d)
+    ∙ four_parts j _ _ _ _ _ long_a long_b long_c long_d
+    (ap length words ∙ length-words_of blake2b 16 _)
     (λ i lt. c.rows_from-a.ensures i j lt h) (λ i lt. c.rows_from-b.ensures i j lt h)
     (λ i lt. c.rows_from-c.ensures i j lt h) (λ i lt. c.rows_from-d.ensures i j lt h)
     ∙ words

@@ -8,8 +8,8 @@ use Rattle.blake2_compress.proofs.many.blake2b.compress_at.Goals as goal
 
 pub returns : goal.returns
 returns c j h =
-    let block : ℕ → List ℕ = λ k.
-    slice_index_or (blocks blake2b (input_data blake2b (input_at c.args.inputs.now k))) c.args.i [] in
+    let block : ℕ → List ℕ = λ k. slice_index_or
+    (blocks blake2b (input_data blake2b (input_at c.args.inputs.now k))) c.args.i [] in
     let single : List ℕ → List (List ℕ) = λ b. b ∷ [] in
     c.compress_blocks.ensures j h
     ∙ single_after blake2b _ (block j) _ _ _ (listed_in_four (λ k. single (block k)) _ _ _ _

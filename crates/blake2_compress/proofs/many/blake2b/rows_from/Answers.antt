@@ -8,8 +8,8 @@ pub returns : goal.returns
 returns c i j low h =
     let words = c.args.words.now in
     let long : length words ≡ 4 = search rules in
-    let read : List (List ℕ) =
-    c.four_words.result ∷ c.four_words-2.result ∷ c.four_words-3.result ∷ c.four_words-4.result ∷ [] in
+    let read : List (List ℕ) = c.four_words.result ∷ c.four_words-2.result ∷ c.four_words-3.result
+    ∷ c.four_words-4.result ∷ [] in
     c.transpose.ensures j i h low
     ∙ word_in_lane words read i (c.args.k + i) j (omega arith) ((λ t.
     c.four_words.ensures i low t ∷ c.four_words-2.ensures i low t ∷ c.four_words-3.ensures i low t ∷

@@ -7,7 +7,8 @@ use Rattle.blake2_compress.proofs.Streaming.{block_count-pos}
 use Rattle.blake2_compress.proofs.many.blake2b.eight.absorb.Goals as goal
 
 pub absorb_inner-requires-clause-same_number : goal.absorb_inner-requires-clause-same_number
-absorb_inner-requires-clause-same_number c j h = ap (block_count blake2b) (c.requires.same_count j h)
+absorb_inner-requires-clause-same_number c j h =
+    ap (block_count blake2b) (c.requires.same_count j h)
 
 pub compress_at-requires-clause-within : goal.compress_at-requires-clause-within
 compress_at-requires-clause-within c j h =

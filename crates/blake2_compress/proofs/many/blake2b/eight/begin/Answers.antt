@@ -16,7 +16,7 @@ returns c j h =
     (c.last_words.ensures u) (c.last_words-2.ensures u) (c.last_words-3.ensures u)
     (c.last_words-4.ensures u) (c.last_words-5.ensures u) (c.last_words-6.ensures u)
     (c.last_words-7.ensures u) (c.last_words-8.ensures u) j h in
-    ap (in_lane j) (sixteen_read c.args.h.now c.rows_of-w.result _ _ _ _ _ _ _ _ _ _ _ _ _ _ _ _ long
-    many)
+    ap (in_lane j) (sixteen_read c.args.h.now c.rows_of-w.result
+    _ _ _ _ _ _ _ _ _ _ _ _ _ _ _ _ long many)
     ∙ begun_rows blake2b j c.args.h.now c.rows_of-w.result _ _ _ long many
     (λ k lt. c.rows_of-w.ensures j k h lt) begun

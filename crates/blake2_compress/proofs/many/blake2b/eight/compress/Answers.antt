@@ -5,5 +5,5 @@ use Rattle.blake2_compress.proofs.many.blake2b.eight.compress.Goals as goal
 pub returns : goal.returns
 unfolding compress
 returns c j h =
-    rw (c.finish.ensures j h, c.rounds.ensures j h, c.begin-v.ensures j h, c.block_rows-m.ensures j h)
-    refl
+    rw (c.finish.ensures j h, c.rounds.ensures j h, c.begin-v.ensures j h)
+    (rw (c.block_rows-m.ensures j h) refl)
