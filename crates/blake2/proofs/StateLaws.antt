@@ -175,3 +175,11 @@ pub future-nothing : (f : Family) (n : ℕ) (s : State) → length s.pending ≤
     → take n (last_output f s.core s.pending) ≡ future f n s s.core.last_node []
 unfolding future
 future-nothing f n s fits = ap (take n) (sym (last_chain-pending f s.core s.pending fits))
+
+-- The output of a state made of these parts.
+pub output_of_pending : (f : Family) (n : ℕ) (core : CoreState) (pending block : List ℕ)
+    → length pending ≤ block_bytes f
+    → future f n (record { core = core; pending = pending; start_block = block }) core.last_node []
+    ≡ take n (last_output f core pending)
+output_of_pending f n core pending block fits =
+    sym (future-nothing f n (record { core = core; pending = pending; start_block = block }) fits)

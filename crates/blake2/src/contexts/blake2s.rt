@@ -77,6 +77,7 @@ impl Blake2sContext {
     }
 
     /// Writes the output of `N` bytes, at most 32, and leaves nothing of the run.
+    #[tactic(auto, using(crate::proofs::StateLaws::output_of_pending))]
     pub(crate) fn finish<const N: usize>(&mut self, out: &mut [u8; N])
         requires { N ≤ 32 }
         ensures output { (block : List ℕ)
@@ -90,6 +91,7 @@ impl Blake2sContext {
 
     /// Writes the output of `N` bytes, at most 32, and goes back to the start, with this block
     /// pending.
+    #[tactic(auto, using(crate::proofs::StateLaws::output_of_pending))]
     pub(crate) fn finish_reset<const N: usize>(
         &mut self,
         start_block: LazyBuffer<64>,
