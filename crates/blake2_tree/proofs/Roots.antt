@@ -37,12 +37,12 @@ digests_to_come-opened leaves s place leaf y some opened =
     ∙ digests_to_come-begun s place y some
 
 -- A tree that has just been initialized returns the root of what comes.
-pub future-made : {R S : Type 0} (roots : Meaning R) (leaves : Meaning S) (s : TreeParameters)
-    (n : ℕ) (root : R) (leaf : S) (y : List ℕ) → 0 < s.leaf_length
+pub future-made : {R S : Type 0} {roots : Meaning R} {leaves : Meaning S} (s : TreeParameters)
+    (n : ℕ) {root : R} {leaf : S} → 0 < s.leaf_length
     → Fresh leaves (node_digest 64 s 0 0) 0 leaf → Fresh roots (node_digest n s 0 1) 0 root
-    → future (open_tree roots leaves s 0 root leaf) y ≡ tree_root n s y
+    → (y : List ℕ) → future (open_tree roots leaves s 0 root leaf) y ≡ tree_root n s y
 unfolding future tree_root
-future-made roots leaves s n root leaf y some is_leaf is_root =
+future-made {leaves} s n {leaf} some is_leaf is_root y =
     is_root.future true
     (digests_to_come s (leaves.future leaf) (s.leaf_length - leaves.count leaf) 1 y)
     ∙ ap (node_digest n s 0 1 true)
@@ -67,27 +67,39 @@ future-took roots leaves s closed root old new x y took counted fits =
     (s.leaf_length - leaves.count old) (closed + 1) x y fits took)
 
 -- An update of the open leaf is one of the tree.
-pub Took-updated : {R S : Type 0} (roots : Meaning R) (leaves : Meaning S) (s : TreeParameters)
-    (closed : ℕ) (root : R) (old new : S) (x : List ℕ)
+pub Took-updated : {R S : Type 0} (roots : Meaning R) {leaves : Meaning S} {s : TreeParameters}
+    {closed : ℕ} (root : R) {old new : S} {x : List ℕ}
     → Updated leaves old x new → length x ≤ s.leaf_length - leaves.count old
     → Took (open_tree roots leaves s closed root old) x (open_tree roots leaves s closed root new)
-Took-updated roots leaves s closed root old new x updated fits = record {
+Took-updated roots {leaves} {s} {closed} root {old} {new} {x} updated fits = record {
   shared = refl;
   future = λ y.
       future-took roots leaves s closed root old new x y updated.future updated.count fits;
   count = omega (arith, updated.count);
 }
 
+-- A tree that absorbs the rest of an input has absorbed all of it.
+pub Took-rest : {old new : OpenTree} (left : OpenTree) {input rest : List ℕ}
+    → left.shared ≡ old.shared
+    → ((y : List ℕ) → future left (rest ++ y) ≡ future old (input ++ y))
+    → count left + length rest ≡ count old + length input → Took left rest new → Took old input new
+Took-rest left shared to_come counts took = record {
+  shared = took.shared ∙ shared;
+  future = λ y. took.future y ∙ to_come y;
+  count = took.count ∙ counts;
+}
+
 -- A full leaf is closed and the next one is opened, if something comes.
-pub future-closed : {R S : Type 0} (roots : Meaning R) (leaves : Meaning S) (s : TreeParameters)
-    (closed : ℕ) (old new : R) (full opened : S) (y : List ℕ)
+pub future-closed : {R S : Type 0} {roots : Meaning R} {leaves : Meaning S} (s : TreeParameters)
+    (closed : ℕ) {old new : R} (full : S) {opened : S}
     → 0 < s.leaf_length → s.leaf_length - leaves.count full ≡ 0 → leaves.last_node full ≡ false
     → Updated roots old (digest_now leaves full) new
-    → Fresh leaves (node_digest 64 s (closed + 1) 0) 0 opened → 0 < length y
+    → Fresh leaves (node_digest 64 s (closed + 1) 0) 0 opened → (y : List ℕ) → 0 < length y
     → future (open_tree roots leaves s (closed + 1) new opened) y
     ≡ future (open_tree roots leaves s closed old full) y
 unfolding future
-future-closed roots leaves s closed old new full opened y some no_room inner updated fresh more =
+future-closed {roots} {leaves} s closed {old} {new} full {opened} some no_room inner updated fresh y
+    more =
     let next : ℕ = closed + 1 in
     ap (roots.future new true)
     (digests_to_come-opened leaves s next opened y some (IsOpened-fresh leaves s next opened fresh))
@@ -99,8 +111,8 @@ future-closed roots leaves s closed old new full opened y some no_room inner upd
     ∙ digests_to_come-full s (leaves.future full) next y more))
 
 -- The open leaf absorbs the beginning of the input, which fills it, and is closed, if more follows.
-pub WentOn-closed : {R S : Type 0} (roots : Meaning R) (leaves : Meaning S) (s : TreeParameters)
-    (closed : ℕ) (old : R) (leaf full : S) (new : OpenTree) (room : ℕ) (x head rest : List ℕ)
+pub WentOn-closed : {R S : Type 0} (roots : Meaning R) {leaves : Meaning S} {s : TreeParameters}
+    {closed : ℕ} (old : R) {leaf full : S} {new : OpenTree} {room : ℕ} {x head rest : List ℕ}
     → 0 < s.leaf_length → leaves.count leaf ≤ s.leaf_length
     → room ≡ s.leaf_length - leaves.count leaf → room < length x
     → head ≡ take room x → rest ≡ drop room x → Updated leaves leaf head full
@@ -108,8 +120,8 @@ pub WentOn-closed : {R S : Type 0} (roots : Meaning R) (leaves : Meaning S) (s :
     → future new y ≡ future (open_tree roots leaves s closed old full) y)
     → new.shared ≡ s → new.closed ≡ closed + 1 → new.taken ≡ 0
     → WentOn (open_tree roots leaves s closed old leaf) x new rest
-WentOn-closed roots leaves s closed old leaf full new room x head rest some within is_room
-    long is_head is_rest took closes same next empty =
+WentOn-closed roots {leaves} {s} {closed} old {leaf} {full} {new} {room} {x} {head} {rest} some within
+    is_room long is_head is_rest took closes same next empty =
     let size : length head ≡ room =
     ap length is_head ∙ length-take-le room x (omega arith) in
     let left : length rest ≡ length x - room = ap length is_rest ∙ length-drop room x in
@@ -138,14 +150,14 @@ AreWhole-taken size k x some one more =
 
 -- The first k leaves of the input are closed, the open one, which is empty, among them. More
 -- follows, and the next one is opened.
-pub WentOn-next : (old new : OpenTree) (k : ℕ) (input : List ℕ) → 0 < old.shared.leaf_length
+pub WentOn-next : {old new : OpenTree} (k : ℕ) {input : List ℕ} → 0 < old.shared.leaf_length
     → 1 ≤ k → k * old.shared.leaf_length < length input → old.taken ≡ 0 → new.taken ≡ 0
     → new.shared ≡ old.shared → count new ≡ count old + k * old.shared.leaf_length
     → ((y : List ℕ) → 0 < length y
     → future new y ≡ future old (take (k * old.shared.leaf_length) input ++ y))
     → WentOn old input new (take (length input - k * old.shared.leaf_length)
     (drop (k * old.shared.leaf_length) input))
-WentOn-next old new k input some one more empty opened shared counted closed =
+WentOn-next {old} {new} k {input} some one more empty opened shared counted closed =
     let m : ℕ = k * old.shared.leaf_length in
     let rest : List ℕ = drop m input in
     let size : length rest ≡ length input - m = length-drop m input in
@@ -165,57 +177,57 @@ WentOn-next old new k input some one more empty opened shared counted closed =
     }
 
 -- The root absorbs the digest of a full leaf.
-pub root-closed : {R S : Type 0} (roots : Meaning R) (leaves : Meaning S) (old new : R) (full : S)
-    (z : List ℕ) → leaves.last_node full ≡ false → Updated roots old (digest_now leaves full) new
+pub root-closed : {R S : Type 0} {roots : Meaning R} (leaves : Meaning S) {old new : R} (full : S)
+    → leaves.last_node full ≡ false → Updated roots old (digest_now leaves full) new
+    → (z : List ℕ)
     → roots.future new true z ≡ roots.future old true (leaves.future full false [] ++ z)
-root-closed roots leaves old new full z inner updated =
+root-closed {roots} leaves {old} full inner updated z =
     updated.future true z
     ∙ ap (λ (last : Bool). roots.future old true (leaves.future full last [] ++ z)) inner
 
 -- The root absorbs any digests, and the leaf after theirs is opened, if something comes.
-pub future-by_digests : {R S : Type 0} (roots : Meaning R) (leaves : Meaning S)
-    (s : TreeParameters) (next : ℕ) (old new : R) (opened : S) (digests y : List ℕ)
+pub future-by_digests : {R S : Type 0} {roots : Meaning R} {leaves : Meaning S}
+    (s : TreeParameters) (next : ℕ) {old new : R} {opened : S} {digests : List ℕ}
     → 0 < s.leaf_length → Updated roots old digests new
-    → Fresh leaves (node_digest 64 s next 0) 0 opened
+    → Fresh leaves (node_digest 64 s next 0) 0 opened → (y : List ℕ)
     → future (open_tree roots leaves s next new opened) y
     ≡ roots.future old true (digests ++ range_digests s next true y)
 unfolding future
-future-by_digests roots leaves s next old new opened digests y some updated fresh =
+future-by_digests {roots} {leaves} s next {new} {opened} some updated fresh y =
     ap (roots.future new true)
     (digests_to_come-opened leaves s next opened y some (IsOpened-fresh leaves s next opened fresh))
     ∙ updated.future true (range_digests s next true y)
 
 -- The open leaf, which is empty, and others after it are closed by their digests, and the next one
 -- is opened, if something comes.
-pub future-given : {R S : Type 0} (roots : Meaning R) (leaves : Meaning S) (s : TreeParameters)
-    (closed k : ℕ) (old new : R) (leaf opened : S) (digests x y : List ℕ) → 0 < s.leaf_length
+pub future-given : {R S : Type 0} {roots : Meaning R} {leaves : Meaning S} {s : TreeParameters}
+    {closed : ℕ} {old new : R} {leaf opened : S} {digests x : List ℕ} → 0 < s.leaf_length
     → IsOpened leaves s closed leaf → AreWhole s.leaf_length x
-    → digests ≡ range_digests s closed false x → k ≡ length digests / 64
-    → Updated roots old digests new → Fresh leaves (node_digest 64 s (closed + k) 0) 0 opened
-    → 0 < length y
-    → future (open_tree roots leaves s (closed + k) new opened) y
+    → digests ≡ range_digests s closed false x → Updated roots old digests new
+    → Fresh leaves (node_digest 64 s (closed + length digests / 64) 0) 0 opened
+    → (y : List ℕ) → 0 < length y → future (open_tree roots leaves s (closed + length digests / 64) new opened) y
     ≡ future (open_tree roots leaves s closed old leaf) (x ++ y)
 unfolding future
-future-given roots leaves s closed k old new leaf opened digests x y some is_leaf whole are count
-    updated fresh more =
+future-given {roots} {leaves} {s} {closed} {old} {leaf} {digests} {x} some is_leaf whole are updated
+    fresh y more =
     let many : length digests ≡ length x / s.leaf_length * 64 =
     ap length are ∙ length-range_digests s closed false x
     ∙ ap (λ n. n * 64) (leaf_count-is s.leaf_length x some whole) in
-    let leaves_of_x : k ≡ length x / s.leaf_length = omega (arith, many, count) in
-    future-by_digests roots leaves s (closed + k) old new opened digests y some updated fresh
+    let leaves_of_x : length digests / 64 ≡ length x / s.leaf_length = omega (arith, many) in
+    future-by_digests s (closed + length digests / 64) some updated fresh y
     ∙ ap (roots.future old true)
     ((λ i. are i ++ range_digests s (closed + leaves_of_x i) true y)
     ∙ sym (range_digests-cut s closed true x y some whole more)
     ∙ sym (digests_to_come-opened leaves s closed leaf (x ++ y) some is_leaf))
 
 -- The open leaf is the last, and the root absorbs its digest.
-pub future-finished : {R S : Type 0} (roots : Meaning R) (leaves : Meaning S) (s : TreeParameters)
-    (closed : ℕ) (root taken last : R) (leaf last_leaf : S)
+pub future-finished : {R S : Type 0} {roots : Meaning R} {leaves : Meaning S} (s : TreeParameters)
+    (closed : ℕ) {root taken last : R} {leaf last_leaf : S}
     → NodeSet leaves leaf true last_leaf → Updated roots root (digest_now leaves last_leaf) taken
     → NodeSet roots taken true last
     → digest_now roots last ≡ future (open_tree roots leaves s closed root leaf) []
 unfolding future
-future-finished roots leaves s closed root taken last leaf last_leaf leaf_set updated root_set =
+future-finished {roots} {leaves} s closed {root} {last} {leaf} {last_leaf} leaf_set updated root_set =
     let digest_is : digest_now leaves last_leaf ≡ leaves.future leaf true [] =
     ap (λ (on : Bool). leaves.future last_leaf on []) leaf_set.last_node
     ∙ leaf_set.future true [] in
@@ -227,15 +239,15 @@ future-finished roots leaves s closed root taken last leaf last_leaf leaf_set up
     (closed + 1)))
 
 -- The open leaf, which is empty, and three more are the last, and the root absorbs their digests.
-pub future-last_four : {R S : Type 0} (roots : Meaning R) (leaves : Meaning S)
-    (s : TreeParameters) (closed : ℕ) (root taken last : R) (leaf : S) (x bytes : List ℕ)
-    (digests : List (List ℕ)) → 0 < s.leaf_length → length x ≡ 4 * s.leaf_length
+pub future-last_four : {R S : Type 0} {roots : Meaning R} {leaves : Meaning S}
+    {s : TreeParameters} {closed : ℕ} {root taken last : R} {leaf : S} (x : List ℕ)
+    {bytes : List ℕ} {digests : List (List ℕ)} → 0 < s.leaf_length → length x ≡ 4 * s.leaf_length
     → IsOpened leaves s closed leaf → digests ≡ four_digests s closed true x
     → bytes ≡ flat_map (λ digest. digest) digests
     → Updated roots root bytes taken → NodeSet roots taken true last
     → digest_now roots last ≡ future (open_tree roots leaves s closed root leaf) x
 unfolding future
-future-last_four roots leaves s closed root taken last leaf x bytes digests some whole is_leaf are
+future-last_four {roots} {leaves} {s} {closed} {root} {last} {leaf} x {bytes} some whole is_leaf are
     joined updated root_set =
     ap (λ (on : Bool). roots.future last on []) root_set.last_node
     ∙ root_set.future true [] ∙ updated.future true []
@@ -245,10 +257,10 @@ future-last_four roots leaves s closed root taken last leaf x bytes digests some
     ∙ sym (digests_to_come-opened leaves s closed leaf x some is_leaf))
 
 -- A leaf that was opened and has absorbed nothing is still as it was opened.
-pub IsOpened-updated : {S : Type 0} (leaves : Meaning S) (s : TreeParameters) (place : ℕ)
-    (old new : S) (x : List ℕ) → (leaves.count old ≡ 0 → IsOpened leaves s place old)
+pub IsOpened-updated : {S : Type 0} {leaves : Meaning S} {s : TreeParameters} {place : ℕ}
+    {old new : S} {x : List ℕ} → (leaves.count old ≡ 0 → IsOpened leaves s place old)
     → Updated leaves old x new → leaves.count new ≡ 0 → IsOpened leaves s place new
-IsOpened-updated leaves s place old new x opened updated empty =
+IsOpened-updated {leaves} {old} {x} opened updated empty =
     let nothing : x ≡ [] = nil_from_length x (omega (arith, updated.count)) in
     let before = opened (omega (arith, updated.count)) in
     record {

@@ -2,7 +2,7 @@ use Rattle.std.proofs.Common.{◌≡◌, ℕ, List, take, length, ap, sym, subst
 use Rattle.blake2_digest.proofs.Texts.{take-padded}
 use Rattle.blake2_digest.specs.Texts.{padded}
 use Rattle.blake2_state.specs.Blake2b.{meaning}
-use Rattle.blake2_tree.specs.Nodes.{shared_parameters, IsOpened}
+use Rattle.blake2_tree.specs.Nodes.{IsOpened}
 use Rattle.blake2_tree.specs.TreeRoot.{tree_parameters, tree_root}
 use Rattle.blake2_tree.specs.OpenTrees.{open_tree, future}
 use Rattle.blake2_tree.proofs.Roots.{future-made}
@@ -21,13 +21,12 @@ kept salt persona a b l m is_a is_b same =
 
 pub returns-clause-root : goal.returns-clause-root
 returns-clause-root c = λ y.
-    let nodes = c.new-nodes.result in
     ap (λ s. future (open_tree meaning meaning s 0 c.node_state-2.result c.node_state.result) y)
     (kept c.args.salt.now c.args.persona.now c.padded.result c.padded-2.result c.from.result
     c.args.leaf_length c.padded.ensures c.padded-2.ensures c.from.ensures
     ∙ sym c.new-nodes.ensures)
-    ∙ future-made meaning meaning (shared_parameters nodes) c.args.output_size c.node_state-2.result
-    c.node_state.result y nodes.some_length c.node_state.ensures.fresh c.node_state-2.ensures.fresh
+    ∙ future-made _ _ c.new-nodes.result.some_length c.node_state.ensures.fresh
+    c.node_state-2.ensures.fresh y
     ∙ ap (λ s. tree_root c.args.output_size s y) c.new-nodes.ensures
 
 pub returns-clause-shared : goal.returns-clause-shared

@@ -3,7 +3,7 @@ use Rattle.std.proofs.Common.{false, subst}
 use Rattle.std.proofs.lemmas.List.{length-take-le}
 use Rattle.blake2_tree.specs.Ranges.{range_digests}
 use Rattle.blake2_tree.proofs.Roots.{AreWhole-taken, WentOn-next}
-use Rattle.blake2_state.specs.TreeStates.{count, parameters, state_tree}
+use Rattle.blake2_state.specs.TreeStates.{count, parameters}
 use Rattle.blake2_state.proofs.tree.TreeState.close_next.Goals as goal
 
 pub returns-clause-went_on : goal.returns-clause-went_on
@@ -28,8 +28,7 @@ returns-clause-went_on c =
     ap (λ p. p.leaf_length) c.nodes-nodes.ensures in
     let follow : k * l < length c.args.input.now =
     subst (λ n. k * n < length c.args.input.now) same next.more in
-    WentOn-next (state_tree old) (state_tree c.close_given.new.self) k c.args.input.now
-    some next.some follow c.requires.begun.empty given.begun.empty given.shared
+    WentOn-next k some next.some follow c.requires.begun.empty given.begun.empty given.shared
     (given.count ∙ ap (λ (n : ℕ). count old + n * l) closed)
     (λ y more. given.future c.requires.begun _ y (AreWhole-taken l k c.args.input.now some next.some
     follow) more digests)

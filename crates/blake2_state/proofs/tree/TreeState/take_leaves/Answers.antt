@@ -1,7 +1,7 @@
-use Rattle.std.proofs.Common.{◌∙◌, arith}
+use Rattle.std.proofs.Common.{arith}
 use Rattle.blake2_state.specs.Blake2b.{meaning}
-use Rattle.blake2_state.specs.TreeStates.{parameters}
-use Rattle.blake2_tree.proofs.Roots.{Took-updated}
+use Rattle.blake2_state.specs.TreeStates.{state_tree}
+use Rattle.blake2_tree.proofs.Roots.{Took-updated, Took-rest}
 use Rattle.blake2_state.proofs.tree.TreeState.take_leaves.Goals as goal
 
 pub loop-self-smaller-then-rest-self : goal.loop-self-smaller-then-rest-self
@@ -24,12 +24,6 @@ loop-self-smaller c =
 
 pub returns-clause-taken : goal.returns-clause-taken
 returns-clause-taken c =
-    let left = c.loop-self.self in
-    let took =
-    Took-updated meaning meaning (parameters left) left.closed left.root left.leaf c.update.new.self
-    c.loop-self.rest.now c.update.ensures.updated (omega arith) in
-    record {
-      shared = took.shared ∙ c.loop-self.invariant.shared;
-      future = λ y. took.future y ∙ c.loop-self.invariant.future y;
-      count = took.count ∙ c.loop-self.invariant.count;
-    }
+    let left = c.loop-self.invariant in
+    Took-rest (state_tree c.loop-self.self) left.shared left.future left.count
+    (Took-updated meaning c.loop-self.self.root c.update.ensures.updated (omega arith))

@@ -1,11 +1,8 @@
 use Rattle.std.proofs.Common.{arith}
 use Rattle.blake2_state.specs.Blake2b.{meaning}
-use Rattle.blake2_state.specs.TreeStates.{parameters}
 use Rattle.blake2_tree.proofs.Roots.{Took-updated}
 use Rattle.blake2_state.proofs.tree.TreeState.update.Goals as goal
 
 pub returns-then-input-room-clause-taken : goal.returns-then-input-room-clause-taken
 returns-then-input-room-clause-taken c =
-    let old = c.args.self.now in
-    Took-updated meaning meaning (parameters old) old.closed old.root old.leaf c.update.new.self
-    c.args.input.now c.update.ensures.updated (omega arith)
+    Took-updated meaning c.args.self.now.root c.update.ensures.updated (omega arith)

@@ -1,4 +1,4 @@
-use Rattle.std.proofs.Common.{◌≡◌, ◌<◌, false, ℕ, length, sym, ◌∙◌, rules}
+use Rattle.std.proofs.Common.{◌≡◌, ◌<◌, false, ℕ, sym, ◌∙◌, rules}
 use Rattle.std.specs.Bool.{◌==◌}
 use Rattle.blake2_tree.proofs.LeafUpdateLaws.{TookLeaves-none, TookLeaves-given, TookDigests-none}
 use Rattle.blake2_tree.proofs.LeafUpdateLaws.{TookDigests-given, fits-given}
