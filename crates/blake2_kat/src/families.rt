@@ -1,8 +1,7 @@
 //! The two families by their words, so that a test is written once for both.
 
 use crate::inputs::{read_input, reading};
-use blake2::laws::transcripts;
-use blake2::steps::{Input, Reading, Step, Transcript};
+use blake2::steps::{Input, Step, Transcript};
 use blake2::{Blake2b512, Blake2bVarCore, Blake2s256, Blake2sVarCore, Digest, LastNode};
 use std::alloc::AllocError;
 use std::fmt::Debug;
@@ -26,9 +25,6 @@ pub(crate) trait Word<const B: usize>: Copy + Drop + Eq + Debug {
         output_size: usize,
     ) -> Transcript<Self, B>;
 
-    /// Whether the law of transcripts finds these equal.
-    fn are_equal(a: &Transcript<Self, B>, b: &Transcript<Self, B>) -> bool;
-
     /// Whether the transcript is read. It is then checked to be that of the input that is read.
     fn is_read(rt: &(impl Abort + AllocGlobal), told: &Transcript<Self, B>) -> bool;
 
@@ -47,20 +43,6 @@ pub(crate) trait Word<const B: usize>: Copy + Drop + Eq + Debug {
         b: &Input<'_>,
         output_size: usize,
     ) -> Result<Option<(Step<Self, B>, Step<Self, B>)>, AllocError>;
-}
-
-// Whether there is a reading. The transcript is then checked to be that of its input.
-fn is_written<W: Word<B>, const B: usize, const S: usize>(
-    rt: &(impl Abort + AllocGlobal),
-    told: &Transcript<W, B>,
-    read: Result<Option<Reading<S>>, AllocError>,
-) -> bool {
-    let Some(read) = read.expect(rt, "room for a reading") else {
-        return false;
-    };
-    let written = W::written(rt, &read_input(&read), read.output_size);
-    assert!(rt; written == *told, "{told:?}");
-    true
 }
 
 impl Word<128> for u64 {
@@ -93,12 +75,14 @@ impl Word<128> for u64 {
         written.expect(rt, "room for a transcript")
     }
 
-    fn are_equal(a: &Transcript<u64, 128>, b: &Transcript<u64, 128>) -> bool {
-        transcripts::blake2b::equal(a, b)
-    }
-
     fn is_read(rt: &(impl Abort + AllocGlobal), told: &Transcript<u64, 128>) -> bool {
-        is_written(rt, told, Blake2bVarCore::read_transcript(rt.alloc(), told))
+        let read = Blake2bVarCore::read_transcript(rt.alloc(), told);
+        let Some(read) = read.expect(rt, "room for a reading") else {
+            return false;
+        };
+        let written = Self::written(rt, &read_input(&read), read.output_size);
+        assert!(rt; written == *told, "{told:?}");
+        true
     }
 
     fn is_read_as(
@@ -155,12 +139,14 @@ impl Word<64> for u32 {
         written.expect(rt, "room for a transcript")
     }
 
-    fn are_equal(a: &Transcript<u32, 64>, b: &Transcript<u32, 64>) -> bool {
-        transcripts::blake2s::equal(a, b)
-    }
-
     fn is_read(rt: &(impl Abort + AllocGlobal), told: &Transcript<u32, 64>) -> bool {
-        is_written(rt, told, Blake2sVarCore::read_transcript(rt.alloc(), told))
+        let read = Blake2sVarCore::read_transcript(rt.alloc(), told);
+        let Some(read) = read.expect(rt, "room for a reading") else {
+            return false;
+        };
+        let written = Self::written(rt, &read_input(&read), read.output_size);
+        assert!(rt; written == *told, "{told:?}");
+        true
     }
 
     fn is_read_as(

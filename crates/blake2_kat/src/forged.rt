@@ -153,59 +153,55 @@ fn check_other_lists<W: Word<B>, const B: usize>(
     }
 }
 
-// Checks the transcript of an input and all its changes, and how many of these are read.
+// Checks a transcript that is read and all its changes, and how many of these are read.
 fn check_changes<W: Word<B>, const B: usize>(
     rt: &(impl Abort + AllocGlobal),
-    input: &Input<'_>,
-    output_size: usize,
+    told: &Transcript<W, B>,
     words: (u32, u32),
     entries: (u32, u32, u32),
 )
     requires { B ≤ 128 }
 {
-    let told: Transcript<W, B> = W::written(rt, input, output_size);
-    assert!(rt; W::is_read(rt, &told));
-    assert!(rt; read_words(rt, &told) == words, "{words:?}");
-    assert!(rt; read_entries(rt, &told) == entries, "{entries:?}");
-    check_other_lists(rt, &told);
+    assert!(rt; W::is_read(rt, told));
+    assert!(rt; read_words(rt, told) == words, "{words:?}");
+    assert!(rt; read_entries(rt, told) == entries, "{entries:?}");
+    check_other_lists(rt, told);
 }
 
 #[test]
 fn read_changed_transcripts_of_blake2b(rt: HostRuntime) {
     let message = [0x2a; 200];
-    let whole = unkeyed(&message[..128]);
-    check_changes::<u64, 128>(&rt, &whole, 64, (1, 256), (0, 1, 1024));
-    let longer = unkeyed(&message[..129]);
-    check_changes::<u64, 128>(&rt, &longer, 64, (1, 256), (6, 1, 1032));
+    let told = u64::written(&rt, &unkeyed(&message[..128]), 64);
+    check_changes(&rt, &told, (1, 256), (0, 1, 1024));
+    let told = u64::written(&rt, &unkeyed(&message[..129]), 64);
+    check_changes(&rt, &told, (1, 256), (6, 1, 1032));
     let keyed = input(Some(&[1]), b"abc", b"0123456789abcdef", &message);
-    check_changes::<u64, 128>(&rt, &keyed, 64, (7, 256), (5, 1, 1608));
+    let told = u64::written(&rt, &keyed, 64);
+    check_changes(&rt, &told, (7, 256), (5, 1, 1608));
 }
 
 #[test]
 fn read_changed_transcripts_of_blake2s(rt: HostRuntime) {
     let message = [0x2a; 100];
-    let whole = unkeyed(&message[..64]);
-    check_changes::<u32, 64>(&rt, &whole, 32, (1, 128), (0, 1, 512));
-    let longer = unkeyed(&message[..65]);
-    check_changes::<u32, 64>(&rt, &longer, 32, (1, 128), (5, 1, 520));
+    let told = u32::written(&rt, &unkeyed(&message[..64]), 32);
+    check_changes(&rt, &told, (1, 128), (0, 1, 512));
+    let told = u32::written(&rt, &unkeyed(&message[..65]), 32);
+    check_changes(&rt, &told, (1, 128), (5, 1, 520));
     let keyed = input(Some(&[1]), b"abc", b"01234567", &message);
-    check_changes::<u32, 64>(&rt, &keyed, 32, (6, 128), (4, 1, 808));
+    let told = u32::written(&rt, &keyed, 32);
+    check_changes(&rt, &told, (6, 128), (4, 1, 808));
 }
 
-// Checks that the transcript of 5,000 bytes is read, and the digest of all its entries: for each
-// the counter, low byte first, the flag and the block.
+// Checks that a transcript is read, and the digest of all its entries: for each the counter, low
+// byte first, the flag and the block.
 fn check_long<W: Word<B>, const B: usize>(
     rt: &(impl Abort + AllocGlobal),
-    key: Option<&[u8]>,
-    output_size: usize,
+    told: &Transcript<W, B>,
     wanted: &str,
 )
     requires { B ≤ 128 }
 {
-    let mut message = [0; 5000];
-    count_up(&mut message);
-    let told: Transcript<W, B> = W::written(rt, &input(key, b"abc", b"", &message), output_size);
-    assert!(rt; W::is_read(rt, &told), "{wanted}");
+    assert!(rt; W::is_read(rt, told), "{wanted}");
     let mut bytes = Vec::new(rt.alloc());
     for entry in &told.entries {
         let counter = entry.counter.to_le_bytes();
@@ -220,16 +216,24 @@ fn check_long<W: Word<B>, const B: usize>(
 
 #[test]
 fn read_long_transcripts_of_blake2b(rt: HostRuntime) {
+    let mut message = [0; 5000];
+    count_up(&mut message);
+    let told = u64::written(&rt, &input(None, b"abc", b"", &message), 64);
     let wanted = "627c8498d916e3c73578b3d3a0867789b206876e18b85c6df87fd17b6ef61cf2";
-    check_long::<u64, 128>(&rt, None, 64, wanted);
+    check_long(&rt, &told, wanted);
+    let told = u64::written(&rt, &input(Some(b"key"), b"abc", b"", &message), 64);
     let wanted = "39dfbca685e20c68df095466a71ddbe744b8709eceb51e17c600634eeeade99c";
-    check_long::<u64, 128>(&rt, Some(b"key"), 64, wanted);
+    check_long(&rt, &told, wanted);
 }
 
 #[test]
 fn read_long_transcripts_of_blake2s(rt: HostRuntime) {
+    let mut message = [0; 5000];
+    count_up(&mut message);
+    let told = u32::written(&rt, &input(None, b"abc", b"", &message), 32);
     let wanted = "c41cdc40bb9aa198750f6166224cf6da97940a05281ff7770bc948b695cdf0ed";
-    check_long::<u32, 64>(&rt, None, 32, wanted);
+    check_long(&rt, &told, wanted);
+    let told = u32::written(&rt, &input(Some(b"key"), b"abc", b"", &message), 32);
     let wanted = "b3c7f5521bfe970ac92d42852d1a70abbce5df9be93269d4ed4797656fa93b21";
-    check_long::<u32, 64>(&rt, Some(b"key"), 32, wanted);
+    check_long(&rt, &told, wanted);
 }

@@ -2,8 +2,8 @@
 //! buffers, transcripts, readings, witnesses, lists of calls and streams, over devices that fail
 //! and when memory is refused. They come from RFC 7693 and from Python's `hashlib.blake2b` and
 //! `hashlib.blake2s`, and not from this project's own code. They are apart from the libraries,
-//! since a crate that has tests is proved twice. `blake2` and `blake2_tree` contain the tests of
-//! what is private there and of trees.
+//! since a crate that has tests is proved twice. `blake2` contains the tests of what is private
+//! there. The modules `inputs` and `hoards` are what the tests of several crates share.
 
 #![tactic(auto)]
 

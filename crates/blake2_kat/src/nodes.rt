@@ -39,60 +39,73 @@ fn add_entries<const B: usize>(rt: &impl Abort, bytes: &mut Vec<u8>, entries: &[
     }
 }
 
-// Checks the digests over 64 nodes' digests, and over the words and the entries of their
-// transcripts, and that these are read as the nodes. Node offsets have 64 bits less `shift`, outputs
-// `longest` bytes, and salts and personas fewer than `texts` bytes.
-fn check_nodes<W: Word<B>, const B: usize>(
+// Adds the digest of a node, and the words and the entries of its transcript, and checks that this
+// is read as the node.
+fn add_node<W: Word<B>, const B: usize>(
     rt: &(impl Abort + AllocGlobal),
-    shift: u32,
-    longest: u8,
-    texts: usize,
-    wanted: [&str; 2],
+    node: &Input<'_>,
+    told: &Transcript<W, B>,
+    output_size: usize,
+    outputs: &mut Vec<u8>,
+    transcripts: &mut Vec<u8>,
 )
-    requires block { B ≤ 128 }
+    requires { B ≤ 128 }
+{
+    add(rt, outputs, W::digest(rt, node).as_slice());
+    for word in told.words {
+        add(rt, transcripts, &word.to_bytes()[..B / 16]);
+    }
+    add_entries(rt, transcripts, told.entries.as_slice());
+    let is_read = W::is_read_as(rt, told, node, output_size);
+    assert!(rt; is_read, "{} bytes", node.message.len());
+}
+
+// The node with this number and these tree parameters, whose salt and persona have fewer than
+// `texts` bytes.
+fn node_of<'a>(bytes: &'a [u8; 320], number: u8, tree: Tree, texts: usize) -> Input<'a>
+    requires number { number ≤ 63 }
     requires least { 1 ≤ texts }
     requires most { texts ≤ 17 }
 {
-    let mut bytes = [0; 320];
-    count_up(&mut bytes);
-    let (mut outputs, mut transcripts) = (Vec::new(rt.alloc()), Vec::new(rt.alloc()));
-    for number in 0..64u8 {
-        let i = number as usize;
-        let (salt, persona) = (&bytes[..i % texts], &bytes[..2 * i % texts]);
-        let node = Input {
-            tree: place(number, shift, u32::from(longest)),
-            last_node: i % 3 == 0,
-            ..input(None, salt, persona, &bytes[..5 * i])
-        };
-        add(rt, &mut outputs, W::digest(rt, &node).as_slice());
-        let told: Transcript<W, B> = W::written(rt, &node, usize::from(longest));
-        for word in told.words {
-            add(rt, &mut transcripts, &word.to_bytes()[..B / 16]);
-        }
-        add_entries(rt, &mut transcripts, told.entries.as_slice());
-        let is_read = W::is_read_as(rt, &told, &node, usize::from(longest));
-        assert!(rt; is_read, "{} bytes", node.message.len());
+    let i = number as usize;
+    let (salt, persona) = (&bytes[..i % texts], &bytes[..2 * i % texts]);
+    Input {
+        tree,
+        last_node: i % 3 == 0,
+        ..input(None, salt, persona, &bytes[..5 * i])
     }
-    check_digest_of(rt, outputs.as_slice(), wanted[0]);
-    check_digest_of(rt, transcripts.as_slice(), wanted[1]);
 }
 
 #[test]
 fn hash_nodes_of_blake2b(rt: HostRuntime) {
-    let wanted = [
-        "743494e239b845379ce3db0c03d9c6c6828864db7264aedb66b4fa41ec51901d",
-        "9dc50af7ecb732cdb106a820c118ee976b365e5733a15eb5a95d514e6236a0db",
-    ];
-    check_nodes::<u64, 128>(&rt, 0, 64, 17, wanted);
+    let mut bytes = [0; 320];
+    count_up(&mut bytes);
+    let (mut outputs, mut transcripts) = (Vec::new(rt.alloc()), Vec::new(rt.alloc()));
+    for number in 0..64u8 {
+        let node = node_of(&bytes, number, place(number, 0, 64), 17);
+        let told = u64::written(&rt, &node, 64);
+        add_node(&rt, &node, &told, 64, &mut outputs, &mut transcripts);
+    }
+    let wanted = "743494e239b845379ce3db0c03d9c6c6828864db7264aedb66b4fa41ec51901d";
+    check_digest_of(&rt, outputs.as_slice(), wanted);
+    let wanted = "9dc50af7ecb732cdb106a820c118ee976b365e5733a15eb5a95d514e6236a0db";
+    check_digest_of(&rt, transcripts.as_slice(), wanted);
 }
 
 #[test]
 fn hash_nodes_of_blake2s(rt: HostRuntime) {
-    let wanted = [
-        "d2d1ec99c81c273452aa7241f907a5dabf6cc3a797c4fef5894148c7d8a4194a",
-        "2aa6df9354f3469b353a468efcf02435da6adc234e18c1d3efe639626d6a8b13",
-    ];
-    check_nodes::<u32, 64>(&rt, 16, 32, 9, wanted);
+    let mut bytes = [0; 320];
+    count_up(&mut bytes);
+    let (mut outputs, mut transcripts) = (Vec::new(rt.alloc()), Vec::new(rt.alloc()));
+    for number in 0..64u8 {
+        let node = node_of(&bytes, number, place(number, 16, 32), 9);
+        let told = u32::written(&rt, &node, 32);
+        add_node(&rt, &node, &told, 32, &mut outputs, &mut transcripts);
+    }
+    let wanted = "d2d1ec99c81c273452aa7241f907a5dabf6cc3a797c4fef5894148c7d8a4194a";
+    check_digest_of(&rt, outputs.as_slice(), wanted);
+    let wanted = "2aa6df9354f3469b353a468efcf02435da6adc234e18c1d3efe639626d6a8b13";
+    check_digest_of(&rt, transcripts.as_slice(), wanted);
 }
 
 // Tree parameters of depth 1 with this fanout, leaf length, node offset, node depth and inner

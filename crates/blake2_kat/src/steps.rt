@@ -1,26 +1,40 @@
 //! Transcripts of inputs, and what transcripts are read as. Words are those of the parameter block
 //! (RFC 7693, 2.5), byte by byte; entries follow section 3.3.
 
-ghost use Rattle.std.specs.Prelude.{◌≤◌};
-
 use crate::families::Word;
 use crate::inputs::{WORDS, count_up, entry, input, transcript, unkeyed};
+use blake2::laws::transcripts;
 use blake2::steps::{Entry, Input, Transcript};
 use std::process::Abort;
 
-// The transcript of these words and entries is written for the input, and is read as that.
-fn check<W: Word<B>, const B: usize>(
+// BLAKE2b writes the transcript of these words and entries for the input, and reads it as that.
+fn check_blake2b(
     rt: &(impl Abort + AllocGlobal),
     input: &Input<'_>,
     output_size: usize,
-    words: [W; 8],
-    entries: &[Entry<B>],
+    words: [u64; 8],
+    entries: &[Entry<128>],
 ) {
     let wanted = transcript(rt, words, entries);
-    let written = W::written(rt, input, output_size);
+    let written = u64::written(rt, input, output_size);
     assert!(rt; written == wanted, "{written:?}");
-    assert!(rt; W::are_equal(&written, &wanted));
-    assert!(rt; W::is_read_as(rt, &wanted, input, output_size));
+    assert!(rt; transcripts::blake2b::equal(&written, &wanted));
+    assert!(rt; u64::is_read_as(rt, &wanted, input, output_size));
+}
+
+// BLAKE2s writes the transcript of these words and entries for the input, and reads it as that.
+fn check_blake2s(
+    rt: &(impl Abort + AllocGlobal),
+    input: &Input<'_>,
+    output_size: usize,
+    words: [u32; 8],
+    entries: &[Entry<64>],
+) {
+    let wanted = transcript(rt, words, entries);
+    let written = u32::written(rt, input, output_size);
+    assert!(rt; written == wanted, "{written:?}");
+    assert!(rt; transcripts::blake2s::equal(&written, &wanted));
+    assert!(rt; u32::is_read_as(rt, &wanted, input, output_size));
 }
 
 #[test]
@@ -29,12 +43,12 @@ fn write_and_read_messages_of_blake2b(rt: HostRuntime) {
     let block = &message[..128];
     let words = [0x01010040, 0, 0, 0, 0, 0, 0, 0];
     let entries = [entry(block, 128, true)];
-    check::<u64, 128>(&rt, &unkeyed(block), 64, words, &entries);
+    check_blake2b(&rt, &unkeyed(block), 64, words, &entries);
     let entries = [entry(block, 128, false), entry(&[0x2a], 129, true)];
-    check::<u64, 128>(&rt, &unkeyed(&message), 64, words, &entries);
+    check_blake2b(&rt, &unkeyed(&message), 64, words, &entries);
     let words = [0x01010010, 0, 0, 0, 0, 0, 0, 0];
     let entries = [entry(b"", 128, false), entry(b"", 256, true)];
-    check::<u64, 128>(&rt, &unkeyed(&[0; 256]), 16, words, &entries);
+    check_blake2b(&rt, &unkeyed(&[0; 256]), 16, words, &entries);
 }
 
 #[test]
@@ -43,18 +57,18 @@ fn write_and_read_messages_of_blake2s(rt: HostRuntime) {
     let block = &message[..64];
     let words = [0x01010020, 0, 0, 0, 0, 0, 0, 0];
     let entries = [entry(block, 64, true)];
-    check::<u32, 64>(&rt, &unkeyed(block), 32, words, &entries);
+    check_blake2s(&rt, &unkeyed(block), 32, words, &entries);
     let (input, entries) = (
         unkeyed(&message[..128]),
         [entry(block, 64, false), entry(block, 128, true)],
     );
-    check::<u32, 64>(&rt, &input, 32, words, &entries);
+    check_blake2s(&rt, &input, 32, words, &entries);
     let entries = [
         entry(block, 64, false),
         entry(block, 128, false),
         entry(&[0x2a], 129, true),
     ];
-    check::<u32, 64>(&rt, &unkeyed(&message), 32, words, &entries);
+    check_blake2s(&rt, &unkeyed(&message), 32, words, &entries);
 }
 
 #[test]
@@ -64,10 +78,10 @@ fn write_and_read_a_key_and_a_persona(rt: HostRuntime) {
     let input = input(Some(&key), b"", b"personal", b"");
     let words = [0x01012040, 0, 0, 0, 0, 0, 0x6c616e6f73726570, 0];
     let entries = [entry(&key, 128, true)];
-    check::<u64, 128>(&rt, &input, 64, words, &entries);
+    check_blake2b(&rt, &input, 64, words, &entries);
     let words = [0x01012020, 0, 0, 0, 0, 0, 0x73726570, 0x6c616e6f];
     let entries = [entry(&key, 64, true)];
-    check::<u32, 64>(&rt, &input, 32, words, &entries);
+    check_blake2s(&rt, &input, 32, words, &entries);
 }
 
 #[test]
@@ -79,7 +93,7 @@ fn write_and_read_all_parts_of_blake2b(rt: HostRuntime) {
         entry(&message[..128], 256, false),
         entry(&message[..72], 328, true),
     ];
-    check::<u64, 128>(&rt, &input, 64, WORDS, &entries);
+    check_blake2b(&rt, &input, 64, WORDS, &entries);
 }
 
 #[test]
@@ -92,16 +106,12 @@ fn write_and_read_all_parts_of_blake2s(rt: HostRuntime) {
         entry(&message[..64], 128, false),
         entry(&message[..36], 164, true),
     ];
-    check::<u32, 64>(&rt, &input, 32, words, &entries);
+    check_blake2s(&rt, &input, 32, words, &entries);
 }
 
-// Whether some input has a transcript of these words and entries.
-fn are_read<W: Word<B>, const B: usize>(
-    rt: &(impl Abort + AllocGlobal),
-    words: [W; 8],
-    entries: &[Entry<B>],
-) -> bool {
-    W::is_read(rt, &transcript(rt, words, entries))
+// Whether some input of BLAKE2b has a transcript of these words and entries.
+fn blake2b_reads(rt: &(impl Abort + AllocGlobal), words: [u64; 8], entries: &[Entry<128>]) -> bool {
+    u64::is_read(rt, &transcript(rt, words, entries))
 }
 
 #[test]
@@ -114,7 +124,7 @@ fn read_no_input_from_other_words(rt: HostRuntime) {
         (0x01014140, 0, false),
     ] {
         let words = [first, second, 0, 0, 0, 0, 0, 0];
-        let read = are_read::<u64, 128>(&rt, words, &entries);
+        let read = blake2b_reads(&rt, words, &entries);
         assert!(rt; read == is_read, "{first:x} {second}");
     }
 }
@@ -129,7 +139,7 @@ fn read_no_sizes_past_the_limits(rt: HostRuntime) {
         (0x01010040, true),
         (0x01010041, false),
     ] {
-        let read = are_read::<u64, 128>(&rt, [first, 0, 0, 0, 0, 0, 0, 0], &entries);
+        let read = blake2b_reads(&rt, [first, 0, 0, 0, 0, 0, 0, 0], &entries);
         assert!(rt; read == is_read, "BLAKE2b {first:x}");
     }
     let entries = [entry(b"", 64, true)];
@@ -148,7 +158,7 @@ fn read_no_sizes_past_the_limits(rt: HostRuntime) {
 #[test]
 fn read_no_input_from_other_entries(rt: HostRuntime) {
     let words = [0x01010040, 0, 0, 0, 0, 0, 0, 0];
-    assert!(rt; !are_read::<u64, 128>(&rt, words, &[]));
+    assert!(rt; !blake2b_reads(&rt, words, &[]));
     let first = [0x2a; 128];
     for (first_is_last, counter, is_read) in [
         (false, 129, true),
@@ -159,17 +169,17 @@ fn read_no_input_from_other_entries(rt: HostRuntime) {
             entry(&first, 128, first_is_last),
             entry(&[0x2a], counter, true),
         ];
-        let read = are_read::<u64, 128>(&rt, words, &entries);
+        let read = blake2b_reads(&rt, words, &entries);
         assert!(rt; read == is_read, "{first_is_last} {counter}");
     }
     for place in 1..128usize {
         let mut second = entry(&[0x2a], 129, true);
         second.block[place] = 1;
-        let read = are_read::<u64, 128>(&rt, words, &[entry(&first, 128, false), second]);
+        let read = blake2b_reads(&rt, words, &[entry(&first, 128, false), second]);
         assert!(rt; !read, "{place}");
     }
     for (counter, is_read) in [(128, true), (127, false)] {
-        let read = are_read::<u64, 128>(&rt, WORDS, &[entry(&[1], counter, true)]);
+        let read = blake2b_reads(&rt, WORDS, &[entry(&[1], counter, true)]);
         assert!(rt; read == is_read, "{counter}");
     }
 }

@@ -1,7 +1,5 @@
 //! The derives of plain values: copies and clones are equal to them, and other values are not.
 
-ghost use Rattle.std.specs.Prelude.{◌≤◌};
-
 use blake2::calls::{Call, ReplayFault};
 use blake2::digest::{InvalidLength, InvalidOutputSize, Lazy, MacError, TruncSide};
 use blake2::engine::{DeviceError, StreamFault};

@@ -1,7 +1,7 @@
 //! The engine over devices that move few bytes or fail, with a hash function that only these
 //! tests have: the value of the bytes as the digits of a number in base 31, modulo 2^32.
 
-ghost use Rattle.std.specs.Prelude.{◌≡◌, ◌+◌, ◌*◌, ◌%◌, ◌^◌, ◌≤◌, false, fold, IfOk};
+ghost use Rattle.std.specs.Prelude.{◌≡◌, ◌+◌, ◌*◌, ◌%◌, ◌^◌, false, fold, IfOk};
 ghost use Rattle.std.proofs.Common.{arith};
 ghost use Rattle.std.specs.Int.{to_be_bytes, w32};
 ghost use Rattle.blake2_replay.specs.Streams.{line_of};

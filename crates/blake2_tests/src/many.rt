@@ -1,7 +1,7 @@
 //! Several messages in parallel, without and with keys: inputs against the digests of Python's
 //! hashlib, each of 16 bytes, one after the other in hexadecimal.
 
-ghost use Rattle.std.specs.Prelude.{◌+◌, ◌≤◌};
+ghost use Rattle.std.specs.Prelude.{◌≤◌};
 
 mod blake2b;
 mod blake2b_eight;

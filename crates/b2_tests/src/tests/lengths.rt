@@ -2,7 +2,7 @@
 //! absent, of one byte and of the maximum length. The digests come from
 //! `tests/expected_values.py`, under `texts` and `options`.
 
-use super::{add_output, is_digest_of, text_of};
+use super::{add_output, is_digest_of};
 use std::alloc::{AllocError, Global};
 use std::process::Abort;
 

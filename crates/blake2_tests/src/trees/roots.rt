@@ -1,7 +1,7 @@
 //! Roots of `tree_root` and `TreeHasher`. The values in hexadecimal are those of `hashlib`, as
 //! `tests/expected_values.py` prints them.
 
-ghost use Rattle.std.specs.Prelude.{◌≡◌, ◌≤◌, length};
+ghost use Rattle.std.specs.Prelude.{◌≤◌, length};
 
 use super::node;
 use blake2::Blake2b256;
