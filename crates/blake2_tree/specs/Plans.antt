@@ -41,8 +41,9 @@ share leaves threads =
 abbrev pub that_fit : ℕ → ℕ → ℕ → ℕ
 that_fit most size leaves = if nat_le (leaves * size) most then leaves else 1
 
--- The number of leaves of a part of n bytes that are for this number of threads: the fours that `part_bytes` have room for, at least one, but at
--- most a thread's share; or one leaf, if these are more than `most_bytes`.
+-- The number of leaves of a part of n bytes that are for this number of threads: the fours that
+-- `part_bytes` have room for, at least one, but at most a thread's share; or one leaf, if these are
+-- more than `most_bytes`.
 abbrev pub part_leaves : Limits → ℕ → ℕ → ℕ → ℕ
 part_leaves l threads size n =
     that_fit l.most_bytes size
@@ -62,8 +63,8 @@ pub record AreParts (l : Limits) (threads size n : ℕ) (p : Plan) : Type 0 wher
 abbrev pub count_of_parts : ℕ → ℕ → ℕ → ℕ
 count_of_parts ends part n = max (div_ceil n part) ends
 
--- The plan of n bytes of leaves from offset `at` on, for this number of threads. If `last` is 1 they are a message, and if it is
--- 0 they are whole leaves that more follows.
+-- The plan of n bytes of leaves from offset `at` on, for this number of threads. If `last` is 1
+-- they are a message, and if it is 0 they are whole leaves that more follows.
 pub record IsPlanOf (l : Limits) (asked size at n last : ℕ) (p : Plan) : Type 0 where
   pub start : p.start ≡ at
   pub end : p.end ≡ at + n

@@ -2,8 +2,8 @@
 //! leaves. The threads are the caller's. Each hashes one part after the other with
 //! [`hash_leaves`](crate::hash_leaves), and writes the digests where the part says.
 
-ghost use Rattle.std.specs.Prelude.{◌≡◌, ◌+◌, ◌-◌, ◌*◌, ◌/◌, ◌%◌, ◌^◌, ◌<◌, ◌≤◌, ◌↔◌, IsTrue, nat_eq};
-ghost use Rattle.std.specs.Prelude.{if◌then◌else◌};
+ghost use Rattle.std.specs.Prelude.{◌≡◌, ◌+◌, ◌-◌, ◌*◌, ◌/◌, ◌%◌, ◌^◌, ◌<◌, ◌≤◌, ◌↔◌, IsTrue};
+ghost use Rattle.std.specs.Prelude.{nat_eq, if◌then◌else◌};
 ghost use Rattle.blake2_tree.specs.TreeRoot.{leaf_count};
 ghost use Rattle.blake2_tree.specs.Plans.{AreLimits, threads_for, share, part_leaves};
 ghost use Rattle.blake2_tree.specs.Plans.{IsPlanOf, IsPlan, IsPart, IsInOrder};
@@ -199,7 +199,8 @@ impl Plan {
         ensures plan { IsPlan result }
         ensures is { IsPlanOf limits.now (threads_for limits.now length) leaf_length start length 1
             result }
-        ensures parts { AreParts limits.now (threads_for limits.now length) leaf_length length result }
+        ensures parts { AreParts limits.now (threads_for limits.now length) leaf_length length
+            result }
         ensures rest { result.rest_length ≡ 0 }
         ensures digests { HasDigests result }
     {
