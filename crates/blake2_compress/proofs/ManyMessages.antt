@@ -2,11 +2,11 @@
 -- the number of inputs.
 use Rattle.std.proofs.Common.{◌≡◌, ℕ, suc, ◌+◌, ◌-◌, ◌*◌, ◌<◌, ◌≤◌, List, [], ◌∷◌, ◌++◌, length}
 use Rattle.std.proofs.Common.{get_or, slice_index, slice_index_or, slice_set, bit_xor, drop, take}
-use Rattle.std.proofs.Common.{below_more, refl, sym, ap, subst, ◌∙◌, arith, length-append}
+use Rattle.std.proofs.Common.{below_more, refl, sym, ap, subst, ◌∙◌, arith, length-append, map}
 use Rattle.std.proofs.Math.Nat.{lt_of_lt_of_le}
 use Rattle.std.proofs.Math.Seq.{drop-cons}
 use Rattle.std.proofs.lemmas.List.{append-nil, drop_all, get_or_default, length-map, length-set}
-use Rattle.std.proofs.lemmas.List.{map-append}
+use Rattle.std.proofs.lemmas.List.{map-append, get_or-map, take-take}
 use Rattle.std.specs.Borrow.{Bor}
 use Rattle.blake2_simd.specs.Family.{Family, block_bytes}
 use Rattle.blake2_simd.specs.Lanes.{in_lane}
@@ -16,13 +16,15 @@ use Rattle.blake2_simd.proofs.Lanes.{in_eight}
 use Rattle.blake2_compress.specs.declared.inputs.Input as GivenInput
 use Rattle.blake2_compress.specs.Hash.{Flags, bytes_of, before_rounds, block_count, blocks, chain}
 use Rattle.blake2_compress.specs.Hash.{compress, Input, inner, input_data, input_flags, input_start}
-use Rattle.blake2_compress.specs.Hash.{last_chain}
+use Rattle.blake2_compress.specs.Hash.{last_chain, digest}
 use Rattle.blake2_compress.specs.Inputs.{Accepts}
 use Rattle.blake2_compress.specs.Lanes.{AcceptsAtOnce, after_blocks, block_lists, input_at}
+use Rattle.blake2_compress.specs.Lanes.{no_input}
 use Rattle.blake2_compress.specs.Run.{step_count}
+use Rattle.blake2_compress.specs.Views.{input_of}
 use Rattle.blake2_compress.proofs.Lanes.{AreLater, block_in_list, block_more, blocks_at, lane_is}
 use Rattle.blake2_compress.proofs.Lanes.{lane_word, later_after, no_block, no_blocks, run_end}
-use Rattle.blake2_compress.proofs.Lanes.{set_more, xor_at, xor_read}
+use Rattle.blake2_compress.proofs.Lanes.{set_more, xor_at, xor_read, mapped}
 use Rattle.blake2_compress.proofs.ParameterSizes.{length-start}
 use Rattle.blake2_compress.proofs.RunSizes.{length-last_chain}
 use Rattle.blake2_compress.proofs.WordSizes.{length-before_rounds}
@@ -292,3 +294,17 @@ column_run f h w j size a begun long run started turned =
     sym (length-map h (λ (row : List ℕ). slice_index row j)) ∙ ap length whole
     ∙ length-last_chain f _ 0 (input_data f a) (input_flags a) (length-start f _) in
     sym (lane_is 8 j h w many long (λ k lt. sym (turned k lt))) ∙ whole
+
+-- Outputs of full length, cut to digests of n inputs.
+pub sized_digests : (f : Family) (n size room : ℕ) (inputs : List GivenInput.Input)
+    (outs : List (List ℕ)) → length inputs ≡ n → length outs ≡ n → size ≤ room
+    → ((j : ℕ) → j < n → slice_index_or outs j [] ≡ take room (bytes_of f (last_chain f
+    (input_start f size (input_at inputs j)) 0 (input_data f (input_at inputs j))
+    (input_flags (input_at inputs j)))))
+    → map (take size) outs ≡ map (λ input. digest f size (input_of input)) inputs
+unfolding digest
+sized_digests f n size room inputs outs long many small made =
+    mapped n (λ input. digest f size (input_of input)) no_input inputs (map (take size) outs) long
+    (length-map outs (take size) ∙ many)
+    (λ j lt. get_or-map (take size) outs j [] [] (omega arith) ∙ ap (take size) (made j lt)
+    ∙ take-take size room _ small)

@@ -1,19 +1,9 @@
-use Rattle.std.proofs.Common.{◌≡◌, ◌≤◌, ℕ, [], length, map, take, ap, ◌∙◌, arith, rules}
-use Rattle.std.proofs.lemmas.List.{get_or-map, length-map, take-take}
+use Rattle.std.proofs.Common.{rules}
 use Rattle.blake2_simd.specs.Family.{blake2s}
-use Rattle.blake2_compress.specs.Hash.{digest}
-use Rattle.blake2_compress.specs.Lanes.{no_input}
-use Rattle.blake2_compress.specs.Views.{input_of}
-use Rattle.blake2_compress.proofs.Lanes.{mapped}
+use Rattle.blake2_compress.proofs.ManyMessages.{sized_digests}
 use Rattle.blake2_compress.proofs.many.blake2s.hash_eight_sized.Goals as goal
 
 pub returns : goal.returns
-unfolding digest
 returns c =
-    let n : ℕ = c.args.output_size in
-    let small : n ≤ 32 = c.requires.size in
-    let long : length c.outputs.result ≡ 8 = search rules in
-    mapped 8 (λ input. digest blake2s n (input_of input)) no_input c.args.inputs.now
-    (map (take n) c.outputs.result) (search rules) (length-map c.outputs.result (take n) ∙ long)
-    (λ j lt. get_or-map (take n) c.outputs.result j [] [] (omega (arith, long))
-    ∙ ap (take n) (c.outputs.ensures j lt) ∙ take-take n 32 _ small)
+    sized_digests blake2s 8 c.args.output_size 32 c.args.inputs.now c.outputs.result
+    (search rules) (search rules) c.requires.size c.outputs.ensures

@@ -1,17 +1,6 @@
-use Rattle.std.proofs.Common.{ℕ, List, take, drop, ap, ◌∙◌}
-use Rattle.blake2_simd.specs.Family.{blake2s}
-use Rattle.blake2_simd.specs.Rows.{eight}
-use Rattle.blake2_compress.specs.Hash.{xor_words, after_rounds, before_rounds, compress}
-use Rattle.blake2_compress.specs.Views.{given_flags}
+use Rattle.blake2_compress.specs.Hash.{compress}
 use Rattle.blake2_compress.proofs.words.blake2s.compress.Goals as goal
 
 pub returns : goal.returns
 unfolding compress
-returns c =
-    let h : List ℕ = eight c.args.h.now in
-    let begun : List ℕ = before_rounds blake2s h c.args.counter (given_flags c.args.flags) in
-    c.finish.ensures
-    ∙ ap (λ (v : List ℕ). xor_words (xor_words h (take 8 v)) (drop 8 v))
-    (c.rounds.ensures
-    ∙ ap (λ (v : List ℕ). after_rounds blake2s v c.block_words-m.result 10) c.begin-v.ensures
-    ∙ ap (λ (m : List ℕ). after_rounds blake2s begun m 10) c.block_words-m.ensures)
+returns c = cc
