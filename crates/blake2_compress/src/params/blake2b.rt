@@ -84,6 +84,7 @@ pub fn start_of(block: &[u8]) -> [u64x4; 2]
 
 /// Returns the eight parameter words (RFC 7693, 2.5), those of the parameter block. `fits` must
 /// be true of the parameters.
+#[tactic(auto, unfolding(crate::specs::Hash::parameter_words))]
 pub fn parameter_words(parameters: &Parameters<'_>) -> [u64; 8]
     requires { Fits blake2b (given_parameters parameters.now) }
     ensures { result ≡ Hash.parameter_words blake2b (given_parameters parameters.now) }
@@ -93,6 +94,7 @@ pub fn parameter_words(parameters: &Parameters<'_>) -> [u64; 8]
 
 /// Returns the chaining words before the first block (RFC 7693, 3.3), as two rows: IV xored with
 /// the parameter words. `fits` must be true of the parameters.
+#[tactic(auto, unfolding(crate::specs::Hash::start, crate::specs::Hash::parameter_words))]
 pub fn start_rows(parameters: &Parameters<'_>) -> [u64x4; 2]
     requires { Fits blake2b (given_parameters parameters.now) }
     ensures { eight result ≡ start blake2b (given_parameters parameters.now) }

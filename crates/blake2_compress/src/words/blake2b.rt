@@ -97,6 +97,7 @@ fn finish(h: [u64x4; 2], v: [u64x4; 4]) -> [u64x4; 2]
 /// Computes F, the compression (RFC 7693, 3.2). `h` holds the eight chaining words as two rows,
 /// and receives the new ones. `block` is the next 128 bytes of the data, and `counter` the number
 /// of bytes counted up to and including this block, without padding.
+#[tactic(auto, unfolding(crate::specs::Hash::compress))]
 #[inline]
 pub fn compress(h: &mut [u64x4; 2], block: &[u8; 128], counter: u64, flags: Flags)
     ensures { eight h.new

@@ -1,6 +1,0 @@
-use Rattle.blake2_compress.specs.Hash.{parameter_words}
-use Rattle.blake2_compress.proofs.params.blake2s.parameter_words.Goals as goal
-
-pub returns : goal.returns
-unfolding parameter_words
-returns c = cc
