@@ -8,6 +8,7 @@ use Rattle.blake2_simd.specs.Family.{Family, blake2b, blake2s, block_bytes, key_
 use Rattle.blake2_compress.specs.Hash.{Tree, final, cut, chain, last_chain, block_count, key_size}
 use Rattle.blake2_compress.specs.Hash.{key_block, digest}
 use Rattle.blake2_compress.proofs.ByteSizes.{length-padded}
+use Rattle.blake2_compress.proofs.ParameterSizes.{key_bytes_fit}
 use Rattle.blake2_digest.specs.Blocks.{handed_on, held_back}
 use Rattle.blake2_digest.specs.States.{Meaning, Updated, Fresh, NodeSet}
 use Rattle.blake2_digest.proofs.Cutting.{handed_and_held, length-handed_on, length-held_back}
@@ -145,15 +146,11 @@ pub length-key_block_none : (f : Family) → length (key_block f None) ≡ 0
 unfolding key_block
 length-key_block_none f = refl
 
-key_fits_block : (f : Family) → key_bytes f ≤ block_bytes f
-key_fits_block blake2b = omega arith
-key_fits_block blake2s = omega arith
-
 pub length-key_block_some : (f : Family) (key : List ℕ) → length key ≤ key_bytes f
     → length (key_block f (Some key)) ≡ block_bytes f
 unfolding key_block
 length-key_block_some f key fits = length-padded (block_bytes f) key
-    (omega (arith, key_fits_block f))
+    (omega (arith, key_bytes_fit f))
 
 -- ---- finalizations
 

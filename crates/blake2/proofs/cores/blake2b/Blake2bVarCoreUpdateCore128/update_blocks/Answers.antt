@@ -1,4 +1,4 @@
-use Rattle.std.proofs.Common.{[], get_or, sym, ap, ◌∙◌, arith}
+use Rattle.std.proofs.Common.{sym, ap, ◌∙◌, arith}
 use Rattle.blake2_simd.specs.Family.{blake2b}
 use Rattle.blake2_simd.specs.Rows.{eight}
 use Rattle.blake2.specs.CoreLaws.{absorbed-nil}

@@ -1,13 +1,9 @@
 use Rattle.std.proofs.Common.{[], ◌∙◌, rules}
 use Rattle.blake2.proofs.macs.blake2b.Blake2bMacUpdate.update.Goals as goal
 
-pub invariant_of-self : goal.invariant_of-self
-invariant_of-self g c =
-    let old = c.args.self.now in record {
-      supported = old.supported;
-      start_within_a_block = old.start_within_a_block;
-      no_last_node = (c.update.ensures g.row.N []).last_node ∙ old.no_last_node;
-    }
+pub invariant_of-self-clause-no_last_node : goal.invariant_of-self-clause-no_last_node
+invariant_of-self-clause-no_last_node g c =
+    (c.update.ensures g.row.N []).last_node ∙ c.args.self.now.no_last_node
 
 pub returns : goal.returns
 returns g c =
