@@ -1,11 +1,12 @@
 -- Digests that are written one after the other.
-use Rattle.std.proofs.Common.{◌≡◌, ℕ, zero, suc, ◌+◌, ◌-◌, ◌≤◌, List, [], ◌∷◌, ◌++◌, length, map}
+use Rattle.std.proofs.Common.{◌≡◌, ℕ, zero, suc, ◌+◌, ◌-◌, ◌*◌, ◌≤◌, List, [], ◌∷◌, ◌++◌, length, map}
 use Rattle.std.proofs.Common.{take, drop, slice_index_or, refl, sym, ap, ap₂, ◌∙◌, append-nil}
 use Rattle.std.proofs.Common.{append_assoc, length-append, arith}
 use Rattle.std.specs.List.{concat, flat_map}
 use Rattle.std.proofs.lemmas.Grind.{flat_map-append}
 use Rattle.std.proofs.lemmas.List.{take-append-drop, take-take, drop-take, take_all, drop_all}
 use Rattle.std.proofs.lemmas.List.{take_at, drop_at, drop-drop, length-drop}
+use Rattle.std.proofs.lemmas.Nat.{mul-le}
 use borrow.Rule.Slice.PartMut.{put_mid}
 use Rattle.blake2_simd.proofs.Lanes.{lanes}
 
@@ -14,20 +15,27 @@ flat_is : {X : Type 0} (g : X → List ℕ) (xs : List X) → flat_map g xs ≡ 
 flat_is g [] = refl
 flat_is g (x ∷ xs) = ap (λ l. g x ++ l) (flat_is g xs)
 
--- Two lists that map to the same.
-pub same_flat : {X Y : Type 0} (g : X → List ℕ) (h : Y → List ℕ) (xs : List X) (ys : List Y)
-    → map g xs ≡ map h ys → flat_map g xs ≡ flat_map h ys
-same_flat g h xs ys e = flat_is g xs ∙ ap concat e ∙ sym (flat_is h ys)
-
 -- The first n items of a list, each mapped.
-pub firsts : {X : Type 0} (n : ℕ) (g : X → List ℕ) (d : X) (xs : List X) → n ≤ length xs
+firsts : {X : Type 0} (n : ℕ) (g : X → List ℕ) (d : X) (xs : List X) → n ≤ length xs
     → lanes n (λ j. g (slice_index_or xs j d)) ≡ map g (take n xs)
 firsts zero g d xs h = refl
 firsts (suc n) g d [] h = absurd (omega arith)
 firsts (suc n) g d (x ∷ xs) h = λ i. g x ∷ firsts n g d xs (omega arith) i
 
+-- The digests of the first n messages, cut to k bytes each, are written.
+pub lanes_written : {X : Type 0} (n k : ℕ) (g : X → List ℕ) (d : X) (xs : List X)
+    (digests : List (List ℕ)) (was : List ℕ) {new : List ℕ} → n ≤ length xs → length digests ≡ n
+    → map (take k) digests ≡ lanes n (λ j. g (slice_index_or xs j d))
+    → new ≡ flat_map (take k) digests ++ drop (length digests * k) was
+    → new ≡ flat_map g (take n xs) ++ drop (n * k) was
+lanes_written n k g d xs digests was enough long are written =
+    let same : flat_map (take k) digests ≡ flat_map g (take n xs) =
+    flat_is (take k) digests ∙ ap concat (are ∙ firsts n g d xs enough)
+    ∙ sym (flat_is g (take n xs)) in
+    written ∙ (λ i. same i ++ drop (long i * k) was)
+
 -- The first items, and then the next.
-pub flat_more : {X : Type 0} (g : X → List ℕ) (n m : ℕ) (xs : List X)
+flat_more : {X : Type 0} (g : X → List ℕ) (n m : ℕ) (xs : List X)
     → flat_map g (take (n + m) xs) ≡ flat_map g (take n xs) ++ flat_map g (take m (drop n xs))
 flat_more g n m xs =
     let split : take (n + m) xs ≡ take n xs ++ take m (drop n xs) =
@@ -36,7 +44,7 @@ flat_more g n m xs =
     ap (flat_map g) split ∙ flat_map-append g (take n xs) (take m (drop n xs))
 
 -- What is written after the first a bytes, if these are known and the rest is as it was.
-pub put_more : (a m : ℕ) (was xs ys front more : List ℕ) → a ≤ length was
+put_more : (a m : ℕ) (was xs ys front more : List ℕ) → a ≤ length was
     → length xs ≡ length was → xs ≡ front ++ drop a was
     → ys ≡ more ++ drop m (take (length xs - a) (drop a xs))
     → put_mid a (length xs - a) xs ys ≡ (front ++ more) ++ drop (a + m) was
@@ -61,3 +69,23 @@ put_more a m was xs ys front more fits same begun e =
     e ∙ ap (λ l. more ++ drop m l) (whole ∙ right) ∙ ap (λ l. more ++ l) (drop-drop m a was) in
     (λ i. left i ++ (written i ++ rest i)) ∙ ap (λ l. front ++ l) (append-nil _)
     ∙ sym (append_assoc front more (drop (a + m) was))
+
+-- The digests of k more messages are written after those of the first ones, n bytes each.
+pub more_written : {X : Type 0} (g : X → List ℕ) (n done k : ℕ) (xs : List X)
+    (was out new : List ℕ) → done ≤ length xs → length was ≡ length xs * n
+    → length out ≡ length was → out ≡ flat_map g (take done xs) ++ drop (done * n) was
+    → new ≡ flat_map g (take k (take (length xs - done) (drop done xs)))
+    ++ drop (k * n) (take (length out - done * n) (drop (done * n) out))
+    → put_mid (done * n) (length out - done * n) out new
+    ≡ flat_map g (take (done + k) xs) ++ drop ((done + k) * n) was
+more_written g n done k xs was out new within room long begun written =
+    let fits : done * n ≤ length was =
+    omega (arith, room, mul-le done n (length xs) n within (omega arith)) in
+    let whole : take (length xs - done) (drop done xs) ≡ drop done xs =
+    take_all (length xs - done) (drop done xs) (omega (arith, length-drop done xs)) in
+    let at : done * n + k * n ≡ (done + k) * n = omega arith in
+    put_more (done * n) (k * n) was out new (flat_map g (take done xs))
+    (flat_map g (take k (drop done xs))) fits long begun
+    (written ∙ ap (λ l. flat_map g (take k l)
+    ++ drop (k * n) (take (length out - done * n) (drop (done * n) out))) whole)
+    ∙ ap₂ (λ l m. l ++ drop m was) (sym (flat_more g done k xs)) at

@@ -9,7 +9,7 @@ ghost use Rattle.blake2_compress.specs.Views.{input_of};
 ghost use Rattle.blake2_compress.specs.Hash.{parameters_of, sequential};
 ghost use Rattle.blake2_state.specs.Arguments.{given_key, given_count, digest_given};
 ghost use Rattle.blake2_state.specs.Arguments.{Admits, parameters_given};
-ghost use Rattle.blake2_ffi.specs.Many.{AreCounted, digests_of};
+ghost use Rattle.blake2_ffi.specs.Many.{AreCounted, digests_of, digests_given};
 ghost use Rattle.blake2_ffi.specs.Status.{Returns};
 
 use crate::Text;
@@ -75,9 +75,7 @@ fn write_next(out: &mut [u8], given: &StateParameters<'_>, messages: &[Text<'_>]
     requires room { length messages.now * given.now.output_size ≤ length out.old }
     ensures some { 1 ≤ result }
     ensures most { result ≤ length messages.now }
-    ensures digests { out.new
-        ≡ digests_of blake2s given.now.output_size given.now.key.now given.now.salt.now
-        given.now.persona.now (take result messages.now)
+    ensures digests { out.new ≡ digests_given blake2s given.now (take result messages.now)
         ++ drop (result * given.now.output_size) out.old }
 {
     if messages.len() >= 8 {
@@ -154,8 +152,7 @@ fn write_all(out: &mut [u8], given: &StateParameters<'_>, messages: &[Text<'_>])
     requires taken { Admits blake2s (parameters_given given.now sequential) }
     requires counted { AreCounted blake2s given.now.key.now messages.now }
     requires room { length out.old ≡ length messages.now * given.now.output_size }
-    ensures { out.new ≡ digests_of blake2s given.now.output_size given.now.key.now
-        given.now.salt.now given.now.persona.now messages.now }
+    ensures { out.new ≡ digests_given blake2s given.now messages.now }
 {
     let mut done = 0;
     while done < messages.len() {
