@@ -1,6 +1,6 @@
 -- A reset satisfies its contract: the digests are those from the start.
-use Rattle.std.specs.Prelude.{ℕ, length}
-use Rattle.std.proofs.Common.{ap, ◌∙◌, zero-add, rules}
+use Rattle.std.specs.Prelude.{◌≡◌, ℕ, Bool, List, length, refl}
+use Rattle.std.proofs.Common.{ap, ◌∙◌, zero-add}
 use Rattle.blake2_simd.specs.Family.{Family}
 use Rattle.blake2_digest.specs.States.{Meaning, StartedAgain}
 use Rattle.blake2.specs.States.{State, future, started, count, start_count, meaning_by, unflagged}
@@ -21,4 +21,10 @@ StartedAgain_by f n state_of old new e = record {
 -- The contract of a reset also holds for a type whose last-node flag is always off.
 pub StartedAgain_unflagged : {S : Type 0} (m : Meaning S) (old new : S) → StartedAgain m old new
     → StartedAgain (unflagged m) old new
-StartedAgain_unflagged m old new again = search (rules, again)
+StartedAgain_unflagged m old new again = record {
+  future = again.future;
+  started = again.started;
+  last_node = refl;
+  count = again.count;
+  start_count = again.start_count;
+}
