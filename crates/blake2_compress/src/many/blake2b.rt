@@ -217,6 +217,7 @@ fn finish(h: &[u64x4; 8], v: &[u64x4; 16]) -> [u64x4; 8]
 /// chaining words, block j is the next 128 bytes of message j, and its flags are `flags[j]`.
 /// `counter` is the number of bytes counted for each message up to and including this block,
 /// without padding.
+#[tactic(auto, unfolding(crate::specs::Hash::compress))]
 #[inline]
 pub fn compress(h: &mut [u64x4; 8], blocks: &[&[u8; 128]; 4], counter: u64, flags: &[Flags; 4])
     ensures { (j : ℕ) → j < 4 → in_lane j h.new

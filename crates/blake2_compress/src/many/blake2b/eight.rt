@@ -212,6 +212,7 @@ fn finish(h: &[u64x8; 8], v: &[u64x8; 16]) -> [u64x8; 8]
 /// chaining words, block j is the next 128 bytes of message j, and its flags are `flags[j]`.
 /// `counter` is the number of bytes counted for each message up to and including this block,
 /// without padding.
+#[tactic(auto, unfolding(crate::specs::Hash::compress))]
 #[inline]
 pub fn compress(h: &mut [u64x8; 8], blocks: &[&[u8; 128]; 8], counter: u64, flags: &[Flags; 8])
     ensures { (j : ℕ) → j < 8 → in_lane j h.new
