@@ -1,6 +1,6 @@
 -- Slices that are written in two pieces.
-use Rattle.std.proofs.Common.{◌≡◌, ℕ, ◌-◌, List, [], ◌++◌, length, drop, ap, ◌∙◌, append-nil}
-use Rattle.std.proofs.Common.{arith, length-append}
+use Rattle.std.proofs.Common.{◌≡◌, ℕ, ◌-◌, List, [], ◌++◌, length, drop, ap, ◌∙◌, append-nil, arith}
+use Rattle.std.proofs.Common.{length-append}
 use Rattle.std.proofs.lemmas.List.{take_at, drop_at, drop_all}
 use borrow.Rule.Slice.PartMut.{put_mid}
 

@@ -1,8 +1,7 @@
 //! Callers of nodes of a tree of hashes, and of a whole tree.
 
 ghost use Rattle.std.specs.Prelude.{◌≡◌, ℕ, ◌+◌, ◌*◌, ◌^◌, ◌<◌, ◌≤◌, ◌↔◌, ◌⊎◌, true, List, []};
-ghost use Rattle.std.specs.Prelude.{◌++◌};
-ghost use Rattle.std.specs.Prelude.{◌%◌, length, None, OnOk, OnErr, IsErr};
+ghost use Rattle.std.specs.Prelude.{◌++◌, ◌%◌, length, None, OnOk, OnErr, IsErr};
 ghost use Rattle.blake2_simd.specs.Family.{blake2b};
 ghost use Rattle.blake2_compress.specs.Hash.{AdmitsTree};
 ghost use Rattle.blake2_compress.specs.Views.{tree_of};

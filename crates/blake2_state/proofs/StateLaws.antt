@@ -1,7 +1,7 @@
 -- The contracts of plain states, from the fields that a call leaves.
-use Rattle.std.proofs.Common.{◌≡◌, ℕ, ◌+◌, ◌≤◌, ◌==◌, Bool, true, false, List, [], ◌∷◌, ◌++◌, length}
-use Rattle.std.proofs.Common.{take, slice_index, Option, Some, None, refl, sym, ap, subst, ◌∙◌, rules}
-use Rattle.std.proofs.Common.{arith, length-append}
+use Rattle.std.proofs.Common.{◌≡◌, ℕ, ◌+◌, ◌≤◌, ◌==◌, Bool, true, false, List, [], ◌∷◌, ◌++◌}
+use Rattle.std.proofs.Common.{length, take, slice_index, Option, Some, None, refl, sym, ap, subst}
+use Rattle.std.proofs.Common.{◌∙◌, rules, arith, length-append}
 use Rattle.std.proofs.lemmas.List.{take_all}
 use Rattle.blake2_simd.specs.Family.{Family, block_bytes, key_bytes}
 use Rattle.blake2_compress.specs.Hash.{Parameters, key_size, key_block, padded, start}

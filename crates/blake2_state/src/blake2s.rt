@@ -1,16 +1,14 @@
 //! BLAKE2s, with a state of plain numbers.
 
-ghost use Rattle.std.specs.Prelude.{◌≡◌, ℕ, ◌+◌, ◌*◌, ◌^◌, ◌<◌, ◌≤◌, ◌↔◌, List, [], ◌∷◌, ◌++◌};
-ghost use Rattle.std.specs.Prelude.{length, take, drop, slice_index, None, Some, IfOk, IsErr};
-ghost use Rattle.std.specs.Prelude.{IsTrue};
+ghost use Rattle.std.specs.Prelude.{◌≡◌, ◌+◌, ◌^◌, ◌<◌, ◌≤◌, ◌↔◌, [], ◌∷◌, ◌++◌, length, drop};
+ghost use Rattle.std.specs.Prelude.{slice_index, None, Some, IfOk, IsErr, IsTrue};
 ghost use Rattle.blake2_simd.specs.Family.{blake2s};
 ghost use Rattle.blake2_compress.specs.Hash.{AdmitsTree, sequential};
 ghost use Rattle.blake2_compress.specs.Views.{given_parameters, tree_of};
 ghost use Rattle.blake2_digest.specs.States.{Fresh, NodeSet, Updated, StartedAgain, digest_now};
-ghost use Rattle.blake2.specs.Cores.{CoreState};
-ghost use Rattle.blake2_state.specs.Arguments.{Admits, given_count, digest_given};
-ghost use Rattle.blake2_state.specs.Arguments.{digest_under, parameters_given};
-ghost use Rattle.blake2_state.specs.Blocks.{block_start, block_digest, AdmitsBlock};
+ghost use Rattle.blake2_state.specs.Arguments.{Admits, given_count, digest_given, digest_under};
+ghost use Rattle.blake2_state.specs.Arguments.{parameters_given};
+ghost use Rattle.blake2_state.specs.Blocks.{block_digest, AdmitsBlock};
 ghost use Rattle.blake2_state.specs.Blake2s.{IsReady, meaning, zeros};
 ghost use Rattle.blake2_state.specs.States.{is_on};
 

@@ -1,11 +1,9 @@
--- Lists that are joined: over a range of numbers, and lists of lists of bytes.
-use Rattle.std.proofs.Common.{◌≡◌, ℕ, zero, suc, ◌+◌, ◌*◌, ◌<◌, List, [], ◌∷◌, ◌++◌}
-use Rattle.std.proofs.Common.{length, take, drop, refl, sym, ap, ◌∙◌, arith}
-use Rattle.std.proofs.Common.{append-nil, append_assoc, length-append}
+-- Lists over a range of numbers that are joined.
+use Rattle.std.proofs.Common.{◌≡◌, ℕ, zero, suc, ◌+◌, ◌*◌, ◌<◌, List, [], ◌∷◌, ◌++◌, length, take}
+use Rattle.std.proofs.Common.{drop, refl, sym, ap, ◌∙◌, arith, append-nil, append_assoc}
+use Rattle.std.proofs.Common.{length-append}
 use Rattle.std.proofs.lemmas.List.{take_at, drop_at}
-use Rattle.std.specs.List.{flat_map, range_with_len, concat}
-
--- ---- lists over a range, joined
+use Rattle.std.specs.List.{flat_map, range_with_len}
 
 -- The length of the joined lists.
 pub length-flat_map-range : {A : Type 0} (f : ℕ → List A) (k : ℕ) → ((i : ℕ) → length (f i) ≡ k)
@@ -37,10 +35,3 @@ pub flat_map-range_more : {A : Type 0} (f g : ℕ → List A) → ((i : ℕ) →
     → flat_map f (range_with_len (a + 1) n) ≡ flat_map g (range_with_len a n)
 flat_map-range_more f g e a zero = refl
 flat_map-range_more f g e a (suc n) = rw (e a, flat_map-range_more f g e (a + 1) n) refl
-
--- ---- lists of bytes, joined
-
--- Four lists.
-pub concat-four : (a b c d rest : List ℕ) → concat (a ∷ b ∷ c ∷ d ∷ []) ++ rest
-    ≡ a ++ (b ++ (c ++ (d ++ rest)))
-concat-four a b c d rest = simp (append_assoc, append-nil)

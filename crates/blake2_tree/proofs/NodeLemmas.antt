@@ -1,6 +1,6 @@
 -- The nodes of a tree as inputs.
-use Rattle.std.proofs.Common.{◌≡◌, ◌≢◌, ◌↔◌, ℕ, ◌+◌, ◌*◌, ◌^◌, ◌<◌, ◌≤◌, Bool, List}
-use Rattle.std.proofs.Common.{length, refl, sym, ap, ◌∙◌, arith}
+use Rattle.std.proofs.Common.{◌≡◌, ◌≢◌, ◌↔◌, ℕ, ◌+◌, ◌*◌, ◌^◌, ◌<◌, ◌≤◌, Bool, List, length, refl}
+use Rattle.std.proofs.Common.{sym, ap, ◌∙◌, arith}
 use Rattle.std.proofs.Math.Nat.{eq_of_mul-eq-mul_right}
 use Rattle.std.specs.List.{flat_map, range_with_len}
 use Rattle.blake2_simd.specs.Family.{blake2b}
@@ -12,8 +12,7 @@ use Rattle.blake2_compress.specs.Pieces.{IsFirstDifference}
 use Rattle.blake2_tree.specs.TreeRoot.{TreeParameters, leaf_count, leaf, node, leaf_input}
 use Rattle.blake2_tree.specs.TreeRoot.{leaf_digests, root_over, root_input, tree_root}
 use Rattle.blake2_tree.specs.TreeWitnesses.{RootsCollide}
-use Rattle.blake2_tree.proofs.Lists.{length-flat_map-range}
-use Rattle.blake2_tree.proofs.Lists.{flat_map-range_same}
+use Rattle.blake2_tree.proofs.Lists.{length-flat_map-range, flat_map-range_same}
 
 -- ---- what BLAKE2b accepts
 

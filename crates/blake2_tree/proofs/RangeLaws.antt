@@ -1,10 +1,10 @@
 -- Ranges of a message's leaves: their digests, joined, are those of all leaves.
-use Rattle.std.proofs.Common.{◌≡◌, ℕ, zero, suc, ◌+◌, ◌-◌, ◌*◌, ◌/◌, ◌<◌, ◌≤◌, ◌⊎◌, inl, inr}
-use Rattle.std.proofs.Common.{Bool, true, false, List, [], ◌∷◌, ◌++◌, length, take, drop, refl}
-use Rattle.std.proofs.Common.{sym, ap, ◌∙◌, arith, append-nil, append_assoc, length-append}
-use Rattle.std.proofs.Common.{length-drop, drop-drop}
-use Rattle.std.proofs.lemmas.List.{take_at, drop_at, drop_all, take-append-drop}
-use Rattle.std.proofs.lemmas.List.{take-append-le, drop-append-le, length-take-le, nil_from_length}
+use Rattle.std.proofs.Common.{◌≡◌, ℕ, zero, suc, ◌+◌, ◌-◌, ◌*◌, ◌/◌, ◌<◌, ◌≤◌, ◌⊎◌, inl, inr, Bool}
+use Rattle.std.proofs.Common.{true, false, List, [], ◌∷◌, ◌++◌, length, take, drop, refl, sym, ap}
+use Rattle.std.proofs.Common.{◌∙◌, arith, append-nil, append_assoc, length-append, length-drop}
+use Rattle.std.proofs.Common.{drop-drop}
+use Rattle.std.proofs.lemmas.List.{take_at, drop_at, drop_all, take-append-drop, take-append-le}
+use Rattle.std.proofs.lemmas.List.{drop-append-le, length-take-le, nil_from_length}
 use Rattle.std.proofs.Math.Nat.{le-div_iff_mul-le}
 use Rattle.std.proofs.lemmas.Bool.{false≢true}
 use Rattle.std.specs.List.{All, concat}
@@ -14,8 +14,8 @@ use Rattle.blake2_compress.proofs.RunSizes.{length-digest}
 use Rattle.blake2_tree.specs.TreeRoot.{TreeParameters, leaf_count, node, leaf_digests, root_over}
 use Rattle.blake2_tree.specs.TreeRoot.{tree_root}
 use Rattle.blake2_tree.specs.Ranges.{range_leaf, range_digests, AreWhole, IsCut, cut_digests}
-use Rattle.blake2_tree.specs.Ranges.{IsRange, TakesPlace, with_part, ArePartOfAll}
-use Rattle.blake2_tree.specs.Ranges.{IsRootOfCuts, IsRootOfChanges}
+use Rattle.blake2_tree.specs.Ranges.{IsRange, TakesPlace, with_part, ArePartOfAll, IsRootOfCuts}
+use Rattle.blake2_tree.specs.Ranges.{IsRootOfChanges}
 use Rattle.blake2_tree.proofs.NodeLemmas.{length-leaf_digests}
 use Rattle.blake2_tree.proofs.Leaves.{range_digests-short, range_digests-long, range_digests-first}
 use Rattle.blake2_tree.proofs.Leaves.{leaf_count-short, leaf_count-more}
@@ -128,7 +128,7 @@ cut_digests-all s front last some cut =
 -- ---- a range of a message, or one that replaces another
 
 -- The number of leaves in whole ones.
-leaf_count-whole : (size k : ℕ) → 0 < size → leaf_count size (suc k * size) ≡ suc k
+pub leaf_count-whole : (size k : ℕ) → 0 < size → leaf_count size (suc k * size) ≡ suc k
 leaf_count-whole size zero some = leaf_count-short size (suc 0 * size) some (omega arith)
 leaf_count-whole size (suc k) some =
     let more : suc (suc k) * size ≡ size + suc k * size = omega arith in

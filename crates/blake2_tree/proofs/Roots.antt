@@ -1,17 +1,16 @@
 -- The root that a tree will return, from call to call.
 use Rattle.std.proofs.Common.{◌≡◌, ℕ, ◌+◌, ◌-◌, ◌*◌, ◌/◌, ◌%◌, ◌<◌, ◌≤◌, Bool, true, false, List}
-use Rattle.std.proofs.Common.{[], ◌++◌, length, take, drop, refl, sym, ap, ◌∙◌, arith}
-use Rattle.std.proofs.Common.{append-nil, append_assoc, length-append, length-drop}
-use Rattle.std.proofs.lemmas.List.{take-append-drop, length-take-le}
-use Rattle.std.proofs.lemmas.List.{nil_from_length, take_rest}
+use Rattle.std.proofs.Common.{[], ◌++◌, length, take, drop, refl, sym, ap, ◌∙◌, arith, append-nil}
+use Rattle.std.proofs.Common.{append_assoc, length-append, length-drop}
+use Rattle.std.proofs.lemmas.List.{take-append-drop, length-take-le, nil_from_length, take_rest}
 use Rattle.std.proofs.Math.Nat.{mul-le-mul_left, mul-mod_left}
 use Rattle.std.specs.List.{concat, flat_map}
 use Rattle.blake2_digest.specs.States.{Meaning, digest_now, Updated, Fresh, NodeSet}
 use Rattle.blake2_tree.specs.Nodes.{node_digest, IsOpened, four_digests}
 use Rattle.blake2_tree.specs.TreeRoot.{TreeParameters, tree_root}
 use Rattle.blake2_tree.specs.Ranges.{AreWhole, range_digests}
-use Rattle.blake2_tree.specs.OpenTrees.{digests_to_come}
-use Rattle.blake2_tree.specs.OpenTrees.{OpenTree, open_tree, count, future, Took, WentOn}
+use Rattle.blake2_tree.specs.OpenTrees.{digests_to_come, OpenTree, open_tree, count, future, Took}
+use Rattle.blake2_tree.specs.OpenTrees.{WentOn}
 use Rattle.blake2_tree.proofs.Leaves.{range_digests-first}
 use Rattle.blake2_tree.proofs.RangeLaws.{length-range_digests, range_digests-cut, leaf_count-is}
 use Rattle.blake2_tree.proofs.FourLeaves.{range_digests-last_four}

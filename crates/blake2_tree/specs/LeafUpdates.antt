@@ -1,6 +1,6 @@
 -- An open tree that absorbs whole leaves by their joined digests, which were computed elsewhere.
-use Rattle.std.specs.Prelude.{◌≡◌, ℕ, ◌+◌, ◌*◌, ◌/◌, ◌%◌, ◌^◌, ◌<◌, ◌⊎◌, false, List, [], ◌++◌}
-use Rattle.std.specs.Prelude.{◌∷◌, length, true, nat_eq, if◌then◌else◌}
+use Rattle.std.specs.Prelude.{◌≡◌, ℕ, ◌+◌, ◌*◌, ◌/◌, ◌%◌, ◌^◌, ◌<◌, ◌⊎◌, false, List, [], ◌++◌, ◌∷◌}
+use Rattle.std.specs.Prelude.{length, true, nat_eq, if◌then◌else◌}
 use Rattle.std.specs.List.{All, concat}
 use Rattle.blake2_tree.specs.TreeRoot.{TreeParameters}
 use Rattle.blake2_tree.specs.OpenTrees.{OpenTree, Took, count, future}

@@ -1,8 +1,7 @@
 -- A range of a message's leaves that is hashed separately, and its digests. If a message is cut
 -- into ranges, their digests, joined in order, are those of all its leaves.
 use Rattle.std.specs.Prelude.{◌≡◌, ℕ, ◌+◌, ◌*◌, ◌/◌, ◌%◌, ◌^◌, ◌<◌, ◌≤◌, ◌⊎◌, nat_eq, Bool, true}
-use Rattle.std.specs.Prelude.{false}
-use Rattle.std.specs.Prelude.{◌&&◌, List, [], ◌∷◌, ◌++◌, length, take, drop}
+use Rattle.std.specs.Prelude.{false, ◌&&◌, List, [], ◌∷◌, ◌++◌, length, take, drop}
 use Rattle.std.specs.List.{All, flat_map, range_with_len, concat}
 use Rattle.blake2_simd.specs.Family.{blake2b}
 use Rattle.blake2_compress.specs.Hash.{Input, digest}

@@ -1,8 +1,7 @@
 //! The tree over a message that comes in pieces.
 
 ghost use Rattle.std.specs.Prelude.{◌≡◌, ℕ, ◌+◌, ◌*◌, ◌^◌, ◌<◌, ◌≤◌, List, [], ◌++◌, length, true};
-ghost use Rattle.std.specs.Prelude.{false};
-ghost use Rattle.std.specs.Prelude.{◌/◌, ◌%◌, ◌↔◌, IsTrue};
+ghost use Rattle.std.specs.Prelude.{false, ◌/◌, ◌%◌, ◌↔◌, IsTrue};
 ghost use Rattle.blake2.specs.Hashers.{blake2b_meaning};
 ghost use Rattle.blake2_tree.specs.Nodes.{shared_parameters, IsOpened};
 ghost use Rattle.blake2_tree.specs.Ranges.{AreWhole, range_digests};

@@ -1,7 +1,7 @@
 //! The nodes of a tree: their tree parameters, hashers and inputs of them, and their digests.
 
-ghost use Rattle.std.specs.Prelude.{◌≡◌, ◌+◌, ◌*◌, ◌^◌, ◌<◌, ◌≤◌, ◌++◌, length, IfOk, true};
-ghost use Rattle.std.specs.Prelude.{take, drop, false};
+ghost use Rattle.std.specs.Prelude.{◌≡◌, ◌+◌, ◌*◌, ◌^◌, ◌<◌, ◌≤◌, ◌++◌, length, IfOk, true, take};
+ghost use Rattle.std.specs.Prelude.{drop, false};
 ghost use Rattle.blake2.specs.Hashers.{blake2b_meaning};
 ghost use Rattle.blake2_digest.specs.States.{Fresh};
 ghost use Rattle.blake2_simd.specs.Family.{blake2b};

@@ -5,10 +5,9 @@
 ghost use Rattle.std.specs.Prelude.{◌≡◌, ◌+◌, ◌-◌, ◌*◌, ◌/◌, ◌%◌, ◌^◌, ◌<◌, ◌≤◌, ◌↔◌, IsTrue};
 ghost use Rattle.std.specs.Prelude.{nat_eq, if◌then◌else◌};
 ghost use Rattle.blake2_tree.specs.TreeRoot.{leaf_count};
-ghost use Rattle.blake2_tree.specs.Plans.{AreLimits, threads_for, share, part_leaves};
-ghost use Rattle.blake2_tree.specs.Plans.{IsPlanOf, IsPlan, IsPart, IsInOrder};
-ghost use Rattle.blake2_tree.specs.Plans.{AreParts, head_length, whole_length, IsOfUpdate};
-ghost use Rattle.blake2_tree.specs.Plans.{HasDigests, HasLeafDigests};
+ghost use Rattle.blake2_tree.specs.Plans.{AreLimits, threads_for, share, part_leaves, IsPlanOf};
+ghost use Rattle.blake2_tree.specs.Plans.{IsPlan, IsPart, IsInOrder, AreParts, head_length};
+ghost use Rattle.blake2_tree.specs.Plans.{whole_length, IsOfUpdate, HasDigests, HasLeafDigests};
 
 use crate::limits::MESSAGE_LIMIT;
 use crate::ranges::leaf_count;

@@ -2,12 +2,12 @@
 //! So threads, processes or machines may each hash a part of a message, in any order, and after a
 //! change only the changed leaf is hashed.
 
-ghost use Rattle.std.specs.Prelude.{◌≡◌, ◌*◌, ◌^◌, ◌<◌, ◌≤◌, ◌↔◌, length, IsTrue};
+ghost use Rattle.std.specs.Prelude.{◌≡◌, ◌*◌, ◌<◌, ◌≤◌, ◌↔◌, length, IsTrue};
 ghost use Rattle.blake2_simd.specs.Family.{blake2b};
 ghost use Rattle.blake2_compress.specs.Hash.{digest};
 ghost use Rattle.blake2_tree.specs.TreeRoot.{leaf_count, root_over, tree_parameters};
-ghost use Rattle.blake2_tree.specs.Ranges.{IsRange, range_digests, ArePartOfAll};
-ghost use Rattle.blake2_tree.specs.Ranges.{IsRootOfCuts, IsRootOfChanges};
+ghost use Rattle.blake2_tree.specs.Ranges.{IsRange, range_digests, ArePartOfAll, IsRootOfCuts};
+ghost use Rattle.blake2_tree.specs.Ranges.{IsRootOfChanges};
 
 use crate::limits::MESSAGE_LIMIT;
 use crate::nodes::Nodes;

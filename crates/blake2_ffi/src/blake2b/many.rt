@@ -1,14 +1,13 @@
 //! Several messages of BLAKE2b.
 
-ghost use Rattle.std.specs.Prelude.{◌≡◌, ◌+◌, ◌*◌, ◌^◌, ◌<◌, ◌≤◌, ◌++◌, length, take, drop};
-ghost use Rattle.std.specs.Prelude.{pos, negsuc};
-ghost use Rattle.std.specs.Prelude.{false, IsTrue};
+ghost use Rattle.std.specs.Prelude.{◌≡◌, ◌+◌, ◌*◌, ◌^◌, ◌<◌, ◌≤◌, ◌++◌, length, take, drop, pos};
+ghost use Rattle.std.specs.Prelude.{negsuc, false, IsTrue};
 ghost use Rattle.blake2.specs.Family.{blake2b};
 ghost use Rattle.blake2.specs.States as Held;
 ghost use Rattle.blake2_compress.specs.Views.{input_of};
 ghost use Rattle.blake2_compress.specs.Hash.{parameters_of, sequential};
-ghost use Rattle.blake2_state.specs.Arguments.{given_key, given_count, digest_given};
-ghost use Rattle.blake2_state.specs.Arguments.{Admits, parameters_given};
+ghost use Rattle.blake2_state.specs.Arguments.{given_key, given_count, digest_given, Admits};
+ghost use Rattle.blake2_state.specs.Arguments.{parameters_given};
 ghost use Rattle.blake2_ffi.specs.Many.{AreCounted, digests_of, digests_given};
 ghost use Rattle.blake2_ffi.specs.Status.{Returns};
 

@@ -1,6 +1,5 @@
-use Rattle.std.proofs.Common.{◌≡◌, ◌+◌, ℕ, Bool, false, List, [], ◌++◌, length, take, get_or}
-use Rattle.std.proofs.Common.{None, Bor, sym, ap, ◌∙◌, arith, append-nil, append_assoc}
-use Rattle.std.proofs.Common.{length-append}
+use Rattle.std.proofs.Common.{◌≡◌, ◌+◌, ℕ, Bool, false, List, [], ◌++◌, length, take, get_or, None}
+use Rattle.std.proofs.Common.{Bor, sym, ap, ◌∙◌, arith, append-nil, append_assoc, length-append}
 use Rattle.std.proofs.lemmas.List.{take_all}
 use Rattle.std.proofs.lemmas.List.Folds.{length-flat_map-take}
 use Rattle.blake2_simd.specs.Family.{blake2s}

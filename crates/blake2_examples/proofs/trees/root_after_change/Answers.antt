@@ -1,5 +1,5 @@
-use Rattle.std.proofs.Common.{◌≡◌, ℕ, ◌+◌, ◌-◌, ◌*◌, List, [], ◌++◌, length, take, drop, sym, ap, ◌∙◌}
-use Rattle.std.proofs.Common.{drop-drop, arith, rules}
+use Rattle.std.proofs.Common.{◌≡◌, ℕ, ◌+◌, ◌-◌, ◌*◌, List, [], ◌++◌, length, take, drop, sym, ap}
+use Rattle.std.proofs.Common.{◌∙◌, drop-drop, arith, rules}
 use borrow.Rule.Slice.PartMut.{put_mid}
 use Rattle.blake2_tree.specs.TreeRoot.{TreeParameters, tree_parameters, leaf_digests}
 use Rattle.blake2_tree.specs.Ranges.{range_digests, with_part}

@@ -1,7 +1,6 @@
-use Rattle.std.proofs.Common.{◌≡◌, ℕ, ◌+◌, ◌-◌, ◌*◌, ◌/◌, ◌%◌, ◌^◌, ◌<◌, inr, false, List, []}
-use Rattle.std.proofs.Common.{◌∷◌, ◌++◌, length, drop}
-use Rattle.std.proofs.Common.{sym, ap, subst, ◌∙◌, append-nil, arith, rules, length-append}
-use Rattle.std.proofs.Common.{length-drop}
+use Rattle.std.proofs.Common.{◌≡◌, ℕ, ◌+◌, ◌-◌, ◌*◌, ◌/◌, ◌%◌, ◌^◌, ◌<◌, inr, false, List, [], ◌∷◌}
+use Rattle.std.proofs.Common.{◌++◌, length, drop, sym, ap, subst, ◌∙◌, append-nil, arith, rules}
+use Rattle.std.proofs.Common.{length-append, length-drop}
 use Rattle.std.specs.List.{All}
 use borrow.Rule.Slice.PartMut.{put_mid}
 use Rattle.blake2_tree.specs.TreeRoot.{TreeParameters, tree_parameters, tree_root, leaf_count}

@@ -1,5 +1,4 @@
-use Rattle.std.proofs.Common.{◌≡◌, ℕ, ◌*◌, ◌/◌, ◌+◌, length, take, ap, ◌∙◌, rules, arith}
-use Rattle.std.proofs.Common.{false}
+use Rattle.std.proofs.Common.{◌≡◌, ℕ, ◌*◌, ◌/◌, ◌+◌, length, take, ap, ◌∙◌, rules, arith, false}
 use Rattle.std.proofs.lemmas.List.{length-take-le}
 use Rattle.blake2_tree.specs.Nodes.{shared_parameters}
 use Rattle.blake2_tree.specs.Ranges.{range_digests}

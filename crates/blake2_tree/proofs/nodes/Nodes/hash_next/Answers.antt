@@ -1,5 +1,4 @@
-use Rattle.std.proofs.Common.{◌≡◌, ℕ, ◌*◌, List, length, take, sym, ap, ◌∙◌, rules, arith}
-use Rattle.std.proofs.Common.{false}
+use Rattle.std.proofs.Common.{◌≡◌, ℕ, ◌*◌, List, length, take, sym, ap, ◌∙◌, rules, arith, false}
 use Rattle.std.specs.List.{concat}
 use Rattle.std.proofs.lemmas.List.{take_all, take_at, length-take-le}
 use Rattle.blake2_tree.specs.Ranges.{range_digests}

@@ -1,6 +1,5 @@
 use Rattle.std.proofs.Common.{◌≡◌, ℕ, ◌+◌, ◌*◌, ◌<◌, ◌≤◌, ◌++◌, List, length, take, drop, Bool}
-use Rattle.std.proofs.Common.{false}
-use Rattle.std.proofs.Common.{sym, ap, ◌∙◌, rules, arith}
+use Rattle.std.proofs.Common.{false, sym, ap, ◌∙◌, rules, arith}
 use Rattle.blake2_tree.specs.Ranges.{range_digests, with_part}
 use Rattle.blake2_tree.specs.Nodes.{shared_parameters, node_digest}
 use Rattle.blake2_tree.proofs.Leaves.{leaf_count-short, range_digests-short, range_digests-long}
