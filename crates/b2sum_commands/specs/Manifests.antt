@@ -1,8 +1,8 @@
 -- The check of a manifest: its lines, what becomes of each, and when it holds.
 use Rattle.std.specs.Prelude.{◌≡◌, ◌≢◌, ℕ, ◌-◌, ◌==◌, ◌&&◌, ◌||◌, Bool, true, false, not}
 use Rattle.std.specs.Prelude.{if◌then◌else◌, List, [], ◌∷◌, ◌++◌, length, take, get_or, codes}
-use Rattle.std.specs.Prelude.{Option, Some, None, is_some, position}
-use Rattle.std.specs.List.{list_any, list_all, slice_split, before_first, after_first}
+use Rattle.std.specs.Prelude.{Option, Some, None}
+use Rattle.std.specs.List.{list_any, list_all}
 use Rattle.std.specs.Option.{option_map}
 use Rattle.b2sum_lines.specs.Lines.{Line, escaped, line_entry}
 use Rattle.b2sum_lines.specs.declared.entry.Algorithm.{Algorithm}

@@ -5,4 +5,4 @@ mod Placing
 mod Playing
 mod SlotPlaces
 mod Standing
-mod StreamLemmas
+pub mod StreamLemmas

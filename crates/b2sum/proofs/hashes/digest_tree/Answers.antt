@@ -1,4 +1,4 @@
-use Rattle.std.proofs.Common.{◌∙◌, ap, false, ◌||◌, length-append, arith, take, ◌++◌, rules}
+use Rattle.std.proofs.Common.{◌∙◌, ap, false, ◌||◌, arith, take, ◌++◌}
 use Rattle.std.proofs.KnownBytes.{Consumes-trans}
 use Rattle.blake2_digest.proofs.Texts.{AreBytes-append}
 use Rattle.b2sum.proofs.Updates.{Took-trans}

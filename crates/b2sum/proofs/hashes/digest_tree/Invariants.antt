@@ -1,4 +1,4 @@
-use Rattle.std.proofs.Common.{◌≡◌, ◌+◌, ◌^◌, ◌-◌, ◌<◌, ◌≤◌, List, ℕ, length, false}
+use Rattle.std.proofs.Common.{◌≡◌, ◌+◌, ◌^◌, ◌-◌, ◌<◌, List, ℕ, length, false}
 use Rattle.std.specs.Io.KnownBytes.{Consumes}
 use Rattle.blake2_digest.specs.Texts.{AreBytes}
 use Rattle.blake2_state.specs.TreeStates.{IsReady, Took, count}
