@@ -18,50 +18,53 @@ leaf_count-before size (suc k) n some more =
     ap (leaf_count size) order ∙ leaf_count-more size (k * size + n) some (omega arith)
     ∙ ap suc (leaf_count-before size k n some more) ∙ (omega arith)
 
--- There is room for the digests of the rest.
-pub room-left : (size k m done : ℕ) (out new rest : List ℕ) → 0 < size → m ≡ k * size
-    → m < length rest → length new ≡ length out
-    → length out ≡ 64 * done + 64 * leaf_count size (length rest)
-    → length new
-    ≡ 64 * (done + k) + 64 * leaf_count size (length (take (length rest - m) (drop m rest)))
-room-left size k m done out new rest some whole more same room =
-    let n : ℕ = length (take (length rest - m) (drop m rest)) in
-    let left : n ≡ length rest - m = ap length (take_rest rest m) ∙ length-drop m rest in
-    let split : length rest ≡ k * size + n = omega arith in
-    let count : leaf_count size (length rest) ≡ k + leaf_count size n =
-    ap (leaf_count size) split ∙ leaf_count-before size k n some (omega arith) in
-    omega (arith, count)
+-- The digests of the first `done` leaves of a range are written, and there is room for those of the
+-- rest.
+pub record AreWritten (s : TreeParameters) (first : ℕ) (ends : Bool) (bytes : List ℕ) (done : ℕ)
+    (out rest : List ℕ) : Type 0 where
+  pub room : length out ≡ 64 * done + 64 * leaf_count s.leaf_length (length rest)
+  pub place : done * s.leaf_length + length rest ≡ length bytes
+  pub written : take (64 * done) out ++ range_digests s (first + done) ends rest
+      ≡ range_digests s first ends bytes
 
--- The offset of the rest is that many bytes further on.
-pub place-left : (size k m done n : ℕ) (rest : List ℕ) → m ≡ k * size → m < length rest
-    → done * size + length rest ≡ n
-    → (done + k) * size + length (take (length rest - m) (drop m rest)) ≡ n
-place-left size k m done n rest whole more place =
-    omega (arith, ap length (take_rest rest m), length-drop m rest)
-
--- What is written, and what is to come.
-pub written-more : (s : TreeParameters) (first done k m : ℕ) (ends : Bool)
-    (out new rest d all : List ℕ) → 64 * done + length d ≤ length out → length d ≡ 64 * k
+-- Those of k more leaves, m bytes, are written after them.
+pub AreWritten-more : {s : TreeParameters} {first : ℕ} {ends : Bool} {bytes : List ℕ} {done : ℕ}
+    {out rest : List ℕ} (k m : ℕ) (new d : List ℕ) → 0 < s.leaf_length → m ≡ k * s.leaf_length
+    → m < length rest → length new ≡ length out → length d ≡ 64 * k
     → new ≡ with_part (64 * done) d out
     → range_digests s (first + done) ends rest
     ≡ d ++ range_digests s (first + done + k) ends (drop m rest)
-    → take (64 * done) out ++ range_digests s (first + done) ends rest ≡ all
-    → take (64 * (done + k)) new
-    ++ range_digests s (first + (done + k)) ends (take (length rest - m) (drop m rest)) ≡ all
-written-more s first done k m ends out new rest d all fits size is next before =
+    → AreWritten s first ends bytes done out rest
+    → AreWritten s first ends bytes (done + k) new (take (length rest - m) (drop m rest))
+AreWritten-more {s} {first} {ends} {bytes} {done} {out} {rest} k m new d some whole more same size is
+    next before =
+    let l : ℕ = s.leaf_length in
+    let n : ℕ = length (take (length rest - m) (drop m rest)) in
+    let left : n ≡ length rest - m = ap length (take_rest rest m) ∙ length-drop m rest in
+    let split : length rest ≡ k * l + n = omega arith in
+    let count : leaf_count l (length rest) ≡ k + leaf_count l n =
+    ap (leaf_count l) split ∙ leaf_count-before l k n some (omega arith) in
     let at : ℕ = 64 * done in
     let front : List ℕ = take at out in
     let behind : List ℕ = drop (at + length d) out in
     let long : length (front ++ d) ≡ 64 * (done + k) =
-    omega (arith, length-append front d, length-take-le at out (omega arith)) in
+    omega (
+      arith,
+      length-append front d,
+      length-take-le at out (omega (arith, before.room)),
+      size,
+    ) in
     let written : take (64 * (done + k)) new ≡ front ++ d =
     ap (take (64 * (done + k))) (is ∙ sym (append_assoc front d behind))
     ∙ take_at (front ++ d) behind (64 * (done + k)) long in
     let place : first + (done + k) ≡ first + done + k = omega arith in
-    (λ i. written i ++ range_digests s (place i) ends (take_rest rest m i))
-    ∙ append_assoc front d (range_digests s (first + done + k) ends (drop m rest))
-    ∙ ap (λ r. front ++ r) (sym next)
-    ∙ before
+    record {
+      room = omega (arith, count, same, before.room);
+      place = omega (arith, left, before.place);
+      written = (λ i. written i ++ range_digests s (place i) ends (take_rest rest m i))
+          ∙ append_assoc front d (range_digests s (first + done + k) ends (drop m rest))
+          ∙ ap (λ r. front ++ r) (sym next) ∙ before.written;
+    }
 
 -- All is written.
 pub written-all : (at : ℕ) (out new d all : List ℕ) → length out ≡ at + length d
@@ -78,7 +81,12 @@ room-many size k n some more =
     omega (arith, ap (leaf_count size) split, leaf_count-before size k rest some (omega arith))
 
 -- The index of the rest is one that a node may have.
-pub place-fits : (size first done rest n : ℕ) → 0 < size → done * size + rest ≡ n
-    → first * size + n < 2 ^ 58 → first + done + 7 < 2 ^ 64
-place-fits size first done rest n some place fits =
-    omega (arith, mul-le-mul_left (first + done) (let h : 1 ≤ size = omega arith in h))
+pub place-fits : {s : TreeParameters} {first : ℕ} {ends : Bool} {bytes : List ℕ} {done : ℕ}
+    {out rest : List ℕ} → 0 < s.leaf_length → AreWritten s first ends bytes done out rest
+    → first * s.leaf_length + length bytes < 2 ^ 58 → first + done + 7 < 2 ^ 64
+place-fits {s} {first} {done} some written fits =
+    omega (
+      arith,
+      written.place,
+      mul-le-mul_left (first + done) (let h : 1 ≤ s.leaf_length = omega arith in h),
+    )

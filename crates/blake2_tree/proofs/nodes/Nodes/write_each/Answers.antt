@@ -1,9 +1,9 @@
 use Rattle.std.proofs.Common.{◌≡◌, ℕ, ◌+◌, ◌*◌, ◌<◌, ◌≤◌, ◌++◌, List, length, take, drop, Bool}
 use Rattle.std.proofs.Common.{false, sym, ap, ◌∙◌, rules, arith}
-use Rattle.blake2_tree.specs.Ranges.{range_digests, with_part}
+use Rattle.blake2_tree.specs.Ranges.{range_digests}
 use Rattle.blake2_tree.specs.Nodes.{shared_parameters, node_digest}
 use Rattle.blake2_tree.proofs.Leaves.{leaf_count-short, range_digests-short, range_digests-long}
-use Rattle.blake2_tree.proofs.RangeWrites.{room-left, place-left, written-more, written-all}
+use Rattle.blake2_tree.proofs.RangeWrites.{AreWritten-more, written-all}
 use Rattle.blake2_tree.proofs.nodes.Nodes.write_each.Goals as goal
 
 pub loop-rest-preserved : goal.loop-rest-preserved
@@ -11,32 +11,16 @@ loop-rest-preserved c =
     let nodes = c.args.self.now in
     let s = shared_parameters nodes in
     let l : ℕ = nodes.leaf_length in
-    let first : ℕ = c.args.first in
-    let done : ℕ = c.loop-rest.done in
+    let place : ℕ = c.args.first + c.loop-rest.done in
     let rest : List ℕ = c.loop-rest.rest.now in
-    let out : List ℕ = c.loop-rest.out in
-    let new : List ℕ = c.write_at.new.out in
     let d : List ℕ = c.leaf_digest-digest.result in
     let more : l < length rest = search rules in
     let one : l ≡ 1 * l = omega arith in
-    let size : length d ≡ 64 = search rules in
-    let is : d ≡ node_digest 64 s (first + done) 0 false (take l rest) = search rules in
-    let written : new ≡ with_part (64 * done) d out = search rules in
-    let next : range_digests s (first + done) c.args.ends rest
-    ≡ d ++ range_digests s (first + done + 1) c.args.ends (drop l rest) =
-    range_digests-long s (first + done) c.args.ends rest nodes.some_length more
-    ∙ ap (λ b. b ++ range_digests s (first + done + 1) c.args.ends (drop l rest)) (sym is) in
-    let fits : 64 * done + length d ≤ length out = search rules in
-    let same : length new ≡ length out = search rules in
-    record {
-      room = room-left l 1 l done out new rest nodes.some_length one more same
-          c.loop-rest.invariant.room;
-      place = place-left l 1 l done (length c.args.bytes.now) rest one more
-          c.loop-rest.invariant.place;
-      written = written-more s first done 1 l c.args.ends out new rest d
-          (range_digests s first c.args.ends c.args.bytes.now) fits (omega arith) written next
-          c.loop-rest.invariant.written;
-    }
+    let is : d ≡ node_digest 64 s place 0 false (take l rest) = search rules in
+    AreWritten-more 1 l _ d nodes.some_length one more (search rules) (search rules) (search rules)
+    (range_digests-long s place c.args.ends rest nodes.some_length more
+    ∙ ap (λ b. b ++ range_digests s (place + 1) c.args.ends (drop l rest)) (sym is))
+    c.loop-rest.invariant
 
 pub returns : goal.returns
 returns c =
