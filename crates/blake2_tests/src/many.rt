@@ -25,11 +25,12 @@ fn text<'a>(bytes: &'a [u8; 4306], start: usize, n: usize) -> &'a [u8]
     &bytes[start..start + n]
 }
 
-// Eight inputs without keys, each of the first n bytes of its message.
-fn eight_of<'a>(bytes: &'a [u8; 4306], n: usize) -> [Input<'a>; 8]
+// Eight inputs, each of the first n bytes of its message, which are what a row says. Under keys,
+// each key is a byte shorter than the one before. Every other node is the last of its level.
+fn eight_of<'a>(bytes: &'a [u8; 4306], n: usize, what: &str, key: &'a [u8]) -> [Input<'a>; 8]
     requires { n ≤ 4096 }
 {
-    [
+    let mut inputs = [
         unkeyed(text(bytes, 0, n)),
         input(None, b"salt", b"", text(bytes, 30, n)),
         input(None, b"", b"persona", text(bytes, 60, n)),
@@ -38,7 +39,14 @@ fn eight_of<'a>(bytes: &'a [u8; 4306], n: usize) -> [Input<'a>; 8]
         input(None, b"", b"two", text(bytes, 150, n)),
         input(None, b"saltier", b"", text(bytes, 180, n)),
         unkeyed(text(bytes, 210, n)),
-    ]
+    ];
+    for (j, input) in inputs.iter_mut().enumerate() {
+        if what == "keyed" {
+            input.key = key.get(j..);
+        }
+        input.last_node = what == "nodes" && j % 2 == 1;
+    }
+    inputs
 }
 
 // An input of these two.
@@ -51,15 +59,4 @@ fn read_row(row: &str) -> (&str, usize, &str) {
     let (what, rest) = row.split_once('|').unwrap_or((row, ""));
     let (n, wanted) = numbered(rest).unwrap_or((usize::MAX, row));
     (what, n, wanted)
-}
-
-// Makes the inputs what a row says. Under keys, each key is a byte shorter than the one before.
-// Every other node is the last of its level.
-fn make<'a>(inputs: &mut [Input<'a>], what: &str, key: &'a [u8]) {
-    for (j, input) in inputs.iter_mut().enumerate() {
-        if what == "keyed" {
-            input.key = key.get(j..);
-        }
-        input.last_node = what == "nodes" && j % 2 == 1;
-    }
 }

@@ -2,16 +2,17 @@
 
 ghost use Rattle.std.specs.Prelude.{◌≤◌};
 
-use super::{counted, keyed, make, read_row, text};
+use super::{counted, keyed, read_row, text};
 use blake2::many::blake2b::{accepts_four, hash_four};
 use blake2::steps::Input;
 use blake2_kat::inputs::{input, numbered, reads, unkeyed};
 
-// Inputs without keys, each of the first n bytes of its message.
-fn inputs_of<'a>(bytes: &'a [u8; 4306], n: usize) -> [Input<'a>; 4]
+// Four inputs, each of the first n bytes of its message, which are what a row says, as `eight_of`
+// has them.
+fn inputs_of<'a>(bytes: &'a [u8; 4306], n: usize, what: &str, key: &'a [u8]) -> [Input<'a>; 4]
     requires { n ≤ 4096 }
 {
-    [
+    let mut inputs = [
         unkeyed(text(bytes, 0, n)),
         input(None, b"salt", b"", text(bytes, 40, n)),
         input(None, b"", b"persona", text(bytes, 80, n)),
@@ -21,7 +22,14 @@ fn inputs_of<'a>(bytes: &'a [u8; 4306], n: usize) -> [Input<'a>; 4]
             b"fedcba9876543210",
             text(bytes, 120, n),
         ),
-    ]
+    ];
+    for (j, input) in inputs.iter_mut().enumerate() {
+        if what == "keyed" {
+            input.key = key.get(j..);
+        }
+        input.last_node = what == "nodes" && j % 2 == 1;
+    }
+    inputs
 }
 
 // Whether the inputs are accepted, and have these digests.
@@ -52,8 +60,7 @@ fn hash_four_inputs(rt: HostRuntime) {
     for row in DIGESTS.lines() {
         let (what, n, wanted) = read_row(row);
         assert!(rt; n <= 4096, "{row}");
-        let mut inputs = inputs_of(&bytes, n);
-        make(&mut inputs, what, &key);
+        let inputs = inputs_of(&bytes, n, what, &key);
         assert!(rt; digests_are(&inputs, wanted), "{n} bytes");
     }
 }

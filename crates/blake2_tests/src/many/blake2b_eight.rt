@@ -1,6 +1,6 @@
 //! Eight messages of BLAKE2b in parallel.
 
-use super::{counted, eight_of, make, read_row};
+use super::{counted, eight_of, read_row};
 use blake2::many::blake2b::eight::{accepts_eight, hash_eight};
 use blake2::steps::Input;
 use blake2_kat::inputs::reads;
@@ -45,8 +45,7 @@ fn hash_eight_inputs(rt: HostRuntime) {
     for row in DIGESTS.lines() {
         let (what, n, wanted) = read_row(row);
         assert!(rt; n <= 4096, "{row}");
-        let mut inputs = eight_of(&bytes, n);
-        make(&mut inputs, what, &key);
+        let inputs = eight_of(&bytes, n, what, &key);
         assert!(rt; digests_are(&inputs, wanted), "{n} bytes");
     }
 }
