@@ -1,4 +1,4 @@
-use Rattle.std.proofs.Common.{◌≡◌, take, length, ap, sym, subst, ◌∙◌}
+use Rattle.std.proofs.Common.{take, length, ap, sym, subst, ◌∙◌}
 use Rattle.blake2_digest.proofs.Texts.{take-padded}
 use Rattle.blake2_state.specs.Blake2b.{meaning}
 use Rattle.blake2_tree.specs.Nodes.{IsOpened}
