@@ -1,6 +1,6 @@
 //! What the buffer passes on and what it keeps, on a core that counts.
 
-ghost use Rattle.std.specs.Prelude.{◌≡◌, ◌+◌, ◌*◌, ◌^◌, ◌<◌, ◌≤◌, length};
+ghost use Rattle.std.specs.Prelude.{◌+◌, ◌*◌, ◌^◌, ◌<◌, ◌≤◌, length};
 ghost use Rattle.std.proofs.Common.{arith, length-append};
 
 use blake2::digest::{Duplicate, LazyBuffer, Reset, UpdateCore, Wipe};

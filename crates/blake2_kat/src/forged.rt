@@ -6,7 +6,7 @@ ghost use Rattle.std.specs.Prelude.{◌≤◌};
 
 use crate::families::Word;
 use crate::inputs::{check_digest_of, count_up, input, transcript, unkeyed};
-use blake2::steps::{Entry, Input, Transcript};
+use blake2::steps::{Entry, Transcript};
 use std::process::Abort;
 
 // Whether the transcript is read under these words, with another entry at this index.

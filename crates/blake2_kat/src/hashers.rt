@@ -1,6 +1,6 @@
 //! Digests of the hashers.
 
-ghost use Rattle.std.specs.Prelude.{◌≡◌, ◌+◌, ◌^◌, ◌<◌, ◌≤◌, length};
+ghost use Rattle.std.specs.Prelude.{◌≤◌, length};
 
 use crate::inputs::{check_digits, reads, take};
 use blake2::{Blake2b, Blake2b512, Blake2s, Blake2s256, Digest};

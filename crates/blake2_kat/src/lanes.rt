@@ -1,7 +1,6 @@
 //! Lanes and rounds.
 
 use blake2::rows::{u32x4, u64x4};
-use std::test::Fail;
 
 #[test]
 fn turn_lanes(rt: HostRuntime) {

@@ -3,7 +3,8 @@
 //! and when memory is refused. They come from RFC 7693 and from Python's `hashlib.blake2b` and
 //! `hashlib.blake2s`, and not from this project's own code. They are apart from the libraries,
 //! since a crate that has tests is proved twice. `blake2` contains the tests of what is private
-//! there. The modules `inputs` and `hoards` are what the tests of several crates share.
+//! there. The modules `devices`, `hoards` and `inputs` are what the tests of several crates
+//! share.
 
 #![tactic(auto)]
 
@@ -13,6 +14,7 @@ mod buffer;
 mod calls;
 #[cfg(test)]
 mod copies;
+pub mod devices;
 #[cfg(test)]
 mod families;
 #[cfg(test)]

@@ -1,7 +1,5 @@
 //! The sizes that types name, and the marks that they have.
 
-ghost use Rattle.std.specs.Prelude.{◌≤◌};
-
 use blake2::digest::{
     BlockSizeUser, BufferKindUser, HashMarker, KeySizeUser, Lazy, MacMarker, OutputSizeUser,
     TruncSide, VariableOutputCore, ZeroizeOnDrop,

@@ -6,7 +6,6 @@ use crate::families::Word;
 use crate::inputs::{blake2b_last, blake2s_last, input, padded, step, unkeyed};
 use blake2::steps::Input;
 use blake2::{Blake2b, Digest};
-use std::process::Abort;
 
 // An input that has only a salt.
 fn salted<'a>(salt: &'a [u8]) -> Input<'a> {

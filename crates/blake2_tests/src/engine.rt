@@ -11,6 +11,7 @@ use blake2::engine::{
     DeviceError, IoSink, IoSource, Sink, SliceSink, SliceSource, Source, StreamFault, hash_stream,
     write_whole,
 };
+use blake2_kat::devices::FailsOnce;
 use std::alloc::Global;
 use std::io;
 use std::io::{ErrorKind, Read, Write};
@@ -166,61 +167,25 @@ fn a_writer_fills_up_in_mid_stream(rt: HostRuntime) {
     assert!(rt; writes == 2);
 }
 
-// Fails its first write, by an error or by accepting no byte, and accepts all that comes later.
-#[derive(Drop)]
-struct FailsOnce {
-    by_error: bool,
-    has_failed: bool,
-    later: u32,
-}
-
-impl Write for FailsOnce {
-    fn write(&mut self, buf: &[u8]) -> io::Result<usize> {
-        if self.has_failed {
-            self.later = self.later.saturating_add(1);
-            return Ok(buf.len());
-        }
-        self.has_failed = true;
-        if self.by_error {
-            return Err(io::Error::from(ErrorKind::Interrupted));
-        }
-        Ok(0)
-    }
-
-    fn flush(&mut self) -> io::Result<()> {
-        Ok(())
-    }
-}
-
-impl FailsOnce {
-    fn new(by_error: bool) -> Self {
-        FailsOnce {
-            by_error,
-            has_failed: false,
-            later: 0,
-        }
-    }
-}
-
 // What one write of `abc` to a sink that fails once returns, whether the sink has then failed,
 // and how many writes come later.
-fn write_once(by_error: bool) -> (Result<usize, DeviceError>, bool, u32) {
-    let mut sink = IoSink::new(FailsOnce::new(by_error));
+fn write_once(by_error: bool) -> (Result<usize, DeviceError>, bool, usize) {
+    let mut sink = IoSink::new(FailsOnce::new(0, by_error));
     let answer = sink.write(b"abc");
     let failed = sink.failed();
     (answer, failed, sink.into_inner().later)
 }
 
 // What it returns for whole writes, and how many writes come later.
-fn write_whole_once(by_error: bool) -> (Result<(), DeviceError>, u32) {
-    let mut sink = IoSink::new(FailsOnce::new(by_error));
+fn write_whole_once(by_error: bool) -> (Result<(), DeviceError>, usize) {
+    let mut sink = IoSink::new(FailsOnce::new(0, by_error));
     let answer = write_whole(&mut sink, b"abc");
     (answer, sink.into_inner().later)
 }
 
 // What a stream to it returns, and how many writes come later.
-fn stream_once(by_error: bool) -> (Result<u64, StreamFault>, u32) {
-    let mut sink = IoSink::new(FailsOnce::new(by_error));
+fn stream_once(by_error: bool) -> (Result<u64, StreamFault>, usize) {
+    let mut sink = IoSink::new(FailsOnce::new(0, by_error));
     let mut source = SliceSource::new(b"abc", 4, None);
     let answer = hash_stream(&mut source, &mut sink, fresh());
     (answer, sink.into_inner().later)

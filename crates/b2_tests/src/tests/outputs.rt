@@ -3,52 +3,8 @@
 use super::words_of;
 use b2_commands::{Fault, run};
 use blake2::engine::{IoSink, SliceSource};
+use blake2_kat::devices::FailsOnce;
 use std::alloc::Global;
-use std::io;
-use std::io::{ErrorKind, Write};
-
-// Accepts `before` bytes, then fails once, by an error or by accepting none, and accepts all that
-// comes later.
-#[derive(Drop)]
-struct FailsOnce {
-    before: usize,
-    by_error: bool,
-    has_failed: bool,
-    later: usize,
-}
-
-impl FailsOnce {
-    fn new(before: usize, by_error: bool) -> Self {
-        FailsOnce {
-            before,
-            by_error,
-            has_failed: false,
-            later: 0,
-        }
-    }
-}
-
-impl Write for FailsOnce {
-    fn write(&mut self, buf: &[u8]) -> io::Result<usize> {
-        if self.has_failed {
-            self.later = self.later.saturating_add(1);
-            return Ok(buf.len());
-        }
-        let count = buf.len().min(self.before);
-        self.before -= count;
-        if count == 0 && !buf.is_empty() {
-            self.has_failed = true;
-            if self.by_error {
-                return Err(io::Error::from(ErrorKind::Interrupted));
-            }
-        }
-        Ok(count)
-    }
-
-    fn flush(&mut self) -> io::Result<()> {
-        Ok(())
-    }
-}
 
 // Returns whether the command, over an output that fails once after `before` bytes, returns
 // status 1 and writes no more.
