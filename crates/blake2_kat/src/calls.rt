@@ -1,6 +1,7 @@
 //! Lists of calls on hashers.
 
-use crate::inputs::{CALLS, check_digits, count_up, reads, take};
+use crate::checks::{check_digits, take};
+use crate::inputs::{CALLS, count_up, reads};
 use blake2::calls::{Call, replay};
 use blake2::digest::{Duplicate, FixedOutput, FixedOutputReset, Reset, Update};
 use blake2::{Blake2b256, Blake2b512, Blake2s256, Digest};

@@ -3,7 +3,8 @@
 
 ghost use Rattle.std.specs.Prelude.{◌≤◌, length};
 
-use crate::inputs::{LENGTHS, check_digits, count_up, take};
+use crate::checks::{check_digits, take};
+use crate::inputs::{LENGTHS, count_up};
 use blake2::digest::{Duplicate, FixedOutput, FixedOutputReset, Reset};
 use blake2::{
     Blake2b128, Blake2b256, Blake2b512, Blake2bMac512, Blake2s128, Blake2s256, Blake2sMac256,

@@ -1,6 +1,7 @@
 //! The two families by their words, so that a test is written once for both.
 
-use crate::inputs::{read_input, reading};
+use crate::checks::reading;
+use crate::inputs::read_input;
 use blake2::steps::{Input, Step, Transcript};
 use blake2::{Blake2b512, Blake2bVarCore, Blake2s256, Blake2sVarCore, Digest, LastNode};
 use std::alloc::AllocError;

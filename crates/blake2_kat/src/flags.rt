@@ -2,7 +2,8 @@
 
 ghost use Rattle.std.specs.Prelude.{◌<◌, ◌≤◌};
 
-use crate::inputs::{reads, take};
+use crate::checks::take;
+use crate::inputs::reads;
 use blake2::digest::{Duplicate, FixedOutputReset, LazyBuffer, Reset, VariableOutputCore};
 use blake2::{Blake2b128, Blake2bVarCore, Blake2s128, Blake2sVarCore, Digest, LastNode, Tree};
 use std::process::Abort;

@@ -4,8 +4,9 @@
 
 ghost use Rattle.std.specs.Prelude.{◌≤◌};
 
+use crate::checks::{check_digest_of, transcript};
 use crate::families::Word;
-use crate::inputs::{check_digest_of, count_up, input, transcript, unkeyed};
+use crate::inputs::{count_up, input, unkeyed};
 use blake2::steps::{Entry, Transcript};
 use std::process::Abort;
 

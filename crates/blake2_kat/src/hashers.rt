@@ -2,7 +2,8 @@
 
 ghost use Rattle.std.specs.Prelude.{◌≤◌, length};
 
-use crate::inputs::{check_digits, reads, take};
+use crate::checks::{check_digits, take};
+use crate::inputs::reads;
 use blake2::{Blake2b, Blake2b512, Blake2s, Blake2s256, Digest};
 use std::process::Abort;
 

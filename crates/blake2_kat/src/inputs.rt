@@ -4,12 +4,9 @@
 ghost use Rattle.std.specs.Prelude.{◌≡◌, ◌≤◌, [], length};
 
 use blake2::calls::Call;
-use blake2::digest::Update;
 pub use blake2::digest::padded;
 use blake2::steps::{Entry, Input, Reading, Step, Transcript, Tree};
-use blake2::{Blake2b256, Digest};
-use std::fmt;
-use std::process::Abort;
+use std::alloc::{AllocError, Global};
 
 /// The bytes 0 to 31.
 pub const KEY: [u8; 32] = [
@@ -78,31 +75,6 @@ pub fn reads(bytes: &[u8], digits: &str) -> bool {
     }
 }
 
-/// Checks that these digits are the bytes, as `reads` returns.
-pub fn check_digits(rt: &impl Abort, bytes: &[u8], digits: &str) {
-    assert!(rt; reads(bytes, digits), "not {digits}");
-}
-
-/// Checks that `Debug` writes this of the value.
-pub fn check_debug<T: fmt::Debug>(rt: &(impl Abort + AllocGlobal), value: &T, wanted: &str) {
-    let text = format!(in rt.alloc(); "{value:?}").expect(rt, wanted);
-    assert!(rt; text.as_str() == wanted, "{text} in place of {wanted}");
-}
-
-/// Checks that BLAKE2b-256 of the bytes is this in hexadecimal.
-pub fn check_digest_of(rt: &impl Abort, bytes: &[u8], wanted: &str) {
-    check_digits(rt, &Blake2b256::digest(bytes), wanted);
-}
-
-/// Absorbs a short piece, if few bytes are counted so far, and checks the new count.
-pub fn take<S: Update>(rt: &impl Abort, state: &mut S, piece: &[u8]) {
-    let before = state.counted();
-    assert!(rt; before <= 0x10_0000 && piece.len() <= 0x1000);
-    state.update(piece);
-    let wanted = before + piece.len() as u64;
-    assert!(rt; state.counted() == wanted, "{wanted}");
-}
-
 /// An input of these parts, of a hash that is the whole tree, with the last-node flag off.
 pub fn input<'a>(
     key: Option<&'a [u8]>,
@@ -143,14 +115,14 @@ pub fn entry<const B: usize>(beginning: &[u8], counter: u64, last: bool) -> Entr
     }
 }
 
-/// A transcript of these words and entries.
+/// A transcript of these words and entries. The error is `AllocError`, if an allocation fails.
 pub fn transcript<W: Drop, const B: usize>(
-    rt: &(impl Abort + AllocGlobal),
+    alloc: Global,
     words: [W; 8],
     entries: &[Entry<B>],
-) -> Transcript<W, B> {
-    let entries = entries.to_vec(rt.alloc()).expect(rt, "room for entries");
-    Transcript { words, entries }
+) -> Result<Transcript<W, B>, AllocError> {
+    let entries = entries.to_vec(alloc)?;
+    Ok(Transcript { words, entries })
 }
 
 /// A step whose block has zeros after these bytes, with the last-node flag off.
@@ -200,29 +172,29 @@ pub fn blake2s_last(first_word: u32, beginning: &[u8], counter: u64) -> Step<u32
     step(chain, beginning, counter, true)
 }
 
-/// What a transcript of this input and output size is read as.
+/// What a transcript of this input and output size is read as. The error is `AllocError`, if an
+/// allocation fails.
 pub fn reading<const S: usize>(
-    rt: &(impl Abort + AllocGlobal),
+    alloc: Global,
     input: &Input<'_>,
     output_size: usize,
-) -> Reading<S>
+) -> Result<Reading<S>, AllocError>
     requires salt { length input.now.salt.now ≤ S }
     requires persona { length input.now.persona.now ≤ S }
 {
     let key = match input.key {
-        Some(key) => Some(key.to_vec(rt.alloc()).expect(rt, "room for a key")),
+        Some(key) => Some(key.to_vec(alloc)?),
         None => None,
     };
-    let message = input.message.to_vec(rt.alloc());
-    Reading {
+    Ok(Reading {
         output_size,
         salt: padded(input.salt),
         persona: padded(input.persona),
         key,
         tree: input.tree,
         last_node: input.last_node,
-        message: message.expect(rt, "room for a message"),
-    }
+        message: input.message.to_vec(alloc)?,
+    })
 }
 
 /// The input that a reading names.

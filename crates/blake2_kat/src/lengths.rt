@@ -1,7 +1,8 @@
 //! The lengths of keys, salts and personas that are accepted, and those that are refused. The
 //! expected digests of the outputs are those of `tests/expected_values.py`, under `lengths`.
 
-use crate::inputs::{count_up, input, reads, take};
+use crate::checks::take;
+use crate::inputs::{count_up, input, reads};
 use blake2::digest::{FixedOutput, InvalidLength, KeyInit};
 use blake2::{Blake2b256, Blake2bMac512, Blake2bVarCore, Blake2sMac256, Blake2sVarCore, Digest};
 use std::process::Abort;

@@ -13,6 +13,8 @@ mod buffer;
 #[cfg(test)]
 mod calls;
 #[cfg(test)]
+mod checks;
+#[cfg(test)]
 mod copies;
 pub mod devices;
 #[cfg(test)]

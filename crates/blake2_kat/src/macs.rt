@@ -1,6 +1,7 @@
 //! Outputs of the MACs, personas of the hashers, and what constructors refuse.
 
-use crate::inputs::{KEY, check_digits, reads, take};
+use crate::checks::{check_digits, take};
+use crate::inputs::{KEY, reads};
 use blake2::digest::{
     CustomizedInit, FixedOutput, InvalidLength, InvalidOutputSize, KeyInit, Mac, VariableOutputCore,
 };

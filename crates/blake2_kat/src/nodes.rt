@@ -4,8 +4,9 @@
 
 ghost use Rattle.std.specs.Prelude.{◌≤◌};
 
+use crate::checks::{check_digest_of, transcript};
 use crate::families::Word;
-use crate::inputs::{blake2b_last, check_digest_of, count_up, entry, input, transcript, unkeyed};
+use crate::inputs::{blake2b_last, count_up, entry, input, unkeyed};
 use blake2::Blake2bVarCore;
 use blake2::steps::{Entry, Input, Step, Transcript, Tree};
 use std::process::Abort;

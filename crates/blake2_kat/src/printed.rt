@@ -3,7 +3,7 @@
 
 ghost use Rattle.std.specs.Prelude.{◌≤◌};
 
-use crate::inputs::check_debug;
+use crate::checks::check_debug;
 use blake2::digest::{AlgorithmName, KeyInit};
 use blake2::{
     Blake2bMac, Blake2bMac512, Blake2bVarCore, Blake2sMac, Blake2sMac256, Blake2sVarCore,

@@ -1,7 +1,7 @@
 //! The examples of the README, word for word (`tests/pages.py` compares them), and what
 //! they return.
 
-use crate::inputs::check_digits;
+use crate::checks::check_digits;
 use blake2::digest::{InvalidLength, Mac};
 use blake2::{Blake2b512, Blake2bMac512, Digest};
 

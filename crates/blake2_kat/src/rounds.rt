@@ -1,6 +1,6 @@
 //! The rounds of the hash of `abc`, whose words RFC 7693 prints after each.
 
-use crate::inputs::check_digits;
+use crate::checks::check_digits;
 use blake2::rows::{u32x4, u64x4};
 use blake2_compress::consts::{BLAKE2B_IV, BLAKE2S_IV, SIGMA};
 use blake2_compress::words::{blake2b, blake2s};

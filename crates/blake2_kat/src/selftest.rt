@@ -3,7 +3,8 @@
 
 ghost use Rattle.std.specs.Prelude.{◌≤◌};
 
-use crate::inputs::{reads, take};
+use crate::checks::take;
+use crate::inputs::reads;
 use blake2::digest::FixedOutput;
 use blake2::{Blake2b, Blake2b256, Blake2bMac, Blake2s, Blake2s256, Blake2sMac, Digest};
 use std::process::Abort;

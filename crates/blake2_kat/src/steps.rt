@@ -1,8 +1,9 @@
 //! Transcripts of inputs, and what transcripts are read as. Words are those of the parameter block
 //! (RFC 7693, 2.5), byte by byte; entries follow section 3.3.
 
+use crate::checks::transcript;
 use crate::families::Word;
-use crate::inputs::{WORDS, count_up, entry, input, transcript, unkeyed};
+use crate::inputs::{WORDS, count_up, entry, input, unkeyed};
 use blake2::laws::transcripts;
 use blake2::steps::{Entry, Input, Transcript};
 use std::process::Abort;

@@ -5,7 +5,7 @@ use blake2::digest::{InvalidLength, InvalidOutputSize, Lazy, MacError, TruncSide
 use blake2::engine::{DeviceError, StreamFault};
 use blake2::rows::{u32x4, u64x4};
 use blake2::steps::{Entry, Input, Reading, Step, Tree};
-use blake2_kat::inputs::{check_debug, entry, input, reading, step, transcript, unkeyed};
+use blake2_kat::inputs::{entry, input, reading, step, transcript, unkeyed};
 use blake2_tree::TreeWitness;
 use std::alloc::AllocError;
 use std::fmt;
@@ -18,6 +18,12 @@ fn check_different<T: Eq>(rt: &impl Abort, values: &[T]) {
             assert!(rt; (value == other) == (i == j), "{i} {j}");
         }
     }
+}
+
+// Checks that `Debug` writes this of the value.
+fn check_debug<T: fmt::Debug>(rt: &(impl Abort + AllocGlobal), value: &T, wanted: &str) {
+    let text = format!(in rt.alloc(); "{value:?}").expect(rt, wanted);
+    assert!(rt; text.as_str() == wanted, "{text} in place of {wanted}");
 }
 
 // Checks the copies and clones of values, no two of which are equal.
@@ -243,7 +249,7 @@ fn compare_transcripts(rt: HostRuntime) {
         (words, &entries[..1]),
         (words, &[entries[1], entries[0]]),
     ] {
-        let told = transcript(&rt, words, entries);
+        let told = transcript(rt.alloc(), words, entries).expect(&rt, "room for entries");
         transcripts.push(told).expect(&rt, "room for a transcript");
     }
     check_different(&rt, transcripts.as_slice());
@@ -274,7 +280,7 @@ fn compare_readings(rt: HostRuntime) {
         ),
     ] {
         assert!(rt; given.salt.len() <= 8 && given.persona.len() <= 8);
-        let read = reading(&rt, &given, output_size);
+        let read = reading(rt.alloc(), &given, output_size).expect(&rt, "room for its parts");
         readings.push(read).expect(&rt, "room for a reading");
     }
     check_different(&rt, readings.as_slice());

@@ -13,6 +13,7 @@ ghost use Rattle.blake2.specs.Hashers.{blake2s_meaning, blake2s_mac_meaning, bla
 ghost use Rattle.blake2.specs.Hashers.{blake2b_mac_state, blake2s_mac_state};
 ghost use Rattle.blake2.specs.States.{Fresh, IsWiped, digest_of, node_digest_of};
 
+use crate::checks::check_digits;
 use blake2::digest::{
     CustomizedInit, Digest, FixedOutput, InvalidLength, InvalidOutputSize, KeyInit, LazyBuffer,
     Mac, TreeNode, Update, VariableOutputCore, VariableOutputCoreCustomized, Wipe,
@@ -20,7 +21,7 @@ use blake2::digest::{
 use blake2::{
     Blake2b512, Blake2bMac512, Blake2bVarCore, Blake2s256, Blake2sMac256, Blake2sVarCore, Tree,
 };
-use blake2_kat::inputs::{check_digits, place};
+use blake2_kat::inputs::place;
 
 // ---- Wipe
 

@@ -3,10 +3,11 @@
 
 ghost use Rattle.std.specs.Prelude.{◌≤◌, length};
 
+use crate::checks::check_digits;
 use crate::state::root_by_state;
 use blake2::Blake2b256;
 use blake2::digest::{Digest, Update};
-use blake2_kat::inputs::{check_digits, count_up, numbered};
+use blake2_kat::inputs::{count_up, numbered};
 use blake2_tree::{TreeHasher, hash_leaves, is_range, leaf_count, root_of_leaves, tree_root};
 use std::process::Abort;
 

@@ -4,9 +4,10 @@
 ghost use Rattle.std.specs.Prelude.{◌≤◌, length};
 
 use super::node;
+use crate::checks::check_digits;
 use blake2::Blake2b256;
 use blake2::digest::{Digest, Update};
-use blake2_kat::inputs::{check_digits, count_up, numbered};
+use blake2_kat::inputs::{count_up, numbered};
 use blake2_tree::{TreeHasher, tree_root};
 use std::process::Abort;
 
