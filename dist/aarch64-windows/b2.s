@@ -1887,8 +1887,8 @@ b2_commands..command..run..d109e59d3b825a84_0_1_0_arm:
 	mov	x20, xzr
 .L0_1_0_arm_BB3_184:
 	mov	w8, #5
-	adrp	x9, .L0_1_0_arm_static.31
-	add	x9, x9, :lo12:.L0_1_0_arm_static.31
+	adrp	x9, .L0_1_0_arm_static.32
+	add	x9, x9, :lo12:.L0_1_0_arm_static.32
 	sub	x22, x8, x20
 	add	x1, x9, x20
 	mov	w0, #1
@@ -2501,8 +2501,8 @@ b2_commands..command..run..d109e59d3b825a84_0_1_0_arm:
 	mov	x20, xzr
 .L0_1_0_arm_BB3_224:
 	mov	w8, #5
-	adrp	x9, .L0_1_0_arm_static.31
-	add	x9, x9, :lo12:.L0_1_0_arm_static.31
+	adrp	x9, .L0_1_0_arm_static.32
+	add	x9, x9, :lo12:.L0_1_0_arm_static.32
 	sub	x22, x8, x20
 	add	x1, x9, x20
 	mov	w0, #1
@@ -20866,15 +20866,15 @@ b2_commands..steps..steps_blake2b..d109e59d3b825a84_0_1_0_arm:
 	cmp	w9, #1
 	add	x9, x25, x8
 	b.ne	.L0_1_0_arm_BB26_52
-	adrp	x10, .L0_1_0_arm_static.26
-	add	x10, x10, :lo12:.L0_1_0_arm_static.26
+	adrp	x10, .L0_1_0_arm_static.27
+	add	x10, x10, :lo12:.L0_1_0_arm_static.27
 	sub	x10, x9, x10
 	cmp	x10, #1
 	mov	w10, #12576
 	b	.L0_1_0_arm_BB26_53
 .L0_1_0_arm_BB26_52:
-	adrp	x10, .L0_1_0_arm_static.27
-	add	x10, x10, :lo12:.L0_1_0_arm_static.27
+	adrp	x10, .L0_1_0_arm_static.28
+	add	x10, x10, :lo12:.L0_1_0_arm_static.28
 	sub	x10, x9, x10
 	cmp	x10, #1
 	mov	w10, #12320
@@ -21089,33 +21089,107 @@ b2_commands..print..Line..add_words_of_64_0_1_0_arm:
 	.section	.text$b2_commands..print..Line..push_decimal_0_1_0_arm,"xr"
 	.p2align	2
 b2_commands..print..Line..push_decimal_0_1_0_arm:
-	stp	x29, x30, [sp, #-32]!
-	stp	x20, x19, [sp, #16]
-	mov	x20, x1
-	cmp	x1, #10
+	sub	sp, sp, #96
+	movi	v0.2d, #0000000000000000
+	lsr	x8, x1, #4
+	stp	x20, x19, [sp, #80]
 	mov	x19, x0
-	mov	x29, sp
-	b.lo	.L0_1_0_arm_BB29_2
-	mov	x8, #-3689348814741910324
-	mov	x0, x19
-	movk	x8, #52429
-	umulh	x8, x20, x8
-	lsr	x1, x8, #3
-	bl	b2_commands..print..Line..push_decimal_0_1_0_arm
+	stp	x29, x30, [sp, #48]
+	add	x29, sp, #48
+	cmp	x8, #625
+	adrp	x8, .L0_1_0_arm_static.26
+	add	x8, x8, :lo12:.L0_1_0_arm_static.26
+	str	x21, [sp, #64]
+	str	xzr, [sp, #32]
+	stp	q0, q0, [sp]
+	b.lo	.L0_1_0_arm_BB29_6
+	mov	x9, xzr
 .L0_1_0_arm_BB29_2:
-	mov	x8, #-3689348814741910324
-	mov	w9, #10
-	movk	x8, #52429
-	umulh	x8, x20, x8
-	lsr	w8, w8, #3
-	msub	w8, w8, w9, w20
-	ldr	x9, [x19, #424]
-	add	x10, x9, #1
-	orr	w8, w8, #0x30
-	strb	w8, [x19, x9]
-	str	x10, [x19, #424]
-	ldp	x20, x19, [sp, #16]
-	ldp	x29, x30, [sp], #32
+	mov	x11, #22859
+	mov	x10, x1
+	mov	w13, #5243
+	movk	x11, #14470, lsl #16
+	mov	w14, #57599
+	movk	x11, #50646, lsl #32
+	movk	w14, #1525, lsl #16
+	movk	x11, #13421, lsl #48
+	cmp	x1, x14
+	umulh	x11, x1, x11
+	lsr	x1, x11, #11
+	mov	w11, #10000
+	msub	w11, w1, w11, w10
+	ubfx	w12, w11, #2, #14
+	mul	w12, w12, w13
+	mov	w13, #100
+	lsr	w12, w12, #17
+	msub	w11, w12, w13, w11
+	mov	x13, sp
+	ldrh	w12, [x8, w12, uxtw #1]
+	add	x13, x13, x9
+	sub	x9, x9, #4
+	strh	w12, [x13, #36]
+	and	x11, x11, #0xffff
+	ldrh	w11, [x8, x11, lsl #1]
+	strh	w11, [x13, #38]
+	b.hi	.L0_1_0_arm_BB29_2
+	add	x9, x9, #40
+	cmp	x1, #99
+	b.ls	.L0_1_0_arm_BB29_7
+.L0_1_0_arm_BB29_4:
+	ubfx	w10, w1, #2, #14
+	mov	w11, #5243
+	cmp	x1, #999
+	mul	w10, w10, w11
+	mov	w11, #100
+	lsr	w10, w10, #17
+	msub	w11, w10, w11, w1
+	and	x11, x11, #0xffff
+	ldrh	w12, [x8, x11, lsl #1]
+	mov	x11, sp
+	add	x13, x11, x9
+	sturh	w12, [x13, #-2]
+	b.hi	.L0_1_0_arm_BB29_9
+	sub	x9, x9, #3
+	orr	w8, w10, #0x30
+	strb	w8, [x11, x9]
+	b	.L0_1_0_arm_BB29_11
+.L0_1_0_arm_BB29_6:
+	mov	w9, #40
+	cmp	x1, #99
+	b.hi	.L0_1_0_arm_BB29_4
+.L0_1_0_arm_BB29_7:
+	cmp	x1, #9
+	b.hi	.L0_1_0_arm_BB29_10
+	sub	x9, x9, #1
+	mov	x8, sp
+	orr	w10, w1, #0x30
+	strb	w10, [x8, x9]
+	b	.L0_1_0_arm_BB29_11
+.L0_1_0_arm_BB29_9:
+	sub	x9, x9, #4
+	ldrh	w8, [x8, w10, uxtw #1]
+	strh	w8, [x11, x9]
+	b	.L0_1_0_arm_BB29_11
+.L0_1_0_arm_BB29_10:
+	sub	x9, x9, #2
+	ldrh	w8, [x8, x1, lsl #1]
+	mov	x10, sp
+	strh	w8, [x10, x9]
+.L0_1_0_arm_BB29_11:
+	mov	w8, #40
+	ldr	x21, [x19, #424]
+	mov	x10, sp
+	sub	x20, x8, x9
+	add	x1, x10, x9
+	add	x0, x19, x21
+	mov	x2, x20
+	bl	memcpy
+	add	x8, x21, x20
+	ldp	x29, x30, [sp, #48]
+	str	x8, [x19, #424]
+	ldp	x20, x19, [sp, #80]
+	ldr	x21, [sp, #64]
+	add	sp, sp, #96
 	ret
 .L0_1_0_arm_func_end29:
 
@@ -23840,15 +23914,15 @@ b2_commands..steps..steps_blake2s..d109e59d3b825a84_0_1_0_arm:
 	cmp	w9, #1
 	add	x9, x25, x8
 	b.ne	.L0_1_0_arm_BB43_51
-	adrp	x10, .L0_1_0_arm_static.26
-	add	x10, x10, :lo12:.L0_1_0_arm_static.26
+	adrp	x10, .L0_1_0_arm_static.27
+	add	x10, x10, :lo12:.L0_1_0_arm_static.27
 	sub	x10, x9, x10
 	cmp	x10, #1
 	mov	w10, #12576
 	b	.L0_1_0_arm_BB43_52
 .L0_1_0_arm_BB43_51:
-	adrp	x10, .L0_1_0_arm_static.27
-	add	x10, x10, :lo12:.L0_1_0_arm_static.27
+	adrp	x10, .L0_1_0_arm_static.28
+	add	x10, x10, :lo12:.L0_1_0_arm_static.28
 	sub	x10, x9, x10
 	cmp	x10, #1
 	mov	w10, #12320
@@ -24884,15 +24958,15 @@ b2_commands..witness..print_blake2b..cc1f879c93799e56_0_1_0_arm:
 	cmp	w9, #1
 	add	x9, x22, x8
 	b.ne	.L0_1_0_arm_BB51_2
-	adrp	x10, .L0_1_0_arm_static.26
-	add	x10, x10, :lo12:.L0_1_0_arm_static.26
+	adrp	x10, .L0_1_0_arm_static.27
+	add	x10, x10, :lo12:.L0_1_0_arm_static.27
 	sub	x10, x9, x10
 	cmp	x10, #1
 	mov	w10, #12576
 	b	.L0_1_0_arm_BB51_3
 .L0_1_0_arm_BB51_2:
-	adrp	x10, .L0_1_0_arm_static.27
-	add	x10, x10, :lo12:.L0_1_0_arm_static.27
+	adrp	x10, .L0_1_0_arm_static.28
+	add	x10, x10, :lo12:.L0_1_0_arm_static.28
 	sub	x10, x9, x10
 	cmp	x10, #1
 	mov	w10, #12320
@@ -25536,15 +25610,15 @@ b2_commands..witness..print_blake2s..cc1f879c93799e56_0_1_0_arm:
 	cmp	w9, #1
 	add	x9, x22, x8
 	b.ne	.L0_1_0_arm_BB54_2
-	adrp	x10, .L0_1_0_arm_static.26
-	add	x10, x10, :lo12:.L0_1_0_arm_static.26
+	adrp	x10, .L0_1_0_arm_static.27
+	add	x10, x10, :lo12:.L0_1_0_arm_static.27
 	sub	x10, x9, x10
 	cmp	x10, #1
 	mov	w10, #12576
 	b	.L0_1_0_arm_BB54_3
 .L0_1_0_arm_BB54_2:
-	adrp	x10, .L0_1_0_arm_static.27
-	add	x10, x10, :lo12:.L0_1_0_arm_static.27
+	adrp	x10, .L0_1_0_arm_static.28
+	add	x10, x10, :lo12:.L0_1_0_arm_static.28
 	sub	x10, x9, x10
 	cmp	x10, #1
 	mov	w10, #12320
@@ -31300,8 +31374,8 @@ main_0_1_0_arm:
 	stp	q0, q0, [x9, #320]
 	stp	q0, q0, [x9, #352]
 	str	q0, [x9, #384]
-	adrp	x9, .L0_1_0_arm_static.43
-	add	x9, x9, :lo12:.L0_1_0_arm_static.43
+	adrp	x9, .L0_1_0_arm_static.44
+	add	x9, x9, :lo12:.L0_1_0_arm_static.44
 	str	q0, [x8]
 	mov	w8, #121
 	ldr	x9, [x9]
@@ -31453,50 +31527,54 @@ main_0_1_0_arm:
 
 	.section	.rdata,"dr"
 .L0_1_0_arm_static.26:
-	.ascii	" 1"
+	.ascii	"00010203040506070809101112131415161718192021222324252627282930313233343536373839404142434445464748495051525354555657585960616263646566676869707172737475767778798081828384858687888990919293949596979899"
 
 	.section	.rdata,"dr"
 .L0_1_0_arm_static.27:
+	.ascii	" 1"
+
+	.section	.rdata,"dr"
+.L0_1_0_arm_static.28:
 	.ascii	" 0"
 
 	.section	.rdata,"dr"
-.L0_1_0_arm_static.31:
+.L0_1_0_arm_static.32:
 	.ascii	"none\n"
 
 	.section	.rdata,"dr"
-.L0_1_0_arm_static.34:
+.L0_1_0_arm_static.35:
 	.ascii	"line "
 
 	.section	.rdata,"dr"
-.L0_1_0_arm_static.36:
+.L0_1_0_arm_static.37:
 	.ascii	"wrong words"
 
 	.section	.rdata,"dr"
-.L0_1_0_arm_static.37:
+.L0_1_0_arm_static.38:
 	.ascii	"wrong hex"
 
 	.section	.rdata,"dr"
-.L0_1_0_arm_static.38:
+.L0_1_0_arm_static.39:
 	.ascii	"wrong length"
 
 	.section	.rdata,"dr"
-.L0_1_0_arm_static.39:
+.L0_1_0_arm_static.40:
 	.ascii	"wrong line"
 
 	.section	.rdata,"dr"
-.L0_1_0_arm_static.40:
+.L0_1_0_arm_static.41:
 	.ascii	"no such slot"
 
 	.section	.rdata,"dr"
-.L0_1_0_arm_static.41:
+.L0_1_0_arm_static.42:
 	.ascii	"too long"
 
 	.section	.rdata,"dr"
-.L0_1_0_arm_static.42:
+.L0_1_0_arm_static.43:
 	.ascii	"read failed"
 
 	.section	.rdata,"dr"
-.L0_1_0_arm_static.43:
+.L0_1_0_arm_static.44:
 	.ascii	"no memory"
 
 	.section	.rdata,"dr"
@@ -31515,13 +31593,13 @@ main_0_1_0_arm:
 	.section	.rdata,"dr"
 	.p2align	2, 0x0
 .L0_1_0_arm_switch.table.b2_commands..fault..Fault..report..cc1f879c93799e56.281.rel_0_1_0_arm:
-	.long	.L0_1_0_arm_static.36-.L0_1_0_arm_switch.table.b2_commands..fault..Fault..report..cc1f879c93799e56.281.rel_0_1_0_arm
 	.long	.L0_1_0_arm_static.37-.L0_1_0_arm_switch.table.b2_commands..fault..Fault..report..cc1f879c93799e56.281.rel_0_1_0_arm
 	.long	.L0_1_0_arm_static.38-.L0_1_0_arm_switch.table.b2_commands..fault..Fault..report..cc1f879c93799e56.281.rel_0_1_0_arm
 	.long	.L0_1_0_arm_static.39-.L0_1_0_arm_switch.table.b2_commands..fault..Fault..report..cc1f879c93799e56.281.rel_0_1_0_arm
 	.long	.L0_1_0_arm_static.40-.L0_1_0_arm_switch.table.b2_commands..fault..Fault..report..cc1f879c93799e56.281.rel_0_1_0_arm
 	.long	.L0_1_0_arm_static.41-.L0_1_0_arm_switch.table.b2_commands..fault..Fault..report..cc1f879c93799e56.281.rel_0_1_0_arm
-	.long	.L0_1_0_arm_static.41-.L0_1_0_arm_switch.table.b2_commands..fault..Fault..report..cc1f879c93799e56.281.rel_0_1_0_arm
+	.long	.L0_1_0_arm_static.42-.L0_1_0_arm_switch.table.b2_commands..fault..Fault..report..cc1f879c93799e56.281.rel_0_1_0_arm
 	.long	.L0_1_0_arm_static.42-.L0_1_0_arm_switch.table.b2_commands..fault..Fault..report..cc1f879c93799e56.281.rel_0_1_0_arm
 	.long	.L0_1_0_arm_static.43-.L0_1_0_arm_switch.table.b2_commands..fault..Fault..report..cc1f879c93799e56.281.rel_0_1_0_arm
+	.long	.L0_1_0_arm_static.44-.L0_1_0_arm_switch.table.b2_commands..fault..Fault..report..cc1f879c93799e56.281.rel_0_1_0_arm
 

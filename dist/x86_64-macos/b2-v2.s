@@ -5395,7 +5395,7 @@ L0_1_0_v2_BB4_436:
 L0_1_0_v2_BB4_439:
 	xorl	%r14d, %r14d
 L0_1_0_v2_BB4_440:
-	leaq	l0_1_0_v2_static.31(%rip), %rsi
+	leaq	l0_1_0_v2_static.32(%rip), %rsi
 	addq	%r14, %rsi
 	movl	$5, %ebx
 	subq	%r14, %rbx
@@ -6264,7 +6264,7 @@ L0_1_0_v2_BB4_484:
 L0_1_0_v2_BB4_487:
 	xorl	%r14d, %r14d
 L0_1_0_v2_BB4_488:
-	leaq	l0_1_0_v2_static.31(%rip), %rsi
+	leaq	l0_1_0_v2_static.32(%rip), %rsi
 	addq	%r14, %rsi
 	movl	$5, %ebx
 	subq	%r14, %rbx
@@ -22370,14 +22370,14 @@ L0_1_0_v2_BB27_58:
 	addq	$160, %rcx
 	cmpb	$1, 136(%r13,%r12)
 	jne	L0_1_0_v2_BB27_60
-	leaq	l0_1_0_v2_static.26(%rip), %rdx
+	leaq	l0_1_0_v2_static.27(%rip), %rdx
 	movq	%rcx, %rsi
 	subq	%rdx, %rsi
 	cmpq	$1, %rsi
 	movw	$12576, (%rcx)
 	jmp	L0_1_0_v2_BB27_61
 L0_1_0_v2_BB27_60:
-	leaq	l0_1_0_v2_static.27(%rip), %rdx
+	leaq	l0_1_0_v2_static.28(%rip), %rdx
 	movq	%rcx, %rsi
 	subq	%rdx, %rsi
 	cmpq	$1, %rsi
@@ -22656,29 +22656,92 @@ _b2_commands..print..Line..push_decimal_0_1_0_v2:
 	pushq	%r15
 	pushq	%r14
 	pushq	%rbx
-	movq	%rsi, %r14
+	subq	$48, %rsp
 	movq	%rdi, %rbx
-	movabsq	$-3689348814741910323, %r15
-	cmpq	$10, %rsi
-	jb	L0_1_0_v2_BB30_2
-	movq	%r14, %rax
-	mulq	%r15
-	shrq	$3, %rdx
-	movq	%rbx, %rdi
-	movq	%rdx, %rsi
-	callq	_b2_commands..print..Line..push_decimal_0_1_0_v2
+	xorps	%xmm0, %xmm0
+	movaps	%xmm0, 16(%rsp)
+	movaps	%xmm0, (%rsp)
+	movq	$0, 32(%rsp)
+	movl	$40, %ecx
+	cmpq	$10000, %rsi
+	jb	L0_1_0_v2_BB30_1
+	.p2align	4
 L0_1_0_v2_BB30_2:
-	movq	%r14, %rax
-	mulq	%r15
-	shrl	$2, %edx
-	andl	$-2, %edx
-	leal	(%rdx,%rdx,4), %eax
-	subl	%eax, %r14d
-	orb	$48, %r14b
-	movq	424(%rbx), %rax
-	movb	%r14b, (%rbx,%rax)
-	incq	%rax
-	movq	%rax, 424(%rbx)
+	movabsq	$3777893186295716171, %rdx
+	movq	%rsi, %rax
+	mulq	%rdx
+	shrq	$11, %rdx
+	imull	$10000, %edx, %eax
+	movl	%esi, %edi
+	subl	%eax, %edi
+	imull	$5243, %edi, %eax
+	shrl	$19, %eax
+	imull	$100, %eax, %r8d
+	subl	%r8d, %edi
+	movzwl	%di, %edi
+	leaq	l0_1_0_v2_static.26(%rip), %r8
+	movzwl	(%r8,%rdi,2), %edi
+	movw	%di, -2(%rsp,%rcx)
+	movzwl	(%r8,%rax,2), %eax
+	movw	%ax, -4(%rsp,%rcx)
+	addq	$-4, %rcx
+	cmpq	$99999999, %rsi
+	movq	%rdx, %rsi
+	ja	L0_1_0_v2_BB30_2
+	cmpq	$99, %rdx
+	ja	L0_1_0_v2_BB30_7
+L0_1_0_v2_BB30_4:
+	cmpq	$9, %rdx
+	ja	L0_1_0_v2_BB30_6
+	orb	$48, %dl
+	movb	%dl, -1(%rsp,%rcx)
+	decq	%rcx
+	jmp	L0_1_0_v2_BB30_10
+L0_1_0_v2_BB30_1:
+	movq	%rsi, %rdx
+	cmpq	$99, %rdx
+	jbe	L0_1_0_v2_BB30_4
+L0_1_0_v2_BB30_7:
+	movl	%edx, %eax
+	shrl	$2, %eax
+	movzwl	%ax, %eax
+	imull	$5243, %eax, %eax
+	shrl	$17, %eax
+	imull	$100, %eax, %esi
+	movl	%edx, %edi
+	subl	%esi, %edi
+	movzwl	%di, %edi
+	leaq	l0_1_0_v2_static.26(%rip), %rsi
+	movzwl	(%rsi,%rdi,2), %edi
+	movw	%di, -2(%rsp,%rcx)
+	cmpq	$999, %rdx
+	ja	L0_1_0_v2_BB30_9
+	orb	$48, %al
+	movb	%al, -3(%rsp,%rcx)
+	addq	$-3, %rcx
+	jmp	L0_1_0_v2_BB30_10
+L0_1_0_v2_BB30_6:
+	leaq	l0_1_0_v2_static.26(%rip), %rax
+	movzwl	(%rax,%rdx,2), %eax
+	movw	%ax, -2(%rsp,%rcx)
+	addq	$-2, %rcx
+	jmp	L0_1_0_v2_BB30_10
+L0_1_0_v2_BB30_9:
+	movzwl	%ax, %eax
+	movzwl	(%rsi,%rax,2), %eax
+	movw	%ax, -4(%rsp,%rcx)
+	addq	$-4, %rcx
+L0_1_0_v2_BB30_10:
+	leaq	(%rsp,%rcx), %rsi
+	movl	$40, %r14d
+	subq	%rcx, %r14
+	movq	424(%rbx), %r15
+	leaq	(%rbx,%r15), %rdi
+	movq	%r14, %rdx
+	callq	_memcpy
+	addq	%r15, %r14
+	movq	%r14, 424(%rbx)
+	addq	$48, %rsp
 	popq	%rbx
 	popq	%r14
 	popq	%r15
@@ -24976,14 +25039,14 @@ L0_1_0_v2_BB44_59:
 	addq	$672, %rcx
 	cmpb	$1, 72(%rbx,%r13)
 	jne	L0_1_0_v2_BB44_61
-	leaq	l0_1_0_v2_static.26(%rip), %rdx
+	leaq	l0_1_0_v2_static.27(%rip), %rdx
 	movq	%rcx, %rsi
 	subq	%rdx, %rsi
 	cmpq	$1, %rsi
 	movw	$12576, (%rcx)
 	jmp	L0_1_0_v2_BB44_62
 L0_1_0_v2_BB44_61:
-	leaq	l0_1_0_v2_static.27(%rip), %rdx
+	leaq	l0_1_0_v2_static.28(%rip), %rdx
 	movq	%rcx, %rsi
 	subq	%rdx, %rsi
 	cmpq	$1, %rsi
@@ -26057,14 +26120,14 @@ _b2_commands..witness..print_blake2b..cc1f879c93799e56_0_1_0_v2:
 	addq	$8, %rcx
 	cmpb	$1, 200(%r15)
 	jne	L0_1_0_v2_BB52_2
-	leaq	l0_1_0_v2_static.26(%rip), %rdx
+	leaq	l0_1_0_v2_static.27(%rip), %rdx
 	movq	%rcx, %rdi
 	subq	%rdx, %rdi
 	cmpq	$1, %rdi
 	movw	$12576, (%rcx)
 	jmp	L0_1_0_v2_BB52_3
 L0_1_0_v2_BB52_2:
-	leaq	l0_1_0_v2_static.27(%rip), %rdx
+	leaq	l0_1_0_v2_static.28(%rip), %rdx
 	movq	%rcx, %rdi
 	subq	%rdx, %rdi
 	cmpq	$1, %rdi
@@ -26805,14 +26868,14 @@ _b2_commands..witness..print_blake2s..cc1f879c93799e56_0_1_0_v2:
 	addq	$8, %rcx
 	cmpb	$1, 104(%r15)
 	jne	L0_1_0_v2_BB55_2
-	leaq	l0_1_0_v2_static.26(%rip), %rdx
+	leaq	l0_1_0_v2_static.27(%rip), %rdx
 	movq	%rcx, %rdi
 	subq	%rdx, %rdi
 	cmpq	$1, %rdi
 	movw	$12576, (%rcx)
 	jmp	L0_1_0_v2_BB55_3
 L0_1_0_v2_BB55_2:
-	leaq	l0_1_0_v2_static.27(%rip), %rdx
+	leaq	l0_1_0_v2_static.28(%rip), %rdx
 	movq	%rcx, %rdi
 	subq	%rdx, %rdi
 	cmpq	$1, %rdi
@@ -27187,50 +27250,54 @@ l0_1_0_v2_static.20:
 
 	.section	__TEXT,__const
 l0_1_0_v2_static.26:
-	.ascii	" 1"
+	.ascii	"00010203040506070809101112131415161718192021222324252627282930313233343536373839404142434445464748495051525354555657585960616263646566676869707172737475767778798081828384858687888990919293949596979899"
 
 	.section	__TEXT,__const
 l0_1_0_v2_static.27:
+	.ascii	" 1"
+
+	.section	__TEXT,__const
+l0_1_0_v2_static.28:
 	.ascii	" 0"
 
 	.section	__TEXT,__const
-l0_1_0_v2_static.31:
+l0_1_0_v2_static.32:
 	.ascii	"none\n"
 
 	.section	__TEXT,__const
-l0_1_0_v2_static.34:
+l0_1_0_v2_static.35:
 	.ascii	"line "
 
 	.section	__TEXT,__const
-l0_1_0_v2_static.36:
+l0_1_0_v2_static.37:
 	.ascii	"wrong words"
 
 	.section	__TEXT,__const
-l0_1_0_v2_static.37:
+l0_1_0_v2_static.38:
 	.ascii	"wrong hex"
 
 	.section	__TEXT,__const
-l0_1_0_v2_static.38:
+l0_1_0_v2_static.39:
 	.ascii	"wrong length"
 
 	.section	__TEXT,__const
-l0_1_0_v2_static.39:
+l0_1_0_v2_static.40:
 	.ascii	"wrong line"
 
 	.section	__TEXT,__const
-l0_1_0_v2_static.40:
+l0_1_0_v2_static.41:
 	.ascii	"no such slot"
 
 	.section	__TEXT,__const
-l0_1_0_v2_static.41:
+l0_1_0_v2_static.42:
 	.ascii	"too long"
 
 	.section	__TEXT,__const
-l0_1_0_v2_static.42:
+l0_1_0_v2_static.43:
 	.ascii	"read failed"
 
 	.section	__TEXT,__const
-l0_1_0_v2_static.43:
+l0_1_0_v2_static.44:
 	.ascii	"no memory"
 
 	.section	__TEXT,__const
@@ -27249,15 +27316,15 @@ L0_1_0_v2_switch.table.b2_commands..fault..Fault..report..cc1f879c93799e56_0_1_0
 	.section	__TEXT,__const
 	.p2align	2, 0x0
 L0_1_0_v2_switch.table.b2_commands..fault..Fault..report..cc1f879c93799e56.281.rel_0_1_0_v2:
-	.long	l0_1_0_v2_static.36-L0_1_0_v2_switch.table.b2_commands..fault..Fault..report..cc1f879c93799e56.281.rel_0_1_0_v2
 	.long	l0_1_0_v2_static.37-L0_1_0_v2_switch.table.b2_commands..fault..Fault..report..cc1f879c93799e56.281.rel_0_1_0_v2
 	.long	l0_1_0_v2_static.38-L0_1_0_v2_switch.table.b2_commands..fault..Fault..report..cc1f879c93799e56.281.rel_0_1_0_v2
 	.long	l0_1_0_v2_static.39-L0_1_0_v2_switch.table.b2_commands..fault..Fault..report..cc1f879c93799e56.281.rel_0_1_0_v2
 	.long	l0_1_0_v2_static.40-L0_1_0_v2_switch.table.b2_commands..fault..Fault..report..cc1f879c93799e56.281.rel_0_1_0_v2
 	.long	l0_1_0_v2_static.41-L0_1_0_v2_switch.table.b2_commands..fault..Fault..report..cc1f879c93799e56.281.rel_0_1_0_v2
-	.long	l0_1_0_v2_static.41-L0_1_0_v2_switch.table.b2_commands..fault..Fault..report..cc1f879c93799e56.281.rel_0_1_0_v2
+	.long	l0_1_0_v2_static.42-L0_1_0_v2_switch.table.b2_commands..fault..Fault..report..cc1f879c93799e56.281.rel_0_1_0_v2
 	.long	l0_1_0_v2_static.42-L0_1_0_v2_switch.table.b2_commands..fault..Fault..report..cc1f879c93799e56.281.rel_0_1_0_v2
 	.long	l0_1_0_v2_static.43-L0_1_0_v2_switch.table.b2_commands..fault..Fault..report..cc1f879c93799e56.281.rel_0_1_0_v2
+	.long	l0_1_0_v2_static.44-L0_1_0_v2_switch.table.b2_commands..fault..Fault..report..cc1f879c93799e56.281.rel_0_1_0_v2
 
 
 .subsections_via_symbols

@@ -4918,7 +4918,7 @@ L0_1_0_v3_BB4_442:
 L0_1_0_v3_BB4_445:
 	xorl	%r14d, %r14d
 L0_1_0_v3_BB4_446:
-	leaq	l0_1_0_v3_static.31(%rip), %rsi
+	leaq	l0_1_0_v3_static.32(%rip), %rsi
 	addq	%r14, %rsi
 	movl	$5, %ebx
 	subq	%r14, %rbx
@@ -5636,7 +5636,7 @@ L0_1_0_v3_BB4_490:
 L0_1_0_v3_BB4_493:
 	xorl	%r14d, %r14d
 L0_1_0_v3_BB4_494:
-	leaq	l0_1_0_v3_static.31(%rip), %rsi
+	leaq	l0_1_0_v3_static.32(%rip), %rsi
 	addq	%r14, %rsi
 	movl	$5, %ebx
 	subq	%r14, %rbx
@@ -21578,14 +21578,14 @@ L0_1_0_v3_BB27_59:
 	addq	$256, %rcx
 	cmpb	$1, 136(%rbx,%r15)
 	jne	L0_1_0_v3_BB27_61
-	leaq	l0_1_0_v3_static.26(%rip), %rdx
+	leaq	l0_1_0_v3_static.27(%rip), %rdx
 	movq	%rcx, %rsi
 	subq	%rdx, %rsi
 	cmpq	$1, %rsi
 	movw	$12576, (%rcx)
 	jmp	L0_1_0_v3_BB27_62
 L0_1_0_v3_BB27_61:
-	leaq	l0_1_0_v3_static.27(%rip), %rdx
+	leaq	l0_1_0_v3_static.28(%rip), %rdx
 	movq	%rcx, %rsi
 	subq	%rdx, %rsi
 	cmpq	$1, %rsi
@@ -21848,28 +21848,92 @@ _b2_commands..print..Line..push_decimal_0_1_0_v3:
 	pushq	%r15
 	pushq	%r14
 	pushq	%rbx
-	movq	%rsi, %r14
+	subq	$48, %rsp
+	vxorps	%xmm0, %xmm0, %xmm0
+	vmovups	%ymm0, (%rsp)
+	movq	%rsi, %rdx
 	movq	%rdi, %rbx
-	movabsq	$-3689348814741910323, %r15
-	cmpq	$10, %rsi
-	jb	L0_1_0_v3_BB30_2
-	movq	%r14, %rdx
-	mulxq	%r15, %rsi, %rsi
-	shrq	$3, %rsi
-	movq	%rbx, %rdi
-	callq	_b2_commands..print..Line..push_decimal_0_1_0_v3
+	movq	$0, 32(%rsp)
+	movl	$40, %eax
+	cmpq	$10000, %rsi
+	jb	L0_1_0_v3_BB30_1
+	.p2align	4
 L0_1_0_v3_BB30_2:
+	movabsq	$3777893186295716171, %rcx
+	mulxq	%rcx, %rcx, %rcx
+	shrq	$11, %rcx
+	imull	$10000, %ecx, %esi
+	movl	%edx, %edi
+	subl	%esi, %edi
+	imull	$5243, %edi, %esi
+	shrl	$19, %esi
+	imull	$100, %esi, %r8d
+	subl	%r8d, %edi
+	movzwl	%di, %edi
+	leaq	l0_1_0_v3_static.26(%rip), %r8
+	movzwl	(%r8,%rdi,2), %edi
+	movw	%di, -2(%rsp,%rax)
+	movzwl	(%r8,%rsi,2), %esi
+	movw	%si, -4(%rsp,%rax)
+	addq	$-4, %rax
+	cmpq	$99999999, %rdx
+	movq	%rcx, %rdx
+	ja	L0_1_0_v3_BB30_2
+	cmpq	$99, %rcx
+	ja	L0_1_0_v3_BB30_7
+L0_1_0_v3_BB30_4:
+	cmpq	$9, %rcx
+	ja	L0_1_0_v3_BB30_6
+	orb	$48, %cl
+	movb	%cl, -1(%rsp,%rax)
+	decq	%rax
+	jmp	L0_1_0_v3_BB30_10
+L0_1_0_v3_BB30_1:
+	movq	%rdx, %rcx
+	cmpq	$99, %rcx
+	jbe	L0_1_0_v3_BB30_4
+L0_1_0_v3_BB30_7:
+	movl	%ecx, %edx
+	shrl	$2, %edx
+	movzwl	%dx, %edx
+	imull	$5243, %edx, %edx
+	shrl	$17, %edx
+	imull	$100, %edx, %esi
+	movl	%ecx, %edi
+	subl	%esi, %edi
+	movzwl	%di, %edi
+	leaq	l0_1_0_v3_static.26(%rip), %rsi
+	movzwl	(%rsi,%rdi,2), %edi
+	movw	%di, -2(%rsp,%rax)
+	cmpq	$999, %rcx
+	ja	L0_1_0_v3_BB30_9
+	orb	$48, %dl
+	movb	%dl, -3(%rsp,%rax)
+	addq	$-3, %rax
+	jmp	L0_1_0_v3_BB30_10
+L0_1_0_v3_BB30_6:
+	leaq	l0_1_0_v3_static.26(%rip), %rdx
+	movzwl	(%rdx,%rcx,2), %ecx
+	movw	%cx, -2(%rsp,%rax)
+	addq	$-2, %rax
+	jmp	L0_1_0_v3_BB30_10
+L0_1_0_v3_BB30_9:
+	movzwl	%dx, %ecx
+	movzwl	(%rsi,%rcx,2), %ecx
+	movw	%cx, -4(%rsp,%rax)
+	addq	$-4, %rax
+L0_1_0_v3_BB30_10:
+	leaq	(%rsp,%rax), %rsi
+	movl	$40, %r14d
+	subq	%rax, %r14
+	movq	424(%rbx), %r15
+	leaq	(%rbx,%r15), %rdi
 	movq	%r14, %rdx
-	mulxq	%r15, %rax, %rax
-	shrl	$2, %eax
-	andl	$-2, %eax
-	leal	(%rax,%rax,4), %eax
-	subl	%eax, %r14d
-	orb	$48, %r14b
-	movq	424(%rbx), %rax
-	movb	%r14b, (%rbx,%rax)
-	incq	%rax
-	movq	%rax, 424(%rbx)
+	vzeroupper
+	callq	_memcpy
+	addq	%r15, %r14
+	movq	%r14, 424(%rbx)
+	addq	$48, %rsp
 	popq	%rbx
 	popq	%r14
 	popq	%r15
@@ -24908,14 +24972,14 @@ L0_1_0_v3_BB44_58:
 	addq	$656, %rcx
 	cmpb	$1, 72(%r15,%r12)
 	jne	L0_1_0_v3_BB44_60
-	leaq	l0_1_0_v3_static.26(%rip), %rdx
+	leaq	l0_1_0_v3_static.27(%rip), %rdx
 	movq	%rcx, %rsi
 	subq	%rdx, %rsi
 	cmpq	$1, %rsi
 	movw	$12576, (%rcx)
 	jmp	L0_1_0_v3_BB44_61
 L0_1_0_v3_BB44_60:
-	leaq	l0_1_0_v3_static.27(%rip), %rdx
+	leaq	l0_1_0_v3_static.28(%rip), %rdx
 	movq	%rcx, %rsi
 	subq	%rdx, %rsi
 	cmpq	$1, %rsi
@@ -25808,14 +25872,14 @@ _b2_commands..witness..print_blake2b..cc1f879c93799e56_0_1_0_v3:
 	addq	$8, %rcx
 	cmpb	$1, 200(%r15)
 	jne	L0_1_0_v3_BB52_2
-	leaq	l0_1_0_v3_static.26(%rip), %rdx
+	leaq	l0_1_0_v3_static.27(%rip), %rdx
 	movq	%rcx, %rdi
 	subq	%rdx, %rdi
 	cmpq	$1, %rdi
 	movw	$12576, (%rcx)
 	jmp	L0_1_0_v3_BB52_3
 L0_1_0_v3_BB52_2:
-	leaq	l0_1_0_v3_static.27(%rip), %rdx
+	leaq	l0_1_0_v3_static.28(%rip), %rdx
 	movq	%rcx, %rdi
 	subq	%rdx, %rdi
 	cmpq	$1, %rdi
@@ -26518,14 +26582,14 @@ _b2_commands..witness..print_blake2s..cc1f879c93799e56_0_1_0_v3:
 	addq	$8, %rcx
 	cmpb	$1, 104(%rbx)
 	jne	L0_1_0_v3_BB55_2
-	leaq	l0_1_0_v3_static.26(%rip), %rdx
+	leaq	l0_1_0_v3_static.27(%rip), %rdx
 	movq	%rcx, %rdi
 	subq	%rdx, %rdi
 	cmpq	$1, %rdi
 	movw	$12576, (%rcx)
 	jmp	L0_1_0_v3_BB55_3
 L0_1_0_v3_BB55_2:
-	leaq	l0_1_0_v3_static.27(%rip), %rdx
+	leaq	l0_1_0_v3_static.28(%rip), %rdx
 	movq	%rcx, %rdi
 	subq	%rdx, %rdi
 	cmpq	$1, %rdi
@@ -29756,50 +29820,54 @@ l0_1_0_v3_static.20:
 
 	.section	__TEXT,__const
 l0_1_0_v3_static.26:
-	.ascii	" 1"
+	.ascii	"00010203040506070809101112131415161718192021222324252627282930313233343536373839404142434445464748495051525354555657585960616263646566676869707172737475767778798081828384858687888990919293949596979899"
 
 	.section	__TEXT,__const
 l0_1_0_v3_static.27:
+	.ascii	" 1"
+
+	.section	__TEXT,__const
+l0_1_0_v3_static.28:
 	.ascii	" 0"
 
 	.section	__TEXT,__const
-l0_1_0_v3_static.31:
+l0_1_0_v3_static.32:
 	.ascii	"none\n"
 
 	.section	__TEXT,__const
-l0_1_0_v3_static.34:
+l0_1_0_v3_static.35:
 	.ascii	"line "
 
 	.section	__TEXT,__const
-l0_1_0_v3_static.36:
+l0_1_0_v3_static.37:
 	.ascii	"wrong words"
 
 	.section	__TEXT,__const
-l0_1_0_v3_static.37:
+l0_1_0_v3_static.38:
 	.ascii	"wrong hex"
 
 	.section	__TEXT,__const
-l0_1_0_v3_static.38:
+l0_1_0_v3_static.39:
 	.ascii	"wrong length"
 
 	.section	__TEXT,__const
-l0_1_0_v3_static.39:
+l0_1_0_v3_static.40:
 	.ascii	"wrong line"
 
 	.section	__TEXT,__const
-l0_1_0_v3_static.40:
+l0_1_0_v3_static.41:
 	.ascii	"no such slot"
 
 	.section	__TEXT,__const
-l0_1_0_v3_static.41:
+l0_1_0_v3_static.42:
 	.ascii	"too long"
 
 	.section	__TEXT,__const
-l0_1_0_v3_static.42:
+l0_1_0_v3_static.43:
 	.ascii	"read failed"
 
 	.section	__TEXT,__const
-l0_1_0_v3_static.43:
+l0_1_0_v3_static.44:
 	.ascii	"no memory"
 
 	.section	__TEXT,__const
@@ -29818,15 +29886,15 @@ L0_1_0_v3_switch.table.b2_commands..fault..Fault..report..cc1f879c93799e56_0_1_0
 	.section	__TEXT,__const
 	.p2align	2, 0x0
 L0_1_0_v3_switch.table.b2_commands..fault..Fault..report..cc1f879c93799e56.281.rel_0_1_0_v3:
-	.long	l0_1_0_v3_static.36-L0_1_0_v3_switch.table.b2_commands..fault..Fault..report..cc1f879c93799e56.281.rel_0_1_0_v3
 	.long	l0_1_0_v3_static.37-L0_1_0_v3_switch.table.b2_commands..fault..Fault..report..cc1f879c93799e56.281.rel_0_1_0_v3
 	.long	l0_1_0_v3_static.38-L0_1_0_v3_switch.table.b2_commands..fault..Fault..report..cc1f879c93799e56.281.rel_0_1_0_v3
 	.long	l0_1_0_v3_static.39-L0_1_0_v3_switch.table.b2_commands..fault..Fault..report..cc1f879c93799e56.281.rel_0_1_0_v3
 	.long	l0_1_0_v3_static.40-L0_1_0_v3_switch.table.b2_commands..fault..Fault..report..cc1f879c93799e56.281.rel_0_1_0_v3
 	.long	l0_1_0_v3_static.41-L0_1_0_v3_switch.table.b2_commands..fault..Fault..report..cc1f879c93799e56.281.rel_0_1_0_v3
-	.long	l0_1_0_v3_static.41-L0_1_0_v3_switch.table.b2_commands..fault..Fault..report..cc1f879c93799e56.281.rel_0_1_0_v3
+	.long	l0_1_0_v3_static.42-L0_1_0_v3_switch.table.b2_commands..fault..Fault..report..cc1f879c93799e56.281.rel_0_1_0_v3
 	.long	l0_1_0_v3_static.42-L0_1_0_v3_switch.table.b2_commands..fault..Fault..report..cc1f879c93799e56.281.rel_0_1_0_v3
 	.long	l0_1_0_v3_static.43-L0_1_0_v3_switch.table.b2_commands..fault..Fault..report..cc1f879c93799e56.281.rel_0_1_0_v3
+	.long	l0_1_0_v3_static.44-L0_1_0_v3_switch.table.b2_commands..fault..Fault..report..cc1f879c93799e56.281.rel_0_1_0_v3
 
 
 .subsections_via_symbols

@@ -5405,7 +5405,7 @@ b2_commands..command..run..d109e59d3b825a84_0_1_0_v2:
 .L0_1_0_v2_BB4_439:
 	xorl	%r14d, %r14d
 .L0_1_0_v2_BB4_440:
-	leaq	.L0_1_0_v2_static.31(%rip), %rsi
+	leaq	.L0_1_0_v2_static.32(%rip), %rsi
 	addq	%r14, %rsi
 	movl	$5, %ebx
 	subq	%r14, %rbx
@@ -6274,7 +6274,7 @@ b2_commands..command..run..d109e59d3b825a84_0_1_0_v2:
 .L0_1_0_v2_BB4_487:
 	xorl	%r14d, %r14d
 .L0_1_0_v2_BB4_488:
-	leaq	.L0_1_0_v2_static.31(%rip), %rsi
+	leaq	.L0_1_0_v2_static.32(%rip), %rsi
 	addq	%r14, %rsi
 	movl	$5, %ebx
 	subq	%r14, %rbx
@@ -22426,14 +22426,14 @@ b2_commands..steps..steps_blake2b..d109e59d3b825a84_0_1_0_v2:
 	addq	$160, %rcx
 	cmpb	$1, 136(%r13,%r12)
 	jne	.L0_1_0_v2_BB27_60
-	leaq	.L0_1_0_v2_static.26(%rip), %rdx
+	leaq	.L0_1_0_v2_static.27(%rip), %rdx
 	movq	%rcx, %rsi
 	subq	%rdx, %rsi
 	cmpq	$1, %rsi
 	movw	$12576, (%rcx)
 	jmp	.L0_1_0_v2_BB27_61
 .L0_1_0_v2_BB27_60:
-	leaq	.L0_1_0_v2_static.27(%rip), %rdx
+	leaq	.L0_1_0_v2_static.28(%rip), %rdx
 	movq	%rcx, %rsi
 	subq	%rdx, %rsi
 	cmpq	$1, %rsi
@@ -22718,29 +22718,92 @@ b2_commands..print..Line..push_decimal_0_1_0_v2:
 	pushq	%r15
 	pushq	%r14
 	pushq	%rbx
-	movq	%rsi, %r14
+	subq	$48, %rsp
 	movq	%rdi, %rbx
-	movabsq	$-3689348814741910323, %r15
-	cmpq	$10, %rsi
-	jb	.L0_1_0_v2_BB30_2
-	movq	%r14, %rax
-	mulq	%r15
-	shrq	$3, %rdx
-	movq	%rbx, %rdi
-	movq	%rdx, %rsi
-	callq	b2_commands..print..Line..push_decimal_0_1_0_v2
+	xorps	%xmm0, %xmm0
+	movaps	%xmm0, 16(%rsp)
+	movaps	%xmm0, (%rsp)
+	movq	$0, 32(%rsp)
+	movl	$40, %ecx
+	cmpq	$10000, %rsi
+	jb	.L0_1_0_v2_BB30_1
+	.p2align	4
 .L0_1_0_v2_BB30_2:
-	movq	%r14, %rax
-	mulq	%r15
-	shrl	$2, %edx
-	andl	$-2, %edx
-	leal	(%rdx,%rdx,4), %eax
-	subl	%eax, %r14d
-	orb	$48, %r14b
-	movq	424(%rbx), %rax
-	movb	%r14b, (%rbx,%rax)
-	incq	%rax
-	movq	%rax, 424(%rbx)
+	movabsq	$3777893186295716171, %rdx
+	movq	%rsi, %rax
+	mulq	%rdx
+	shrq	$11, %rdx
+	imull	$10000, %edx, %eax
+	movl	%esi, %edi
+	subl	%eax, %edi
+	imull	$5243, %edi, %eax
+	shrl	$19, %eax
+	imull	$100, %eax, %r8d
+	subl	%r8d, %edi
+	movzwl	%di, %edi
+	leaq	.L0_1_0_v2_static.26(%rip), %r8
+	movzwl	(%r8,%rdi,2), %edi
+	movw	%di, -2(%rsp,%rcx)
+	movzwl	(%r8,%rax,2), %eax
+	movw	%ax, -4(%rsp,%rcx)
+	addq	$-4, %rcx
+	cmpq	$99999999, %rsi
+	movq	%rdx, %rsi
+	ja	.L0_1_0_v2_BB30_2
+	cmpq	$99, %rdx
+	ja	.L0_1_0_v2_BB30_7
+.L0_1_0_v2_BB30_4:
+	cmpq	$9, %rdx
+	ja	.L0_1_0_v2_BB30_6
+	orb	$48, %dl
+	movb	%dl, -1(%rsp,%rcx)
+	decq	%rcx
+	jmp	.L0_1_0_v2_BB30_10
+.L0_1_0_v2_BB30_1:
+	movq	%rsi, %rdx
+	cmpq	$99, %rdx
+	jbe	.L0_1_0_v2_BB30_4
+.L0_1_0_v2_BB30_7:
+	movl	%edx, %eax
+	shrl	$2, %eax
+	movzwl	%ax, %eax
+	imull	$5243, %eax, %eax
+	shrl	$17, %eax
+	imull	$100, %eax, %esi
+	movl	%edx, %edi
+	subl	%esi, %edi
+	movzwl	%di, %edi
+	leaq	.L0_1_0_v2_static.26(%rip), %rsi
+	movzwl	(%rsi,%rdi,2), %edi
+	movw	%di, -2(%rsp,%rcx)
+	cmpq	$999, %rdx
+	ja	.L0_1_0_v2_BB30_9
+	orb	$48, %al
+	movb	%al, -3(%rsp,%rcx)
+	addq	$-3, %rcx
+	jmp	.L0_1_0_v2_BB30_10
+.L0_1_0_v2_BB30_6:
+	leaq	.L0_1_0_v2_static.26(%rip), %rax
+	movzwl	(%rax,%rdx,2), %eax
+	movw	%ax, -2(%rsp,%rcx)
+	addq	$-2, %rcx
+	jmp	.L0_1_0_v2_BB30_10
+.L0_1_0_v2_BB30_9:
+	movzwl	%ax, %eax
+	movzwl	(%rsi,%rax,2), %eax
+	movw	%ax, -4(%rsp,%rcx)
+	addq	$-4, %rcx
+.L0_1_0_v2_BB30_10:
+	leaq	(%rsp,%rcx), %rsi
+	movl	$40, %r14d
+	subq	%rcx, %r14
+	movq	424(%rbx), %r15
+	leaq	(%rbx,%r15), %rdi
+	movq	%r14, %rdx
+	callq	memcpy@PLT
+	addq	%r15, %r14
+	movq	%r14, 424(%rbx)
+	addq	$48, %rsp
 	popq	%rbx
 	popq	%r14
 	popq	%r15
@@ -25066,14 +25129,14 @@ b2_commands..steps..steps_blake2s..d109e59d3b825a84_0_1_0_v2:
 	addq	$672, %rcx
 	cmpb	$1, 72(%rbx,%r13)
 	jne	.L0_1_0_v2_BB44_61
-	leaq	.L0_1_0_v2_static.26(%rip), %rdx
+	leaq	.L0_1_0_v2_static.27(%rip), %rdx
 	movq	%rcx, %rsi
 	subq	%rdx, %rsi
 	cmpq	$1, %rsi
 	movw	$12576, (%rcx)
 	jmp	.L0_1_0_v2_BB44_62
 .L0_1_0_v2_BB44_61:
-	leaq	.L0_1_0_v2_static.27(%rip), %rdx
+	leaq	.L0_1_0_v2_static.28(%rip), %rdx
 	movq	%rcx, %rsi
 	subq	%rdx, %rsi
 	cmpq	$1, %rsi
@@ -26163,14 +26226,14 @@ b2_commands..witness..print_blake2b..cc1f879c93799e56_0_1_0_v2:
 	addq	$8, %rcx
 	cmpb	$1, 200(%r15)
 	jne	.L0_1_0_v2_BB52_2
-	leaq	.L0_1_0_v2_static.26(%rip), %rdx
+	leaq	.L0_1_0_v2_static.27(%rip), %rdx
 	movq	%rcx, %rdi
 	subq	%rdx, %rdi
 	cmpq	$1, %rdi
 	movw	$12576, (%rcx)
 	jmp	.L0_1_0_v2_BB52_3
 .L0_1_0_v2_BB52_2:
-	leaq	.L0_1_0_v2_static.27(%rip), %rdx
+	leaq	.L0_1_0_v2_static.28(%rip), %rdx
 	movq	%rcx, %rdi
 	subq	%rdx, %rdi
 	cmpq	$1, %rdi
@@ -26917,14 +26980,14 @@ b2_commands..witness..print_blake2s..cc1f879c93799e56_0_1_0_v2:
 	addq	$8, %rcx
 	cmpb	$1, 104(%r15)
 	jne	.L0_1_0_v2_BB55_2
-	leaq	.L0_1_0_v2_static.26(%rip), %rdx
+	leaq	.L0_1_0_v2_static.27(%rip), %rdx
 	movq	%rcx, %rdi
 	subq	%rdx, %rdi
 	cmpq	$1, %rdi
 	movw	$12576, (%rcx)
 	jmp	.L0_1_0_v2_BB55_3
 .L0_1_0_v2_BB55_2:
-	leaq	.L0_1_0_v2_static.27(%rip), %rdx
+	leaq	.L0_1_0_v2_static.28(%rip), %rdx
 	movq	%rcx, %rdi
 	subq	%rdx, %rdi
 	cmpq	$1, %rdi
@@ -27309,74 +27372,80 @@ main_0_1_0_v2:
 	.type	.L0_1_0_v2_static.26,@object
 	.section	.rodata..Lstatic.26,"a",@progbits
 .L0_1_0_v2_static.26:
-	.ascii	" 1"
-	.size	.L0_1_0_v2_static.26, 2
+	.ascii	"00010203040506070809101112131415161718192021222324252627282930313233343536373839404142434445464748495051525354555657585960616263646566676869707172737475767778798081828384858687888990919293949596979899"
+	.size	.L0_1_0_v2_static.26, 200
 
 	.type	.L0_1_0_v2_static.27,@object
 	.section	.rodata..Lstatic.27,"a",@progbits
 .L0_1_0_v2_static.27:
-	.ascii	" 0"
+	.ascii	" 1"
 	.size	.L0_1_0_v2_static.27, 2
 
-	.type	.L0_1_0_v2_static.31,@object
-	.section	.rodata..Lstatic.31,"a",@progbits
-.L0_1_0_v2_static.31:
+	.type	.L0_1_0_v2_static.28,@object
+	.section	.rodata..Lstatic.28,"a",@progbits
+.L0_1_0_v2_static.28:
+	.ascii	" 0"
+	.size	.L0_1_0_v2_static.28, 2
+
+	.type	.L0_1_0_v2_static.32,@object
+	.section	.rodata..Lstatic.32,"a",@progbits
+.L0_1_0_v2_static.32:
 	.ascii	"none\n"
-	.size	.L0_1_0_v2_static.31, 5
+	.size	.L0_1_0_v2_static.32, 5
 
-	.type	.L0_1_0_v2_static.34,@object
-	.section	.rodata..Lstatic.34,"a",@progbits
-.L0_1_0_v2_static.34:
+	.type	.L0_1_0_v2_static.35,@object
+	.section	.rodata..Lstatic.35,"a",@progbits
+.L0_1_0_v2_static.35:
 	.ascii	"line "
-	.size	.L0_1_0_v2_static.34, 5
-
-	.type	.L0_1_0_v2_static.36,@object
-	.section	.rodata..Lstatic.36,"a",@progbits
-.L0_1_0_v2_static.36:
-	.ascii	"wrong words"
-	.size	.L0_1_0_v2_static.36, 11
+	.size	.L0_1_0_v2_static.35, 5
 
 	.type	.L0_1_0_v2_static.37,@object
 	.section	.rodata..Lstatic.37,"a",@progbits
 .L0_1_0_v2_static.37:
-	.ascii	"wrong hex"
-	.size	.L0_1_0_v2_static.37, 9
+	.ascii	"wrong words"
+	.size	.L0_1_0_v2_static.37, 11
 
 	.type	.L0_1_0_v2_static.38,@object
 	.section	.rodata..Lstatic.38,"a",@progbits
 .L0_1_0_v2_static.38:
-	.ascii	"wrong length"
-	.size	.L0_1_0_v2_static.38, 12
+	.ascii	"wrong hex"
+	.size	.L0_1_0_v2_static.38, 9
 
 	.type	.L0_1_0_v2_static.39,@object
 	.section	.rodata..Lstatic.39,"a",@progbits
 .L0_1_0_v2_static.39:
-	.ascii	"wrong line"
-	.size	.L0_1_0_v2_static.39, 10
+	.ascii	"wrong length"
+	.size	.L0_1_0_v2_static.39, 12
 
 	.type	.L0_1_0_v2_static.40,@object
 	.section	.rodata..Lstatic.40,"a",@progbits
 .L0_1_0_v2_static.40:
-	.ascii	"no such slot"
-	.size	.L0_1_0_v2_static.40, 12
+	.ascii	"wrong line"
+	.size	.L0_1_0_v2_static.40, 10
 
 	.type	.L0_1_0_v2_static.41,@object
-	.section	.rodata.cst8,"aM",@progbits,8
+	.section	.rodata..Lstatic.41,"a",@progbits
 .L0_1_0_v2_static.41:
-	.ascii	"too long"
-	.size	.L0_1_0_v2_static.41, 8
+	.ascii	"no such slot"
+	.size	.L0_1_0_v2_static.41, 12
 
 	.type	.L0_1_0_v2_static.42,@object
-	.section	.rodata..Lstatic.42,"a",@progbits
+	.section	.rodata.cst8,"aM",@progbits,8
 .L0_1_0_v2_static.42:
-	.ascii	"read failed"
-	.size	.L0_1_0_v2_static.42, 11
+	.ascii	"too long"
+	.size	.L0_1_0_v2_static.42, 8
 
 	.type	.L0_1_0_v2_static.43,@object
 	.section	.rodata..Lstatic.43,"a",@progbits
 .L0_1_0_v2_static.43:
+	.ascii	"read failed"
+	.size	.L0_1_0_v2_static.43, 11
+
+	.type	.L0_1_0_v2_static.44,@object
+	.section	.rodata..Lstatic.44,"a",@progbits
+.L0_1_0_v2_static.44:
 	.ascii	"no memory"
-	.size	.L0_1_0_v2_static.43, 9
+	.size	.L0_1_0_v2_static.44, 9
 
 	.type	.L0_1_0_v2_switch.table.b2_commands..fault..Fault..report..cc1f879c93799e56_0_1_0_v2,@object
 	.section	.rodata.Lswitch.table.b2_commands..fault..Fault..report..cc1f879c93799e56_0_1_0_v2,"a",@progbits
@@ -27397,15 +27466,15 @@ main_0_1_0_v2:
 	.section	.rodata.Lswitch.table.b2_commands..fault..Fault..report..cc1f879c93799e56.281.rel_0_1_0_v2,"a",@progbits
 	.p2align	2, 0x0
 .L0_1_0_v2_switch.table.b2_commands..fault..Fault..report..cc1f879c93799e56.281.rel_0_1_0_v2:
-	.long	.L0_1_0_v2_static.36-.L0_1_0_v2_switch.table.b2_commands..fault..Fault..report..cc1f879c93799e56.281.rel_0_1_0_v2
 	.long	.L0_1_0_v2_static.37-.L0_1_0_v2_switch.table.b2_commands..fault..Fault..report..cc1f879c93799e56.281.rel_0_1_0_v2
 	.long	.L0_1_0_v2_static.38-.L0_1_0_v2_switch.table.b2_commands..fault..Fault..report..cc1f879c93799e56.281.rel_0_1_0_v2
 	.long	.L0_1_0_v2_static.39-.L0_1_0_v2_switch.table.b2_commands..fault..Fault..report..cc1f879c93799e56.281.rel_0_1_0_v2
 	.long	.L0_1_0_v2_static.40-.L0_1_0_v2_switch.table.b2_commands..fault..Fault..report..cc1f879c93799e56.281.rel_0_1_0_v2
 	.long	.L0_1_0_v2_static.41-.L0_1_0_v2_switch.table.b2_commands..fault..Fault..report..cc1f879c93799e56.281.rel_0_1_0_v2
-	.long	.L0_1_0_v2_static.41-.L0_1_0_v2_switch.table.b2_commands..fault..Fault..report..cc1f879c93799e56.281.rel_0_1_0_v2
+	.long	.L0_1_0_v2_static.42-.L0_1_0_v2_switch.table.b2_commands..fault..Fault..report..cc1f879c93799e56.281.rel_0_1_0_v2
 	.long	.L0_1_0_v2_static.42-.L0_1_0_v2_switch.table.b2_commands..fault..Fault..report..cc1f879c93799e56.281.rel_0_1_0_v2
 	.long	.L0_1_0_v2_static.43-.L0_1_0_v2_switch.table.b2_commands..fault..Fault..report..cc1f879c93799e56.281.rel_0_1_0_v2
+	.long	.L0_1_0_v2_static.44-.L0_1_0_v2_switch.table.b2_commands..fault..Fault..report..cc1f879c93799e56.281.rel_0_1_0_v2
 	.size	.L0_1_0_v2_switch.table.b2_commands..fault..Fault..report..cc1f879c93799e56.281.rel_0_1_0_v2, 36
 
 	.ident	"rattle logic=dac8208d650f15bf3e2dc313a14fa4c783a3acf887bdfab66e1714b038d9e11b"

@@ -4327,7 +4327,7 @@ b2_commands..command..run..d109e59d3b825a84_0_1_0_v4:
 .L0_1_0_v4_BB3_463:
 	xorl	%r14d, %r14d
 .L0_1_0_v4_BB3_464:
-	leaq	.L0_1_0_v4_static.31(%rip), %rsi
+	leaq	.L0_1_0_v4_static.32(%rip), %rsi
 	addq	%r14, %rsi
 	movl	$5, %ebx
 	subq	%r14, %rbx
@@ -5045,7 +5045,7 @@ b2_commands..command..run..d109e59d3b825a84_0_1_0_v4:
 .L0_1_0_v4_BB3_511:
 	xorl	%r14d, %r14d
 .L0_1_0_v4_BB3_512:
-	leaq	.L0_1_0_v4_static.31(%rip), %rsi
+	leaq	.L0_1_0_v4_static.32(%rip), %rsi
 	addq	%r14, %rsi
 	movl	$5, %ebx
 	subq	%r14, %rbx
@@ -20752,14 +20752,14 @@ b2_commands..steps..steps_blake2b..d109e59d3b825a84_0_1_0_v4:
 	addq	$256, %rcx
 	cmpb	$1, 136(%rbx,%r15)
 	jne	.L0_1_0_v4_BB26_61
-	leaq	.L0_1_0_v4_static.26(%rip), %rdx
+	leaq	.L0_1_0_v4_static.27(%rip), %rdx
 	movq	%rcx, %rsi
 	subq	%rdx, %rsi
 	cmpq	$1, %rsi
 	movw	$12576, (%rcx)
 	jmp	.L0_1_0_v4_BB26_62
 .L0_1_0_v4_BB26_61:
-	leaq	.L0_1_0_v4_static.27(%rip), %rdx
+	leaq	.L0_1_0_v4_static.28(%rip), %rdx
 	movq	%rcx, %rsi
 	subq	%rdx, %rsi
 	cmpq	$1, %rsi
@@ -21028,28 +21028,92 @@ b2_commands..print..Line..push_decimal_0_1_0_v4:
 	pushq	%r15
 	pushq	%r14
 	pushq	%rbx
-	movq	%rsi, %r14
+	subq	$48, %rsp
+	vxorps	%xmm0, %xmm0, %xmm0
+	vmovups	%ymm0, (%rsp)
+	movq	%rsi, %rdx
 	movq	%rdi, %rbx
-	movabsq	$-3689348814741910323, %r15
-	cmpq	$10, %rsi
-	jb	.L0_1_0_v4_BB29_2
-	movq	%r14, %rdx
-	mulxq	%r15, %rsi, %rsi
-	shrq	$3, %rsi
-	movq	%rbx, %rdi
-	callq	b2_commands..print..Line..push_decimal_0_1_0_v4
+	movq	$0, 32(%rsp)
+	movl	$40, %eax
+	cmpq	$10000, %rsi
+	jb	.L0_1_0_v4_BB29_1
+	.p2align	4
 .L0_1_0_v4_BB29_2:
+	movabsq	$3777893186295716171, %rcx
+	mulxq	%rcx, %rcx, %rcx
+	shrq	$11, %rcx
+	imull	$10000, %ecx, %esi
+	movl	%edx, %edi
+	subl	%esi, %edi
+	imull	$5243, %edi, %esi
+	shrl	$19, %esi
+	imull	$100, %esi, %r8d
+	subl	%r8d, %edi
+	movzwl	%di, %edi
+	leaq	.L0_1_0_v4_static.26(%rip), %r8
+	movzwl	(%r8,%rdi,2), %edi
+	movw	%di, -2(%rsp,%rax)
+	movzwl	(%r8,%rsi,2), %esi
+	movw	%si, -4(%rsp,%rax)
+	addq	$-4, %rax
+	cmpq	$99999999, %rdx
+	movq	%rcx, %rdx
+	ja	.L0_1_0_v4_BB29_2
+	cmpq	$99, %rcx
+	ja	.L0_1_0_v4_BB29_7
+.L0_1_0_v4_BB29_4:
+	cmpq	$9, %rcx
+	ja	.L0_1_0_v4_BB29_6
+	orb	$48, %cl
+	movb	%cl, -1(%rsp,%rax)
+	decq	%rax
+	jmp	.L0_1_0_v4_BB29_10
+.L0_1_0_v4_BB29_1:
+	movq	%rdx, %rcx
+	cmpq	$99, %rcx
+	jbe	.L0_1_0_v4_BB29_4
+.L0_1_0_v4_BB29_7:
+	movl	%ecx, %edx
+	shrl	$2, %edx
+	movzwl	%dx, %edx
+	imull	$5243, %edx, %edx
+	shrl	$17, %edx
+	imull	$100, %edx, %esi
+	movl	%ecx, %edi
+	subl	%esi, %edi
+	movzwl	%di, %edi
+	leaq	.L0_1_0_v4_static.26(%rip), %rsi
+	movzwl	(%rsi,%rdi,2), %edi
+	movw	%di, -2(%rsp,%rax)
+	cmpq	$999, %rcx
+	ja	.L0_1_0_v4_BB29_9
+	orb	$48, %dl
+	movb	%dl, -3(%rsp,%rax)
+	addq	$-3, %rax
+	jmp	.L0_1_0_v4_BB29_10
+.L0_1_0_v4_BB29_6:
+	leaq	.L0_1_0_v4_static.26(%rip), %rdx
+	movzwl	(%rdx,%rcx,2), %ecx
+	movw	%cx, -2(%rsp,%rax)
+	addq	$-2, %rax
+	jmp	.L0_1_0_v4_BB29_10
+.L0_1_0_v4_BB29_9:
+	movzwl	%dx, %ecx
+	movzwl	(%rsi,%rcx,2), %ecx
+	movw	%cx, -4(%rsp,%rax)
+	addq	$-4, %rax
+.L0_1_0_v4_BB29_10:
+	leaq	(%rsp,%rax), %rsi
+	movl	$40, %r14d
+	subq	%rax, %r14
+	movq	424(%rbx), %r15
+	leaq	(%rbx,%r15), %rdi
 	movq	%r14, %rdx
-	mulxq	%r15, %rax, %rax
-	shrl	$2, %eax
-	andl	$-2, %eax
-	leal	(%rax,%rax,4), %eax
-	subl	%eax, %r14d
-	orb	$48, %r14b
-	movq	424(%rbx), %rax
-	movb	%r14b, (%rbx,%rax)
-	incq	%rax
-	movq	%rax, 424(%rbx)
+	vzeroupper
+	callq	memcpy@PLT
+	addq	%r15, %r14
+	movq	%r14, 424(%rbx)
+	addq	$48, %rsp
 	popq	%rbx
 	popq	%r14
 	popq	%r15
@@ -24077,14 +24141,14 @@ b2_commands..steps..steps_blake2s..d109e59d3b825a84_0_1_0_v4:
 	addq	$656, %rcx
 	cmpb	$1, 72(%r15,%r12)
 	jne	.L0_1_0_v4_BB43_60
-	leaq	.L0_1_0_v4_static.26(%rip), %rdx
+	leaq	.L0_1_0_v4_static.27(%rip), %rdx
 	movq	%rcx, %rsi
 	subq	%rdx, %rsi
 	cmpq	$1, %rsi
 	movw	$12576, (%rcx)
 	jmp	.L0_1_0_v4_BB43_61
 .L0_1_0_v4_BB43_60:
-	leaq	.L0_1_0_v4_static.27(%rip), %rdx
+	leaq	.L0_1_0_v4_static.28(%rip), %rdx
 	movq	%rcx, %rsi
 	subq	%rdx, %rsi
 	cmpq	$1, %rsi
@@ -24998,14 +25062,14 @@ b2_commands..witness..print_blake2b..cc1f879c93799e56_0_1_0_v4:
 	addq	$8, %rcx
 	cmpb	$1, 200(%r15)
 	jne	.L0_1_0_v4_BB51_2
-	leaq	.L0_1_0_v4_static.26(%rip), %rdx
+	leaq	.L0_1_0_v4_static.27(%rip), %rdx
 	movq	%rcx, %rdi
 	subq	%rdx, %rdi
 	cmpq	$1, %rdi
 	movw	$12576, (%rcx)
 	jmp	.L0_1_0_v4_BB51_3
 .L0_1_0_v4_BB51_2:
-	leaq	.L0_1_0_v4_static.27(%rip), %rdx
+	leaq	.L0_1_0_v4_static.28(%rip), %rdx
 	movq	%rcx, %rdi
 	subq	%rdx, %rdi
 	cmpq	$1, %rdi
@@ -25713,14 +25777,14 @@ b2_commands..witness..print_blake2s..cc1f879c93799e56_0_1_0_v4:
 	addq	$8, %rcx
 	cmpb	$1, 104(%rbx)
 	jne	.L0_1_0_v4_BB54_2
-	leaq	.L0_1_0_v4_static.26(%rip), %rdx
+	leaq	.L0_1_0_v4_static.27(%rip), %rdx
 	movq	%rcx, %rdi
 	subq	%rdx, %rdi
 	cmpq	$1, %rdi
 	movw	$12576, (%rcx)
 	jmp	.L0_1_0_v4_BB54_3
 .L0_1_0_v4_BB54_2:
-	leaq	.L0_1_0_v4_static.27(%rip), %rdx
+	leaq	.L0_1_0_v4_static.28(%rip), %rdx
 	movq	%rcx, %rdi
 	subq	%rdx, %rdi
 	cmpq	$1, %rdi
@@ -32517,74 +32581,80 @@ main_0_1_0_v4:
 	.type	.L0_1_0_v4_static.26,@object
 	.section	.rodata..Lstatic.26,"a",@progbits
 .L0_1_0_v4_static.26:
-	.ascii	" 1"
-	.size	.L0_1_0_v4_static.26, 2
+	.ascii	"00010203040506070809101112131415161718192021222324252627282930313233343536373839404142434445464748495051525354555657585960616263646566676869707172737475767778798081828384858687888990919293949596979899"
+	.size	.L0_1_0_v4_static.26, 200
 
 	.type	.L0_1_0_v4_static.27,@object
 	.section	.rodata..Lstatic.27,"a",@progbits
 .L0_1_0_v4_static.27:
-	.ascii	" 0"
+	.ascii	" 1"
 	.size	.L0_1_0_v4_static.27, 2
 
-	.type	.L0_1_0_v4_static.31,@object
-	.section	.rodata..Lstatic.31,"a",@progbits
-.L0_1_0_v4_static.31:
+	.type	.L0_1_0_v4_static.28,@object
+	.section	.rodata..Lstatic.28,"a",@progbits
+.L0_1_0_v4_static.28:
+	.ascii	" 0"
+	.size	.L0_1_0_v4_static.28, 2
+
+	.type	.L0_1_0_v4_static.32,@object
+	.section	.rodata..Lstatic.32,"a",@progbits
+.L0_1_0_v4_static.32:
 	.ascii	"none\n"
-	.size	.L0_1_0_v4_static.31, 5
+	.size	.L0_1_0_v4_static.32, 5
 
-	.type	.L0_1_0_v4_static.34,@object
-	.section	.rodata..Lstatic.34,"a",@progbits
-.L0_1_0_v4_static.34:
+	.type	.L0_1_0_v4_static.35,@object
+	.section	.rodata..Lstatic.35,"a",@progbits
+.L0_1_0_v4_static.35:
 	.ascii	"line "
-	.size	.L0_1_0_v4_static.34, 5
-
-	.type	.L0_1_0_v4_static.36,@object
-	.section	.rodata..Lstatic.36,"a",@progbits
-.L0_1_0_v4_static.36:
-	.ascii	"wrong words"
-	.size	.L0_1_0_v4_static.36, 11
+	.size	.L0_1_0_v4_static.35, 5
 
 	.type	.L0_1_0_v4_static.37,@object
 	.section	.rodata..Lstatic.37,"a",@progbits
 .L0_1_0_v4_static.37:
-	.ascii	"wrong hex"
-	.size	.L0_1_0_v4_static.37, 9
+	.ascii	"wrong words"
+	.size	.L0_1_0_v4_static.37, 11
 
 	.type	.L0_1_0_v4_static.38,@object
 	.section	.rodata..Lstatic.38,"a",@progbits
 .L0_1_0_v4_static.38:
-	.ascii	"wrong length"
-	.size	.L0_1_0_v4_static.38, 12
+	.ascii	"wrong hex"
+	.size	.L0_1_0_v4_static.38, 9
 
 	.type	.L0_1_0_v4_static.39,@object
 	.section	.rodata..Lstatic.39,"a",@progbits
 .L0_1_0_v4_static.39:
-	.ascii	"wrong line"
-	.size	.L0_1_0_v4_static.39, 10
+	.ascii	"wrong length"
+	.size	.L0_1_0_v4_static.39, 12
 
 	.type	.L0_1_0_v4_static.40,@object
 	.section	.rodata..Lstatic.40,"a",@progbits
 .L0_1_0_v4_static.40:
-	.ascii	"no such slot"
-	.size	.L0_1_0_v4_static.40, 12
+	.ascii	"wrong line"
+	.size	.L0_1_0_v4_static.40, 10
 
 	.type	.L0_1_0_v4_static.41,@object
-	.section	.rodata.cst8,"aM",@progbits,8
+	.section	.rodata..Lstatic.41,"a",@progbits
 .L0_1_0_v4_static.41:
-	.ascii	"too long"
-	.size	.L0_1_0_v4_static.41, 8
+	.ascii	"no such slot"
+	.size	.L0_1_0_v4_static.41, 12
 
 	.type	.L0_1_0_v4_static.42,@object
-	.section	.rodata..Lstatic.42,"a",@progbits
+	.section	.rodata.cst8,"aM",@progbits,8
 .L0_1_0_v4_static.42:
-	.ascii	"read failed"
-	.size	.L0_1_0_v4_static.42, 11
+	.ascii	"too long"
+	.size	.L0_1_0_v4_static.42, 8
 
 	.type	.L0_1_0_v4_static.43,@object
 	.section	.rodata..Lstatic.43,"a",@progbits
 .L0_1_0_v4_static.43:
+	.ascii	"read failed"
+	.size	.L0_1_0_v4_static.43, 11
+
+	.type	.L0_1_0_v4_static.44,@object
+	.section	.rodata..Lstatic.44,"a",@progbits
+.L0_1_0_v4_static.44:
 	.ascii	"no memory"
-	.size	.L0_1_0_v4_static.43, 9
+	.size	.L0_1_0_v4_static.44, 9
 
 	.type	.L0_1_0_v4_switch.table.b2_commands..fault..Fault..report..cc1f879c93799e56_0_1_0_v4,@object
 	.section	.rodata.Lswitch.table.b2_commands..fault..Fault..report..cc1f879c93799e56_0_1_0_v4,"a",@progbits
@@ -32605,15 +32675,15 @@ main_0_1_0_v4:
 	.section	.rodata.Lswitch.table.b2_commands..fault..Fault..report..cc1f879c93799e56.281.rel_0_1_0_v4,"a",@progbits
 	.p2align	2, 0x0
 .L0_1_0_v4_switch.table.b2_commands..fault..Fault..report..cc1f879c93799e56.281.rel_0_1_0_v4:
-	.long	.L0_1_0_v4_static.36-.L0_1_0_v4_switch.table.b2_commands..fault..Fault..report..cc1f879c93799e56.281.rel_0_1_0_v4
 	.long	.L0_1_0_v4_static.37-.L0_1_0_v4_switch.table.b2_commands..fault..Fault..report..cc1f879c93799e56.281.rel_0_1_0_v4
 	.long	.L0_1_0_v4_static.38-.L0_1_0_v4_switch.table.b2_commands..fault..Fault..report..cc1f879c93799e56.281.rel_0_1_0_v4
 	.long	.L0_1_0_v4_static.39-.L0_1_0_v4_switch.table.b2_commands..fault..Fault..report..cc1f879c93799e56.281.rel_0_1_0_v4
 	.long	.L0_1_0_v4_static.40-.L0_1_0_v4_switch.table.b2_commands..fault..Fault..report..cc1f879c93799e56.281.rel_0_1_0_v4
 	.long	.L0_1_0_v4_static.41-.L0_1_0_v4_switch.table.b2_commands..fault..Fault..report..cc1f879c93799e56.281.rel_0_1_0_v4
-	.long	.L0_1_0_v4_static.41-.L0_1_0_v4_switch.table.b2_commands..fault..Fault..report..cc1f879c93799e56.281.rel_0_1_0_v4
+	.long	.L0_1_0_v4_static.42-.L0_1_0_v4_switch.table.b2_commands..fault..Fault..report..cc1f879c93799e56.281.rel_0_1_0_v4
 	.long	.L0_1_0_v4_static.42-.L0_1_0_v4_switch.table.b2_commands..fault..Fault..report..cc1f879c93799e56.281.rel_0_1_0_v4
 	.long	.L0_1_0_v4_static.43-.L0_1_0_v4_switch.table.b2_commands..fault..Fault..report..cc1f879c93799e56.281.rel_0_1_0_v4
+	.long	.L0_1_0_v4_static.44-.L0_1_0_v4_switch.table.b2_commands..fault..Fault..report..cc1f879c93799e56.281.rel_0_1_0_v4
 	.size	.L0_1_0_v4_switch.table.b2_commands..fault..Fault..report..cc1f879c93799e56.281.rel_0_1_0_v4, 36
 
 	.ident	"rattle logic=dac8208d650f15bf3e2dc313a14fa4c783a3acf887bdfab66e1714b038d9e11b"
