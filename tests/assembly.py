@@ -30,7 +30,9 @@ VECTOR = re.compile(r"\b[vqdshb][0-9]+\b")
 UPPER = re.compile(r"%[xyz]mm(1[6-9]|2[0-9]|3[01])\b")
 CLEARS = re.compile(r"\tvpxord\t%xmm(\d+), %xmm\1, %xmm\1")
 # The bytes below the stack pointer, which Windows may overwrite, and the register that macOS and Windows reserve.
-RESERVED = re.compile(r"[\t ,]-\w+\(%rsp|\[sp, #-\w+\](?!!)|\b[wx]18\b")
+RESERVED = re.compile(r"[\t ,]-\w+\(%rsp\)|\[sp, #-\w+\](?!!)|\b[wx]18\b")
+# An address that may be below it, by an index. It is not in a function with a call, which would overwrite those bytes.
+INDEXED = re.compile(r"[\t ,]-\w+\(%rsp,")
 FAMILIES = ("blake2b", "blake2s")
 # The compressions of several messages of BLAKE2b that each build has.
 FOUR = "blake2_compress..many..blake2b..compress_blocks"
@@ -71,7 +73,8 @@ def check_text(name, text, end):
     yield "C may replace the function of trees in b2sum, and no other", weak == (
         [f"b2sum..hashes..update_tree_{end}"] if "/b2sum" in name else [])
     yield "it calls what is there, and the C library", called <= (SUMS if "/b2sum" in name else PROGRAM if "/b2" in name else LIBRARY)
-    yield "it uses no red zone and no x18", not any(map(RESERVED.search, lines))
+    yield "it uses no red zone and no x18", not any(map(RESERVED.search, lines)) and not any(
+        any(map(INDEXED.search, body)) and not any(line.startswith("\tcall") for line in body) for body in code.values())
 
 
 def check_parallel(text, build):
