@@ -6,7 +6,7 @@ import terms as T
 from machine import Machine, bitwise, chunks, image, invert, joined, junk, lanewise, number
 from terms import CannotShow, IsWrong
 
-SP, ZERO, LINK = 31, 32, 30
+SP, ZERO, LINK, PLATFORM = 31, 32, 30, 18
 WIDTHS = {"b": 1, "h": 2, "s": 4, "d": 8, "q": 16}
 SAVED = tuple(range(19, 30))
 
@@ -15,6 +15,8 @@ class Register:
     """A general register, or the low bytes of a vector register."""
 
     def __init__(self, kind, index, size):
+        if kind == "general" and index == PLATFORM:
+            raise IsWrong("x18 belongs to the platform")
         self.kind, self.index, self.size = kind, index, size
 
 

@@ -26,24 +26,26 @@ def state(n, block):
 
 LAYOUTS = {"blake2b": state(8, 128), "blake2s": state(4, 64),
            "tree": state(8, 128) * 2 + [(8, True)] * 4 + [(16, False)] * 2,
-           "limits": [(8, True)] * 4, "plan": [(8, True)] * 9, "part": [(8, True)] * 6}
+           "limits": [(8, True)] * 4, "plan": [(8, True)] * 9, "part": [(8, True)] * 6,
+           "place": [(8, True), (4, True)] + [(1, True)] * 4}
 # The arguments of the functions, by the end of their names: a state (of the family, or the node of
 # a tree), another struct, a buffer with its length (of secret or public bytes), a table of messages
 # with its length, or a public number.
 STATE, NODE, PLAN, PART, LIMITS = "state", "blake2b", "plan", "part", "limits"
+PLACE = "place"                        # tree parameters
 OUT, BYTES, KEY = "out", "bytes", "key"
 PUBLIC, TABLE, NUMBER = "public", "table", "number"
 GIVEN = (NUMBER, KEY, BYTES, BYTES)
 EXPORTS = {
     "_count": (STATE,), "_digest_size": (STATE,), "_final": (STATE, OUT),
     "_init_key": (STATE, NUMBER, KEY), "_init_param": (STATE, PUBLIC),
-    "_init_salt_personal": (STATE,) + GIVEN, "_init_tree": (STATE,) + GIVEN + (NUMBER,) * 6,
+    "_init_salt_personal": (STATE,) + GIVEN, "_init_tree": (STATE,) + GIVEN + (PLACE,),
     "_reset": (STATE,), "_set_last_node": (STATE, NUMBER), "_state_size": (),
     "_update": (STATE, BYTES), "_verify": (STATE, BYTES), "_wipe": (STATE,),
     "": (OUT, BYTES, KEY), "_many": (OUT, NUMBER, TABLE, KEY, BYTES, BYTES),
 }
 TREES = {
-    "_accepts": (NUMBER,) * 4, "_count": (STATE,), "_digest_size": (STATE,), "_final": (STATE, OUT),
+    "_check": (NUMBER,) * 4, "_count": (STATE,), "_digest_size": (STATE,), "_final": (STATE, OUT),
     "_init": (STATE, NUMBER, BYTES, BYTES, NUMBER),
     "_init_leaf": (NODE, NUMBER, NUMBER, BYTES, BYTES, NUMBER),
     "_init_root": (NODE, NUMBER, BYTES, BYTES, NUMBER), "_leaf_count": (NUMBER, NUMBER),
@@ -55,32 +57,40 @@ TREES = {
     "_root_of_leaves": (OUT, BYTES, BYTES, BYTES, NUMBER), "_state_size": (),
     "_update": (STATE, BYTES), "_update_leaves": (STATE, BYTES, BYTES), "_wipe": (STATE,),
 }
-ANSWERS = ("_verify", "is_same")       # whose result may depend on secrets
+ANSWERS = ("_verify", "_ffi_memcmp")   # whose result may depend on secrets
+# What the exported functions of a family call, by the end of their names.
+CALLED = {"_final": functions.FINALIZE, "_verify": functions.IS_DIGEST_OF}
+FINALIZING, ANSWERING = (tuple(name % family for family in ("blake2b", "blake2s"))
+                         for name in (functions.FINALIZE, functions.IS_DIGEST_OF))
+# Of these whole_calls.py does not show what they write.
+NOT_COMPUTED = ("_many",)
+OF_C = ("memcpy", "memmove", "memset")
 NOT_FOLLOWED = ("dist/x86_64/vulfsjor-v4.s",)   # masks of AVX-512 are not followed
 # What is not shown, as pairs of a file and a function: those whose pointers have bounds that are
 # too hard for the ranges. There is none now.
-NOT_SHOWN = set()
+NOT_SHOWN: set = set()
 
 
 class Call:
     """A call of an exported function: its memory and its arguments."""
 
     def __init__(self, program, kinds, family, alignment, has_key):
-        self.sp, self.regions, self.words = T.var(64, "sp", T.PUBLIC), {image(): Memory(
-            0, 1 << 32, program.constant, False)}, []
-        self.has_key, self.ranges, self.structs = has_key, {}, []
+        self.sp, self.has_key = T.var(64, "sp", T.PUBLIC), has_key
+        self.regions = {image(): Memory(0, 1 << 32, program.constant, False)}
+        self.words: list = []
+        self.ranges: dict = {}
+        self.structs: list = []
         for kind in kinds:
             self.add(kind, LAYOUTS.get(family if kind == STATE else kind))
         model = MODELS[program.kind].Model
-        spilled = [b for t in self.words[len(model.ARGUMENTS):] for b in T.split(t)]
-        top = 8 if program.kind == "x86_64" else 0
-
-        def initial(k):
-            return secret() if k < 0 else unknown() if k < top else spilled[k - top]
-        self.regions[self.sp] = Memory(-STACK, top + len(spilled), initial)
+        back = T.var(64, "return address", T.PUBLIC)
+        above = [back] if program.kind == "x86_64" else []
+        above = [b for t in above + self.words[len(model.ARGUMENTS):] for b in T.split(t)]
+        self.regions[self.sp] = Memory(-STACK, len(above),
+                                       lambda k: secret() if k < 0 else above[k])
         self.machine = model(self.regions, {})
         self.machine.begin(alignment, self.ranges, 64 if family == "blake2s" else 128)
-        self.machine.start(self.sp, T.var(64, "return address", T.PUBLIC), self.words)
+        self.machine.start(self.sp, back, self.words)
 
     def add(self, kind, layout):
         """Adds an argument, with its memory and its length if it has them."""
@@ -89,10 +99,10 @@ class Call:
         if kind == NUMBER:
             return
         if layout:
-            cells = []
+            cells: list = []
             for size, is_public in layout:
                 cells += [secret()] * size if not is_public else T.split(
-                    T.var(64, "%s.%d" % (word.args, len(cells)), T.PUBLIC))
+                    T.var(64, "%s.%d" % (word.args, len(cells)), T.PUBLIC))[:size]
             self.regions[word] = Memory(0, len(cells), lambda k: cells[k])
             self.structs.append((word, layout))
             return
@@ -124,7 +134,7 @@ class Analysis:
         self.program, self.codes = program, {}
         self.listed = {functions.in_file(program.path, name): (kind, lanes)
                        for name, kind, lanes in functions.FILES[program.path]}
-        self.reached, self.at = set(), None
+        self.reached, self.entered, self.at = set(), set(), None
 
     def code(self, name):
         """The instructions of a function by address, and where its blocks begin."""
@@ -137,9 +147,13 @@ class Analysis:
     def run(self, name, machine, path):
         """The state after a call of a function, where all paths meet."""
         code, starts, first = self.code(name)
-        states, visits, waiting, ends = {}, {}, [], []
+        states: dict = {}
+        visits: dict = {}
+        waiting: list = []
+        ends: list = []
         machine.rounds, machine.undecided = (), frozenset()
-        loops = {}                     # the head of a loop -> its last address
+        entry = machine.at_entry()
+        loops: dict = {}                     # the head of a loop -> its last address
         for i in code.values():
             if i.target is not None and i.target <= i.address:
                 loops[i.target] = max(i.address, loops.get(i.target, 0))
@@ -160,8 +174,13 @@ class Analysis:
             if key not in waiting:
                 heapq.heappush(waiting, key)
 
-        def finish(m):
-            m.leave()
+        def check(m, first=0):
+            for k, what in list(enumerate(("return address", "stack pointer", "registers")))[first:]:
+                if m.at_entry()[k] != entry[k]:
+                    raise IsWrong("the caller's %s: not as at the entry of %s" % (what, name))
+
+        def finish(m, first=0):
+            check(m, first)
             m.forget_below()
             if ends:
                 ends[0].join(m, path + ".end.", 0)
@@ -176,7 +195,7 @@ class Analysis:
                 i = self.at = code[pc]
                 m.where = "%s/%x%s." % (path, pc, in_round(m))
                 self.reached.add(pc)
-                pc = self.follow(name, m, i, path, arrive, finish)
+                pc = self.follow(name, m, i, path, arrive, check, finish)
                 if pc in starts:
                     arrive(pc, m, i.address)
                     break
@@ -184,12 +203,14 @@ class Analysis:
             raise CannotShow("%s does not return" % name)
         return ends[0]
 
-    def follow(self, name, m, i, path, arrive, finish):
+    def follow(self, name, m, i, path, arrive, check, finish):
         """Executes an instruction. Returns the address of the next, if it is the only one."""
         code = self.codes[name][0]
         if m.is_call(i):
             m.enter(i)
             self.call(m, i, path)
+            m.leave()
+            m.forget_below()
             return i.next
         if m.is_return(i):
             finish(m)
@@ -197,7 +218,10 @@ class Analysis:
         if m.is_trap(i):               # the program stops here
             return None
         if i.target is None:
+            top = m.stack_pointer()
             m.step(i)
+            if m.stack_pointer() is not top:
+                m.forget_below()
             return i.next
         if not m.is_jump(i) and m.flags == ("secret",) and name.endswith(ANSWERS) and all(
                 m.only_returns(code, pc) for pc in (i.target, i.next)):
@@ -210,20 +234,18 @@ class Analysis:
             if pc in code:
                 arrive(pc, n, i.address)
             else:                      # a call in place of a return
+                check(n)
                 self.call(n, i, path)
-                n.enter(i)
-                finish(n)
+                finish(n, 1)
         return None
 
     def call(self, m, i, path):
-        """A call of another function, in which the stack is as after the call."""
-        name = re.search(r"<(.*)>", i.text)[1]
-        name = programs.without_version(re.sub(r"\+0x\w+$", "", name))
+        """A call of another function, whose return address is in its place."""
+        name = self.target(i)
         arguments = [m.argument(k) for k in range(5)]
-        plain = name.partition("@")[0]
-        if plain in ("memcpy", "memmove", "memset"):
+        if name in OF_C:
             to, source, length = arguments[:3]
-            if plain == "memset":
+            if name == "memset":
                 m.fill_memory(to, T.split(source)[0], length)
             else:
                 m.copy_memory(to, source, length)
@@ -233,7 +255,10 @@ class Analysis:
             self.enter(m, name, i, path)
             return
         m.clobber()
-        m.leave()
+
+    def target(self, i):
+        """The function that a call goes to, by its name without version."""
+        return self.program.target(i, OF_C)
 
     def enter(self, m, name, i, path):
         """A call of a function whose code is followed."""
@@ -242,9 +267,12 @@ class Analysis:
         self.at = i
         m.__dict__.update(found.__dict__)
         m.rounds, m.undecided = kept
-        if name.endswith("is_digest_of"):
+        self.entered.add(name)
+        if name in ANSWERING:
+            if not m.is_bit(m.answer()[0]):
+                raise CannotShow("the answer of %s may have more values than 0 and 1" % name)
             m.answer()[0] = (m.new(8, "answer", (0, 1, 1)), 0)
-        elif name.endswith("..finalize"):
+        elif name in FINALIZING:
             need_zeros(m, next(b for b in m.regions if b.args == "state0"))
 
 
@@ -275,15 +303,16 @@ def compress(m, arguments, kind, lanes):
 
 def exports(program):
     """The functions that C programs call, with their arguments and families."""
-    for name in sorted(program.functions):
-        m = re.fullmatch(r"vulfsjor_ffi_(blake2[bs]|tree|is_same|version)(.*)", name)
-        if m:
-            table = {"tree": TREES, "is_same": {"": (BYTES, BYTES)}, "version": {"": ()}}.get(
-                m[1], EXPORTS)
-            if m[2] not in table:
-                raise CannotShow("the arguments of %s are not known: add them to "
-                                 "tools/machine/calls.py" % name)
-            yield name, table[m[2]], m[1]
+    for name in program.globals:
+        m = re.fullmatch(r"vulfsjor_ffi_(blake2[bs]|tree|memcmp|wipe|version)(.*)", name)
+        tables: dict = {"tree": TREES, "memcmp": {"": (BYTES, BYTES)}, "wipe": {"": (OUT,)},
+                        "version": {"": ()}}
+        table = tables.get(m[1], EXPORTS) if m else {}
+        if not m or m[2] not in table:
+            raise CannotShow("the arguments of %s are not known: add them to "
+                             "tools/machine/calls.py" % name)
+        program.extent(name)           # refuses what is not a function, or may be another's
+        yield name, table[m[2]], m[1]
 
 
 def show(program, name, kinds, family):
@@ -302,6 +331,11 @@ def show(program, name, kinds, family):
         except T.Refused as e:
             at = " ".join(analysis.at.text.split()) if analysis.at else "the entry"
             raise type(e)("%s: at %s: %s" % (name, at, e))
+    missed = [n for end, n in CALLED.items() if name == "vulfsjor_ffi_%s%s" % (family, end)
+              and family in ("blake2b", "blake2s") and n % family not in analysis.entered]
+    if missed:
+        raise CannotShow("%s does not call %s: the compiler may have inlined it, or it has another "
+                         "name now: see tools/machine/functions.py" % (name, missed[0] % family))
     return analysis
 
 

@@ -1,15 +1,18 @@
 #!/usr/bin/env python3
 """Shows, for the code in dist/ and the module in js/src/wasm.js, that each function that compresses
-computes F of RFC 7693 (section 3.2) for all inputs, in constant time, and that no branch and no
-address of a whole call depends on a secret. Prints TAP; the status is 1 if something failed.
-docs/MACHINE.md says what is shown and how to read the output.
+computes F of RFC 7693 (section 3.2) for all inputs, in constant time; that calls of BLAKE2b and
+BLAKE2s write what the RFC says; and that no branch and no address of a whole call depends on a
+secret. Prints TAP; the status is 1 if something failed. docs/MACHINE.md says what is shown and how
+to read the output.
 
-    tools/machine/check.py            the proofs, the rules of terms, and instructions on the
-                                      processor
-    tools/machine/check.py --long     also more runs of each instruction, whole functions against
-                                      hashlib, and the changes that must be refused; the same as
+    tools/machine/check.py            the proofs, of whole calls only some cases, the rules of
+                                      terms, and instructions on the processor
+    tools/machine/check.py --long     also all cases of whole calls, more runs of each instruction,
+                                      whole functions against hashlib, the types of the tool, and
+                                      the changes that must be refused; the same as
                                       VULFSJOR_TEST_HUGE=1
-    tools/machine/check.py FILE..     only the proofs of these files, by their paths from the root
+    tools/machine/check.py FILE..     only the proofs of these files, by their paths from the root,
+                                      with all cases
 
 Needs Python, a C compiler, ld and objdump; for ARM aarch64-linux-gnu-gcc and binutils, and
 qemu-aarch64 to run instructions; python3-z3 for the rules; node to run those of WebAssembly. What
@@ -22,10 +25,13 @@ import shutil
 import subprocess
 import sys
 
+import call_cases
 import calls
+import check_exact
 import check_following
 import check_functions
 import check_instructions
+import check_specification
 import compression
 import functions
 import mutations
@@ -38,7 +44,7 @@ HUGE = "VULFSJOR_TEST_HUGE"
 HERE = os.path.dirname(os.path.abspath(__file__))
 FAMILIES = {"blake2b": "BLAKE2b", "blake2s": "BLAKE2s"}
 # The families of exported functions, by the parts in which calls are followed.
-FOLLOWED = {"BLAKE2b": ("blake2b", "version"), "BLAKE2s": ("blake2s", "is_same"),
+FOLLOWED = {"BLAKE2b": ("blake2b", "version"), "BLAKE2s": ("blake2s", "memcmp", "wipe"),
             "trees": ("tree",)}
 
 
@@ -52,7 +58,8 @@ def missing(path):
 def prove(paths, entry):
     """The claim for one function of the files of one build. A function that has the same content
     as that of an earlier file is not executed again."""
-    shown, results = {}, []
+    shown: dict = {}
+    results: list = []
     for path in paths:
         results += prove_one(path, entry, shown)
     return results
@@ -93,6 +100,18 @@ def search(path):
     return [("not ok", title, why % ", ".join(found)) if found else ("ok", title, "")]
 
 
+def look(path):
+    """What is looked at in all of a file, besides the code of its functions."""
+    title = "%s: nothing that runs or is read is writable, and each exported function is known" % path
+    if missing(path):
+        return [("skip", title, "no " + missing(path))]
+    try:
+        mutations.look(programs.read(path))
+    except T.Refused as e:
+        return [("not ok", title, "%s: %s" % (T.kind_of(e), e))]
+    return [("ok", title, "")]
+
+
 def not_runnable(path):
     """What is missing to run a file's instructions, or None."""
     kind = functions.architecture(path)
@@ -112,6 +131,16 @@ def instructions(path):
     is_wasm = functions.architecture(path) == "wasm"
     check = wasm_instructions.check if is_wasm else check_instructions.check
     verdict, why = check(path, 20 if HUGE in os.environ else 4)
+    return [(verdict, title, why)]
+
+
+def exact_model(path):
+    """The model of the calls that are executed over variables, against the processor."""
+    title = "%s: the model of whole calls agrees with the processor" % path
+    missed = not_runnable(path)
+    if missed:
+        return [("skip", title, "no " + missed)]
+    verdict, why = check_exact.run(path, 12 if HUGE in os.environ else 4)
     return [(verdict, title, why)]
 
 
@@ -145,7 +174,8 @@ def follow(path, family):
     title = "%s: no branch and no address of a call depends on a secret: %s" % (path, family)
     if missing(path):
         return [("skip", title, "no " + missing(path))]
-    program, count, reached = programs.read(path), 0, set()
+    program, count = programs.read(path), 0
+    reached: set = set()
     for entry in calls.exports(program):
         if entry[2] not in FOLLOWED[family]:
             continue
@@ -160,6 +190,43 @@ def follow(path, family):
         count, reached = count + 1, reached | found.reached
     return [("ok", title, "%d functions, which reach %d instructions besides those that compress"
              % (count, len(reached)))]
+
+
+def write_and_return(path, family, exports, pending, sizes):
+    """That whole calls of some functions of a family write and return what they must."""
+    title = "%s: what calls of %s write and return: %s" % (
+        path, FAMILIES[family], " ".join(e.lstrip("_") or "in one" for e in exports))
+    if missing(path):
+        return [("skip", title, "no " + missing(path))]
+    cases = paths = 0
+    try:
+        for export in exports:
+            found = call_cases.Cases(programs.read(path), family, pending, sizes).show(export)
+            cases, paths = cases + found[0], paths + found[1]
+    except T.Refused as e:
+        return [("not ok", title, "%s: %s" % (T.kind_of(e), e))]
+    return [("ok", title, "%d cases, %d paths" % (cases, paths))]
+
+
+def parts_of_calls(path, is_short):
+    """The arguments of write_and_return for a file: all cases in parts, or some."""
+    for family in FAMILIES:
+        exports = [e for e in calls.EXPORTS if e not in calls.NOT_COMPUTED]
+        if is_short:
+            yield (path, family, exports) + call_cases.some(family)
+            continue
+        pending = list(range(call_cases.KINDS[family].block + 1))
+        for numbers in (pending[k::4] for k in range(4)):
+            yield path, family, ["_update"], numbers, None
+        for part in (["_verify"], [e for e in exports if e not in ("_update", "_verify")]):
+            yield path, family, part, None, None
+
+
+def specification():
+    """The specification of whole calls, over numbers."""
+    count = 400 if HUGE in os.environ else 40
+    verdict, why = check_specification.check(count)
+    return [(verdict, "the specification of whole calls agrees with hashlib", why)]
 
 
 def scrub(path):
@@ -177,6 +244,17 @@ def scrub(path):
     if not found:
         return [("not ok", title, "cannot show: there is no such function: see functions.py")]
     return [("ok", title, "of %s bytes" % ", ".join(map(str, sorted(found.values()))))]
+
+
+def types():
+    """The type hints of the tool, and what mypy infers from them."""
+    title = "the types of tools/machine"
+    if not shutil.which("mypy"):
+        return [("skip", title, "no mypy")]
+    files = sorted(os.path.join(HERE, name) for name in os.listdir(HERE) if name.endswith(".py"))
+    run = subprocess.run(["mypy", "--check-untyped-defs", "--ignore-missing-imports",
+                          "--cache-dir=" + os.devnull] + files, stdout=subprocess.PIPE, text=True)
+    return [("not ok" if run.returncode else "ok", title, run.stdout.strip().split("\n")[-1])]
 
 
 def rules(width):
@@ -201,33 +279,38 @@ def rules(width):
 def jobs(arguments):
     """The jobs, as a function and its arguments: the long ones first."""
     chosen = arguments or list(functions.FILES)
-    builds = {}
+    builds: dict = {}
     for path in chosen:
         for entry in functions.FILES[path]:
             builds.setdefault((functions.build(path), entry), []).append(path)
-    found = [(prove, (paths, entry)) for (_, entry), paths in sorted(
+    found: list = [(prove, (paths, entry)) for (_, entry), paths in sorted(
         builds.items(), key=lambda b: -b[0][1][2])]
     libraries = [path for path in chosen if "/vulfsjor" in path
                  and functions.architecture(path) != "wasm"]
     found += [(search, (path,)) for path in chosen]
-    found += [(scrub, (path,)) for path in libraries]
+    found += [(f, (path,)) for path in libraries for f in (look, scrub)]
+    is_short = not arguments and HUGE not in os.environ
+    found += [(write_and_return, part) for path in libraries
+              for part in parts_of_calls(path, is_short)]
     followed = [path for path in libraries if path not in calls.NOT_FOLLOWED]
     found[:0] = [(follow, (path, part)) for part in reversed(FOLLOWED) for path in followed]
     if not arguments:
+        found.append((specification, ()))
         found[:0] = [(rules, (width,)) for width in (64, 32, 16, 8)]
         found += [(instructions, (path,)) for path in functions.FILES
                   if not path.rpartition("/")[2].startswith("b2")]
         found += [(public_bytes, (path,)) for path in followed]
+        found += [(exact_model, (path,)) for path in libraries]
         found += [(planted, (change,)) for change in mutations.OF_THE_TOOL]
     if not arguments and HUGE in os.environ:
-        found += [(whole, (path,)) for path in functions.FILES]
+        found += [(whole, (path,)) for path in functions.FILES] + [(types, ())]
         found += [(refuse, line) for line in mutations.table()]
     return found
 
 
 def planted(change):
-    """A change of the tool, which its tests must notice in the code for ARM."""
-    gone = missing(mutations.SHORT["arm"])
+    """A change of the tool, which its tests must notice."""
+    gone = not_runnable(mutations.SHORT["arm"]) or not_runnable(mutations.SHORT["v2"])
     title = "the tool itself: %s" % change.__name__.replace("_", " ")
     return [("skip", title, "no " + gone)] if gone else change()
 

@@ -1,6 +1,7 @@
 """Runs each form of instruction of whole calls on the processor twice, over states that differ only
 in bytes that are secret. What the abstract machine calls public must then be the same, and what it
-has as a number must be that number."""
+has as a number must be that number. Flags are compared through instructions that read them: after
+each instruction that sets some, and after one that sets them and another that keeps some."""
 
 import random
 import struct
@@ -20,12 +21,45 @@ SKIPPED |= {"j" + c for c in calls.following_x86.CONDITIONS}
 SKIPPED |= {"b." + c for c in calls.following_arm.CONDITIONS} | {"tbz", "tbnz", "br"}
 
 
-def chosen(program, count, rng):
-    """Up to `count` instructions of each form, of all functions that calls reach and follow."""
-    found, kind = {}, program.kind
+# Instructions that set flags, that keep some or all, and that read them.
+FLAGS = {
+    "x86_64": (("cmp rbx,rcx", "add edx,esi", "test r8,r9", "neg rdi", "sub r10,r11", "and dl,al",
+                "xor ecx,ecx"),
+               ("", "inc edx", "dec r9", "inc BYTE PTR [r15]", "not ecx", "lea r8,[r9+0x1]"),
+               ["set%s r14b" % c for c in calls.following_x86.CONDITIONS] + [
+                   "cmov%s r14,r13" % c for c in ("b", "e")] + ["adc r14,r13", "sbb r14d,0x1"]),
+    "aarch64": (("cmp x1, x2", "adds x3, x4, x5", "tst w6, #0xff", "subs w1, w2, w3", "cmn x1, #1",
+                 "ands x3, x4, x5"),
+                ("", "add x9, x9, #1", "mov x10, x11", "ccmp x3, x4, #0, ne"),
+                ["cset x14, %s" % c for c in calls.following_arm.CONDITIONS] + [
+                    "csel x14, x13, x12, lo", "csinc x14, x13, x12, eq"]),
+}
+SETS_FLAGS = {
+    "x86_64": "add sub cmp xor or and test inc dec neg shl shr imul adc sbb ptest vptest".split(),
+    "aarch64": "adds subs ands cmp cmn tst ccmp".split(),
+}
+
+
+def readers(kind, tests, rng):
+    """Texts of several instructions, of which the last reads flags: one for each test of an
+    instruction that sets some, and one for each that keeps some and each that reads some."""
+    first, keeping, last = FLAGS[kind]
+    for text, base in tests:
+        if text.split()[0] in SETS_FLAGS[kind] and "r14" not in text and "x14" not in text:
+            yield "%s; %s" % (text, rng.choice(last)), base
+    for keeper in keeping:
+        for reader in last:
+            yield "; ".join(filter(None, (rng.choice(first), keeper, reader))), 15
+
+
+def chosen(program, count, rng, names=None):
+    """Up to `count` instructions of each form, of these functions, or of all that calls reach and
+    follow."""
+    found: dict = {}
+    kind = program.kind
     model = calls.MODELS[kind]
-    followed = [name for name in program.functions if "@" not in name and not name.startswith(
-        (functions.SCRUB_STACK, functions.SETTLE, ".plt"))]
+    followed = names or [name for name in program.functions if "@" not in name and not (
+        name.startswith((functions.SCRUB_STACK, functions.SETTLE, ".plt")))]
     listed = {name for name, _, _ in functions.FILES[program.path]}
     for name in followed:
         for i in program.code(name, model.Instruction) if name not in listed else ():
@@ -70,8 +104,15 @@ def machine(program, text, base, data, places):
         m.vector[j][:size] = [byte(check.VECTORS + size * j + k) for k in range(size)]
     zero = T.const(8, data[check.ZERO])
     m.flags = "sub", zero, T.const(8, 0), zero
-    m.step(model.Instruction(0, text.replace(" ", "\t", 1) if program.kind == "aarch64" else text))
+    execute(m, program, text)
     return m, buf
+
+
+def execute(m, program, text):
+    """Executes the instructions of a text in a model."""
+    for part in text.split("; "):
+        part = part.replace(" ", "\t", 1) if program.kind == "aarch64" else part
+        m.step(calls.MODELS[program.kind].Instruction(0, part))
 
 
 def wrong(program, m, buf, one, two):
@@ -102,6 +143,8 @@ def run(path, rounds):
     """Whether the abstract machine agrees with the processor: a verdict, and what differs."""
     program, rng = read(path), random.Random(3)
     forms, tests = chosen(program, 2 if rounds > 4 else 1, rng)
+    flags = list(readers(program.kind, tests, rng))
+    tests, compared = tests + flags, set()
     vectors, inputs, hiding = check.vectors_of(path), [], []
     for k, (text, _) in enumerate(tests):
         for n in range(rounds):
@@ -116,8 +159,19 @@ def run(path, rounds):
         if n % 50 == 0:
             reset()
         k, data = inputs[2 * n]
-        m, buf = machine(program, *tests[k], data, places)
+        try:
+            text, base = tests[k]
+            m, buf = machine(program, text, base, data, places)
+        except T.Refused:
+            if k < len(tests) - len(flags):
+                raise
+            continue                   # the flags that it reads are not public
+        compared.add(k)
         why = wrong(program, m, buf, after[2 * n], after[2 * n + 1])
         if why:
             return "not ok", "%s: %s" % (tests[k][0], why)
-    return "ok", "%d forms, %d instructions, %d runs" % (forms, len(tests), len(inputs))
+    if len(compared) < len(tests) * 9 // 10:
+        return "not ok", "the flags of %d of %d tests were never public" % (
+            len(tests) - len(compared), len(flags))
+    return "ok", "%d forms, %d instructions, %d with a reader of flags, %d runs" % (
+        forms, len(tests) - len(flags), len(flags), len(inputs))

@@ -28,7 +28,7 @@ def numbers_of(call, texts, size):
 
 def concrete(call, numbers):
     """Puts the numbers into the memory and the registers of a call."""
-    memo = {}
+    memo: dict = {}
 
     def byte(b):
         return b if isinstance(b, int) else T.split(T.substitute(b[0], numbers, memo))[b[1]]

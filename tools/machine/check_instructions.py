@@ -218,7 +218,7 @@ def state(rng, text, is_plain):
 
 def chosen(program, entries, rng, count):
     """Up to `count` instructions of each form, as (text, base register)."""
-    found = {}
+    found: dict = {}
     for name, _, _ in entries:
         for i in program.code(functions.in_file(program.path, name)):
             f = form(program.kind, i)
@@ -255,12 +255,13 @@ def check(path, rounds):
             if "r15+r1" in text:
                 data[96:112] = bytes([rng.randrange(64)] + [0] * 7) * 2
             inputs.append((k, bytes(data)))
-    flags = {}
+    flags: dict = {}
     found = execute(program.kind, tests, vectors_of(path), inputs)
     for n, ((k, before), after) in enumerate(zip(inputs, found)):
         if n % 1000 == 0:
             T.reset()
-        m, buf = model(program, *tests[k], before)
+        text, base = tests[k]
+        m, buf = model(program, text, base, before)
         wrong = difference(program, m, buf, before, after)
         if wrong:
             return "not ok", "%s: in the model %s" % (tests[k][0], wrong)

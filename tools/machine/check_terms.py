@@ -147,14 +147,15 @@ def places(w):
 
 def check(cases):
     """The first of the cases that does not hold, as text, or None; and how many have a rule."""
-    memo, count = {}, 0
+    memo: dict = {}
+    count = 0
     for made, means in cases:
         try:
             t = made()
         except T.CannotShow:
             continue
         count += 1
-        names = {}
+        names: dict = {}
         T._variables(t, names, set())
         if t.taint != _union(names.values()):
             return "%r has the taint %d" % (t, t.taint), count

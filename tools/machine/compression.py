@@ -176,7 +176,7 @@ class Runner:
 
 def show_one(program, name, kind, runner):
     """A function that compresses one block. Each flag on which it branches is tried both ways."""
-    waiting = [{}]
+    waiting: list = [{}]
     while waiting:
         assumed = waiting.pop()
         call = Call(program, name, kind, 1, assumed)

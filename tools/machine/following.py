@@ -6,21 +6,22 @@ Public words are terms over public variables, of which each has a range. So the 
 are known, or within bounds. Where paths meet, what differs becomes a new variable."""
 
 import copy
+from typing import Any
 
 import terms as T
-from machine import need_public
-from ranges import TOP, Ranges, merged
+from machine import Machine, need_public
+from ranges import OPPOSITE, TOP, Ranges, merged
 from terms import CannotShow, IsWrong
 
-OPPOSITE = {"==": "!=", "!=": "==", "<": ">=", ">=": "<", ">": "<=", "<=": ">"}
 TABLE_STEP = 64                        # bytes from which an index is into a table, not an array
-_BYTES = []                            # a secret byte, and a public one
+_BYTES: list = []                      # a secret byte, a public one, and a secret bit
 
 
 def reset():
     """Forgets all terms."""
     T.reset()
-    _BYTES[:] = [(T.var(8, "secret", T.SECRET), 0), (T.var(8, "public", T.PUBLIC), 0)]
+    _BYTES[:] = [(T.var(8, "secret", T.SECRET), 0), (T.var(8, "public", T.PUBLIC), 0),
+                 (T.var(8, "secret bit", T.SECRET), 0)]
 
 
 def secret():
@@ -31,6 +32,17 @@ def secret():
 def unknown():
     """A public byte about which nothing is known."""
     return _BYTES[1]
+
+
+def secret_bit():
+    """A secret byte that is 0 or 1."""
+    return _BYTES[2]
+
+
+def has_name(b):
+    """Whether a secret byte keeps its name: a bit, and what a register has at the entry, which the
+    call must restore."""
+    return b == secret_bit() or b[0].op == "var" and b[0].taint == T.JUNK
 
 
 class Memory:
@@ -62,10 +74,25 @@ class Aligned(CannotShow):
         self.need = need
 
 
-class Follower(Ranges):
+class Follower(Ranges, Machine):
     """What the abstract machines have in common. It comes before a model among the bases."""
 
     KNOWN = ("memory", "ranges", "residues")
+    ARGUMENTS: tuple = ()              # the registers of arguments
+    RELATIONS: dict = {}               # what a condition compares, see compared()
+    flags: Any
+
+    def condition(self, i):
+        """What a conditional jump compares."""
+        raise NotImplementedError
+
+    def at_entry(self):
+        """What a return must find: its address, the stack pointer, and the caller's registers."""
+        raise NotImplementedError
+
+    def clobber(self):
+        """What a function may leave in the registers that do not belong to its caller."""
+        raise NotImplementedError
 
     def begin(self, alignment, ranges, block):
         """Adds what the models do not have. `alignment` is that of the stack: a power of two, and
@@ -90,13 +117,17 @@ class Follower(Ranges):
     def cleaned(self, data, is_word):
         """Bytes as they are kept: what depends on a secret is only secret. A word of which a byte
         is not known is a new variable."""
-        data = [secret() if is_secret(b) else b for b in data]
+        data = [secret() if is_secret(b) and not has_name(b) else b for b in data]
         if not is_word or unknown() not in data:
             return data
-        if secret() not in data:
+        if not any(map(is_secret, data)):
             return T.split(self.new(8 * len(data), "=%d" % len(data)))
         fresh = lambda k: (self.new(8, "=%d." % k), 0)
         return [fresh(k) if b is unknown() else b for k, b in enumerate(data)]
+
+    def is_bit(self, b):
+        """Whether a byte is 0 or 1."""
+        return b == secret_bit() or not is_secret(b) and self.unsigned(T.word([b]))[1] <= 1
 
     # Flags.
 
@@ -133,7 +164,7 @@ class Follower(Ranges):
         if not self.assume(relation if holds else OPPOSITE[relation], a, b):
             return False
         low, high = self.unsigned(a)
-        known = self.facts[a][low > 0] if a in self.facts and (low > 0 or high == 0) else ()
+        known: tuple = self.facts[a][low > 0] if a in self.facts and (low > 0 or high == 0) else ()
         return all(self.learn(*other) for other in known)
 
     def truth(self, condition):
@@ -144,7 +175,8 @@ class Follower(Ranges):
         for holds in (True, False) if compared else ():
             kept = self.ranges, self.residues
             self.ranges, self.residues = map(dict, kept)
-            may = self.learn(*compared, holds)
+            relation, a, b = compared
+            may = self.learn(relation, a, b, holds)
             self.ranges, self.residues = kept
             if not may:
                 return not holds
@@ -165,7 +197,7 @@ class Follower(Ranges):
         if truth in (True, False):
             return int(truth)
         if truth == "secret":
-            return secret()
+            return secret_bit()
         x = self.new(8, "", (0, 1, 1))
         compared = self.compared(condition)
         if compared:
@@ -226,6 +258,17 @@ class Follower(Ranges):
             return r
         return 0, n, n & -n or 1
 
+    def exclusive(self, a, b):
+        """An exclusive or, of which nothing is known."""
+
+    def shifted_right(self, a, k):
+        """The range of a word that is shifted to the right."""
+        return tuple(n >> k for n in self.unsigned(a)) + (1,)
+
+    def combined(self, name, x, y):
+        """The bytes of an operation on vectors."""
+        return [self.mixed(x + y)] * len(x)
+
     def mixed(self, data):
         """A byte that may depend on all of these."""
         return secret() if any(map(is_secret, data)) else unknown()
@@ -246,6 +289,8 @@ class Follower(Ranges):
         low, high, step = self.range_of(rest)
         shift = low + TOP // 2 & -TOP
         low, high, self.step_of_place = low - shift, high - shift, step
+        if base is self.stack and low < self.lowest():
+            raise IsWrong("%r is below the stack" % address)
         fits = region.low <= low <= high <= region.high - size
         if not region.uniform and not (fits and (high - low < self.block or step >= TABLE_STEP)):
             if low == high or not region.low <= low <= region.high - self.block:
@@ -332,8 +377,8 @@ class Follower(Ranges):
         return T.add(64, (1, address), (-1, T.const(64, (constant + self.alignment[1]) % low)))
 
     def forget_below(self):
-        """Forgets the stack below its pointer, which nobody may read later."""
-        low = self.lowest() + self.RED_ZONE
+        """Forgets the stack below its pointer, where a signal and the next call may write."""
+        low = self.lowest()
         for key in [k for k in self.memory if k[0] is self.stack and k[1] < low]:
             del self.memory[key]
 
@@ -382,7 +427,8 @@ class Follower(Ranges):
             return [joined_byte(x, y) for x, y in zip(a, b)]
         t, u = T.word(a), T.word(b)
         if (t.taint | u.taint) & ~T.PUBLIC or unknown() in a + b:
-            return self.cleaned([joined_byte(x, y) for x, y in zip(a, b)],
+            return self.cleaned([secret_bit() if x != y and old.is_bit(x) and other.is_bit(y)
+                                 else joined_byte(x, y) for x, y in zip(a, b)],
                                 not name.startswith(("image", "sp")) and len(a) <= 8)
         base = self.common(t, u)
         old_range, new_range = (m.offset(v, base) for m, v in ((old, t), (other, u)))

@@ -75,7 +75,7 @@ class Instruction(arm.Instruction):
 
 
 class FollowArm(Follower, arm.Arm):
-    ARGUMENTS = tuple(range(8))
+    ARGUMENTS: tuple = tuple(range(8))
     RELATIONS = {"eq": "==", "ne": "!=", "cc": "<", "cs": ">=", "hi": ">", "ls": "<="}
 
     def is_jump(self, i):
@@ -85,7 +85,7 @@ class FollowArm(Follower, arm.Arm):
         return i.name == "bl"
 
     def is_return(self, i):
-        return i.name == "ret"
+        return i.name == "ret" and not i.operands
 
     def is_trap(self, i):
         return i.name == "brk"
@@ -112,6 +112,9 @@ class FollowArm(Follower, arm.Arm):
 
     def leave(self):
         pass
+
+    def at_entry(self):
+        return T.word(self.general[arm.LINK]), self.stack_pointer(), self.saved()
 
     def clobber(self):
         """What a function may leave in the registers that do not belong to its caller."""
@@ -164,13 +167,23 @@ class FollowArm(Follower, arm.Arm):
     # Memory.
 
     def place_of(self, m):
-        """The address of an access, after which a base register may move."""
+        """The address of an access, before which the base register may move."""
         base = T.word(self.read(m.base))
+        if m.base.index == arm.SP and T.linear(base)[0] % 16:
+            raise IsWrong("the stack pointer is not a multiple of 16 at an access")
+        if m.mode == "after":
+            return base
         other = T.word(self.read(m.index)) if m.index else T.const(64, m.offset)
         moved = T.add(64, (1, base), (1, other))
-        if m.mode != "at":
+        if m.mode == "before":
             self.write(m.base, T.split(moved))
-        return base if m.mode == "after" else moved
+        return moved
+
+    def move_base(self, m):
+        """Moves the base register after an access, if it does that."""
+        if m.mode == "after":
+            base = T.word(self.read(m.base))
+            self.write(m.base, T.split(T.add(64, (1, base), (1, T.const(64, m.offset)))))
 
     def access(self, name, kind, ops):
         registers = ops[:-1]
@@ -182,6 +195,7 @@ class FollowArm(Follower, arm.Arm):
         else:
             for r, part in zip(registers, chunks(self.load(at, size * len(registers)), size)):
                 self.write(r, part + [0] * (r.size - size))
+        self.move_base(ops[-1])
 
     # Words.
 
@@ -214,7 +228,7 @@ class FollowArm(Follower, arm.Arm):
         if o.kind == "number":
             return arm.Number(o.value << k)
         f = (lambda a, b: T.add(a.w, (1 << k, a))) if shift.name == "lsl" else (
-            lambda a, b: tuple(n >> k for n in self.unsigned(a)) + (1,))
+            lambda a, b: self.shifted_right(a, k))
         return Value(self.quietly(f, self.read(o, size), [0] * size))
 
     def quietly(self, f, a, b, kind="other"):
@@ -235,13 +249,13 @@ class FollowArm(Follower, arm.Arm):
         plus = lambda sign: lambda a, b: T.add(w, (1, a), (sign, b))
         table = {
             "add": plus(1), "adds": plus(1), "sub": plus(-1), "subs": plus(-1), "and": self.masked,
-            "ands": self.masked, "orr": self.either, "eor": lambda a, b: None, "mul": times,
+            "ands": self.masked, "orr": self.either, "eor": self.exclusive, "mul": times,
             "umulh": lambda a, b: None,
             "mvn": lambda a, b: T.add(w, (-1, a), (-1, T.const(w, 1))),
             "neg": lambda a, b: T.add(w, (-1, a)),
             "lsl": lambda a, b: T.add(w, (1 << b.args, a)),
-            "lsr": lambda a, b: tuple(n >> b.args for n in self.unsigned(a)) + (1,),
-            "ubfiz": lambda a, b: None,
+            "lsr": lambda a, b: self.shifted_right(a, b.args),
+            "ubfiz": lambda a, b: self.bitfield(a, b.args, ops[3].value),
         }
         if name == "udiv":             # only public numbers, because the time depends on them
             need_public(T.word(rest[0] + rest[1]), "the time of a division")
@@ -252,12 +266,15 @@ class FollowArm(Follower, arm.Arm):
         elif name not in table or name in ("lsl", "lsr") and ops[2].kind != "number":
             return False
         elif name in ("subs", "adds", "ands"):
-            kind = {"subs": "sub", "adds": "other", "ands": "test"}[name]
+            kind = {"subs": "sub", "adds": "add", "ands": "test"}[name]
             self.write(to, self.computed(kind, table[name], *rest))
         else:
             self.write(to, self.quietly(table[name], rest[0], (rest + [[0] * size])[1],
                                         "product" if name in ("mul", "umulh") else "other"))
         return True
+
+    def bitfield(self, a, low, size):
+        """Some low bits of a word, shifted to the left, of which nothing is known."""
 
     def compare(self, name, ops):
         size = ops[0].size
@@ -276,7 +293,7 @@ class FollowArm(Follower, arm.Arm):
             minus = self.read(arm.Number(-ops[1].value), size)
             self.computed("sub", lambda x, y: T.add(x.w, (1, x), (-1, y)), a, minus)
         else:
-            kind, sign = ("sub", -1) if name == "cmp" else ("other", 1)
+            kind, sign = ("sub", -1) if name == "cmp" else ("add", 1)
             self.computed(kind, lambda x, y: T.add(x.w, (1, x), (sign, y)), a, b)
         return True
 
@@ -337,7 +354,7 @@ class FollowArm(Follower, arm.Arm):
             return self.load_lanes(name, ops)
         if name in ("eor", "orr", "and", "add"):
             same = name == "eor" and ops[1].index == ops[2].index
-            self.write(to, [0 if same else self.mixed(data[0] + data[1])] * to.size)
+            self.write(to, [0] * to.size if same else self.combined(name, *data)[:to.size])
         elif name in ("mov", "fmov", "dup"):
             self.write(to, (data[0][:n] * (to.size // n)) if name == "dup" else data[0])
         elif name == "movi":
@@ -367,10 +384,12 @@ class FollowArm(Follower, arm.Arm):
             if not m:
                 return False
             parts = chunks(self.load(self.place_of(ops[1]), 64), 8)
+            self.move_base(ops[1])
             for k in range(4):
                 self.vector[int(m[1]) + k] = self.cleaned(parts[k] + parts[4 + k], False)
             return True
         data = self.load(self.place_of(ops[1]), to.n)
+        self.move_base(ops[1])
         self.write(to, data * (to.size // to.n) if name == "ld1r" else data)
         return True
 

@@ -8,7 +8,8 @@ from following import Follower, is_secret, secret, unknown
 from machine import CannotShow, IsWrong, need_public
 
 CONDITIONS = "e ne b ae a be s ns l le g ge o no".split()
-MOVES_ONLY = (x86.MOVES, x86.BROADCASTS, x86.UNARY, x86.INSERTS)
+OF_CARRY, OF_OVERFLOW = ("b", "ae", "a", "be"), ("o", "no")
+MOVES_ONLY: tuple = (x86.MOVES, x86.BROADCASTS, x86.UNARY, x86.INSERTS)
 # Operations on vectors whose result may depend on all bytes of the operands, in a fixed time.
 MIXES = ("paddq paddd pxor xorps xorpd por orps pand andps pandn pshufb psrld psrlq psrlw pslld "
          "psllq pblendvb blendvps blendvpd").split()
@@ -17,7 +18,7 @@ ONE = x86.Operand("number", value=1)
 
 
 class FollowX86(Follower, x86.X86):
-    ARGUMENTS = x86.ARGUMENTS
+    ARGUMENTS: tuple = x86.ARGUMENTS
     # What a condition compares after `cmp`. Others are not followed: both ways may be taken.
     RELATIONS = {"e": "==", "ne": "!=", "b": "<", "ae": ">=", "a": ">", "be": "<="}
 
@@ -28,7 +29,7 @@ class FollowX86(Follower, x86.X86):
         return i.name == "call"
 
     def is_return(self, i):
-        return i.name == "ret"
+        return i.name == "ret" and not i.operands
 
     def is_trap(self, i):
         return i.name == "ud2"
@@ -57,9 +58,16 @@ class FollowX86(Follower, x86.X86):
     def enter(self, i):
         """A call pushes the return address."""
         self.general[x86.RSP] = T.split(self.moved(-8))
+        self.store(self.stack_pointer(), T.split(self.new(64, "link")))
 
     def leave(self):
+        """A return takes it from the stack."""
         self.general[x86.RSP] = T.split(self.moved(8))
+
+    def at_entry(self):
+        """What a return must find: its address, the stack pointer, and the caller's registers."""
+        sp = self.stack_pointer()
+        return T.word(self.load(sp, 8)), sp, self.saved()
 
     def moved(self, n):
         return T.add(64, (1, self.stack_pointer()), (1, T.const(64, n)))
@@ -102,7 +110,7 @@ class FollowX86(Follower, x86.X86):
             self.write(to, result)
 
     def do_add(self, i, to, source):
-        self.binary_word("other", lambda a, b: T.add(a.w, (1, a), (1, b)), to, source)
+        self.binary_word("add", lambda a, b: T.add(a.w, (1, a), (1, b)), to, source)
 
     def do_sub(self, i, to, source, keep=True):
         self.binary_word("sub", lambda a, b: T.add(a.w, (1, a), (-1, b)), to, source, keep)
@@ -115,7 +123,7 @@ class FollowX86(Follower, x86.X86):
             self.write(to, [0] * to.size)
             self.flags = ("logic",) + (T.const(8 * to.size, 0),) * 3
         else:
-            self.binary_word("logic", lambda a, b: None, to, source)
+            self.binary_word("logic", self.exclusive, to, source)
 
     def do_or(self, i, to, source):
         self.binary_word("logic", self.either, to, source)
@@ -128,10 +136,25 @@ class FollowX86(Follower, x86.X86):
                          False)
 
     def do_inc(self, i, to):
-        self.do_add(i, to, ONE)
+        self.count(to, 1)
 
     def do_dec(self, i, to):
-        self.binary_word("other", lambda a, b: T.add(a.w, (1, a), (-1, b)), to, ONE)
+        self.count(to, -1)
+
+    def count(self, to, step):
+        """inc and dec keep the carry, which may be that of a secret."""
+        old = self.flags
+        self.binary_word("other", lambda a, b: T.add(a.w, (1, a), (step, b)), to, ONE)
+        if (old is None or old[0] in ("secret", "no carry")) and self.flags != ("secret",):
+            self.flags = ("no carry",) + self.flags[1:]
+
+    def compared(self, condition):
+        kind = self.flags[0] if self.flags else None
+        if kind == "no carry" and condition in OF_CARRY:
+            raise IsWrong("a carry that inc or dec keeps depends on secret or unknown data")
+        if kind == "product" and condition not in OF_OVERFLOW:
+            raise CannotShow("a product does not define this flag")
+        return super().compared(condition)
 
     def do_neg(self, i, to):
         self.binary_word("other", lambda a, b: T.add(a.w, (-1, a)), to, ONE)
@@ -141,13 +164,19 @@ class FollowX86(Follower, x86.X86):
         self.binary_word("other", lambda a, b: T.add(a.w, (-1, a), (-1, b)), to, ONE)
         self.flags = flags
 
+    def shift_count(self, i, to, source):
+        """The number of bits of a shift. A shift by 0 keeps the flags, and is not known."""
+        if source.kind != "number" or not 0 < source.value < 8 * to.size:
+            raise x86.unknown(i)
+        return source.value
+
     def do_shl(self, i, to, source=ONE):
-        self.binary_word("other", lambda a, b: T.add(a.w, (1 << source.value, a)), to, source)
+        k = self.shift_count(i, to, source)
+        self.binary_word("other", lambda a, b: T.add(a.w, (1 << k, a)), to, source)
 
     def do_shr(self, i, to, source=ONE):
-        k = source.value
-        self.binary_word("other", lambda a, b: tuple(n >> k for n in self.unsigned(a)) + (1,), to,
-                         source)
+        k = self.shift_count(i, to, source)
+        self.binary_word("other", lambda a, b: self.shifted_right(a, k), to, source)
 
     def do_imul(self, i, to, source, factor=None):
         if factor:
@@ -156,7 +185,7 @@ class FollowX86(Follower, x86.X86):
                          None, to, factor or source)
 
     def with_carry(self, to, source, sign):
-        if self.flags in (None, ("secret",)):
+        if self.flags is None or self.flags[0] in ("secret", "no carry"):
             raise CannotShow("a carry depends on flags that are not public")
         carry = lambda w: self.new(w, "carry", (0, 1, 1))
         self.binary_word("other", lambda a, b: T.add(
@@ -199,6 +228,8 @@ class FollowX86(Follower, x86.X86):
     def vector_step(self, i):
         vex = i.name.startswith("v")
         name, ops = i.name[vex:], i.operands
+        if any(o.mask is not None or o.kind == "mask" for o in ops):
+            raise x86.unknown(i)
         if name == "ptest":
             data = self.read(ops[0]) + self.read(ops[1], 16)
             self.flags = ("secret",) if any(map(is_secret, data)) else (

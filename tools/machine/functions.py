@@ -13,6 +13,10 @@ MANY_S = ("blake2_compress..many..blake2s..compress_blocks", R.BLAKE2S, 8)
 EIGHT_B = ("blake2_compress..many..blake2b..eight..compress_blocks", R.BLAKE2B, 8)
 SCRUB_STACK = "blake2_digest..wiping..scrub_stack.."
 SETTLE = "blake2_digest..wiping..settle.."
+# What `_final` and `_verify` call, by the family: the first zeroes the state, and the answer of the
+# second is public.
+FINALIZE = "blake2_ffi..%s..finalize"
+IS_DIGEST_OF = "blake2_ffi..%s..is_digest_of"
 
 LIBRARY = (ONE_B, MANY_B, ONE_S, MANY_S)
 PROGRAM = (ONE_B, MANY_B, ONE_S)       # b2 and b2sum hash several messages with BLAKE2b only
@@ -43,6 +47,11 @@ def build(path):
     """The folder and the end of a file's name, which the same build of other libraries shares."""
     folder, _, file = path.rpartition("/")
     return folder, file.partition("-")[2]
+
+
+def is_library(path):
+    """Whether a file is a build of the library, not of a program."""
+    return path.rpartition("/")[2].startswith("vulfsjor")
 
 
 def in_file(path, name):

@@ -1,6 +1,7 @@
 """What the models of the processors have in common: memory, conditions, and operations on bytes."""
 
 import itertools
+from typing import Any
 
 import terms as T
 from terms import CannotShow, IsWrong
@@ -33,18 +34,25 @@ class Region:
 class Machine:
     """The registers and the memory. A subclass has one method for each kind of instruction."""
 
-    FILES = ("general", "vector")      # the attributes that hold registers, as lists of bytes
+    FILES: tuple = ("general", "vector")       # the attributes that hold registers, as bytes
     RED_ZONE = 0                       # bytes below the stack pointer that a function may use
-    FREE = ("nop",)                    # instructions that need not be reached
+    FREE: tuple = ("nop",)             # instructions that need not be reached
     LOSSES = itertools.count()         # a number for each time that the stack shrinks
 
     def __init__(self, regions, assumed):
         self.regions = regions        # base -> Region
         self.assumed = assumed        # condition -> bool
-        self.memory = {}              # (base, offset) -> byte
-        self.stack = None             # the base of the stack
+        self.memory: dict = {}        # (base, offset) -> byte
+        self.stack: Any = None        # the base of the stack
         self.zero = None              # the word that is zero if and only if the zero flag is set
         self.counts = {"branches": 0, "addresses": 0}
+
+    def stack_pointer(self) -> T.Term:
+        raise NotImplementedError
+
+    def step(self, i):
+        """Executes an instruction."""
+        raise NotImplementedError
 
     def copy(self):
         """A machine with the same registers and memory. The flags are unknown."""

@@ -3,10 +3,14 @@ each of which one of its own tests must refuse."""
 
 import os
 import re
+from typing import Any
 
+import call_cases
 import calls
 import check_following
+import check_specification
 import compression
+import exact
 import functions
 import program as programs
 import terms as T
@@ -63,6 +67,11 @@ def edit_text(name, is_data, *change):
     return edit
 
 
+def edit_file(*change):
+    """An editor of all of an assembly text."""
+    return lambda text: "\n".join(changed(text.split("\n"), *change))
+
+
 def edit_module(name, *change):
     """An editor of the functions of a WebAssembly module."""
     return lambda found: {**found, name: changed(found[name], *change)}
@@ -71,9 +80,17 @@ def edit_module(name, *change):
 def refuse(short, function, number, old, new):
     """The result of a line of the table: which of both exceptions refused the change, and why."""
     path, is_data = SHORT[short], function.endswith(" data")
+    show: Any
+    rest: list
     what, _, count = function.partition(" ")
     if what == "scrub":
         name, show, rest = functions.SCRUB_STACK + count, wiping.show, [int(count)]
+    elif what == "whole":
+        exported, _, name = count.partition(" ")
+        exported = "vulfsjor_ffi_" + exported
+        name, show, rest = name or exported, compute_call, [exported]
+    elif what == "file":
+        name, show, rest = "", look, []
     elif what == "call":
         exported, _, name = count.partition(" ")
         exported = "vulfsjor_ffi_" + exported
@@ -84,7 +101,7 @@ def refuse(short, function, number, old, new):
     title = "refused: %s, %s: %s => %s" % (path, function, old, new or "nothing")
     change = int(number), old, new
     edit = (edit_module(name, *change) if functions.architecture(path) == "wasm"
-            else edit_text(name, is_data, *change))
+            else edit_text(name, is_data, *change) if name else edit_file(*change))
     try:
         program = programs.Program(path, edit)
         if show is compression.show and is_same(program, name):
@@ -116,6 +133,20 @@ def follow_call(program, name, exported):
             calls.show(program, *entry)
 
 
+def compute_call(program, name, exported):
+    """Shows what a call of an exported function of a family writes, in some cases."""
+    family = programs.found(r"vulfsjor_ffi_(blake2[bs])", exported)[1]
+    call_cases.Cases(program, family, *call_cases.some(family)).show(
+        exported[len("vulfsjor_ffi_" + family):])
+
+
+def look(program, _=None):
+    """What is looked at in all of a file: sections, symbols, and which functions are called."""
+    list(calls.exports(program))
+    for name, _, _ in functions.FILES[program.path]:
+        program.code(name)
+
+
 def _on_arm(entry):
     """The verdict on a function of the library for ARM, which takes the least time."""
     try:
@@ -141,9 +172,9 @@ def _with(owner, name, value, f):
 def wrong_model():
     """A model of an instruction in which the second rotation of ARM's eor is missing."""
     arm = programs.arm
-    f = lambda self, name, ops, shape: wrong_model.right(
+    right = arm.Arm.arithmetic
+    f = lambda self, name, ops, shape: right(
         self, name, [o for o in ops if o.kind != "shift"], shape.replace(" shift", ""))
-    wrong_model.right = arm.Arm.arithmetic
     why = _with(arm.Arm, "arithmetic", f, lambda: _on_arm(functions.ONE_B))
     return _seen("a model of eor without its rotation fails", why)
 
@@ -154,8 +185,8 @@ def wrong_rule():
         if t.op == "add":
             high = lambda u: T.word(T.split(u)[i:i + n])
             return T.add(8 * n, *[(k, high(u)) for u, k in t.args[1]])
-        return wrong_rule.right(t, i, n)
-    wrong_rule.right = T._slice_of
+        return right(t, i, n)
+    right = T._slice_of
     x, y = (T.var(64, name, T.PUBLIC) for name in "xy")
     total = T.add(64, (1, x), (1, y))
 
@@ -177,6 +208,38 @@ def secret_forgotten():
     return _seen("an operation that forgets secrets fails", verdict == "not ok" and why)
 
 
+def carry_forgotten():
+    """inc and dec that set the carry, which they keep."""
+    count = lambda self, to, step: self.binary_word(
+        "other", lambda a, b: T.add(a.w, (1, a), (step, b)), to, calls.following_x86.ONE)
+    verdict, why = _with(calls.following_x86.Model, "count", count,
+                         lambda: check_following.run(SHORT["v2"], 2))
+    return _seen("a carry that inc sets fails", verdict == "not ok" and why)
+
+
+def wrong_specification():
+    """A specification of whole calls whose last block is not the last."""
+    digest = lambda a, kind, s: a.compress(
+        kind, s.chain, s.pending, a.plus(s.counter, s.pending_length), 0, 0)
+    verdict, why = _with(check_specification.S, "digest", digest,
+                         lambda: check_specification.check(1))
+    return _seen("a specification without the last block's flag fails",
+                 verdict == "not ok" and why)
+
+
+def wrong_choice():
+    """A copy of a variable length that takes one byte too many."""
+    f = lambda machine, j, n, a, b: exact.choice(j, n, b, a)
+    program = programs.read(SHORT["arm"])
+
+    def show():
+        try:
+            return call_cases.Cases(program, "blake2s").show("_final") and None
+        except T.Refused as e:
+            return str(e)
+    return _seen("a copy that chooses the wrong bytes fails", _with(exact, "below", f, show))
+
+
 def call_left_out():
     """A table of exported functions that has one less."""
     less = {k: v for k, v in calls.EXPORTS.items() if k != "_update"}
@@ -188,6 +251,21 @@ def call_left_out():
             return str(e)
     return _seen("an exported function left out of its table is found",
                  _with(calls, "EXPORTS", less, names))
+
+
+def name_changed():
+    """Another name for what `_final` calls to zero the state."""
+    program = programs.read(SHORT["arm"])
+    final = next(e for e in calls.exports(program) if e[0] == "vulfsjor_ffi_blake2s_final")
+    other = {**calls.CALLED, "_final": "blake2_ffi..%s..zeroed"}
+
+    def show():
+        try:
+            return calls.show(program, *final) and None
+        except T.CannotShow as e:
+            return str(e)
+    return _seen("a claim about a function that is not called is noticed",
+                 _with(calls, "CALLED", other, show))
 
 
 def function_left_out():
@@ -203,4 +281,5 @@ def _seen(title, why):
     return [("ok" if why else "not ok", "the tool itself: " + title, why or "nothing noticed it")]
 
 
-OF_THE_TOOL = (wrong_model, wrong_rule, function_left_out, secret_forgotten, call_left_out)
+OF_THE_TOOL = (wrong_model, wrong_rule, function_left_out, secret_forgotten, call_left_out,
+               name_changed, carry_forgotten, wrong_specification, wrong_choice)

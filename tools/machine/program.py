@@ -4,24 +4,27 @@ objdump; or reads a WebAssembly module."""
 import functools
 import os
 import re
-import struct
 import subprocess
 import tempfile
 
 import arm
+import elf
 import functions
 import wasm
 import wasm_format
 import x86
-from terms import CannotShow
+from terms import CannotShow, IsWrong
 
 ROOT = os.path.dirname(os.path.dirname(os.path.dirname(os.path.abspath(__file__))))
-TOOLS = {"x86_64": ([os.environ.get("CC", "cc")], "", ["-M", "intel"]),
+TOOLS: dict = {"x86_64": ([os.environ.get("CC", "cc")], "", ["-M", "intel"]),
          "aarch64": (["aarch64-linux-gnu-gcc"], "aarch64-linux-gnu-", [])}
 MODELS = {"x86_64": x86, "aarch64": arm, "wasm": wasm}
 
 CONSTANTS = ".rodata"                  # the section of the constants
-RELOCATIONS = 4                        # the type of a section of relocations
+# The sections of a file that a processor sees, by the start of their names, with their flags.
+SECTIONS = ((".text", elf.ALLOCATED | elf.EXECUTABLE), (CONSTANTS, elf.ALLOCATED))
+# Numbers that the linker fills in, in pages that are not writable when the program starts.
+OF_PROGRAMS = (".data.rel.ro", elf.ALLOCATED | elf.WRITABLE)
 # The kinds of relocation that fill in 4 bytes of constants, R_X86_64_PC32 and R_AARCH64_PREL32.
 # Any other fills in at most 8.
 OF_FOUR_BYTES = (2, 261)
@@ -93,8 +96,10 @@ class Program:
                 found = subprocess.run(command, stderr=subprocess.PIPE, text=True)
                 if found.returncode:
                     raise NotAssembled(found.stderr.strip().split("\n")[-1])
+            with open(o, "rb") as f:
+                self.read_symbols(elf.Elf(f.read()))
             with open(so, "rb") as f:
-                self.constants = constants(f.read())
+                self.constants = constants(elf.Elf(f.read()))
             out = subprocess.run([prefix + "objdump", "-dzrt", "--insn-width=16"] + style + [so],
                                  check=True, stdout=subprocess.PIPE, text=True).stdout
         # The address, the section, the size and the name of each symbol.
@@ -107,6 +112,42 @@ class Program:
                 lines = self.functions.setdefault(without_version(m[1]), [])
             elif ":\t" in line or ": R_" in line:
                 lines.append(line)
+
+    def read_symbols(self, file):
+        """The functions that other files may call, and the symbols that they define, of an object
+        file. All that a processor sees must be code or constants that nothing writes."""
+        for s in file.sections:
+            allowed = SECTIONS + (() if functions.is_library(self.path) else (OF_PROGRAMS,))
+            kept = s.flags & (elf.ALLOCATED | elf.EXECUTABLE | elf.WRITABLE)
+            if s.size and s.flags & elf.ALLOCATED and (s.type != elf.PROGBITS or not any(
+                    s.name.startswith(name) and kept == flags for name, flags in allowed)):
+                raise IsWrong("the section %s has data, or code that may be overwritten or that "
+                              "runs at the start" % s.name)
+        self.globals = sorted(without_version(s.name) for s in file.symbols
+                              if s.binding != elf.LOCAL and s.section != elf.UNDEFINED)
+        self.external = {s.name for s in file.symbols if s.section == elf.UNDEFINED}
+        self.external -= {s.name for s in file.symbols if s.section != elf.UNDEFINED}
+        self.callable = {s.name for s in file.symbols
+                         if s.type == elf.FUNCTION and s.binding in (elf.LOCAL, elf.GLOBAL)}
+
+    def is_external(self, shown):
+        """Whether the target of a call, as objdump shows it, is a function of another file."""
+        name, _, rest = shown.partition("@")
+        return rest == "plt" and name in self.external
+
+    def target(self, i, external):
+        """The name without version of the function that a call or a jump goes to: to its start, or
+        to one of these functions of another file."""
+        shown = found(r"<(.*)>", i.text)[1]
+        name = without_version(shown)
+        if self.is_external(shown):
+            name = shown.partition("@")[0]
+            if name in external:
+                return name
+            raise CannotShow("a call of %s" % name)
+        if name not in self.functions or self.extent(name)[0] != i.target:
+            raise IsWrong("it goes to %s, not to the start of a function" % shown)
+        return name
 
     def code(self, name, instruction=None):
         """The instructions of a function, by the model's class for them or another."""
@@ -141,7 +182,7 @@ class Program:
         start, found = self.extent(name)[0], []
         for i in self.code(name):
             text = re.split("#|//" if self.kind == "x86_64" else "//", i.text)[0]
-            place = i.address - start, i.next - start
+            place: tuple = i.address - start, i.next - start
             constant = None
             if i.target is not None:
                 text = re.sub(r"\b[0-9a-f]+ <.*>", "", text)
@@ -167,7 +208,10 @@ class Program:
         found = [s for s in self.symbols if without_version(s[3]) == name]
         if len(found) != 1:
             raise CannotShow("%s has %d symbols %s instead of one" % (self.path, len(found), name))
-        start, section, size, _ = found[0]
+        start, section, size, symbol = found[0]
+        if symbol not in self.callable:
+            raise IsWrong("the symbol %s is not that of a function, which only this file defines"
+                          % symbol)
         inside = [s[3] for s in self.symbols if s[1] == section and start <= s[0] < start + size]
         # The symbol of the section itself may have the same address.
         others = [n for n in inside if n not in (found[0][3], section)]
@@ -178,7 +222,7 @@ class Program:
     def check_relocation(self, i, line):
         """Refuses a number that the linker fills in, except the address of a constant of the file,
         and of the function that a call or a jump goes to."""
-        kind, symbol = re.search(r": (R_\w+)\t(.*)", line).groups()
+        kind, symbol = found(r": (R_\w+)\t(.*)", line).groups()
         symbol = re.sub(r"[+-]0x[0-9a-f]+$", "", symbol)
         sections = {s[1] for s in self.symbols if s[3] == symbol}
         if i.name not in ("call", "bl", "b") and not i.name.startswith("j") and (
@@ -210,24 +254,28 @@ class Program:
         return machine
 
 
+def found(pattern, text):
+    """The match of a pattern that is in a text."""
+    m = re.search(pattern, text)
+    assert m, text
+    return m
+
+
 def without_version(name):
     """A function's name without the version of its package and of the processor."""
     return re.sub(r"_[0-9]+_[0-9]+_[0-9]+_\w+$", "", name)
 
 
-def constants(data):
+def constants(file):
     """The address of a file's constants, and their bytes: None if the linker fills them in."""
-    table, = struct.unpack_from("<Q", data, 40)
-    size, count, names = struct.unpack_from("<HHH", data, 58)
-    headers = [struct.unpack_from("<IIQQQQ", data, table + k * size) for k in range(count)]
     start, found = 0, []
-    for name, _, _, address, at, length in headers:
-        text = data[headers[names][4] + name:]
-        if text[:text.index(b"\0")].decode() == CONSTANTS:
-            start, found = address, list(data[at:at + length])
-    for _, kind, _, _, at, length in headers:
-        for entry in range(at, at + length, 24) if kind == RELOCATIONS else ():
-            place, info = struct.unpack_from("<QQ", data, entry)
+    for s in file.sections:
+        if s.name == CONSTANTS:
+            start, found = s.address, list(s.data)
+    for s in file.sections:
+        for entry in range(0, s.size, 24) if s.type == elf.RELOCATIONS else ():
+            place, info = (int.from_bytes(s.data[entry + k:entry + k + 8], "little")
+                           for k in (0, 8))
             end = place + (4 if info & 0xffffffff in OF_FOUR_BYTES else 8)
             for k in range(max(place - start, 0), min(end - start, len(found))):
                 found[k] = None

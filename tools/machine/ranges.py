@@ -3,6 +3,8 @@
 import terms as T
 
 TOP = 1 << 64
+OPPOSITE = {"==": "!=", "!=": "==", "<": ">=", ">=": "<", ">": "<=", "<=": ">",
+            "carry": "no carry", "no carry": "carry"}
 VISITS = 2                             # of a place, after which ranges are widened
 
 
@@ -36,6 +38,12 @@ class Ranges:
     """The part of an abstract machine that has the ranges (low, high, step) of variables that have
     a smaller one than their width. Sums of variables without a constant have ranges too; in
     `residues`, modulo the width. `regions` has the bases of memory, which have no range."""
+
+    ranges: dict
+    residues: dict
+    regions: dict
+    where: str
+    block: int
 
     def new(self, w, what="", limits=None):
         """A new public variable of w bits, named by the place of the instruction."""

@@ -20,6 +20,7 @@ pair of a term and of the place of the byte in it. So moves and shuffles only mo
 """
 
 import random
+from typing import Any
 
 PUBLIC, SECRET, JUNK = 1, 2, 4
 LIMIT, WIDEST = 200000, 128            # of all terms, and of the parts of one
@@ -46,13 +47,18 @@ class Term:
     """A word of w bits. Two terms of the same normal form are one object."""
 
     __slots__ = ("op", "w", "args", "serial", "taint")
+    op: str
+    w: int
+    args: Any
+    serial: int
+    taint: int
 
     def __repr__(self):
         return show(self, 3)
 
 
-_table = {}
-_results = {}                          # what remembered() has returned
+_table: dict = {}
+_results: dict = {}                          # what remembered() has returned
 
 
 def _too_wide(args):
@@ -153,7 +159,8 @@ def add(w, *parts):
         if simple:
             return simple
     mask = (1 << w) - 1
-    constant, sums = 0, {}
+    constant = 0
+    sums: dict = {}
     for factor, t in parts:
         assert t.w == w
         c, terms = linear(t)
@@ -174,7 +181,9 @@ def add(w, *parts):
 
 def _members(terms):
     """The constant, the flags' masks and the other members of an exclusive or."""
-    constant, chosen, members = 0, {}, set()
+    constant = 0
+    chosen: dict = {}
+    members: set = set()
     for t in terms:
         for u in t.args[1] if t.op == "xor" else (t,):
             if u.op == "ite":
@@ -448,7 +457,7 @@ def difference(a, b):
 
 def depends(t, taint):
     """Inputs for which a term changes with a variable of this taint only, as text, or None."""
-    names = {}
+    names: dict = {}
     _variables(t, names, set())
     for seed in range(1, 9):
         numbers = Numbers(seed)

@@ -1,6 +1,8 @@
 """A model of the WebAssembly instructions that the compression functions use. Any other is an
 error."""
 
+from typing import Any
+
 import terms as T
 from machine import Machine, bitwise, chunks, joined, junk, lanewise, number
 from terms import CannotShow, IsWrong
@@ -47,6 +49,7 @@ class Wasm(Machine):
     """Locals, globals, and the stack of operands, each value as its bytes."""
 
     FILES = ("locals", "globals", "operands")
+    signature: Any                     # of the function, see wasm_format.Function
     RED_ZONE = 128
     FREE = ("nop", "unreachable", "end")
 
@@ -211,7 +214,8 @@ class Wasm(Machine):
         if what in ("add", "sub"):
             result = T.add(w, (1, a), (1 if what == "add" else -1, b))
         elif what in ("xor", "and", "or"):
-            result = {"xor": T.xor, "and": T.both, "or": T.either}[what](w, a, b)
+            f: Any = {"xor": T.xor, "and": T.both, "or": T.either}[what]
+            result = f(w, a, b)
         elif what in ("ne", "eq"):
             result = T.test("nonzero" if what == "ne" else "zero", 32, T.add(w, (1, a), (-1, b)))
         elif what == "lt_s":

@@ -155,7 +155,8 @@ class Module:
         count = code.number()
         if count != len(used):
             raise CannotShow("the module has %d bodies of %d functions" % (count, len(used)))
-        self.functions = [Function(*t, code.take(code.number())) for t in used]
+        self.functions = [Function(parameters, results, code.take(code.number()))
+                          for parameters, results in used]
         if sections[5].number() != 1:
             raise CannotShow("the module has not one memory")
         self.width = 64 if sections[5].byte() & 4 else 32

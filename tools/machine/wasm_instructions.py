@@ -121,7 +121,8 @@ def model(text, data):
 
 def chosen(path, rng, count):
     """Up to `count` instructions of each name, over all functions of the list."""
-    program, found = read(path), {}
+    program = read(path)
+    found: dict = {}
     for name, _, _ in functions.FILES[path]:
         for text in program.functions[functions.in_file(path, name)]:
             if text.split()[0] not in SKIPPED:
@@ -151,8 +152,8 @@ def check(path, rounds):
                "inputs": [(k, data.hex()) for k, data in inputs]}
     run = subprocess.run(["node", "-e", NODE], input=json.dumps(message), text=True,
                          stdout=subprocess.PIPE, check=True)
-    for (k, data), after in zip(inputs, json.loads(run.stdout)):
-        found = model(small[k], data)
+    for (k, before), after in zip(inputs, json.loads(run.stdout)):
+        found = model(small[k], before)
         if found.hex() != after:
             return "not ok", "%s: in the model the memory or the result differs" % small[k]
     return "ok", "%d forms, %d instructions, %d runs" % (forms, len(tests), len(inputs))

@@ -1,8 +1,10 @@
 """Shows that scrub_stack overwrites its N bytes of the stack with zeros, on x86-64 and ARM."""
 
 import re
+from typing import Any
 
 import functions
+import program as programs
 import terms as T
 from compression import STACK, Runner
 from machine import Region, junk
@@ -29,7 +31,8 @@ class Scrub:
     """A call of scrub_stack, in which memset writes its bytes, and settle changes nothing else."""
 
     def __init__(self, program, name, count):
-        self.program, self.count, self.zeros = program, count, None
+        self.program, self.count = program, count
+        self.zeros: Any = None
         # Registers that only memset may use, and of which nothing is shown: those that a build
         # without AVX-512 does not have.
         has_upper = program.path.endswith("-v4.s") or program.kind != "x86_64"
@@ -73,12 +76,13 @@ class Scrub:
         m = self.machine
         arguments, kept = CONVENTION[self.program.kind]
         to, value, length = (m.general[r] for r in arguments)
-        if "<memset@plt>" in text:
+        shown = programs.found(r"<(.*)>", text)[1]
+        if self.program.is_external(shown) and shown == "memset@plt":
             size = T.word(length)
             if size.op != "const" or value[0] != 0:
                 raise CannotShow("memset does not write a known number of zeros")
             m.store(T.word(to), [0] * size.args)
-        elif "<%s%d" % (functions.SETTLE, self.count) in text:
+        elif programs.without_version(shown) == "%s%d" % (functions.SETTLE, self.count):
             offset, items = T.linear(T.word(to))
             self.zeros = offset - (1 << 64)
             if items != {self.sp: 1} or not -GAP <= self.zeros + self.count <= 0:
@@ -96,7 +100,7 @@ class Scrub:
         for r in range(len(m.general)):
             if r not in kept:
                 m.general[r] = junk("after%d.%d" % (n, r), 8)
-        low = m.lowest() + m.RED_ZONE
+        low = m.lowest()
         m.memory = {(b, k): v for (b, k), v in m.memory.items() if k >= low}
         m.zero = None
         is_arm = self.program.kind == "aarch64"
@@ -117,5 +121,5 @@ def show(program, name, count):
     try:
         scrub.show()
     except T.Refused as e:
-        at = " ".join(scrub.runner.at.text.split())
+        at = " ".join(scrub.runner.at.text.split()) if scrub.runner.at else "the entry"
         raise type(e)("at %s: %s" % (at, e))

@@ -68,7 +68,7 @@ def operand(text, target):
     if m[3].startswith("rip"):
         if target is None:
             raise no_operand(text)
-        parts = [(1, None, target), (1, IMAGE, None)]
+        parts: list = [(1, None, target), (1, IMAGE, None)]
         return Operand("memory", size=size, parts=parts, is_broadcast=is_broadcast)
     parts = []
     for sign, piece in re.findall(r"([+-]?)([^+-]+)", m[3]):
@@ -91,12 +91,15 @@ class Instruction:
         self.name, _, rest = code.strip().partition(" ")
         self.target = None
         self.operands = []
-        if re.fullmatch(r"((data16|cs) +)*nop\b.*", code.strip()):
+        if re.fullmatch(r"((data16|cs) +)*nop\b.*|xchg +ax,ax", code.strip()):
             self.name = "nop"          # a prefix of another instruction is not modelled
             return
         rest = rest.strip()
         if self.name.startswith("j") or self.name == "call":
-            self.target = int(rest.split()[0], 16)
+            m = re.match(r"([0-9a-f]+) <", rest)
+            if not m:
+                raise CannotShow("it is not known where %s goes to" % text)
+            self.target = int(m[1], 16)
             return
         comment = comment.split()
         target = int(comment[0], 16) if comment else None
@@ -341,8 +344,6 @@ EXTENSIONS = {"pmovsxdq": (4, 8, sign_extended), "pmovzxwd": (2, 4, lambda c: c 
 
 
 class X86(Machine):
-    RED_ZONE = 128
-
     def __init__(self, regions, assumed):
         super().__init__(regions, assumed)
         self.general = [junk("r%d" % i, 8) for i in range(16)]
@@ -429,7 +430,7 @@ class X86(Machine):
         if MASK.fullmatch(name):
             self.mask_step(i)
         elif ops and ops[0].mask is not None:
-            self.masked(i)
+            self.masked_move(i)
         else:
             self.vector_step(i)
         return i.next
@@ -519,7 +520,9 @@ class X86(Machine):
     # Masks.
 
     def mask_step(self, i):
-        action, letter = MASK.fullmatch(i.name).groups()
+        m = MASK.fullmatch(i.name)
+        assert m
+        action, letter = m.groups()
         size, ops, kinds = MASK_BYTES[letter], i.operands, [o.kind for o in i.operands]
         if action == "mov" and kinds == ["mask", "general"]:
             data = self.read(ops[1])[:size]
@@ -536,7 +539,7 @@ class X86(Machine):
             raise unknown(i)
         self.masks[ops[0].index] = result + [0] * (64 - len(result))
 
-    def masked(self, i):
+    def masked_move(self, i):
         """A move or a broadcast of which a mask chooses the words. A word that it leaves out is
         not read."""
         name, (to, source, *rest) = i.name[1:], i.operands

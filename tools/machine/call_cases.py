@@ -1,0 +1,584 @@
+#!/usr/bin/env python3
+"""The cases in which whole_calls.py shows the exported functions of BLAKE2b and BLAKE2s: together
+all inputs of each. In a case, some lengths are numbers, and others variables between two bounds.
+
+    tools/machine/call_cases.py FILE FAMILY EXPORT    one function, such as
+                                dist/x86_64/vulfsjor-v3.s blake2b _final
+
+Prints each case and its number of paths, or why it is refused."""
+
+import sys
+from typing import Any
+
+import program as programs
+import call_specification as S
+import calls
+import rfc7693 as R
+import terms as T
+from calls import STACK
+from exact import MODELS, Buffer, Cells, fresh
+from following import Aligned, reset
+from machine import image
+from ranges import parts
+from terms import CannotShow, IsWrong
+from whole_calls import Calls, Terms
+
+MOST = (1 << 64) - 1
+KINDS = {"blake2b": R.BLAKE2B, "blake2s": R.BLAKE2S}
+REFUSED = (1 << 32) - 1                # -1, as a word of 32 bits
+FREE = (0, MOST)
+
+
+class Setup:
+    """A call: its arguments, its memory, and what is known of its numbers."""
+
+    def __init__(self, calls, kind, alignment):
+        self.calls, self.kind, self.alignment = calls, kind, alignment
+        self.sp, self.arguments, self.ranges = T.var(64, "sp", T.PUBLIC), [], {}
+        self.regions: dict = {image(): Cells(0, 1 << 32, calls.program.constant, False, (4096, 0))}
+        self.state_at: Any = None
+        self.out: Any = None
+        self.cells: list = []
+
+    def number(self, name, low=0, high=MOST):
+        """A variable between two numbers, or a number."""
+        if low == high:
+            return T.const(64, low)
+        t = T.var(64, name, T.PUBLIC)
+        self.ranges[t] = low, high, 1
+        return t
+
+    def pass_number(self, name, low=0, high=MOST):
+        t = self.number(name, low, high)
+        self.arguments.append(t)
+        return t
+
+    def pass_struct(self, name, data):
+        """A pointer to bytes that are only read."""
+        address = T.var(64, name + " address", T.PUBLIC)
+        self.ranges[address] = 1, 1 << 63, 1
+        self.regions[address] = Cells(0, len(data), lambda k: data[k], False)
+        self.arguments.append(address)
+
+    def pass_buffer(self, name, length, taint=T.SECRET, writable=False):
+        """A pointer to a buffer, and its length."""
+        address = T.var(64, name + " address", T.PUBLIC)
+        self.ranges[address] = 1, 1 << 63, 1
+        buffer = Buffer(name, length, taint, writable)
+        self.regions[address] = buffer
+        self.arguments += [address, length]
+        return buffer
+
+    def pass_state(self, **fields):
+        """A pointer to a state with these numbers; other fields have any values."""
+        kind, limits = self.kind, dict.fromkeys(S.State.FIELDS[2:7], FREE)
+        limits.update(fields)
+        secret = lambda name, n: [(T.var(8, "%s.%d" % (name, k), T.SECRET), 0) for k in range(n)]
+        words = lambda name: [b for k in range(8) for b in T.split(
+            T.var(kind.w, "%s.%d" % (name, k), T.SECRET))]
+        numbers = [self.number(name, *limits[name]) for name in S.State.FIELDS[2:7]]
+        self.state = S.State(words("chain"), words("first"), *numbers,
+                             secret("pending", kind.block), secret("start", kind.block))
+        self.cells = self.bytes_of(self.state)
+        self.state_at = T.var(64, "state address", T.PUBLIC)
+        self.ranges[self.state_at] = 1, 1 << 63, 1
+        self.regions[self.state_at] = Cells(0, len(self.cells), lambda k: self.cells[k])
+        self.arguments.append(self.state_at)
+        return self.state
+
+    @staticmethod
+    def bytes_of(state):
+        """The bytes of a state in memory."""
+        found = []
+        for name in S.State.FIELDS:
+            value = getattr(state, name)
+            found += value if isinstance(value, list) else T.split(
+                T.const(64, value) if isinstance(value, int) else value)
+        return found
+
+    def bound(self, numbers, low, high):
+        """Lets a sum be between two numbers. Returns whether that may be."""
+        constant, total = 0, []
+        for t in numbers:
+            sign, t = t if isinstance(t, tuple) else (1, t)
+            c, items = (t, {}) if isinstance(t, int) else T.linear(t)
+            constant += sign * c
+            total += [(sign * k, u) for u, k in items.items()]
+        rest = T.add(total[0][1].w, *total) if total else T.const(64, 0)
+        if rest.op == "const":
+            return low <= constant <= high
+        _, sign, rest = parts(rest)
+        if sign < 0:
+            low, high, constant = -high, -low, -constant
+        old = self.ranges.get(rest, (low - constant, high - constant, 1))
+        found = max(old[0], low - constant), min(old[1], high - constant)
+        self.ranges[rest] = found + (1,)
+        return found[0] <= found[1]
+
+    def run(self, name, expected):
+        """Executes the call, and compares each of its ends."""
+        program = self.calls.program
+        model: Any = MODELS[program.kind]
+        back = T.var(64, "return address", T.PUBLIC)
+        above = [back] if program.kind == "x86_64" else []
+        above = [b for t in above + self.arguments[len(model.ARGUMENTS):] for b in T.split(t)]
+        self.regions[self.sp] = Cells(-STACK, len(above), lambda k: above[k] if k >= 0 else fresh(
+            "stack", T.JUNK)[0], True, self.alignment)
+        m = model(self.regions, {})
+        m.begin(self.alignment, self.ranges, self.kind.block)
+        m.start(self.sp, back, self.arguments)
+        ends = self.calls.run(name, m)
+        if not ends:
+            raise CannotShow("no path of the call is possible")
+        for end in ends:
+            self.compare(end, expected(Terms(self.calls, end)))
+        return len(ends)
+
+    def compare(self, m, expected):
+        """What a call has left, and what it should."""
+        result, state, out = expected
+        if callable(result):
+            result = result(m)
+        if result is not None:
+            size = 8 if isinstance(result, T.Term) else 4
+            wanted = T.split(T.const(32, result) if isinstance(result, int) else result)
+            self.need("the result", m, m.answer()[:size], wanted)
+        if self.state_at is not None:
+            found = [m.memory.get((self.state_at, k), b) for k, b in enumerate(self.cells)]
+            self.need("the state", m, found, self.bytes_of(state))
+        written = {at for base, at in m.memory if base is self.out}
+        if self.out is not None:
+            old = self.regions[self.out]
+            n = max(written | {len(out) - 1}) + 1
+            self.need("the output", m, [m.memory.get((self.out, k), old(k)) for k in range(n)],
+                      list(out) + [old(k) for k in range(len(out), n)])
+
+    def need(self, what, m, found, wanted):
+        """Refuses other bytes than are wanted."""
+        single = {t: T.const(t.w, low) for t, (low, high, _) in m.ranges.items()
+                  if low == high and t.op == "var"}
+        memo: dict = {}
+        settle = lambda b: b if isinstance(b, int) else T.split(T.substitute(
+            b[0], single, memo))[b[1]]
+        for k, (x, y) in enumerate(zip(found, wanted)):
+            if x != y and settle(x) != settle(y):
+                raise IsWrong("byte %d of %s is %s, not %s" % (k, what, shown(x), shown(y)))
+
+
+def shown(b):
+    return T.show(b, 4)
+
+
+def some(family):
+    """Numbers of pending bytes and sizes of tags that a short test takes: those at the ends."""
+    kind = KINDS[family]
+    return (0, 1, kind.block - 1, kind.block), (1, 8, kind.w - 1, kind.w)
+
+
+class Cases:
+    """The cases of the functions of a family in a file. Each yields a title and a function that
+    fills a Setup and returns what is expected."""
+
+    def __init__(self, program, family, pending=None, sizes=None):
+        """With only some numbers of pending bytes before an update, and some sizes of tags, if
+        these are given."""
+        self.calls, self.kind = Calls(program), KINDS[family]
+        self.prefix = "vulfsjor_ffi_" + family
+        self.pending = range(self.kind.block + 1) if pending is None else pending
+        self.sizes = range(1, self.kind.w + 1) if sizes is None else sizes
+
+    def show(self, export):
+        """Shows all cases of an exported function. Returns how many there are, and the paths."""
+        cases = paths = 0
+        for case in getattr(self, export.lstrip("_") or "one_shot")():
+            cases += 1
+            paths += self.show_case(self.prefix + export, case)
+        return cases, paths
+
+    def show_case(self, name, case):
+        """A case, at each alignment of the stack that makes a difference."""
+        size, rest = 16, 8 if self.calls.program.kind == "x86_64" else 0
+        waiting, paths = [(size, rest)], 0
+        while waiting:
+            reset()
+            self.calls.forget()
+            at = waiting.pop()
+            setup = Setup(self.calls, self.kind, at)
+            try:
+                expected = case(setup)
+                if expected is not None:
+                    paths += setup.run(name, expected)
+            except Aligned as e:
+                waiting += [(e.need, k) for k in range(at[1], e.need, at[0])]
+            except T.Refused as e:
+                where = " ".join(self.calls.at.text.split()) if self.calls.at else "the entry"
+                raise type(e)("%s, case %s: at %s: %s" % (name, case.__doc__ or "ready", where, e))
+        return paths
+
+    # States.
+
+    def ready(self, **fields):
+        """The fields of a state that is ready."""
+        kind = self.kind
+        return {"output_size": (1, kind.w), "pending_length": (0, kind.block),
+                "start_length": (0, kind.block), **fields}
+
+    def add_ready(self, setup, **fields):
+        """A state that is ready, as an argument."""
+        s = setup.pass_state(**self.ready(**fields))
+        hold(setup, S.is_ready(self.kind, s))
+        return s
+
+    def unready(self, rest, result=REFUSED):
+        """The cases of a state that is not ready: each condition fails in one, below or above."""
+        for k in range(len(S.is_ready(self.kind, S.zeros(self.kind)))):
+            for side in (0, 1):
+                def case(setup):
+                    s = setup.pass_state()
+                    rest(setup)
+                    if not fail(setup, S.is_ready(self.kind, s)[k], side):
+                        return None
+                    return lambda a: (result, s, [])
+                case.__doc__ = "not ready: condition %d, side %d" % (k, side)
+                yield case
+
+    # Messages.
+
+    def message(self, setup, n):
+        return setup.pass_buffer("message", n)
+
+    def amounts(self, pending):
+        """The lengths of a message, by those that `pending` bytes leave: few, or fill + k blocks
+        + t. Each is a function of a setup that returns the length and the update."""
+        kind, block = self.kind, self.kind.block
+
+        def few(setup):
+            n = setup.number("n", 0, block - pending)
+            return n, lambda a, s, data: S.update_few(a, kind, s, data, n)
+
+        def many(setup, k):
+            fill = block - pending if pending else 0
+            k, t = k(setup), setup.number("t", 1, block)
+            n = T.add(64, (1, T.const(64, fill)), (block, k), (1, t))
+            blocks = k.args if k.op == "const" else k
+            setup.bound((n,), 0, MOST)
+            return n, lambda a, s, data: S.update_many(a, kind, s, data, blocks, t)
+        found = [few, lambda setup: many(setup, lambda s: s.number("K", 1, MOST // block))]
+        if pending:
+            found.append(lambda setup: many(setup, lambda s: T.const(64, 0)))
+        return found
+
+    def update(self):
+        kind = self.kind
+        for pending in self.pending:
+            for amount in self.amounts(pending):
+                for node in ((0, 0), (1, MOST)):
+                    def case(setup):
+                        s = self.add_ready(setup, pending_length=(pending, pending), last_node=node)
+                        s = s.but(pending_length=pending)
+                        n, absorb = amount(setup)
+                        data = self.message(setup, n)
+                        hold(setup, S.is_counted(s.counter, pending, n))
+                        return lambda a: (0, absorb(a, s, data), [])
+                    case.__doc__ = "%d pending, last node %d" % (pending, node[0])
+                    yield case
+
+        def refused(setup):
+            """the count reaches 2^64"""
+            s = self.add_ready(setup)
+            n = setup.number("n")
+            self.message(setup, n)
+            fail(setup, S.is_counted(s.counter, s.pending_length, n)[0], 1)
+            return lambda a: (REFUSED, s, [])
+        yield refused
+        yield from self.unready(lambda setup: self.message(setup, setup.number("n")))
+
+    def out(self, setup, room):
+        """The output, of which no byte beyond the longest digest may be written."""
+        buffer = setup.pass_buffer("out", room, writable=True)
+        setup.out = setup.arguments[-2]
+        return buffer
+
+    def final(self):
+        kind = self.kind
+        for node in ((0, 0), (1, MOST)):
+            def case(setup):
+                """ready"""
+                s = self.add_ready(setup, last_node=node)
+                room = setup.number("room")
+                out = self.out(setup, room)
+                hold(setup, S.fits(s.output_size, room))
+
+                def expected(a):
+                    found, state = S.final(a, kind, s, out)
+                    return 0, state, found
+                return expected
+            yield case
+
+        def refused(setup):
+            """no room"""
+            s = self.add_ready(setup)
+            room = setup.number("room")
+            self.out(setup, room)
+            fail(setup, S.fits(s.output_size, room)[0], 0)
+            return lambda a: (REFUSED, s, [])
+        yield refused
+        yield from self.unready(lambda setup: self.out(setup, setup.number("room")))
+
+    def verify(self):
+        kind = self.kind
+        for size in self.sizes:
+            for node in ((0, 0), (1, MOST)):
+                def case(setup):
+                    s = self.add_ready(setup, output_size=(size, size), last_node=node)
+                    s = s.but(output_size=size)
+                    tag = setup.pass_buffer("tag", T.const(64, size))
+
+                    def expected(a):
+                        byte = S.verify(a, kind, s, tag)
+
+                        def result(m):
+                            if m.compared_bytes is None or m.compared_bytes[0] != byte:
+                                raise IsWrong("the comparison is %s" % (m.compared_bytes,))
+                            return 0 if m.compared_bytes[1] else REFUSED
+                        return result, S.zeros(kind), []
+                    return expected
+                case.__doc__ = "%d bytes, last node %d" % (size, node[0])
+                yield case
+        for side in (0, 1):
+            for node in ((0, 0), (1, MOST)):
+                def other(setup):
+                    """a tag of another length"""
+                    s = self.add_ready(setup, last_node=node)
+                    n = setup.number("n")
+                    setup.pass_buffer("tag", n)
+                    low, high = ((1, MOST), (-MOST, -1))[side]
+                    setup.bound((n, (-1, s.output_size)), low, high)
+                    return lambda a: (REFUSED, S.zeros(kind), [])
+                yield other
+        yield from self.unready(lambda setup: setup.pass_buffer("tag", setup.number("n")))
+
+    # Inits and the call in one.
+
+    def made(self, read):
+        """The cases of an init: with and without a key, and refused. `read` adds its arguments, and
+        returns what the specification needs, and the conditions of its own."""
+        kind = self.kind
+        for has_key in (False, True):
+            def accepted(setup):
+                setup.pass_state()
+                given, conditions = read(setup, (1, kind.w) if has_key else (0, 0))
+                hold(setup, conditions)
+                return lambda a: (0, S.init_tree(a, kind, *given), [])
+            accepted.__doc__ = "accepted, key %s" % has_key
+            yield accepted
+        yield from self.refused(lambda setup: (setup.pass_state(), read(setup, FREE)[1])[1])
+
+    def refused(self, read):
+        """The cases in which a condition fails. The state is then zero."""
+        kind = self.kind
+        for k in range(8):
+            for side in (0, 1):
+                def case(setup):
+                    conditions = read(setup)
+                    if k >= len(conditions) or not fail(setup, conditions[k], side):
+                        return None
+                    return lambda a: (REFUSED, S.zeros(kind), [])
+                case.__doc__ = "refused: condition %d, side %d" % (k, side)
+                yield case
+
+    def lengths(self, setup, key, others=True):
+        """The arguments of an init, but for the state: what the specification needs."""
+        kind, n = self.kind, self.kind.w // 4
+        size = setup.pass_number("output_size")
+        keyed = setup.number("key_size", *key)
+        given = [size, setup.pass_buffer("key", keyed), keyed]
+        for name in ("salt", "persona"):
+            length = setup.number(name + "_size") if others else 0
+            given += [setup.pass_buffer(name, length) if others else S.nothing, length]
+        return given, S.admits(kind, size, keyed, given[4], given[6])
+
+    def init_key(self):
+        kind = self.kind
+
+        def read(setup, key):
+            given, conditions = self.lengths(setup, key, False)
+            return given, conditions + [((given[2],), 1, MOST)]
+
+        def accepted(setup):
+            setup.pass_state()
+            given, conditions = read(setup, (1, kind.w))
+            hold(setup, conditions)
+            return lambda a: (0, S.init_tree(a, kind, *given), [])
+        yield accepted
+        yield from self.refused(lambda setup: (setup.pass_state(), read(setup, FREE)[1])[1])
+
+    def init_salt_personal(self):
+        yield from self.made(self.lengths)
+
+    def init_tree(self):
+        """Tree parameters are numbers of the arguments, or those of a struct."""
+        kind = self.kind
+        is_struct = calls.EXPORTS["_init_tree"][-1] != calls.NUMBER
+
+        def read(setup, key):
+            given, conditions = self.lengths(setup, key)
+            tree = {name: T.var(8 * size, name, T.PUBLIC) for name, size in S.TREE_FIELDS}
+            setup.ranges.update({t: (0, (1 << t.w) - 1, 1) for t in tree.values()})
+            if is_struct:
+                setup.pass_struct("tree", [b for t in tree.values() for b in T.split(t)])
+            for name in () if is_struct else S.TREE:
+                setup.arguments.append(wide(tree[name]))
+            conditions = conditions + S.admits_tree(kind, *[tree[name] for name in (
+                "depth", "node_offset", "inner_length")])
+            return given + [[T.word(T.split(tree[name]) + [0] * (8 - tree[name].w // 8))
+                             for name in S.TREE]], conditions
+        yield from self.made(read)
+
+    def init_param(self):
+        kind, n = self.kind, self.kind.w
+
+        def read(setup, length):
+            setup.pass_state()
+            block = setup.pass_buffer("block", length, T.PUBLIC)
+            first, second = (block.initial(k)[0] for k in (0, 1))
+            setup.ranges.update({t: (0, 255, 1) for t in (first, second)})
+            return block, [((first,), 1, n), ((second,), 0, n)]
+
+        def accepted(setup):
+            block, conditions = read(setup, T.const(64, n))
+            hold(setup, conditions)
+            return lambda a: (0, S.init_param(a, kind, [block(k) for k in range(n)]), [])
+        yield accepted
+        yield from self.refused(lambda setup: read(setup, T.const(64, n))[1])
+        for low_, high in ((0, n - 1), (n + 1, MOST)):
+            def other(setup):
+                """another length"""
+                read(setup, setup.number("length", low_, high))
+                return lambda a: (REFUSED, S.zeros(kind), [])
+            yield other
+
+    def one_shot(self):
+        kind, block = self.kind, self.kind.block
+
+        def arguments(setup, n, key):
+            size = setup.number("output_size")
+            out = self.out(setup, size)
+            data = self.message(setup, n)
+            keyed = setup.number("key_size", *key)
+            key = setup.pass_buffer("key", keyed)
+            conditions = S.admits(kind, size, keyed, 0, 0)[:2]
+            return size, out, data, key, keyed, conditions
+        for has_key in (False, True):
+            pending = block if has_key else 0
+            for amount in self.amounts(pending):
+                def accepted(setup):
+                    n, absorb = amount(setup)
+                    size, out, data, key, keyed, conditions = arguments(
+                        setup, n, (1, kind.w) if has_key else (0, 0))
+                    hold(setup, conditions + S.is_counted(pending, n))
+                    return lambda a: (0, None, S.one_shot(
+                        a, kind, size, key, keyed, lambda s: absorb(a, s, data), out))
+                accepted.__doc__ = "accepted, key %s" % has_key
+                yield accepted
+        for k in range(3):
+            for side in (0, 1):
+                def refused(setup):
+                    n = setup.number("n")
+                    _, _, _, _, keyed, conditions = arguments(setup, n, (1, MOST) if k == 2 else FREE)
+                    conditions = conditions + S.is_counted(block, n)
+                    if not fail(setup, conditions[k], side):
+                        return None
+                    return lambda a: (REFUSED, None, [])
+                refused.__doc__ = "refused: condition %d, side %d" % (k, side)
+                yield refused
+
+    # The rest.
+
+    def reset(self):
+        def case(setup):
+            s = self.add_ready(setup)
+            return lambda a: (0, S.reset(s), [])
+        yield case
+        yield from self.unready(lambda setup: None)
+
+    def set_last_node(self):
+        for low_, high in ((0, 0), (1, (1 << 32) - 1)):
+            def case(setup):
+                s = self.add_ready(setup)
+                on = T.var(32, "on", T.PUBLIC) if high else T.const(32, 0)
+                setup.ranges.update({on: (low_, high, 1)} if high else {})
+                setup.arguments.append(wide(on))
+                return lambda a: (0, S.set_last_node(s, high > 0), [])
+            yield case
+        yield from self.unready(lambda setup: setup.pass_number("on"))
+
+    def wipe(self):
+        def case(setup):
+            setup.pass_state()
+            return lambda a: (None, S.zeros(self.kind), [])
+        yield case
+
+    def digest_size(self):
+        def case(setup):
+            s = self.add_ready(setup)
+            return lambda a: (s.output_size, s, [])
+        yield case
+        yield from self.unready(lambda setup: None, T.const(64, 0))
+
+    def count(self):
+        for low_, high in ((0, MOST), (-MOST, -1)):
+            def case(setup):
+                s = self.add_ready(setup)
+                setup.bound((s.counter, s.pending_length, (-1, s.start_length)), low_, high)
+                return lambda a: (a.word(S.count(a, s)), s, [])
+            yield case
+        yield from self.unready(lambda setup: None, T.const(64, 0))
+
+    def state_size(self):
+        def case(setup):
+            return lambda a: (T.const(64, len(Setup.bytes_of(S.zeros(self.kind)))), None, [])
+        yield case
+
+
+def wide(t):
+    """A number as an argument: of up to 32 bits, with undefined data above these."""
+    data = T.split(t) + [0] * (4 - t.w // 8)
+    return T.word(data + (fresh("above", T.JUNK, 4) if t.w <= 32 else []))
+
+
+def fail(setup, condition, side):
+    """Lets a condition fail, by a number below its bounds or above. Returns whether that may be."""
+    numbers, low, high = condition
+    negative = any(isinstance(t, tuple) for t in numbers)
+    if side == 0:
+        return (low > 0 or negative) and setup.bound(numbers, -MOST if negative else 0, low - 1)
+    most = len(numbers) * MOST
+    return high < most and setup.bound(numbers, high + 1, most)
+
+
+def hold(setup, conditions):
+    """Lets all of some conditions hold."""
+    if not all([setup.bound(*condition) for condition in conditions]):
+        raise CannotShow("no call is accepted in this case")
+
+
+def main(arguments):
+    if len(arguments) != 3 or arguments[1] not in KINDS:
+        print(__doc__, file=sys.stderr)
+        return 2
+    path, family, export = arguments
+    cases = Cases(programs.read(path), family)
+    for case in getattr(cases, export.lstrip("_") or "one_shot")():
+        try:
+            paths = cases.show_case(cases.prefix + export, case)
+        except T.Refused as e:
+            print("%s: %s" % (T.kind_of(e), e))
+            return 1
+        if paths:
+            print("%s: %d paths" % (case.__doc__ or "ready", paths))
+    return 0
+
+
+if __name__ == "__main__":
+    sys.exit(main(sys.argv[1:]))

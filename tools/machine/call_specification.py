@@ -1,0 +1,185 @@
+"""What the exported functions of BLAKE2b and BLAKE2s write and return, from the contracts in
+crates/blake2_ffi and from RFC 7693. In this file a reviewer reads what whole_calls.py shows.
+
+Each function below is that of the export of its name. A state is the struct of vulfsjor.h, with the
+names of its fields. `a` has the operations on bytes: over numbers, and over terms. With numbers,
+check_specification.py compares the digests with hashlib's. With terms, whole_calls.py compares all
+bytes that the machine code writes.
+
+A byte string is a list of bytes; one of a length that is no number has as many bytes as it may have
+at most. Words are lists of bytes too, the lowest first (2.4). `a.below(j, n, x, y)` is the byte x if
+j < n, and otherwise y."""
+
+
+class State:
+    """A state. The fields from `counter` to `last_node` are numbers, the others lists of bytes."""
+
+    FIELDS = ("chain", "first", "counter", "pending_length", "start_length", "output_size",
+              "last_node", "pending", "start_block")
+
+    def __init__(self, *values, **changes):
+        for name, value in zip(self.FIELDS, values):
+            setattr(self, name, value)
+        self.__dict__.update(changes)
+
+    def but(self, **changes):
+        """The state with other values of some fields."""
+        return State(**{**self.__dict__, **changes})
+
+
+def zeros(kind):
+    """The wiped state, which is not ready."""
+    words, block = [0] * 8 * kind.bytes, [0] * kind.block
+    return State(words, words, 0, 0, 0, 0, 0, block, block)
+
+
+# When a call is accepted. Each condition is (numbers, the least value of their sum, the greatest);
+# a call is accepted if all hold. A count is refused from 2^64 on.
+
+MOST_COUNTED = 2 ** 64 - 1
+
+
+def is_ready(kind, s):
+    """A state returns digests if these hold."""
+    return [((s.output_size,), 1, kind.w), ((s.pending_length,), 0, kind.block),
+            ((s.start_length,), 0, kind.block), ((s.counter, s.pending_length), 0, MOST_COUNTED)]
+
+
+def admits(kind, output_size, key_size, salt_size, persona_size):
+    """The lengths that RFC 7693, 2.1, and the BLAKE2 document, 2.8, allow."""
+    return [((output_size,), 1, kind.w), ((key_size,), 0, kind.w),
+            ((salt_size,), 0, kind.w // 4), ((persona_size,), 0, kind.w // 4)]
+
+
+def admits_tree(kind, depth, node_offset, inner_length):
+    most = 2 ** 64 - 1 if kind.w == 64 else 2 ** 48 - 1
+    return [((depth,), 1, 255), ((node_offset,), 0, most), ((inner_length,), 0, kind.w)]
+
+
+def fits(n, room):
+    """n bytes fit into `room` bytes: room - n is not negative."""
+    return [((room, (-1, n)), 0, MOST_COUNTED)]
+
+
+def is_counted(*numbers):
+    return [(numbers, 0, MOST_COUNTED)]
+
+
+# The states that the inits make.
+
+def parameter_block(a, kind, output_size, key_size, tree, salt, persona):
+    """The BLAKE2 document, 2.8. Salt and persona are padded with zeros."""
+    fanout, depth, leaf_length, node_offset, node_depth, inner_length = tree
+    big = kind.w == 64
+    return (a.number(output_size, 1) + a.number(key_size, 1) + a.number(fanout, 1) +
+            a.number(depth, 1) + a.number(leaf_length, 4) + a.number(node_offset, 8 if big else 6) +
+            a.number(node_depth, 1) + a.number(inner_length, 1) + [0] * (14 if big else 0) +
+            salt + persona)
+
+
+TREE = ("fanout", "depth", "leaf_length", "node_offset", "node_depth", "inner_length")
+# The struct of tree parameters, with the bytes of each field.
+TREE_FIELDS = (("node_offset", 8), ("leaf_length", 4), ("fanout", 1), ("depth", 1),
+               ("node_depth", 1), ("inner_length", 1))
+SEQUENTIAL = (1, 1, 0, 0, 0, 0)
+
+
+def padded(a, data, n, size):
+    """n bytes of data, and zeros up to a size."""
+    return [a.below(j, n, data(j), 0) for j in range(size)]
+
+
+def nothing(_):
+    """A salt, a persona or a key of no bytes."""
+    return 0
+
+
+def from_block(a, kind, block, output_size):
+    """The state of a parameter block: the initialization vector xor the block (2.5)."""
+    first = a.xor(b"".join(n.to_bytes(kind.bytes, "little") for n in kind.iv), block)
+    return zeros(kind).but(chain=first, first=first, output_size=output_size)
+
+
+def init_tree(a, kind, output_size, key, key_size, salt, salt_size, persona, persona_size,
+              tree=SEQUENTIAL):
+    """Under a key, a block of it is pending (2.9, 3.3)."""
+    n = kind.w // 4
+    block = parameter_block(a, kind, output_size, key_size, tree, padded(a, salt, salt_size, n),
+                            padded(a, persona, persona_size, n))
+    s = from_block(a, kind, block, output_size)
+    if a.is_zero(key_size):
+        return s
+    pending = padded(a, key, key_size, kind.block)
+    return s.but(pending_length=kind.block, start_length=kind.block, pending=pending,
+                 start_block=pending)
+
+
+def init_param(a, kind, block):
+    """The parameter block is given, and so is the key's block, as the first input."""
+    return from_block(a, kind, block, a.from_bytes(block[:1]))
+
+
+# Messages.
+
+def update_few(a, kind, s, data, n):
+    """n bytes that the pending block has room for: pending_length + n <= block."""
+    at = s.pending_length
+    pending = s.pending[:at] + [a.below(j, n, data(j), s.pending[at + j])
+                                for j in range(kind.block - at)]
+    return s.but(pending=pending, pending_length=a.plus(at, n))
+
+
+def update_many(a, kind, s, data, k, t):
+    """More bytes: fill + k blocks + t, where 1 <= t <= block and `fill` bytes fill the pending
+    block, or none if nothing is pending, when 1 <= k. The last block stays pending (3.3)."""
+    fill = kind.block - s.pending_length if s.pending_length else 0
+    chain, count = s.chain, s.counter
+    if s.pending_length:
+        count = a.plus(count, kind.block)
+        block = s.pending[:s.pending_length] + [data(j) for j in range(fill)]
+        chain = a.compress(kind, chain, block, count, 0, 0)
+    chain = a.compress_all(kind, chain, data, fill, k, count)
+    rest = a.plus(fill, a.times(kind.block, k))
+    pending = [a.below(j, t, data(a.plus(rest, j)), 0) for j in range(kind.block)]
+    return s.but(chain=chain, counter=a.plus(count, a.times(kind.block, k)), pending=pending,
+                 pending_length=t)
+
+
+def digest(a, kind, s):
+    """The longest digest: the last block, padded with zeros, with the flag f0, and f1 if the node
+    is the last one (3.3; the BLAKE2 document, 2.10)."""
+    block = [a.below(j, s.pending_length, b, 0) for j, b in enumerate(s.pending)]
+    count = a.plus(s.counter, s.pending_length)
+    return a.compress(kind, s.chain, block, count, 1, a.is_on(s.last_node))
+
+
+def final(a, kind, s, out):
+    """The output after a call, and the state: the digest, and what was behind it."""
+    whole = digest(a, kind, s)
+    return [a.below(j, s.output_size, b, out(j)) for j, b in enumerate(whole)], zeros(kind)
+
+
+def one_shot(a, kind, output_size, key, key_size, absorb, out):
+    """All of it, where `absorb` is one of both updates."""
+    s = init_tree(a, kind, output_size, key, key_size, nothing, 0, nothing, 0)
+    return final(a, kind, absorb(s), out)[0]
+
+
+def verify(a, kind, s, tag):
+    """The tag is the digest if this byte is 1, and not if it is 0. It has output_size bytes; a tag
+    of another length is not the digest. The state is then wiped."""
+    size = s.output_size
+    return a.are_equal([tag(j) for j in range(size)], digest(a, kind, s)[:size])
+
+
+def reset(s):
+    return s.but(chain=s.first, counter=0, pending_length=s.start_length, pending=s.start_block)
+
+
+def set_last_node(s, on):
+    return s.but(last_node=int(on))
+
+
+def count(a, s):
+    """What was absorbed since the start, without the key's block, and at least 0."""
+    return a.difference(a.plus(s.counter, s.pending_length), s.start_length)

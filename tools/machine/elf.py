@@ -1,0 +1,47 @@
+"""Reads the sections and the symbols of an ELF file of 64 bits."""
+
+import struct
+
+PROGBITS, SYMBOLS, RELOCATIONS, NOBITS = 1, 2, 4, 8        # types of sections
+WRITABLE, ALLOCATED, EXECUTABLE = 1, 2, 4                  # flags of sections
+FUNCTION = 2                                               # a type of symbols
+LOCAL, GLOBAL = 0, 1                                       # bindings of symbols
+UNDEFINED = 0                                              # a number of no section
+
+
+class Section:
+    """The header of a section, and its bytes."""
+
+    def __init__(self, name, header, data):
+        self.name, (_, self.type, self.flags, self.address, at, self.size) = name, header
+        self.data = b"" if self.type == NOBITS else data[at:at + self.size]
+
+
+class Symbol:
+    """A symbol: its type, its binding, and the number of its section."""
+
+    def __init__(self, name, info, section):
+        self.name, self.type, self.binding, self.section = name, info & 15, info >> 4, section
+
+
+class Elf:
+    """The sections of a file, and its symbols."""
+
+    def __init__(self, data):
+        table, = struct.unpack_from("<Q", data, 40)
+        size, count, names = struct.unpack_from("<HHH", data, 58)
+        headers = [struct.unpack_from("<IIQQQQI", data, table + k * size) for k in range(count)]
+        self.sections = [Section(text_at(data, headers[names][4] + h[0]), h[:6], data)
+                         for h in headers]
+        self.symbols = []
+        for section, header in zip(self.sections, headers):
+            if section.type == SYMBOLS:
+                strings = self.sections[header[6]].data
+                for at in range(0, section.size, 24):
+                    name, info, _, of = struct.unpack_from("<IBBH", section.data, at)
+                    self.symbols.append(Symbol(text_at(strings, name), info, of))
+
+
+def text_at(data, at):
+    """The text that begins at a place and ends with a zero."""
+    return data[at:data.index(b"\0", at)].decode()

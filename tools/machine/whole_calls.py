@@ -1,0 +1,356 @@
+"""Shows that whole calls of BLAKE2b and BLAKE2s write and return what call_specification.py says, for
+all inputs, and nothing else. F is a function of which nothing is known here, because compression.py
+shows what it computes. docs/MACHINE.md says what is shown."""
+
+from typing import Any
+
+import calls
+import functions
+import program as programs
+import terms as T
+from calls import OF_C, STACK
+from exact import MODELS, Buffer, Cells, Undecided, any_of, base_of, below, fresh, is_zero
+from following import Aligned, reset
+from machine import bitwise, chunks, image, need_public
+from terms import CannotShow, IsWrong
+
+PATHS, LIMIT = 200, 200000             # of a call: paths at a time, and instructions
+INSTRUCTIONS = {kind: module.Instruction for kind, module in calls.MODELS.items()}
+
+
+class Terms:
+    """The operations of call_specification.py over terms, by what a path of a call knows."""
+
+    def __init__(self, calls, machine):
+        self.calls, self.machine = calls, machine
+
+    def word(self, n):
+        return T.const(64, n) if isinstance(n, int) else self.machine.settled(n)
+
+    def number(self, n, size):
+        data = self.machine.bytes_of(self.word(n))
+        if any(data[size:]):
+            raise CannotShow("%r may have more than %d bytes" % (n, size))
+        return data[:size]
+
+    def from_bytes(self, data):
+        return T.word(data + [0] * (8 - len(data)))
+
+    def below(self, j, n, x, y):
+        if isinstance(n, int):
+            return x if j < n else y
+        return below(self.machine, j, self.word(n), x, y)
+
+    def plus(self, a, b):
+        return a + b if isinstance(a, int) and isinstance(b, int) else T.add(
+            64, (1, self.word(a)), (1, self.word(b)))
+
+    def times(self, m, k):
+        return m * k if isinstance(k, int) else T.add(64, (m, k))
+
+    def difference(self, a, b):
+        a, b = self.word(a), self.word(b)
+        is_less = self.machine.decided("<", a, b)
+        if is_less is None:
+            raise CannotShow("whether %r < %r is not known" % (a, b))
+        return 0 if is_less else T.add(64, (1, a), (-1, b))
+
+    def xor(self, data, other):
+        return bitwise(T.xor, list(data), list(other))
+
+    def is_zero(self, n):
+        if isinstance(n, int):
+            return n == 0
+        low, high = self.machine.unsigned(n)
+        if low == 0 < high:
+            raise CannotShow("whether %r is 0 is not known" % n)
+        return high == 0
+
+    def is_on(self, n):
+        return int(not self.is_zero(n))
+
+    def are_equal(self, x, y):
+        byte = 0
+        for p, q in zip(x, y):
+            byte = any_of(byte, self.xor([p], [q])[0])
+        return is_zero(T.word([byte]))
+
+    def compress(self, kind, chain, block, count, last, node):
+        return self.calls.result("F", kind, tuple(chain), tuple(block), self.word(count), last, node)
+
+    def compress_all(self, kind, chain, data, start, k, count):
+        if k == 0:
+            return chain
+        return self.calls.result("blocks", kind, tuple(chain), data.name, self.word(start),
+                                 self.word(k), self.word(count))
+
+
+class Loop:
+    """A loop that compresses one block in each iteration, by induction over its iterations. The
+    first iteration proposes which words grow by a constant and where the chaining words are. A
+    general iteration, after which j more follow, must agree."""
+
+    def __init__(self, calls, name, head, last, machine):
+        self.calls, self.name, self.head, self.last, self.start = calls, name, head, last, machine
+
+    def iterate(self, machine):
+        """The machine after an iteration, the word that is 0 if it is the last one, and the call of
+        the compression in it."""
+        calls = self.calls
+        calls.compressed = []
+        ends = calls.run(self.name, machine, self.head, self.last)
+        if len(ends) != 1 or len(calls.compressed) != 1:
+            raise CannotShow("an iteration has %d paths and %d compressions" % (
+                len(ends), len(calls.compressed)))
+        relation, a, b = ends[0].condition(calls.code(self.name)[0][self.last])
+        if relation != "!=":
+            raise CannotShow("the loop goes on if a word is %s another" % relation)
+        return ends[0], T.add(a.w, (1, a), (-1, b)), calls.compressed[0]
+
+    def show(self):
+        """The machine after the loop."""
+        second, left, one = self.iterate(self.start.copy())
+        self.count = T.add(64, (1, left), (1, T.const(64, 1)))
+        self.propose(self.start.cells(), second.cells(), one)
+        kind, size = one["kind"], one["kind"].block
+        low, high, _ = self.start.range_of(self.count)
+        if not 0 < low <= high * size < 1 << 64:
+            raise CannotShow("the number of blocks is not known: %r" % self.count)
+        j = self.start.new(64, "", (0, high - 1, 1))
+        i = T.add(64, (1, left), (-1, j))
+        chain = fresh("chain", T.SECRET, len(one["result"]))
+        general = self.machine(i, chain)
+        if not general.limit(T.add(64, (size, self.count), (-size, j)), size, size * high):
+            raise CannotShow("no iteration is possible")
+        after, end, call = self.iterate(general)
+        if end is not j:
+            raise IsWrong("the loop ends if %r is 0, instead of %r" % (end, j))
+        self.check(after.cells(), i, call)
+        buffer, start, counter = one["region"], one["offset"], one["counter"]
+        for what, found, wanted in (
+                ("chaining words", call["chain"], chain), ("buffer", call["region"], buffer),
+                ("block", call["offset"], T.add(64, (1, start), (size, i))),
+                ("counter", call["counter"], T.add(64, (1, counter), (size, i))),
+                ("flags", call["flags"], [0, 0])):
+            if found != wanted:
+                raise IsWrong("the %s of a block in a loop: %r instead of %r" % (
+                    what, found, wanted))
+        if [call["region"].initial(T.add(64, (1, call["offset"]), (1, T.const(64, k))))
+                for k in range(size)] != call["block"]:
+            raise CannotShow("a block in a loop is not that of its argument")
+        before = T.add(64, (1, counter), (-1, T.const(64, size)))
+        words = Terms(self.calls, self.start).compress_all(
+            kind, one["chain"], buffer, start, self.count, before)
+        return self.machine(self.count, words)
+
+    def propose(self, first, second, call):
+        """The words that grow, the bytes of the chaining words, and the rest of what changes."""
+        places = {b: k for k, b in enumerate(call["result"])}
+        self.grows, self.chain, self.rest = {}, {}, set()
+        changed = {c for c in set(first) | set(second) if self.at(first, c) != self.at(second, c)}
+        self.chain = {c: places[self.at(second, c)] for c in changed
+                      if self.at(second, c) in places}
+        words = {(kind, at, k - k % 8) for kind, at, k in changed - set(self.chain)}
+        for kind, at, start in words:
+            group = tuple((kind, at, start + k) for k in range(8))
+            if kind != "vector":
+                a, z = (T.word([self.at(cells, p) for p in group]) for cells in (first, second))
+                step = T.add(64, (1, z), (-1, a))
+                if step.op == "const" and not a.taint & ~T.PUBLIC:
+                    self.grows[group] = a, step.args
+                    continue
+            self.rest |= changed & set(group)
+        self.rest -= set(self.chain)
+
+    def at(self, cells, c):
+        """A byte of a register or of memory, by what was written."""
+        if c in cells:
+            return cells[c]
+        kind, at, k = c
+        if kind != "memory":
+            return getattr(self.start, kind)[at][k]
+        return self.unwritten.setdefault((at, k), self.start.regions[at].initial(k))
+
+    unwritten: dict = {}
+
+    def machine(self, i, words):
+        """The machine at the head of iteration i, with these chaining words."""
+        m = self.start.copy()
+        state = {c: words[k] for c, k in self.chain.items()}
+        for group, (a, step) in self.grows.items():
+            state.update(zip(group, T.split(T.add(64, (1, a), (step, i)))))
+        for part in chunks(sorted(self.rest, key=str), 64):
+            state.update(zip(part, fresh("rest", T.JUNK, len(part))))
+        m.set_cells(state)
+        m.flags = None
+        return m
+
+    def check(self, after, i, call):
+        """What a general iteration leaves must be the next iteration's start."""
+        state = self.machine(T.add(64, (1, i), (1, T.const(64, 1))), call["result"]).cells()
+        for c in set(after) | set(state):
+            if c not in self.rest and self.at(after, c) != self.at(state, c):
+                raise CannotShow("the byte %s is not as expected after an iteration" % (c,))
+
+
+class Calls:
+    """Executes the functions of a file."""
+
+    def __init__(self, program):
+        self.program, self.codes, self.at, self.count = program, {}, None, 0
+        self.listed = {functions.in_file(program.path, name): (kind, lanes)
+                       for name, kind, lanes in functions.FILES[program.path]}
+        self.answering = tuple(functions.IS_DIGEST_OF % f for f in ("blake2b", "blake2s"))
+        self.forget()
+
+    def forget(self):
+        self.results, self.compressed, self.count = {}, [], 0
+        Loop.unwritten = {}
+
+    def result(self, what, kind, *arguments):
+        """The bytes of eight chaining words: the same variables for the same arguments."""
+        n = self.results.setdefault((what, kind.name) + arguments, len(self.results))
+        return [b for j in range(8)
+                for b in T.split(T.var(kind.w, "%s%d.%d" % (what, n, j), T.SECRET))]
+
+    def code(self, name):
+        """The instructions of a function by address, the first, and its loops that compress: the
+        address of the head and of the jump back."""
+        if name not in self.codes:
+            found = self.program.code(name, INSTRUCTIONS[self.program.kind])
+            code, loops = {i.address: i for i in found}, {}
+            for i in found:
+                if i.target in code and i.target <= i.address:
+                    body = [j for j in found if i.target <= j.address <= i.address]
+                    if self.compresses(body):
+                        loops[i.target] = i.address
+            self.codes[name] = code, found[0].address, loops
+        return self.codes[name]
+
+    def compresses(self, body):
+        """Whether instructions in a row are a loop with one compression, and without other jumps."""
+        model: Any = MODELS[self.program.kind]
+        found = [i for i in body if model.is_call(None, i)]
+        return len(found) == 1 and self.program.target(found[0], OF_C) in self.listed and (
+            not any(model.is_return(None, i) or i.target is not None for i in body[:-1]
+                    if i is not found[0]))
+
+    def run(self, name, machine, start=None, stop=None):
+        """The machines at all returns of a function, or at an address."""
+        code, first, loops = self.code(name)
+        entry = machine.at_entry() if start is None else None
+        waiting, ends = [(machine, first if start is None else start)], []
+        inside = start
+        while waiting:
+            m, pc = waiting.pop()
+            if pc == stop:
+                ends.append(m)
+                continue
+            if len(waiting) > PATHS or self.count > LIMIT:
+                raise CannotShow("there are too many paths")
+            self.count += 1
+            i = self.at = code[pc]
+            if pc in loops and pc != inside:
+                m = Loop(self, name, pc, loops[pc], m).show()
+                waiting.append((m, code[loops[pc]].next))
+                continue
+            inside = None
+            try:
+                self.follow(name, m, i, entry, waiting, ends)
+            except Undecided as e:
+                for holds in (True, False):
+                    other = m.copy()
+                    if other.learn(*e.compared, holds):
+                        other.settle()
+                        waiting.append((other, pc))
+        return ends
+
+    def follow(self, name, m, i, entry, waiting, ends):
+        """Executes an instruction."""
+        code = self.codes[name][0]
+        if m.is_call(i):
+            m.enter(i)
+            for n in self.call(m, i):
+                n.leave()
+                n.forget_below()
+                waiting.append((n, i.next))
+        elif m.is_return(i):
+            self.check(m, entry, name)
+            m.forget_below()
+            ends.append(m)
+        elif m.is_trap(i):
+            raise IsWrong("a trap is reached")
+        elif i.target is None:
+            top = m.stack_pointer()
+            m.step(i)
+            if m.stack_pointer() is not top:
+                m.forget_below()
+            waiting.append((m, i.next))
+        else:
+            (n, jumps), = [(m, True)] if m.is_jump(i) else m.outcomes(i)
+            pc = i.target if jumps else i.next
+            if pc in code:
+                waiting.append((n, pc))
+            else:                      # a call in place of a return
+                self.check(n, entry, name)
+                for end in self.call(n, i):
+                    self.check(end, entry, name, 1)
+                    ends.append(end)
+
+    def check(self, m, entry, name, first=0):
+        """What a return must find. The return address is the first of it."""
+        if entry is None or not m.is_as_at(entry, first):
+            raise IsWrong("the return address, the stack pointer or a register of the caller is "
+                          "not as at the entry of " + name)
+
+    def call(self, m, i):
+        """The machines after a call of another function."""
+        name = self.program.target(i, OF_C)
+        to, source, length = (m.argument(k) for k in range(3))
+        if name in self.listed:
+            self.compress(m, *self.listed[name])
+        elif name == "memset":
+            m.fill_memory(to, T.split(source)[0], length)
+        elif name in OF_C:
+            if name == "memcpy" and length is not T.const(64, 0):
+                m.check_disjoint(to, source, length)
+            m.copy_memory(to, source, length)
+        elif not name.startswith(functions.SCRUB_STACK):
+            ends = self.run(name, m)
+            return ends if name not in self.answering else [
+                other for end in ends for other in self.answers(end)]
+        m.clobber()
+        if name in OF_C:
+            m.answer()[:] = T.split(to)
+        return [m]
+
+    def answers(self, m):
+        """The answer of a comparison is public: 1 or 0."""
+        byte = m.answer()[0]
+        if byte in (0, 1):
+            return [m]
+        found = []
+        for value in (1, 0):
+            n = m.copy()
+            n.answer()[0] = value
+            n.compared_bytes = byte, value
+            found.append(n)
+        return found
+
+    def compress(self, m, kind, lanes):
+        """A call of F: of one message."""
+        if lanes != 1:
+            raise CannotShow("a compression of several messages")
+        h, block, counter, last, node = (m.argument(k) for k in range(5))
+        need_public(counter, "the counter")
+        flags = [T.split(t)[0] for t in (last, node)]
+        if any(b not in (0, 1) for b in flags):
+            raise CannotShow("a flag is not known: %r" % (flags,))
+        chain, data = m.load(h, 8 * kind.bytes), m.load(block, kind.block)
+        base, offset, region = m.region_of(block)
+        result = Terms(self, m).compress(kind, chain, data, counter, *flags)
+        self.compressed.append({"kind": kind, "chain": chain, "block": data, "counter": counter,
+                                "flags": flags, "region": region, "offset": offset,
+                                "result": result})
+        m.store(h, result)
+        m.clobber()
