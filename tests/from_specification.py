@@ -117,6 +117,22 @@ def steps(family, size, given):
     return found, bytes_of(family, h)[:size]
 
 
+def parallel(family, size, given):
+    """Section 12: the digest of BLAKE2bp or BLAKE2sp."""
+    leaves = 256 // family.w
+
+    def output(data, node_offset, node_depth, last_node):
+        place = Place(leaves, 2, 0, node_offset, node_depth, family.digest)
+        h = [a ^ b for a, b in zip(family.iv, parameter_words(family, size, given._replace(place=place)))]
+        for entry in entries(family, Input(data, last_node=last_node)):
+            h = compress(family, h, entry)
+        return bytes_of(family, h)
+    blocks = [given.message[i:i + family.block] for i in range(0, len(given.message), family.block)]
+    first = given.key.ljust(family.block, b"\0") if given.key else b""
+    outputs = [output(first + b"".join(blocks[j::leaves]), j, 0, j == leaves - 1) for j in range(leaves)]
+    return output(b"".join(outputs), 0, 1, True)[:size]
+
+
 def read(family, words, listed):
     """The reader of section 7: the digest length and the input, or None."""
     p = bytes_of(family, words)

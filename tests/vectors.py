@@ -17,6 +17,7 @@ hashlib's default. The kinds:
     many      BLAKE2b-256 of the joined digests of messages of these lengths
     root      the root of a tree of two levels, as hashlib's nodes make it
     leaves    BLAKE2b-256 of the joined results of `ranges` below
+    parallel  a digest of BLAKE2bp or BLAKE2sp
     hmac, hkdf, pbkdf2    over the longest digest (RFC 2104, 5869 and 8018), of `size` bytes
 """
 import hashlib
@@ -28,7 +29,7 @@ import sys
 
 from blake2_kinds import FAMILIES, Parser, at_least
 from from_specification import Input, Place, bytes_of, parameter_words
-from oracle import SCALAR, range_digests, root_of_leaves, tree_root
+from oracle import SCALAR, parallel_digest, range_digests, root_of_leaves, tree_root
 
 FILE = os.path.join(os.path.dirname(os.path.abspath(__file__)), "vectors.json")
 NUMBERS = ("fanout", "depth", "leaf_size", "node_offset", "node_depth", "inner_size", "last_node")
@@ -105,6 +106,8 @@ def answer(case):
         return tree_root(message(case), **given)
     if case["kind"] == "leaves":
         return hash_of(b"".join(digests + root for *_, digests, root in ranges(case)))
+    if case["kind"] == "parallel":
+        return parallel_digest(case["hash"][-1], message(case), **given)
     if case["kind"] == "hmac":
         return hmac.new(given["key"], message(case), family.function).digest()
     if case["kind"] == "hkdf":
@@ -157,6 +160,20 @@ def many_rows(dice, longest, salt):
         yield size, longest, 0, dice.randint(0, salt), [dice.choice([0, 1, 200]) for _ in range(40)], size
 
 
+def parallel_rows(dice, longest, salt, block):
+    """Messages that end around the blocks of the first stripes, without key, salt and persona, with a key, and with
+    all of them; and every size of a digest."""
+    stripe = 512
+    lengths = {max(0, end + more) for end in (0, block, stripe - block, stripe, 2 * stripe - block, 2 * stripe,
+                                              3 * stripe - block, 3 * stripe) for more in (-1, 0, 1)}
+    for length in sorted(lengths):
+        yield longest, 0, 0, 0, length, 1
+        yield dice.randint(1, longest), dice.choice([1, longest]), 0, 0, length, 2
+        yield dice.randint(1, longest), dice.choice([0, longest]), salt, dice.randint(0, salt), length, 3
+    for size in range(1, longest + 1):
+        yield size, dice.choice([0, dice.randint(1, longest)]), 0, 0, dice.randint(0, 2 * stripe), size
+
+
 def groups_of(family):
     """The groups of a family."""
     dice = random.Random(7693)
@@ -173,6 +190,8 @@ def groups_of(family):
     yield group("hash", family, f"digest_size key salt person {' '.join(NUMBERS)} length seed",
                 node_rows(dice, longest, salt, 8 * SCALAR[family].offset))
     yield group("many", family, "digest_size key salt person lengths seed", many_rows(dice, longest, salt))
+    yield group("parallel", family, "digest_size key salt person length seed",
+                parallel_rows(dice, longest, salt, SCALAR[family].block))
     lengths = (0, 1, 63, 64, 65, 127, 128, 129, 500)
     yield group("hmac", family, "key length seed", ((n, 300 - n // 2, n) for n in lengths))
     yield group("hkdf", family, "salt length person size seed", ((n, n, 9, 1 + n, n) for n in lengths))
@@ -246,6 +265,8 @@ def lines(case):
         yield "t", bytes_of(scalar, words), numbers[-1], block + message(case), wanted
     elif case["kind"] == "hash":
         yield "h", size, key, salt, person, message(case), wanted
+    elif case["kind"] == "parallel":
+        yield "p", size, key, salt, person, message(case), wanted
     elif case["kind"] == "many":
         yield "m", size, key, salt, person, ",".join(each.hex() or "-" for each in messages(case)), wanted
     elif case["kind"] == "root" and case["seed"]:

@@ -48,9 +48,10 @@ fn row(words: &[[u64; 8]; 4], k: usize) -> u64x4
     u64x4::new(words[0][k], words[1][k], words[2][k], words[3][k])
 }
 
-// The rows of the words of four messages.
+/// Returns the eight words of each of four messages as rows: row k has word k of each message,
+/// that of message j in lane j.
 #[inline(always)]
-fn rows_of(words: &[[u64; 8]; 4]) -> [u64x4; 8]
+pub fn rows_of(words: &[[u64; 8]; 4]) -> [u64x4; 8]
     ensures { (j k : ℕ) → j < 4 → k < 8
         → lane result k j ≡ slice_index (slice_index_or words.now j []) k }
 {
@@ -135,19 +136,19 @@ fn last_words(counter: u64, flags: Flags) -> [u64; 8]
     ]
 }
 
-// The rows before the first round: the chaining words, and in each lane the last words under its
-// flags.
+// The rows before the first round: the chaining words, and in each lane the last words with its
+// counter and under its flags.
 #[inline(always)]
-fn begin(h: &[u64x4; 8], counter: u64, flags: &[Flags; 4]) -> [u64x4; 16]
+fn begin(h: &[u64x4; 8], counters: &[u64; 4], flags: &[Flags; 4]) -> [u64x4; 16]
     ensures { (j : ℕ) → j < 4
-        → in_lane j result
-        ≡ before_rounds blake2b (in_lane j h.now) counter (flags_at flags.now j) }
+        → in_lane j result ≡ before_rounds blake2b (in_lane j h.now)
+        (slice_index counters.now j) (flags_at flags.now j) }
 {
     let last = [
-        last_words(counter, flags[0]),
-        last_words(counter, flags[1]),
-        last_words(counter, flags[2]),
-        last_words(counter, flags[3]),
+        last_words(counters[0], flags[0]),
+        last_words(counters[1], flags[1]),
+        last_words(counters[2], flags[2]),
+        last_words(counters[3], flags[3]),
     ];
     let w = rows_of(&last);
     [
@@ -225,7 +226,27 @@ pub fn compress(h: &mut [u64x4; 8], blocks: &[&[u8; 128]; 4], counter: u64, flag
         counter (flags_at flags.now j) }
 {
     let m = block_rows(blocks);
-    let mut v = begin(h, counter, flags);
+    let mut v = begin(h, &[counter; 4], flags);
+    rounds(&mut v, &m);
+    *h = finish(h, &v);
+}
+
+/// Computes the same as `compress`, with a counter for each message: that of message j is
+/// `counters[j]`.
+#[tactic(auto, unfolding(crate::specs::Hash::compress))]
+#[inline]
+pub fn compress_each(
+    h: &mut [u64x4; 8],
+    blocks: &[&[u8; 128]; 4],
+    counters: &[u64; 4],
+    flags: &[Flags; 4],
+)
+    ensures { (j : ℕ) → j < 4 → in_lane j h.new
+        ≡ Hash.compress blake2b (in_lane j h.old) (slice_index_or (texts blocks.now) j [])
+        (slice_index counters.now j) (flags_at flags.now j) }
+{
+    let m = block_rows(blocks);
+    let mut v = begin(h, counters, flags);
     rounds(&mut v, &m);
     *h = finish(h, &v);
 }

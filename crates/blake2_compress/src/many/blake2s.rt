@@ -46,9 +46,10 @@ fn row(words: &[[u32; 8]; 8], k: usize) -> u32x8
     ])
 }
 
-// The rows of the words of eight messages.
+/// Returns the eight words of each of eight messages as rows: row k has word k of each message,
+/// that of message j in lane j.
 #[inline(always)]
-fn rows_of(words: &[[u32; 8]; 8]) -> [u32x8; 8]
+pub fn rows_of(words: &[[u32; 8]; 8]) -> [u32x8; 8]
     ensures { (j k : ℕ) → j < 8 → k < 8
         → lane result k j ≡ slice_index (slice_index_or words.now j []) k }
 {
@@ -150,23 +151,23 @@ fn last_words(counter: u64, flags: Flags) -> [u32; 8]
     ]
 }
 
-// The rows before the first round: the chaining words, and in each lane the last words under its
-// flags.
+// The rows before the first round: the chaining words, and in each lane the last words with its
+// counter and under its flags.
 #[inline(always)]
-fn begin(h: &[u32x8; 8], counter: u64, flags: &[Flags; 8]) -> [u32x8; 16]
+fn begin(h: &[u32x8; 8], counters: &[u64; 8], flags: &[Flags; 8]) -> [u32x8; 16]
     ensures { (j : ℕ) → j < 8
-        → in_lane j result
-        ≡ before_rounds blake2s (in_lane j h.now) counter (flags_at flags.now j) }
+        → in_lane j result ≡ before_rounds blake2s (in_lane j h.now)
+        (slice_index counters.now j) (flags_at flags.now j) }
 {
     let last = [
-        last_words(counter, flags[0]),
-        last_words(counter, flags[1]),
-        last_words(counter, flags[2]),
-        last_words(counter, flags[3]),
-        last_words(counter, flags[4]),
-        last_words(counter, flags[5]),
-        last_words(counter, flags[6]),
-        last_words(counter, flags[7]),
+        last_words(counters[0], flags[0]),
+        last_words(counters[1], flags[1]),
+        last_words(counters[2], flags[2]),
+        last_words(counters[3], flags[3]),
+        last_words(counters[4], flags[4]),
+        last_words(counters[5], flags[5]),
+        last_words(counters[6], flags[6]),
+        last_words(counters[7], flags[7]),
     ];
     let w = rows_of(&last);
     [
@@ -242,7 +243,27 @@ pub fn compress(h: &mut [u32x8; 8], blocks: &[&[u8; 64]; 8], counter: u64, flags
         counter (flags_at flags.now j) }
 {
     let m = block_rows(blocks);
-    let mut v = begin(h, counter, flags);
+    let mut v = begin(h, &[counter; 8], flags);
+    rounds(&mut v, &m);
+    *h = finish(h, &v);
+}
+
+/// Computes the same as `compress`, with a counter for each message: that of message j is
+/// `counters[j]`.
+#[tactic(auto, unfolding(crate::specs::Hash::compress))]
+#[inline]
+pub fn compress_each(
+    h: &mut [u32x8; 8],
+    blocks: &[&[u8; 64]; 8],
+    counters: &[u64; 8],
+    flags: &[Flags; 8],
+)
+    ensures { (j : ℕ) → j < 8 → in_lane j h.new
+        ≡ Hash.compress blake2s (in_lane j h.old) (slice_index_or (texts blocks.now) j [])
+        (slice_index counters.now j) (flags_at flags.now j) }
+{
+    let m = block_rows(blocks);
+    let mut v = begin(h, counters, flags);
     rounds(&mut v, &m);
     *h = finish(h, &v);
 }

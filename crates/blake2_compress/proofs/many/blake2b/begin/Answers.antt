@@ -1,4 +1,4 @@
-use Rattle.std.proofs.Common.{◌≡◌, ℕ, List, [], ◌∷◌, ◌++◌, length, slice_index_or, ap, ◌∙◌, rules}
+use Rattle.std.proofs.Common.{◌≡◌, ℕ, List, [], ◌∷◌, ◌++◌, length, slice_index, slice_index_or, ap, ◌∙◌, rules}
 use Rattle.blake2_simd.specs.Family.{blake2b}
 use Rattle.blake2_simd.specs.Lanes.{in_lane}
 use Rattle.blake2_simd.proofs.Lanes.{in_four}
@@ -15,7 +15,7 @@ returns c j h =
     let ws : List (List ℕ) = c.last_words.result ∷ c.last_words-2.result ∷ c.last_words-3.result
     ∷ c.last_words-4.result ∷ [] in
     let begun = in_four (λ k. u ++ slice_index_or ws k []
-    ≡ before_rounds blake2b u c.args.counter (flags_at c.args.flags.now k))
+    ≡ before_rounds blake2b u (slice_index c.args.counters.now k) (flags_at c.args.flags.now k))
     (c.last_words.ensures u) (c.last_words-2.ensures u) (c.last_words-3.ensures u)
     (c.last_words-4.ensures u) j h in
     ap (in_lane j) (sixteen_read c.args.h.now c.rows_of-w.result

@@ -1,4 +1,4 @@
-use Rattle.std.proofs.Common.{◌≡◌, ℕ, List, [], ◌++◌, length, ap, ◌∙◌, rules}
+use Rattle.std.proofs.Common.{◌≡◌, ℕ, List, [], ◌++◌, length, slice_index, ap, ◌∙◌, rules}
 use Rattle.blake2_simd.specs.Family.{blake2s}
 use Rattle.blake2_simd.specs.Lanes.{in_lane}
 use Rattle.blake2_compress.specs.Hash.{before_rounds}
@@ -12,7 +12,8 @@ returns c j h =
     let many : length c.rows_of-w.result ≡ 8 = search rules in
     let u : List ℕ = in_lane j c.args.h.now in
     let begun = eight_of (λ k w. u ++ w
-    ≡ before_rounds blake2s u c.args.counter (flags_at c.args.flags.now k)) [] _ _ _ _ _ _ _ _
+    ≡ before_rounds blake2s u (slice_index c.args.counters.now k) (flags_at c.args.flags.now k)) []
+    _ _ _ _ _ _ _ _
     (c.last_words.ensures u) (c.last_words-2.ensures u) (c.last_words-3.ensures u)
     (c.last_words-4.ensures u) (c.last_words-5.ensures u) (c.last_words-6.ensures u)
     (c.last_words-7.ensures u) (c.last_words-8.ensures u) j h in

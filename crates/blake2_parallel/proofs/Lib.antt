@@ -1,0 +1,5 @@
+pub mod Dealt
+pub mod Runs
+pub mod Rows
+pub mod LeafLaws
+pub mod StateLaws

@@ -1,0 +1,4 @@
+//! The hashers.
+
+pub mod blake2b;
+pub mod blake2s;

@@ -1,0 +1,16 @@
+//! BLAKE2bp and BLAKE2sp: BLAKE2 over four or eight leaves among which a message is dealt out block
+//! by block, so that one thread hashes it in the lanes of its vectors (the BLAKE2 document,
+//! "Parallel hashing").
+
+#![tactic(auto)]
+
+pub mod blake2b;
+pub mod blake2s;
+pub mod hashers;
+pub mod lanes;
+pub mod macs;
+
+pub use hashers::blake2b::Blake2bp;
+pub use hashers::blake2s::Blake2sp;
+pub use macs::blake2b::Blake2bpMac;
+pub use macs::blake2s::Blake2spMac;

@@ -1,0 +1,4 @@
+//! The message authentication codes.
+
+pub mod blake2b;
+pub mod blake2s;

@@ -1,0 +1,10 @@
+//! Tests of BLAKE2bp and BLAKE2sp. The digests are those of `parallel_digest` in tests/oracle.py.
+
+#![tactic(auto)]
+
+#[cfg(test)]
+mod blake2b;
+#[cfg(test)]
+mod blake2s;
+#[cfg(test)]
+mod checks;
