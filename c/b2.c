@@ -5,7 +5,8 @@
  *
  * MAIN is the main of the assembly file, such as main_0_1_0_v3. If MAIN_V3 and MAIN_V4 are defined,
  * three files are linked: MAIN is that of the build for x86-64-v2, and the others are for
- * processors on which choose.c finds level 3 or 4. On Windows the compiler needs -municode. */
+ * processors on which choose.c finds level 3 or 4. END is a function that gets the status of MAIN
+ * and returns that of the process. On Windows the compiler needs -municode. */
 #include <errno.h>
 #include <stdbool.h>
 #include <stddef.h>
@@ -49,6 +50,12 @@ static int start(void) {
 }
 #else
 static int start(void) { return MAIN(); }
+#endif
+
+#ifdef END
+int END(int status);
+#else
+#define END(status) (status)
 #endif
 
 static size_t count;
@@ -96,7 +103,7 @@ OF_TEXT void *b2_signal(int signal, void *handler) {
 int main(int argc, char **argv) {
     count = (size_t)argc;
     arguments = argv;
-    return start();
+    return END(start());
 }
 #endif
 

@@ -1,6 +1,7 @@
-/* The C of the program b2sum beside b2.c: how it opens and reads files, the threads of --tree, and
- * what --progress shows. The program gets these functions instead of those of the C library, and of
- * its own update_tree. None of this is proved. tests/b2sum.c tests each function.
+/* The C of the program b2sum, together with b2.c: how it opens and reads files, the threads of
+ * --tree, what --progress shows, and how the program ends. The assembly file calls b2sum_open,
+ * b2sum_read and b2sum_signal instead of open, read and signal of the C library, and the function
+ * here instead of its own update_tree. None of this is proved. tests/b2sum.c tests each function.
  *
  * UPDATE_TREE is the name of update_tree in the assembly file, such as
  * b2sum..hashes..update_tree_0_1_0_v2. If three files are linked, UPDATE_TREE_V3 and UPDATE_TREE_V4
@@ -10,6 +11,7 @@
 #include <fcntl.h>
 #include <pthread.h>
 #include <sched.h>
+#include <signal.h>
 #include <stdbool.h>
 #include <stdint.h>
 #include <stdio.h>
@@ -23,6 +25,34 @@
 #include "vulfsjor_threads.h"
 
 ssize_t rattle_arg(size_t i, char *bytes, size_t size);
+
+/* What the assembly and b2.c call. No shared library sees these names. */
+#define HIDDEN __attribute__((visibility("hidden")))
+
+HIDDEN int b2sum_open(const char *name, int flags, ...);
+HIDDEN ssize_t b2sum_read(int file, void *bytes, size_t size);
+HIDDEN void (*b2sum_signal(int number, void (*handler)(int)))(int);
+HIDDEN int b2sum_end(int status);
+
+/* ---- The start and the end. */
+
+/* The runtime would ignore SIGPIPE. This leaves it as it was, so that a closed pipe ends the program
+ * as it ends others. */
+void (*b2sum_signal(int number, void (*handler)(int)))(int) {
+    (void)number;
+    (void)handler;
+    return SIG_DFL;
+}
+
+/* Closes the outputs, since some systems report only then that a write failed. Returns the status of
+ * the process: the one of the program, or 1. An output that was not open is no error. */
+int b2sum_end(int status) {
+    if (close(STDOUT_FILENO) && errno != EBADF) {
+        dprintf(STDERR_FILENO, "b2sum: write error: %s\n", strerror(errno));
+        status = 1;
+    }
+    return close(STDERR_FILENO) && errno != EBADF ? 1 : status;
+}
 
 /* ---- Progress, on standard error if that is a terminal. */
 
@@ -136,8 +166,9 @@ static void decode(char *name) {
     *to = 0;
 }
 
-/* Opens the file for reading. Returns its descriptor, or -1 and sets errno. */
-int open(const char *name, int flags, ...) {
+/* Opens the file for reading, from its start to its end. Returns its descriptor, or -1 and sets
+ * errno. No mode is passed, so no file can be made. */
+int b2sum_open(const char *name, int flags, ...) {
     char path[4096];
     int file;
 
@@ -147,10 +178,12 @@ int open(const char *name, int flags, ...) {
     }
     strcpy(path, name);
     decode(path);
-    do file = openat(AT_FDCWD, path, flags);
+    do file = openat(AT_FDCWD, path, flags & ~O_CREAT);
     while (file < 0 && errno == EINTR);
     tree.is_known = false;
-    if (file >= 0 && is_shown()) begin(file, path);
+    if (file < 0) return -1;
+    posix_fadvise(file, 0, 0, POSIX_FADV_SEQUENTIAL);
+    if (is_shown()) begin(file, path);
     return file;
 }
 
@@ -267,7 +300,7 @@ static unsigned threads_of(int file, size_t *size, off_t *from) {
 
 /* Reads at most size bytes, after a signal again. Returns their number, 0 at the end, or -1 and
  * sets errno. */
-ssize_t read(int file, void *bytes, size_t size) {
+ssize_t b2sum_read(int file, void *bytes, size_t size) {
     const struct iovec room = {bytes, size};
     off_t from = 0;
     unsigned threads = threads_of(file, &size, &from);

@@ -22,7 +22,7 @@ printf '%s\n' '#!/bin/sh' "cd '$work' && echo \"\$*\" >>calls" \
 printf '#!/bin/sh\necho "$1"\n' >"$work/bin/for"
 chmod 755 "$work" "$repository/tools/dist.sh" "$work"/bin/*
 printf '%s\n' '#include <stdio.h>' '#include <unistd.h>' 'long rattle_arg(size_t i, char *bytes, size_t size);' \
-    'int MAIN(void) { char word[99]; long n; int c;' \
+    'int MAIN(void) { char word[99]; long n; int c; setbuf(stdout, NULL);' \
     'for (long i = 1; (n = rattle_arg(i, word, sizeof word)) >= 0; i++)' \
     'if (n == 10) printf("<%d>", (int)getpid()); else printf("<%.*s>", (int)n, word);' \
     'while ((c = getchar()) != EOF) putchar(c); puts(BUILD); return 7; }' >"$work/main.c"
@@ -39,8 +39,9 @@ machine=$(uname -m) arm=aarch64-linux-gnu-gcc here=arm
 # Those of b2sum name a function that C replaces, and are linked with a library whose functions are
 # empty.
 for file in "$repository"/dist/*/b2*.s; do
-    sed 's/<%/[%/' "$file" >"${file/b2/b2sum}"
-    printf '\t.weak\tb2sum..hashes..update_tree_%s\n' "${file##*[/-]}" >>"${file/b2/b2sum}"
+    sums=${file%/*}/b2sum${file##*/b2}
+    sed 's/<%/[%/' "$file" >"$sums"
+    printf '\t.weak\tb2sum..hashes..update_tree_%s\n' "${file##*[/-]}" >>"$sums"
 done
 for build in x86_64/vulfsjor-v{2,3,4} aarch64/vulfsjor; do
     end=$(version _)_${build##*-}

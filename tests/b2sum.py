@@ -180,7 +180,7 @@ def to_check(rng, folder, files):
     """The words of a check, and the input."""
     options = [rng.choice([b"-c", b"--check", b"--ch"])] + [it for it in CHECKS if rng.random() < 0.2]
     if rng.random() < 0.05:
-        options.append(rng.choice([b"-z", b"--tag", b"-b", b"-t", b"-l64"]))
+        options.append(rng.choice([b"-z", b"--tag", b"-b", b"-t", b"-l0"]))
     names, data = [], b""
     for k in range(rng.choice([0, 1, 1, 1, 2])):
         names.append(rng.choice([b"sums", b"my sums", b"s'ums", b"s\nums"]) + b"%d" % k)
@@ -211,7 +211,7 @@ def command(rng, folder, files):
     """A command line, and the input."""
     options, names, data = to_check(rng, folder, files) if rng.random() < 0.55 else to_sum(rng, files)
     if rng.random() < 0.06:
-        options.append(rng.choice(WRONG))
+        options.append(rng.choice([it for it in WRONG if not demands_length([*options, it])]))
     rng.shuffle(names)
     names = [b"./" + it if it.startswith(b"-") and it != b"-" and rng.random() < 0.7 else it for it in names]
     if rng.random() < 0.15 and b"-l" not in options and b"--length" not in options:
@@ -235,10 +235,17 @@ def random_run(program, seed):
         shutil.rmtree(folder)
 
 
+def demands_length(words):
+    """Whether these are words of a check that demands a length, which that of coreutils never does."""
+    lengths = [re.fullmatch(rb"(?:-l|--l\w*=)\s*\+?(\d+)", it) for it in words]
+    return any(re.fullmatch(rb"-[bctwz]*c[bctwz]*|--c\w*", it) for it in words) and any(
+        it and int(it[1]) in range(8, 513, 8) for it in lengths)
+
+
 def fixed_runs():
     """The command lines of each option, each pair and each abbreviation, without their files."""
     yield from ([one] for one in OPTIONS)
-    yield from ([one, two] for one in OPTIONS for two in OPTIONS)
+    yield from ([one, two] for one in OPTIONS for two in OPTIONS if not demands_length([one, two]))
     yield from ([one, b"-c", two] for one in CHECKS for two in CHECKS)
     for option in LONG:
         name, _, value = option.partition(b"=")

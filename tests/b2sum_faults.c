@@ -1,6 +1,6 @@
 /* A library to preload into b2sum: some calls of one function of the system fail.
  *
- *   FAULT_CALL   readv, pread, openat, write, malloc or realloc
+ *   FAULT_CALL   readv, pread, openat, write, close, malloc or realloc
  *   FAULT_AT     the number of the call that fails, from 1
  *   FAULT_LAST   the number of the last one that does
  *   FAULT_ERROR  its errno; 0: it reads or writes one byte; -1: it returns 0, as at the end
@@ -71,6 +71,11 @@ ssize_t write(int file, const void *bytes, size_t size) {
         if (size > 1) size = 1;
     }
     return syscall(SYS_write, file, bytes, size);
+}
+
+int close(int file) {
+    if (is_hit("close")) return (int)failed();
+    return (int)syscall(SYS_close, file);
 }
 
 ssize_t __write(int file, const void *bytes, size_t size) { return write(file, bytes, size); }

@@ -16,6 +16,7 @@ import os
 import random
 import resource
 import shutil
+import signal
 import socket
 import subprocess
 import sys
@@ -51,17 +52,23 @@ FILES = {"a": b"", "b": b"abc", "with\nline": b"x" * 1000, "caf\udcff": bytes(ra
 zeros = functools.cache(bytes)
 
 
-class Zeros:
-    """So many zero bytes, whose slices of one length are one object."""
+class Marked:
+    """So many zero bytes, but for a one at some offsets. Slices of zeros of one length are one object."""
 
-    def __init__(self, size):
-        self.size = size
+    def __init__(self, size, marks):
+        self.size, self.marks = size, marks
 
     def __len__(self):
         return self.size
 
     def __getitem__(self, part):
-        return zeros(len(range(*part.indices(self.size))))
+        some = range(*part.indices(self.size))
+        data, found = zeros(len(some)), [at - some.start for at in self.marks if at in some]
+        if found:
+            data = bytearray(data)
+            for at in found:
+                data[at] = 1
+        return data
 
 
 class Runs:
@@ -184,6 +191,7 @@ def test_parameters(runs):
         runs.wants([*words, "--tag", "-l", "128", *FILES], lines(family=family, bits=128, tag=True, **given))
         oks = "".join(("\\" if "\n" in it else "") + escaped(it) + ": OK\n" for it in FILES)
         manifest = os.fsencode(lines(family=family, bits=128, **given))
+        words += ["-l128"]
         runs.wants(["-c", *words], oks, data=manifest)
         wrong = "".join(("\\" if "\n" in it else "") + escaped(it) + ": FAILED\n" for it in FILES)
         runs.wants(["-c", *words, "--salt", "00"], wrong, f"WARNING: {len(FILES)} computed checksums did NOT match", 1,
@@ -201,6 +209,25 @@ def test_parameters(runs):
         runs.wants([*words.split(), "b"], "", said, 1)
     runs.wants(["-a", "blake2x", "b"], "", "invalid algorithm: 'blake2x'", 1, Try=1)
     runs.ends("keys, salts, personalizations, and what is refused of them")
+
+
+def test_demanded_lengths(runs):
+    """Under a key, and with a length, a check counts only digests of that length: nobody can make a short one."""
+    runs.write("key", bytes(range(32)))
+    for words, bits in ((["--key-file", "key"], 512), (["--key-file", "key", "-l", "256"], 256), (["-l", "256"], 256),
+                        (["-a", "blake2s", "--key-file", "key"], 256)):
+        family = "s" if "blake2s" in words else "b"
+        key = bytes(range(32)) if "key" in words else b""
+        for other in {8, 128, bits - 8, bits, bits + 8} - {520 if family == "b" else 264}:
+            text = os.fsencode(line("b", b"abc", family=family, bits=other, key=key))
+            if other == bits:
+                runs.wants(["-c", *words], "b: OK\n", data=text)
+            else:
+                runs.wants(["-c", *words], "", "'standard input': no properly formatted checksum lines found", 1, text)
+    runs.write("M", "".join(f"{first:02x}  b\n" for first in range(256)).encode())
+    runs.wants(["-c", "--key-file", "key", "M"], "", "M: no properly formatted checksum lines found", 1)
+    runs.wants(["-c", "-l0"], "b: OK\n", data=os.fsencode(line("b", b"abc", bits=8)))
+    runs.ends("the lengths that a check demands")
 
 
 def stop(process):
@@ -377,13 +404,36 @@ def test_outputs(runs):
                                (["b"], line("b", b"abc"), 0)):
         runs.wants(words, out, "", status, stderr=full)
         runs.wants(words, out, "", status, stderr=None, preexec_fn=lambda: os.close(2))
-    reader, writer = os.pipe()
-    os.close(reader)
-    got = runs.run(["b"], stdout=writer)
-    runs.holds("an output that nobody reads", got[2] != 0, got)
-    os.close(writer)
     os.close(full)
     runs.ends("outputs that are full or closed")
+
+
+def test_pipes(runs):
+    """A pipe that nobody reads ends the program by SIGPIPE, unless it was ignored when the program started."""
+    sums = os.fsencode(lines())
+    for words in (["b"], ["-c"], ["--help"]):
+        for disposition in (signal.SIG_DFL, signal.SIG_IGN):
+            reader, writer = os.pipe()
+            os.close(reader)
+            got = runs.run(words, sums, stdout=writer, restore_signals=False,
+                           preexec_fn=lambda it=disposition: signal.signal(signal.SIGPIPE, it))
+            os.close(writer)
+            runs.holds([*words, disposition], got == (
+                (b"", b"", -signal.SIGPIPE) if disposition == signal.SIG_DFL else
+                (b"", f"b2sum: write error: {os.strerror(errno.EPIPE)}\n".encode(), 1)), got)
+    runs.ends("pipes that nobody reads")
+
+
+def test_closing(runs):
+    """Outputs whose closing fails, as some systems report a late write. The first file is closed before them."""
+    quota = f"b2sum: write error: {os.strerror(errno.EDQUOT)}\n".encode()
+    whole = line("b", b"abc").encode()
+    for at, wanted in ((1, (whole, b"", 0)), (2, (whole, quota, 1)), (3, (whole, b"", 1)), (4, None)):
+        got = fault(runs, ["b"], b"", "close", at, at, errno.EDQUOT)
+        runs.holds(["close", at], got == wanted, got)
+    got = fault(runs, ["b"], b"", "close", 2, 3, errno.EBADF)
+    runs.holds("closing what is closed", got == (whole, b"", 0), got)
+    runs.ends("outputs whose closing fails")
 
 
 def test_progress(runs):
@@ -413,14 +463,17 @@ def test_large(runs):
     runs.wants(["-c"], f"{long_name}: FAILED open or read\nb: OK\n", f"{long_name}: {os.strerror(errno.ENAMETOOLONG)}\n"
                "WARNING: 1 listed file could not be read", 1, os.fsencode(line(long_name, b"") + line("b", b"abc")))
     if HUGE:
-        size, state = (1 << 32) + 4097, hashlib.blake2b()
+        # Marks on both sides of 4 GiB, and at each MiB after it, so that no two pieces there are the same.
+        size, state = (1 << 32) + (40 << 20) + 4097, hashlib.blake2b()
+        data = Marked(size, [5, (1 << 32) - 1, *((1 << 32) + (i << 20) + 3 * i for i in range(40)), size - 1])
         with open(runs.path("sparse"), "wb") as file:
             file.truncate(size)
-        for _ in range(1 << 12):
-            state.update(bytes(1 << 20))
-        state.update(bytes(4097))
+            for at in data.marks:
+                os.pwrite(file.fileno(), b"\1", at)
+        for at in range(0, size, 1 << 20):
+            state.update(data[at:at + (1 << 20)])
         runs.wants(["sparse"], f"{state.hexdigest()}  sparse\n", timeout=1000)
-        runs.wants(["--tree", "1048576", "sparse"], root_line("sparse", Zeros(size), 1 << 20), timeout=1000)
+        runs.wants(["--tree", "1048576", "sparse"], root_line("sparse", data, 1 << 20), timeout=1000)
         os.remove(runs.path("sparse"))
     runs.ends(f"a long line{' and a file beyond 4 GiB' if HUGE else ''}")
 
@@ -507,9 +560,10 @@ def said(call, error, err):
     return os.fsencode(os.strerror(error)) in err or b"read error" in err
 
 
-COMPUTING = (test_lengths, test_parameters, test_trees)
+COMPUTING = (test_lengths, test_parameters, test_demanded_lengths, test_trees)
 TESTS = (*COMPUTING, test_names, test_coreutils, test_differences, test_system, test_changes, test_outputs,
-         test_progress, test_large, test_memory, test_faults)
+         test_pipes, test_closing, test_progress, test_large, test_memory, test_faults)
+FAULTY = (test_changes, test_closing, test_faults)
 
 
 def main():
@@ -521,7 +575,7 @@ def main():
     with programs(sys.argv[1:]) as built:
         for number, program in enumerate(built):
             for test in TESTS if HUGE or number == 0 else COMPUTING:
-                if test is test_faults and not has_faults:
+                if test in FAULTY and not has_faults:
                     tap.result(True, "calls that fail", skipped="no C compiler cc")
                     continue
                 with tempfile.TemporaryDirectory() as folder:

@@ -5,7 +5,7 @@ use Rattle.std.specs.Borrow.{Bor}
 use Rattle.std.specs.Option.{option_and_then, option_map}
 use Rattle.std.specs.Result.{result_map_both}
 use Rattle.std.specs.Str.{bytes_eq}
-use Rattle.b2sum_lines.specs.Cuts.{cut_at, lines_of}
+use Rattle.text_lines.specs.Cuts.{cut_at, lines_of}
 use Rattle.blake2.specs.Play.{play_fresh}
 use Rattle.blake2_replay.specs.declared.calls.Call.{Call}
 use Rattle.blake2_replay.specs.declared.calls.Call.TheVariants.{Update, Clone, Reset, Finalize}

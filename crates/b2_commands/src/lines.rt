@@ -8,9 +8,9 @@ ghost use Rattle.b2_commands.specs.Reading.{call_value, unplaced, IsLineFault};
 use crate::fault::Fault;
 use crate::numbers::number_of;
 use crate::words::message_of;
-use b2sum_lines::{split_line, split_once};
 use blake2::calls::Call;
 use std::alloc::{AllocError, Global};
+use text_lines::{split_line, split_once};
 
 /// A call of a script, which owns the bytes of an update. Slots are numbered from 0.
 #[derive(Drop)]

@@ -12,6 +12,7 @@ ghost use Rattle.b2_commands.specs.Lines.{bytes_field, word_fields, number_field
 use crate::fault::Fault;
 use blake2::engine::{Sink, write_whole};
 use std::marker::Model;
+use text_lines::{DECIMAL_BYTES, write_decimal};
 
 // The length in bytes of eight words of BLAKE2b as fields, with 16 digits each. Each field has a
 // space before it.
@@ -20,8 +21,8 @@ const BLAKE2B_WORDS_BYTES: usize = 8 * (1 + 16);
 // The length in bytes of eight words of BLAKE2s as fields, with 8 digits each.
 const BLAKE2S_WORDS_BYTES: usize = 8 * (1 + 8);
 
-// The length in bytes of the longest number as a field, with 20 digits.
-const NUMBER_BYTES: usize = 1 + 20;
+// The length in bytes of the longest number as a field.
+const NUMBER_BYTES: usize = 1 + DECIMAL_BYTES;
 
 // The length in bytes of a flag as a field.
 const FLAG_BYTES: usize = 1 + 1;
@@ -152,8 +153,10 @@ impl Line {
         requires { length self.old + length (decimal n) ≤ LINE_BYTES }
         ensures { self.new ≡ self.old ++ decimal n }
     {
-        let mut digits = itoa::Buffer::new();
-        self.push(digits.format(n).as_bytes());
+        let mut digits = [0u8; DECIMAL_BYTES];
+        let start = write_decimal(n, &mut digits);
+        let digits = &digits[..];
+        self.push(&digits[start..]);
     }
 
     /// Appends a field: a space, and a number in decimal, without leading zeros. The line must

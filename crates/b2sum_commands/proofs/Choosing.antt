@@ -109,6 +109,7 @@ pub keyed_options : (c : Choice) (o : Options) (key name : Vec ℕ Global) → A
     → Some name.items ≡ c.key_file → AreOptions c (record {
       algorithm = o.algorithm;
       bytes = o.bytes;
+      demands_length = o.demands_length;
       key = key;
       salt = o.salt;
       persona = o.persona;
@@ -122,6 +123,7 @@ pub keyed_options : (c : Choice) (o : Options) (key name : Vec ℕ Global) → A
 keyed_options c o key name are given = record {
   algorithm = are.algorithm;
   bytes = are.bytes;
+  demands_length = are.demands_length;
   key = λ none. absurd (subst IsThere (given ∙ none) tt);
   salt = are.salt;
   persona = are.persona;

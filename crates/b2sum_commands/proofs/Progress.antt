@@ -40,15 +40,15 @@ pub record Progress (holds : List ℕ → Option (List ℕ)) (cause : ℕ → Li
     : Type 0 where
   pub vs : List Verdict
   pub printed : List ℕ
-  pub spaced : final_spacing o.algorithm input s rest ≡ final_spacing o.algorithm input first all
+  pub spaced : final_spacing o input s rest ≡ final_spacing o input first all
   pub verdicts : (more : List Verdict) (after : Option (List ℕ))
       → AreVerdicts holds cause hash o.ignores_missing mid
-      (items o.algorithm input s rest) more after
-      → AreVerdicts holds cause hash o.ignores_missing left (items o.algorithm input first all)
+      (items o input s rest) more after
+      → AreVerdicts holds cause hash o.ignores_missing left (items o input first all)
       (vs ++ more) after
   pub lines : (more : List Verdict)
-      → verdict_lines o.report (items o.algorithm input first all) (vs ++ more)
-      ≡ printed ++ verdict_lines o.report (items o.algorithm input s rest) more
+      → verdict_lines o.report (items o input first all) (vs ++ more)
+      ≡ printed ++ verdict_lines o.report (items o input s rest) more
   pub shown : Appends old now printed
   pub counted : AreCounted vs counts
 
@@ -75,13 +75,13 @@ pub progress_step : (holds : List ℕ → Option (List ℕ)) (cause : ℕ → Li
     (counts : Counts) (it : Option (Option Line)) (spaced : Spacing)
     (after shown : Option (List ℕ)) (counted : Counts)
     → Progress holds cause hash o input first all left old s (line ∷ rest) mid now counts
-    → it ≡ item o.algorithm input s line
+    → it ≡ item o input s line
     → IsDone holds cause hash o it s spaced mid after now shown counts counted
     → Progress holds cause hash o input first all left old spaced rest after shown counted
 progress_step holds cause hash o input first all left old s line rest mid now counts None spaced
     after
     shown counted p is done =
-    let a = o.algorithm in
+    let a = o in
     let same : onto_items None (items a input (next_spacing s None) rest)
     ≡ items a input s (line ∷ rest) =
     ap (λ (i : Option (Option Line)). onto_items i (items a input (next_spacing s i) rest)) is in
@@ -112,7 +112,7 @@ progress_step holds cause hash o input first all left old s line rest mid now co
 progress_step holds cause hash o input first all left old s line rest mid now counts
     (Some i) spaced after
     shown counted p is done =
-    let a = o.algorithm in
+    let a = o in
     let step : Progress holds cause hash o input first all left old
     (next_spacing s (Some i)) rest after
     shown counted = record {
@@ -176,11 +176,11 @@ pub progress_end : (holds : List ℕ → Option (List ℕ)) (cause : ℕ → Lis
     (s : Spacing) (mid now : Option (List ℕ)) (counts : Counts)
     → Progress holds cause hash o input first all left old s [] mid now counts
     → (vs : List Verdict)
-    × AreVerdicts holds cause hash o.ignores_missing left (items o.algorithm input first all) vs mid
-    × Appends old now (verdict_lines o.report (items o.algorithm input first all) vs)
+    × AreVerdicts holds cause hash o.ignores_missing left (items o input first all) vs mid
+    × Appends old now (verdict_lines o.report (items o input first all) vs)
     × AreCounted vs counts
 progress_end holds cause hash o input first all left old s mid now counts p =
-    let is = items o.algorithm input first all in
+    let is = items o input first all in
     let printed : p.printed ≡ verdict_lines o.report is p.vs =
     sym (ap (verdict_lines o.report is) (sym (append-nil p.vs)) ∙ p.lines []
     ∙ append-nil p.printed) in (

@@ -113,6 +113,7 @@ ended_done holds unread cause hash left old new result (o, names, after, fit, by
 pub key_fit : (o : Options) (key : Vec ℕ Global) → AreFit o → AreFit (record {
   algorithm = o.algorithm;
   bytes = o.bytes;
+  demands_length = o.demands_length;
   key = key;
   salt = o.salt;
   persona = o.persona;

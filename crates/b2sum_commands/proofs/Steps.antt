@@ -3,7 +3,7 @@ use Rattle.std.proofs.Common.{◌≡◌, ℕ, ◌&&◌, ◌||◌, Bool, List, []
 use Rattle.std.proofs.Common.{Some, refl, ap, ◌∙◌, sym, subst, append_assoc, ◌+◌, ◌<◌, length}
 use Rattle.std.proofs.Common.{drop, get_or, add-one, drop-cons}
 use Rattle.b2sum_lines.specs.Lines.{Line}
-use Rattle.b2sum_lines.specs.declared.entry.Algorithm.{Algorithm}
+use Rattle.b2sum_commands.specs.declared.options.Options.{Options}
 use Rattle.b2sum_lines.specs.declared.entry.Spacing.{Spacing}
 use Rattle.b2sum_commands.specs.Checks.{AreCounted}
 use Rattle.b2sum_commands.specs.Manifests.{item, items, onto_items, next_spacing, IsVerdict}
@@ -40,7 +40,7 @@ sum_step holds cause first left mid after all names name sums rest text done rea
 -- One more line has a verdict.
 pub verdict_step : (holds : List ℕ → Option (List ℕ)) (cause : ℕ → List ℕ → Type 0)
     (hash : ℕ → List ℕ → List ℕ) (ignores : Bool)
-    (a : Algorithm) (input : Bool) (s : Spacing) (first left mid after : Option (List ℕ))
+    (a : Options) (input : Bool) (s : Spacing) (first left mid after : Option (List ℕ))
     (all : List (Option Line)) (line : List ℕ) (lines : List (List ℕ)) (i : Option Line)
     (v : Verdict) (vs rest : List Verdict)
     → item a input s line ≡ Some i
@@ -62,7 +62,7 @@ verdict_step holds cause hash ignores a input s first left mid after all line li
     (v ∷ rest) after) (sym is) (mid, verdict, follows)))
 
 -- The lines that are printed with one more verdict.
-pub line_step : (r : Report) (a : Algorithm) (input : Bool) (s : Spacing) (all : List (Option Line))
+pub line_step : (r : Report) (a : Options) (input : Bool) (s : Spacing) (all : List (Option Line))
     (line : List ℕ) (lines : List (List ℕ)) (i : Option Line) (v : Verdict) (vs rest : List Verdict)
     (printed : List ℕ)
     → item a input s line ≡ Some i

@@ -83,10 +83,12 @@ abbrev pub chosen_style : Choice → Style
 chosen_style c =
     if c.is_tagged || is_some c.leaf then Tagged else if is_binary c.is_binary then Binary else Text
 
--- The options of a choice. The key is that of the key file, or none.
+-- The options of a choice. The key is that of the key file, or none. A check demands a length of
+-- digests if one is given, and under a key.
 pub record AreOptions (c : Choice) (o : Options) : Type 0 where
   pub algorithm : o.algorithm ≡ with_leaf c.algorithm c.leaf
   pub bytes : o.bytes ≡ (if c.bits == 0 then max_bytes c.algorithm else c.bits / 8)
+  pub demands_length : o.demands_length ≡ (not (c.bits == 0) || is_some c.key_file)
   pub key : c.key_file ≡ None → o.key.items ≡ []
   pub salt : o.salt.items ≡ c.salt
   pub persona : o.persona.items ≡ c.persona

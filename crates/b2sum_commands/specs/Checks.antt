@@ -18,10 +18,9 @@ use Rattle.std.specs.Prelude.{
 }
 use Rattle.std.specs.Io.KnownBytes.{Appends, Consumes, IsAtEnd}
 use Rattle.std.specs.List.{list_any, list_all}
-use Rattle.b2sum_lines.specs.Cuts.{lines_of}
+use Rattle.text_lines.specs.Cuts.{lines_of}
 use Rattle.b2sum_lines.specs.Entries.{entry_value}
 use Rattle.b2sum_lines.specs.Lines.{Line}
-use Rattle.b2sum_lines.specs.declared.entry.Algorithm.{Algorithm}
 use Rattle.b2sum_lines.specs.declared.entry.Entry.{Entry}
 use Rattle.b2sum_lines.specs.declared.entry.Spacing.{Spacing}
 use Rattle.b2sum_commands.specs.declared.check.Counts.{Counts}
@@ -47,10 +46,10 @@ IfListed (Listed e) holds = holds e
 IfListed Malformed holds = ⊤
 
 -- The spacing after these lines.
-abbrev pub final_spacing : Algorithm → Bool → Spacing → List (List ℕ) → Spacing
-final_spacing a input s [] = s
-final_spacing a input s (line ∷ lines) =
-    final_spacing a input (next_spacing s (item a input s line)) lines
+abbrev pub final_spacing : Options → Bool → Spacing → List (List ℕ) → Spacing
+final_spacing o input s [] = s
+final_spacing o input s (line ∷ lines) =
+    final_spacing o input (next_spacing s (item o input s line)) lines
 
 -- The counts are those of verdicts.
 pub record AreCounted (vs : List Verdict) (counts : Counts) : Type 0 where
@@ -89,9 +88,9 @@ pub record AreJudged (holds : List ℕ → Option (List ℕ)) (cause : Options �
     (o : Options) (input : Bool) (spacing : Spacing) (text : List ℕ) (verdicts : List Verdict)
     (left after old new : Option (List ℕ)) : Type 0 where
   pub are_verdicts : AreVerdicts holds (cause o) (hash o) o.ignores_missing left
-      (items o.algorithm input spacing (lines_of text)) verdicts after
+      (items o input spacing (lines_of text)) verdicts after
   pub lines : Appends old new (verdict_lines o.report
-      (items o.algorithm input spacing (lines_of text)) verdicts)
+      (items o input spacing (lines_of text)) verdicts)
 
 -- A manifest that was read is checked by the options, with this result: whether it holds.
 pub record IsJudged (holds : List ℕ → Option (List ℕ)) (cause : Options → ℕ → List ℕ → Type 0)
@@ -105,7 +104,7 @@ pub record IsJudged (holds : List ℕ → Option (List ℕ)) (cause : Options �
   pub are_judged : AreJudged holds cause hash o (is_dash name) spacing text verdicts mid after old
       new
   pub is_result : result ≡ holds_by o.is_strict verdicts
-  pub is_spaced : spaced ≡ final_spacing o.algorithm (is_dash name) spacing (lines_of text)
+  pub is_spaced : spaced ≡ final_spacing o (is_dash name) spacing (lines_of text)
 
 -- The manifest of this name is checked, or it was not read to its end, for a cause, and does not
 -- hold. Then the lines of some text are checked.

@@ -7,7 +7,7 @@ use Rattle.std.specs.List.{starts_with, find, count_by}
 use Rattle.std.specs.Result.{result_ok}
 use Rattle.std.specs.Str.{bytes_eq}
 use Rattle.hex.specs.Hex.{decode_of}
-use Rattle.b2sum_lines.specs.Cuts.{cut_at}
+use Rattle.text_lines.specs.Cuts.{cut_at}
 use Rattle.b2sum_lines.specs.declared.entry.Algorithm as entry
 use Rattle.b2sum_lines.specs.declared.entry.Algorithm.TheVariants.{Blake2b, Blake2s}
 use Rattle.b2sum_commands.specs.declared.options.Flag.{Flag}

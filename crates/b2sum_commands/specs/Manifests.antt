@@ -5,7 +5,6 @@ use Rattle.std.specs.Prelude.{Option, Some, None}
 use Rattle.std.specs.List.{list_any, list_all}
 use Rattle.std.specs.Option.{option_map}
 use Rattle.b2sum_lines.specs.Lines.{Line, escaped, line_entry}
-use Rattle.b2sum_lines.specs.declared.entry.Algorithm.{Algorithm}
 use Rattle.b2sum_lines.specs.declared.entry.Spacing.{Spacing}
 use Rattle.b2sum_lines.specs.declared.entry.Spacing.TheVariants.{Two, One}
 use Rattle.b2sum_lines.specs.declared.entry.Style.{Style}
@@ -13,6 +12,7 @@ use Rattle.b2sum_lines.specs.declared.entry.Style.TheVariants.{Tagged, Text, Bin
 use Rattle.b2sum_commands.specs.declared.check.Verdict.{Verdict}
 use Rattle.b2sum_commands.specs.declared.check.Verdict.TheVariants.{Equal, Different, Unread}
 use Rattle.b2sum_commands.specs.declared.check.Verdict.TheVariants.{Skipped, Malformed}
+use Rattle.b2sum_commands.specs.declared.options.Options.{Options}
 use Rattle.b2sum_commands.specs.declared.options.Report.{Report}
 use Rattle.b2sum_commands.specs.declared.options.Report.TheVariants.{Each, Warnings, Failures}
 use Rattle.b2sum_commands.specs.declared.options.Report.TheVariants.{Nothing}
@@ -35,14 +35,21 @@ abbrev pub trimmed : List ℕ → Option (List ℕ)
 trimmed [] = None
 trimmed (b ∷ line) = if b == 35 then None else not_empty (without_return (b ∷ line))
 
--- An entry that can be checked. A manifest on standard input has none for standard input.
-abbrev pub checkable : Bool → Option Line → Option Line
-checkable input None = None
-checkable input (Some e) = if input && is_dash e.name then None else Some e
+-- The length of a digest is the one that the options demand, if they demand one.
+abbrev pub has_demanded_length : Options → List ℕ → Bool
+has_demanded_length o digest = not o.demands_length || length digest == o.bytes
+
+-- An entry that can be checked: its digest has the length that is demanded. A manifest on standard
+-- input has none for standard input.
+abbrev pub checkable : Options → Bool → Option Line → Option Line
+checkable o input None = None
+checkable o input (Some e) =
+    if has_demanded_length o e.digest && not (input && is_dash e.name) then Some e else None
 
 -- What a line is: none for a comment, and else its entry, which is none if it is malformed.
-abbrev pub item : Algorithm → Bool → Spacing → List ℕ → Option (Option Line)
-item a input s line = option_map (λ body. checkable input (line_entry a s body)) (trimmed line)
+abbrev pub item : Options → Bool → Spacing → List ℕ → Option (Option Line)
+item o input s line =
+    option_map (λ body. checkable o input (line_entry o.algorithm s body)) (trimmed line)
 
 -- The spacing after an entry of this style.
 abbrev pub spacing_after : Spacing → Style → Spacing
@@ -63,10 +70,10 @@ onto_items None items = items
 onto_items (Some i) items = i ∷ items
 
 -- The entries of lines in order, none for each malformed line. Comments are left out.
-abbrev pub items : Algorithm → Bool → Spacing → List (List ℕ) → List (Option Line)
-items a input s [] = []
-items a input s (line ∷ lines) =
-    onto_items (item a input s line) (items a input (next_spacing s (item a input s line)) lines)
+abbrev pub items : Options → Bool → Spacing → List (List ℕ) → List (Option Line)
+items o input s [] = []
+items o input s (line ∷ lines) =
+    onto_items (item o input s line) (items o input (next_spacing s (item o input s line)) lines)
 
 -- ---- verdicts
 

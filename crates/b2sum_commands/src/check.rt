@@ -4,10 +4,11 @@ ghost use Rattle.std.specs.Prelude.{◌≡◌, ◌≢◌, ◌⊎◌, ℕ, ◌<�
 ghost use Rattle.std.specs.Prelude.{Some, None, ◌++◌, length, not, true, false, IfOk, IfSome, OnOk};
 ghost use Rattle.std.specs.Io.KnownBytes.{Appends, Consumes, IsAtEnd};
 ghost use Rattle.std.specs.Option.{option_map};
-ghost use Rattle.b2sum_lines.specs.Cuts.{lines_of};
+ghost use Rattle.text_lines.specs.Cuts.{lines_of};
 ghost use Rattle.b2sum_lines.specs.Entries.{entry_value};
 ghost use Rattle.b2sum_commands.specs.Sums.{is_dash, CannotRead, CannotSum, CannotCheck, CannotGet};
 ghost use Rattle.b2sum_commands.specs.Manifests.{trimmed, item, items, spacing_after, IsVerdict};
+ghost use Rattle.b2sum_commands.specs.Manifests.{has_demanded_length};
 ghost use Rattle.b2sum_commands.specs.Manifests.{AreVerdicts, is_equal, is_fine, is_formed};
 ghost use Rattle.b2sum_commands.specs.Manifests.{outcome, with_name, verdict_line, verdict_lines};
 ghost use Rattle.b2sum_commands.specs.Checks.{item_value, IfListed, final_spacing, AreCounted};
@@ -23,10 +24,11 @@ use crate::options::{Options, Report};
 use crate::quoting::quoted_name;
 use crate::sums::{Read, digest_file, is_dash};
 use crate::texts::{warn, warn_of_count, warn_of_file};
-use b2sum_lines::{Entry, Spacing, Style, push_decimal, push_escaped, read_line, split_line};
+use b2sum_lines::{Entry, Spacing, Style, push_escaped, read_line};
 use blake2_digest::is_same;
 use blake2_replay::engine::{Sink, Source};
 use std::alloc::Global;
+use text_lines::{push_decimal, split_line};
 
 /// What the check of a line came to.
 #[derive(Clone, Copy, Debug, PartialEq, Eq)]
@@ -268,13 +270,13 @@ fn check_lines<H: Hashes, D: Disk, K: Output, E: Sink>(
         (CannotSum D.File.failed H.rejects (D.refuses disk.now) options.now)
         (H.digest options.now) options.now.ignores_missing
         (D.File.left input.old)
-        (items options.now.algorithm is_input spacing.old (lines_of text.now)) vs
+        (items options.now is_input spacing.old (lines_of text.now)) vs
         (D.File.left input.new)
         × Appends (K.held output.old) (K.held output.new) (verdict_lines options.now.report
-        (items options.now.algorithm is_input spacing.old (lines_of text.now)) vs)
+        (items options.now is_input spacing.old (lines_of text.now)) vs)
         × AreCounted vs counts) }
     ensures spacing { IfOk result (λ _. spacing.new
-        ≡ final_spacing options.now.algorithm is_input spacing.old (lines_of text.now)) }
+        ≡ final_spacing options.now is_input spacing.old (lines_of text.now)) }
 {
     let mut counts = Counts::none();
     let mut number = 0u64;
@@ -356,7 +358,8 @@ enum Item {
     Malformed,
 }
 
-// Returns what a line is. In a manifest on standard input, no entry is for standard input.
+// Returns what a line is. An entry has the length that the options demand. In a manifest on standard
+// input, no entry is for standard input.
 fn read_item(
     alloc: Global,
     options: &Options,
@@ -365,16 +368,25 @@ fn read_item(
     line: &[u8],
 ) -> Result<Item, Fault>
     ensures is { IfOk result
-        (λ i. item_value i ≡ item options.now.algorithm is_input spacing line.now) }
+        (λ i. item_value i ≡ item options.now is_input spacing line.now) }
     ensures fits { IfOk result (λ i. IfListed i (λ e. length e.digest.items ≤ 64)) }
 {
     let Some(line) = trimmed(line) else {
         return Ok(Item::Comment);
     };
     match read_line(alloc, options.algorithm, spacing, line)? {
-        Some(entry) if !(is_input && is_dash(entry.name.as_slice())) => Ok(Item::Listed(entry)),
+        Some(entry) if is_checkable(options, is_input, &entry) => Ok(Item::Listed(entry)),
         _ => Ok(Item::Malformed),
     }
+}
+
+// Returns whether the entry can be checked.
+fn is_checkable(options: &Options, is_input: bool, entry: &Entry) -> bool
+    ensures { result ≡ (has_demanded_length options.now entry.now.digest.items
+        && not (is_input && is_dash entry.now.name.items)) }
+{
+    let has_length = !options.demands_length || entry.digest.len() == options.bytes;
+    has_length && !(is_input && is_dash(entry.name.as_slice()))
 }
 
 // Returns the line without a carriage return at its end, or `None` for a comment and for an empty

@@ -25,8 +25,9 @@ ghost use Rattle.b2sum_commands.specs.declared.options.Next.TheVariants.{Any};
 
 use crate::quoting::quoted_value;
 use crate::values::{algorithm_of, bits_of, bytes_of, leaf_of};
-use b2sum_lines::{Algorithm, Style, split_once};
+use b2sum_lines::{Algorithm, Style};
 use std::alloc::{AllocError, Global};
+use text_lines::split_once;
 
 /// What a check prints.
 #[derive(Clone, Copy, Debug, PartialEq, Eq)]
@@ -48,6 +49,8 @@ pub struct Options {
     pub algorithm: Algorithm,
     /// The number of bytes of the digests that are printed.
     pub bytes: usize,
+    /// A check accepts only digests of `bytes` bytes.
+    pub demands_length: bool,
     /// The key, which has no bytes if there is none.
     pub key: Vec<u8>,
     /// The salt: at most 16 bytes, or 8 for BLAKE2s.
@@ -579,6 +582,7 @@ fn finish(alloc: Global, reader: Reader, files: Vec<Vec<u8>>) -> Result<Argument
     }
     check_labels(alloc, &reader)?;
     let bytes = output_bytes(&reader);
+    let demands_length = reader.bits != 0 || reader.key_file.is_some();
     let style = style_of(&reader);
     let chosen = chosen_algorithm(&reader);
     let Reader {
@@ -600,6 +604,7 @@ fn finish(alloc: Global, reader: Reader, files: Vec<Vec<u8>>) -> Result<Argument
     let options = Options {
         algorithm: chosen,
         bytes,
+        demands_length,
         key: Vec::new(alloc),
         salt,
         persona,

@@ -5,10 +5,10 @@ ghost use Rattle.b2sum_commands.specs.Runs.{EndsWith, IsTold};
 
 use crate::devices::tell;
 use crate::quoting::quoted_name;
-use b2sum_lines::push_decimal;
 use blake2_replay::engine::Sink;
 use std::alloc::{AllocError, Global};
 use std::io;
+use text_lines::push_decimal;
 
 /// Prints the line `b2sum: ` and these parts to the sink of messages.
 pub(crate) fn warn<E: Sink>(

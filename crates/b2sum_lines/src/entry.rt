@@ -3,8 +3,8 @@
 ghost use Rattle.std.specs.Prelude.{◌≡◌, ◌≤◌, IfOk};
 ghost use Rattle.b2sum_lines.specs.Lines.{max_bytes, tag, is_tree};
 
-use crate::writes::push_decimal;
 use std::alloc::{AllocError, Global};
+use text_lines::push_decimal;
 
 /// The hash functions that a manifest can have.
 #[derive(Clone, Copy, Debug, PartialEq, Eq)]

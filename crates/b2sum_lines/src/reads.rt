@@ -11,9 +11,9 @@ ghost use Rattle.b2sum_lines.specs.Entries.{entry_value};
 use crate::entry::{Algorithm, Entry, Spacing, Style};
 use crate::names::name_of;
 use crate::texts::{after_prefix, cut_last, skip_blanks, skip_digits};
-use crate::writes::push_decimal;
 use hex::FromHexError;
 use std::alloc::{AllocError, Global};
+use text_lines::push_decimal;
 
 /// Returns the entry that a line without its newline is read as, or `None` if it is not the line
 /// of an entry of this algorithm. `spacing` is what the untagged lines before have. The digest of

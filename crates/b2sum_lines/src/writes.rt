@@ -1,6 +1,6 @@
 //! Writing lines.
 
-ghost use Rattle.std.specs.Prelude.{◌≡◌, ◌++◌, ◌*◌, ◌≤◌, decimal, length, IfOk, OnOk};
+ghost use Rattle.std.specs.Prelude.{◌≡◌, ◌++◌, ◌*◌, ◌≤◌, length, IfOk, OnOk};
 ghost use Rattle.hex.specs.Hex.{encode_lower};
 ghost use Rattle.b2sum_lines.specs.Lines.{entry_line, plain_line, body_line, tag_length, IsReadBack};
 ghost use Rattle.b2sum_lines.specs.Entries.{entry_value};
@@ -8,6 +8,7 @@ ghost use Rattle.b2sum_lines.specs.Entries.{entry_value};
 use crate::entry::{Algorithm, Entry, Style};
 use crate::names::{escape_name, push_escaped};
 use std::alloc::{AllocError, Global};
+use text_lines::push_decimal;
 
 /// Returns the entry's line, without a newline. A name with a backslash, a newline or a carriage
 /// return is escaped, with a backslash at the front of the line. The error is `AllocError`, if an
@@ -107,13 +108,4 @@ fn push_tag_length(line: &mut Vec<u8>, algorithm: Algorithm, bytes: usize) -> Re
     }
     line.push(b'-')?;
     push_decimal(line, 8 * bytes as u64)
-}
-
-/// Appends a number in decimal, without leading zeros. The error is `AllocError`, if an allocation
-/// fails.
-pub fn push_decimal(line: &mut Vec<u8>, n: u64) -> Result<(), AllocError>
-    ensures { OnOk result (line.new.items ≡ line.old.items ++ decimal n) }
-{
-    let mut digits = itoa::Buffer::new();
-    line.extend_from_slice(digits.format(n).as_bytes())
 }

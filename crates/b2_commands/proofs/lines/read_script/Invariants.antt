@@ -1,5 +1,5 @@
 use Rattle.std.proofs.Common.{◌≡◌, ◌+◌, length, map}
-use Rattle.b2sum_lines.specs.Cuts.{lines_of}
+use Rattle.text_lines.specs.Cuts.{lines_of}
 use Rattle.b2_commands.specs.Reading.{call_value}
 use Rattle.b2_commands.specs.Scripts.{calls_from, script_calls}
 use Rattle.b2_commands.proofs.LineLemmas.{behind}

@@ -1,6 +1,6 @@
 use Rattle.std.proofs.Common.{◌≡◌, ℕ, List, [], ◌∷◌, length, subst, rules}
 use Rattle.b2sum_commands.specs.Checks.{item_value}
-use Rattle.b2sum_lines.specs.Cuts.{lines_of}
+use Rattle.text_lines.specs.Cuts.{lines_of}
 use Rattle.b2sum_commands.specs.Sums.{CannotSum}
 use Rattle.b2sum_commands.proofs.Progress.{Progress, progress_start, progress_step, progress_end}
 use Rattle.b2sum_commands.proofs.Progress.{no_bytes}

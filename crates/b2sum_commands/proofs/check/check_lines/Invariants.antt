@@ -1,5 +1,5 @@
 use Rattle.std.proofs.Common.{◌<◌, ◌≤◌, ◌^◌, length}
-use Rattle.b2sum_lines.specs.Cuts.{lines_of}
+use Rattle.text_lines.specs.Cuts.{lines_of}
 use Rattle.b2sum_commands.specs.Sums.{CannotSum}
 use Rattle.b2sum_commands.proofs.Progress.{Progress}
 use Rattle.b2sum_commands.proofs.check.check_lines.Given as goal

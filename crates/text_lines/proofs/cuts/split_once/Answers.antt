@@ -2,8 +2,8 @@ use Rattle.std.proofs.Common.{◌≡◌, ℕ, ◌+◌, ◌==◌, length, take, S
 use Rattle.std.proofs.lemmas.List.Sums.{position_or_len_is}
 use Rattle.std.proofs.lemmas.List.{take_rest}
 use Rattle.std.specs.List.{position_or_len}
-use Rattle.b2sum_lines.proofs.CutLemmas.{cut_found, cut_none}
-use Rattle.b2sum_lines.proofs.texts.split_once.Goals as goal
+use Rattle.text_lines.proofs.CutLemmas.{cut_found, cut_none}
+use Rattle.text_lines.proofs.cuts.split_once.Goals as goal
 
 pub returns-in_err-place : goal.returns-in_err-place
 returns-in_err-place c =

@@ -8,7 +8,7 @@ use Rattle.std.proofs.lemmas.List.Splits.{length-slice_split, slice_split-cons_n
 use Rattle.std.proofs.lemmas.List.Splits.{slice_split_first}
 use Rattle.std.specs.List.{after_first, before_first, onto_first, position_or_len, slice_split}
 use Rattle.std.specs.Option.{option_map, unwrap_or}
-use Rattle.b2sum_lines.specs.Cuts.{cut_at, lines_of, lines_of_parts}
+use Rattle.text_lines.specs.Cuts.{cut_at, lines_of, lines_of_parts}
 
 -- A list in which the byte is first at this index is cut there.
 pub cut_found : (byte : ℕ) (text : List ℕ) (i : ℕ) → position_or_len (λ (b : ℕ). b == byte) text ≡ i

@@ -1,6 +1,6 @@
 use Rattle.std.proofs.Common.{refl}
-use Rattle.b2sum_lines.proofs.CutLemmas.{first_line_of}
-use Rattle.b2sum_lines.proofs.texts.split_line.Goals as goal
+use Rattle.text_lines.proofs.CutLemmas.{first_line_of}
+use Rattle.text_lines.proofs.cuts.split_line.Goals as goal
 
 pub returns-clause-first : goal.returns-clause-first
 returns-clause-first c =
