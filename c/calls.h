@@ -3,8 +3,9 @@
  *
  * Each function has the calling convention of the system, and calls the build that this processor
  * supports. On x86-64 the assembly has System V's convention, on Windows too. On 64-bit ARM it has
- * Arm's, by which each argument on the stack takes 8 bytes. Apple packs arguments there: init_tree
- * is the only function for which that differs, so its narrow arguments are passed as wide ones. */
+ * Arm's, by which each argument on the stack takes 8 bytes. Apple packs arguments there, but puts
+ * those of these functions where Arm does: tools/exports.py, which writes the list below, refuses
+ * others. */
 
 #undef CALL
 
@@ -42,26 +43,26 @@ static unsigned char level(void) {
 #else
 #define SHOWN __attribute__((visibility("default")))
 #endif
-#define CALL_WIDE(name, type, parameters, wide, arguments) \
-    DECLARE(name, type, wide)                              \
-    SHOWN type name parameters { return CHOSEN(name, arguments); }
 #define CALL(name, type, parameters, arguments) \
-    CALL_WIDE(name, type, parameters, parameters, arguments)
+    DECLARE(name, type, parameters)             \
+    SHOWN type name parameters { return CHOSEN(name, arguments); }
 #define CALL_VOID(name, parameters, arguments) \
     DECLARE(name, void, parameters)            \
     SHOWN void name parameters { CHOSEN(name, arguments); }
 
+/* The functions that vulfsjor.h declares, as tools/exports.py writes them. */
 CALL(vulfsjor_ffi_version, uint32_t, (void), ())
-CALL(vulfsjor_ffi_is_same, int32_t, (const uint8_t *a, size_t a_length, const uint8_t *b,
+CALL(vulfsjor_ffi_memcmp, int32_t, (const uint8_t *a, size_t a_length, const uint8_t *b,
      size_t b_length), (a, a_length, b, b_length))
+CALL_VOID(vulfsjor_ffi_wipe, (uint8_t *bytes, size_t length), (bytes, length))
 
 CALL(vulfsjor_ffi_blake2b, int32_t, (uint8_t *out, size_t out_length, const uint8_t *input,
      size_t input_length, const uint8_t *key, size_t key_length), (out, out_length, input,
      input_length, key, key_length))
 CALL(vulfsjor_ffi_blake2b_many, int32_t, (uint8_t *out, size_t out_length, size_t output_size,
      const vulfsjor_message *messages, size_t count, const uint8_t *key, size_t key_length,
-     const uint8_t *salt, size_t salt_length, const uint8_t *personal, size_t personal_length), (out,
-     out_length, output_size, messages, count, key, key_length, salt, salt_length, personal,
+     const uint8_t *salt, size_t salt_length, const uint8_t *personal, size_t personal_length),
+     (out, out_length, output_size, messages, count, key, key_length, salt, salt_length, personal,
      personal_length))
 CALL(vulfsjor_ffi_blake2b_init_salt_personal, int32_t, (vulfsjor_blake2b_state *state,
      size_t output_size, const uint8_t *key, size_t key_length, const uint8_t *salt,
@@ -69,16 +70,10 @@ CALL(vulfsjor_ffi_blake2b_init_salt_personal, int32_t, (vulfsjor_blake2b_state *
      key_length, salt, salt_length, personal, personal_length))
 CALL(vulfsjor_ffi_blake2b_init_key, int32_t, (vulfsjor_blake2b_state *state, size_t output_size,
      const uint8_t *key, size_t key_length), (state, output_size, key, key_length))
-CALL_WIDE(vulfsjor_ffi_blake2b_init_tree, int32_t, (vulfsjor_blake2b_state *state,
-          size_t output_size, const uint8_t *key, size_t key_length, const uint8_t *salt,
-          size_t salt_length, const uint8_t *personal, size_t personal_length, uint8_t fanout,
-          uint8_t depth, uint32_t leaf_length, uint64_t node_offset, uint8_t node_depth,
-          uint8_t inner_length), (vulfsjor_blake2b_state *state, size_t output_size,
-          const uint8_t *key, size_t key_length, const uint8_t *salt, size_t salt_length,
-          const uint8_t *personal, size_t personal_length, uint64_t fanout, uint64_t depth,
-          uint64_t leaf_length, uint64_t node_offset, uint64_t node_depth, uint64_t inner_length),
-          (state, output_size, key, key_length, salt, salt_length, personal, personal_length, fanout,
-          depth, leaf_length, node_offset, node_depth, inner_length))
+CALL(vulfsjor_ffi_blake2b_init_tree, int32_t, (vulfsjor_blake2b_state *state, size_t output_size,
+     const uint8_t *key, size_t key_length, const uint8_t *salt, size_t salt_length,
+     const uint8_t *personal, size_t personal_length, const vulfsjor_tree *tree), (state,
+     output_size, key, key_length, salt, salt_length, personal, personal_length, tree))
 CALL(vulfsjor_ffi_blake2b_init_param, int32_t, (vulfsjor_blake2b_state *state, const uint8_t *block,
      size_t block_length), (state, block, block_length))
 CALL(vulfsjor_ffi_blake2b_update, int32_t, (vulfsjor_blake2b_state *state, const uint8_t *input,
@@ -100,8 +95,8 @@ CALL(vulfsjor_ffi_blake2s, int32_t, (uint8_t *out, size_t out_length, const uint
      input_length, key, key_length))
 CALL(vulfsjor_ffi_blake2s_many, int32_t, (uint8_t *out, size_t out_length, size_t output_size,
      const vulfsjor_message *messages, size_t count, const uint8_t *key, size_t key_length,
-     const uint8_t *salt, size_t salt_length, const uint8_t *personal, size_t personal_length), (out,
-     out_length, output_size, messages, count, key, key_length, salt, salt_length, personal,
+     const uint8_t *salt, size_t salt_length, const uint8_t *personal, size_t personal_length),
+     (out, out_length, output_size, messages, count, key, key_length, salt, salt_length, personal,
      personal_length))
 CALL(vulfsjor_ffi_blake2s_init_salt_personal, int32_t, (vulfsjor_blake2s_state *state,
      size_t output_size, const uint8_t *key, size_t key_length, const uint8_t *salt,
@@ -109,16 +104,10 @@ CALL(vulfsjor_ffi_blake2s_init_salt_personal, int32_t, (vulfsjor_blake2s_state *
      key_length, salt, salt_length, personal, personal_length))
 CALL(vulfsjor_ffi_blake2s_init_key, int32_t, (vulfsjor_blake2s_state *state, size_t output_size,
      const uint8_t *key, size_t key_length), (state, output_size, key, key_length))
-CALL_WIDE(vulfsjor_ffi_blake2s_init_tree, int32_t, (vulfsjor_blake2s_state *state,
-          size_t output_size, const uint8_t *key, size_t key_length, const uint8_t *salt,
-          size_t salt_length, const uint8_t *personal, size_t personal_length, uint8_t fanout,
-          uint8_t depth, uint32_t leaf_length, uint64_t node_offset, uint8_t node_depth,
-          uint8_t inner_length), (vulfsjor_blake2s_state *state, size_t output_size,
-          const uint8_t *key, size_t key_length, const uint8_t *salt, size_t salt_length,
-          const uint8_t *personal, size_t personal_length, uint64_t fanout, uint64_t depth,
-          uint64_t leaf_length, uint64_t node_offset, uint64_t node_depth, uint64_t inner_length),
-          (state, output_size, key, key_length, salt, salt_length, personal, personal_length, fanout,
-          depth, leaf_length, node_offset, node_depth, inner_length))
+CALL(vulfsjor_ffi_blake2s_init_tree, int32_t, (vulfsjor_blake2s_state *state, size_t output_size,
+     const uint8_t *key, size_t key_length, const uint8_t *salt, size_t salt_length,
+     const uint8_t *personal, size_t personal_length, const vulfsjor_tree *tree), (state,
+     output_size, key, key_length, salt, salt_length, personal, personal_length, tree))
 CALL(vulfsjor_ffi_blake2s_init_param, int32_t, (vulfsjor_blake2s_state *state, const uint8_t *block,
      size_t block_length), (state, block, block_length))
 CALL(vulfsjor_ffi_blake2s_update, int32_t, (vulfsjor_blake2s_state *state, const uint8_t *input,
@@ -156,9 +145,9 @@ CALL(vulfsjor_ffi_tree_leaf_count, uint64_t, (uint64_t message_length, uint32_t 
      (message_length, leaf_length))
 CALL(vulfsjor_ffi_tree_leaves, int32_t, (uint8_t *out, size_t out_length, uint64_t first,
      uint32_t ends, const uint8_t *input, size_t input_length, const uint8_t *salt,
-     size_t salt_length, const uint8_t *personal, size_t personal_length, uint32_t leaf_length), (out,
-     out_length, first, ends, input, input_length, salt, salt_length, personal, personal_length,
-     leaf_length))
+     size_t salt_length, const uint8_t *personal, size_t personal_length, uint32_t leaf_length),
+     (out, out_length, first, ends, input, input_length, salt, salt_length, personal,
+     personal_length, leaf_length))
 CALL(vulfsjor_ffi_tree_root_of_leaves, int32_t, (uint8_t *out, size_t out_length,
      const uint8_t *digests, size_t digests_length, const uint8_t *salt, size_t salt_length,
      const uint8_t *personal, size_t personal_length, uint32_t leaf_length), (out, out_length,
@@ -169,7 +158,7 @@ CALL(vulfsjor_ffi_tree_next_leaves, int32_t, (const vulfsjor_tree_state *state, 
 CALL(vulfsjor_ffi_tree_update_leaves, int32_t, (vulfsjor_tree_state *state, const uint8_t *digests,
      size_t digests_length, const uint8_t *input, size_t input_length), (state, digests,
      digests_length, input, input_length))
-CALL(vulfsjor_ffi_tree_accepts, int32_t, (size_t output_size, size_t salt_length,
+CALL(vulfsjor_ffi_tree_check, int32_t, (size_t output_size, size_t salt_length,
      size_t personal_length, uint32_t leaf_length), (output_size, salt_length, personal_length,
      leaf_length))
 CALL(vulfsjor_ffi_tree_init_leaf, int32_t, (vulfsjor_blake2b_state *state, uint64_t i,
@@ -183,8 +172,7 @@ CALL(vulfsjor_ffi_tree_init_root, int32_t, (vulfsjor_blake2b_state *state, size_
 CALL(vulfsjor_ffi_tree_plan, int32_t, (vulfsjor_plan *plan, uint64_t start, uint64_t length,
      uint32_t leaf_length, const vulfsjor_limits *limits), (plan, start, length, leaf_length,
      limits))
-CALL(vulfsjor_ffi_tree_plan_update, int32_t, (vulfsjor_plan *plan,
-     const vulfsjor_tree_state *state, uint64_t length, const vulfsjor_limits *limits), (plan,
-     state, length, limits))
-CALL(vulfsjor_ffi_tree_part, int32_t, (vulfsjor_part *part, const vulfsjor_plan *plan,
-     uint64_t i), (part, plan, i))
+CALL(vulfsjor_ffi_tree_plan_update, int32_t, (vulfsjor_plan *plan, const vulfsjor_tree_state *state,
+     uint64_t length, const vulfsjor_limits *limits), (plan, state, length, limits))
+CALL(vulfsjor_ffi_tree_part, int32_t, (vulfsjor_part *part, const vulfsjor_plan *plan, uint64_t i),
+     (part, plan, i))

@@ -174,63 +174,64 @@ __attribute__((used)) HIDDEN unsigned char vulfsjor_ffi_find(void) {
 }
 #endif
 
-/* The functions that vulfsjor.h declares: c/join.sh compares this list with the header and with the
- * assembly. */
+/* The functions that vulfsjor.h declares, as tools/exports.py writes them. c/join.sh compares this
+ * list with the header and with the assembly. */
 #ifdef CHOOSE_FUNCTIONS
 #include CHOOSE_FUNCTIONS
 #elif !defined(__ELF__)
 #include "calls.h"
 #else
 CALL("vulfsjor_ffi_version")
-CALL("vulfsjor_ffi_is_same")
+CALL("vulfsjor_ffi_memcmp")
+CALL("vulfsjor_ffi_wipe")
 
 CALL("vulfsjor_ffi_blake2b")
 CALL("vulfsjor_ffi_blake2b_many")
 CALL("vulfsjor_ffi_blake2b_init_salt_personal")
 CALL("vulfsjor_ffi_blake2b_init_key")
-CALL("vulfsjor_ffi_blake2b_init_param")
 CALL("vulfsjor_ffi_blake2b_init_tree")
+CALL("vulfsjor_ffi_blake2b_init_param")
 CALL("vulfsjor_ffi_blake2b_update")
 CALL("vulfsjor_ffi_blake2b_final")
 CALL("vulfsjor_ffi_blake2b_verify")
 CALL("vulfsjor_ffi_blake2b_set_last_node")
 CALL("vulfsjor_ffi_blake2b_reset")
 CALL("vulfsjor_ffi_blake2b_wipe")
-CALL("vulfsjor_ffi_blake2b_count")
 CALL("vulfsjor_ffi_blake2b_digest_size")
+CALL("vulfsjor_ffi_blake2b_count")
 CALL("vulfsjor_ffi_blake2b_state_size")
 
 CALL("vulfsjor_ffi_blake2s")
 CALL("vulfsjor_ffi_blake2s_many")
 CALL("vulfsjor_ffi_blake2s_init_salt_personal")
 CALL("vulfsjor_ffi_blake2s_init_key")
-CALL("vulfsjor_ffi_blake2s_init_param")
 CALL("vulfsjor_ffi_blake2s_init_tree")
+CALL("vulfsjor_ffi_blake2s_init_param")
 CALL("vulfsjor_ffi_blake2s_update")
 CALL("vulfsjor_ffi_blake2s_final")
 CALL("vulfsjor_ffi_blake2s_verify")
 CALL("vulfsjor_ffi_blake2s_set_last_node")
 CALL("vulfsjor_ffi_blake2s_reset")
 CALL("vulfsjor_ffi_blake2s_wipe")
-CALL("vulfsjor_ffi_blake2s_count")
 CALL("vulfsjor_ffi_blake2s_digest_size")
+CALL("vulfsjor_ffi_blake2s_count")
 CALL("vulfsjor_ffi_blake2s_state_size")
 
 CALL("vulfsjor_ffi_tree_root")
 CALL("vulfsjor_ffi_tree_init")
 CALL("vulfsjor_ffi_tree_update")
-CALL("vulfsjor_ffi_tree_next_leaves")
-CALL("vulfsjor_ffi_tree_update_leaves")
 CALL("vulfsjor_ffi_tree_final")
 CALL("vulfsjor_ffi_tree_wipe")
+CALL("vulfsjor_ffi_tree_digest_size")
 CALL("vulfsjor_ffi_tree_count")
 CALL("vulfsjor_ffi_tree_leaf_length")
-CALL("vulfsjor_ffi_tree_digest_size")
 CALL("vulfsjor_ffi_tree_state_size")
 CALL("vulfsjor_ffi_tree_leaf_count")
 CALL("vulfsjor_ffi_tree_leaves")
 CALL("vulfsjor_ffi_tree_root_of_leaves")
-CALL("vulfsjor_ffi_tree_accepts")
+CALL("vulfsjor_ffi_tree_next_leaves")
+CALL("vulfsjor_ffi_tree_update_leaves")
+CALL("vulfsjor_ffi_tree_check")
 CALL("vulfsjor_ffi_tree_init_leaf")
 CALL("vulfsjor_ffi_tree_init_root")
 CALL("vulfsjor_ffi_tree_plan")

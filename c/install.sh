@@ -16,13 +16,14 @@
 #   FOLDER/lib/vulfsjor-libb2/                libb2.a and pkgconfig/libb2.pc, for programs that
 #                                             look for libb2
 #   FOLDER/include/vulfsjor.h                 the functions
+#   FOLDER/include/vulfsjor.hpp               a hasher for C++17, over them
 #   FOLDER/include/vulfsjor_threads.h         those of libvulfsjor-threads.a
 #   FOLDER/include/vulfsjor-libb2/blake2.h    the same by the names of libb2
 #
 # If the compiler is one for Windows, the shared library is FOLDER/bin/libvulfsjor-0.dll, with
 # FOLDER/lib/libvulfsjor.dll.a to link it. If it is one for macOS, that is
 # FOLDER/lib/libvulfsjor.0.dylib, with the link libvulfsjor.dylib. There are no threads then. The
-# script itself needs Linux or the tools of GNU.
+# script itself needs bash 4 and the tools of GNU or of BusyBox.
 #
 # It assembles the files of dist/ for the machine that the C compiler (CC, otherwise cc) compiles
 # for, x86-64 or 64-bit ARM, in a second or two. It needs the compiler and its binutils. CC
@@ -62,9 +63,35 @@ while [ $# -gt 0 ]; do
 done
 { [ $# -eq 1 ] && [ -n "$1" ] && [[ $1 != -* ]]; } || usage
 
+# A path as an absolute one without `.`, `..` and empty names. Links are not followed, and nothing
+# needs to be there.
+absolute() {
+    local name path='' rest=$1/
+    [[ $rest == /* ]] || rest=$PWD/$rest
+    while [ -n "$rest" ]; do
+        name=${rest%%/*} rest=${rest#*/}
+        case $name in
+            '' | .) ;;
+            ..) path=${path%/*} ;;
+            *) path+=/$name ;;
+        esac
+    done
+    printf '%s\n' "${path:-/}"
+}
+
+# The way from one folder to another, by their absolute paths: FROM TO
+relative() {
+    local from=${1%/}/ to=${2%/}/ up=''
+    while [[ $to != "$from"* ]]; do from=${from%/*/}/ up+=../; done
+    to=$up${to#"$from"} to=${to%/}
+    printf '%s\n' "${to:-.}"
+}
+
 # The folders as the installed files are found later; all but these names goes below DESTDIR.
-folder=$(realpath -ms -- "$1")
-libdir=$(cd / && realpath -ms -- "$([[ ${LIBDIR:-lib} == /* ]] || echo "$folder/")${LIBDIR:-lib}")
+folder=$(absolute "$1")
+libdir=${LIBDIR:-lib}
+[[ $libdir == /* ]] || libdir=$folder/$libdir
+libdir=$(absolute "$libdir")
 include=$folder/include
 beside=$libdir/vulfsjor-libb2
 package=$libdir/cmake/vulfsjor
@@ -79,14 +106,15 @@ files=("$libdir/libvulfsjor.a" "$libdir/libvulfsjor.so.$version" "$libdir/libvul
     "$libdir/libvulfsjor-threads.a" "$libdir/pkgconfig/vulfsjor-threads.pc"
     "$libdir/libvulfsjor-static.a" "$package/vulfsjor-config.cmake"
     "$package/vulfsjor-config-version.cmake"
-    "$include/vulfsjor_threads.h" "$include/vulfsjor.h" "$include/vulfsjor-libb2/blake2.h"
+    "$include/vulfsjor_threads.h" "$include/vulfsjor.h" "$include/vulfsjor.hpp"
+    "$include/vulfsjor-libb2/blake2.h"
     "$folder/bin/libvulfsjor-0.dll" "$libdir/libvulfsjor.dll.a" "$libdir/libvulfsjor.0.dylib"
     "$libdir/libvulfsjor.dylib")
 folders=("$package" "$beside/pkgconfig" "$beside" "$include/vulfsjor-libb2")
 if [ "$uninstall" = yes ]; then
     for name in "${files[@]}"; do rm -f -- "$root$name"; done
     for name in "${folders[@]}"; do
-        [ ! -d "$root$name" ] || rmdir --ignore-fail-on-non-empty -- "$root$name"
+        [ ! -d "$root$name" ] || [ -n "$(ls -A -- "$root$name")" ] || rmdir -- "$root$name"
     done
     echo "install.sh: uninstalled from $root$folder" >&2
     exit
@@ -122,38 +150,49 @@ if [ "$prove" = yes ]; then
     dist=$work/dist
     "$top/tools/dist.sh" make "$dist" "${texts[@]}"
 elif [ "$dist" = "$top/dist" ]; then
-    "$top/tools/dist.sh" current ||
-        fail "dist/ was not made from these sources: install with --prove"
+    "$top/tools/dist.sh" current || {
+        [ $? -ne 1 ] || fail "dist/ was not made from these sources: install with --prove"
+        fail "dist/ could not be compared with these sources"
+    }
 fi
 "$here/join.sh" "$work/lib" "${texts[@]/#/$dist/}"
 
-install -d "$root$libdir/pkgconfig" "${folders[@]/#/$root}"
-install -m 644 "$work/lib"/*.a "$root$libdir/"
+# Writes a file anew from standard input: FILE [RIGHTS]
+write() {
+    mkdir -p -- "${1%/*}"
+    rm -f -- "$1"
+    cat >"$1"
+    chmod "${2:-644}" "$1"
+}
+write_link() { ln -sf -- "$1" "$root$2"; }
+
+umask 022
+for name in "$work/lib"/*.a; do write "$root$libdir/${name##*/}" <"$name"; done
 case $system in
-    -windows) install -D -t "$root$folder/bin" "$work/lib/libvulfsjor-0.dll" ;;
+    -windows) write "$root$folder/bin/libvulfsjor-0.dll" 755 <"$work/lib/libvulfsjor-0.dll" ;;
     -macos)
-        install -m 755 "$work/lib/libvulfsjor.0.dylib" "$root$libdir/"
-        cp -P "$work/lib/libvulfsjor.dylib" "$root$libdir/"
+        write "$root$libdir/libvulfsjor.0.dylib" 755 <"$work/lib/libvulfsjor.0.dylib"
+        write_link libvulfsjor.0.dylib "$libdir/libvulfsjor.dylib"
         ;;
     *)
-        install -m 755 "$work/lib/libvulfsjor.so.$version" "$root$libdir/"
-        cp -P "$work/lib/libvulfsjor.so.0" "$work/lib/libvulfsjor.so" "$root$libdir/"
-        install -m 644 "$here/include/vulfsjor_threads.h" "$root$include/"
+        write "$root$libdir/libvulfsjor.so.$version" 755 <"$work/lib/libvulfsjor.so.$version"
+        write_link "libvulfsjor.so.$version" "$libdir/libvulfsjor.so.0"
+        write_link libvulfsjor.so.0 "$libdir/libvulfsjor.so"
+        write "$root$include/vulfsjor_threads.h" <"$here/include/vulfsjor_threads.h"
         ;;
 esac
-ln -sf libvulfsjor.a "$root$libdir/libvulfsjor-static.a"
-ln -sf ../libvulfsjor-libb2.a "$root$beside/libb2.a"
-install -m 644 "$here/include/vulfsjor.h" "$root$include/"
-install -m 644 "$here/include/libb2/blake2.h" "$root$include/vulfsjor-libb2/"
+for name in vulfsjor.h vulfsjor.hpp; do write "$root$include/$name" <"$here/include/$name"; done
+write "$root$include/vulfsjor-libb2/blake2.h" <"$here/include/libb2/blake2.h"
+mkdir -p -- "$root$beside"
+write_link libvulfsjor.a "$libdir/libvulfsjor-static.a"
+write_link ../libvulfsjor-libb2.a "$beside/libb2.a"
 
 # Writes a file for pkg-config: FILE NAME VERSION WHAT HEADERS WORDS. It finds the folders from
 # where it stands, so that all may be moved together.
 write_words() {
-    local from
-    from=$(dirname "$1")
-    install -m 644 /dev/stdin "$root$1" <<END
-prefix=\${pcfiledir}/$(realpath -ms --relative-to="$from" "$folder")
-libdir=\${pcfiledir}/$(realpath -ms --relative-to="$from" "$libdir")
+    write "$root$1" <<END
+prefix=\${pcfiledir}/$(relative "${1%/*}" "$folder")
+libdir=\${pcfiledir}/$(relative "${1%/*}" "$libdir")
 includedir=\${prefix}/include
 libb2dir=\${includedir}/vulfsjor-libb2
 
@@ -175,10 +214,10 @@ write_words "$beside/pkgconfig/libb2.pc" libb2 0.98.1 ", a drop-in replacement f
     '${libb2dir}' '-L${libdir}/vulfsjor-libb2 -lb2'
 
 # Writes a file of the package for CMake, which finds the folders in the same way.
-headers=$(realpath -ms --relative-to="$package" "$include")
+headers=$(relative "$package" "$include")
 for name in vulfsjor-config.cmake vulfsjor-config-version.cmake; do
     text=$(<"$here/$name.in")
     text=${text//@VERSION@/"$version"}
-    install -m 644 /dev/stdin "$root$package/$name" <<<"${text//@INCLUDEDIR@/"$headers"}"
+    write "$root$package/$name" <<<"${text//@INCLUDEDIR@/"$headers"}"
 done
 echo "install.sh: installed under $root$folder" >&2

@@ -19,7 +19,7 @@
 # more or one less is refused. choose.c says how a call goes, and what --test is. It needs a C
 # compiler (CC, or cc if that is not set), which may have several words and be one for another
 # machine, and its binutils.
-set -eu
+set -euo pipefail
 here=$(dirname "$(readlink -f "$0")")
 read -ra cc <<<"${CC:-cc}"
 words=()
@@ -44,23 +44,25 @@ compile() { "${cc[@]}" -std=c99 -O2 -fPIC -ffunction-sections -c "$@"; }
 # An archive of these objects, by the compiler's binutils.
 archive() { "$("${cc[@]}" -print-prog-name=ar)" rcsD "$@"; }
 
-# Whether these functions, from standard input, are those of the header.
-are_functions() {
-    LC_ALL=C sort | diff "$work/names" - >&2 || {
-        echo "join.sh: vulfsjor.h and $1 have different functions, as shown above" >&2
-        exit 1
-    }
+# Ends the script unless the functions that sed prints for a file are those of the header: FILE EDIT
+compare_functions() {
+    local found
+    found=$(sed -n "$2" "$1" | LC_ALL=C sort) || exit 1
+    [ "$found" != "$names" ] || return 0
+    diff <(echo "$names") - <<<"$found" >&2 || :
+    echo "join.sh: vulfsjor.h and $1 have different functions, as shown above" >&2
+    exit 1
 }
 
-grep -o 'vulfsjor_ffi_[a-z0-9_]* *(' "$here/include/vulfsjor.h" | tr -d ' (' |
-    LC_ALL=C sort -u >"$work/names"
-sed -n 's/^CALL("\(.*\)")$/\1/p' "$here/choose.c" | are_functions choose.c
-sed -n 's/^CALL[A-Z_]*(\(vulfsjor_[a-z0-9_]*\),.*/\1/p' "$here/calls.h" | are_functions calls.h
+names=$(grep -o 'vulfsjor_ffi_[a-z0-9_]* *(' "$here/include/vulfsjor.h" | tr -d ' (' |
+    LC_ALL=C sort -u)
+compare_functions "$here/choose.c" 's/^CALL("\(.*\)")$/\1/p'
+compare_functions "$here/calls.h" 's/^CALL[A-Z_]*(\(vulfsjor_[a-z0-9_]*\),.*/\1/p'
 objects=()
 for text; do
     # After each function's name come the version and the build.
-    sed -n "s/^\t\.globl\t_\{0,1\}\(.*\)_${version//./_}_[a-z0-9]*\$/\1/p" "$text" |
-        are_functions "$text"
+    compare_functions "$text" \
+        "s/^\t\.globl\t_\{0,1\}\(.*\)_${version//./_}_[a-z0-9]*\$/\1/p"
     objects+=("$work/build_${#objects[@]}.o")
     "${cc[@]}" -c "$text" -o "${objects[-1]}"
 done
@@ -89,7 +91,7 @@ case $("${cc[@]}" -dumpmachine) in
     *)
         compile -pthread -I"$here/include" "$here/threads.c" -o "$work/threads.o"
         archive "$folder/libvulfsjor-threads.a" "$work/threads.o"
-        { echo 'VULFSJOR_0 {' && echo 'global:' && sed 's/$/;/' "$work/names" &&
+        { echo 'VULFSJOR_0 {' && echo 'global:' && sed 's/$/;/' <<<"$names" &&
             echo 'local: *; };'; } >"$work/versions"
         "${shared[@]}" -o "$folder/libvulfsjor.so.$version" -Wl,-soname,libvulfsjor.so.0 \
             -Wl,--version-script="$work/versions" -Wl,-z,defs -Wl,-z,relro -Wl,-z,now \

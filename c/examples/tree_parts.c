@@ -81,16 +81,13 @@ static int write_leaves(const char *path, uint64_t first, uint64_t count) {
 /* The root is a node over the digests, which need not be in memory at the same time. */
 static int print_root(const char *path) {
     static unsigned char piece[1 << 16];
-    const vulfsjor_tree place = {
-        .leaf_length = LEAF, .depth = 2, .node_depth = 1, .inner_length = 64};
     vulfsjor_blake2b_state root;
     unsigned char out[VULFSJOR_BLAKE2B_OUTBYTES];
     uint64_t length, all = 0;
     size_t n;
 
     if (open_file(path, &length) < 0) return 1;
-    if (vulfsjor_blake2b_init_tree(&root, sizeof out, NULL, 0, NULL, 0, NULL, 0, &place)) return 1;
-    vulfsjor_blake2b_set_last_node(&root, 1);
+    if (vulfsjor_tree_init_root(&root, sizeof out, NULL, 0, NULL, 0, LEAF)) return 1;
     while ((n = fread(piece, 1, sizeof piece, stdin)) > 0) {
         if (vulfsjor_blake2b_update(&root, piece, n)) return 1;
         all += n;

@@ -187,7 +187,18 @@ typedef struct vulfsjor_limits {
 } vulfsjor_limits;
 
 /* A plan: the parts in which threads hash a message, or the input of an update. Offsets and lengths
- * are in bytes. */
+ * are in bytes. All of this holds for each plan that vulfsjor_tree_plan or vulfsjor_tree_plan_update
+ * has written, and vulfsjor_tree_part refuses all other plans:
+ *   - leaf_length is 1 to 2^32 - 1, and part_length is a multiple of it, at least one leaf.
+ *   - start is at most end, and end - start is less than 2^58.
+ *   - ends is 0 or 1. part_count is (end - start) / part_length, rounded up, but at least ends.
+ *   - threads is 1 to part_count, or 0 if part_count is 0.
+ *   - digests_length is 64 for each leaf between start and end, or 0 if part_count is 0.
+ *   - If ends is 1, rest_length is 0.
+ *   - If ends is 0, start is less than leaf_length, end - start is a multiple of leaf_length,
+ *     rest_length is at most leaf_length, and at least 1 if end is not start, and end + rest_length
+ *     is less than 2^58.
+ * So the digests of each part end at digests_length or before. */
 typedef struct vulfsjor_plan {
     uint64_t start;          /* where the leaves begin */
     uint64_t end;            /* where they end */
@@ -213,6 +224,7 @@ typedef struct vulfsjor_part {
 /* The library requires a 64-bit platform and these layouts. */
 typedef char vulfsjor_layouts[sizeof(size_t) == 8 && sizeof(vulfsjor_blake2b_state) == 424 &&
                               sizeof(vulfsjor_blake2s_state) == 232 &&
+                              sizeof(vulfsjor_tree) == 16 &&
                               sizeof(vulfsjor_tree_state) == 912 &&
                               sizeof(vulfsjor_message) == 16 &&
                               sizeof(vulfsjor_limits) == 32 && sizeof(vulfsjor_plan) == 72 &&
@@ -224,11 +236,13 @@ typedef char vulfsjor_layouts[sizeof(size_t) == 8 && sizeof(vulfsjor_blake2b_sta
  * every byte of a state was written. Each function does what is said below of the function with its
  * name, with these exceptions:
  *   - many fails if out_length is not count times output_size.
- *   - is_same accepts two lengths; buffers of different lengths differ.
- *   - state_size returns the length of a state. */
+ *   - memcmp accepts two lengths; buffers of different lengths differ.
+ *   - state_size returns the length of a state.
+ *   - tree_check returns 0 if vulfsjor_tree_init accepts these lengths, and -1 otherwise. */
 
 uint32_t vulfsjor_ffi_version(void);
-int32_t vulfsjor_ffi_is_same(const uint8_t *a, size_t a_length, const uint8_t *b, size_t b_length);
+int32_t vulfsjor_ffi_memcmp(const uint8_t *a, size_t a_length, const uint8_t *b, size_t b_length);
+void vulfsjor_ffi_wipe(uint8_t *bytes, size_t length);
 
 int32_t vulfsjor_ffi_blake2b(uint8_t *out, size_t out_length, const uint8_t *input,
                              size_t input_length, const uint8_t *key, size_t key_length);
@@ -246,9 +260,7 @@ int32_t vulfsjor_ffi_blake2b_init_key(vulfsjor_blake2b_state *state, size_t outp
 int32_t vulfsjor_ffi_blake2b_init_tree(vulfsjor_blake2b_state *state, size_t output_size,
                                        const uint8_t *key, size_t key_length, const uint8_t *salt,
                                        size_t salt_length, const uint8_t *personal,
-                                       size_t personal_length, uint8_t fanout, uint8_t depth,
-                                       uint32_t leaf_length, uint64_t node_offset,
-                                       uint8_t node_depth, uint8_t inner_length);
+                                       size_t personal_length, const vulfsjor_tree *tree);
 int32_t vulfsjor_ffi_blake2b_init_param(vulfsjor_blake2b_state *state, const uint8_t *block,
                                         size_t block_length);
 int32_t vulfsjor_ffi_blake2b_update(vulfsjor_blake2b_state *state, const uint8_t *input,
@@ -279,9 +291,7 @@ int32_t vulfsjor_ffi_blake2s_init_key(vulfsjor_blake2s_state *state, size_t outp
 int32_t vulfsjor_ffi_blake2s_init_tree(vulfsjor_blake2s_state *state, size_t output_size,
                                        const uint8_t *key, size_t key_length, const uint8_t *salt,
                                        size_t salt_length, const uint8_t *personal,
-                                       size_t personal_length, uint8_t fanout, uint8_t depth,
-                                       uint32_t leaf_length, uint64_t node_offset,
-                                       uint8_t node_depth, uint8_t inner_length);
+                                       size_t personal_length, const vulfsjor_tree *tree);
 int32_t vulfsjor_ffi_blake2s_init_param(vulfsjor_blake2s_state *state, const uint8_t *block,
                                         size_t block_length);
 int32_t vulfsjor_ffi_blake2s_update(vulfsjor_blake2s_state *state, const uint8_t *input,
@@ -326,8 +336,8 @@ int32_t vulfsjor_ffi_tree_next_leaves(const vulfsjor_tree_state *state, uint8_t 
 int32_t vulfsjor_ffi_tree_update_leaves(vulfsjor_tree_state *state, const uint8_t *digests,
                                         size_t digests_length, const uint8_t *input,
                                         size_t input_length);
-int32_t vulfsjor_ffi_tree_accepts(size_t output_size, size_t salt_length, size_t personal_length,
-                                  uint32_t leaf_length);
+int32_t vulfsjor_ffi_tree_check(size_t output_size, size_t salt_length, size_t personal_length,
+                                uint32_t leaf_length);
 int32_t vulfsjor_ffi_tree_init_leaf(vulfsjor_blake2b_state *state, uint64_t i, uint32_t last,
                                     const uint8_t *salt, size_t salt_length,
                                     const uint8_t *personal, size_t personal_length,
@@ -344,9 +354,22 @@ int32_t vulfsjor_ffi_tree_part(vulfsjor_part *part, const vulfsjor_plan *plan, u
 
 /* ---- For C and C++ */
 
+/* Internal: a conversion that C makes by itself and that C++ has to be told. */
+#ifdef __cplusplus
+#define VULFSJOR_CAST(type, value) static_cast<type>(value)
+#else
+#define VULFSJOR_CAST(type, value) ((type)(value))
+#endif
+
 /* Internal: returns the pointer, or a pointer that is not null if it is null. */
 static inline const uint8_t *vulfsjor_text(const void *text) {
-    return text ? (const uint8_t *)text : (const uint8_t *)"";
+    const void *bytes = text ? text : "";
+    return VULFSJOR_CAST(const uint8_t *, bytes);
+}
+
+/* Internal: returns the pointer as one to bytes. */
+static inline uint8_t *vulfsjor_bytes(void *out) {
+    return VULFSJOR_CAST(uint8_t *, out);
 }
 
 /* Returns the version of the library, to compare with VULFSJOR_VERSION_NUMBER of this header. */
@@ -354,11 +377,68 @@ static inline uint32_t vulfsjor_version(void) {
     return vulfsjor_ffi_version();
 }
 
-/* Returns 0 if the first length bytes of a and b are equal, and -1 otherwise. All bytes are
- * compared, so use it for tags. */
-VULFSJOR_MUST_USE static inline int vulfsjor_is_same(const void *a, const void *b, size_t length) {
+/* Returns 0 if the first length bytes of a and b are equal, and -1 otherwise. So the result is no
+ * order, as that of memcmp is. Its time does not depend on the bytes, so use it for tags:
+ *
+ *     if (vulfsjor_memcmp(tag, want, sizeof tag) != 0) return REJECTED;
+ */
+VULFSJOR_MUST_USE static inline int vulfsjor_memcmp(const void *a, const void *b, size_t length) {
     if ((!a || !b) && length) return -1;
-    return vulfsjor_ffi_is_same(vulfsjor_text(a), length, vulfsjor_text(b), length);
+    return vulfsjor_ffi_memcmp(vulfsjor_text(a), length, vulfsjor_text(b), length);
+}
+
+/* Sets length bytes to zero, such as a key or a derived key that you need no more. Compilers remove
+ * a memset of memory that nothing reads afterwards, and do not remove this call. Does nothing if
+ * bytes is null. */
+static inline void vulfsjor_wipe(void *bytes, size_t length) {
+    if (bytes) vulfsjor_ffi_wipe(vulfsjor_bytes(bytes), length);
+}
+
+/* Writes inlen bytes as hexadecimal digits, two for each byte, in lower case, and a null character
+ * after them. outlen is the room in out, at least 2 * inlen + 1. The remaining characters are
+ * unchanged. Its time does not depend on the bytes. Returns -1 and writes nothing if outlen is
+ * less. */
+VULFSJOR_MUST_USE static inline int vulfsjor_bin2hex(char *out, size_t outlen, const void *in,
+                                                     size_t inlen) {
+    const uint8_t *bytes = vulfsjor_text(in);
+    size_t i;
+    if (!out || (!in && inlen) || !outlen || (outlen - 1) / 2 < inlen) return -1;
+    for (i = 0; i < 2 * inlen; i++) {
+        const unsigned digit = i % 2 ? bytes[i / 2] & 15u : bytes[i / 2] >> 4u;
+        /* From 10 on the difference wraps, and all its bits from 8 on are 1. */
+        out[i] = VULFSJOR_CAST(char, '0' + digit + ((9u - digit) >> 8 & ('a' - '0' - 10u)));
+    }
+    out[2 * inlen] = '\0';
+    return 0;
+}
+
+/* Internal: returns the value of a hexadecimal digit of either case, or 256 for any other
+ * character, in a time that does not depend on the character. */
+static inline unsigned vulfsjor_digit(char character) {
+    const unsigned code = VULFSJOR_CAST(unsigned char, character);
+    const unsigned decimal = code ^ 0x30u;           /* 0 to 9 for a decimal digit */
+    const unsigned letter = ((code & 0xdfu) - 'A') & 0xffu; /* 0 to 5 for A to F, and a to f */
+    /* Masks of 24 bits: below zero a difference wraps. */
+    const unsigned is_decimal = (decimal - 10u) >> 8, is_letter = (letter - 6u) >> 8;
+    return (is_decimal & decimal) | (is_letter & (letter + 10u)) |
+           (~(is_decimal | is_letter) & 256u);
+}
+
+/* Writes the bytes of hexadecimal digits, two for each byte, of either case: outlen bytes. Its time
+ * depends on no digit, unless a character is not one. Returns -1 and writes nothing if hexlen is
+ * not 2 * outlen, or if a character is not a hexadecimal digit. */
+VULFSJOR_MUST_USE static inline int vulfsjor_hex2bin(void *out, size_t outlen, const char *hex,
+                                                     size_t hexlen) {
+    uint8_t *bytes = vulfsjor_bytes(out);
+    unsigned all = 0;
+    size_t i;
+    if (!out || (!hex && hexlen) || hexlen % 2 || hexlen / 2 != outlen) return -1;
+    for (i = 0; i < hexlen; i++) all |= vulfsjor_digit(hex[i]);
+    if (all & 256u) return -1;
+    for (i = 0; i < outlen; i++)
+        bytes[i] = VULFSJOR_CAST(uint8_t, vulfsjor_digit(hex[2 * i]) << 4 |
+                                              vulfsjor_digit(hex[2 * i + 1]));
+    return 0;
 }
 
 /* Returns the index of the first message whose bytes are null, or count if there is none. */
@@ -389,7 +469,7 @@ static inline int vulfsjor_blake2b_init_salt_personal(
 /* Initializes a state for BLAKE2b digests of outlen bytes, 1 to 64, without key, salt and
  * personalization. Returns -1 and sets the state to zero if outlen is out of range. */
 static inline int vulfsjor_blake2b_init(vulfsjor_blake2b_state *S, size_t outlen) {
-    return vulfsjor_blake2b_init_salt_personal(S, outlen, 0, 0, 0, 0, 0, 0);
+    return vulfsjor_blake2b_init_salt_personal(S, outlen, "", 0, "", 0, "", 0);
 }
 
 /* Initializes a state for BLAKE2b digests of outlen bytes, 1 to 64, under a key of 1 to 64 bytes,
@@ -400,7 +480,7 @@ static inline int vulfsjor_blake2b_init_key(vulfsjor_blake2b_state *S, size_t ou
     if (!S) return -1;
     memset(S, 0, sizeof *S);
     if (!key) return -1;
-    return vulfsjor_ffi_blake2b_init_key(S, outlen, (const uint8_t *)key, keylen);
+    return vulfsjor_ffi_blake2b_init_key(S, outlen, vulfsjor_text(key), keylen);
 }
 
 /* Initializes a state for a node of a tree of hashes with these tree parameters (the BLAKE2
@@ -415,8 +495,7 @@ static inline int vulfsjor_blake2b_init_tree(
     if (!tree || (!key && keylen) || (!salt && saltlen) || (!personal && personallen)) return -1;
     return vulfsjor_ffi_blake2b_init_tree(S, outlen, vulfsjor_text(key), keylen,
                                           vulfsjor_text(salt), saltlen, vulfsjor_text(personal),
-                                          personallen, tree->fanout, tree->depth, tree->leaf_length,
-                                          tree->node_offset, tree->node_depth, tree->inner_length);
+                                          personallen, tree);
 }
 
 /* Initializes a state from a parameter block, whose bytes are xored into the IV as they are. If
@@ -428,7 +507,7 @@ static inline int vulfsjor_blake2b_init_param(vulfsjor_blake2b_state *S,
     if (!S) return -1;
     memset(S, 0, sizeof *S);
     if (!P) return -1;
-    return vulfsjor_ffi_blake2b_init_param(S, (const uint8_t *)P, sizeof *P);
+    return vulfsjor_ffi_blake2b_init_param(S, vulfsjor_text(P), sizeof *P);
 }
 
 /* Absorbs inlen bytes of input. The digest does not depend on how the input is split into calls.
@@ -447,12 +526,16 @@ VULFSJOR_MUST_USE static inline int vulfsjor_blake2b_update(vulfsjor_blake2b_sta
 VULFSJOR_MUST_USE static inline int vulfsjor_blake2b_final(vulfsjor_blake2b_state *S, void *out,
                                                            size_t outlen) {
     if (!S || !out) return -1;
-    return vulfsjor_ffi_blake2b_final(S, (uint8_t *)out, outlen);
+    return vulfsjor_ffi_blake2b_final(S, vulfsjor_bytes(out), outlen);
 }
 
-/* Returns 0 if tag is the whole digest of all input, and -1 otherwise. It wipes the state in either
- * case, so copy the state first to try another tag. All bytes of a tag of the right length are
- * compared. The state is unchanged if it was not ready, or if tag is null and taglen is not 0. */
+/* Returns 0 if tag is the whole digest of all input, and -1 otherwise:
+ *
+ *     if (vulfsjor_blake2b_verify(&state, tag, sizeof tag) != 0) return REJECTED;
+ *
+ * It wipes the state in either case, so copy the state first to try another tag. All bytes of a tag
+ * of the right length are compared. The state is unchanged if it was not ready, or if tag is null
+ * and taglen is not 0. */
 VULFSJOR_MUST_USE static inline int vulfsjor_blake2b_verify(vulfsjor_blake2b_state *S,
                                                             const void *tag, size_t taglen) {
     if (!S || (!tag && taglen)) return -1;
@@ -464,7 +547,7 @@ VULFSJOR_MUST_USE static inline int vulfsjor_blake2b_verify(vulfsjor_blake2b_sta
  * Returns -1 if the state is not ready. */
 static inline int vulfsjor_blake2b_set_last_node(vulfsjor_blake2b_state *S, int on) {
     if (!S) return -1;
-    return vulfsjor_ffi_blake2b_set_last_node(S, (uint32_t)on);
+    return vulfsjor_ffi_blake2b_set_last_node(S, on != 0);
 }
 
 /* Discards all input. Digest length, key, salt, personalization, tree parameters and last-node flag
@@ -497,7 +580,7 @@ static inline uint64_t vulfsjor_blake2b_count(const vulfsjor_blake2b_state *S) {
 VULFSJOR_MUST_USE static inline int vulfsjor_blake2b(void *out, size_t outlen, const void *in,
                                                      size_t inlen, const void *key, size_t keylen) {
     if (!out || (!in && inlen) || (!key && keylen)) return -1;
-    return vulfsjor_ffi_blake2b((uint8_t *)out, outlen, vulfsjor_text(in), inlen,
+    return vulfsjor_ffi_blake2b(vulfsjor_bytes(out), outlen, vulfsjor_text(in), inlen,
                                 vulfsjor_text(key), keylen);
 }
 
@@ -513,7 +596,7 @@ VULFSJOR_MUST_USE static inline int vulfsjor_blake2b_many(
     size_t keylen, const void *salt, size_t saltlen, const void *personal, size_t personallen) {
     if (!out || !messages || vulfsjor_null_message(messages, count) < count) return -1;
     if ((!key && keylen) || (!salt && saltlen) || (!personal && personallen)) return -1;
-    return vulfsjor_ffi_blake2b_many((uint8_t *)out, count * outlen, outlen, messages, count,
+    return vulfsjor_ffi_blake2b_many(vulfsjor_bytes(out), count * outlen, outlen, messages, count,
                                      vulfsjor_text(key), keylen, vulfsjor_text(salt), saltlen,
                                      vulfsjor_text(personal), personallen);
 }
@@ -539,7 +622,7 @@ static inline int vulfsjor_blake2s_init_salt_personal(
 /* Initializes a state for BLAKE2s digests of outlen bytes, 1 to 32, without key, salt and
  * personalization. Returns -1 and sets the state to zero if outlen is out of range. */
 static inline int vulfsjor_blake2s_init(vulfsjor_blake2s_state *S, size_t outlen) {
-    return vulfsjor_blake2s_init_salt_personal(S, outlen, 0, 0, 0, 0, 0, 0);
+    return vulfsjor_blake2s_init_salt_personal(S, outlen, "", 0, "", 0, "", 0);
 }
 
 /* Initializes a state for BLAKE2s digests of outlen bytes, 1 to 32, under a key of 1 to 32 bytes,
@@ -550,7 +633,7 @@ static inline int vulfsjor_blake2s_init_key(vulfsjor_blake2s_state *S, size_t ou
     if (!S) return -1;
     memset(S, 0, sizeof *S);
     if (!key) return -1;
-    return vulfsjor_ffi_blake2s_init_key(S, outlen, (const uint8_t *)key, keylen);
+    return vulfsjor_ffi_blake2s_init_key(S, outlen, vulfsjor_text(key), keylen);
 }
 
 /* Initializes a state for a node of a tree of hashes with these tree parameters (the BLAKE2
@@ -566,8 +649,7 @@ static inline int vulfsjor_blake2s_init_tree(
     if (!tree || (!key && keylen) || (!salt && saltlen) || (!personal && personallen)) return -1;
     return vulfsjor_ffi_blake2s_init_tree(S, outlen, vulfsjor_text(key), keylen,
                                           vulfsjor_text(salt), saltlen, vulfsjor_text(personal),
-                                          personallen, tree->fanout, tree->depth, tree->leaf_length,
-                                          tree->node_offset, tree->node_depth, tree->inner_length);
+                                          personallen, tree);
 }
 
 /* Initializes a state from a parameter block, whose bytes are xored into the IV as they are. If
@@ -579,7 +661,7 @@ static inline int vulfsjor_blake2s_init_param(vulfsjor_blake2s_state *S,
     if (!S) return -1;
     memset(S, 0, sizeof *S);
     if (!P) return -1;
-    return vulfsjor_ffi_blake2s_init_param(S, (const uint8_t *)P, sizeof *P);
+    return vulfsjor_ffi_blake2s_init_param(S, vulfsjor_text(P), sizeof *P);
 }
 
 /* Absorbs inlen bytes of input. The digest does not depend on how the input is split into calls.
@@ -598,12 +680,16 @@ VULFSJOR_MUST_USE static inline int vulfsjor_blake2s_update(vulfsjor_blake2s_sta
 VULFSJOR_MUST_USE static inline int vulfsjor_blake2s_final(vulfsjor_blake2s_state *S, void *out,
                                                            size_t outlen) {
     if (!S || !out) return -1;
-    return vulfsjor_ffi_blake2s_final(S, (uint8_t *)out, outlen);
+    return vulfsjor_ffi_blake2s_final(S, vulfsjor_bytes(out), outlen);
 }
 
-/* Returns 0 if tag is the whole digest of all input, and -1 otherwise. It wipes the state in either
- * case, so copy the state first to try another tag. All bytes of a tag of the right length are
- * compared. The state is unchanged if it was not ready, or if tag is null and taglen is not 0. */
+/* Returns 0 if tag is the whole digest of all input, and -1 otherwise:
+ *
+ *     if (vulfsjor_blake2s_verify(&state, tag, sizeof tag) != 0) return REJECTED;
+ *
+ * It wipes the state in either case, so copy the state first to try another tag. All bytes of a tag
+ * of the right length are compared. The state is unchanged if it was not ready, or if tag is null
+ * and taglen is not 0. */
 VULFSJOR_MUST_USE static inline int vulfsjor_blake2s_verify(vulfsjor_blake2s_state *S,
                                                             const void *tag, size_t taglen) {
     if (!S || (!tag && taglen)) return -1;
@@ -615,7 +701,7 @@ VULFSJOR_MUST_USE static inline int vulfsjor_blake2s_verify(vulfsjor_blake2s_sta
  * Returns -1 if the state is not ready. */
 static inline int vulfsjor_blake2s_set_last_node(vulfsjor_blake2s_state *S, int on) {
     if (!S) return -1;
-    return vulfsjor_ffi_blake2s_set_last_node(S, (uint32_t)on);
+    return vulfsjor_ffi_blake2s_set_last_node(S, on != 0);
 }
 
 /* Discards all input. Digest length, key, salt, personalization, tree parameters and last-node flag
@@ -648,7 +734,7 @@ static inline uint64_t vulfsjor_blake2s_count(const vulfsjor_blake2s_state *S) {
 VULFSJOR_MUST_USE static inline int vulfsjor_blake2s(void *out, size_t outlen, const void *in,
                                                      size_t inlen, const void *key, size_t keylen) {
     if (!out || (!in && inlen) || (!key && keylen)) return -1;
-    return vulfsjor_ffi_blake2s((uint8_t *)out, outlen, vulfsjor_text(in), inlen,
+    return vulfsjor_ffi_blake2s(vulfsjor_bytes(out), outlen, vulfsjor_text(in), inlen,
                                 vulfsjor_text(key), keylen);
 }
 
@@ -664,7 +750,7 @@ VULFSJOR_MUST_USE static inline int vulfsjor_blake2s_many(
     size_t keylen, const void *salt, size_t saltlen, const void *personal, size_t personallen) {
     if (!out || !messages || vulfsjor_null_message(messages, count) < count) return -1;
     if ((!key && keylen) || (!salt && saltlen) || (!personal && personallen)) return -1;
-    return vulfsjor_ffi_blake2s_many((uint8_t *)out, count * outlen, outlen, messages, count,
+    return vulfsjor_ffi_blake2s_many(vulfsjor_bytes(out), count * outlen, outlen, messages, count,
                                      vulfsjor_text(key), keylen, vulfsjor_text(salt), saltlen,
                                      vulfsjor_text(personal), personallen);
 }
@@ -683,7 +769,7 @@ VULFSJOR_MUST_USE static inline int vulfsjor_tree_root(void *out, size_t outlen,
                                                        size_t saltlen, const void *personal,
                                                        size_t personallen, uint32_t leaf_length) {
     if (!out || (!in && inlen) || (!salt && saltlen) || (!personal && personallen)) return -1;
-    return vulfsjor_ffi_tree_root((uint8_t *)out, outlen, vulfsjor_text(in), inlen,
+    return vulfsjor_ffi_tree_root(vulfsjor_bytes(out), outlen, vulfsjor_text(in), inlen,
                                   vulfsjor_text(salt), saltlen, vulfsjor_text(personal),
                                   personallen, leaf_length);
 }
@@ -717,7 +803,7 @@ VULFSJOR_MUST_USE static inline int vulfsjor_tree_update(vulfsjor_tree_state *S,
 VULFSJOR_MUST_USE static inline int vulfsjor_tree_final(vulfsjor_tree_state *S, void *out,
                                                         size_t outlen) {
     if (!S || !out) return -1;
-    return vulfsjor_ffi_tree_final(S, (uint8_t *)out, outlen);
+    return vulfsjor_ffi_tree_final(S, vulfsjor_bytes(out), outlen);
 }
 
 /* Sets every byte of the state to zero, whether it is ready or not. Does nothing if S is null. */
@@ -771,9 +857,9 @@ VULFSJOR_MUST_USE static inline int vulfsjor_tree_leaves(void *out, size_t outle
                                                          const void *personal, size_t personallen,
                                                          uint32_t leaf_length) {
     if (!out || (!in && inlen) || (!salt && saltlen) || (!personal && personallen)) return -1;
-    return vulfsjor_ffi_tree_leaves((uint8_t *)out, outlen, first, ends != 0, vulfsjor_text(in),
-                                    inlen, vulfsjor_text(salt), saltlen, vulfsjor_text(personal),
-                                    personallen, leaf_length);
+    return vulfsjor_ffi_tree_leaves(vulfsjor_bytes(out), outlen, first, ends != 0,
+                                    vulfsjor_text(in), inlen, vulfsjor_text(salt), saltlen,
+                                    vulfsjor_text(personal), personallen, leaf_length);
 }
 
 /* Writes the root over the digests of all leaves, 64 bytes each, in their order, to out: outlen
@@ -784,7 +870,7 @@ vulfsjor_tree_root_of_leaves(void *out, size_t outlen, const void *digests, size
                              const void *salt, size_t saltlen, const void *personal,
                              size_t personallen, uint32_t leaf_length) {
     if (!out || !digests || (!salt && saltlen) || (!personal && personallen)) return -1;
-    return vulfsjor_ffi_tree_root_of_leaves((uint8_t *)out, outlen, (const uint8_t *)digests,
+    return vulfsjor_ffi_tree_root_of_leaves(vulfsjor_bytes(out), outlen, vulfsjor_text(digests),
                                             digestslen, vulfsjor_text(salt), saltlen,
                                             vulfsjor_text(personal), personallen, leaf_length);
 }
@@ -805,7 +891,8 @@ VULFSJOR_MUST_USE static inline int vulfsjor_tree_next_leaves(const vulfsjor_tre
                                                               uint64_t skip, const void *in,
                                                               size_t inlen) {
     if (!S || !out || (!in && inlen)) return -1;
-    return vulfsjor_ffi_tree_next_leaves(S, (uint8_t *)out, outlen, skip, vulfsjor_text(in), inlen);
+    return vulfsjor_ffi_tree_next_leaves(S, vulfsjor_bytes(out), outlen, skip, vulfsjor_text(in),
+                                         inlen);
 }
 
 /* Absorbs whole leaves, given by the digests that next_leaves wrote from skip 0 on, and then inlen
@@ -854,7 +941,7 @@ VULFSJOR_MUST_USE static inline int vulfsjor_tree_plan_update(vulfsjor_plan *pla
 }
 
 /* Writes part i of a plan, counted from 0. Returns -1 and writes nothing if i is not below
- * plan->part_count, or if no call made the plan. */
+ * plan->part_count, or if the plan is not as the comment on vulfsjor_plan says. */
 VULFSJOR_MUST_USE static inline int vulfsjor_tree_part(vulfsjor_part *part,
                                                        const vulfsjor_plan *plan, uint64_t i) {
     if (!part || !plan) return -1;
@@ -893,7 +980,9 @@ static inline int vulfsjor_tree_init_root(vulfsjor_blake2b_state *S, size_t outl
  * digests for tree_root_of_leaves, messages, a parameter block or tree parameters, and any other if
  * its length is not 0. The other reasons are:
  *
- *   is_same                        the bytes differ
+ *   memcmp                         the bytes differ
+ *   bin2hex                        outlen is less than 2 * inlen + 1
+ *   hex2bin                        hexlen is not 2 * outlen, or a character is not a digit
  *   BLAKE2b and BLAKE2s:
  *   _init, _init_salt_personal,    an argument that _refused returns
  *   _init_tree
@@ -920,8 +1009,10 @@ static inline int vulfsjor_tree_init_root(vulfsjor_blake2b_state *S, size_t outl
  *   tree_next_leaves,              the state is not ready or not at a leaf boundary, or a length
  *   tree_update_leaves             that their comments exclude
  *   tree_init_leaf, _init_root     an argument that vulfsjor_tree_refused returns
- *   tree_plan, tree_plan_update,   a length or a limit that their comments exclude, a state that
- *   tree_part                      is not ready, or a part that is not there
+ *   tree_plan, tree_plan_update    a length or a limit that their comments exclude, or a state that
+ *                                  is not ready
+ *   tree_part                      there is no such part, or the comment on vulfsjor_plan excludes
+ *                                  the plan
  *
  * The functions below make scratch states from one argument at a time, so the proved checks decide.
  * They write nothing else, and leave nothing of a key on the stack. */
@@ -969,21 +1060,22 @@ static inline vulfsjor_argument vulfsjor_blake2b_refused(size_t outlen, const vo
     vulfsjor_blake2b_state S;
     int refused;
     if (vulfsjor_blake2b_init(&S, outlen)) return VULFSJOR_ARGUMENT_OUTLEN;
-    refused = vulfsjor_blake2b_init_salt_personal(&S, 1, key, keylen, 0, 0, 0, 0);
+    refused = vulfsjor_blake2b_init_salt_personal(&S, 1, key, keylen, salt, 0, personal, 0);
     vulfsjor_blake2b_wipe(&S);
     if (refused) return VULFSJOR_ARGUMENT_KEY;
-    if (vulfsjor_blake2b_init_salt_personal(&S, 1, 0, 0, salt, saltlen, 0, 0))
+    if (vulfsjor_blake2b_init_salt_personal(&S, 1, key, 0, salt, saltlen, personal, 0))
         return VULFSJOR_ARGUMENT_SALT;
-    if (vulfsjor_blake2b_init_salt_personal(&S, 1, 0, 0, 0, 0, personal, personallen))
+    if (vulfsjor_blake2b_init_salt_personal(&S, 1, key, 0, salt, 0, personal, personallen))
         return VULFSJOR_ARGUMENT_PERSONAL;
     if (!tree) return VULFSJOR_ARGUMENT_NONE;
     one.node_offset = tree->node_offset;
-    if (vulfsjor_blake2b_init_tree(&S, 1, 0, 0, 0, 0, 0, 0, &one))
+    if (vulfsjor_blake2b_init_tree(&S, 1, key, 0, salt, 0, personal, 0, &one))
         return VULFSJOR_ARGUMENT_NODE_OFFSET;
     one.depth = tree->depth;
-    if (vulfsjor_blake2b_init_tree(&S, 1, 0, 0, 0, 0, 0, 0, &one)) return VULFSJOR_ARGUMENT_DEPTH;
+    if (vulfsjor_blake2b_init_tree(&S, 1, key, 0, salt, 0, personal, 0, &one))
+        return VULFSJOR_ARGUMENT_DEPTH;
     one.inner_length = tree->inner_length;
-    if (vulfsjor_blake2b_init_tree(&S, 1, 0, 0, 0, 0, 0, 0, &one))
+    if (vulfsjor_blake2b_init_tree(&S, 1, key, 0, salt, 0, personal, 0, &one))
         return VULFSJOR_ARGUMENT_INNER_LENGTH;
     return VULFSJOR_ARGUMENT_NONE;
 }
@@ -1013,21 +1105,22 @@ static inline vulfsjor_argument vulfsjor_blake2s_refused(size_t outlen, const vo
     vulfsjor_blake2s_state S;
     int refused;
     if (vulfsjor_blake2s_init(&S, outlen)) return VULFSJOR_ARGUMENT_OUTLEN;
-    refused = vulfsjor_blake2s_init_salt_personal(&S, 1, key, keylen, 0, 0, 0, 0);
+    refused = vulfsjor_blake2s_init_salt_personal(&S, 1, key, keylen, salt, 0, personal, 0);
     vulfsjor_blake2s_wipe(&S);
     if (refused) return VULFSJOR_ARGUMENT_KEY;
-    if (vulfsjor_blake2s_init_salt_personal(&S, 1, 0, 0, salt, saltlen, 0, 0))
+    if (vulfsjor_blake2s_init_salt_personal(&S, 1, key, 0, salt, saltlen, personal, 0))
         return VULFSJOR_ARGUMENT_SALT;
-    if (vulfsjor_blake2s_init_salt_personal(&S, 1, 0, 0, 0, 0, personal, personallen))
+    if (vulfsjor_blake2s_init_salt_personal(&S, 1, key, 0, salt, 0, personal, personallen))
         return VULFSJOR_ARGUMENT_PERSONAL;
     if (!tree) return VULFSJOR_ARGUMENT_NONE;
     one.node_offset = tree->node_offset;
-    if (vulfsjor_blake2s_init_tree(&S, 1, 0, 0, 0, 0, 0, 0, &one))
+    if (vulfsjor_blake2s_init_tree(&S, 1, key, 0, salt, 0, personal, 0, &one))
         return VULFSJOR_ARGUMENT_NODE_OFFSET;
     one.depth = tree->depth;
-    if (vulfsjor_blake2s_init_tree(&S, 1, 0, 0, 0, 0, 0, 0, &one)) return VULFSJOR_ARGUMENT_DEPTH;
+    if (vulfsjor_blake2s_init_tree(&S, 1, key, 0, salt, 0, personal, 0, &one))
+        return VULFSJOR_ARGUMENT_DEPTH;
     one.inner_length = tree->inner_length;
-    if (vulfsjor_blake2s_init_tree(&S, 1, 0, 0, 0, 0, 0, 0, &one))
+    if (vulfsjor_blake2s_init_tree(&S, 1, key, 0, salt, 0, personal, 0, &one))
         return VULFSJOR_ARGUMENT_INNER_LENGTH;
     return VULFSJOR_ARGUMENT_NONE;
 }
@@ -1050,12 +1143,12 @@ static inline vulfsjor_argument vulfsjor_blake2s_param_refused(const vulfsjor_bl
 static inline vulfsjor_argument vulfsjor_tree_refused(size_t outlen, const void *salt,
                                                       size_t saltlen, const void *personal,
                                                       size_t personallen, uint32_t leaf_length) {
-    if (vulfsjor_ffi_tree_accepts(outlen, 0, 0, 1)) return VULFSJOR_ARGUMENT_OUTLEN;
-    if ((!salt && saltlen) || vulfsjor_ffi_tree_accepts(1, saltlen, 0, 1))
+    if (vulfsjor_ffi_tree_check(outlen, 0, 0, 1)) return VULFSJOR_ARGUMENT_OUTLEN;
+    if ((!salt && saltlen) || vulfsjor_ffi_tree_check(1, saltlen, 0, 1))
         return VULFSJOR_ARGUMENT_SALT;
-    if ((!personal && personallen) || vulfsjor_ffi_tree_accepts(1, 0, personallen, 1))
+    if ((!personal && personallen) || vulfsjor_ffi_tree_check(1, 0, personallen, 1))
         return VULFSJOR_ARGUMENT_PERSONAL;
-    if (vulfsjor_ffi_tree_accepts(1, 0, 0, leaf_length)) return VULFSJOR_ARGUMENT_LEAF_LENGTH;
+    if (vulfsjor_ffi_tree_check(1, 0, 0, leaf_length)) return VULFSJOR_ARGUMENT_LEAF_LENGTH;
     return VULFSJOR_ARGUMENT_NONE;
 }
 

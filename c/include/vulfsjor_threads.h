@@ -1,5 +1,5 @@
 /* The root of the tree of two levels (vulfsjor.h) with several threads: of bytes in memory, of a
- * file, and of a message that is absorbed in pieces.
+ * file, and of a message that is absorbed in pieces or from files.
  *
  *   cc program.c $(pkg-config --cflags --libs vulfsjor-threads)
  *
@@ -22,13 +22,15 @@
  *   ENOMEM   an allocation failed
  *   EFBIG    a file has 2^58 bytes or more
  *   EIO      a file ended before the length that it had when the call began
+ *   ECANCELED a function for progress ended the call
  *
  * and those of open, fstat, lseek, read and pread. EINTR comes only from open: an interrupted read
  * is repeated.
  *
  * A call allocates 64 bytes for each leaf, except with one thread in memory and for files that one
  * thread reads to the end. For a file each thread also allocates a buffer: up to 1 MiB or four
- * leaves, whichever is more, and at most 16 MiB.
+ * leaves, whichever is more, and at most 16 MiB. vulfsjor_tree_update_fd needs at most 16 MiB for
+ * digests, however long the file is, and one buffer of 1 MiB more.
  *
  * The threads that a call starts block all signals except SIGBUS and SIGSEGV. A call is not a
  * cancellation point. Several threads may call at the same time, as long as none writes to the
@@ -76,6 +78,21 @@ VULFSJOR_MUST_USE int vulfsjor_tree_root_fd(void *out, size_t outlen, int fd, co
  * call fails, the state is unchanged. */
 VULFSJOR_MUST_USE int vulfsjor_tree_update_threads(vulfsjor_tree_state *S, const void *in,
                                                    size_t inlen, unsigned threads);
+
+/* Reports progress: count is the number of bytes that the call has hashed so far. Returns 0 to go on,
+ * or another number to end the call with ECANCELED. */
+typedef int (*vulfsjor_progress)(void *context, uint64_t count);
+
+/* Absorbs an open file, from its position to its end, with the same result as vulfsjor_tree_update
+ * of its bytes. The position is then at the end; if the call fails, it is unspecified, and the state
+ * is unchanged. The descriptor stays open. A file is read as by vulfsjor_tree_root_file.
+ *
+ * If progress is not null, the caller's thread calls it after each piece that it has hashed, of
+ * about 1 MiB or four leaves, and at the end. Its numbers grow, and the last one is the number of
+ * bytes of the file. Fails with EINVAL if the state is null or not ready, and with EFBIG if it would
+ * have absorbed 2^58 bytes or more. */
+VULFSJOR_MUST_USE int vulfsjor_tree_update_fd(vulfsjor_tree_state *S, int fd, unsigned threads,
+                                              vulfsjor_progress progress, void *context);
 
 #ifdef __cplusplus
 }

@@ -8,6 +8,8 @@
 #include <fcntl.h>
 #include <pthread.h>
 #include <sched.h>
+#include <signal.h>
+#include <stdarg.h>
 #include <stdio.h>
 #include <stdlib.h>
 #include <string.h>
@@ -17,6 +19,11 @@
 #include <unistd.h>
 
 #include "vulfsjor_threads.h"
+
+int b2sum_open(const char *name, int flags, ...);
+ssize_t b2sum_read(int file, void *bytes, size_t size);
+void (*b2sum_signal(int number, void (*handler)(int)))(int);
+int b2sum_end(int status);
 
 static int fails;
 #define CHECK(condition)                                          \
@@ -44,6 +51,38 @@ int __wrap_openat(int folder, const char *name, int flags, ...) {
     return fault() ? -1 : 9;
 }
 
+/* The file that is read from its start to its end, as the system is told. */
+static int advised;
+int __wrap_posix_fadvise(int file, off_t from, off_t length, int advice) {
+    CHECK(from == 0 && length == 0 && advice == POSIX_FADV_SEQUENTIAL);
+    advised = file;
+    return EINVAL;
+}
+
+/* The descriptors that were closed, in order, and the error of each. Only those of outputs are not
+ * really closed. */
+static int closed[3], closed_count, error_of_close[3];
+int __real_close(int file);
+int __wrap_close(int file) {
+    if (file != 1 && file != 2) return __real_close(file);
+    CHECK(closed_count < 3);
+    closed[closed_count++] = file;
+    errno = error_of_close[file];
+    return errno ? -1 : 0;
+}
+
+static char said[200];
+int __wrap_dprintf(int file, const char *format, ...) {
+    va_list arguments;
+
+    CHECK(file == 2 && !closed[1]);
+    va_start(arguments, format);
+    vsnprintf(said, sizeof said, format, arguments);
+    va_end(arguments);
+    errno = ENOSPC;
+    return -1;
+}
+
 /* A read returns up to so many bytes. */
 static ssize_t next_count;
 static int read_from;
@@ -51,7 +90,8 @@ ssize_t __wrap_readv(int file, const struct iovec *room, int count) {
     read_from = file;
     CHECK(count == 1);
     if (fault()) return -1;
-    if (next_count > 0) memset(room->iov_base, 'r', (size_t)next_count);
+    if (next_count > 0 && next_count <= (ssize_t)room->iov_len)
+        memset(room->iov_base, 'r', (size_t)next_count);
     return next_count;
 }
 
@@ -80,7 +120,7 @@ ssize_t __wrap_write(int file, const void *bytes, size_t size) {
 }
 
 static int opens_as(const char *name, const char *path) {
-    int file = open(name, O_RDONLY | O_CLOEXEC);
+    int file = b2sum_open(name, O_RDONLY | O_CLOEXEC);
 
     return file == 9 && !strcmp(opened, path) && opened_in == AT_FDCWD &&
            opened_flags == (O_RDONLY | O_CLOEXEC);
@@ -108,12 +148,48 @@ static void check_open(void) {
     name[4095] = 'n';
     name[4096] = 0;
     calls = 0;
-    CHECK(open(name, O_RDONLY) == -1 && errno == ENAMETOOLONG && calls == 0);
+    CHECK(b2sum_open(name, O_RDONLY) == -1 && errno == ENAMETOOLONG && calls == 0);
     interrupts = 3;
     CHECK(opens_as("a", "a") && calls == 4);
     error_of_calls = ENOENT;
-    CHECK(open("a", O_RDONLY) == -1 && errno == ENOENT && calls == 5);
+    CHECK(b2sum_open("a", O_RDONLY) == -1 && errno == ENOENT && calls == 5);
     error_of_calls = 0;
+    advised = 0;
+    CHECK(opens_as("a", "a") && advised == 9);
+    CHECK(b2sum_open("a", O_RDONLY | O_CREAT) == 9 && opened_flags == O_RDONLY);
+}
+
+/* What the end with this status returns if the closing of the outputs fails by these errors, and
+ * that both are closed. */
+static int ends_with(int status, int output, int messages) {
+    const int before = closed_count = said[0] = 0;
+
+    closed[1] = before;
+    error_of_close[1] = output;
+    error_of_close[2] = messages;
+    status = b2sum_end(status);
+    CHECK(closed_count == 2 && closed[0] == 1 && closed[1] == 2);
+    return status;
+}
+
+static void check_end(void) {
+    for (int status = 0; status < 2; status++) {
+        CHECK(ends_with(status, 0, 0) == status && !*said);
+        CHECK(ends_with(status, EBADF, EBADF) == status && !*said);
+        CHECK(ends_with(status, 0, EIO) == 1 && !*said);
+        CHECK(ends_with(status, EDQUOT, 0) == 1);
+        CHECK(!strcmp(said, "b2sum: write error: Disk quota exceeded\n") ||
+              !strcmp(said, "b2sum: write error: Quota exceeded\n")); /* musl */
+        CHECK(ends_with(status, EIO, EIO) == 1 && !strncmp(said, "b2sum: write error: I", 21));
+    }
+}
+
+/* The runtime's wish to ignore SIGPIPE changes nothing. */
+static void check_signal(void) {
+    CHECK(signal(SIGPIPE, SIG_DFL) != SIG_ERR && b2sum_signal(SIGPIPE, SIG_IGN) == SIG_DFL);
+    CHECK(signal(SIGPIPE, SIG_IGN) == SIG_DFL);
+    b2sum_signal(SIGPIPE, SIG_DFL);
+    CHECK(signal(SIGPIPE, SIG_DFL) == SIG_IGN);
 }
 
 static void check_read(void) {
@@ -123,11 +199,11 @@ static void check_read(void) {
     memset(bytes, '#', sizeof bytes);
     calls = 0;
     interrupts = 2;
-    CHECK(read(5, bytes, 3) == 3 && calls == 3 && read_from == 5 && !memcmp(bytes, "rrr#", 4));
+    CHECK(b2sum_read(5, bytes, 3) == 3 && calls == 3 && read_from == 5 && !memcmp(bytes, "rrr#", 4));
     next_count = 0;
-    CHECK(read(5, bytes, 3) == 0 && calls == 4);
+    CHECK(b2sum_read(5, bytes, 3) == 0 && calls == 4);
     error_of_calls = EIO;
-    CHECK(read(5, bytes, 3) == -1 && errno == EIO && calls == 5);
+    CHECK(b2sum_read(5, bytes, 3) == -1 && errno == EIO && calls == 5);
     error_of_calls = 0;
 }
 
@@ -185,7 +261,7 @@ static int reads_into(char *bytes, int file, const char *whole, off_t from, size
     memset(bytes, '#', size + 1);
     started = 0;
     CHECK(lseek(file, from, SEEK_SET) == from);
-    count = read(file, bytes, size);
+    count = b2sum_read(file, bytes, size);
     return count == wanted && lseek(file, 0, SEEK_CUR) == from + (count > 0 ? count : 0) &&
            (count <= 0 || !memcmp(bytes, whole + from, (size_t)count)) && bytes[size] == '#';
 }
@@ -240,8 +316,8 @@ static void check_plain(int file, const char *whole) {
     error_of_calls = 0;
     bad_place = ALL;
     started = 0;
-    CHECK(!pipe(ends) && read(ends[0], bytes, sizeof bytes) == 0 && started == 0);
-    CHECK(read(-1, bytes, sizeof bytes) == 0 && started == 0);
+    CHECK(!pipe(ends) && b2sum_read(ends[0], bytes, sizeof bytes) == 0 && started == 0);
+    CHECK(b2sum_read(-1, bytes, sizeof bytes) == 0 && started == 0);
 }
 
 /* ---- Trees. */
@@ -399,7 +475,7 @@ static void check_unhashed(int file, const char *whole) {
     CHECK(updates == 1 && is_of(&state, whole, 3 * MIB + 10));
     state = state_after(65536, whole, 10);
     unset_place = (next_count = 3 * MIB) + 10;
-    CHECK(lseek(file, 10, SEEK_SET) == 10 && read(file, ahead, 3 * MIB) == 3 * MIB);
+    CHECK(lseek(file, 10, SEEK_SET) == 10 && b2sum_read(file, ahead, 3 * MIB) == 3 * MIB);
     updates = next_count = 0;
     update_two(&state, ahead, 3 * MIB);
     CHECK(updates == 1 && ahead[0] == 'r');
@@ -435,14 +511,15 @@ static void check_large(void) {
 
 /* ---- Progress. */
 
-/* Reads so many bytes at this time, and returns whether that writes these. */
+/* Reads so many bytes at this time, and returns whether that writes these. Of many bytes only the
+ * number is known. */
 static int shows(long long at, ssize_t count, const char *wanted) {
     static char bytes[MIB];
     int is_same;
 
     time_now = at;
     next_count = count;
-    CHECK(read(9, bytes, sizeof bytes) == count);
+    CHECK(b2sum_read(9, bytes, sizeof bytes) == count);
     is_same = !strcmp(written, wanted);
     if (!is_same) printf("at %lld: %s\n", at, written);
     written[0] = 0;
@@ -469,28 +546,32 @@ static void check_progress(void) {
     CHECK(shows(2801, 1, "\rnnnnnnnnnnnnnnnnnnnnnnnnnnnnnnnnnnnnnend: 0 MiB\033[K"));
     write_fails = 1;
     error_of_calls = EIO;
-    CHECK(read(9, name, 1) == -1 && errno == EIO && !strcmp(written, "\r\033[K"));
+    CHECK(b2sum_read(9, name, 1) == -1 && errno == EIO && !strcmp(written, "\r\033[K"));
     write_fails = error_of_calls = 0;
     next_count = written[0] = 0;
     time_now = 3000;
-    CHECK(read(0, name, 1) == 0 && !written[0]); /* standard input is another file */
+    CHECK(b2sum_read(0, name, 1) == 0 && !written[0]); /* standard input is another file */
     time_now = 3600;
     next_count = 1;
-    CHECK(read(0, name, 1) == 1 && !strcmp(written, "\r-: 0 MiB\033[K"));
+    CHECK(b2sum_read(0, name, 1) == 1 && !strcmp(written, "\r-: 0 MiB\033[K"));
     written[0] = 0;
 }
 
-/* The length of a regular file is shown too, which makes the longest line. */
+/* The length of a regular file is shown too, which makes the longest line: here with the numbers of
+ * the longest files that some systems have, of 2^62 bytes. */
 static void check_length(void) {
     int file = dup(fileno(tmpfile()));
-    char name[41] = "", line[99];
+    char name[41] = "", line[120];
 
     CHECK(file > 2 && !ftruncate(file, (off_t)1 << 40) && dup2(file, 9) == 9);
     time_now = 5000;
     memset(name, 'n', sizeof name - 1);
-    sprintf(line, "\r%s: 1 MiB of 1048576\033[K", name);
-    CHECK(opens_as(name, name) && shows(5500, 1 << 20, line));
-    close(9);
+    sprintf(line, "\r%s: 4294967297 MiB of 1048576\033[K", name);
+    CHECK(opens_as(name, name) && shows(5100, (ssize_t)1 << 52, "") && shows(5500, 1 << 20, line));
+    sprintf(line, "\r%s: 4398046511105 MiB of 1048576\033[K", name);
+    CHECK(shows(5550, ((ssize_t)1 << 62) - ((ssize_t)1 << 52), "") && shows(5600, 0, "\r\033[K"));
+    CHECK(opens_as(name, name) && shows(6000, (ssize_t)1 << 62, "") && shows(6500, 1 << 20, line));
+    __real_close(9);
 }
 
 int checks(void) {
@@ -505,6 +586,8 @@ int checks(void) {
         CHECK(shows(1000, 1, "") && shows(9000, 1, "") && shows(9999, 0, ""));
     }
     check_open();
+    check_end();
+    check_signal();
     check_read();
     if (!is_terminal) check_large(); /* once, since it takes long */
     CHECK(!strcmp(written, ""));

@@ -23,7 +23,7 @@
 #include <sys/wait.h>
 
 /* The sum of the arguments that a build was given, each multiplied by a different prime. The build
- * adds its level. A function of the library has at most fifteen arguments. These have sixteen, six
+ * adds its level. A function of the library has at most eleven arguments. These have sixteen, six
  * of which are passed in registers. */
 typedef unsigned long long number;
 typedef uint32_t half;

@@ -29,14 +29,28 @@ names_are_one() {
     names_of_object -D --defined-only "$shared" | sed '/^VULFSJOR_0$/d' | diff "$work/names" -
 }
 
-# One function more in the header, or one less in a text, is refused before anything is made.
+# One function more or one less in a file is refused before anything is made.
 join_refuses_a_difference() {
-    local copy=$work/copy
-    mkdir -p "$copy" && cp -R "$here"/{choose.c,calls.h,threads.c,join.sh,include,libb2} "$copy" &&
-        echo 'void vulfsjor_ffi_forgotten(void);' >>"$copy/include/vulfsjor.h" || return 1
-    ! "$copy/join.sh" "$work/refused" "${texts[@]}" 2>"$work/said" &&
-        grep -q '^< vulfsjor_ffi_forgotten$' "$work/said" &&
-        [ ! -e "$work/refused/libvulfsjor.a" ]
+    local copy=$work/copy file edit wanted
+    mkdir -p "$copy" && cp "${texts[@]}" "$copy" || return 1
+    while read -r file wanted edit; do
+        cp -R "$here"/{choose.c,calls.h,threads.c,join.sh,include,libb2} "$copy" &&
+            cp "$copy/$file" "$work/kept" && sed -i "$edit" "$copy/$file" &&
+            ! cmp -s "$copy/$file" "$work/kept" || return 1
+        ! "$copy/join.sh" "$work/refused" "${texts[@]/#*\//$copy/}" 2>"$work/said" &&
+            grep -qxF -- "${wanted/_/ }" "$work/said" && [ ! -e "$work/refused/libvulfsjor.a" ] &&
+            cp "$work/kept" "$copy/$file" || { echo "$file: $edit"; return 1; }
+    done < <(
+        echo 'include/vulfsjor.h <_vulfsjor_ffi_forgotten $a void vulfsjor_ffi_forgotten(void);'
+        echo 'choose.c <_vulfsjor_ffi_tree_part /^CALL("vulfsjor_ffi_tree_part")/d'
+        echo 'choose.c >_vulfsjor_ffi_more $a CALL("vulfsjor_ffi_more")'
+        echo 'calls.h <_vulfsjor_ffi_tree_part /^CALL(vulfsjor_ffi_tree_part,/d'
+        echo 'calls.h >_vulfsjor_ffi_more $a CALL(vulfsjor_ffi_more, int, (void), ())'
+        for file in "${texts[@]##*/}"; do
+            echo "$file <_vulfsjor_ffi_tree_part /^\t\.globl\tvulfsjor_ffi_tree_part_/d"
+            echo "$file >_vulfsjor_ffi_more \$a \\\t.globl\tvulfsjor_ffi_more_$(version _)_v2"
+        done
+    )
 }
 
 # The shared library: its name, the version of its functions, what it needs, and that no page of it

@@ -22,7 +22,7 @@ static int call(int task) {
         case 6: return vulfsjor_tree_update(&t, data, 1);
         case 7: return vulfsjor_tree_root(out, 64, data, 256, 0, 0, 0, 0, 64);
         case 8: return vulfsjor_blake2b_set_last_node(&b, 1);
-        case 9: return vulfsjor_is_same(data, data, 32);
+        case 9: return vulfsjor_memcmp(data, data, 32);
         case 10: return vulfsjor_blake2b_update(&b, data, 256);
         case 11: return vulfsjor_blake2s_update(&s, data, 256);
         default: return -1;

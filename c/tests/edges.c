@@ -228,24 +228,122 @@ static void null_calls(void) {
     tell(MAX, 0, 0, 0, 0, 1, out);
     CHECK(ONE_CALL(out, MAX, NULL, 0, NULL, 0) == 0);
     tell(MAX, 0, 0, 0, 0, 0, out);
-    CHECK(vulfsjor_is_same(NULL, NULL, 0) == 0 && vulfsjor_is_same(NULL, NULL, 1) == -1);
-    CHECK(vulfsjor_is_same(bytes, NULL, 0) == 0 && vulfsjor_is_same(bytes, NULL, 1) == -1);
-    CHECK(vulfsjor_is_same(NULL, bytes, 0) == 0 && vulfsjor_is_same(NULL, bytes, 1) == -1);
+    CHECK(vulfsjor_memcmp(NULL, NULL, 0) == 0 && vulfsjor_memcmp(NULL, NULL, 1) == -1);
+    CHECK(vulfsjor_memcmp(bytes, NULL, 0) == 0 && vulfsjor_memcmp(bytes, NULL, 1) == -1);
+    CHECK(vulfsjor_memcmp(NULL, bytes, 0) == 0 && vulfsjor_memcmp(NULL, bytes, 1) == -1);
 }
 
-static void same_texts(void) {
-    uint8_t a[70], b[70];
+/* Whether a tag is accepted, by an `if` in each of the senses that a program may have. */
+static int accepts_unless_other(const uint8_t *tag, const uint8_t *want, size_t length) {
+    if (vulfsjor_memcmp(tag, want, length) != 0) return 0;
+    return 1;
+}
+
+static int accepts_if_equal(const uint8_t *tag, const uint8_t *want, size_t length) {
+    if (vulfsjor_memcmp(tag, want, length) == 0) return 1;
+    return 0;
+}
+
+static void comparisons(void) {
+    uint8_t a[70], b[70], digests[6][MAX];
+    int duplicates = 0;
+    for (size_t i = 0; i < 6; i++) {
+        CHECK(ONE_CALL(digests[i], MAX, bytes, i % 4, 0, 0) == 0);
+        for (size_t k = 0; k < i; k++)
+            if (!vulfsjor_memcmp(digests[i], digests[k], MAX)) duplicates++;
+    }
+    CHECK(duplicates == 2);
     for (size_t length = 0; length <= 70; length++) {
         memcpy(a, bytes, 70);
         memcpy(b, bytes, 70);
         if (length < 70) b[length] ^= 1; /* after the compared bytes */
-        CHECK(vulfsjor_is_same(a, b, length) == 0);
+        CHECK(vulfsjor_memcmp(a, b, length) == 0);
+        CHECK(accepts_unless_other(a, b, length) && accepts_if_equal(a, b, length));
         for (size_t i = 0; i < length; i++) {
             b[i] ^= 0x80;
-            CHECK(vulfsjor_is_same(a, b, length) == -1);
+            CHECK(vulfsjor_memcmp(a, b, length) == -1 && vulfsjor_memcmp(b, a, length) == -1);
+            CHECK(!accepts_unless_other(a, b, length) && !accepts_if_equal(a, b, length));
             b[i] ^= 0x80;
         }
     }
+}
+
+static void wiped_bytes(void) {
+    uint8_t out[80];
+    for (size_t length = 0; length < 80; length++) {
+        vulfsjor_wipe(fresh(out, 80) + 1, length);
+        CHECK(out[0] == 0xaa && is_zero(out + 1, length) && is_untouched(out, length + 1, 80));
+    }
+    vulfsjor_wipe(NULL, 0);
+    vulfsjor_wipe(NULL, 1);
+    vulfsjor_wipe(NULL, ~(size_t)0);
+}
+
+/* ---- hexadecimal digits */
+
+static void bytes_to_digits(void) {
+    char out[2 * 70 + 9], wanted[2 * 256 + 1], all[2 * 256 + 1];
+    uint8_t values[256];
+    for (int i = 0; i < 256; i++) {
+        values[i] = (uint8_t)i;
+        snprintf(wanted + 2 * i, 3, "%02x", (unsigned)i);
+    }
+    CHECK(vulfsjor_bin2hex(all, sizeof all, values, 256) == 0 && !strcmp(all, wanted));
+    for (size_t length = 0; length <= 70; length++)
+        for (size_t room = 0; room <= sizeof out; room++) {
+            uint8_t *fill = fresh((uint8_t *)out, sizeof out);
+            int taken = room >= 2 * length + 1;
+            CHECK(vulfsjor_bin2hex(out, room, values + 90, length) == (taken ? 0 : -1));
+            CHECK(is_untouched(fill, taken ? 2 * length + 1 : 0, sizeof out));
+            CHECK(!taken || (!memcmp(out, wanted + 180, 2 * length) && !out[2 * length]));
+        }
+    fresh((uint8_t *)out, sizeof out);
+    CHECK(vulfsjor_bin2hex(out, 9, values, ~(size_t)0) == -1);
+    CHECK(vulfsjor_bin2hex(out, 9, values, (size_t)1 << 63) == -1);
+    CHECK(vulfsjor_bin2hex(out, ~(size_t)0, values, (size_t)1 << 63) == -1);
+    CHECK(vulfsjor_bin2hex(NULL, 9, values, 1) == -1 && vulfsjor_bin2hex(NULL, 9, NULL, 0) == -1);
+    CHECK(vulfsjor_bin2hex(out, 9, NULL, 1) == -1 && is_untouched((uint8_t *)out, 0, sizeof out));
+    CHECK(vulfsjor_bin2hex(out, 1, NULL, 0) == 0 && !out[0]);
+}
+
+/* The value of a digit by its place among the digits, or -1. */
+static int value_of(int character) {
+    static const char digits[] = "0123456789abcdef0123456789ABCDEF";
+    const char *at = character ? strchr(digits, character) : NULL;
+    return at ? (int)(at - digits) % 16 : -1;
+}
+
+static void digits_to_bytes(void) {
+    uint8_t out[72];
+    char digits[2 * 70 + 2];
+    for (int high = 0; high < 256; high++)
+        for (int low = 0; low < 256; low++) {
+            const char pair[2] = {(char)high, (char)low};
+            int taken = value_of(high) >= 0 && value_of(low) >= 0;
+            CHECK(vulfsjor_hex2bin(fresh(out, 2), 1, pair, 2) == (taken ? 0 : -1));
+            CHECK(out[0] == (taken ? 16 * value_of(high) + value_of(low) : 0xaa) && out[1] == 0xaa);
+        }
+    for (size_t i = 0; i < sizeof digits; i++) digits[i] = "0aF9b4"[i * i % 6];
+    for (size_t length = 0; length <= 70; length++) {
+        for (size_t given = 0; given <= sizeof digits; given++) {
+            int taken = given == 2 * length;
+            CHECK(vulfsjor_hex2bin(fresh(out, 72), length, digits, given) == (taken ? 0 : -1));
+            CHECK(is_untouched(out, taken ? length : 0, 72));
+            for (size_t i = 0; taken && i < length; i++)
+                CHECK(out[i] == 16 * value_of(digits[2 * i]) + value_of(digits[2 * i + 1]));
+        }
+        for (size_t i = 0; i < 2 * length; i++) {
+            char kept = digits[i];
+            digits[i] = 'g';
+            CHECK(vulfsjor_hex2bin(fresh(out, 72), length, digits, 2 * length) == -1 &&
+                  is_untouched(out, 0, 72));
+            digits[i] = kept;
+        }
+    }
+    CHECK(vulfsjor_hex2bin(out, (size_t)1 << 63, digits, 0) == -1);
+    CHECK(vulfsjor_hex2bin(NULL, 0, digits, 0) == -1 && vulfsjor_hex2bin(NULL, 1, digits, 2) == -1);
+    CHECK(vulfsjor_hex2bin(out, 1, NULL, 2) == -1 && vulfsjor_hex2bin(out, 0, NULL, 0) == 0);
+    CHECK(is_untouched(out, 0, 72));
 }
 
 /* ---- states that are not ready stay, byte by byte */
@@ -767,7 +865,10 @@ int main(void) {
     huge_lengths();
     null_inits();
     null_calls();
-    same_texts();
+    comparisons();
+    wiped_bytes();
+    bytes_to_digits();
+    digits_to_bytes();
     unready_states();
     long_counts();
     flags();

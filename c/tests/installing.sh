@@ -9,7 +9,7 @@ files_below() { (cd "$1" && find . -type f -o -type l | sed 's/^\.\///' | LC_ALL
 
 # The files of an installation, with this in the place of lib/.
 wanted_files() {
-    printf '%s\n' include/vulfsjor-libb2/blake2.h include/vulfsjor.h "$1libvulfsjor.a" \
+    printf '%s\n' include/vulfsjor-libb2/blake2.h include/vulfsjor.h{,pp} "$1libvulfsjor.a" \
         "$1libvulfsjor.so" "$1libvulfsjor.so.0" "$1libvulfsjor.so.$(version)" \
         "$1libvulfsjor-libb2.a" \
         "$1pkgconfig/vulfsjor.pc" "$1pkgconfig/vulfsjor-static.pc" "$1vulfsjor-libb2/libb2.a" \
@@ -209,7 +209,7 @@ find_package(vulfsjor 0.1 REQUIRED)" &&
         [ $shared = OFF ] || wanted="libvulfsjor.so libvulfsjor.so.0 libvulfsjor.so.$(version)"
         # shellcheck disable=SC2086
         { printf 'lib/%s\n' $wanted && wanted_files lib/ |
-            grep -E 'include/vulfsjor(_threads)?[.]h$|cmake|threads.a'; } | LC_ALL=C sort |
+            grep -E 'include/vulfsjor(_threads)?[.]h(pp)?$|cmake|threads.a'; } | LC_ALL=C sort |
             diff <(files_below "$folder") - || return 1
     done
     needs_shared && diff <(shown_functions "$folder") <(shown_functions "$prefix")

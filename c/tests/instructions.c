@@ -1,7 +1,7 @@
 /* Calls functions of the C library, for instructions.sh, which runs this under valgrind
  * and counts in the function of its own that the first word names:
  *
- *   compare_is_same LENGTH      two texts of this length that differ at one place, then at the next
+ *   compare_memcmp LENGTH      two texts of this length that differ at one place, then at the next
  *   compare_blake2b LENGTH      the digest of a keyed run, in so many bytes, and such a tag
  *   compare_blake2s LENGTH      the same of BLAKE2s
  *   hash_root LENGTH            the root of a tree with leaves of 64 KiB over so many bytes
@@ -28,7 +28,7 @@ static vulfsjor_blake2b_state blake2b;
 static vulfsjor_blake2s_state blake2s;
 static vulfsjor_tree_state tree;
 
-COUNTED static int compare_is_same(size_t length) { return vulfsjor_is_same(text, other, length); }
+COUNTED static int compare_memcmp(size_t length) { return vulfsjor_memcmp(text, other, length); }
 
 COUNTED static int compare_blake2b(size_t length) {
     return vulfsjor_blake2b_verify(&blake2b, other, length);
@@ -39,7 +39,7 @@ COUNTED static int compare_blake2s(size_t length) {
 }
 
 /* Nothing: the two texts are there. */
-static int begin_is_same(size_t length) { return length == 0; }
+static int begin_memcmp(size_t length) { return length == 0; }
 
 /* Begins a run, and takes a message. */
 static int begin_blake2b(size_t length) {
@@ -140,11 +140,11 @@ int main(int argc, char **argv) {
     size = strtoul(argv[2], NULL, 10);
     for (i = 0; i < sizeof input; i++) input[i] = (unsigned char)(i % 251);
     /* the first call of a library may choose among its builds, which is not to be counted */
-    if (vulfsjor_is_same(text, other, sizeof other)) return 2;
+    if (vulfsjor_memcmp(text, other, sizeof other)) return 2;
     if (strncmp(argv[1], "compare_", 8)) return hash(argv[1], size);
     if (size > sizeof other) return 2;
-    if (!strcmp(argv[1], "compare_is_same"))
-        return compare_each(begin_is_same, compare_is_same, size);
+    if (!strcmp(argv[1], "compare_memcmp"))
+        return compare_each(begin_memcmp, compare_memcmp, size);
     if (!strcmp(argv[1], "compare_blake2b")) {
         if (begin_blake2b(size) || vulfsjor_blake2b_final(&blake2b, other, size)) return 2;
         return compare_each(begin_blake2b, compare_blake2b, size);

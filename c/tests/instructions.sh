@@ -113,7 +113,7 @@ test_instructions() {
     check "instructions.c" cc -O0 -I"$include" -o "$work/calls" "$tests/instructions.c" "$archive" \
         -Wl,-z,now || return
     for length in 1 8 15 16 17 31 32 33 63 64 65 200; do
-        check_same compare_is_same "$length" "vulfsjor_ffi_is_same of $length bytes"
+        check_same compare_memcmp "$length" "vulfsjor_ffi_memcmp of $length bytes"
     done
     for length in 1 16 20 32 48 64; do
         check_same compare_blake2b "$length" "vulfsjor_ffi_blake2b_verify of $length bytes"

@@ -122,6 +122,27 @@ static int call_wipe(void) {
     BLAKE(wipe)(&state);
     return 0;
 }
+
+/* A copy of the key in a frame that is then dead. */
+static int call_wipe_bytes(void) {
+    uint8_t copy[MAX];
+    int status;
+
+    memcpy(copy, key, MAX);
+    status = BLAKE(init_key)(&state, MAX, copy, MAX);
+    vulfsjor_wipe(copy, MAX);
+    return status;
+}
+
+static int call_hexadecimal(void) {
+    static char digits[2 * MAX + 1];
+    uint8_t copy[MAX];
+    int status = vulfsjor_bin2hex(digits, sizeof digits, key, MAX) ||
+                 vulfsjor_hex2bin(copy, MAX, digits, 2 * MAX) || memcmp(copy, key, MAX);
+
+    vulfsjor_wipe(copy, MAX);
+    return status;
+}
 #endif
 
 /* ---- The search. */
@@ -281,6 +302,8 @@ static const struct {
     {call_verify_short, start_and_take, 1, "verify, a tag of another length"},
     {call_reset, start_and_take, 0, "reset"},
     {call_wipe, start_and_take, 1, "wipe"},
+    {call_wipe_bytes, nothing, 0, "vulfsjor_wipe of a copy of the key"},
+    {call_hexadecimal, nothing, 0, "vulfsjor_bin2hex and vulfsjor_hex2bin of the key"},
 #endif
 };
 

@@ -35,9 +35,15 @@ headers_compile() {
         cc -std=gnu17 "${warnings[@]}" -I"$include" -I"$libb2" -c "$work/header.c" -o /dev/null
 }
 
+# In C++ by each compiler that is there, without casts and null pointers as only C has them.
 header_compiles_as_cpp() {
+    local compiler
     printf '#include "%s"\nint main() { return 0; }\n' "$1" >"$work/header.cpp"
-    c++ -std=c++11 "${warnings[@]}" -I"$include" -I"$libb2" -c "$work/header.cpp" -o /dev/null
+    for compiler in c++ g++ clang++; do
+        ! has $compiler || $compiler -std=c++11 "${warnings[@]}" -Wold-style-cast \
+            -Wzero-as-null-pointer-constant -I"$include" -I"$libb2" -c "$work/header.cpp" \
+            -o /dev/null || return 1
+    done
 }
 
 # A program that ignores a status has a warning, except for the inits, which make later calls fail
@@ -69,11 +75,14 @@ compare_lines() {
         "$work/$source" >"$work/lines" && python3 "$tests/check_lines.py" <"$work/lines"
 }
 
-# What the inline functions pass to the library, which is a part of the test.
+# What the inline functions pass to the library, which is a part of the test; and what those of
+# calls.h pass to the assembly on Windows and macOS. With both conventions of calls in one file the
+# compiler of MinGW fails above -O0.
 passes() {
-    cc -std=c99 -O1 "${warnings[@]}" $(family_words "$1") -I"$include" -I"$libb2" \
+    cc -std=c99 -O1 "${warnings[@]}" $(family_words "$1") -I"$include" -I"$libb2" "${@:2}" \
         "$tests/passes.c" -o "$work/passes" && "$work/passes"
 }
+passes_by_calls() { passes "$1" -O0 -DCHOOSE_ONE=passes '-DCHOOSE_FUNCTIONS="calls.h"'; }
 
 # Which argument is refused.
 refused_arguments() {
@@ -92,6 +101,17 @@ long_buffers() {
 cpp_links() {
     c++ -std=c++11 "${warnings[@]}" -I"$include" -o "$work/link" "$tests/link.cpp" \
         "$prefix/lib/libvulfsjor-threads.a" "$archive" -pthread && "$work/link"
+}
+
+# hasher.cpp, by this compiler and standard, with the warnings of careful projects. The header of C
+# is a system header here.
+hasher_of_cpp() {
+    local compiler=$1 standard=$2
+    mkdir -p "$work/cpp" && cp "$include/vulfsjor.hpp" "$work/cpp/" &&
+        "$compiler" "-std=$standard" -O1 "${warnings[@]}" -Wconversion -Wshadow -Wold-style-cast \
+            -Wzero-as-null-pointer-constant "${@:3}" -isystem "$include" -I"$work/cpp" \
+            "$tests/hasher.cpp" "$archive" -o "$work/hasher" &&
+        "$work/hasher" >"$work/lines" && python3 "$tests/check_lines.py" <"$work/lines"
 }
 
 # The example in C by a compiler, with the library of this name.
@@ -117,6 +137,17 @@ sum_example() {
     "$sum" file_* >said && sums_by_hashlib file_* >wanted && diff said wanted || return 1
     "$sum" <file_200000 >said && sed -n 's/file_200000$/-/p' wanted | diff said - || return 1
     ! "$sum" file_1 absent . file_0 >said && sums_by_hashlib file_1 file_0 | diff said -
+}
+
+# The program of c/examples that finds equal files, over some that differ in their last byte only.
+duplicates_example() {
+    local duplicates=$work/duplicates
+    cc -O2 -std=c99 "${warnings[@]}" "$here/examples/duplicates.c" $(words_for vulfsjor-static) \
+        -o "$duplicates" && mkdir -p "$work/equal" && cd "$work/equal" || return 1
+    head -c 100000 /dev/urandom >a && cp a b && cp a c && printf x >>c && cp a d && printf y >>d &&
+        : >e && : >f && cp c g
+    "$duplicates" a b c d e f g >said && printf '%s\n' 'a b' 'e f' 'c g' | diff said - &&
+        "$duplicates" >said && [ ! -s said ] && ! "$duplicates" a absent >said && [ ! -s said ]
 }
 
 # The benchmark of the README, one turn of it: a table for each family, with a time in each row, and
@@ -184,6 +215,7 @@ test_examples() {
     check "the example in C++" c_example c++ vulfsjor-static c++
     needs
     check "the program c/examples/sum.c" sum_example
+    check "the program c/examples/duplicates.c" duplicates_example
     check "the benchmark bench/calls.c" bench_runs
     check "the example c/examples/ctypes_hash.py" python_example
 }
@@ -192,14 +224,22 @@ test_languages() {
     local header
     for header in vulfsjor.h blake2.h; do check "$header in C" headers_compile $header; done
     needs c++
-    for header in vulfsjor.h blake2.h; do
+    for header in vulfsjor.h vulfsjor_threads.h blake2.h; do
         check "$header in C++" header_compiles_as_cpp $header
     done
     check "link.cpp" cpp_links
+    needs c++ python3
+    check "hasher.cpp in C++17" hasher_of_cpp c++ c++17
+    check "hasher.cpp in C++20, without exceptions" hasher_of_cpp c++ c++20 -fno-exceptions
+    needs clang++ python3
+    check "hasher.cpp in C++17, by clang++, without exceptions" hasher_of_cpp clang++ c++17 \
+        -fno-exceptions
+    check "hasher.cpp in C++20, by clang++" hasher_of_cpp clang++ c++20
     needs
     test_keys
     for family in b s; do
         check "passes.c, blake2$family" passes $family
+        check "passes.c, blake2$family, through calls.h" passes_by_calls $family
         check "refused.c, blake2$family" refused_arguments $family
         check "lengths.c, blake2$family" long_buffers $family
     done

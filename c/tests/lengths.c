@@ -145,14 +145,14 @@ static void same_bytes(void) {
     uint8_t *twin = repeated(LENGTH), *end = twin + (LENGTH - LEAF) / PERIOD * PERIOD;
 
     memcpy(twin, message, PERIOD);
-    CHECK(!vulfsjor_is_same(message, twin, LENGTH));
+    CHECK(!vulfsjor_memcmp(message, twin, LENGTH));
     if (mmap(end, 2 * PERIOD, PROT_READ | PROT_WRITE, MAP_PRIVATE | MAP_ANONYMOUS | MAP_FIXED, -1,
              0) == MAP_FAILED)
         exit(3);
     memcpy(end, message, 2 * PERIOD);
     twin[((size_t)1 << 32) + 50] ^= 1;
-    CHECK(vulfsjor_is_same(message, twin, LENGTH) == -1);
-    CHECK(!vulfsjor_is_same(message, twin, ((size_t)1 << 32) + 50));
+    CHECK(vulfsjor_memcmp(message, twin, LENGTH) == -1);
+    CHECK(!vulfsjor_memcmp(message, twin, ((size_t)1 << 32) + 50));
     munmap(twin, LENGTH + PERIOD);
 }
 

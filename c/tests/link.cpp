@@ -21,7 +21,7 @@ static const unsigned char wanted_s[32] = {
 // Whether these bytes are wanted; they are then cleared.
 template <std::size_t N>
 static bool is(unsigned char (&out)[N], const unsigned char *wanted) {
-    bool same = vulfsjor_is_same(out, wanted, N) == 0;
+    bool same = vulfsjor_memcmp(out, wanted, N) == 0;
     std::memset(out, 0, N);
     return same;
 }

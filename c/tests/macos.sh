@@ -45,7 +45,7 @@ installs() {
     local folder=$work/installed_$1 names=$work/names
     CC=$work/$1 "$here/install.sh" --from "$dist" "$folder" &&
         (cd "$folder" && find . -type f -o -type l) | sed 's|^\./||' | LC_ALL=C sort |
-        diff - <(printf '%s\n' include/vulfsjor-libb2/blake2.h include/vulfsjor.h \
+        diff - <(printf '%s\n' include/vulfsjor-libb2/blake2.h include/vulfsjor.h{,pp} \
             lib/cmake/vulfsjor/vulfsjor-config{,-version}.cmake \
             lib/libvulfsjor{-libb2,-static,}.a lib/libvulfsjor{.0,}.dylib \
             lib/pkgconfig/vulfsjor{,-static}.pc lib/vulfsjor-libb2/libb2.a \
@@ -55,7 +55,7 @@ installs() {
         diff - "$names" &&
         llvm-objdump --macho --dylib-id "$folder/lib/libvulfsjor.0.dylib" |
         grep -qx '@rpath/libvulfsjor.0.dylib' &&
-        "$here/install.sh" --uninstall "$folder" && [ -z "$(find "$folder" -type f)" ]
+        "$here/install.sh" --uninstall "$folder" && [ -z "$(find "$folder" ! -type d)" ]
 }
 
 # The program is linked, and calls what the list above has.

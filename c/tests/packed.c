@@ -1,5 +1,5 @@
-/* A node of a tree whose parameters all differ, by a calling convention that packs arguments on the
- * stack, as that of macOS on ARM does. WANTED_B and WANTED_S are the digests of `abc` under them,
+/* A node of a tree whose parameters all differ: a call with an argument on the stack, by the calling
+ * convention of macOS on ARM, which packs arguments there. WANTED_B and WANTED_S are the digests of `abc` under them,
  * as lists of bytes. Returns 0 if both agree. It prints nothing, since functions such as printf have
  * another convention. macos.sh compiles it for macOS and runs it on Linux. */
 #include <vulfsjor.h>

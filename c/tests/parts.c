@@ -419,13 +419,38 @@ static void change_and_hash(void) {
     hash_range(first, end);
 }
 
+/* Whether a plan is as the comment on vulfsjor_plan says. */
+static int is_as_said(const vulfsjor_plan *p) {
+    const uint64_t top = (uint64_t)1 << 58, all = p->end - p->start;
+    uint64_t parts;
+
+    if (!p->leaf_length || p->leaf_length > UINT32_MAX) return 0;
+    if (!p->part_length || p->part_length % p->leaf_length) return 0;
+    if (p->start > p->end || all >= top || p->ends > 1) return 0;
+    parts = all / p->part_length + (all % p->part_length > 0);
+    if (parts < p->ends) parts = p->ends;
+    if (p->part_count != parts || p->threads > parts || (parts && !p->threads)) return 0;
+    if (p->digests_length != (parts ? 64 * (all ? (all - 1) / p->leaf_length + 1 : 1) : 0)) return 0;
+    if (p->ends) return !p->rest_length;
+    return p->start < p->leaf_length && all % p->leaf_length == 0 &&
+           p->rest_length <= p->leaf_length && (!all || p->rest_length) && p->end < top &&
+           p->rest_length < top - p->end;
+}
+
 /* Hashes the parts of a plan, those at odd places first. The message begins at byte 3. */
 static void hash_by_plan(const vulfsjor_limits *limits) {
+    uint64_t asked = length / limits->least_bytes;
     vulfsjor_plan plan;
     vulfsjor_part part;
 
+    if (!asked) asked = 1;
+    if (asked > limits->threads) asked = limits->threads;
     CHECK(!vulfsjor_tree_plan(&plan, 3, length, size, limits));
     CHECK(plan.digests_length == 64 * vulfsjor_tree_leaf_count(length, size));
+    CHECK(is_as_said(&plan));
+    CHECK(plan.part_length <= limits->most_bytes || plan.part_length == size);
+    CHECK(plan.part_length % (4 * size) == 0 || 4 * size > limits->most_bytes ||
+          vulfsjor_tree_leaf_count(length, size) < 4 * asked);
     for (int even = 0; even < 2; even++)
         for (uint64_t i = !even; i < plan.part_count; i += 2) {
             CHECK(!vulfsjor_tree_part(&part, &plan, i));
@@ -446,6 +471,7 @@ static void update_by_plan(const vulfsjor_limits *limits) {
     CHECK(!vulfsjor_tree_update(&by_plan, message, first));
     CHECK(!vulfsjor_tree_plan_update(&plan, &by_plan, length - first, limits));
     CHECK(!vulfsjor_tree_update(&by_plan, message + first, plan.start));
+    CHECK(is_as_said(&plan));
     for (uint64_t i = 0; i < plan.part_count; i++) {
         CHECK(!vulfsjor_tree_part(&part, &plan, i));
         CHECK(!vulfsjor_tree_next_leaves(&by_plan, out + part.digests_start, part.digests_length,
@@ -544,6 +570,72 @@ static void refused_plans(void) {
     CHECK(!vulfsjor_tree_plan_update(&plan, &state, top - 6, &good));
 }
 
+/* The numbers of a plan, in the order of its fields. */
+enum { START, END, REST, LEAF, PART, COUNT, THREADS, DIGESTS, ENDS, FIELDS };
+
+/* Whether a part of the plan with these numbers is refused: if not, its digests have room. */
+static int is_refused(const uint64_t *numbers) {
+    vulfsjor_plan plan;
+    vulfsjor_part first, last;
+    int status;
+
+    memcpy(&plan, numbers, sizeof plan);
+    status = vulfsjor_tree_part(&first, &plan, 0);
+    CHECK(status == (is_as_said(&plan) && plan.part_count ? 0 : -1));
+    if (status) return 1;
+    CHECK(!vulfsjor_tree_part(&last, &plan, plan.part_count - 1));
+    CHECK(first.start == plan.start && last.start + last.length == plan.end);
+    CHECK(first.digests_start == 0 && last.digests_start % 64 == 0);
+    CHECK(last.digests_start + last.digests_length == plan.digests_length);
+    return 0;
+}
+
+/* Each number of a plan changed to others, of which some leave a plan. */
+static void changed_plans(void) {
+    static const vulfsjor_limits limits = {3, 1, 16, 100};
+    const uint64_t values[] = {0, 1, 2, 3, 4, 5, 64, UINT32_MAX, (uint64_t)UINT32_MAX + 1,
+                               (uint64_t)1 << 58, UINT64_MAX - 1, UINT64_MAX};
+    const uint64_t steps[] = {1, 4, 16, 64, (uint64_t)1 << 32, (uint64_t)1 << 63};
+    vulfsjor_tree_state state = tree_with(4, 6);
+    vulfsjor_plan plans[6];
+    int refused[FIELDS] = {0}, accepted[FIELDS] = {0};
+
+    CHECK(!vulfsjor_tree_plan(&plans[0], 7, 41, 4, &limits));
+    CHECK(!vulfsjor_tree_plan(&plans[1], 0, 0, 4, &limits));
+    CHECK(!vulfsjor_tree_plan(&plans[2], 5, 4, 4, &limits));
+    CHECK(!vulfsjor_tree_plan_update(&plans[3], &state, 50, &limits));
+    CHECK(!vulfsjor_tree_plan_update(&plans[4], &state, 7, &limits));
+    CHECK(!vulfsjor_tree_plan_update(&plans[5], &state, 3, &limits)); /* no whole leaf */
+    for (size_t i = 0; i < 6; i++)
+        for (int field = 0; field < FIELDS; field++) {
+            uint64_t numbers[FIELDS], was;
+
+            memcpy(numbers, &plans[i], sizeof numbers);
+            was = numbers[field];
+            for (size_t k = 0; k < sizeof values / sizeof *values; k++) {
+                numbers[field] = values[k];
+                ++*(is_refused(numbers) ? &refused[field] : &accepted[field]);
+            }
+            for (size_t k = 0; k < sizeof steps / sizeof *steps; k++)
+                for (int down = 0; down < 2; down++) {
+                    numbers[field] = down ? was - steps[k] : was + steps[k];
+                    ++*(is_refused(numbers) ? &refused[field] : &accepted[field]);
+                }
+        }
+    for (int field = 0; field < FIELDS; field++) CHECK(refused[field] > 50 && accepted[field]);
+}
+
+/* A part is fours of leaves if each thread has four, and a part room for four. */
+static void parts_in_fours(void) {
+    const vulfsjor_limits limits = {4, 1, 1 << 20, 1 << 19}, few = {4, 1, 1 << 20, (1 << 18) - 1};
+    vulfsjor_plan plan;
+
+    CHECK(!vulfsjor_tree_plan(&plan, 0, 1 << 26, 1 << 16, &limits));
+    CHECK(plan.part_length == 8 << 16 && plan.part_count == 128 && plan.threads == 4);
+    CHECK(!vulfsjor_tree_plan(&plan, 0, 1 << 26, 1 << 16, &few));
+    CHECK(plan.part_length == 1 << 16 && plan.part_count == 1024);
+}
+
 static void random_messages(int turns) {
     for (int turn = 0; turn < turns; turn++) {
         size = (uint32_t)(1 + random_below(turn % 5 ? 300 : 5));
@@ -579,6 +671,8 @@ int main(int count, char **words) {
     nodes();
     refused_nodes();
     refused_plans();
+    changed_plans();
+    parts_in_fours();
     random_messages(count > 1 ? atoi(words[1]) : 20000);
     puts("end");
     return fails ? 1 : 0;

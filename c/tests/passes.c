@@ -4,15 +4,28 @@
  *
  *   cc -std=c99 -Wall -Wextra -Wpedantic -Werror -I FOLDER/include
  *       -I FOLDER/include/vulfsjor-libb2 passes.c -o passes
- *   cc the same with -DTEST_S                the same for BLAKE2s, without the tree */
+ *   cc the same with -DTEST_S                the same for BLAKE2s, without the tree
+ *   cc the same with -DCHOOSE_ONE=passes -DCHOOSE_FUNCTIONS='"calls.h"'
+ *                                            the same through calls.h, as on Windows and macOS: the
+ *                                            functions of this file stand for the assembly */
+#ifdef CHOOSE_ONE
+#include "../choose.c"
+#endif
 #include "check.h"
 #include "family.h"
 
 #include <blake2.h>
 
-/* ---- the library */
+/* ---- the library, or the assembly */
+
+#ifdef CHOOSE_ONE
+#define DEFINED(type, name) OF_TEXT type name##_one
+#else
+#define DEFINED(type, name) type name
+#endif
 
 #define Z(x) (uint64_t)(uintptr_t)(x)
+#define Z0() 0
 #define Z1(a) Z(a)
 #define Z2(a, ...) Z(a), Z1(__VA_ARGS__)
 #define Z3(a, ...) Z(a), Z2(__VA_ARGS__)
@@ -24,15 +37,12 @@
 #define Z9(a, ...) Z(a), Z8(__VA_ARGS__)
 #define Z10(a, ...) Z(a), Z9(__VA_ARGS__)
 #define Z11(a, ...) Z(a), Z10(__VA_ARGS__)
-#define Z12(a, ...) Z(a), Z11(__VA_ARGS__)
-#define Z13(a, ...) Z(a), Z12(__VA_ARGS__)
-#define Z14(a, ...) Z(a), Z13(__VA_ARGS__)
 
 /* The last call of the library, and what it returns; and the call before it. */
 static struct {
     const char *name;
     size_t count;
-    uint64_t given[14], answer;
+    uint64_t given[11], answer;
 } last, before;
 
 static uint64_t note(const char *name, size_t count, const uint64_t *given) {
@@ -48,7 +58,7 @@ static int wipes;
 
 /* A function of the library with N parameters. */
 #define NOTE(type, name, n, parameters, names)                            \
-    type name parameters {                                                \
+    DEFINED(type, name) parameters {                                      \
         return (type)note(#name, n, (const uint64_t[]){Z##n names});      \
     }
 #define BYTES(name) const uint8_t *name, size_t name##_length
@@ -65,10 +75,9 @@ static int wipes;
          (S, n, k, k_length, s, s_length, p, p_length))                                            \
     NOTE(int32_t, vulfsjor_ffi_##x##_init_key, 4, (vulfsjor_##x##_state * S, size_t n, BYTES(k)),  \
          (S, n, k, k_length))                                                                      \
-    NOTE(int32_t, vulfsjor_ffi_##x##_init_tree, 14,                                                \
-         (vulfsjor_##x##_state * S, size_t n, BYTES(k), MORE, uint8_t f, uint8_t d, uint32_t l,    \
-          uint64_t at, uint8_t nd, uint8_t il),                                                    \
-         (S, n, k, k_length, s, s_length, p, p_length, f, d, l, at, nd, il))                       \
+    NOTE(int32_t, vulfsjor_ffi_##x##_init_tree, 9,                                                 \
+         (vulfsjor_##x##_state * S, size_t n, BYTES(k), MORE, const vulfsjor_tree *t),             \
+         (S, n, k, k_length, s, s_length, p, p_length, t))                                         \
     NOTE(int32_t, vulfsjor_ffi_##x##_init_param, 3, (vulfsjor_##x##_state * S, BYTES(b)),          \
          (S, b, b_length))                                                                         \
     NOTE(int32_t, vulfsjor_ffi_##x##_update, 3, (vulfsjor_##x##_state * S, BYTES(i)),              \
@@ -81,14 +90,15 @@ static int wipes;
     NOTE(int32_t, vulfsjor_ffi_##x##_reset, 1, (vulfsjor_##x##_state * S), (S))                    \
     NOTE(size_t, vulfsjor_ffi_##x##_digest_size, 1, (const vulfsjor_##x##_state *S), (S))          \
     NOTE(uint64_t, vulfsjor_ffi_##x##_count, 1, (const vulfsjor_##x##_state *S), (S))              \
-    void vulfsjor_ffi_##x##_wipe(vulfsjor_##x##_state *S) {                                        \
+    NOTE(size_t, vulfsjor_ffi_##x##_state_size, 0, (void), ())                                     \
+    DEFINED(void, vulfsjor_ffi_##x##_wipe)(vulfsjor_##x##_state * S) {                             \
         wipes++;                                                                                   \
         note("vulfsjor_ffi_" #x "_wipe", 1, (const uint64_t[]){Z(S)});                             \
     }
 FAMILY_NOTES(blake2b)
 FAMILY_NOTES(blake2s)
 
-NOTE(int32_t, vulfsjor_ffi_is_same, 4, (BYTES(a), BYTES(b)), (a, a_length, b, b_length))
+NOTE(int32_t, vulfsjor_ffi_memcmp, 4, (BYTES(a), BYTES(b)), (a, a_length, b, b_length))
 NOTE(int32_t, vulfsjor_ffi_tree_root, 9, (OUT, BYTES(i), MORE, uint32_t l),
      (o, n, i, i_length, s, s_length, p, p_length, l))
 NOTE(int32_t, vulfsjor_ffi_tree_init, 7, (vulfsjor_tree_state *S, size_t n, MORE, uint32_t l),
@@ -108,11 +118,29 @@ NOTE(int32_t, vulfsjor_ffi_tree_next_leaves, 6,
      (const vulfsjor_tree_state *S, OUT, uint64_t k, BYTES(i)), (S, o, n, k, i, i_length))
 NOTE(int32_t, vulfsjor_ffi_tree_update_leaves, 5, (vulfsjor_tree_state *S, BYTES(d), BYTES(i)),
      (S, d, d_length, i, i_length))
-void vulfsjor_ffi_tree_wipe(vulfsjor_tree_state *S) {
+NOTE(int32_t, vulfsjor_ffi_tree_check, 4, (size_t n, size_t s, size_t p, uint32_t l),
+     (n, s, p, l))
+NOTE(int32_t, vulfsjor_ffi_tree_init_leaf, 8,
+     (vulfsjor_blake2b_state *S, uint64_t i, uint32_t e, MORE, uint32_t l),
+     (S, i, e, s, s_length, p, p_length, l))
+NOTE(int32_t, vulfsjor_ffi_tree_init_root, 7,
+     (vulfsjor_blake2b_state *S, size_t n, MORE, uint32_t l),
+     (S, n, s, s_length, p, p_length, l))
+NOTE(int32_t, vulfsjor_ffi_tree_plan, 5,
+     (vulfsjor_plan *P, uint64_t at, uint64_t n, uint32_t l, const vulfsjor_limits *t),
+     (P, at, n, l, t))
+NOTE(int32_t, vulfsjor_ffi_tree_plan_update, 4,
+     (vulfsjor_plan *P, const vulfsjor_tree_state *S, uint64_t n, const vulfsjor_limits *t),
+     (P, S, n, t))
+NOTE(int32_t, vulfsjor_ffi_tree_part, 3, (vulfsjor_part *p, const vulfsjor_plan *P, uint64_t i),
+     (p, P, i))
+NOTE(size_t, vulfsjor_ffi_tree_state_size, 0, (void), ())
+NOTE(uint32_t, vulfsjor_ffi_version, 0, (void), ())
+DEFINED(void, vulfsjor_ffi_tree_wipe)(vulfsjor_tree_state *S) {
     note("vulfsjor_ffi_tree_wipe", 1, (const uint64_t[]){Z(S)});
 }
-uint32_t vulfsjor_ffi_version(void) {
-    return (uint32_t)note("vulfsjor_ffi_version", 0, last.given);
+DEFINED(void, vulfsjor_ffi_wipe)(uint8_t *b, size_t n) {
+    note("vulfsjor_ffi_wipe", 2, (const uint64_t[]){Z(b), n});
 }
 
 /* ---- the tests */
@@ -181,8 +209,7 @@ static void inits(void) {
     PASSES(BLAKE(init_salt_personal)(&state, L1, 0, 0, 0, 0, 0, 0), NAME(init_salt_personal), 8,
            (&state, L1, ANY, 0, ANY, 0, ANY, 0));
     PASSES(BLAKE(init_tree)(&state, L1, key, L2, salt, L3, persona, L4, &place), NAME(init_tree),
-           14,
-           (&state, L1, key, L2, salt, L3, persona, L4, 3, 4, ~(uint32_t)2, ~(uint64_t)1, 5, 6));
+           9, (&state, L1, key, L2, salt, L3, persona, L4, &place));
     PASSES(BLAKE(init_param)(&state, &param), NAME(init_param), 3, (&state, &param, MAX));
 }
 
@@ -193,10 +220,12 @@ static void calls(void) {
     PASSES(BLAKE(update)(&state, NULL, 0), NAME(update), 3, (&state, ANY, 0));
     PASSES(BLAKE(final)(&state, out, L1), NAME(final), 3, (&state, out, L1));
     PASSES(BLAKE(verify)(&state, in, L2), NAME(verify), 3, (&state, in, L2));
-    PASSES(BLAKE(set_last_node)(&state, -2), NAME(set_last_node), 2, (&state, 0xfffffffe));
+    PASSES(BLAKE(set_last_node)(&state, -2), NAME(set_last_node), 2, (&state, 1));
+    PASSES(BLAKE(set_last_node)(&state, 0), NAME(set_last_node), 2, (&state, 0));
     PASSES(BLAKE(reset)(&state), NAME(reset), 1, (&state));
     COUNTS(size_t, BLAKE(digest_size)(&state), NAME(digest_size), 1, (&state));
     COUNTS(uint64_t, BLAKE(count)(&state), NAME(count), 1, (&state));
+    COUNTS(size_t, LIBRARY(state_size)(), NAME(state_size), 0, ());
     BLAKE(wipe)(&state);
     CHECK(is_call(NAME(wipe), 1, (const uint64_t[]){Z(&state)}));
     last.answer = 0;
@@ -243,10 +272,13 @@ static void names_of_libb2(void) {
 static void trees(void) {
     vulfsjor_tree_state tree;
     const uint32_t leaf = ~(uint32_t)6;
+    const vulfsjor_limits limits = {0};
+    vulfsjor_plan plan;
+    vulfsjor_part part;
 
-    PASSES(vulfsjor_is_same(in, key, L2), "vulfsjor_ffi_is_same", 4, (in, L2, key, L2));
-    last.answer = 0x01020304;
-    CHECK(vulfsjor_version() == 0x01020304 && is_call("vulfsjor_ffi_version", 0, last.given));
+    PASSES(vulfsjor_memcmp(in, key, L2), "vulfsjor_ffi_memcmp", 4, (in, L2, key, L2));
+    COUNTS(uint32_t, vulfsjor_version(), "vulfsjor_ffi_version", 0, ());
+    COUNTS(size_t, vulfsjor_ffi_tree_state_size(), "vulfsjor_ffi_tree_state_size", 0, ());
     SAME(tree_root, 9, (out, L1, in, L2, salt, L3, persona, L4, leaf));
     SAME(tree_init, 7, (&tree, L1, salt, L2, persona, L3, leaf));
     SAME(tree_update, 3, (&tree, in, L2));
@@ -265,8 +297,26 @@ static void trees(void) {
     SAME(tree_update_leaves, 5, (&tree, in, L1, key, L2));
     PASSES(vulfsjor_tree_update_leaves(&tree, 0, 0, 0, 0), "vulfsjor_ffi_tree_update_leaves", 5,
            (&tree, ANY, 0, ANY, 0));
+    PASSES(vulfsjor_ffi_tree_check(L1, L2, L3, leaf), "vulfsjor_ffi_tree_check", 4,
+           (L1, L2, L3, leaf));
+    for (int last_leaf = -2; last_leaf <= 2; last_leaf++)
+        PASSES(vulfsjor_tree_init_leaf(&state, L2, last_leaf, salt, L3, persona, L4, leaf),
+               "vulfsjor_ffi_tree_init_leaf", 8,
+               (&state, L2, last_leaf != 0, salt, L3, persona, L4, leaf));
+    PASSES(vulfsjor_tree_init_leaf(&state, L1, 0, 0, 0, 0, 0, leaf), "vulfsjor_ffi_tree_init_leaf",
+           8, (&state, L1, 0, ANY, 0, ANY, 0, leaf));
+    SAME(tree_init_root, 7, (&state, L1, salt, L2, persona, L3, leaf));
+    PASSES(vulfsjor_tree_init_root(&state, L1, 0, 0, 0, 0, leaf), "vulfsjor_ffi_tree_init_root", 7,
+           (&state, L1, ANY, 0, ANY, 0, leaf));
+    SAME(tree_plan, 5, (&plan, L1, L2, leaf, &limits));
+    SAME(tree_plan_update, 4, (&plan, &tree, L2, &limits));
+    SAME(tree_part, 3, (&part, &plan, L2));
     vulfsjor_tree_wipe(&tree);
     CHECK(is_call("vulfsjor_ffi_tree_wipe", 1, (const uint64_t[]){Z(&tree)}));
+    vulfsjor_wipe(out, L2);
+    CHECK(is_call("vulfsjor_ffi_wipe", 2, (const uint64_t[]){Z(out), L2}));
+    vulfsjor_wipe(NULL, L2);
+    CHECK(!last.name);
 }
 #endif
 

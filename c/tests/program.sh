@@ -14,7 +14,7 @@ functions_of_program() {
 functions_of_b2sum() {
     local words build=v2 text=$dist/x86_64/vulfsjor-v2.s
     local calls=openat,readv,isatty,clock_gettime,write,pread,pthread_create,sched_getaffinity
-    calls+=,lseek,malloc,vulfsjor_ffi_tree_update
+    calls+=,lseek,malloc,vulfsjor_ffi_tree_update,posix_fadvise,close,dprintf
     is_x86 || build=arm text=$dist/aarch64/vulfsjor.s
     cc -O2 -g "${warnings[@]}" -DMAIN=checks -DUPDATE_TREE=update.2 -DUPDATE_TREE_V3=update.3 \
         -DUPDATE_TREE_V4=update.4 "-Wl,--wrap=${calls//,/,--wrap=}" "-I$here/include" \
@@ -32,7 +32,17 @@ functions_of_b2sum() {
     [ $? -eq 7 ]
 }
 
-# The same where the C library tells nothing of the processor, which is made up.
+# Whether b2sum has no function that the rest of its process would get instead of one of the C
+# library, even if it exports all that it can.
+b2sum_replaces_nothing() {
+    local text=$dist/x86_64/b2sum-v2.s
+    is_x86 || text=$dist/aarch64/b2sum.s
+    assemble "$text" "$work/b2sum" -rdynamic && nm -D --defined-only "$work/b2sum" >"$work/names" &&
+        grep -q ' T main$' "$work/names" &&
+        ! grep -E ' (open|read|signal|__sysv_signal|b2sum_.*)$' "$work/names"
+}
+
+# The C of the program where the C library tells nothing of the processor, which is made up.
 leaves_of_program() {
     printf '%s\n' '#include <stdlib.h>' '#include <processor.h>' \
         'void make_up(unsigned first, unsigned seventh, unsigned extended, unsigned saved) {' \
@@ -87,6 +97,8 @@ test_program() {
         -fno-sanitize-recover=all
     check "the C of b2sum, with sanitizers" functions_of_b2sum -fsanitize=address,undefined \
         -fno-sanitize-recover=all
+    needs nm
+    check "b2sum replaces no function of the C library" b2sum_replaces_nothing
     needs
     is_x86 || missing="the processor is not x86-64"
     check "what it says of processors that are made up" leaves_of_program

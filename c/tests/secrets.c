@@ -1,8 +1,9 @@
 /* Whether a branch or an address depends on a secret, by memcheck of valgrind: keys and messages
  * are marked as undefined, and memcheck reports each branch on what is computed from them, and each
  * such address. Lengths, salts and personas are public, and so is the result of a comparison:
- * verify and is_same may have one report a call, that of their result. A call writes what memcheck
- * knows for a secret, which is then marked as defined and compared with the expected digest.
+ * verify, memcmp and hex2bin may have one report a call, that of their result. A call writes what
+ * memcheck knows for a secret, which is then marked as defined and compared with the expected
+ * digest.
  *
  *   secrets FILE      every call that accepts a key or a message, over the lines of vectors.py
  *   secrets branch    a branch on a byte of a key, and
@@ -89,7 +90,7 @@ static void verify(state_t *state, int wrong) {
     compared(before, BLAKE(verify)(&copy, tag.bytes, tag.length), !wrong);
     require(!BLAKE(final)(state, out, wanted.length), "final is refused");
     before = VALGRIND_COUNT_ERRORS;
-    compared(before, vulfsjor_is_same(out, tag.bytes, tag.length), !wrong);
+    compared(before, vulfsjor_memcmp(out, tag.bytes, tag.length), !wrong);
 }
 
 static void in_pieces(const state_t *made, unsigned cut) {
@@ -138,10 +139,22 @@ static void many(void) {
     }
 }
 
+/* The key as digits, and back. The status depends on whether all characters are digits. */
+static void hexadecimal(void) {
+    char digits[2 * MAX + 1];
+    uint8_t bytes[MAX];
+    unsigned long before;
+    require(!vulfsjor_bin2hex(digits, sizeof digits, key.bytes, key.length), "bin2hex is refused");
+    before = VALGRIND_COUNT_ERRORS;
+    compared(before, vulfsjor_hex2bin(bytes, key.length, digits, 2 * key.length), 1);
+    vulfsjor_wipe(bytes, key.length);
+}
+
 static void hash_case(void) {
     state_t made;
     hide(&key);
     hide(&message);
+    hexadecimal();
     require(!BLAKE(init_salt_personal)(&made, wanted.length, key.bytes, key.length, salt.bytes,
                                        salt.length, persona.bytes, persona.length),
             "init_salt_personal is refused");

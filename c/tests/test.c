@@ -77,7 +77,7 @@ static void verifies(const state_t *state, text wanted) {
         copy = *state;
         tag[i] ^= (uint8_t)(1 << (i % 8));
         CHECK(BLAKE(verify)(&copy, tag, wanted.length) == -1 && is_zero(&copy));
-        CHECK(vulfsjor_is_same(tag, wanted.bytes, wanted.length) == -1);
+        CHECK(vulfsjor_memcmp(tag, wanted.bytes, wanted.length) == -1);
         tag[i] ^= (uint8_t)(1 << (i % 8));
     }
     copy = *state;
@@ -86,7 +86,7 @@ static void verifies(const state_t *state, text wanted) {
     CHECK(BLAKE(verify)(&copy, tag, wanted.length - 1) == -1 && is_zero(&copy));
     copy = *state;
     CHECK(BLAKE(verify)(&copy, NULL, 0) == -1 && is_zero(&copy));
-    CHECK(vulfsjor_is_same(tag, wanted.bytes, wanted.length) == 0);
+    CHECK(vulfsjor_memcmp(tag, wanted.bytes, wanted.length) == 0);
 }
 
 /* Absorbs the message in the initialized state, cut in several ways, and checks each digest. */
@@ -504,7 +504,7 @@ static void refusals(void) {
     CHECK(ONE_CALL(out, MAX, NULL, 1, 0, 0) == -1 && ONE_CALL(out, MAX, bytes, 1, NULL, 1) == -1);
     CHECK(ONE_CALL(out, MAX, bytes, 1, bytes, MAX + 1) == -1 &&
           ONE_CALL(NULL, MAX, 0, 0, 0, 0) == -1);
-    CHECK(vulfsjor_is_same(NULL, NULL, 0) == 0 && vulfsjor_is_same(NULL, bytes, 1) == -1);
+    CHECK(vulfsjor_memcmp(NULL, NULL, 0) == 0 && vulfsjor_memcmp(NULL, bytes, 1) == -1);
     /* A null text with a length changes nothing. */
     CHECK(BLAKE(init)(&state, MAX) == 0);
     state_t before = state;

@@ -18,6 +18,7 @@
 #include <limits.h>
 #include <pthread.h>
 #include <sched.h>
+#include <signal.h>
 #include <stdio.h>
 #include <stdlib.h>
 #include <sys/stat.h>
@@ -97,15 +98,19 @@ static int is_interrupted(int file) {
 
 static size_t shortened(size_t n) { return reads.most && n > reads.most ? reads.most : n; }
 
-/* How often each MiB of a long file was read; null: files are read, and not only noted. */
-static unsigned char *seen;
+/* How many bytes of each MiB of a long file were read; null: files are read, and not only noted. */
+static uint32_t *seen;
 enum { MIBS = (1 << 12) + 64 + 1 };
 
 static ssize_t note_read(size_t n, off_t from) {
-    off_t at = from >> 20, end = (from + (off_t)n - 1) >> 20;
+    const off_t end = from + (off_t)n;
 
-    for (; at <= end; at++)
-        if (at >= MIBS || __atomic_add_fetch(&seen[at], 1, __ATOMIC_SEQ_CST) > 1) return 0;
+    for (off_t next; from < end; from = next) {
+        next = ((from >> 20) + 1) << 20;
+        if (next > end) next = end;
+        if (from >> 20 < MIBS)
+            __atomic_add_fetch(&seen[from >> 20], (uint32_t)(next - from), __ATOMIC_SEQ_CST);
+    }
     return (ssize_t)n;
 }
 
@@ -193,9 +198,24 @@ WRAP(void, free, (void *block)) {
     __real_free(block);
 }
 
+/* Whether this thread blocks all signals except those of its own faults of memory, and SIGKILL and
+ * SIGSTOP, which none can block. */
+static int blocks_signals(void) {
+    sigset_t mask;
+    int number, is = !pthread_sigmask(SIG_BLOCK, NULL, &mask);
+
+    for (number = 1; is && number <= SIGRTMAX; number++)
+        if (number < 32 || number >= SIGRTMIN) /* those between are the C library's */
+            is = sigismember(&mask, number) == (number != SIGBUS && number != SIGSEGV &&
+                                                number != SIGKILL && number != SIGSTOP);
+    return is;
+}
+
 /* What threads.c has each thread do, which is one function for all. */
 static void *(*hash)(void *);
+static int wrong_masks;
 static void *hash_and_end(void *given) {
+    if (!blocks_signals()) add(&wrong_masks, 1);
     void *answer = hash(given);
 
     add(&reads.ended, 1);
@@ -315,6 +335,71 @@ static int root_of_pipe(void) {
     return status;
 }
 
+/* What the calls of progress have reported: how often, the last number, and whether each was more
+ * than the one before and came in this thread. The call ends at the one of this number. */
+static struct {
+    int calls, last_call;
+    uint64_t count;
+    pthread_t thread;
+} reported;
+
+static int note_progress(void *context, uint64_t count) {
+    CHECK(context == &reported && count > reported.count &&
+          pthread_equal(pthread_self(), reported.thread));
+    reported.count = count;
+    return ++reported.calls == reported.last_call ? -7 : 0;
+}
+
+/* Absorbs a file after these bytes of the message into a state that a failure leaves as it was. */
+static int update_by(int file, size_t head) {
+    vulfsjor_tree_state state, before;
+    int status, error;
+
+    if (vulfsjor_tree_init(&state, 64, 0, 0, 0, 0, leaf) ||
+        __real_vulfsjor_ffi_tree_update(&state, message, head))
+        exit(3);
+    before = state;
+    reported.calls = reported.count = 0;
+    reported.thread = pthread_self();
+    status = vulfsjor_tree_update_fd(&state, file, asked, note_progress, &reported);
+    error = errno;
+    CHECK(!status || !memcmp(&state, &before, sizeof state));
+    CHECK(status || reads.resized_at || reported.count == length - head);
+    if (!status && __real_vulfsjor_ffi_tree_final(&state, root, 64)) exit(3);
+    errno = error;
+    return status;
+}
+
+/* The message after its first 1,000 bytes from the file, or all of it, or all from a pipe. */
+static int root_after(size_t head) {
+    int file = open(path, O_RDONLY | O_CLOEXEC), status, error;
+
+    if (file < 0 || __real_lseek(file, (off_t)head, SEEK_SET) < 0) exit(3);
+    status = update_by(file, head);
+    error = errno;
+    CHECK(status || reads.resized_at || __real_lseek(file, 0, SEEK_CUR) == (off_t)length);
+    close(file);
+    errno = error;
+    return status;
+}
+
+static int root_of_rest(void) { return root_after(1000); }
+static int root_of_all(void) { return root_after(0); }
+
+static int root_of_piped_rest(void) {
+    int ends[2], status, error;
+
+    if (pipe(ends) || fcntl(ends[1], F_SETPIPE_SZ, 1 << 20) < 0 ||
+        write(ends[1], message + 1000, length - 1000) != (ssize_t)(length - 1000))
+        exit(3);
+    close(ends[1]);
+    status = update_by(ends[0], 1000);
+    error = errno;
+    close(ends[0]);
+    errno = error;
+    return status;
+}
+
 /* How many descriptors are open. */
 static int descriptors(void) {
     DIR *all = opendir("/proc/self/fd");
@@ -363,14 +448,18 @@ static void each_fails(int (*call)(void), const char *name, int given, int error
 
 /* The file has another length from this read on. */
 static void resize(int at, size_t size, int error) {
-    write_file(length);
-    wish("", 0, 0);
-    reads.resized_at = at;
-    reads.size = (off_t)size;
-    reads.file = open(path, O_RDWR);
-    expect(root_of_file, error);
-    close(reads.file);
-    memset(&reads, 0, sizeof reads);
+    int (*const calls[])(void) = {root_of_file, root_of_all};
+
+    for (size_t i = 0; i < sizeof calls / sizeof *calls; i++) {
+        write_file(length);
+        wish("", 0, 0);
+        reads.resized_at = at;
+        reads.size = (off_t)size;
+        reads.file = open(path, O_RDWR);
+        expect(calls[i], error);
+        close(reads.file);
+        memset(&reads, 0, sizeof reads);
+    }
 }
 
 static void memory_is_refused(void) {
@@ -382,6 +471,8 @@ static void memory_is_refused(void) {
     CHECK(!is_hit());
     each_fails(root_of_file, "malloc", 0, ENOMEM, 2); /* the digests, and a buffer or more */
     each_fails(root_of_pipe, "malloc", 0, ENOMEM, 1);
+    each_fails(root_of_rest, "malloc", 0, ENOMEM, 3); /* and one for what one thread reads */
+    each_fails(root_of_piped_rest, "malloc", 0, ENOMEM, 1);
     asked = 1;
     wish("malloc", 1, 0);
     expect(root_of_bytes, 0); /* one thread needs none */
@@ -396,6 +487,7 @@ static void threads_do_not_start(void) {
     each_fails(root_of_bytes, "pthread_create", EAGAIN, 0, 7);
     each_fails(root_of_file, "pthread_create", EPERM, 0, 7);
     each_fails(root_of_updates, "pthread_create", EAGAIN, 0, 7);
+    each_fails(root_of_rest, "pthread_create", EAGAIN, 0, 7);
     wish("pthread_create", 1, EAGAIN);
     expect(root_of_bytes, 0);
     CHECK(started == 0); /* after one that failed no other is tried */
@@ -419,12 +511,21 @@ static void library_refuses(void) {
     each_fails(root_of_updates, "vulfsjor_ffi_tree_update", 0, EINVAL, 1);
     each_fails(root_of_pipe, "vulfsjor_ffi_tree_update", 0, EFBIG, 1);
     each_fails(root_of_pipe, "vulfsjor_ffi_tree_final", 0, EINVAL, 1);
+    wish("vulfsjor_ffi_tree_plan_update", 1, 0);
+    expect(root_of_rest, EFBIG);
+    wish("vulfsjor_ffi_tree_plan_update", 2, 0);
+    expect(root_of_rest, EINVAL);
+    each_fails(root_of_rest, "vulfsjor_ffi_tree_part", 0, EINVAL, 4);
+    each_fails(root_of_rest, "vulfsjor_ffi_tree_next_leaves", 0, EINVAL, 4);
+    each_fails(root_of_rest, "vulfsjor_ffi_tree_update_leaves", 0, EINVAL, 2);
+    each_fails(root_of_piped_rest, "vulfsjor_ffi_tree_update", 0, EFBIG, 1);
     asked = 1;
     each_fails(root_of_bytes, "vulfsjor_ffi_tree_root", 0, EINVAL, 1);
     each_fails(root_of_updates, "vulfsjor_ffi_tree_update", 0, EINVAL, 1);
     take(BYTES, 17 << 20, 2);
     each_fails(root_of_file, "vulfsjor_ffi_tree_init_leaf", 0, EINVAL, 2);
     each_fails(root_of_file, "vulfsjor_ffi_blake2b_final", 0, EINVAL, 2);
+    each_fails(root_of_all, "vulfsjor_ffi_tree_init_leaf", 0, EINVAL, 2);
     wish("vulfsjor_ffi_blake2b_update", 20, 0);
     expect(root_of_file, EINVAL);
 }
@@ -434,8 +535,12 @@ static void reads_fail(void) {
     each_fails(root_of_file, "pread", ESTALE, ESTALE, 4);
     each_fails(root_of_pipe, "read", ECONNRESET, ECONNRESET, 2);
     each_fails(root_of_file, "lseek", EOVERFLOW, EOVERFLOW, 2);
+    each_fails(root_of_rest, "pread", ESTALE, ESTALE, 6);
+    each_fails(root_of_piped_rest, "read", ECONNRESET, ECONNRESET, 2);
+    each_fails(root_of_rest, "lseek", EOVERFLOW, EOVERFLOW, 2);
 #if __GLIBC_PREREQ(2, 33)
     each_fails(root_of_file, "fstat", EOVERFLOW, EOVERFLOW, 1);
+    each_fails(root_of_rest, "fstat", EOVERFLOW, EOVERFLOW, 1);
 #endif
     take(BYTES, 17 << 20, 2);
     wish("pread", 1, EIO);
@@ -465,11 +570,14 @@ static void reads_are_short(void) {
             wish("", 0, 0);
             expect(root_of_file, 0);
             expect(root_of_pipe, 0);
+            expect(root_of_rest, 0);
+            expect(root_of_piped_rest, 0);
         }
     take(20 << 20, 17 << 20, 2);
     reads.interrupted = 1;
     reads.most = 300001;
     expect(root_of_file, 0);
+    expect(root_of_rest, 0);
     memset(&reads, 0, sizeof reads);
 }
 
@@ -487,10 +595,36 @@ static void files_change(void) {
     }
 }
 
+/* A function for progress ends a call at each of its calls, of which there are some. */
+static void progress_ends_calls(void) {
+    int (*const calls[])(void) = {root_of_rest, root_of_all, root_of_piped_rest};
+
+    take(FEW, 4096, 3);
+    for (size_t i = 0; i < sizeof calls / sizeof *calls; i++) {
+        expect(calls[i], 0);
+        CHECK(reported.calls >= 1);
+        for (int most = reported.calls, at = 1; at <= most; at++) {
+            reported.last_call = at;
+            wish("", 0, 0);
+            memcpy(root, blank, 64);
+            if (!calls[i]()) {
+                CHECK(reported.calls < at); /* this thread had fewer parts now */
+                continue;
+            }
+            CHECK(errno == ECANCELED && reported.calls == at && !memcmp(root, blank, 64));
+            CHECK(!value(&allocated) && !value(&running));
+        }
+        reported.last_call = 0;
+    }
+    take(FEW, 4096, 1);
+    expect(root_of_all, 0);
+    CHECK(reported.calls >= 2);
+}
+
 /* ---- how many threads hash */
 
 static void expect_threads(int others) {
-    int (*const calls[])(void) = {root_of_bytes, root_of_file, root_of_updates};
+    int (*const calls[])(void) = {root_of_bytes, root_of_file, root_of_updates, root_of_rest};
 
     for (size_t i = 0; i < sizeof calls / sizeof *calls; i++) {
         started = 0;
@@ -511,6 +645,9 @@ static void numbers_of_threads(void) {
     CHECK(started == 1);
     take(3001, 1000, 5); /* two leaves after one that is whole, and a byte */
     expect(root_of_updates, 0);
+    CHECK(started == 1);
+    started = 0;
+    expect(root_of_rest, 0);
     CHECK(started == 1);
     take(FEW, 100, 1);
     expect_threads(0);
@@ -562,10 +699,11 @@ static void least_bytes(void) {
 }
 
 /* What vulfsjor_threads.h says of memory: 64 bytes for each leaf, and for each thread that reads a
- * file a buffer of 1 MiB or four leaves, whichever is more, or of 16 MiB at most. */
+ * file a buffer of 1 MiB or four leaves, whichever is more, or of 16 MiB at most. An update by a
+ * file needs no more digests than 16 MiB. */
 static void memory_is_as_said(void) {
     enum { MIB = 1 << 20 };
-    static const size_t rows[][2] = {{65536, MIB},     {MIB / 4, MIB},       {MIB, 4 * MIB},
+    static const size_t rows[][2] = {{65536, MIB},        {MIB / 4, MIB},        {MIB, 4 * MIB},
                                      {4 * MIB, 16 * MIB}, {4 * MIB + 1, 4 * MIB + 1},
                                      {16 * MIB, 16 * MIB}, {16 * MIB + 1, MIB}};
 
@@ -578,24 +716,35 @@ static void memory_is_as_said(void) {
         largest = 0;
         expect(root_of_file, 0);
         CHECK(largest == rows[i][1]);
+        largest = 0;
+        expect(root_of_all, 0);
+        CHECK(largest == rows[i][1]);
     }
+    take(BYTES, 100, 2);
+    largest = 0;
+    expect(root_of_all, 0);
+    CHECK(largest > 15 * MIB && largest <= 16 * MIB);
 }
 
 /* Each byte of a file of more than 2^32 bytes is read once. Nothing is hashed. */
 static void long_files(void) {
-    static const uint32_t leaves[] = {65536,   1 << 22, 1 << 24, (1 << 24) + (1 << 20),
+    static const uint32_t leaves[] = {4096,    65536,   1 << 22, 1 << 24, (1 << 24) + (1 << 20),
                                       1 << 26, 1u << 31};
-    size_t once;
+    int (*const calls[])(void) = {root_of_file, root_of_all};
+    const size_t size = MIBS * sizeof *seen;
+    int once;
 
     take(FEW, 65536, 3);
-    CHECK(!truncate(path, ((off_t)(MIBS - 1) << 20) + 1) && (seen = __real_malloc(MIBS)));
-    for (size_t i = 0; i < sizeof leaves / sizeof *leaves; i++) {
-        memset(seen, 0, MIBS);
-        leaf = leaves[i];
-        CHECK(!root_of_file());
-        for (once = 0; once < MIBS && seen[once] == 1; once++) continue;
-        CHECK(once == MIBS);
-    }
+    length = ((size_t)(MIBS - 1) << 20) + 1;
+    CHECK(!truncate(path, (off_t)length) && (seen = __real_malloc(size)));
+    for (size_t i = 0; i < sizeof leaves / sizeof *leaves; i++)
+        for (size_t k = 0; k < sizeof calls / sizeof *calls; k++) {
+            memset(seen, 0, size);
+            leaf = leaves[i];
+            CHECK(!calls[k]());
+            for (once = 0; once + 1 < MIBS && seen[once] == 1 << 20; once++) continue;
+            CHECK(once == MIBS - 1 && seen[once] == 1);
+        }
     __real_free(seen);
     seen = NULL;
 }
@@ -612,6 +761,7 @@ int main(int count, char **words) {
         RUN(reads_fail());
         RUN(reads_are_short());
         RUN(files_change());
+        RUN(progress_ends_calls());
         RUN(numbers_of_threads());
         RUN(more_processors_than_the_set_has());
     } else {
@@ -619,6 +769,7 @@ int main(int count, char **words) {
         RUN(memory_is_as_said());
         RUN(long_files());
     }
+    CHECK(!wrong_masks);
     unlink(path);
     __real_free(message);
     return fails ? 1 : 0;

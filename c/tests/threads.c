@@ -118,6 +118,34 @@ static void compare(size_t length, size_t outlen, uint32_t leaf, unsigned thread
     close(file);
 }
 
+/* The state that has absorbed the head of the message, and its rest from the file at this path. */
+static vulfsjor_tree_state by_file(size_t length, size_t head, uint32_t leaf, unsigned threads) {
+    vulfsjor_tree_state state;
+    int file = open(path, O_RDONLY);
+
+    CHECK(!vulfsjor_tree_init(&state, 64, "salt", 4, "pers", 4, leaf));
+    CHECK(!vulfsjor_tree_update(&state, message, head) && lseek(file, (off_t)head, SEEK_SET) >= 0);
+    CHECK(!vulfsjor_tree_update_fd(&state, file, threads, NULL, NULL));
+    CHECK(lseek(file, 0, SEEK_CUR) == (off_t)length);
+    close(file);
+    return state;
+}
+
+/* Compares the root of a file that is absorbed after this head, and then a byte, with that of the
+ * bytes. */
+static void compare_by_file(size_t length, size_t head, uint32_t leaf, unsigned threads) {
+    vulfsjor_tree_state state = by_file(length, head, leaf, threads), longer = state;
+
+    CHECK(vulfsjor_tree_count(&state) == length);
+    CHECK(!vulfsjor_tree_final(&state, root, 64));
+    CHECK(!vulfsjor_tree_root(wanted, 64, message, length, "salt", 4, "pers", 4, leaf));
+    CHECK(!memcmp(root, wanted, 64));
+    CHECK(!vulfsjor_tree_update(&longer, message + length, 1));
+    CHECK(!vulfsjor_tree_final(&longer, root, 64));
+    CHECK(!vulfsjor_tree_root(wanted, 64, message, length + 1, "salt", 4, "pers", 4, leaf));
+    CHECK(!memcmp(root, wanted, 64));
+}
+
 static void random_roots(int turns) {
     static const uint32_t most[] = {10, 2000, 70000, 3000000};
 
@@ -126,8 +154,10 @@ static void random_roots(int turns) {
         uint32_t leaf = (uint32_t)(1 + random_below(most[turn % 4]));
         if (leaf < 100) length %= 50000;
         write_file(path, length);
-        for (unsigned threads = 0; threads <= 9; threads += 1 + (unsigned)random_below(4))
+        for (unsigned threads = 0; threads <= 9; threads += 1 + (unsigned)random_below(4)) {
             compare(length, 1 + random_below(64), leaf, threads);
+            compare_by_file(length, random_below(3) ? random_below(length + 1) : 0, leaf, threads);
+        }
     }
 }
 
@@ -143,6 +173,7 @@ static void roots_at_edges(void) {
         write_file(path, lengths[i]);
         for (size_t k = 0; k < sizeof leaves / sizeof *leaves; k++)
             compare(lengths[i], 64, leaves[k], threads[(i + k) % 6]);
+        compare_by_file(lengths[i], 0, 1 << 16, threads[i % 6]);
     }
 }
 
@@ -152,8 +183,12 @@ static void roots_of_long_leaves(void) {
                                       17 << 20,      BYTES,    UINT32_MAX};
 
     write_file(path, BYTES);
-    for (size_t i = 0; i < sizeof leaves / sizeof *leaves; i++) compare(BYTES, 64, leaves[i], 3);
+    for (size_t i = 0; i < sizeof leaves / sizeof *leaves; i++) {
+        compare(BYTES, 64, leaves[i], 3);
+        compare_by_file(BYTES, i % 2 ? 777 : leaves[i] % BYTES, leaves[i], 3);
+    }
     compare(BYTES, 64, 17 << 20, 1);
+    compare_by_file(BYTES, 0, 100, 3); /* more digests than are kept at a time */
 }
 
 /* ---- updates */
@@ -239,6 +274,31 @@ static void refused_updates(void) {
     KEPT(vulfsjor_tree_update_threads(&state, message, SIZE_MAX - 5, 2));
     CHECK(!vulfsjor_tree_update_threads(&state, NULL, 0, 0) &&
           !memcmp(&state, &before, sizeof state));
+}
+
+/* The same of files, from which nothing is read then. */
+static void refused_updates_by_files(void) {
+    vulfsjor_tree_state state = {0}, before = {0};
+    int ends[2], huge = memfd_create("huge", 0), file;
+
+    CHECK(!pipe(ends) && write(ends[1], "a", 1) == 1 && !close(ends[1]));
+    KEPT(vulfsjor_tree_update_fd(&state, ends[0], 2, NULL, NULL)); /* no init has made it */
+    KEPT(vulfsjor_tree_update_fd(NULL, ends[0], 2, NULL, NULL));
+    CHECK(!vulfsjor_tree_init(&state, 64, 0, 0, 0, 0, 4) &&
+          !vulfsjor_tree_update(&state, message, 6));
+    before = state;
+    CHECK(!ftruncate(huge, ((off_t)1 << 58) - 6));
+    CHECK(vulfsjor_tree_update_fd(&state, huge, 2, NULL, NULL) == -1 && errno == EFBIG);
+    CHECK(vulfsjor_tree_update_fd(&state, -1, 2, NULL, NULL) == -1 && errno == EBADF);
+    file = open("/", O_RDONLY);
+    CHECK(vulfsjor_tree_update_fd(&state, file, 2, NULL, NULL) == -1 && errno == EISDIR);
+    CHECK(!memcmp(&state, &before, sizeof state) && !close(file));
+    CHECK(!vulfsjor_tree_update_fd(&state, ends[0], 2, NULL, NULL));
+    CHECK(vulfsjor_tree_count(&state) == 7);
+    CHECK(!vulfsjor_tree_update_fd(&state, ends[0], 2, NULL, NULL)); /* nothing is left */
+    CHECK(vulfsjor_tree_count(&state) == 7);
+    close(ends[0]);
+    close(huge);
 }
 
 /* ---- files */
@@ -565,7 +625,7 @@ int main(int count, char **words) {
     int files, threads, turns = count > 2 ? atoi(words[2]) : 400;
     uint64_t word;
 
-    if (count < 2 || !(message = malloc(BYTES))) return 2;
+    if (count < 2 || !(message = calloc(1, BYTES + 1))) return 2;
     snprintf(path, sizeof path, "%s/message", words[1]);
     snprintf(other, sizeof other, "%s/other", words[1]);
     memset(blank, 0xaa, sizeof blank);
@@ -583,6 +643,7 @@ int main(int count, char **words) {
     RUN(updates());
     RUN(updates_at_leaves());
     RUN(refused_updates());
+    RUN(refused_updates_by_files());
     RUN(position_of_descriptor());
     RUN(streams());
     RUN(descriptor_zero());

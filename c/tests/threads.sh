@@ -43,17 +43,21 @@ threads_with() {
 
 # The numbers in the comment of vulfsjor_threads.h are those of threads.c.
 numbers_of_header() {
-    local text least part buffer threads said
+    local text least part buffer threads leaves said
     text=$(tr -s ' *\n' ' ' <"$here/include/vulfsjor_threads.h")
     least=$(sed -n 's/^#define LEAST_BYTES (1 << \([0-9]*\))$/\1/p' "$here/threads.c")
     part=$(sed -n 's/^ *PART_BYTES = 1 << \([0-9]*\),.*/\1/p' "$here/threads.c")
     buffer=$(sed -n 's/^ *MOST_BUFFER_BYTES = 1 << \([0-9]*\),.*/\1/p' "$here/threads.c")
-    threads=$(sed -n 's/^ *MOST_THREADS = \([0-9]*\)$/\1/p' "$here/threads.c")
+    threads=$(sed -n 's/^ *MOST_THREADS = \([0-9]*\),$/\1/p' "$here/threads.c")
+    leaves=$(sed -n 's/^ *MOST_LEAVES = 1 << \([0-9]*\) .*/\1/p' "$here/threads.c")
     for said in "with the caller's: at most $threads, and 0 is" \
         "at most one thread for each $((1 << (least - 10))) KiB of input" \
         "A regular file of at least $((1 << (least - 10))) KiB is read by all threads" \
         "a buffer: up to $((1 << (part - 20))) MiB or four leaves, whichever is more," \
-        "and at most $((1 << (buffer - 20))) MiB."; do
+        "and at most $((1 << (buffer - 20))) MiB." \
+        "at most $((1 << (leaves - 14))) MiB for digests" \
+        "one buffer of $((1 << (part - 20))) MiB more" \
+        "about $((1 << (part - 20))) MiB or four leaves, and at the end"; do
         [[ $text == *"$said"* ]] || { echo "not in vulfsjor_threads.h: $said"; return 1; }
     done
 }

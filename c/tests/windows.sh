@@ -3,17 +3,68 @@
 # and run by wine. For the other systems tests/formats.py compares the code.
 source "$(dirname "$(readlink -f "$0")")/installed.sh"
 . "$tests/languages.sh"
+. "$tests/threads.sh"
 mingw=x86_64-w64-mingw32-gcc
 wine=$(command -v wine64 || ls /usr/lib/wine/wine64 2>/dev/null)
 server=$(command -v wineserver || ls /usr/lib/wine/wineserver 2>/dev/null)
 export WINEPREFIX=$work/wine WINEDEBUG=-all WINEDLLOVERRIDES="mscoree,mshtml=" RUST_BACKTRACE=0
+export WINE=$wine WINE_LOG=$work/wine_log
+by_wine=$tests/run_by_wine.sh
+exec </dev/null
+
+# One server for all programs, since Debian's ends with each program, and the next may then meet it
+# while it ends. The first program makes the folder of the system.
+start_wine() {
+    mkdir -p "$WINEPREFIX" && "$server" -p600 && "$by_wine" cmd.exe /c exit
+}
+trap '[ ! -d "$WINEPREFIX" ] || { "$server" -k && "$server" -w; } &>/dev/null; rm -rf "$work"' EXIT
+
+# As `check`, and says how often wine itself failed meanwhile. It fails if wine did so to the end.
+check_by_wine() {
+    local status
+    : >"$WINE_LOG"
+    check "$@"
+    status=$?
+    sed 's/^/# wine itself failed, so the program was run again: /' "$WINE_LOG"
+    return $status
+}
+
+# A stand-in for wine, which fails as wine does, or prints what a program may print. It counts its
+# runs.
+write_stand_in() {
+    printf '%s\n' '#!/bin/bash' "echo >>'$work/runs'" 'cat; echo output' "$1" >"$work/stand_in" &&
+        chmod +x "$work/stand_in" && rm -f "$work/runs" "$work/log_of_stand_in"
+}
+# What it says and its status, over an input, and after how many runs: BODY STATUS RUNS ERRORS LINES
+stand_in_ends() {
+    local status
+    write_stand_in "$1" || return 1
+    echo input | WINE=$work/stand_in WINE_LOG=$work/log_of_stand_in "$by_wine" program \
+        >"$work/said" 2>"$work/errors"
+    status=$?
+    touch "$work/log_of_stand_in"
+    [ "$(paste -sd , "$work/said"),$status" = "input,output,$2" ] &&
+        [ "$(wc -l <"$work/runs")" -eq "$3" ] && [ "$(<"$work/errors")" = "$4" ] &&
+        [ "$(wc -l <"$work/log_of_stand_in")" -eq "$5" ]
+}
+runs_again() {
+    local client="wine client error:0: recvmsg: Connection reset by peer" of="wineserver: no socket"
+    stand_in_ends 'exit 0' 0 1 "" 0 && stand_in_ends 'exit 1' 1 1 "" 0 &&
+        stand_in_ends 'echo wrong >&2; exit 1' 1 1 wrong 0 &&
+        stand_in_ends "echo '$client' >&2; exit 0" 0 1 "$client" 0 &&
+        stand_in_ends "echo '$client' >&2; echo wrong >&2; exit 1" 1 1 "$client"$'\nwrong' 0 &&
+        stand_in_ends "[ \$(wc -l <'$work/runs') -lt 2 ] || exit 3; echo '$client' >&2; exit 1" \
+            3 2 "" 1 &&
+        stand_in_ends "[ \$(wc -l <'$work/runs') -lt 3 ] || exit 0; echo '$of' >&2; exit 1" \
+            0 3 "" 2 &&
+        stand_in_ends "echo '$of' >&2; exit 9" 9 3 "$of" 3
+}
 
 # A script that runs a program for Windows. Lines of C end in a newline only, if it is to do so:
 # SCRIPT [FILTER]
 write_script() {
-    printf '%s\n' '#!/bin/bash' "\"$wine\" \"$1.exe\" \"\$@\" ${2-}" 'exit ${PIPESTATUS[0]}' \
-        >"$1" &&
-        chmod +x "$1"
+    printf '%s\n' '#!/bin/bash' "\"$by_wine\" \"$1.exe\" \"\$@\" ${2-}" \
+        'exit ${PIPESTATUS[0]}' >"$1" && chmod +x "$1"
 }
 
 # That compiler instead of cc, with its options only. What it links is run by a script of its name.
@@ -26,7 +77,7 @@ cc() {
 }
 
 wanted_for_windows() {
-    printf '%s\n' bin/libvulfsjor-0.dll include/vulfsjor-libb2/blake2.h include/vulfsjor.h \
+    printf '%s\n' bin/libvulfsjor-0.dll include/vulfsjor-libb2/blake2.h include/vulfsjor.h{,pp} \
         lib/cmake/vulfsjor/vulfsjor-config{,-version}.cmake lib/libvulfsjor-libb2.a \
         lib/libvulfsjor{,-static,.dll}.a lib/pkgconfig/vulfsjor{,-static}.pc \
         lib/vulfsjor-libb2/libb2.a lib/vulfsjor-libb2/pkgconfig/libb2.pc | LC_ALL=C sort
@@ -36,7 +87,7 @@ wanted_for_windows() {
 installs() {
     (cd "$prefix" && find . -type f -o -type l) | sed 's|^\./||' | LC_ALL=C sort |
         diff - <(wanted_for_windows) && cp -a "$prefix" "$work/again" &&
-        "$here/install.sh" --uninstall "$work/again" && [ -z "$(find "$work/again" -type f)" ]
+        "$here/install.sh" --uninstall "$work/again" && [ -z "$(find "$work/again" ! -type d)" ]
 }
 
 # The DLL has the functions of the header, and needs only what Windows has.
@@ -123,10 +174,9 @@ print(hashlib.blake2s(sys.stdin.buffer.read()).hexdigest())')" ]
 crate_for_windows() {
     local folder=$work/crate target=x86_64-pc-windows-gnu
     mkdir -p "$folder" && cp -r "$top"/{Cargo.toml,rust,dist,tests} "$folder/" &&
-        printf '#!/bin/sh\nexec "%s" "$@"\n' "$wine" >"$work/run_by_wine" &&
-        chmod +x "$work/run_by_wine" && cd "$folder" &&
+        cd "$folder" &&
         export CARGO_TARGET_DIR=$work/target RUSTC=$rustc RUSTDOC=$(dirname "$rustc")/rustdoc &&
-        export CARGO_TARGET_X86_64_PC_WINDOWS_GNU_RUNNER=$work/run_by_wine &&
+        export CARGO_TARGET_X86_64_PC_WINDOWS_GNU_RUNNER=$by_wine &&
         export CARGO_TARGET_X86_64_PC_WINDOWS_GNU_LINKER=$mingw &&
         cargo=$(dirname "$rustc")/cargo &&
         "$cargo" test --offline --target $target --lib --test glue &&
@@ -134,7 +184,7 @@ crate_for_windows() {
             "$cargo" test --offline --target $target --lib --test glue &&
         "$cargo" test --offline --target $target --test files progress &&
         "$cargo" build --offline --target $target --example sum && printf abc >"$work/abc" &&
-        "$wine" "$CARGO_TARGET_DIR/$target/debug/examples/sum.exe" "$work/abc" | tr -d '\r' |
+        "$by_wine" "$CARGO_TARGET_DIR/$target/debug/examples/sum.exe" "$work/abc" | tr -d '\r' |
         diff - <(sums_by_hashlib "$work/abc")
 }
 
@@ -158,39 +208,45 @@ test_windows() {
     prefix=$work/prefix include=$work/prefix/include libb2=$work/prefix/include/vulfsjor-libb2
     archive=$prefix/lib/libvulfsjor.a shared=$prefix/lib/libvulfsjor.dll.a
     export WINEPATH=$prefix/bin
+    check "a program that wine itself ends is run again, and no other" runs_again
+    check_by_wine "a server of wine" start_wine || return
     check "install.sh with CC=$mingw" env "CC=$mingw" "$here/install.sh" --from "$dist" "$prefix" ||
         return
     check "what is installed for Windows" installs
     check "the DLL" dll_is_right
     for family in b s; do
-        check "test.c, blake2$family, for Windows" compile_and_run "$work/test" -O2 \
+        check_by_wine "test.c, blake2$family, for Windows" compile_and_run "$work/test" -O2 \
             $(family_words $family) "$archive"
-        check "test.c, blake2$family, for Windows, with the DLL" with_shared_library
-        check "test.c, blake2$family, from one build to the others" all_builds_for_windows $family
-        check "edges.c, blake2$family, for Windows" compare_lines edges -O2 -I"$include"
-        check "key_scan.c, blake2$family, for Windows" scan_for_keys
-        check "libb2_header.c, blake2$family, for Windows" compare_lines libb2_header -O2 \
+        check_by_wine "test.c, blake2$family, for Windows, with the DLL" with_shared_library
+        check_by_wine "test.c, blake2$family, from one build to the others" \
+            all_builds_for_windows $family
+        check_by_wine "edges.c, blake2$family, for Windows" compare_lines edges -O2 -I"$include"
+        check_by_wine "passes.c, blake2$family, for Windows, through calls.h" \
+            passes_by_calls $family
+        check_by_wine "key_scan.c, blake2$family, for Windows" scan_for_keys
+        check_by_wine "libb2_header.c, blake2$family, for Windows" compare_lines libb2_header -O2 \
             -I"$libb2" "$prefix/lib/libvulfsjor-libb2.a"
     done
+    check_by_wine "parts.c, for Windows" parts_with 500 -O2
     for build in $(seq -f v%g 2 "$level"); do
-        check "only the build $build for Windows" one_build_for_windows $build
-        check "b2.exe of only the build $build" one_program_for_windows $build
+        check_by_wine "only the build $build for Windows" one_build_for_windows $build
+        check_by_wine "b2.exe of only the build $build" one_program_for_windows $build
     done
-    check "the build that this processor supports is chosen" chooses_the_build
-    check "b2.exe next to the specification" program_for_windows 40
+    check_by_wine "the build that this processor supports is chosen" chooses_the_build
+    check_by_wine "b2.exe next to the specification" program_for_windows 40
     if has cmake; then
-        check "a project by CMake for Windows" project_for_windows OFF
-        check "a project by CMake for Windows, with a DLL" project_for_windows ON
+        check_by_wine "a project by CMake for Windows" project_for_windows OFF
+        check_by_wine "a project by CMake for Windows, with a DLL" project_for_windows ON
     else
         skip "a project by CMake for Windows" "no cmake"
     fi
+    check "it is still the same server" "$server" -k0
     rustc=$(rustc_for_windows)
     if [ -n "$rustc" ]; then
-        check "the crate for Rust on Windows" crate_for_windows
+        check_by_wine "the crate for Rust on Windows" crate_for_windows
     else
         skip "the crate for Rust on Windows" "no standard library of Rust for x86_64-pc-windows-gnu"
     fi
-    "$server" -k # of this folder
 }
 
 part test_windows cases

@@ -80,9 +80,9 @@ typedef vulfsjor_blake2s_param blake2s_param;
             memcpy(S->h, run->chain, sizeof run->chain);                                           \
             memcpy(S->t, &run->counter, sizeof run->counter);                                      \
             memcpy(S->buf, run->pending, sizeof run->pending);                                     \
-            S->buflen = (uint32_t)run->pending_length;                                             \
-            S->outlen = (uint8_t)run->output_size;                                                 \
-            S->last_node = (uint8_t)run->last_node;                                                \
+            S->buflen = VULFSJOR_CAST(uint32_t, run->pending_length);                              \
+            S->outlen = VULFSJOR_CAST(uint8_t, run->output_size);                                  \
+            S->last_node = VULFSJOR_CAST(uint8_t, run->last_node);                                 \
         }                                                                                          \
         vulfsjor_##x##_wipe(run);                                                                  \
         return status;                                                                             \

@@ -1,15 +1,14 @@
 -- The arguments of the exports on trees.
-use Rattle.std.specs.Prelude.{ℕ}
 use Rattle.blake2_compress.specs.Hash.{Tree}
+use Rattle.blake2_ffi.specs.declared.NodeParameters.{NodeParameters}
 
--- The tree parameters with these numbers, in the order of the parameter block (the BLAKE2 document,
--- 2.8).
-abbrev pub given_tree : ℕ → ℕ → ℕ → ℕ → ℕ → ℕ → Tree
-given_tree fanout depth leaf_length node_offset node_depth inner_length = record {
-  fanout = fanout;
-  depth = depth;
-  leaf_length = leaf_length;
-  node_offset = node_offset;
-  node_depth = node_depth;
-  inner_length = inner_length;
+-- The tree parameters with these numbers (the BLAKE2 document, 2.8).
+abbrev pub given_tree : NodeParameters → Tree
+given_tree given = record {
+  fanout = given.fanout;
+  depth = given.depth;
+  leaf_length = given.leaf_length;
+  node_offset = given.node_offset;
+  node_depth = given.node_depth;
+  inner_length = given.inner_length;
 }

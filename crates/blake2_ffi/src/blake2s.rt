@@ -18,6 +18,7 @@ ghost use Rattle.blake2_ffi.specs.Trees.{given_tree};
 
 mod many;
 
+use crate::NodeParameters;
 use blake2::{Blake2s256, Digest, Tree};
 use blake2_digest::scrub_stack;
 use blake2_state::StateParameters;
@@ -191,31 +192,19 @@ pub extern "C" fn vulfsjor_ffi_blake2s_init_tree(
     key: &[u8],
     salt: &[u8],
     persona: &[u8],
-    fanout: u8,
-    depth: u8,
-    leaf_length: u32,
-    node_offset: u64,
-    node_depth: u8,
-    inner_length: u8,
+    tree: &NodeParameters,
 ) -> i32
     ensures status { Returns result (Admits blake2s
         (node_parameters output_size (length key.now) salt.now persona.now
-        (given_tree fanout depth leaf_length node_offset node_depth inner_length))) }
+        (given_tree tree.now))) }
     ensures ready { result ≡ pos 0 → IsReadyFor output_size state.new }
     ensures fresh { result ≡ pos 0 → Fresh meaning
         (node_digest_of blake2s output_size salt.now persona.now (given_key key.now)
-        (given_tree fanout depth leaf_length node_offset node_depth inner_length))
+        (given_tree tree.now))
         (given_count blake2s key.now) state.new }
     ensures zeros { result ≡ negsuc 0 → state.new ≡ zeros }
 {
-    let tree = Tree {
-        fanout,
-        depth,
-        leaf_length,
-        node_offset,
-        node_depth,
-        inner_length,
-    };
+    let tree = tree.to_tree();
     if !State::admits_tree(&tree) {
         state.wipe();
         return -1;

@@ -9,8 +9,10 @@
 
 #![tactic(auto)]
 
-ghost use Rattle.std.specs.Prelude.{◌≡◌};
+ghost use Rattle.std.specs.Prelude.{◌≡◌, length, replicate};
+ghost use Rattle.blake2_compress.specs.Views.{tree_of};
 ghost use Rattle.blake2_ffi.specs.Status.{Returns};
+ghost use Rattle.blake2_ffi.specs.Trees.{given_tree};
 
 mod blake2b;
 mod blake2s;
@@ -18,6 +20,7 @@ mod many;
 mod plans;
 mod trees;
 
+use blake2::Tree;
 use blake2_digest::is_same;
 
 /// One of several messages, as `vulfsjor_message` of the header: a pointer and a length.
@@ -27,8 +30,43 @@ pub struct Text<'a> {
     pub bytes: &'a [u8],
 }
 
-// The version of the library (https://semver.org), each number below 256. Only this place sets
-// it: the header and the file for pkg-config name the same, and their tests compare.
+/// The position of a node in a tree of hashes, as `vulfsjor_tree` of the header (the BLAKE2
+/// document, 2.10). The fields are those of [`Tree`], without room between them.
+#[repr(C)]
+#[derive(Clone, Copy)]
+pub struct NodeParameters {
+    /// The position of this node in its level, from 0.
+    pub node_offset: u64,
+    /// The maximum number of bytes of the message in a leaf; 0 is without a limit.
+    pub leaf_length: u32,
+    /// The maximum number of children of a node; 0 is without a limit.
+    pub fanout: u8,
+    /// The number of levels of the tree, at least 1.
+    pub depth: u8,
+    /// The level of this node, from 0, that of the leaves.
+    pub node_depth: u8,
+    /// The number of bytes of an inner node's digest.
+    pub inner_length: u8,
+}
+
+impl NodeParameters {
+    // The same tree parameters for the library.
+    pub(crate) fn to_tree(&self) -> Tree
+        ensures { tree_of result ≡ given_tree self.now }
+    {
+        Tree {
+            fanout: self.fanout,
+            depth: self.depth,
+            leaf_length: self.leaf_length,
+            node_offset: self.node_offset,
+            node_depth: self.node_depth,
+            inner_length: self.inner_length,
+        }
+    }
+}
+
+// The version of the library (https://semver.org), each number below 256. The header and the
+// packages name the same, and tests/pages.py and c/tests/edges.c compare them.
 const MAJOR: u32 = 0;
 
 const MINOR: u32 = 1;
@@ -47,8 +85,17 @@ pub extern "C" fn vulfsjor_ffi_version() -> u32
 /// Returns 0 if the bytes are equal, and -1 if they are not. If the lengths are equal, it looks
 /// at all bytes, wherever the first difference is.
 #[unsafe(no_mangle)]
-pub extern "C" fn vulfsjor_ffi_is_same(a: &[u8], b: &[u8]) -> i32
+pub extern "C" fn vulfsjor_ffi_memcmp(a: &[u8], b: &[u8]) -> i32
     ensures { Returns result (a.now ≡ b.now) }
 {
     if is_same(a, b) { 0 } else { -1 }
+}
+
+/// Overwrites the bytes with zeros. A compiler cannot remove the call, since it does not see what
+/// is done here.
+#[unsafe(no_mangle)]
+pub extern "C" fn vulfsjor_ffi_wipe(bytes: &mut [u8])
+    ensures { bytes.new ≡ replicate (length bytes.old) 0 }
+{
+    bytes.fill(0);
 }

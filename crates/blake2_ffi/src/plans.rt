@@ -23,7 +23,7 @@ use blake2_tree::{MESSAGE_LIMIT, accepts};
 /// and a persona of up to 16 bytes each, and leaves of `leaf_length` bytes, at least 1 (the BLAKE2
 /// document, 2.10).
 #[unsafe(no_mangle)]
-pub extern "C" fn vulfsjor_ffi_tree_accepts(
+pub extern "C" fn vulfsjor_ffi_tree_check(
     output_size: usize,
     salt_length: usize,
     persona_length: usize,

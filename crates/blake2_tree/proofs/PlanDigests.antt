@@ -15,7 +15,7 @@ use Rattle.blake2_compress.proofs.Pieces.{piece-zero, piece-more}
 use Rattle.blake2_tree.specs.declared.plan.Plan.{Plan}
 use Rattle.blake2_tree.specs.TreeRoot.{TreeParameters, root_over, tree_root, leaf_digests}
 use Rattle.blake2_tree.specs.Ranges.{range_digests}
-use Rattle.blake2_tree.specs.Plans.{IsPlan, part_digests, count_of_parts, HasDigests}
+use Rattle.blake2_tree.specs.Plans.{HasParts, part_digests, count_of_parts, HasDigests}
 use Rattle.blake2_tree.specs.Plans.{HasLeafDigests}
 use Rattle.blake2_tree.proofs.Lists.{flat_map-range_more}
 use Rattle.blake2_tree.proofs.Leaves.{range_digests-first}
@@ -93,7 +93,7 @@ parts-joined s k ends (suc count) first x some short more =
     ∙ ap (range_digests s first ends) (take-append-drop l x)
 
 -- The digests of the parts of a plan.
-joined : (p : Plan) (s : TreeParameters) (next : ℕ) (x : List ℕ) → IsPlan p
+joined : (p : Plan) (s : TreeParameters) (next : ℕ) (x : List ℕ) → HasParts p
     → s.leaf_length ≡ p.leaf_length → length x ≡ p.end - p.start → 0 < p.part_count
     → part_digests s next p x ≡ range_digests s next (nat_eq p.ends 1) x
 unfolding digests_at
@@ -126,7 +126,7 @@ joined p s next x is_plan same size several =
       | inr h ↦ inl h.0
     ])
 
-pub has_digests : (p : Plan) → IsPlan p → p.ends ≡ 1 → HasDigests p
+pub has_digests : (p : Plan) → HasParts p → p.ends ≡ 1 → HasDigests p
 unfolding tree_root
 has_digests p is_plan ends =
     let flag : nat_eq p.ends 1 ≡ true = eq-eqb p.ends 1 ends in
@@ -142,7 +142,7 @@ has_digests p is_plan ends =
           ap (λ d. digest blake2b n (root_over s d)) (all s message same size);
     }
 
-pub has_leaf_digests : (p : Plan) → IsPlan p → p.ends ≡ 0 → HasLeafDigests p
+pub has_leaf_digests : (p : Plan) → HasParts p → p.ends ≡ 0 → HasLeafDigests p
 has_leaf_digests p is_plan ends s next leaves same size more =
     let flag : nat_eq p.ends 1 ≡ false = ne_eqb p.ends 1 (λ e. absurd (omega (arith, e, ends))) in
     let least : p.end - p.start ≤ div_ceil (p.end - p.start) p.part_length * p.part_length =

@@ -1,19 +1,20 @@
 -- The parts of a plan.
 use Rattle.std.proofs.Common.{◌≡◌, ℕ, ◌+◌, ◌-◌, ◌*◌, ◌/◌, ◌%◌, ◌^◌, ◌<◌, ◌≤◌, ◌⊎◌, inl, inr, min, max}
-use Rattle.std.proofs.Common.{arith, ap, refl, sym, ◌∙◌, suc}
+use Rattle.std.proofs.Common.{arith, ap, refl, sym, ◌∙◌, suc, if◌then◌else◌}
 use Rattle.std.specs.Int.{div_ceil}
 use Rattle.std.proofs.lemmas.Grind.{div_ceil_times}
-use Rattle.std.proofs.lemmas.Bool.{cases_lt, cases_eq, le-leb, lt-leb}
+use Rattle.std.proofs.lemmas.Bool.{cases_lt, cases_eq, le-leb, lt-leb, ne_eqb}
 use Rattle.std.proofs.Math.Nat.{mul-le-mul_right, mul-le-mul_left, mul-mod_left, mod_self, mod-eq_of_lt}
 use Rattle.blake2_tree.specs.declared.plan.Plan.{Plan}
 use Rattle.blake2_tree.specs.declared.plan.Limits.{Limits}
 use Rattle.blake2_tree.specs.declared.plan.Part.{Part}
 use Rattle.blake2_tree.specs.TreeRoot.{leaf_count}
-use Rattle.blake2_tree.specs.Plans.{IsPlan, IsPart, IsInOrder, start_of_part, count_of_parts}
+use Rattle.blake2_tree.specs.Plans.{HasParts, IsPlan, IsPart, IsInOrder, start_of_part, count_of_parts}
 use Rattle.blake2_tree.specs.Plans.{in_fours, share, part_leaves, AreParts}
-use Rattle.blake2_tree.specs.Plans.{head_length, whole_length, IsOfUpdate}
+use Rattle.blake2_tree.specs.Plans.{head_length, whole_length, IsOfUpdate, IsPlanOf, HasRest}
+use Rattle.blake2_tree.specs.Plans.{length_of_digests}
 use Rattle.blake2_tree.proofs.Leaves.{leaf_count-short}
-use Rattle.blake2_tree.proofs.RangeWrites.{leaf_count-before}
+use Rattle.blake2_tree.proofs.RangeWrites.{leaf_count-before, room-many}
 
 -- Part i of n bytes begins within them.
 pub begins-within : (part n ends i : ℕ) → 1 ≤ part → ends ≤ 1 → i < count_of_parts ends part n
@@ -62,7 +63,8 @@ leaf_count-of size k some =
 
 pub in_order : (p : Plan) (i : ℕ) (part : Part) → IsPlan p → i < p.part_count
     → IsPart p i part → IsInOrder p i part
-in_order p i part is_plan below is =
+in_order p i part plan below is =
+    let is_plan : HasParts p = plan.parts in
     let at : part.start ≡ start_of_part p i = is.start in
     let long : part.length ≡ min p.part_length (p.end - part.start) = is.length in
     let leaf : ℕ = p.leaf_length in
@@ -75,6 +77,50 @@ in_order p i part is_plan below is =
     begins-within l n p.ends i is_plan.part is_plan.flag (omega (arith, is_plan.count)) in
     let left : p.end - part.start ≡ n - i * l = omega (arith, is_plan.order) in
     let next : (i + 1) * l ≡ i * l + l = omega arith in
+    let all : p.digests_length ≡ 64 * leaf_count leaf n =
+    plan.digests_length ∙ ap (λ b. 64 * (if b then 0 else leaf_count leaf n))
+    (ne_eqb p.part_count 0 (λ e. absurd (omega (arith, e, below)))) in
+    let before_next : i + 1 < p.part_count
+    → part.digests_start + part.digests_length ≡ 64 * ((i + 1) * per) =
+    λ more.
+    let far : i * l + l < n =
+    next-within l n p.ends i is_plan.part is_plan.flag (omega (arith, is_plan.count)) in
+    let size : part.length ≡ per * leaf = omega (arith, far, left, long, bytes) in
+    let some_leaves : per ≡ suc (per - 1) = elim (cases_eq per 0) [
+      | inl none ↦ absurd (omega (arith, bytes, is_plan.part, ap (λ m. m * leaf) none))
+      | inr h ↦ omega (arith, h)
+    ] in
+    let count : leaf_count leaf part.length ≡ per =
+    ap (leaf_count leaf) (size ∙ ap (λ m. m * leaf) some_leaves)
+    ∙ leaf_count-of leaf (per - 1) is_plan.some ∙ sym some_leaves in
+    omega (arith, is.digests_start, is.digests_length, is.first, count) in
+    let at_end : i + 1 ≡ p.part_count
+    → part.digests_start + part.digests_length ≡ 64 * leaf_count leaf n =
+    λ last.
+    let far : n ≤ i * l + l =
+    last-reaches l n p.ends i is_plan.part is_plan.flag (omega (arith, is_plan.count)) in
+    let regroup : i * per * leaf ≡ i * (per * leaf) = omega arith in
+    let before : i * per * leaf ≡ i * l = regroup ∙ ap (λ m. i * m) bytes in
+    elim within [
+      | inl h ↦
+          let size : part.length ≡ n - i * l = omega (arith, far, left, long) in
+          let split : n ≡ i * per * leaf + part.length = omega (arith, size, before, h) in
+          let count : leaf_count leaf n ≡ i * per + leaf_count leaf part.length =
+          ap (leaf_count leaf) split ∙ leaf_count-before leaf (i * per) part.length is_plan.some
+          (omega (arith, size, h)) in
+          omega (arith, is.digests_start, is.digests_length, is.first, count)
+      | inr h ↦
+          let size : part.length ≡ n = omega (arith, left, long, h.1) in
+          let none : i * per ≡ 0 = ap (λ m. m * per) h.0 ∙ omega arith in
+          omega (
+            arith,
+            is.digests_start,
+            is.digests_length,
+            is.first,
+            none,
+            ap (leaf_count leaf) size,
+          )
+    ] in
     record {
       begins = λ zero. at ∙ omega (arith, ap (λ m. m * l) zero);
       follows = λ more.
@@ -97,47 +143,23 @@ in_order p i part is_plan below is =
           next-within l n p.ends i is_plan.part is_plan.flag (omega (arith, is_plan.count)) in
           omega (arith, far, left, long);
       short = omega (arith, long);
-      digests_follow = λ more.
-          let far : i * l + l < n =
-          next-within l n p.ends i is_plan.part is_plan.flag (omega (arith, is_plan.count)) in
-          let size : part.length ≡ per * leaf = omega (arith, far, left, long, bytes) in
-          let some_leaves : per ≡ suc (per - 1) = elim (cases_eq per 0) [
-            | inl none ↦ absurd (omega (arith, bytes, is_plan.part, ap (λ m. m * leaf) none))
-            | inr h ↦ omega (arith, h)
-          ] in
-          let count : leaf_count leaf part.length ≡ per =
-          ap (leaf_count leaf) (size ∙ ap (λ m. m * leaf) some_leaves)
-          ∙ leaf_count-of leaf (per - 1) is_plan.some ∙ sym some_leaves in
-          omega (arith, is.digests_start, is.digests_length, is.first, count);
-      digests_stop = λ last.
-          let far : n ≤ i * l + l =
-          last-reaches l n p.ends i is_plan.part is_plan.flag (omega (arith, is_plan.count)) in
-          let regroup : i * per * leaf ≡ i * (per * leaf) = omega arith in
-          let before : i * per * leaf ≡ i * l = regroup ∙ ap (λ m. i * m) bytes in
-          elim within [
-            | inl h ↦
-                let size : part.length ≡ n - i * l = omega (arith, far, left, long) in
-                let split : n ≡ i * per * leaf + part.length = omega (arith, size, before, h) in
-                let count : leaf_count leaf n ≡ i * per + leaf_count leaf part.length =
-                ap (leaf_count leaf) split ∙ leaf_count-before leaf (i * per) part.length is_plan.some
-                (omega (arith, size, h)) in
-                omega (arith, is.digests_start, is.digests_length, is.first, count)
-            | inr h ↦
-                let size : part.length ≡ n = omega (arith, left, long, h.1) in
-                let none : i * per ≡ 0 = ap (λ m. m * per) h.0 ∙ omega arith in
-                omega (
-                  arith,
-                  is.digests_start,
-                  is.digests_length,
-                  is.first,
-                  none,
-                  ap (leaf_count leaf) size,
-                )
-          ];
+      digests_follow = before_next;
+      digests_stop = λ last. at_end last ∙ sym all;
+      digests_within = elim (cases_lt (i + 1) p.part_count) [
+        | inl more ↦
+            let far : i * l + l < n =
+            next-within l n p.ends i is_plan.part is_plan.flag (omega (arith, is_plan.count)) in
+            let regroup : (i + 1) * per * leaf ≡ (i + 1) * (per * leaf) = omega arith in
+            let same : (i + 1) * per * leaf ≡ (i + 1) * l = regroup ∙ ap (λ m. (i + 1) * m) bytes in
+            let room : (i + 1) * per < leaf_count leaf n =
+            room-many leaf ((i + 1) * per) n is_plan.some (omega (arith, same, next, far)) in
+            omega (arith, before_next more, room, all)
+        | inr none ↦ omega (arith, at_end (omega (arith, none, below)), all)
+      ];
     }
 
 -- The digests of the leaves before a part have a length that fits.
-pub first-fits : (p : Plan) (i : ℕ) → IsPlan p → i < p.part_count
+pub first-fits : (p : Plan) (i : ℕ) → HasParts p → i < p.part_count
     → 64 * (i * (p.part_length / p.leaf_length)) < 2 ^ 64
 first-fits p i is_plan below =
     let n : ℕ = p.end - p.start in
@@ -213,6 +235,30 @@ share-fours leaves threads some many =
     let fours = in_fours-fours leaves threads k in
     (fours.0, rw (lt-leb k 3 four) fours.1)
 
+-- The fours that there is room for.
+fours-fit : (most size : ℕ) → 1 ≤ size → most / size / 4 * 4 * size ≤ most
+fours-fit most size some =
+    let q : ℕ = most / size in
+    let room : q * size ≤ most = omega (arith, some) in
+    let less : q / 4 * 4 * size ≤ q * size =
+    mul-le-mul_right {m = q / 4 * 4} {n = q} size (omega arith) in
+    omega (arith, less, room)
+
+-- The leaves that fit are no more than were wanted.
+pub fours-short : (most size leaves : ℕ) → 1 ≤ size → size < 2 ^ 32 → most < leaves * size
+    → leaves * size < 2 ^ 60 → max (most / size / 4 * 4) 1 * size < 2 ^ 60
+fours-short most size leaves some short long fits =
+    let q : ℕ = most / size / 4 * 4 in
+    let room : q * size ≤ most = fours-fit most size some in
+    elim (cases_lt q 1) [
+      | inl none ↦
+          let one : max q 1 ≡ 1 = omega (arith, none) in
+          omega (arith, ap (λ m. m * size) one, short)
+      | inr several ↦
+          let same : max q 1 ≡ q = omega (arith, several) in
+          omega (arith, ap (λ m. m * size) same, room, long, fits)
+    ]
+
 -- The leaves of a part are those that fit, in all cases.
 part_leaves-cases : (l : Limits) (threads size n : ℕ) → 1 ≤ size
     → (part_leaves l threads size n * size ≤ max l.part_bytes (4 * size))
@@ -225,8 +271,20 @@ part_leaves-cases l threads size n some =
     mul-le-mul_right {m = leaves} {n = fours} size (omega arith) in
     elim (cases_lt l.most_bytes (leaves * size)) [
       | inl long ↦
-          let one : part_leaves l threads size n ≡ 1 = rw (lt-leb (leaves * size) l.most_bytes long) refl in
-          (omega (arith, ap (λ m. m * size) one), inr one)
+          let q : ℕ = l.most_bytes / size / 4 * 4 in
+          let rounded : part_leaves l threads size n ≡ max q 1 =
+          rw (lt-leb (leaves * size) l.most_bytes long) refl in
+          elim (cases_lt q 1) [
+            | inl none ↦
+                let one : part_leaves l threads size n ≡ 1 = omega (arith, rounded, none) in
+                (omega (arith, ap (λ m. m * size) one), inr one)
+            | inr several ↦
+                let some_fours : part_leaves l threads size n ≡ q = omega (arith, rounded, several) in
+                let fit : q * size ≤ l.most_bytes = fours-fit l.most_bytes size some in (
+                  omega (arith, ap (λ m. m * size) some_fours, fit, long, room, less),
+                  inl (omega (arith, ap (λ m. m * size) some_fours, fit)),
+                )
+          ]
       | inr short ↦
           let all : part_leaves l threads size n ≡ leaves = rw (le-leb (leaves * size) l.most_bytes short) refl in (
             omega (arith, ap (λ m. m * size) all, room, less),
@@ -234,21 +292,34 @@ part_leaves-cases l threads size n some =
           )
     ]
 
--- If each thread has four leaves or more, and a part is not too long, it is fours of leaves.
+-- If each thread has four leaves or more, and there is room for four, a part is fours of leaves.
 part_leaves-fours : (l : Limits) (threads size n : ℕ) → 1 ≤ size → 1 ≤ threads
-    → 4 * threads ≤ leaf_count size n → max l.part_bytes (4 * size) ≤ l.most_bytes
+    → 4 * threads ≤ leaf_count size n → 4 * size ≤ l.most_bytes
     → part_leaves l threads size n % 4 ≡ 0
 part_leaves-fours l threads size n some are many fit =
     let fours : ℕ = max (l.part_bytes / size / 4) 1 * 4 in
     let each : ℕ = share (leaf_count size n) threads in
     let leaves : ℕ = min fours each in
-    let room : fours * size ≤ max l.part_bytes (4 * size) = fours-length l.part_bytes size some in
-    let less : leaves * size ≤ fours * size =
-    mul-le-mul_right {m = leaves} {n = fours} size (omega arith) in
-    let short : leaves * size ≤ l.most_bytes = omega (arith, room, less, fit) in
-    let all : part_leaves l threads size n ≡ leaves = rw (le-leb (leaves * size) l.most_bytes short) refl in
-    let rounded = share-fours (leaf_count size n) threads are many in
-    omega (arith, all, rounded.1)
+    elim (cases_lt l.most_bytes (leaves * size)) [
+      | inl long ↦
+          let q : ℕ = l.most_bytes / size in
+          let rounded : part_leaves l threads size n ≡ max (q / 4 * 4) 1 =
+          rw (lt-leb (leaves * size) l.most_bytes long) refl in
+          let room : l.most_bytes < (q + 1) * size = omega (arith, some) in
+          let four : 4 ≤ q = elim (cases_lt q 4) [
+            | inl few ↦
+                let less : (q + 1) * size ≤ 4 * size =
+                mul-le-mul_right {m = q + 1} {n = 4} size (omega (arith, few)) in
+                absurd (omega (arith, less, room, fit))
+            | inr h ↦ h
+          ] in
+          omega (arith, rounded, four)
+      | inr short ↦
+          let all : part_leaves l threads size n ≡ leaves =
+          rw (le-leb (leaves * size) l.most_bytes short) refl in
+          let rounded = share-fours (leaf_count size n) threads are many in
+          omega (arith, all, rounded.1)
+    ]
 
 pub are_parts : (l : Limits) (threads size n : ℕ) (p : Plan) → 1 ≤ size → 1 ≤ threads
     → p.part_length ≡ part_leaves l threads size n * size → AreParts l threads size n p
@@ -313,4 +384,34 @@ of_update size counted n p some at stop rest =
           ap (λ m. m % size) same ∙ mul-mod_left (x / size) size;
       followed = λ more. omega (arith, at, stop, leaves, more, rest);
       rest = omega (arith, at, stop, leaves, below, rest);
+    }
+
+-- ---- all numbers of a plan
+
+-- The numbers of a plan agree, if what follows the leaves does.
+pub made : (l : Limits) (asked size at n last : ℕ) (p : Plan) → 1 ≤ asked → HasParts p
+    → IsPlanOf l asked size at n last p → (p.ends ≡ 1 → p.rest_length ≡ 0)
+    → (p.ends ≡ 0 → HasRest p) → IsPlan p
+made l asked size at n last p some parts is message update =
+    let bytes : p.end - p.start ≡ n = omega (arith, is.start, is.end) in
+    record {
+      parts = parts;
+      digests_length = is.digests_length
+          ∙ ap (λ s. length_of_digests p.part_count s n) (sym is.leaf_length)
+          ∙ ap (length_of_digests p.part_count p.leaf_length) (sym bytes);
+      threads = omega (arith, is.threads);
+      thread = λ several. omega (arith, is.threads, some, several);
+      message = message;
+      update = update;
+    }
+
+pub has_rest : (size counted n : ℕ) (p : Plan) → IsOfUpdate size counted n p
+    → p.leaf_length ≡ size → n < 2 ^ 58 → HasRest p
+has_rest size counted n p of_n is short =
+    record {
+      head = omega (arith, of_n.head, is);
+      whole = ap (λ m. (p.end - p.start) % m) is ∙ of_n.whole;
+      followed = of_n.followed;
+      rest = omega (arith, of_n.rest, is);
+      fits = omega (arith, of_n.all, short);
     }

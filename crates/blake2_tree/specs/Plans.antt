@@ -37,13 +37,15 @@ share leaves threads =
     if nat_le (div_ceil leaves threads) 3 then div_ceil leaves threads
     else in_fours leaves threads (div_ceil leaves threads)
 
--- This number of leaves, or one if they have more bytes than that.
+-- This number of leaves if they have at most `most` bytes, and otherwise the fours of leaves that
+-- `most` has room for, or one leaf if there is no room for four.
 abbrev pub that_fit : ℕ → ℕ → ℕ → ℕ
-that_fit most size leaves = if nat_le (leaves * size) most then leaves else 1
+that_fit most size leaves =
+    if nat_le (leaves * size) most then leaves else max (most / size / 4 * 4) 1
 
 -- The number of leaves of a part of n bytes that are for this number of threads: the fours that
--- `part_bytes` have room for, at least one, but at most a thread's share; or one leaf, if these are
--- more than `most_bytes`.
+-- `part_bytes` have room for, at least one, but at most a thread's share, and those that fit into
+-- `most_bytes`.
 abbrev pub part_leaves : Limits → ℕ → ℕ → ℕ → ℕ
 part_leaves l threads size n =
     that_fit l.most_bytes size
@@ -53,8 +55,8 @@ part_leaves l threads size n =
 -- has fewer only if a thread would have fewer than four, or if four have more bytes than
 -- `most_bytes`. It has at most about `part_bytes`, and more than `most_bytes` only if a leaf has.
 pub record AreParts (l : Limits) (threads size n : ℕ) (p : Plan) : Type 0 where
-  pub fours : 4 * threads ≤ leaf_count size n
-      → max l.part_bytes (4 * size) ≤ l.most_bytes → p.part_length % (4 * size) ≡ 0
+  pub fours : 4 * threads ≤ leaf_count size n → 4 * size ≤ l.most_bytes
+      → p.part_length % (4 * size) ≡ 0
   pub most : (p.part_length ≤ l.most_bytes) ⊎ (p.part_length ≡ size)
   pub about : p.part_length ≤ max l.part_bytes (4 * size)
 
@@ -62,6 +64,11 @@ pub record AreParts (l : Limits) (threads size n : ℕ) (p : Plan) : Type 0 wher
 -- is empty.
 abbrev pub count_of_parts : ℕ → ℕ → ℕ → ℕ
 count_of_parts ends part n = max (div_ceil n part) ends
+
+-- The bytes of the digests of n bytes of leaves in this number of parts: 64 for each leaf, and none
+-- if there are no parts.
+abbrev pub length_of_digests : ℕ → ℕ → ℕ → ℕ
+length_of_digests parts size n = 64 * (if nat_eq parts 0 then 0 else leaf_count size n)
 
 -- The plan of n bytes of leaves from offset `at` on, for this number of threads. If `last` is 1
 -- they are a message, and if it is 0 they are whole leaves that more follows.
@@ -72,14 +79,13 @@ pub record IsPlanOf (l : Limits) (asked size at n last : ℕ) (p : Plan) : Type 
   pub part_length : p.part_length ≡ part_leaves l asked size n * size
   pub part_count : p.part_count ≡ count_of_parts last p.part_length n
   pub threads : p.threads ≡ min asked p.part_count
-  pub digests_length : p.digests_length
-      ≡ 64 * (if nat_eq p.part_count 0 then 0 else leaf_count size n)
+  pub digests_length : p.digests_length ≡ length_of_digests p.part_count size n
   pub ends : p.ends ≡ last
 
 -- ---- the parts of a plan
 
--- The numbers are those of a plan: its parts are of whole leaves.
-pub record IsPlan (p : Plan) : Type 0 where
+-- The parts are of whole leaves, and reach from the start to the end.
+pub record HasParts (p : Plan) : Type 0 where
   pub some : 1 ≤ p.leaf_length
   pub most : p.leaf_length < 2 ^ 32
   pub part : 1 ≤ p.part_length
@@ -88,6 +94,26 @@ pub record IsPlan (p : Plan) : Type 0 where
   pub fits : p.end - p.start < 2 ^ 58
   pub flag : p.ends ≤ 1
   pub count : p.part_count ≡ count_of_parts p.ends p.part_length (p.end - p.start)
+
+-- The leaves are those of an update: whole leaves after a head that is shorter than one. At least
+-- one byte follows them if there are any, and at most a leaf.
+pub record HasRest (p : Plan) : Type 0 where
+  pub head : p.start < p.leaf_length
+  pub whole : (p.end - p.start) % p.leaf_length ≡ 0
+  pub followed : p.start < p.end → 0 < p.rest_length
+  pub rest : p.rest_length ≤ p.leaf_length
+  pub fits : p.end + p.rest_length < 2 ^ 58
+
+-- The numbers are those of a plan: they agree with each other as those of each plan do. Each part
+-- has a thread, and nothing follows a message.
+pub record IsPlan (p : Plan) : Type 0 where
+  pub parts : HasParts p
+  pub digests_length : p.digests_length
+      ≡ length_of_digests p.part_count p.leaf_length (p.end - p.start)
+  pub threads : p.threads ≤ p.part_count
+  pub thread : 1 ≤ p.part_count → 1 ≤ p.threads
+  pub message : p.ends ≡ 1 → p.rest_length ≡ 0
+  pub update : p.ends ≡ 0 → HasRest p
 
 -- Where part i begins.
 abbrev pub start_of_part : Plan → ℕ → ℕ
@@ -115,8 +141,9 @@ pub record IsInOrder (p : Plan) (i : ℕ) (part : Part) : Type 0 where
   pub short : part.length ≤ p.part_length
   pub digests_follow : i + 1 < p.part_count → part.digests_start + part.digests_length
       ≡ 64 * ((i + 1) * (p.part_length / p.leaf_length))
-  pub digests_stop : i + 1 ≡ p.part_count → part.digests_start + part.digests_length
-      ≡ 64 * leaf_count p.leaf_length (p.end - p.start)
+  pub digests_stop : i + 1 ≡ p.part_count
+      → part.digests_start + part.digests_length ≡ p.digests_length
+  pub digests_within : part.digests_start + part.digests_length ≤ p.digests_length
 
 -- ---- the input of an update
 

@@ -3,11 +3,10 @@
 //! [`hash_leaves`](crate::hash_leaves), and writes the digests where the part says.
 
 ghost use Rattle.std.specs.Prelude.{◌≡◌, ◌+◌, ◌-◌, ◌*◌, ◌/◌, ◌%◌, ◌^◌, ◌<◌, ◌≤◌, ◌↔◌, IsTrue};
-ghost use Rattle.std.specs.Prelude.{nat_eq, if◌then◌else◌};
-ghost use Rattle.blake2_tree.specs.TreeRoot.{leaf_count};
 ghost use Rattle.blake2_tree.specs.Plans.{AreLimits, threads_for, share, part_leaves, IsPlanOf};
 ghost use Rattle.blake2_tree.specs.Plans.{IsPlan, IsPart, IsInOrder, AreParts, head_length};
 ghost use Rattle.blake2_tree.specs.Plans.{whole_length, IsOfUpdate, HasDigests, HasLeafDigests};
+ghost use Rattle.blake2_tree.specs.Plans.{HasParts, HasRest, length_of_digests};
 
 use crate::limits::MESSAGE_LIMIT;
 use crate::ranges::leaf_count;
@@ -105,7 +104,7 @@ impl Limits {
         if leaves * leaf <= self.most_bytes {
             leaves
         } else {
-            1
+            (self.most_bytes / leaf / 4 * 4).max(1)
         }
     }
 }
@@ -136,8 +135,7 @@ fn share(leaves: u64, threads: u64) -> u64
 fn digests_length(leaf_length: u32, length: u64, part_count: u64) -> u64
     requires leaf_length { 1 ≤ leaf_length }
     requires length { length < 2 ^ 58 }
-    ensures { result
-        ≡ 64 * (if nat_eq part_count 0 then 0 else leaf_count leaf_length length) }
+    ensures { result ≡ length_of_digests part_count leaf_length length }
 {
     if part_count == 0 {
         0
@@ -162,7 +160,7 @@ impl Plan {
         requires length { length < 2 ^ 58 }
         requires fits { start + length < 2 ^ 64 }
         requires flag { ends ≤ 1 }
-        ensures plan { IsPlan result }
+        ensures whole { HasParts result }
         ensures is { IsPlanOf limits.now threads leaf_length start length ends result }
         ensures parts { AreParts limits.now threads leaf_length length result }
         ensures rest { result.rest_length ≡ 0 }
@@ -238,10 +236,9 @@ impl Plan {
         }
     }
 
-    /// Returns whether these are the numbers of a plan, as [`Plan::part`] requires. It does not
-    /// look at `threads`, `digests_length` and `rest_length`.
-    pub fn is_plan(&self) -> bool
-        ensures { IsTrue result ↔ IsPlan self.now }
+    // Whether the parts are of whole leaves.
+    fn has_parts(&self) -> bool
+        ensures { IsTrue result ↔ HasParts self.now }
     {
         self.leaf_length >= 1
             && self.leaf_length <= u64::from(u32::MAX)
@@ -254,6 +251,41 @@ impl Plan {
                 == (self.end - self.start)
                     .div_ceil(self.part_length)
                     .max(self.ends)
+    }
+
+    // Whether the leaves are those of an update.
+    fn is_of_update(&self) -> bool
+        requires { HasParts self.now }
+        ensures { IsTrue result ↔ HasRest self.now }
+    {
+        self.start < self.leaf_length
+            && (self.end - self.start) % self.leaf_length == 0
+            && (self.start == self.end || self.rest_length >= 1)
+            && self.rest_length <= self.leaf_length
+            && self.end + self.rest_length < MESSAGE_LIMIT
+    }
+
+    /// Returns whether these are the numbers of a plan, as [`Plan::part`] requires: whether they
+    /// agree with each other, as those of each plan do.
+    pub fn is_plan(&self) -> bool
+        ensures { IsTrue result ↔ IsPlan self.now }
+    {
+        if !self.has_parts() {
+            return false;
+        }
+        let length = self.end - self.start;
+        let room = digests_length(self.leaf_length as u32, length, self.part_count);
+        if self.digests_length != room || self.threads > self.part_count {
+            return false;
+        }
+        if self.part_count >= 1 && self.threads == 0 {
+            return false;
+        }
+        if self.ends == 1 {
+            self.rest_length == 0
+        } else {
+            self.is_of_update()
+        }
     }
 
     /// Returns part `i`, which is below the number of parts. The numbers must be those of a plan.

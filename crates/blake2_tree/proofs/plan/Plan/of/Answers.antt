@@ -2,8 +2,8 @@ use Rattle.blake2_tree.proofs.Plans.{whole-leaves, some-bytes, are_parts}
 use Rattle.std.proofs.Common.{rules, ◌*◌, ◌≡◌, ◌%◌}
 use Rattle.blake2_tree.proofs.plan.Plan.of.Goals as goal
 
-pub returns-clause-plan : goal.returns-clause-plan
-returns-clause-plan c =
+pub returns-clause-whole : goal.returns-clause-whole
+returns-clause-whole c =
     record {
       some = search rules;
       most = search rules;

@@ -6,7 +6,7 @@ pub overflow_mul-result : goal.overflow_mul-result
 overflow_mul-result c =
     let p = c.args.self.now in
     let h : 64 * (c.args.i * (p.part_length / p.leaf_length)) < 2 ^ 64 =
-    first-fits p c.args.i c.requires.plan c.requires.within in
+    first-fits p c.args.i c.requires.plan.parts c.requires.within in
     omega (arith, h)
 
 pub returns-then-i-self-clause-is : goal.returns-then-i-self-clause-is

@@ -1,0 +1,291 @@
+/* Tests vulfsjor.hpp: each argument at its edges and wrong, copies, moves, and what stays
+ * unchanged. Prints a line for digests that Python's hashlib has to have, as check_lines.py reads
+ * them; returns 0 if all else is as it should be.
+ *
+ *   c++ -std=c++17 -I FOLDER/include hasher.cpp ARCHIVE -o hasher
+ *   ./hasher | python3 check_lines.py        the same with -std=c++20, and with -fno-exceptions */
+#include <vulfsjor.hpp>
+
+#include "check.h"
+
+#include <new>
+#include <string_view>
+#if __has_include(<span>) && __cplusplus >= 202002L
+#include <span>
+#endif
+
+using vulfsjor::blake2b;
+using vulfsjor::blake2s;
+using vulfsjor::bytes;
+using vulfsjor::parameters;
+
+namespace {
+
+/* As those of check_lines.py. */
+std::vector<unsigned char> filled(std::size_t count, std::size_t first) {
+    std::vector<unsigned char> made(count);
+    for (std::size_t i = 0; i < count; i++)
+        made[i] = static_cast<unsigned char>((i + first) % (first ? 256 : 251));
+    return made;
+}
+const std::vector<unsigned char> message = filled(8 * 128 + 64, 0), keys = filled(66, 100),
+                                 salts = filled(18, 50), personals = filled(18, 200);
+
+void print(const std::vector<std::uint8_t> &digest) {
+    for (std::uint8_t byte : digest) std::printf("%02x", static_cast<unsigned>(byte));
+    std::putchar('\n');
+}
+
+template <class H> constexpr const char *name = std::is_same_v<H, blake2b> ? "b" : "s";
+template <class H> constexpr std::size_t longest = std::is_same_v<H, blake2b> ? 64 : 32;
+template <class H> constexpr std::size_t salt_length = longest<H> / 4;
+
+/* ---- what compiles */
+
+template <class H> constexpr bool is_value =
+    std::is_nothrow_default_constructible_v<H> && std::is_nothrow_copy_constructible_v<H> &&
+    std::is_nothrow_move_constructible_v<H> && std::is_nothrow_copy_assignable_v<H> &&
+    std::is_nothrow_move_assignable_v<H> && std::is_nothrow_swappable_v<H> &&
+    !std::is_convertible_v<parameters, H> && noexcept(std::declval<H &>().update(bytes())) &&
+    noexcept(std::declval<H &>().verify(bytes())) && noexcept(H::create(parameters())) &&
+    noexcept(std::declval<H &>().digest_to(nullptr, 0)) &&
+    noexcept(std::declval<H &>().template digest<32>());
+static_assert(is_value<blake2b> && is_value<blake2s>);
+static_assert(blake2b::block_length == 128 && blake2s::block_length == 64);
+static_assert(blake2b::max_digest_length == 64 && blake2s::max_digest_length == 32);
+
+template <class T> constexpr bool is_bytes = std::is_convertible_v<T, bytes>;
+static_assert(is_bytes<const char *> && is_bytes<const char (&)[4]> && is_bytes<std::string> &&
+              is_bytes<std::string_view> && is_bytes<unsigned char (&)[4]> &&
+              is_bytes<std::vector<char>> && is_bytes<const std::array<std::byte, 4> &>);
+static_assert(!is_bytes<std::nullptr_t> && !is_bytes<int> && !is_bytes<unsigned char *> &&
+              !is_bytes<std::vector<int>> && !is_bytes<std::u16string> &&
+              !is_bytes<int (&)[4]> && !is_bytes<std::vector<bool>> && !is_bytes<const void *>);
+#ifdef __cpp_lib_span
+static_assert(is_bytes<std::span<const std::byte>> && is_bytes<std::span<unsigned char, 4>> &&
+              !is_bytes<std::span<const int>>);
+#endif
+
+/* ---- digests */
+
+template <class H> void tell(std::size_t size, std::size_t keylen, std::size_t saltlen,
+                             std::size_t personallen, std::size_t length) {
+    parameters given;
+    if (size != longest<H>) given.digest_length = size;
+    if (keylen) given.key = bytes(keys.data(), keylen);
+    given.salt = bytes(salts.data(), saltlen);
+    given.personal = bytes(personals.data(), personallen);
+    std::optional<H> hasher = H::create(given);
+    given.tree = vulfsjor_tree{0, 0, 1, 1, 0, 0}; /* no tree */
+    std::optional<H> same = H::create(given);
+    CHECK(hasher && same && hasher->digest_length() == size && same->digest() == hasher->digest());
+    for (std::size_t at = 0, piece = 1; at < length; at += piece, piece = piece * 2 + 1) {
+        if (piece > length - at) piece = length - at;
+        CHECK(hasher->update(message.data() + at, piece) && hasher->count() == at + piece);
+        CHECK(hasher->digest() == hasher->digest()); /* which does not end it */
+    }
+    std::printf("hash %s %zu %zu %zu %zu 0 %zu ", name<H>, size, keylen, saltlen, personallen,
+                length);
+    print(hasher->digest());
+    CHECK(hasher->verify(hasher->digest()) && hasher->count() == length);
+    hasher->reset();
+    CHECK(!hasher->count() && hasher->update(bytes(message.data(), length)));
+    std::printf("hash %s %zu %zu %zu %zu 0 %zu ", name<H>, size, keylen, saltlen, personallen,
+                length);
+    print(hasher->digest());
+}
+
+template <class H> void digests() {
+    for (std::size_t size : {std::size_t(1), std::size_t(20), longest<H>})
+        for (std::size_t length : {std::size_t(0), std::size_t(1), H::block_length - 1,
+                                   H::block_length, H::block_length + 1, std::size_t(1000)})
+            tell<H>(size, 0, 0, 0, length);
+    for (std::size_t keylen : {std::size_t(1), longest<H>}) tell<H>(32, keylen, 0, 0, 3);
+    for (std::size_t saltlen = 0; saltlen <= salt_length<H>; saltlen++)
+        tell<H>(longest<H>, 7, saltlen, salt_length<H> - saltlen, 200);
+    H plain;
+    CHECK(plain.digest_length() == longest<H> && !plain.count());
+    std::printf("hash %s %zu 0 0 0 0 0 ", name<H>, longest<H>);
+    print(plain.digest());
+}
+
+template <class H> void nodes() {
+    H last;
+    last.set_last_node(true);
+    CHECK(last.update(message.data(), 20));
+    std::printf("last %s %zu 20 ", name<H>, longest<H>);
+    print(last.digest());
+    last.set_last_node(false);
+    std::printf("hash %s %zu 0 0 0 0 20 ", name<H>, longest<H>);
+    print(last.digest());
+
+    parameters given;
+    given.tree = vulfsjor_tree{(std::uint64_t(1) << 48) - 1, ~std::uint32_t(6), 2, 255, 254, 32};
+    std::optional<H> node = H::create(given);
+    CHECK(node && node->update(message.data(), 20));
+    std::printf("node %s 2 255 4294967289 281474976710655 254 32 ", name<H>);
+    print(node->digest());
+}
+
+/* All ways to say the same bytes. */
+template <class H> void inputs() {
+    char text[] = "a text";
+    const unsigned char array[] = {'a', ' ', 't', 'e', 'x', 't'};
+    const std::array<std::byte, 6> of_bytes{std::byte('a'), std::byte(' '), std::byte('t'),
+                                            std::byte('e'), std::byte('x'), std::byte('t')};
+    const std::vector<char> list(text, text + 6);
+    std::vector<H> all(8);
+    CHECK(all[0].update(text) && all[1].update(array) && all[2].update(of_bytes) &&
+          all[3].update(std::string(text)));
+    CHECK(all[4].update(std::string_view("a text, and more", 6)));
+    CHECK(all[5].update(list) && all[6].update(array, 6) && all[7].update("a ") &&
+          all[7].update("") && all[7].update(bytes()) && all[7].update(nullptr, 0) &&
+          all[7].update("text"));
+#ifdef __cpp_lib_span
+    all.resize(all.size() + 3);
+    CHECK(all[8].update(std::span(of_bytes)) && all[9].update(std::span(array).first(6)) &&
+          all[10].update(std::u8string(u8"a text")));
+#endif
+    for (const H &each : all) CHECK(each.count() == 6 && each.digest() == all[0].digest());
+}
+
+/* ---- refusals */
+
+/* These parameters are refused, and the exception names this argument. */
+template <class H> void refuse(const parameters &given, const char *argument) {
+    CHECK(!H::create(given));
+#ifdef __cpp_exceptions
+    for (int way = 0; way < 2; way++) {
+        try {
+            if (way) static_cast<void>(H::hash("", given));
+            else static_cast<void>(H(given));
+            CHECK(false);
+        } catch (const std::invalid_argument &error) {
+            CHECK(error.what() == "vulfsjor: " + std::string(argument) + " is out of range");
+        }
+    }
+#else
+    static_cast<void>(argument);
+#endif
+}
+
+template <class H> void refusals() {
+    const bytes none(nullptr, 1);
+    for (std::size_t length : {std::size_t(0), longest<H> + 1, std::size_t(256 + 20),
+                               (std::size_t(1) << 32) + 20, ~std::size_t(0)}) {
+        parameters given;
+        given.digest_length = length;
+        refuse<H>(given, "outlen");
+    }
+    for (bytes key : {bytes(), bytes(""), none, bytes(keys.data(), longest<H> + 1),
+                      bytes(keys.data(), ~std::size_t(0))}) {
+        parameters given;
+        given.key = key;
+        refuse<H>(given, "key");
+    }
+    for (bytes wrong : {none, bytes(salts.data(), salt_length<H> + 1)}) {
+        parameters salted, personal;
+        salted.salt = personal.personal = wrong;
+        refuse<H>(salted, "salt");
+        refuse<H>(personal, "personal");
+    }
+    parameters given;
+    given.tree = vulfsjor_tree{0, 0, 1, 0, 0, 0};
+    refuse<H>(given, "tree->depth");
+    given.tree = vulfsjor_tree{0, 0, 1, 1, 0, static_cast<std::uint8_t>(longest<H> + 1)};
+    refuse<H>(given, "tree->inner_length");
+    if (std::is_same_v<H, blake2b>) return;
+    given.tree = vulfsjor_tree{std::uint64_t(1) << 48, 0, 1, 1, 0, 0};
+    refuse<H>(given, "tree->node_offset");
+}
+
+/* Calls that fail, and change nothing. */
+template <class H> void failures() {
+    H hasher;
+    std::array<std::uint8_t, longest<H> + 1> out;
+    out.fill(0xaa);
+    CHECK(hasher.update("abc"));
+    const std::vector<std::uint8_t> wanted = hasher.digest();
+    CHECK(!hasher.update(nullptr, 1) && !hasher.update(out.data(), ~std::size_t(0) - 2));
+    CHECK(hasher.count() == 3 && hasher.digest() == wanted);
+    for (std::size_t length : {std::size_t(0), longest<H> - 1, longest<H> + 1})
+        CHECK(!hasher.digest_to(out.data(), length));
+    CHECK(!hasher.digest_to(nullptr, longest<H>));
+    CHECK(!hasher.template digest<longest<H> - 1>() && !hasher.template digest<longest<H> + 1>());
+    for (std::uint8_t byte : out) CHECK(byte == 0xaa);
+    CHECK(hasher.digest_to(out.data(), longest<H>) && out.back() == 0xaa);
+    CHECK(std::vector<std::uint8_t>(out.begin(), out.end() - 1) == wanted);
+    const auto array = hasher.template digest<longest<H>>();
+    CHECK(array && std::vector<std::uint8_t>(array->begin(), array->end()) == wanted);
+    CHECK(hasher.verify(wanted) && !hasher.verify(bytes()) && !hasher.verify(""));
+    CHECK(!hasher.verify(bytes(wanted.data(), longest<H> - 1)) &&
+          !hasher.verify(bytes(nullptr, longest<H>)) && !hasher.verify(out));
+    for (std::size_t i = 0; i < 8 * longest<H>; i++) {
+        std::vector<std::uint8_t> tag = wanted;
+        tag[i / 8] = static_cast<std::uint8_t>(tag[i / 8] ^ 1 << i % 8);
+        CHECK(!hasher.verify(tag));
+    }
+    CHECK(hasher.digest() == wanted);
+#ifdef __cpp_exceptions
+    CHECK(H::hash("abc") == wanted);
+    try {
+        static_cast<void>(H::hash(bytes(nullptr, 1)));
+        CHECK(false);
+    } catch (const std::invalid_argument &error) {
+        CHECK(error.what() == std::string("vulfsjor: in is out of range"));
+    }
+#endif
+}
+
+/* ---- values */
+
+template <class H> void values() {
+    H first, second;
+    CHECK(first.update("a"));
+    const auto a = first.digest();
+    H copy(first), moved(std::move(first));
+    CHECK(copy.digest() == a && moved.digest() == a && first.digest() == a);
+    CHECK(copy.update("b") && copy.digest() != a && first.digest() == a && moved.digest() == a);
+    const auto ab = copy.digest();
+    H &self = copy;
+    copy = self;
+    CHECK(copy.digest() == ab);
+    copy = std::move(self);
+    CHECK(copy.digest() == ab && copy.update("c") && copy.digest() != ab);
+    second = moved;
+    CHECK(second.update("b") && second.digest() == ab && moved.digest() == a);
+    std::swap(second, moved);
+    CHECK(second.digest() == a && moved.digest() == ab);
+    std::optional<H> refused = H::create(parameters{0, {}, {}, {}, {}});
+    CHECK(!refused);
+}
+
+/* The destructor leaves nothing of a state. */
+template <class H> void wiped() {
+    alignas(H) unsigned char memory[sizeof(H)];
+    std::memset(memory, 0xaa, sizeof memory);
+    H *hasher = ::new (static_cast<void *>(memory)) H;
+    CHECK(hasher->update("secret"));
+    hasher->~H();
+    const volatile unsigned char *left = memory;
+    for (std::size_t i = 0; i < sizeof memory; i++) CHECK(left[i] == 0);
+}
+
+template <class H> void family() {
+    digests<H>();
+    nodes<H>();
+    inputs<H>();
+    refusals<H>();
+    failures<H>();
+    values<H>();
+    wiped<H>();
+}
+
+} /* namespace */
+
+int main() {
+    family<blake2b>();
+    family<blake2s>();
+    std::puts("end");
+    return fails ? 1 : 0;
+}

@@ -1,0 +1,29 @@
+#!/usr/bin/env bash
+# Runs a program for Windows by the wine that WINE names, for windows.sh:
+#
+#   c/tests/run_by_wine.sh PROGRAM [ARGUMENTS..]
+#
+# A run that wine itself ends, which only lines of wine's own on standard error say, is made again,
+# three times in all. Its lines are added to the file WINE_LOG. All that a program prints, and its
+# status, are passed on as they are.
+set -u
+folder=$(mktemp -d) && trap 'rm -rf "$folder"' EXIT || exit 125
+input=$folder/input
+cat >"$input" 2>/dev/null || input= # a folder, which no program can read
+
+by_wine() { "$WINE" "$@" >"$folder/output" 2>"$folder/errors"; }
+
+# Whether standard error has lines of wine's own, and no other.
+wine_failed() {
+    [ -s "$folder/errors" ] && ! grep -qvE '^(wine client error:|wineserver: )' "$folder/errors"
+}
+
+for _ in 1 2 3; do
+    if [ -n "$input" ]; then by_wine "$@" <"$input"; else by_wine "$@"; fi
+    status=$?
+    [ $status -ne 0 ] && wine_failed || break
+    cat "$folder/errors" >>"$WINE_LOG"
+done
+cat "$folder/output"
+cat "$folder/errors" >&2
+exit $status

@@ -1,0 +1,181 @@
+#!/usr/bin/env python3
+"""Writes the lists of functions in c/choose.c and c/calls.h from the prototypes of c/include/vulfsjor.h, and compares
+those prototypes and structs with the exports of crates/blake2_ffi and with rust/src/library.rs: names, types and order.
+With --check it also compares the two lists, and writes nothing.
+
+usage: tools/exports.py [--check]
+"""
+import os
+import re
+import sys
+import textwrap
+
+from sources import TOP, items, modules, read
+
+HEADER, CHOOSE, CALLS, LIBRARY = "c/include/vulfsjor.h", "c/choose.c", "c/calls.h", "rust/src/library.rs"
+NUMBERS = {"uint8_t": "u8", "uint32_t": "u32", "uint64_t": "u64", "int32_t": "i32", "size_t": "usize", "void": ""}
+# The structs of the header, by their names without vulfsjor_: the file of Rattle that has each, its name there, and its
+# name in Rust if its fields are there too.
+STRUCTS = {
+    "blake2b_state": ("crates/blake2_state/src/blake2b.rt", "State", None),
+    "blake2s_state": ("crates/blake2_state/src/blake2s.rt", "State", None),
+    "tree_state": ("crates/blake2_state/src/tree.rt", "TreeState", None),
+    "tree": ("crates/blake2_ffi/src/lib.rt", "NodeParameters", "Tree"),
+    "message": ("crates/blake2_ffi/src/lib.rt", "Text", "Text"),
+    "limits": ("crates/blake2_tree/src/plan.rt", "Limits", "Limits"),
+    "plan": ("crates/blake2_tree/src/plan.rt", "Plan", "Plan"),
+    "part": ("crates/blake2_tree/src/plan.rt", "Part", "Part"),
+}
+# What the types are called in the header, besides those.
+NAMES = {"NodeParameters": "tree", "Text": "message", "Tree": "tree", "TreeState": "tree_state",
+         "Blake2bState": "blake2b_state", "Blake2sState": "blake2s_state", "Limits": "limits", "Plan": "plan",
+         "Part": "part"}
+# Names that differ: C's are those of the BLAKE2 document.
+SAME = {"persona": "personal", "persona_length": "personal_length", "messages_length": "count",
+        "bytes_length": "length"}
+
+
+def without_comments(text):
+    """The text of a file of C or Rust without its comments."""
+    return re.sub(r"/\*.*?\*/|//[^\n]*", "", text, flags=re.DOTALL)
+
+
+def of_c(words):
+    """A declaration of C, such as `const uint8_t *a` or `uint64_t chain[8]`: its name and its type as in Rust."""
+    const, type_, star, name, many = re.fullmatch(r"(const )?(\w+) ?(\*?)(\w+)(\[\d+\])?", words).groups()
+    type_ = NUMBERS.get(type_, type_.removeprefix("vulfsjor_"))
+    pointer = f"*{'const' if const else 'mut'} " if star else ""
+    return name, pointer + (type_ or "u8") + (many or "")
+
+
+def of_rust(words, state):
+    """The same of Rust and Rattle, where a slice is a pointer and a length. `state` is what State is called in C."""
+    name, type_ = words.removeprefix("pub ").removeprefix("pub(crate) ").split(": ", 1)
+    type_ = re.sub(r"<'\w+>|'\w+ ", "", type_).replace("LABEL_BYTES", "16")
+    type_ = re.sub(r"\[(\w+); (\d+)\]", r"\1[\2]", type_)
+    type_ = re.sub(r"[A-Z]\w*", lambda m: NAMES.get(m[0], state if m[0] == "State" else m[0]), type_)
+    slice_ = re.fullmatch(r"(&|&mut )\[(\w+)\]", type_)
+    if slice_:
+        pointer = "*const " if slice_[1] == "&" else "*mut "
+        return [(SAME.get(name, name), pointer + slice_[2]), (SAME.get(name + "_length", name + "_length"), "usize")]
+    type_ = re.sub("^&mut ", "*mut ", re.sub("^&(?!mut )", "*const ", type_))
+    return [(SAME.get(name, name), type_)]
+
+
+def parts(text):
+    """The parts of a list between commas."""
+    return [" ".join(part.split()) for part in text.split(",") if part.strip() not in ("", "void")]
+
+
+def prototypes():
+    """The functions of the header, by name: result and parameters in C, and whether an empty line is above."""
+    found = re.findall(r"(^\n)?^(\w+) (vulfsjor_ffi_\w+)\(([^)]*)\);", without_comments(read(HEADER)), re.MULTILINE)
+    return {name: (result, parts(given), bool(empty)) for empty, result, name, given in found}
+
+
+def signatures():
+    """The same as in Rust: parameters and result."""
+    return {name: ([of_c(one) for one in given], NUMBERS[result]) for name, (result, given, _) in prototypes().items()}
+
+
+def signature(head, state):
+    """The name of a function of Rust or Rattle, and its signature."""
+    name, given, result = re.search(r"fn (\w+)\((.*?)\)(?: -> (\w+))?", head).groups("")
+    return name, ([each for one in parts(given) for each in of_rust(one, state)], result)
+
+
+def exports():
+    """The exports of Rattle."""
+    for module in modules("crates/blake2_ffi/src/lib.rt"):
+        state = "blake2s_state" if "blake2s" in module.path else "blake2b_state"
+        for item in module.items:
+            if item.is_export:
+                yield signature(" ".join(" ".join(item.head).split()), state)
+
+
+def functions_of_rust():
+    """The functions of the crate for Rust, by the names of the header."""
+    text = re.search(r"^functions! \{$(.*?)^\}$", read(LIBRARY), re.MULTILINE | re.DOTALL)[1]
+    for head in re.findall(r"fn .*?;", " ".join(without_comments(text).split())):
+        name, found = signature(head, "")
+        yield "vulfsjor_ffi_" + name, found
+
+
+def fields(text, name):
+    """The fields of a struct of Rust or Rattle, if there is one of this name with C's layout."""
+    head = rf"^#\[repr\(C\)\]\n(?:#\[[^\n]*\]\n)*pub(?:\(crate\))? struct {name}(?:<'a>)? "
+    body = re.search(head + r"\{(.*?)^\}", without_comments(text), re.MULTILINE | re.DOTALL)
+    return body and parts(re.sub(r"#\[.*\]", "", body[1]))
+
+
+def differences():
+    """What differs from the header, as sentences."""
+    wanted = signatures()
+    found = dict(exports())
+    yield from (f"{HEADER}: {name} has narrow arguments on the stack, which {CALLS} cannot pass on"
+                for name, (given, _) in wanted.items() if is_packed(given))
+    yield from (f"crates/blake2_ffi: {name} is not as in {HEADER}" for name in sorted({*wanted, *found})
+                if found.get(name) != wanted.get(name))
+    yield from (f"{LIBRARY}: {name} is not as in {HEADER}" for name, each in functions_of_rust()
+                if each != wanted.get(name))
+    header = without_comments(read(HEADER))
+    for name, (file, rattle, rust) in STRUCTS.items():
+        body = re.search(rf"typedef struct vulfsjor_{name} \{{(.*?)\}}", header, re.DOTALL)[1]
+        fields_of_c = [of_c(" ".join(one.split()).replace("void", "uint8_t")) for one in body.split(";") if one.strip()]
+        for place, type_ in ((file, rattle), (LIBRARY, rust)):
+            if type_:
+                state = "blake2s_state" if name == "blake2s_state" else "blake2b_state"
+                given = [each for one in fields(read(place), type_) or () for each in of_rust(one, state)]
+                if given != fields_of_c:
+                    yield f"{place}: {type_} is not as vulfsjor_{name} of {HEADER}"
+
+
+def is_packed(given):
+    """Whether Apple's convention on ARM, which packs arguments on the stack, has one of these elsewhere than Arm's."""
+    end = 0
+    for place, (_, type_) in enumerate(given[8:]):
+        size = {"u8": 1, "u32": 4}.get(type_, 8)
+        end = -(-end // size) * size + size
+        if end != 8 * place + size:
+            return True
+    return False
+
+
+def blocks(line_of):
+    """The lines for all functions, with the header's empty lines between them."""
+    lines = ["\n" * empty + line_of(name, result, given) for name, (result, given, empty) in prototypes().items()]
+    return "\n".join(lines).lstrip() + "\n"
+
+
+def in_calls(name, result, given):
+    """The lines of calls.h, of at most 100 columns, which no declaration is cut by."""
+    names = ", ".join(of_c(one)[0] for one in given)
+    kind, type_ = ("CALL_VOID", "") if result == "void" else ("CALL", f" {result},")
+    words = ", ".join(one.replace(" ", "~") for one in given) or "void"
+    lines = textwrap.wrap(f"{kind}({name},{type_} ({words}), ({names}))", 100, subsequent_indent="     ")
+    return "\n".join(lines).replace("~", " ")
+
+
+def lists():
+    """The files with a list, as they should be: it reaches from the first function to the last."""
+    lines = blocks(lambda name, *_: f'CALL("{name}")')
+    yield CHOOSE, re.sub(r'^CALL\("[^.]*"\)\n(?=#endif)', lambda _: lines, read(CHOOSE), flags=re.MULTILINE)
+    yield CALLS, re.sub(r"^CALL(_VOID)?\(vulfsjor.*\Z", lambda _: blocks(in_calls), read(CALLS),
+                        flags=re.MULTILINE | re.DOTALL)
+
+
+def main():
+    """Runs the program."""
+    if sys.argv[1:] not in ([], ["--check"]):
+        sys.exit("usage: tools/exports.py [--check]")
+    wrong = list(differences())
+    for path, text in lists():
+        if sys.argv[1:]:
+            wrong += [f"{path}: the functions are not those of {HEADER}: run tools/exports.py"] * (text != read(path))
+        else:
+            with open(os.path.join(TOP, path), "w", encoding="utf-8") as file:
+                file.write(text)
+    sys.exit("\n".join(wrong) or 0)
+
+
+main()
