@@ -5,7 +5,8 @@
 #
 # VULFSJOR_TEST_HUGE=1 adds the tests that hash more than 4 GiB, and those of the optimized crate.
 # Nothing comes from the network: rust-digest and the example for rayon use Debian's packages
-# librust-digest-dev, librust-hmac-dev, librust-hkdf-dev, librust-pbkdf2-dev and librust-rayon-dev.
+# librust-digest-dev, librust-hmac-dev, librust-hkdf-dev, librust-pbkdf2-dev, librust-rayon-dev,
+# librust-serde-dev, librust-serde-json-dev and librust-bincode-dev.
 # A test whose tool is missing is skipped, and a line says so.
 set -u
 source "$(dirname "$(readlink -f "$0")")/../tests/tap.sh"
@@ -59,6 +60,17 @@ rayon_example() {
         grep -q ^absent: said_of_errors
 }
 
+# What a program for the crate blake2 prints if it gets rust-digest under that name.
+renamed_program() {
+    cargo_debian rust-digest/tests/renamed run -q >"$work/printed" && python3 -c '
+from hashlib import blake2b, blake2s
+ten = blake2b(b"my input", digest_size=10)
+salted = blake2b(b"my input", digest_size=10, key=b"key", salt=b"salt", person=b"persona")
+for hash in (blake2b(b"hello world"), blake2s(b"hello world"), ten, blake2s(blake2s(b"abc").digest()), ten,
+             blake2b(b"my input", key=b"key"), salted):
+    print(hash.hexdigest())' | diff - "$work/printed"
+}
+
 for tool in cargo cc python3; do
     has $tool || { skip "the crates for Rust" "no $tool"; finish; }
 done
@@ -89,7 +101,13 @@ needs
 check_huge "each call with more than 4 GiB" cargo_here test --test huge -- --ignored
 check "the pages of cargo doc have no broken link" env RUSTDOCFLAGS="-D warnings" \
     cargo doc --no-deps --manifest-path "$top/Cargo.toml"
-check_debian "the crate vulfsjor-digest" digest=0.10 hmac=0.12 hkdf=0.12 pbkdf2=0.11 -- \
+check_debian "the crate vulfsjor-digest" digest=0.10 serde=1 hmac=0.12 hkdf=0.12 pbkdf2=0.11 -- \
     cargo_debian rust-digest test
+check_debian "vulfsjor-digest without std" digest=0.10 serde=1 hmac=0.12 hkdf=0.12 pbkdf2=0.11 -- \
+    cargo_debian rust-digest check --no-default-features
+serde=(digest=0.10 hmac=0.12 hkdf=0.12 pbkdf2=0.11 serde=1 serde_derive=1 serde_json=1 bincode=1)
+check_debian "vulfsjor-digest under the name blake2" "${serde[@]}" -- renamed_program
+[ -z "${VULFSJOR_TEST_HUGE-}" ] || check_debian "digests by serde" "${serde[@]}" -- \
+    cargo_debian rust-digest/tests/renamed test
 check_debian "the program rust/examples/rayon" rayon=1 -- rayon_example
 finish

@@ -11,8 +11,7 @@
 //! It is a separate crate, so that `vulfsjor` builds without a registry.
 //!
 //! ```
-//! use digest::Digest;
-//! use vulfsjor_digest::Blake2b512;
+//! use vulfsjor_digest::{digest, Blake2b512, Digest};
 //!
 //! fn twice<D: Digest>(message: &[u8]) -> digest::Output<D> {
 //!     D::digest(D::digest(message))
@@ -23,10 +22,15 @@
 #![forbid(unsafe_code)]
 #![deny(missing_docs)]
 
+#[cfg(feature = "serde")]
+pub mod serde;
+
+pub use digest::{self, Digest};
+
 use core::fmt;
 use core::marker::PhantomData;
 
-use digest::consts::{True, U128, U32, U64};
+use digest::consts::{True, U128, U16, U32, U64};
 use digest::crypto_common::{
     AlgorithmName, BlockSizeUser, InvalidLength, Key, KeyInit, KeySizeUser,
 };
@@ -248,8 +252,12 @@ family!("Blake2s", Blake2s, Blake2sMac, Blake2sVar, U32, U64, blake2s);
 pub type Blake2b512 = Blake2b<U64>;
 /// BLAKE2b with digests of 32 bytes.
 pub type Blake2b256 = Blake2b<U32>;
+/// BLAKE2b with digests of 16 bytes.
+pub type Blake2b128 = Blake2b<U16>;
 /// BLAKE2s with digests of 32 bytes.
 pub type Blake2s256 = Blake2s<U32>;
+/// BLAKE2s with digests of 16 bytes.
+pub type Blake2s128 = Blake2s<U16>;
 /// BLAKE2b's MAC with tags of 64 bytes.
 pub type Blake2bMac512 = Blake2bMac<U64>;
 /// BLAKE2s's MAC with tags of 32 bytes.

@@ -1,9 +1,11 @@
+use core::borrow::Borrow;
 use core::cmp::Ordering;
 use core::hash::{Hash, Hasher};
+use core::str::FromStr;
 use core::{fmt, ops};
 
-use crate::error::check_equal;
-use crate::{library, InvalidArgument};
+use crate::error::{check_equal, check_range};
+use crate::{library, HexError, InvalidArgument};
 
 /// A digest of 1 to 64 bytes.
 ///
@@ -41,6 +43,37 @@ impl Digest {
     /// Returns the bytes.
     pub fn as_bytes(&self) -> &[u8] {
         &self.bytes[..self.size]
+    }
+
+    /// Returns the digest with these hexadecimal digits, two for each byte, in lower or upper case.
+    /// [`FromStr`] does the same. The call does not allocate.
+    ///
+    /// ```
+    /// use vulfsjor::{Blake2s, Digest};
+    ///
+    /// let digest = Blake2s::digest(b"abc");
+    /// assert_eq!(Digest::from_hex(digest.to_hex().as_str())?, digest);
+    /// assert_eq!(format!("{digest:X}").parse::<Digest>()?, digest);
+    /// # Ok::<(), vulfsjor::HexError>(())
+    /// ```
+    ///
+    /// # Errors
+    ///
+    /// [`HexError`] exactly if the text has another number of bytes than an even one from 2 to 128,
+    /// or a byte that is not a hexadecimal digit.
+    pub fn from_hex(digits: impl AsRef<[u8]>) -> Result<Self, HexError> {
+        let digits = digits.as_ref();
+        let length = digits.len();
+        if length % 2 != 0 || !(2..=128).contains(&length) {
+            return Err(HexError::Length(length));
+        }
+        let mut digest = Digest::zeros(length / 2);
+        for (index, &byte) in digits.iter().enumerate() {
+            let digit = char::from(byte).to_digit(16);
+            let digit = digit.ok_or(HexError::Digit { index, byte })?;
+            digest.bytes[index / 2] = digest.bytes[index / 2] << 4 | digit as u8;
+        }
+        Ok(digest)
     }
 
     /// Returns the lower-case hexadecimal digits, two for each byte. The call does not allocate.
@@ -129,7 +162,7 @@ impl PartialEq<[u8]> for Digest {
     fn eq(&self, other: &[u8]) -> bool {
         let bytes = self.as_bytes();
         // Safety: both pointers come from slices of these lengths, and nothing is written.
-        unsafe { library::is_same(bytes.as_ptr(), bytes.len(), other.as_ptr(), other.len()) == 0 }
+        unsafe { library::memcmp(bytes.as_ptr(), bytes.len(), other.as_ptr(), other.len()) == 0 }
     }
 }
 
@@ -186,6 +219,61 @@ impl PartialOrd for Digest {
 impl Hash for Digest {
     fn hash<H: Hasher>(&self, state: &mut H) {
         self.as_bytes().hash(state);
+    }
+}
+
+/// [`Digest::from_hex`].
+impl FromStr for Digest {
+    type Err = HexError;
+
+    fn from_str(digits: &str) -> Result<Self, HexError> {
+        Digest::from_hex(digits)
+    }
+}
+
+/// The digest of these bytes. The error is [`InvalidArgument`], exactly if there are not 1 to 64.
+impl TryFrom<&[u8]> for Digest {
+    type Error = InvalidArgument;
+
+    fn try_from(bytes: &[u8]) -> Result<Self, InvalidArgument> {
+        check_range("the slice's length", bytes.len() as u64, 1, 64)?;
+        let mut digest = Digest::zeros(bytes.len());
+        digest.bytes[..bytes.len()].copy_from_slice(bytes);
+        Ok(digest)
+    }
+}
+
+struct Length<const N: usize>;
+
+impl<const N: usize> Length<N> {
+    const IS_OF_A_DIGEST: () = assert!(N >= 1 && N <= 64, "a digest has 1 to 64 bytes");
+}
+
+/// The digest of these bytes. An array of no bytes or of more than 64 does not compile:
+///
+/// ```
+/// assert_eq!(vulfsjor::Digest::from([1, 2]).as_bytes(), [1, 2]);
+/// ```
+/// ```compile_fail
+/// vulfsjor::Digest::from([0; 65]);
+/// ```
+/// ```compile_fail
+/// vulfsjor::Digest::from([0; 0]);
+/// ```
+impl<const N: usize> From<[u8; N]> for Digest {
+    fn from(bytes: [u8; N]) -> Self {
+        let () = Length::<N>::IS_OF_A_DIGEST;
+        let mut digest = Digest::zeros(N);
+        digest.bytes[..N].copy_from_slice(&bytes);
+        digest
+    }
+}
+
+/// The bytes, which have the same [`Eq`], [`Ord`] and [`Hash`]: a map with digests as keys can be
+/// searched by a slice.
+impl Borrow<[u8]> for Digest {
+    fn borrow(&self) -> &[u8] {
+        self.as_bytes()
     }
 }
 

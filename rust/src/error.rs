@@ -109,6 +109,50 @@ impl From<InvalidArgument> for std::io::Error {
     }
 }
 
+/// The error of text that is not the hexadecimal digits of a digest.
+///
+/// ```
+/// use vulfsjor::{Digest, HexError};
+///
+/// let error = Digest::from_hex("a0b").unwrap_err();
+/// assert_eq!(error, HexError::Length(3));
+/// assert_eq!(error.to_string(), "3 hexadecimal digits, and not an even number from 2 to 128");
+/// let error = "0x".parse::<Digest>().unwrap_err();
+/// assert_eq!(error, HexError::Digit { index: 1, byte: b'x' });
+/// assert_eq!(error.to_string(), "the byte 0x78 at index 1 is not a hexadecimal digit");
+/// ```
+#[derive(Clone, Copy, Debug, PartialEq, Eq, Hash)]
+#[non_exhaustive]
+pub enum HexError {
+    /// The number of bytes in the text is odd, 0 or more than 128.
+    Length(usize),
+    /// A byte of the text is not a hexadecimal digit. It is the first such byte.
+    Digit {
+        /// Its index in the text, from 0.
+        index: usize,
+        /// Its value.
+        byte: u8,
+    },
+}
+
+impl fmt::Display for HexError {
+    fn fmt(&self, f: &mut fmt::Formatter<'_>) -> fmt::Result {
+        match self {
+            HexError::Length(length) => write!(
+                f,
+                "{length} hexadecimal digits, and not an even number from 2 to 128"
+            ),
+            HexError::Digit { index, byte } => write!(
+                f,
+                "the byte {byte:#04x} at index {index} is not a hexadecimal digit"
+            ),
+        }
+    }
+}
+
+#[cfg(feature = "std")]
+impl std::error::Error for HexError {}
+
 /// The error of a tag that is not the message's.
 #[derive(Clone, Copy, Debug, PartialEq, Eq, Hash)]
 pub struct MacError;

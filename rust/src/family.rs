@@ -1,7 +1,7 @@
 use crate::digest::Digest;
 use crate::error::{check_equal, check_range};
 use crate::library::{self, Blake2bState, Blake2sState, Text};
-use crate::params::Limits;
+use crate::params::FamilyLimits;
 use crate::{InvalidArgument, MacError, Params};
 
 // The number of messages that one call of the library gets in `digest_many`. Their pointers are on
@@ -38,9 +38,19 @@ macro_rules! family {
             /// [`InvalidArgument`] exactly if a length or a tree parameter is out of the family's
             /// range.
             pub fn with_params(params: &Params<'_>) -> Result<Self, InvalidArgument> {
-                let Params { output_size, key, salt, persona, tree, last_node } = *params;
+                params.check_key($max)?;
+                let Params { output_size, salt, persona, tree, last_node, .. } = *params;
+                let key = params.key_or_none();
                 library::need_a_build();
                 let mut hasher = $hasher { state: $state::ZEROS };
+                let node = library::Tree {
+                    node_offset: tree.node_offset,
+                    leaf_length: tree.leaf_length,
+                    fanout: tree.fanout,
+                    depth: tree.depth,
+                    node_depth: tree.node_depth,
+                    inner_length: tree.inner_length,
+                };
                 // Safety: the pointers come from slices of these lengths, and none is null. The
                 // state overlaps none of them.
                 let status = unsafe {
@@ -53,12 +63,7 @@ macro_rules! family {
                         salt.len(),
                         persona.as_ptr(),
                         persona.len(),
-                        tree.fanout.into(),
-                        tree.depth.into(),
-                        tree.leaf_length.into(),
-                        tree.node_offset,
-                        tree.node_depth.into(),
-                        tree.inner_length.into(),
+                        &node,
                     )
                 };
                 InvalidArgument::unless_zero(status, || params.check(&$limits))?;
@@ -127,6 +132,7 @@ macro_rules! family {
                 check_equal("digests.len()", digests.len() as u64, messages.len() as u64)?;
                 check_equal("output_size", params.output_size.unwrap_or(N) as u64, N as u64)?;
                 params.check_sequential()?;
+                params.check_key($max)?;
                 let params = &params.output_size(N);
                 if messages.is_empty() {
                     return Self::with_params(params).map(|_| ());
@@ -141,7 +147,8 @@ macro_rules! family {
                 messages: &[impl AsRef<[u8]>],
                 digests: &mut [[u8; N]],
             ) -> Result<(), InvalidArgument> {
-                let Params { key, salt, persona, .. } = *params;
+                let Params { salt, persona, .. } = *params;
+                let key = params.key_or_none();
                 let mut texts = [Text::of(b""); PART];
                 for (text, message) in texts.iter_mut().zip(messages) {
                     *text = Text::of(message.as_ref());
@@ -283,7 +290,7 @@ macro_rules! family {
             /// [`InvalidArgument`] exactly if there is no key, or a length or a tree parameter is
             /// out of the family's range.
             pub fn with_params(params: &Params<'_>) -> Result<Self, InvalidArgument> {
-                check_range("key.len()", params.key.len() as u64, 1, $max)?;
+                check_range("key.len()", params.key_or_none().len() as u64, 1, $max)?;
                 $hasher::with_params(params).map($mac)
             }
 
@@ -359,7 +366,7 @@ family!(
     blake2b,
     Blake2bState,
     64,
-    Limits::BLAKE2B,
+    FamilyLimits::BLAKE2B,
     blake2b,
     blake2b_many,
     blake2b_init_tree,
@@ -381,7 +388,7 @@ family!(
     blake2s,
     Blake2sState,
     32,
-    Limits::BLAKE2S,
+    FamilyLimits::BLAKE2S,
     blake2s,
     blake2s_many,
     blake2s_init_tree,

@@ -141,15 +141,26 @@ impl TreeParams<'_> {
             .map_err(|_| Error::from(ErrorKind::OutOfMemory))?;
         digests.resize(room, 0);
         let hash = |part: &Part, out: &mut [u8], buffer: &mut Vec<u8>| {
-            if part.length > MOST_BUFFER_BYTES {
-                return self.hash_long_leaf(file, part, out, buffer);
-            }
-            buffer.resize(part.length as usize, 0);
-            read_exact_at(file, buffer, part.start)?;
-            Ok(self.leaves(buffer, part.first, part.ends != 0, out)?)
+            self.hash_part(file, part, out, buffer)
         };
         plan.hash(&mut digests, hash, progress)?;
         Ok(self.root_of_leaves(&digests)?)
+    }
+
+    // Writes the digests of the leaves of a part, which is one leaf if it is longer than a buffer.
+    pub(crate) fn hash_part(
+        &self,
+        file: &File,
+        part: &Part,
+        out: &mut [u8],
+        buffer: &mut Vec<u8>,
+    ) -> Result<()> {
+        if part.length > MOST_BUFFER_BYTES {
+            return self.hash_long_leaf(file, part, out, buffer);
+        }
+        buffer.resize(part.length as usize, 0);
+        read_exact_at(file, buffer, part.start)?;
+        Ok(self.leaves(buffer, part.first, part.ends != 0, out)?)
     }
 
     // Writes the digest of a leaf that is longer than a buffer.

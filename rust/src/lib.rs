@@ -214,7 +214,7 @@ mod tree;
 mod tree_params;
 
 pub use digest::{Digest, HexString};
-pub use error::{Bounds, InvalidArgument, MacError};
+pub use error::{Bounds, HexError, InvalidArgument, MacError};
 pub use family::{Blake2b, Blake2bMac, Blake2s, Blake2sMac};
 pub use params::{Params, Tree};
 pub use tree::TreeHasher;

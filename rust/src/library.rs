@@ -51,6 +51,18 @@ impl Text {
     }
 }
 
+// The position of a node in a tree of hashes: `vulfsjor_tree` of the header.
+#[repr(C)]
+#[derive(Clone, Copy)]
+pub(crate) struct Tree {
+    pub(crate) node_offset: u64,
+    pub(crate) leaf_length: u32,
+    pub(crate) fanout: u8,
+    pub(crate) depth: u8,
+    pub(crate) node_depth: u8,
+    pub(crate) inner_length: u8,
+}
+
 // What a plan depends on, a plan and a part of it, as the header has them. All are numbers of
 // bytes, or offsets, except where the names say otherwise.
 #[cfg(feature = "std")]
@@ -283,8 +295,7 @@ macro_rules! functions {
     };
 }
 
-// The functions of the header, in its order. The narrow arguments of `init_tree` are wide here, since
-// Apple's convention packs arguments on the stack and the assembly reads eight bytes for each.
+// The functions of the header. tools/exports.py compares them with it, and the structs above.
 functions! {
     fn blake2b(
         out: *mut u8,
@@ -299,7 +310,7 @@ functions! {
         out_length: usize,
         output_size: usize,
         messages: *const Text,
-        message_count: usize,
+        count: usize,
         key: *const u8,
         key_length: usize,
         salt: *const u8,
@@ -316,12 +327,7 @@ functions! {
         salt_length: usize,
         persona: *const u8,
         persona_length: usize,
-        fanout: u64,
-        depth: u64,
-        leaf_length: u64,
-        node_offset: u64,
-        node_depth: u64,
-        inner_length: u64,
+        tree: &Tree,
     ) -> i32;
     fn blake2b_update(state: &mut Blake2bState, input: *const u8, input_length: usize) -> i32;
     fn blake2b_final(state: &mut Blake2bState, out: *mut u8, out_length: usize) -> i32;
@@ -347,7 +353,7 @@ functions! {
         out_length: usize,
         output_size: usize,
         messages: *const Text,
-        message_count: usize,
+        count: usize,
         key: *const u8,
         key_length: usize,
         salt: *const u8,
@@ -364,12 +370,7 @@ functions! {
         salt_length: usize,
         persona: *const u8,
         persona_length: usize,
-        fanout: u64,
-        depth: u64,
-        leaf_length: u64,
-        node_offset: u64,
-        node_depth: u64,
-        inner_length: u64,
+        tree: &Tree,
     ) -> i32;
     fn blake2s_update(state: &mut Blake2sState, input: *const u8, input_length: usize) -> i32;
     fn blake2s_final(state: &mut Blake2sState, out: *mut u8, out_length: usize) -> i32;
@@ -382,7 +383,7 @@ functions! {
     #[cfg(test)]
     fn blake2s_state_size() -> usize;
 
-    fn is_same(a: *const u8, a_length: usize, b: *const u8, b_length: usize) -> i32;
+    fn memcmp(a: *const u8, a_length: usize, b: *const u8, b_length: usize) -> i32;
 
     fn tree_root(
         out: *mut u8,
@@ -453,7 +454,7 @@ functions! {
         leaf_length: u32,
     ) -> i32;
     #[cfg(feature = "std")]
-    fn tree_accepts(
+    fn tree_check(
         output_size: usize,
         salt_length: usize,
         persona_length: usize,

@@ -4,19 +4,19 @@ use crate::error::{check_equal, check_range};
 use crate::{Blake2b, Blake2s, Digest, InvalidArgument};
 
 // The largest lengths of a family, in bytes, and its last node offset.
-pub(crate) struct Limits {
+pub(crate) struct FamilyLimits {
     output_size: u64, // and of a key and an inner node's digest
     salt: u64,        // and of a persona
     node_offset: u64,
 }
 
-impl Limits {
-    pub(crate) const BLAKE2B: Self = Limits {
+impl FamilyLimits {
+    pub(crate) const BLAKE2B: Self = FamilyLimits {
         output_size: 64,
         salt: 16,
         node_offset: u64::MAX,
     };
-    pub(crate) const BLAKE2S: Self = Limits {
+    pub(crate) const BLAKE2S: Self = FamilyLimits {
         output_size: 32,
         salt: 8,
         node_offset: (1 << 48) - 1,
@@ -76,7 +76,7 @@ impl Default for Tree {
 #[derive(Clone, Copy)]
 pub struct Params<'a> {
     pub(crate) output_size: Option<usize>,
-    pub(crate) key: &'a [u8],
+    pub(crate) key: Option<&'a [u8]>,
     pub(crate) salt: &'a [u8],
     pub(crate) persona: &'a [u8],
     pub(crate) tree: Tree,
@@ -85,10 +85,10 @@ pub struct Params<'a> {
 
 impl<'a> Params<'a> {
     /// Returns parameters for the longest digest of the family, without key, salt and persona.
-    pub fn new() -> Self {
+    pub const fn new() -> Self {
         Params {
             output_size: None,
-            key: b"",
+            key: None,
             salt: b"",
             persona: b"",
             tree: Tree::SEQUENTIAL,
@@ -104,9 +104,14 @@ impl<'a> Params<'a> {
         }
     }
 
-    /// Sets the key: up to 64 bytes for BLAKE2b, up to 32 for BLAKE2s. An empty slice means no key.
+    /// Sets the key: 1 to 64 bytes for BLAKE2b, 1 to 32 for BLAKE2s. A key of no bytes is refused, so
+    /// that a missing key never leaves a hash without one. For a hash without a key, do not call
+    /// this.
     pub fn key(self, key: &'a [u8]) -> Self {
-        Params { key, ..self }
+        Params {
+            key: Some(key),
+            ..self
+        }
     }
 
     /// Sets the salt: up to 16 bytes for BLAKE2b, up to 8 for BLAKE2s. Trailing zeros change
@@ -184,9 +189,21 @@ impl<'a> Params<'a> {
         Ok(self.blake2s()?.update(message).finalize())
     }
 
-    // Why a family with these limits refuses the parameters.
-    pub(crate) fn check(&self, limits: &Limits) -> Result<(), InvalidArgument> {
-        let Limits {
+    // The key, or no bytes if there is none.
+    pub(crate) fn key_or_none(&self) -> &'a [u8] {
+        self.key.unwrap_or(b"")
+    }
+
+    // An error unless there is no key, or one that a family with keys of up to `max` bytes accepts.
+    pub(crate) fn check_key(&self, max: u64) -> Result<(), InvalidArgument> {
+        self.key.map_or(Ok(()), |key| {
+            check_range("key.len()", key.len() as u64, 1, max)
+        })
+    }
+
+    // Why a family with these limits refuses the parameters, whose key it accepts.
+    pub(crate) fn check(&self, limits: &FamilyLimits) -> Result<(), InvalidArgument> {
+        let FamilyLimits {
             output_size: max,
             salt,
             node_offset,
@@ -197,7 +214,6 @@ impl<'a> Params<'a> {
             1,
             max,
         )?;
-        check_range("key.len()", self.key.len() as u64, 0, max)?;
         check_range("salt.len()", self.salt.len() as u64, 0, salt)?;
         check_range("persona.len()", self.persona.len() as u64, 0, salt)?;
         check_range("tree.depth", self.tree.depth.into(), 1, 255)?;
@@ -240,7 +256,7 @@ impl fmt::Debug for Params<'_> {
     fn fmt(&self, f: &mut fmt::Formatter<'_>) -> fmt::Result {
         f.debug_struct("Params")
             .field("output_size", &self.output_size)
-            .field("key_length", &self.key.len())
+            .field("key_length", &self.key.map(<[u8]>::len))
             .field("salt", &self.salt)
             .field("persona", &self.persona)
             .field("tree", &self.tree)

@@ -229,6 +229,38 @@ mod threads {
         assert!(Plan::of_message(1 << 58, 1, &Limits::of(1, u64::MAX)).is_none());
     }
 
+    // Parts of a file with other marks at the same places below 4 GiB, read in one piece and in more.
+    #[cfg(unix)]
+    #[test]
+    fn parts_of_a_file_past_4_gib() {
+        use std::os::unix::fs::FileExt;
+        let path = std::env::temp_dir().join(format!("vulfsjor-{}", std::process::id()));
+        let made = std::fs::OpenOptions::new()
+            .read(true)
+            .write(true)
+            .create_new(true)
+            .open(&path);
+        std::fs::remove_file(&path).unwrap();
+        let (file, start) = (made.unwrap(), (1 << 32) + 7);
+        for length in [100_000, MOST_BUFFER_BYTES, MOST_BUFFER_BYTES + 3] {
+            let mut bytes = vec![0; length as usize];
+            for place in [0, length / 2, length - 1] {
+                file.write_all_at(&[5], start + place).unwrap();
+                file.write_all_at(&[6], (start + place) & 0xffff_ffff)
+                    .unwrap();
+                bytes[place as usize] = 5;
+            }
+            let params = TreeParams::new(1 << 25);
+            let [mut digest, mut wanted] = [[0; 64]; 2];
+            params.leaves(&bytes, 9, true, &mut wanted).unwrap();
+            let mut part = Part::default();
+            (part.first, part.start, part.length, part.ends) = (9, start, length, 1);
+            let hashed = params.hash_part(&file, &part, &mut digest, &mut Vec::new());
+            assert!(hashed.is_ok() && digest == wanted, "{length}");
+            file.set_len(0).unwrap();
+        }
+    }
+
     // The parts in the order in which one thread hashes them: first leaf, bytes, digests, ends.
     fn parts_of(length: usize, leaf_length: u32, threads: usize) -> Vec<(u64, usize, usize, u64)> {
         let (bytes, parts) = (vec![0; length], Mutex::new(Vec::new()));

@@ -254,7 +254,7 @@ impl<'a> TreeParams<'a> {
         let (salt, persona) = (self.salt.len(), self.persona.len());
         // Safety: the call accepts any numbers.
         let status =
-            unsafe { library::tree_accepts(self.output_size, salt, persona, self.leaf_length) };
+            unsafe { library::tree_check(self.output_size, salt, persona, self.leaf_length) };
         InvalidArgument::unless_zero(status, || self.check())
     }
 

@@ -2,7 +2,7 @@
 #![cfg(feature = "std")]
 mod common;
 
-use common::{bytes, cases, lines, Case};
+use common::{bytes, cases, lines, with_key, Case};
 use std::io::Write;
 use vulfsjor::{
     Blake2b, Blake2bMac, Blake2s, Blake2sMac, Digest, MacError, Params, TreeHasher, TreeParams,
@@ -169,7 +169,7 @@ macro_rules! family {
                 let messages: Vec<Vec<u8>> = fields[4].split(',').map(bytes).collect();
                 let is_its = fields[0] == N.to_string();
                 if is_its {
-                    let params = Params::new().key(&key).salt(&salt).persona(&persona);
+                    let params = with_key(Params::new().salt(&salt).persona(&persona), &key);
                     let digests = |params: Params, count: usize| {
                         let mut digests = vec![[0; N]; count];
                         let made = $hasher::digest_many(&params, &messages[..count], &mut digests);

@@ -12,6 +12,15 @@ pub fn bytes(digits: &str) -> Vec<u8> {
         .collect()
 }
 
+/// The parameters with this key, or without one if it has no bytes.
+pub fn with_key<'a>(params: Params<'a>, key: &'a [u8]) -> Params<'a> {
+    if key.is_empty() {
+        params
+    } else {
+        params.key(key)
+    }
+}
+
 /// A hash: its inputs, its tree parameters and last-node flag, and its digest.
 pub struct Case {
     pub size: usize,
@@ -27,13 +36,13 @@ pub struct Case {
 impl Case {
     /// What the hash is made with.
     pub fn params(&self) -> Params<'_> {
-        Params::new()
+        let params = Params::new()
             .output_size(self.size)
-            .key(&self.key)
             .salt(&self.salt)
             .persona(&self.persona)
             .tree(self.tree)
-            .last_node(self.last_node)
+            .last_node(self.last_node);
+        with_key(params, &self.key)
     }
 
     /// Whether it has the longest digest, this many bytes, and nothing but a key.
