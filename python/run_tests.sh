@@ -4,10 +4,11 @@
 #   python/run_tests.sh
 #
 # It runs the unit tests of python/tests in each interpreter that PYTHONS names (python3 and
-# /usr/bin/python3), from 3.11 on, over one module, which the first of them builds that has
-# setuptools and its headers. Tests that do not depend on the interpreter run only in the last of
-# them, which finds Debian's packages, unless VULFSJOR_TEST_HUGE is 1. `python3 -m unittest discover
-# python/tests` does the same in one interpreter. If a tool is missing, its tests are skipped.
+# /usr/bin/python3), from 3.11 on, over one module, which the first of them builds that has its
+# headers. Tests that do not depend on the interpreter run only in the last of them, which finds
+# Debian's packages, unless VULFSJOR_TEST_HUGE is 1; test_interpreters.py looks for other versions by
+# itself. `python3 -m unittest discover python/tests` does the same in one interpreter. If a tool is
+# missing, its tests are skipped.
 set -u
 source "$(dirname "$(readlink -f "$0")")/../tests/tap.sh"
 [ $# -eq 0 ] || { echo "usage: python/run_tests.sh" >&2 && exit 2; }
@@ -16,8 +17,9 @@ export PYTHONDONTWRITEBYTECODE=1 VULFSJOR_PACKAGE=$work/package
 
 interpreters=()
 for each in ${PYTHONS:-python3 /usr/bin/python3}; do
-    full=$("$each" -c 'import sys
-print(sys.executable if sys.version_info >= (3, 11) else "")' 2>/dev/null)
+    full=$("$each" -c 'import sys, sysconfig
+print(sys.executable if sys.version_info >= (3, 11) and
+      not sysconfig.get_config_var("Py_GIL_DISABLED") else "")' 2>/dev/null)
     case " ${interpreters[*]}  " in *" $full "*) ;; *) interpreters+=("$full") ;; esac
 done
 
@@ -45,7 +47,7 @@ skipped_tests() {
 build >"$work/built" 2>&1
 case $? in
     0) pass "the package for Python is built" ;;
-    77) skip "the package for Python" "no cc, or no python3 with setuptools and headers"; finish ;;
+    77) skip "the package for Python" "no cc, or no python3 with headers"; finish ;;
     *) fail "the package for Python is built" "$work/built"; finish ;;
 esac
 for each in "${interpreters[@]}"; do

@@ -28,7 +28,6 @@ typedef struct family {
     int (*end)(void *run, uint8_t *out);
     int (*verify)(void *run, const void *tag, size_t length);
     void (*wipe)(void *run);
-    size_t (*size_of)(const void *run);
     int (*many)(uint8_t *out, size_t size, const messages *m, const Py_buffer *key,
                 const Py_buffer *salt, const Py_buffer *person);
 } family;
@@ -49,7 +48,6 @@ typedef struct family {
         return vulfsjor_##f##_verify(S, t, n);                                                     \
     }                                                                                              \
     static void f##_wipe(void *S) { vulfsjor_##f##_wipe(S); }                                      \
-    static size_t f##_size(const void *S) { return vulfsjor_##f##_digest_size(S); }                \
     static int f##_many(uint8_t *out, size_t o, const messages *m, const Py_buffer *k,             \
                         const Py_buffer *s, const Py_buffer *p) {                                  \
         return vulfsjor_##f##_many(out, o, m->texts, (size_t)m->count, TEXT(k), TEXT(s), TEXT(p)); \
@@ -59,7 +57,7 @@ typedef struct family {
         VULFSJOR_##NAME##_BLOCKBYTES, VULFSJOR_##NAME##_OUTBYTES, VULFSJOR_##NAME##_KEYBYTES,      \
         VULFSJOR_##NAME##_SALTBYTES, VULFSJOR_##NAME##_PERSONALBYTES,                              \
         sizeof(vulfsjor_##f##_state), offset,                                                      \
-        f##_init, f##_last, f##_update, f##_end, f##_verify, f##_wipe, f##_size, f##_many};
+        f##_init, f##_last, f##_update, f##_end, f##_verify, f##_wipe, f##_many};
 FAMILY(blake2b, BLAKE2B, UINT64_MAX)
 FAMILY(blake2s, BLAKE2S, ((uint64_t)1 << 48) - 1)
 
@@ -81,22 +79,24 @@ int view_of(PyObject *data, Py_buffer *view) {
     return -1;
 }
 
-int number_of(PyObject *given, uint64_t *number) {
+int number_of(PyObject *given, const char *name, const char *below, uint64_t *number) {
     int beyond;
     long long small;
     *number = 0;
     if (!given) return 0;
     if (!PyLong_Check(given)) {
-        PyErr_SetString(PyExc_TypeError, "an integer is required");
+        PyErr_Format(PyExc_TypeError, name ? "%s must be an integer" : "an integer is required", name);
         return -1;
     }
     small = PyLong_AsLongLongAndOverflow(given, &beyond);
     if (beyond < 0 || (!beyond && small < 0)) {
-        PyErr_SetString(PyExc_ValueError, "value must be positive");
-    } else {
-        *number = PyLong_AsUnsignedLongLong(given);
+        PyErr_SetString(PyExc_ValueError, below);
+        return -1;
     }
-    return PyErr_Occurred() ? -1 : 0;
+    *number = PyLong_AsUnsignedLongLong(given);
+    if (!PyErr_Occurred()) return 0;
+    if (name) PyErr_Format(PyExc_OverflowError, "%s is too large", name);
+    return -1;
 }
 
 int check(int number, int least, int most, const char *name, const char *unit) {
@@ -133,11 +133,13 @@ typedef union state {
     vulfsjor_blake2s_state s;
 } state;
 
-/* The lock is made at the first update of many bytes. */
+/* With the GIL the lock is made at the first update of many bytes: nothing else lets other threads
+ * run. The size is that of the digest. */
 typedef struct hash {
     PyObject_HEAD
     const family *f;
     PyThread_type_lock lock;
+    Py_ssize_t size;
     state run;
 } hash;
 
@@ -178,16 +180,24 @@ static int take(hash *self, PyObject *data) {
 
 /* A zeroed object. The types have no subclasses, so this and PyObject_Free are their allocator,
  * called without a search for the slot. */
-static hash *empty(PyTypeObject *type, const family *f) {
+static hash *empty(PyTypeObject *type, const family *f, Py_ssize_t size) {
     hash *self = (hash *)PyType_GenericAlloc(type, 0);
-    if (self) self->f = f;
+    if (!self) return NULL;
+    self->f = f;
+    self->size = size;
+#ifdef Py_GIL_DISABLED
+    if (!(self->lock = PyThread_allocate_lock())) {
+        PyErr_NoMemory();
+        Py_CLEAR(self);
+    }
+#endif
     return self;
 }
 
 PyObject *blake2b_of(PyObject *module, const vulfsjor_blake2b_state *run) {
-    PyTypeObject *type = (PyTypeObject *)PyObject_GetAttrString(module, "blake2b");
-    hash *self = type ? empty(type, &blake2b) : NULL;
-    Py_XDECREF((PyObject *)type);
+    classes *own = PyModule_GetState(module);
+    Py_ssize_t size = (Py_ssize_t)vulfsjor_blake2b_digest_size(run);
+    hash *self = empty((PyTypeObject *)own->blake2b, &blake2b, size);
     if (self) self->run.b = *run;
     return (PyObject *)self;
 }
@@ -202,8 +212,10 @@ typedef struct given {
 
 /* Checks the arguments in hashlib's order, and fills in the tree parameters. */
 static int check_given(given *g, const family *f) {
+    const char *below = "value must be positive";
     uint64_t leaf_size;
-    if (number_of(g->leaf, &leaf_size) || number_of(g->offset, &g->tree.node_offset) ||
+    if (number_of(g->leaf, NULL, below, &leaf_size) ||
+        number_of(g->offset, NULL, below, &g->tree.node_offset) ||
         check(g->size, 1, f->out, "digest_size", " bytes") ||
         check_text(&g->salt, f->salt, "salt") || check_text(&g->person, f->person, "person") ||
         check(g->fanout, 0, 255, "fanout", "") || check(g->depth, 1, 255, "depth", "") ||
@@ -243,7 +255,7 @@ static PyObject *make(PyTypeObject *type, PyObject *args, PyObject *words, const
                                             &g.secure)) {
         return NULL;
     }
-    if (!check_given(&g, f)) self = empty(type, f);
+    if (!check_given(&g, f)) self = empty(type, f, g.size);
     if (self && begin(self, &g)) Py_CLEAR(self);
     release(&g.key);
     release(&g.salt);
@@ -281,41 +293,39 @@ static void copy_state(hash *self, state *copied) {
 }
 
 static PyObject *copy(PyObject *object, PyObject *none) {
-    hash *self = (hash *)object, *made = empty(Py_TYPE(object), self->f);
+    hash *self = (hash *)object, *made = empty(Py_TYPE(object), self->f, self->size);
     (void)none;
     if (made) copy_state(self, &made->run);
     return (PyObject *)made;
 }
 
 /* The digest, by a copy of the state, which the call wipes. How many bytes it has. */
-static size_t digest_of(hash *self, uint8_t out[64]) {
+static Py_ssize_t digest_of(hash *self, uint8_t out[64]) {
     state copied;
-    size_t size;
     copy_state(self, &copied);
-    size = self->f->size_of(&copied);
     self->f->end(&copied, out);
-    return size;
+    return self->size;
 }
 
 static PyObject *digest(PyObject *self, PyObject *none) {
     uint8_t out[64];
-    size_t size = digest_of((hash *)self, out);
+    Py_ssize_t size = digest_of((hash *)self, out);
     (void)none;
-    return PyBytes_FromStringAndSize((const char *)out, (Py_ssize_t)size);
+    return PyBytes_FromStringAndSize((const char *)out, size);
 }
 
-PyObject *digits_of(const uint8_t *bytes, size_t length) {
+PyObject *digits_of(const uint8_t *bytes, Py_ssize_t length) {
     char digits[128];
-    for (size_t i = 0; i < length; i++) {
+    for (Py_ssize_t i = 0; i < length; i++) {
         digits[2 * i] = "0123456789abcdef"[bytes[i] >> 4];
         digits[2 * i + 1] = "0123456789abcdef"[bytes[i] & 15];
     }
-    return PyUnicode_FromStringAndSize(digits, (Py_ssize_t)(2 * length));
+    return PyUnicode_FromStringAndSize(digits, 2 * length);
 }
 
 static PyObject *hexdigest(PyObject *self, PyObject *none) {
     uint8_t out[64];
-    size_t size = digest_of((hash *)self, out);
+    Py_ssize_t size = digest_of((hash *)self, out);
     (void)none;
     return digits_of(out, size);
 }
@@ -344,7 +354,7 @@ static PyObject *block_of(PyObject *self, void *none) {
 
 static PyObject *size_of(PyObject *self, void *none) {
     (void)none;
-    return PyLong_FromSize_t(((hash *)self)->f->size_of(&((hash *)self)->run));
+    return PyLong_FromSsize_t(((hash *)self)->size);
 }
 
 static PyMethodDef methods[] = {
@@ -421,6 +431,30 @@ static PyObject *digests_of(const messages *m, const given *g, const family *f) 
     return list;
 }
 
+/* Whether this is one message, and not several: a string, or a buffer of single bytes. */
+static int is_one(PyObject *data) {
+    const char *kind;
+    Py_buffer view;
+    int is_one;
+    if (PyUnicode_Check(data)) return 1;
+    if (!PyObject_CheckBuffer(data)) return 0;
+    if (PyObject_GetBuffer(data, &view, PyBUF_FULL_RO)) {
+        PyErr_Clear(); /* its items may be messages all the same */
+        return 0;
+    }
+    kind = view.format ? view.format + strspn(view.format, "<>=@!") : "B";
+    is_one = view.ndim == 1 && strchr("Bbc", *kind);
+    PyBuffer_Release(&view);
+    return is_one;
+}
+
+/* The messages as a tuple. */
+static PyObject *tuple_of(PyObject *data) {
+    if (is_one(data))
+        return refused(PyExc_TypeError, "messages must be several, such as a list of bytes, not one");
+    return PySequence_Tuple(data);
+}
+
 static PyObject *digests_of_tuple(PyObject *tuple, const given *g, const family *f) {
     PyObject *list = NULL;
     messages held;
@@ -439,7 +473,7 @@ static PyObject *many(PyObject *args, PyObject *words, const family *f, const ch
     if (!check(g.size, 1, f->out, "digest_size", " bytes") &&
         !check_text(&g.salt, f->salt, "salt") && !check_text(&g.person, f->person, "person") &&
         !check_text(&g.key, f->key, "key"))
-        tuple = PySequence_Tuple(g.data);
+        tuple = tuple_of(g.data);
     if (tuple) list = digests_of_tuple(tuple, &g, f);
     Py_XDECREF(tuple);
     release(&g.key);
@@ -498,7 +532,7 @@ static int refuse(PyObject *type, PyObject *name, PyObject *value) {
 static PyType_Slot slots_of_types[] = {{Py_tp_setattro, refuse}, {0, NULL}};
 static PyType_Spec spec_of_types = {"vulfsjor._type", 0, 0, Py_TPFLAGS_DEFAULT, slots_of_types};
 
-/* The next four: 0, or -1 with an exception. */
+/* The next two: 0, or -1 with an exception. */
 static int set_number(PyObject *at, const char *prefix, const char *name, long number) {
     char whole[64];
     PyObject *object = PyLong_FromLong(number);
@@ -519,23 +553,22 @@ static int set_numbers(PyObject *at, const char *prefix, const family *f) {
     return failed ? -1 : 0;
 }
 
-static int add_family(PyObject *module, PyObject *type_of_types, PyType_Spec *spec, const family *f,
-                      const char *prefix) {
+/* Returns the class, or NULL with an exception. */
+static PyObject *add_family(PyObject *module, PyObject *type_of_types, PyType_Spec *spec,
+                            const family *f, const char *prefix) {
     PyObject *type = PyType_FromModuleAndSpec(module, spec, NULL);
-    int status;
-    if (!type) return -1;
-    status = set_numbers(type, "", f);
-    if (!status) {
-        Py_INCREF(type_of_types); /* the class before, `type`, is static, and counts no instances */
-        Py_SET_TYPE(type, (PyTypeObject *)type_of_types);
-        status =
-            PyModule_AddObjectRef(module, f->name, type) || set_numbers(module, prefix, f) ? -1 : 0;
+    if (!type || set_numbers(type, "", f)) {
+        Py_XDECREF(type);
+        return NULL;
     }
-    Py_DECREF(type);
-    return status;
+    Py_INCREF(type_of_types); /* the class before, `type`, is static, and counts no instances */
+    Py_SET_TYPE(type, (PyTypeObject *)type_of_types);
+    if (PyModule_AddObjectRef(module, f->name, type) || set_numbers(module, prefix, f))
+        Py_CLEAR(type);
+    return type;
 }
 
-/* The version of the library that is inside. */
+/* The version of the library that is inside: 0, or -1 with an exception. */
 static int add_version(PyObject *module) {
     uint32_t version = vulfsjor_version();
     PyObject *text =
@@ -569,19 +602,47 @@ static int ask_processor(PyObject *module) {
 
 static int fill(PyObject *module) {
     PyObject *types = PyType_FromSpecWithBases(&spec_of_types, (PyObject *)&PyType_Type);
+    classes *own = PyModule_GetState(module);
     int failed;
     if (!types) return -1;
-    failed = add_family(module, types, &spec_b, &blake2b, "BLAKE2B_") ||
-             add_family(module, types, &spec_s, &blake2s, "BLAKE2S_") || add_version(module) ||
-             PyModule_AddFunctions(module, tree_functions) || add_tree_types(module);
+    failed = !(own->blake2b = add_family(module, types, &spec_b, &blake2b, "BLAKE2B_"));
+    if (!failed) {
+        PyObject *other = add_family(module, types, &spec_s, &blake2s, "BLAKE2S_");
+        failed = !other || add_version(module) || PyModule_AddFunctions(module, tree_functions) ||
+                 add_tree_types(module);
+        Py_XDECREF(other);
+    }
     Py_DECREF(types);
     return failed ? -1 : 0;
 }
 
-static PyModuleDef_Slot module_slots[] = {
-    {Py_mod_exec, ask_processor}, {Py_mod_exec, fill}, {0, NULL}};
-static PyModuleDef module = {
-    PyModuleDef_HEAD_INIT, "vulfsjor._library", "The functions of the package vulfsjor, in C.", 0,
-    functions, module_slots, NULL, NULL, NULL};
+static int visit_classes(PyObject *module, visitproc visit, void *arg) {
+    classes *own = PyModule_GetState(module);
+    Py_VISIT(own->blake2b);
+    Py_VISIT(own->plain);
+    return 0;
+}
 
-PyMODINIT_FUNC PyInit__library(void) { return PyModuleDef_Init(&module); }
+static int clear_classes(PyObject *module) {
+    classes *own = PyModule_GetState(module);
+    Py_CLEAR(own->blake2b);
+    Py_CLEAR(own->plain);
+    return 0;
+}
+
+static void free_classes(void *module) { clear_classes(module); }
+
+/* The first two say that the module runs without the GIL, which Python knows from 3.13 on, and in
+ * interpreters with a GIL each, from 3.12 on. They have their numbers here, since the limited API
+ * of 3.11 has no names for them, and an earlier Python refuses them. */
+static PyModuleDef_Slot module_slots[] = {
+    {4, (void *)1}, {3, (void *)2}, {Py_mod_exec, ask_processor}, {Py_mod_exec, fill}, {0, NULL}};
+static PyModuleDef module = {
+    PyModuleDef_HEAD_INIT, "vulfsjor._library", "The functions of the package vulfsjor, in C.",
+    sizeof(classes), functions, NULL, visit_classes, clear_classes, free_classes};
+
+/* Every interpreter that loads the module writes the same pointer. */
+PyMODINIT_FUNC PyInit__library(void) {
+    module.m_slots = module_slots + (Py_Version < 0x030d0000) + (Py_Version < 0x030c0000);
+    return PyModuleDef_Init(&module);
+}

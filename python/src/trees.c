@@ -12,8 +12,9 @@ typedef struct given {
 
 /* Checks the parameters, in the order of hashlib, and fills in the length of the leaves. */
 static int check_given(given *g) {
+    const char *range = "leaf_size must be between 1 and 4294967295";
     uint64_t leaf_size;
-    if (number_of(g->leaf, &leaf_size) ||
+    if (number_of(g->leaf, "leaf_size", range, &leaf_size) ||
         check(g->size, 1, VULFSJOR_BLAKE2B_OUTBYTES, "digest_size", " bytes") ||
         check_text(&g->salt, VULFSJOR_BLAKE2B_SALTBYTES, "salt") ||
         check_text(&g->person, VULFSJOR_BLAKE2B_PERSONALBYTES, "person") ||
@@ -21,8 +22,13 @@ static int check_given(given *g) {
         return -1;
     g->leaf_length = (uint32_t)leaf_size;
     if (leaf_size) return 0;
-    PyErr_SetString(PyExc_ValueError, "leaf_size must be between 1 and 4294967295");
+    PyErr_SetString(PyExc_ValueError, range);
     return -1;
+}
+
+/* The number of a leaf. */
+static int first_of(PyObject *first, uint64_t *number) {
+    return number_of(first, "first", "first must be 0 or more", number);
 }
 
 static void release_given(given *g) {
@@ -99,7 +105,7 @@ static PyObject *tree_leaves(PyObject *module, PyObject *args, PyObject *words) 
     if (!first || ends < 0)
         PyErr_SetString(PyExc_TypeError,
                         "tree_leaves() requires the keyword arguments first and ends");
-    else if (!check_given(&g) && !number_of(first, &first_leaf) && !view_of(g.data, &view)) {
+    else if (!check_given(&g) && !first_of(first, &first_leaf) && !view_of(g.data, &view)) {
         digests = digests_of(&g, &view, first_leaf, ends);
         PyBuffer_Release(&view);
     }
@@ -144,7 +150,8 @@ static PyObject *tree_leaf_count(PyObject *module, PyObject *args, PyObject *wor
     (void)module;
     if (!PyArg_ParseTupleAndKeywords(args, words, "OO:tree_leaf_count", names, &g.data, &g.leaf))
         return NULL;
-    if (number_of(g.data, &length) || check_given(&g)) return NULL;
+    if (number_of(g.data, "length", "length must be 0 or more", &length) || check_given(&g))
+        return NULL;
     return PyLong_FromUnsignedLongLong(vulfsjor_tree_leaf_count(length, g.leaf_length));
 }
 
@@ -160,7 +167,7 @@ static PyObject *tree_leaf(PyObject *module, PyObject *args, PyObject *words) {
     if (!PyArg_ParseTupleAndKeywords(args, words, "OOp|$y*y*:tree_leaf", names, &g.leaf, &first,
                                      &ends, &g.salt, &g.person))
         return NULL;
-    if (!check_given(&g) && !number_of(first, &place)) {
+    if (!check_given(&g) && !first_of(first, &place)) {
         vulfsjor_tree_init_leaf(&run, place, ends, TEXT(&g.salt), TEXT(&g.person), g.leaf_length);
         leaf = blake2b_of(module, &run);
     }
@@ -235,9 +242,8 @@ typedef struct plain {
 } plain;
 
 static PyObject *make_plain(PyObject *module, PyObject *data) {
-    PyTypeObject *type = (PyTypeObject *)PyObject_GetAttrString(module, "_PlainBytes");
-    plain *self = type ? (plain *)PyType_GenericAlloc(type, 0) : NULL;
-    Py_XDECREF((PyObject *)type);
+    classes *own = PyModule_GetState(module);
+    plain *self = (plain *)PyType_GenericAlloc((PyTypeObject *)own->plain, 0);
     if (self && view_of(data, &self->view)) {
         self->view.obj = NULL;
         Py_CLEAR(self);
@@ -306,15 +312,18 @@ PyMethodDef tree_functions[] = {
 typedef struct tree {
     PyObject_HEAD
     PyThread_type_lock lock;
-    Py_ssize_t leaf_size;
+    Py_ssize_t leaf_size, digest_size;
     vulfsjor_tree_state run;
 } tree;
 
-/* A zeroed object with a lock. */
-static tree *empty(PyTypeObject *type) {
+/* An object with a lock and a zeroed state. */
+static tree *empty(PyTypeObject *type, Py_ssize_t leaf_size, Py_ssize_t digest_size) {
     allocfunc allocate = (allocfunc)PyType_GetSlot(type, Py_tp_alloc);
     tree *self = (tree *)allocate(type, 0);
-    if (self && !(self->lock = PyThread_allocate_lock())) {
+    if (!self) return NULL;
+    self->leaf_size = leaf_size;
+    self->digest_size = digest_size;
+    if (!(self->lock = PyThread_allocate_lock())) {
         PyErr_NoMemory();
         Py_CLEAR(self);
     }
@@ -328,11 +337,9 @@ static PyObject *make(PyTypeObject *type, PyObject *args, PyObject *words) {
     if (!PyArg_ParseTupleAndKeywords(args, words, "O|$iy*y*:TreeHasher", names, &g.leaf, &g.size,
                                      &g.salt, &g.person))
         return NULL;
-    if (!check_given(&g) && (self = empty(type))) {
-        self->leaf_size = g.leaf_length;
+    if (!check_given(&g) && (self = empty(type, g.leaf_length, g.size)))
         vulfsjor_tree_init(&self->run, (size_t)g.size, TEXT(&g.salt), TEXT(&g.person),
                            g.leaf_length);
-    }
     release_given(&g);
     return (PyObject *)self;
 }
@@ -448,7 +455,7 @@ static PyObject *next_leaves(PyObject *object, PyObject *args, PyObject *words) 
     Py_buffer view;
     uint64_t skipped;
     if (!PyArg_ParseTupleAndKeywords(args, words, "O|O:next_leaves", names, &data, &skip) ||
-        number_of(skip, &skipped) || view_of(data, &view))
+        number_of(skip, "skip", "skip must be 0 or more", &skipped) || view_of(data, &view))
         return NULL;
     copy_state((tree *)object, &copied);
     digests = hash_next(&copied, skipped, &view);
@@ -461,13 +468,16 @@ static PyObject *next_leaves(PyObject *object, PyObject *args, PyObject *words) 
  * worked on a copy. */
 static PyObject *replace(PyObject *object, PyObject *args) {
     tree *self = (tree *)object, *other;
+    vulfsjor_tree_state copied;
     unsigned long long count;
     int is_same;
     if (!PyArg_ParseTuple(args, "O!K:_replace", Py_TYPE(object), &other, &count)) return NULL;
+    copy_state(other, &copied);
     take_lock(self->lock);
     is_same = vulfsjor_tree_count(&self->run) == count;
-    if (is_same) self->run = other->run;
+    if (is_same) self->run = copied;
     leave_lock(self->lock);
+    vulfsjor_tree_wipe(&copied);
     if (!is_same)
         return refused(PyExc_RuntimeError, "another thread has updated the hasher meanwhile");
     Py_RETURN_NONE;
@@ -489,40 +499,36 @@ static PyObject *plan(PyObject *object, PyObject *args) {
 }
 
 static PyObject *copy(PyObject *object, PyObject *none) {
-    tree *self = (tree *)object, *made = empty(Py_TYPE(object));
+    tree *self = (tree *)object, *made = empty(Py_TYPE(object), self->leaf_size, self->digest_size);
     (void)none;
-    if (!made) return NULL;
-    made->leaf_size = self->leaf_size;
-    copy_state(self, &made->run);
+    if (made) copy_state(self, &made->run);
     return (PyObject *)made;
 }
 
 /* The root, by a copy of the state, which the call wipes. Returns the number of its bytes. */
-static size_t digest_of(tree *self, uint8_t out[64]) {
+static Py_ssize_t digest_of(tree *self, uint8_t out[64]) {
     vulfsjor_tree_state copied;
-    size_t size;
     copy_state(self, &copied);
-    size = vulfsjor_tree_digest_size(&copied);
-    return vulfsjor_tree_final(&copied, out, 64) ? 0 : size;
+    return vulfsjor_tree_final(&copied, out, 64) ? 0 : self->digest_size;
 }
 
 static PyObject *digest(PyObject *self, PyObject *none) {
     uint8_t out[64];
-    size_t size = digest_of((tree *)self, out);
+    Py_ssize_t size = digest_of((tree *)self, out);
     (void)none;
-    return PyBytes_FromStringAndSize((const char *)out, (Py_ssize_t)size);
+    return PyBytes_FromStringAndSize((const char *)out, size);
 }
 
 static PyObject *hexdigest(PyObject *self, PyObject *none) {
     uint8_t out[64];
-    size_t size = digest_of((tree *)self, out);
+    Py_ssize_t size = digest_of((tree *)self, out);
     (void)none;
     return digits_of(out, size);
 }
 
 static PyObject *digest_size(PyObject *self, void *none) {
     (void)none;
-    return PyLong_FromSize_t(vulfsjor_tree_digest_size(&((tree *)self)->run));
+    return PyLong_FromSsize_t(((tree *)self)->digest_size);
 }
 
 static PyObject *leaf_size(PyObject *self, void *none) {
@@ -530,9 +536,14 @@ static PyObject *leaf_size(PyObject *self, void *none) {
     return PyLong_FromSsize_t(((tree *)self)->leaf_size);
 }
 
-static PyObject *count(PyObject *self, void *none) {
+static PyObject *count(PyObject *object, void *none) {
+    tree *self = (tree *)object;
+    uint64_t bytes;
     (void)none;
-    return PyLong_FromUnsignedLongLong(vulfsjor_tree_count(&((tree *)self)->run));
+    take_lock(self->lock);
+    bytes = vulfsjor_tree_count(&self->run);
+    leave_lock(self->lock);
+    return PyLong_FromUnsignedLongLong(bytes);
 }
 
 static PyMethodDef methods[] = {
@@ -581,15 +592,11 @@ static PyType_Slot slots[] = {
 static PyType_Spec spec = {"vulfsjor.TreeHasher", sizeof(tree), 0,
                            Py_TPFLAGS_DEFAULT | Py_TPFLAGS_BASETYPE, slots};
 
-static int add_type(PyObject *module, PyType_Spec *spec, const char *name) {
-    PyObject *type = PyType_FromModuleAndSpec(module, spec, NULL);
-    int status = type ? PyModule_AddObjectRef(module, name, type) : -1;
-    Py_XDECREF(type);
-    return status;
-}
-
 int add_tree_types(PyObject *module) {
-    int failed =
-        add_type(module, &spec, "TreeHasher") || add_type(module, &plain_spec, "_PlainBytes");
-    return failed ? -1 : 0;
+    classes *own = PyModule_GetState(module);
+    PyObject *type = PyType_FromModuleAndSpec(module, &spec, NULL);
+    int status = type ? PyModule_AddObjectRef(module, "TreeHasher", type) : -1;
+    Py_XDECREF(type);
+    if (!status) own->plain = PyType_FromModuleAndSpec(module, &plain_spec, NULL);
+    return own->plain ? 0 : -1;
 }

@@ -1,5 +1,5 @@
 #!/usr/bin/env python3
-"""What the tests share: the package, and copies of its sources.
+"""What the tests share, and the package.
 
 The tests import the package from the folder VULFSJOR_PACKAGE. If that is not set, they build it
 first, in a folder that is removed when they end.
@@ -16,12 +16,12 @@ import sys
 import sysconfig
 import tempfile
 import unittest
+import zipfile
 
 HERE = os.path.dirname(os.path.abspath(__file__))
 TOP = os.path.dirname(os.path.dirname(HERE))
-COPIES = ("vulfsjor.h", "choose.c", "calls.h", *(
-    f"{folder}{system}/vulfsjor{build}.s" for system in ("", "-macos", "-windows")
-    for folder, build in (("aarch64", ""), ("x86_64", "-v2"), ("x86_64", "-v3"), ("x86_64", "-v4"))))
+WITHOUT_GIL = bool(sysconfig.get_config_var("Py_GIL_DISABLED"))
+BACKEND = os.path.join(TOP, "python", "build_package.py")
 
 
 def absent(*modules, tools=()):
@@ -40,7 +40,7 @@ def cannot_build():
     if sys.version_info < (3, 11):
         return "no Python 3.11"
     header = os.path.join(sysconfig.get_path("include"), "Python.h")
-    return absent("setuptools", tools=["cc"]) or ("" if os.path.exists(header) else "no Python.h")
+    return absent(tools=["cc"]) or ("" if os.path.exists(header) else "no Python.h")
 
 
 def run(*words, **named):
@@ -49,26 +49,16 @@ def run(*words, **named):
                           check=False, **named)
 
 
-def copy_sources(folder):
-    """Copies the part of the repository that the package is built from, as a clone has it, and
-    returns the folder of the package."""
-    for name in ("c", "dist", "python"):
-        shutil.copytree(os.path.join(TOP, name), os.path.join(folder, name),
-                        ignore=shutil.ignore_patterns("build", "*.egg-info", "__pycache__"))
-    for name in COPIES:
-        path = os.path.join(folder, "python", "src", name)
-        if os.path.exists(path):
-            os.remove(path)
-    return os.path.join(folder, "python")
-
-
-def build(folder, **environment):
-    """Builds the package in a folder, from a copy of the sources, and without a warning of the
-    compiler. Returns what setup.py has printed and its status."""
-    with tempfile.TemporaryDirectory() as source:
-        flags = f"-Werror {environment.pop('CFLAGS', '')}"
-        return run(sys.executable, "setup.py", "build", "--build-lib", folder,
-                   cwd=copy_sources(source), env={**os.environ, "CFLAGS": flags, **environment})
+def build(folder, python=sys.executable, **environment):
+    """Builds the package in a folder, without a warning of the compiler. Returns what the build has
+    printed and its status."""
+    flags = f"-Werror {environment.pop('CFLAGS', '')}"
+    with tempfile.TemporaryDirectory() as made:
+        done = run(python, BACKEND, "wheel", made, env={**os.environ, "CFLAGS": flags, **environment})
+        for name in os.listdir(made):
+            with zipfile.ZipFile(os.path.join(made, name)) as wheel:
+                wheel.extractall(folder)
+    return done
 
 
 def package():
@@ -80,7 +70,7 @@ def package():
         atexit.register(shutil.rmtree, folder)
         done = build(folder)
         if done.returncode:
-            raise RuntimeError(f"setup.py failed:\n{done.stdout}")
+            raise RuntimeError(f"building failed:\n{done.stdout}")
         os.environ["VULFSJOR_PACKAGE"] = folder
     return os.path.abspath(os.environ["VULFSJOR_PACKAGE"])
 

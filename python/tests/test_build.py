@@ -1,51 +1,59 @@
-"""Tests of setup.py and of what it builds: the module, a source distribution, a wheel, and the
-module for 64-bit ARM and on processors that qemu emulates."""
+"""Tests of build_package.py and of what it builds: the module, a source distribution, a wheel, and
+the module for 64-bit ARM and on processors that qemu emulates."""
+import base64
 import concurrent.futures
+import email
 import glob
+import hashlib
 import os
 import platform
 import re
+import resource
 import shutil
 import struct
 import sys
 import sysconfig
 import tarfile
 import tempfile
+import tomllib
 import unittest
+import zipfile
 
 import support
-from support import FOLDER, HERE, TOP, absent, copy_sources, run
+from support import FOLDER, HERE, TOP, absent, run
 
 MODULE = os.path.join(FOLDER, "vulfsjor", "_library.abi3.so")
 PACKAGE = {"__init__.py", "_library.abi3.so", "_library.pyi", "_threads.py", "py.typed"}
 X86 = platform.machine() == "x86_64"
 with open(os.path.join(TOP, "CHANGELOG.md"), encoding="utf-8") as PAGE:
     VERSION = re.search(r"^## ([0-9.]+)", PAGE.read(), re.MULTILINE)[1]
-SOURCES = {os.path.join("src", name): os.path.join(
-               "..", "c/include" if name == "vulfsjor.h" else "dist" if name[-1] == "s" else "c", name)
-           for name in support.COPIES}
+ABOUT = f"vulfsjor-{VERSION}.dist-info"
+# The files that the package shares with the repository, by their names in a source distribution.
+SHARED = {"src/vulfsjor.h": "c/include/vulfsjor.h", "src/choose.c": "c/choose.c",
+          "src/calls.h": "c/calls.h", **{
+              f"src/{folder}{system}/vulfsjor{build}.s": f"dist/{folder}{system}/vulfsjor{build}.s"
+              for system in ("", "-macos", "-windows") for folder, build in (
+                  ("aarch64", ""), ("x86_64", "-v2"), ("x86_64", "-v3"), ("x86_64", "-v4"))}}
+# A compiler that writes its words to the file that it should make.
+FAKE = """#!/bin/sh
+for word; do [ "$last" = -o ] && made=$word; last=$word; done
+printf '%s\\n' "$@" >"$made"
+"""
 
 
 class Test(unittest.TestCase):
-    """A test with a folder, and a copy of the sources if it asks for one."""
+    """A test with a folder."""
 
     def setUp(self):
         held = tempfile.TemporaryDirectory()
         self.addCleanup(held.cleanup)
         self.folder = held.name
 
-    def copied(self, name="clone"):
-        """The folder of the package in a new copy of the sources."""
-        return copy_sources(os.path.join(self.folder, name))
-
     def succeeds(self, *words, **named):
         """Runs a program, whose status is 0, and returns what it prints."""
         done = run(*words, **named)
         self.assertEqual(done.returncode, 0, done.stdout)
         return done.stdout
-
-    def setup(self, folder, *words):
-        return self.succeeds(sys.executable, "setup.py", *words, cwd=folder)
 
     def compares(self, folder, *prefix, calls):
         """The package in a folder returns what hashlib does."""
@@ -69,140 +77,253 @@ class Module(Test):
         self.assertLessEqual(newest, (14,) if X86 else (17,))
 
 
-class Setup(Test):
-    """setup.py, which copies files of c/ and dist/."""
+class Build(Test):
+    """build_package.py, in copies of the repository."""
 
     def setUp(self):
         super().setUp()
         if support.cannot_build():
             self.skipTest(support.cannot_build())
 
-    def refused(self, folder, *words, **environment):
-        """What setup.py prints when it ends with status 1."""
-        done = run(sys.executable, "setup.py", *words, cwd=folder,
-                   env={**os.environ, **environment})
+    def copied(self, name):
+        """The folder of the package in a new copy of the sources."""
+        folder = os.path.join(self.folder, name)
+        for part in ("c", "dist", "python"):
+            shutil.copytree(os.path.join(TOP, part), os.path.join(folder, part),
+                            ignore=shutil.ignore_patterns("__pycache__", "*.so"))
+        return os.path.join(folder, "python")
+
+    def words(self, call, folder, environment):
+        """The command that makes a wheel or a source distribution in self.folder, and its
+        environment."""
+        return ([sys.executable, os.path.join(folder, "build_package.py"), call, self.folder],
+                {**os.environ, **environment})
+
+    def made(self, call, folder, **environment):
+        """The path of a new wheel or source distribution."""
+        words, env = self.words(call, folder, environment)
+        return os.path.join(self.folder, self.succeeds(*words, env=env).splitlines()[-1])
+
+    def refused(self, folder=os.path.join(TOP, "python"), prefix="", **environment):
+        """What a build prints last when it ends with status 1, with lines of Python before it."""
+        words, env = self.words("wheel", folder, environment)
+        words[1:2] = ["-c", f"import runpy, sys, sysconfig\nsys.argv[0] = {words[1]!r}\n{prefix}\n"
+                      "runpy.run_path(sys.argv[0], run_name='__main__')"]
+        done = run(*words, env=env)
         self.assertEqual(done.returncode, 1, done.stdout)
         return done.stdout.splitlines()[-1]
 
+    def fake(self, name="fake compiler"):
+        """The path of a compiler that writes its words to the file that it should make."""
+        path = os.path.join(self.folder, name)
+        with open(path, "w", encoding="utf-8", opener=lambda *at: os.open(*at, 0o755)) as file:
+            file.write(FAKE)
+        return path
+
     def test_other_platforms(self):
+        for name in ("linux-s390x", "macosx-11.0-universal2", "linux-x86_64x", "win32"):
+            self.assertEqual(
+                self.refused(_PYTHON_HOST_PLATFORM=name),
+                "build_package.py: vulfsjor is assembly for Linux, macOS and Windows on x86-64 and "
+                f"on 64-bit ARM, and has none for {name}")
+
+    def test_what_is_missing(self):
+        said = "build_package.py: there is no C compiler{}: install GCC{}, or set CC"
+        self.assertEqual(self.refused(PATH=""), said.format("", " or Clang"))
+        self.assertEqual(self.refused(CC="absent -x"), said.format(" absent -x", " or Clang"))
+        self.assertEqual(self.refused(PATH="", _PYTHON_HOST_PLATFORM="win-amd64"),
+                         said.format("", " of MinGW-w64"))
+        self.assertEqual(self.refused(CC=self.fake("CL.exe"), _PYTHON_HOST_PLATFORM="win-amd64"),
+                         "build_package.py: MSVC cannot assemble the code of vulfsjor: set CC to the "
+                         "GCC of MinGW-w64")
+        self.assertEqual(self.refused(CC="false"), "build_package.py: the compiler failed")
         self.assertEqual(
-            self.refused(self.copied(), "build", _PYTHON_HOST_PLATFORM="linux-s390x"),
-            "setup.py: vulfsjor is assembly for Linux, macOS and Windows on x86-64 and on 64-bit "
-            "ARM, and has none for linux-s390x")
+            self.refused(prefix="sysconfig.get_path = lambda name: '/absent'"),
+            "build_package.py: the compiler failed: Python.h is missing; install the headers, such "
+            "as Debian's python3-dev")
+        self.assertEqual(self.refused(prefix="sys.version_info = (3, 10, 9)"),
+                         "build_package.py: vulfsjor needs CPython 3.11 or later")
+        self.assertEqual(self.refused(prefix="sys.argv[1:] = ['wheel']"),
+                         "usage: build_package.py wheel|sdist FOLDER")
 
-    def test_the_texts_of_a_platform(self):
-        """Those that setup.py gives to the compiler, which is replaced by echo."""
+    def test_the_words_of_a_platform(self):
+        """Those that the compiler gets, and the name of the wheel."""
         levels = ["vulfsjor-v2.s", "vulfsjor-v3.s", "vulfsjor-v4.s"]
-        folder = self.copied()
-        for name, wanted, names in (
-                ("linux-x86_64", "x86_64", levels), ("linux-aarch64", "aarch64", ["vulfsjor.s"]),
-                ("macosx-10.13-x86_64", "x86_64-macos", levels),
-                ("macosx-11.0-arm64", "aarch64-macos", ["vulfsjor.s"]),
-                ("mingw_x86_64_ucrt_gnu", "x86_64-windows", levels),
-                ("mingw_x86_64", "x86_64-windows", levels), ("win-amd64", "x86_64-windows", levels),
-                ("win-arm64", "aarch64-windows", ["vulfsjor.s"])):
-            told = self.succeeds(
-                sys.executable, "setup.py", "build", "-f", "-b", os.path.join(self.folder, name),
-                cwd=folder, env={**os.environ, "_PYTHON_HOST_PLATFORM": name, "CC": "echo",
-                                 "LDSHARED": "echo"})
-            self.assertEqual(sorted(set(re.findall(r" -c (src/\S+\.s) ", told))),
-                             [f"src/{wanted}/{it}" for it in names], name)
-            self.assertEqual("relro" in told, name.startswith("linux"), name)
-        self.assertIn("has none for macosx-11.0-universal2", self.refused(
-            folder, "build", _PYTHON_HOST_PLATFORM="macosx-11.0-universal2"))
-
-    def test_msvc_is_refused(self):
-        self.assertRegex(
-            self.refused(self.copied(), "build", "--compiler=msvc",
-                         _PYTHON_HOST_PLATFORM="win-amd64"), "MSVC cannot assemble")
-
-    def test_old_copies_are_never_used(self):
-        folder = self.copied()
-        for what in ("absent", "the same", "old"):
-            if what == "old":
-                for copy in SOURCES:
-                    with open(os.path.join(folder, copy), "a", encoding="utf-8") as file:
-                        file.write("old\n")
-            self.setup(folder, "--version")
-            for copy, source in SOURCES.items():
-                path = os.path.join(folder, copy)
-                with open(path, "rb") as ours, open(os.path.join(folder, source), "rb") as theirs:
-                    self.assertEqual(ours.read(), theirs.read(), (what, copy))
-                if what == "absent":  # a copy that is right is not written again
-                    os.utime(path, (10**9, 10**9))
-                self.assertEqual(os.stat(path).st_mtime == 10**9, what != "old", (what, copy))
+        fake, linux = f"'{self.fake()}' -x", "-shared -Wl,--gc-sections -Wl,-z,relro,-z,now"
+        mac = "-bundle -undefined dynamic_lookup -Wl,-dead_strip -arch {} -mmacosx-version-min={}"
+        windows = f"-shared -L{sys.base_prefix}/libs -L{sys.base_prefix}/lib"
+        for name, wanted, names, options in (
+                ("linux-x86_64", "x86_64", levels, f"-fPIC {linux}"),
+                ("linux-aarch64", "aarch64", ["vulfsjor.s"], f"-fPIC {linux}"),
+                ("macosx-10.13-x86_64", "x86_64-macos", levels, mac.format("x86_64", "10.13")),
+                ("macosx-11.0-arm64", "aarch64-macos", ["vulfsjor.s"], mac.format("arm64", "11.0")),
+                ("mingw_x86_64_ucrt_gnu", "x86_64-windows", levels, windows),
+                ("win-amd64", "x86_64-windows", levels, windows),
+                ("win-arm64", "aarch64-windows", ["vulfsjor.s"], windows)):
+            wheel = self.made("wheel", os.path.join(TOP, "python"), CC=fake, CFLAGS="-g '-D A'",
+                              LDFLAGS="-lz", _PYTHON_HOST_PLATFORM=name)
+            with zipfile.ZipFile(wheel) as file:
+                end = "pyd" if options == windows else "abi3.so"
+                words = file.read(f"vulfsjor/_library.{end}").decode().splitlines()
+            platform_name = re.sub("[-.]", "_", name)
+            self.assertEqual(os.path.basename(wheel),
+                             f"vulfsjor-{VERSION}-cp311-abi3-{platform_name}.whl")
+            self.assertEqual([word for word in words if word.endswith((".c", ".s"))],
+                             ["src/library.c", "src/trees.c", "src/choose.c",
+                              *(f"src/{wanted}/{it}" for it in names)])
+            self.assertEqual((words[0], words[-1]),
+                             ("-x", "-lpython3" if options == windows else "-lz"))
+            self.assertEqual(words[words.index("-g"):words.index("-o")],
+                             ["-g", "-D A", *options.split()])
+            self.assertIn(f"-I{sysconfig.get_path('include')}", words)
 
     def test_a_copy_of_the_folder_alone(self):
-        folder = self.copied()
-        shutil.move(folder, os.path.join(self.folder, "alone"))
+        shutil.move(self.copied("clone"), os.path.join(self.folder, "alone"))
         self.assertEqual(
-            self.refused(os.path.join(self.folder, "alone"), "build"),
-            "setup.py: ../c/include/vulfsjor.h is missing: build in a clone of the repository, "
-            "since the package shares files with c/ and dist/, or from a source distribution")
+            self.refused(os.path.join(self.folder, "alone")),
+            "build_package.py: ../c/include/vulfsjor.h is missing: build in a clone of the "
+            "repository, since the package shares files with c/ and dist/, or from a source "
+            "distribution")
 
-    def test_a_folder_that_cannot_be_written(self):
-        folder = self.copied()
-        os.mkdir(os.path.join(folder, "src", "choose.c"))
-        self.assertRegex(
-            self.refused(folder, "build"),
-            "^setup.py: copying what the package shares with c/ and dist/ to python/src failed: "
-            ".*src/choose.c")
+    def test_wheel(self):
+        """What is in a wheel, beside a module of the fake compiler."""
+        wheel = self.made("wheel", os.path.join(TOP, "python"), CC=self.fake().replace(" ", "\\ "))
+        with open(os.path.join(TOP, "python", "pyproject.toml"), "rb") as file:
+            project = tomllib.load(file)["project"]
+        with zipfile.ZipFile(wheel) as file:
+            names, contents = file.namelist(), {name: file.read(name) for name in file.namelist()}
+            self.assertEqual({(each.date_time, each.external_attr) for each in file.infolist()},
+                             {((1980, 1, 1, 0, 0, 0), 0o100644 << 16)})
+        self.assertEqual(names, [
+            f"{ABOUT}/METADATA", f"{ABOUT}/WHEEL", *(f"vulfsjor/{it}" for it in sorted(PACKAGE)),
+            f"{ABOUT}/RECORD"])
+        record = dict(line.split(",", 1) for line in contents[f"{ABOUT}/RECORD"].decode().split())
+        self.assertEqual(record.pop(f"{ABOUT}/RECORD"), ",")
+        for name in names[:-1]:
+            digest = base64.urlsafe_b64encode(hashlib.sha256(contents[name]).digest()).decode()
+            self.assertEqual(record.pop(name), f"sha256={digest.rstrip('=')},{len(contents[name])}")
+            path = os.path.join(TOP, "python", name)
+            if name.startswith("vulfsjor/") and not name.endswith(".so"):
+                with open(path, "rb") as file:
+                    self.assertEqual(contents[name], file.read())
+        self.assertEqual(record, {})
+        kind = email.message_from_bytes(contents[f"{ABOUT}/WHEEL"])
+        self.assertEqual(kind.items(), [
+            ("Wheel-Version", "1.0"), ("Generator", f"vulfsjor-{VERSION}"),
+            ("Root-Is-Purelib", "false"), ("Tag", f"cp311-abi3-linux_{platform.machine()}")])
+        about = email.message_from_bytes(contents[f"{ABOUT}/METADATA"])
+        with open(os.path.join(TOP, "python", "README.md"), encoding="utf-8") as file:
+            self.assertEqual(about.get_payload(decode=True).decode(), file.read())
+        self.assertEqual(about.items(), [
+            ("Metadata-Version", "2.1"), ("Name", "vulfsjor"), ("Version", VERSION),
+            ("Summary", project["description"]), ("Keywords", ",".join(project["keywords"])),
+            *(("Classifier", each) for each in project["classifiers"]),
+            ("Requires-Python", ">=3.11"), ("Description-Content-Type", "text/markdown")])
 
-    def source_distribution(self):
-        """The path of one."""
-        self.setup(self.copied("tree"), "sdist", "--dist-dir", self.folder)
-        return os.path.join(self.folder, f"vulfsjor-{VERSION}.tar.gz")
-
-    def test_source_distribution(self):
-        """It has what it needs and nothing else."""
-        with tarfile.open(self.source_distribution()) as file:
-            file.extractall(self.folder)
-        folder = os.path.join(self.folder, f"vulfsjor-{VERSION}")
-        wanted = {"PKG-INFO", "setup.cfg", "MANIFEST.in", "README.md", "pyproject.toml", "setup.py",
-                  "src/library.c", "src/library.h", "src/trees.c", *SOURCES,
-                  *glob.glob("tests/*.py", root_dir=os.path.join(TOP, "python")),
-                  *(f"vulfsjor/{name}" for name in PACKAGE if name != "_library.abi3.so")}
-        found = {os.path.relpath(os.path.join(place, name), folder)
-                 for place, _, names in os.walk(folder) for name in names}
-        self.assertEqual({name for name in found if "egg-info/" not in name}, wanted)
-        # It uses its own copies, whatever is beside it.
-        copy = os.path.join(folder, "src", "choose.c")
-        with open(copy, "a", encoding="utf-8") as file:
-            file.write("/* its own */\n")
-        for name in ("c", "dist"):
-            shutil.copytree(os.path.join(TOP, name), os.path.join(self.folder, name))
-        self.setup(folder, "--version")
-        with open(copy, encoding="utf-8") as file:
-            self.assertIn("its own", file.read())
+    def test_calls_of_an_installer(self):
+        """What describes a wheel is the same before it is built. A wheel for work on the package
+        points to its folder, which has the module."""
+        folder = self.copied("a clone")
+        lines = (f"import sys\nsys.path.insert(0, {folder!r})\nimport build_package as build\n"
+                 "print(build.prepare_metadata_for_build_editable('.'))\n"
+                 "print(build.build_editable('.', None, build.ABOUT))")
+        named, wheel = self.succeeds(sys.executable, "-c", lines, cwd=self.folder, env={
+            **os.environ, "CC": self.fake().replace(" ", "\\ ")}).splitlines()
+        self.assertEqual(named, ABOUT)
+        with zipfile.ZipFile(os.path.join(self.folder, wheel)) as file:
+            self.assertEqual(sorted(file.namelist()), [
+                *(f"{ABOUT}/{name}" for name in ("METADATA", "RECORD", "WHEEL")), "vulfsjor.pth"])
+            self.assertEqual(file.read("vulfsjor.pth").decode(), f"{folder}\n")
+            for name in ("METADATA", "WHEEL"):
+                with open(os.path.join(self.folder, ABOUT, name), "rb") as other:
+                    self.assertEqual(file.read(f"{ABOUT}/{name}"), other.read())
+        self.assertTrue(os.path.exists(os.path.join(folder, "vulfsjor", "_library.abi3.so")))
 
     def pip(self, word, *more):
         self.succeeds(sys.executable, "-m", "pip", "--disable-pip-version-check", word,
-                      "--no-index", "--no-deps", "--no-build-isolation", *more, cwd=self.folder)
+                      "--no-index", *more, cwd=self.folder)
 
     def is_installed(self, folder):
         names = set(os.listdir(os.path.join(folder, "vulfsjor")))
         self.assertEqual(names - {"__pycache__"}, PACKAGE)
         self.compares(folder, calls=1000)
 
-    @unittest.skipIf(absent("pip", "wheel"), absent("pip", "wheel"))
-    def test_wheel_from_a_source_distribution(self):
-        installed = os.path.join(self.folder, "installed")
-        self.pip("wheel", self.source_distribution())
-        wheel = f"vulfsjor-{VERSION}-cp311-abi3-linux_{platform.machine()}.whl"
-        self.assertEqual(glob.glob("*.whl", root_dir=self.folder), [wheel])
+    def test_source_distribution(self):
+        """It has what it needs and nothing else, and its own files are what it uses. In another
+        folder and at another time it is the same."""
+        path = self.made("sdist", os.path.join(TOP, "python"))
+        with open(path, "rb") as file:
+            first = file.read()
+        folder = os.path.join(self.folder, f"vulfsjor-{VERSION}")
+        with open(os.path.join(self.copied("a clone"), "vulfsjor", "_library.abi3.so"), "wb"):
+            pass  # as an editable install leaves one
+        self.made("sdist", os.path.join(self.folder, "a clone", "python"), TZ="Asia/Tokyo")
+        with open(path, "rb") as file:
+            self.assertEqual(file.read(), first)
+        with tarfile.open(path) as file:
+            self.assertEqual({(each.mode, each.uid, each.mtime) for each in file},
+                             {(0o644, 0, 315532800)})
+            file.extractall(self.folder)
+        own = {"README.md", "build_package.py", "pyproject.toml", "src/library.c", "src/library.h",
+               "src/trees.c", *glob.glob("tests/*.py", root_dir=os.path.join(TOP, "python")),
+               *(f"vulfsjor/{name}" for name in PACKAGE if name != "_library.abi3.so")}
+        found = {os.path.relpath(os.path.join(place, name), folder)
+                 for place, _, names in os.walk(folder) for name in names}
+        self.assertEqual(found, {"PKG-INFO", *own, *SHARED})
+        for name in own | set(SHARED):
+            source = os.path.join(TOP, SHARED.get(name, f"python/{name}"))
+            with open(os.path.join(folder, name), "rb") as ours, open(source, "rb") as theirs:
+                self.assertEqual(ours.read(), theirs.read(), name)
+        with open(os.path.join(folder, "PKG-INFO"), encoding="utf-8") as file:
+            self.assertIn(f"\nVersion: {VERSION}\n", file.read())
+        for name in ("c", "dist"):  # what is beside it
+            shutil.copytree(os.path.join(TOP, name), os.path.join(self.folder, name))
+        os.remove(os.path.join(folder, "src", "choose.c"))
+        self.assertIn("build_package.py: src/choose.c is missing", self.refused(folder))
+
+    @unittest.skipIf(absent("pip"), absent("pip"))
+    def test_wheels_are_the_same(self):
+        """From a clone, whose old copies are not used and which stays as it is, and by pip from a
+        source distribution. The wheel is installed, and compared with hashlib."""
+        folder, installed = self.copied("a clone"), os.path.join(self.folder, "installed")
+        for name in ("src/vulfsjor.h", "src/choose.c", "src/calls.h", "vulfsjor/_library.abi3.so"):
+            with open(os.path.join(folder, name), "w", encoding="utf-8") as file:
+                file.write("#error old\n")
+
+        def state():
+            return {path: os.stat(path).st_mtime_ns for path in glob.glob(
+                f"{self.folder}/a clone/**", recursive=True, include_hidden=True)}
+
+        before = state()
+        wheel = self.made("wheel", folder)
+        self.assertEqual(state(), before)
+        with open(wheel, "rb") as file:
+            first = file.read()
+        os.remove(wheel)
+        source = self.made("sdist", os.path.join(TOP, "python"))
+        self.pip("wheel", source)
+        with open(wheel, "rb") as file:
+            self.assertEqual(file.read(), first)
         self.pip("install", "--target", installed, wheel)
         self.is_installed(installed)
 
-    @unittest.skipIf(absent("ensurepip", "wheel"), absent("ensurepip", "wheel"))
+    @unittest.skipIf(absent("ensurepip"), absent("ensurepip"))
     def test_pip_installs_the_folder(self):
-        """As the README says for a computer without a network, in a new clone."""
-        with open(os.path.join(self.copied(), "README.md"), encoding="utf-8") as file:
-            said = re.search("Without a network(?s:.*?)((?:\\n    .*)+)\\n\\n", file.read())[1]
-        self.assertRegex(said, r"\A\n.* -m venv .*\n.*/pip install .*\Z")
+        """As the README says, in a new clone without a network, and in less than 5 seconds of
+        processor time."""
+        with open(os.path.join(self.copied("a clone"), "README.md"), encoding="utf-8") as file:
+            said = re.search("virtual environment:\\n((?:\\n    .*)+)\\n\\n", file.read())[1]
+        first, last = said.strip().split("\n    ")
+        self.assertRegex(f"{first}\n{last}", r"\A.* -m venv venv\n.*/pip install \./python\Z")
         os.symlink(sys.executable, os.path.join(self.folder, "python3"))
-        self.succeeds("sh", "-ec", said, cwd=os.path.join(self.folder, "clone"), env={
+        named = dict(cwd=os.path.join(self.folder, "a clone"), env={
             **os.environ, "PATH": f"{self.folder}:{os.environ['PATH']}", "PIP_NO_INDEX": "1"})
-        self.is_installed(*glob.glob(f"{self.folder}/clone/venv/lib/python*/site-packages"))
+        self.succeeds("sh", "-ec", first, **named)
+        before = resource.getrusage(resource.RUSAGE_CHILDREN)
+        self.succeeds("sh", "-ec", last, **named)
+        after = resource.getrusage(resource.RUSAGE_CHILDREN)
+        self.assertLess(after.ru_utime + after.ru_stime - before.ru_utime - before.ru_stime, 5)
+        self.is_installed(*glob.glob(f"{self.folder}/a clone/venv/lib/python*/site-packages"))
 
     @unittest.skipIf(absent(tools=["aarch64-linux-gnu-gcc"]), "no aarch64-linux-gnu-gcc")
     def test_module_for_arm(self):

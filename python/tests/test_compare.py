@@ -114,7 +114,10 @@ def edge_parameters(longest):
     for name in ("last_node", "usedforsecurity"):
         for value in (0, 1, 2, None, "", "x", True, False):
             yield {name: value}
-    yield {"data": b"x"}
+    try:
+        _blake2.blake2b(data=b"x")  # as of 3.13.4
+    except TypeError:
+        yield {"data": b"x"}
     yield {"size": 1}
     refused = {
         "digest_size": 0,

@@ -4,6 +4,7 @@ import ctypes
 import errno
 import faulthandler
 import fcntl
+import io
 import os
 import pathlib
 import queue
@@ -17,7 +18,7 @@ import time
 import unittest
 from unittest import mock
 
-from support import FOLDER
+from support import FOLDER, WITHOUT_GIL
 import oracle
 import vulfsjor
 from vulfsjor import _threads
@@ -76,12 +77,13 @@ class Parameters(Test):
         for call, has_size in self.calls():
             call(leaf_size=1 << 16, **TEXTS)
             call(leaf_size=2**32 - 1, salt=bytearray(16), person=memoryview(bytes(16)))
-            self.refuses(
-                ValueError, "leaf_size must be between 1 and 4294967295", call, leaf_size=0
-            )
-            self.refuses(ValueError, "value must be positive", call, leaf_size=-1)
-            self.refuses(OverflowError, "leaf_size is too large", call, leaf_size=2**32)
-            self.refuses(TypeError, "an integer is required", call, leaf_size=1.0)
+            for size in (0, -1, -(2**70)):
+                self.refuses(
+                    ValueError, "leaf_size must be between 1 and 4294967295", call, leaf_size=size
+                )
+            for size in (2**32, 2**64 - 1, 2**64, 2**70):
+                self.refuses(OverflowError, "leaf_size is too large", call, leaf_size=size)
+            self.refuses(TypeError, "leaf_size must be an integer", call, leaf_size=1.0)
             for name in ("salt", "person"):
                 for length in (17, 1000):
                     self.refuses(
@@ -115,13 +117,22 @@ class Parameters(Test):
             lambda threads: vulfsjor.tree_root_file(self.file(DATA), 1 << 14, threads=threads),
         ):
             for threads in (
-                0, 1, 2, 3, 4, 7, 1000, True, type("Index", (), {"__index__": lambda self: 2})()
+                0, 1, 2, 3, 4, 7, 1000, 2**63 - 1, 2**63, 2**64, 2**64 + 1, 2**70, True,
+                type("Index", (), {"__index__": lambda self: 2})(),
             ):
                 self.assertEqual(call(threads), ROOT)
             with mock.patch("os.sched_getaffinity", lambda process: {1, 4, 9}), \
                     mock.patch.object(_threads, "_start", side_effect=_threads._start) as start:
                 self.assertEqual(call(0), ROOT)
                 self.assertEqual(start.call_args.args[0], 3)
+            for count, wanted in ((3, 3), (None, None)):  # a system without that call
+                with mock.patch("os.cpu_count", lambda count=count: count), \
+                        mock.patch.object(_threads, "_start", side_effect=_threads._start) as start, \
+                        mock.patch.dict(os.__dict__):
+                    del os.sched_getaffinity
+                    self.assertEqual(call(0), ROOT)
+                    started = start.call_args.args[0] if start.called else None
+                    self.assertEqual(started, wanted)
             self.refuses(ValueError, "threads must be 0 or more", call, -1)
             self.refuses(TypeError, "'float' object cannot be interpreted as an integer", call, 1.0)
             self.refuses(
@@ -190,10 +201,13 @@ class Parts(Test):
                 OverflowError, "2^58 bytes or more", leaves, data, leaf_size, first=first, ends=True
             )
         self.refuses(
-            OverflowError, "int too big to convert", leaves, b"x", 1, first=2**64, ends=True
+            OverflowError, "first is too large", leaves, b"x", 1, first=2**64, ends=True
         )
-        self.refuses(ValueError, "value must be positive", leaves, b"x", 1, first=-1, ends=True)
-        self.refuses(TypeError, "an integer is required", leaves, b"x", 1, first=None, ends=True)
+        self.refuses(ValueError, "first must be 0 or more", leaves, b"x", 1, first=-1, ends=True)
+        self.refuses(TypeError, "first must be an integer", leaves, b"x", 1, first=None, ends=True)
+        self.refuses(
+            ValueError, "first must be 0 or more", vulfsjor._library.tree_leaf, 1, -1, True
+        )
         needs = "tree_leaves() requires the keyword arguments first and ends"
         for words in ({}, {"first": 0}, {"ends": True}):
             self.refuses(TypeError, needs, leaves, b"x", 1, **words)
@@ -232,10 +246,10 @@ class Parts(Test):
                 )
         self.refuses(ValueError, "leaf_size must be between 1 and 4294967295", count, 5, 0)
         self.refuses(OverflowError, "leaf_size is too large", count, 5, 2**32)
-        self.refuses(ValueError, "value must be positive", count, -1, 5)
-        self.refuses(OverflowError, "int too big to convert", count, 2**64, 5)
-        self.refuses(TypeError, "an integer is required", count, "5", 5)
-        self.refuses(TypeError, "an integer is required", count, 5, 5.0)
+        self.refuses(ValueError, "length must be 0 or more", count, -1, 5)
+        self.refuses(OverflowError, "length is too large", count, 2**64, 5)
+        self.refuses(TypeError, "length must be an integer", count, "5", 5)
+        self.refuses(TypeError, "leaf_size must be an integer", count, 5, 5.0)
 
     def test_views_are_let_go(self):
         array_ = bytearray(128)
@@ -303,11 +317,12 @@ class Pieces(Test):
         for length in (5, 3000):
             hasher = vulfsjor.TreeHasher(1 << 10)
             hasher.update(bytes(1025))
-            closed = ctypes.c_uint64.from_address(id(hasher) + 32 + 2 * 424)
+            head = object.__basicsize__ + 24
+            closed = ctypes.c_uint64.from_address(id(hasher) + head + 2 * 424)
             self.assertEqual(closed.value, 1)
             closed.value = 2**48 - 1
             # The counter of the root, and the number of its pending bytes.
-            counter = (ctypes.c_uint64 * 2).from_address(id(hasher) + 32 + 424 + 128)
+            counter = (ctypes.c_uint64 * 2).from_address(id(hasher) + head + 424 + 128)
             counter[:] = [(2**48 - 1) * 64, 0]
             hasher.update(bytes(1020))
             before = hasher.digest()
@@ -434,10 +449,13 @@ class Leaves(Test):
                     OverflowError, "2^58 bytes or more", hasher.next_leaves, bytes(100), 2**52
                 )
                 self.refuses(
-                    OverflowError, "int too big to convert", hasher.next_leaves, bytes(100), 2**64
+                    OverflowError, "skip is too large", hasher.next_leaves, bytes(100), 2**64
                 )
                 self.refuses(
-                    ValueError, "value must be positive", hasher.next_leaves, bytes(100), -1
+                    ValueError, "skip must be 0 or more", hasher.next_leaves, bytes(100), -1
+                )
+                self.refuses(
+                    TypeError, "skip must be an integer", hasher.next_leaves, bytes(100), 1.0
                 )
                 hasher.copy().update_leaves(bytes(64), b"x")
             for wrong in ("x", None):
@@ -896,6 +914,54 @@ class Files(Test):
                 )
 
 
+    def test_changed_arguments(self):
+        """What the callback changes comes too late."""
+        words = {name: bytearray(text) for name, text in TEXTS.items()}
+
+        def change(done):
+            for text in words.values():
+                text[0] ^= 1
+
+        with mock.patch.object(_threads, "_PART_BYTES", MIB):
+            for threads in (1, 3):
+                wanted = oracle.tree_root(DATA, 1 << 14, **{
+                    name: bytes(text) for name, text in words.items()})
+                self.assertEqual(vulfsjor.tree_root_file(
+                    self.file(DATA), 1 << 14, threads=threads, progress=change, **words), wanted)
+
+
+class WithoutCalls(Files):
+    """Files of all kinds, on a system that has no preadv and no readv, as Windows."""
+
+    def setUp(self):
+        super().setUp()
+        patch = mock.patch.dict(os.__dict__)
+        patch.start()
+        self.addCleanup(patch.stop)
+        del os.preadv, os.readv
+
+    test_errors_of_reading = test_short_reads = None
+
+    def test_short_reads_and_errors(self):
+        class File(io.FileIO):
+            """A file that is read in short pieces, and fails after the first."""
+            fails = False
+
+            def readinto(self, view):
+                if self.fails and self.tell():
+                    raise OSError(errno.ENXIO, "broken")
+                time.sleep(0.001)  # others must not move the position meanwhile
+                return super().readinto(view[:99_999])
+
+        for threads in (1, 3):
+            with mock.patch.object(io, "FileIO", File):
+                path = self.file(DATA)
+                self.assertEqual(vulfsjor.tree_root_file(path, 1 << 14, threads=threads), ROOT)
+                with mock.patch.object(File, "fails", True):
+                    self.refuses(OSError, f"[Errno 6] broken: {path!r}", vulfsjor.tree_root_file,
+                                 path, 1 << 14, threads=threads)
+
+
 class Stops(Test):
     """Exceptions in the callback, and KeyboardInterrupt."""
 
@@ -1021,6 +1087,7 @@ class Stops(Test):
                 process.kill()
         return said.strip().splitlines()[-1:], time.monotonic() - start
 
+    @unittest.skipIf(WITHOUT_GIL, "CPython 3.13 without the GIL misses signals while it waits")
     def test_interrupts(self):
         path = self.file(b"")
         os.truncate(path, 1 << 37)

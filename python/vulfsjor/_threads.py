@@ -14,7 +14,7 @@ from concurrent.futures import Future
 from contextlib import closing
 from functools import partial
 from queue import SimpleQueue
-from threading import Event, Thread, local
+from threading import Event, Lock, Thread, local
 from typing import TYPE_CHECKING, Any, Callable, Generator, SupportsIndex
 
 from vulfsjor import _library
@@ -39,7 +39,9 @@ def _thread_count(threads: SupportsIndex) -> int:
     count = operator.index(threads)
     if count < 0:
         raise ValueError("threads must be 0 or more")
-    return min(count, sys.maxsize) or len(os.sched_getaffinity(0))
+    if count or not hasattr(os, "sched_getaffinity"):
+        return min(count, sys.maxsize) or os.cpu_count() or 1
+    return len(os.sched_getaffinity(0))
 
 
 def _work(tasks: "SimpleQueue[tuple[Future[bytes], int] | None]",
@@ -217,7 +219,8 @@ class _File:
     descriptor stays."""
 
     def __init__(self, file: io.FileIO, path: "FileDescriptorOrPath"):
-        self.file, self.path, self.held = file.fileno(), path, local()
+        self.opened, self.file, self.path = file, file.fileno(), path
+        self.held, self.lock = local(), Lock()
         about = os.fstat(self.file)
         self.is_regular = stat.S_ISREG(about.st_mode)
         self.length = about.st_size if self.is_regular else 0
@@ -227,13 +230,33 @@ class _File:
         number of bytes, which is less only at the end of the file."""
         done = 0
         while done < len(view):
-            rest = [view[done:]]
-            count = (os.preadv(self.file, rest, start + done) if self.is_regular
-                     else os.readv(self.file, rest))
+            count = self.read(view[done:], start + done)
             if not count:
                 break
             done += count
         return done
+
+    def read(self, view: memoryview, start: int) -> int:
+        """Reads some bytes, at this position of a regular file. Windows has neither preadv nor
+        readv: there one thread at a time moves the position, and back."""
+        if not self.is_regular:
+            return os.readv(self.file, [view]) if hasattr(os, "readv") else self.read_next(view)
+        if hasattr(os, "preadv"):
+            return os.preadv(self.file, [view], start)
+        with self.lock:
+            before = self.opened.tell()
+            try:
+                self.opened.seek(start)
+                return self.read_next(view)
+            finally:
+                self.opened.seek(before)
+
+    def read_next(self, view: memoryview) -> int:
+        """Reads some bytes at the position."""
+        count = self.opened.readinto(view)
+        if count is None:
+            raise BlockingIOError(errno.EAGAIN, os.strerror(errno.EAGAIN))
+        return count
 
     def range(self, start: int, length: int) -> memoryview:
         """The bytes of a range, in this thread's buffer."""

@@ -1,0 +1,233 @@
+"""Builds the package: a module in C over the proved library. It needs CPython with its headers, a C
+compiler, and nothing else: it is the backend of pyproject.toml (PEP 517 and PEP 660).
+
+usage: build_package.py wheel|sdist FOLDER      makes one in FOLDER and prints its name
+
+It writes to FOLDER and to a temporary folder. What the package shares with the repository it reads
+from c/ and dist/. A source distribution, which has a file PKG-INFO, holds all of it in src/. CC,
+CFLAGS and LDFLAGS are used as by make.
+"""
+import base64
+import gzip
+import hashlib
+import io
+import os
+import pathlib
+import re
+import shlex
+import shutil
+import subprocess
+import sys
+import sysconfig
+import tarfile
+import tempfile
+import zipfile
+
+if sys.version_info < (3, 11):
+    sys.exit("build_package.py: vulfsjor needs CPython 3.11 or later")
+import tomllib  # pylint: disable=wrong-import-position
+
+HERE = pathlib.Path(__file__).resolve().parent
+PROJECT = tomllib.loads((HERE / "pyproject.toml").read_text(encoding="utf-8"))["project"]
+RELEASE = f"{PROJECT['name']}-{PROJECT['version']}"
+ABOUT = f"{RELEASE}.dist-info"
+
+# The texts of the library by processor. choose.c has its functions by their own names; on x86-64 a
+# call goes to the build that the processor runs. Each system has them in folders of its own, which
+# end in what is here.
+TEXTS = {"x86_64": [f"vulfsjor-{level}.s" for level in ("v2", "v3", "v4")],
+         "aarch64": ["vulfsjor.s"]}
+SYSTEMS = {"linux": "", "macosx": "-macos", "mingw": "-windows", "win": "-windows"}
+
+# The files of a source distribution: those of this folder, and those of the repository.
+OWN = ("README.md", "build_package.py", "pyproject.toml", "src/library.[ch]", "src/trees.c",
+       "tests/*.py", "vulfsjor/*.py", "vulfsjor/*.pyi", "vulfsjor/py.typed")
+SHARED = {
+    "src/vulfsjor.h": "c/include/vulfsjor.h",
+    "src/choose.c": "c/choose.c",
+    "src/calls.h": "c/calls.h",
+    **{f"src/{processor}{end}/{name}": f"dist/{processor}{end}/{name}"
+       for processor, names in TEXTS.items() for end in sorted(set(SYSTEMS.values()))
+       for name in names},
+}
+
+# Clang warns of each option that means nothing for assembly. LTO loses the assembly of choose.c.
+COMPILING = ["-std=c99", "-O2", "-DNDEBUG", "-Wall", "-Wextra", "-fvisibility=hidden", "-fno-lto",
+             "-Wno-unused-command-line-argument"]
+LINKING = {"linux": ["-fPIC", "-shared", "-Wl,--gc-sections", "-Wl,-z,relro,-z,now"],
+           "macosx": ["-bundle", "-undefined", "dynamic_lookup", "-Wl,-dead_strip"],
+           "-windows": ["-shared", f"-L{sys.base_prefix}/libs", f"-L{sys.base_prefix}/lib"]}
+WITHOUT_GIL = bool(sysconfig.get_config_var("Py_GIL_DISABLED"))
+
+
+def refuse(why):
+    """Ends the program."""
+    sys.exit(f"build_package.py: {why}")
+
+
+def source_files():
+    """The path of each file of a source distribution, by its name there."""
+    found = {path.relative_to(HERE).as_posix(): path for pattern in OWN for path in HERE.glob(pattern)}
+    is_released = (HERE / "PKG-INFO").exists()
+    for name, place in SHARED.items():
+        found[name] = HERE / name if is_released else HERE.parent / place
+        if not found[name].is_file():
+            refuse(f"{name if is_released else f'../{place}'} is missing: build in a clone of the "
+                   "repository, since the package shares files with c/ and dist/, or from a source "
+                   "distribution")
+    return found
+
+
+# ---- The module
+
+def target():
+    """The system that the module is for, its folder of texts, and the compiler's options for it."""
+    platform = sysconfig.get_platform()  # such as macosx-11.0-arm64 or mingw_x86_64_ucrt
+    found = re.fullmatch(r"(linux|macosx|mingw|win)[-_](?:([\d.]+)-)?"
+                         r"(?:(x86_64|amd64)|(aarch64|arm64))(?:_\w+)?", platform)
+    if not found or sys.maxsize < 2**32:
+        refuse("vulfsjor is assembly for Linux, macOS and Windows on x86-64 and on 64-bit ARM, and "
+               f"has none for {platform}")
+    system, version, x86, arm = found.groups()
+    options = list(LINKING.get(system) or LINKING[SYSTEMS[system]])
+    if system == "macosx":
+        options += ["-arch", x86 or arm, f"-mmacosx-version-min={version}"]
+    return system, "x86_64" if x86 else "aarch64", options
+
+
+def compiler(system):
+    """The words of the C compiler: CC, or that of this Python, or cc or gcc."""
+    asked = os.environ.get("CC")
+    for words in [asked] if asked else [sysconfig.get_config_var("CC"), "cc", "gcc"]:
+        if words and shutil.which(shlex.split(words)[0]):
+            if pathlib.Path(shlex.split(words)[0]).stem.lower() == "cl":
+                refuse("MSVC cannot assemble the code of vulfsjor: set CC to the GCC of MinGW-w64")
+            return shlex.split(words)
+    refuse(f"there is no C compiler{f' {asked}' if asked else ''}: install GCC"
+           f"{' of MinGW-w64' if SYSTEMS[system] == '-windows' else ' or Clang'}, or set CC")
+
+
+def module_name():
+    """The name of the module's file. With the GIL it is for each later CPython too."""
+    if WITHOUT_GIL:
+        return f"_library{sysconfig.get_config_var('EXT_SUFFIX')}"
+    return "_library.pyd" if sysconfig.get_platform().startswith(("mingw", "win")) else (
+        "_library.abi3.so")
+
+
+def compiled():
+    """The bytes of the module."""
+    system, processor, options = target()
+    texts = [f"src/{processor}{SYSTEMS[system]}/{name}" for name in TEXTS[processor]]
+    includes = {sysconfig.get_path("include"), sysconfig.get_path("platinclude")}
+    with tempfile.TemporaryDirectory() as work:
+        for name, path in source_files().items():
+            if name in texts or name.endswith((".c", ".h")):
+                os.makedirs(os.path.dirname(f"{work}/{name}"), exist_ok=True)
+                shutil.copyfile(path, f"{work}/{name}")
+        made = os.path.join(work, module_name())
+        done = subprocess.run(
+            [*compiler(system), *COMPILING, *(f"-I{folder}" for folder in sorted(includes)),
+             *(["-DPy_GIL_DISABLED=1"] if WITHOUT_GIL else []),
+             *shlex.split(os.environ.get("CFLAGS", "")), *options, "-o", made, "src/library.c",
+             "src/trees.c", "src/choose.c", *texts, *shlex.split(os.environ.get("LDFLAGS", "")),
+             *(["-lpython3"] if SYSTEMS[system] == "-windows" else [])], cwd=work, check=False)
+        if done.returncode:
+            has_headers = any(os.path.exists(f"{folder}/Python.h") for folder in includes)
+            refuse("the compiler failed" + ("" if has_headers else
+                   ": Python.h is missing; install the headers, such as Debian's python3-dev"))
+        with open(made, "rb") as file:
+            return file.read()
+
+
+# ---- What describes the package
+
+def metadata():
+    """The bytes of METADATA and of PKG-INFO."""
+    lines = ["Metadata-Version: 2.1", f"Name: {PROJECT['name']}", f"Version: {PROJECT['version']}",
+             f"Summary: {PROJECT['description']}", f"Keywords: {','.join(PROJECT['keywords'])}",
+             *(f"Classifier: {each}" for each in PROJECT["classifiers"]),
+             f"Requires-Python: {PROJECT['requires-python']}",
+             "Description-Content-Type: text/markdown", "",
+             (HERE / PROJECT["readme"]).read_text(encoding="utf-8")]
+    return "\n".join(lines).encode()
+
+
+def tag():
+    """The versions, the interface and the platform that a wheel is for."""
+    here = f"cp{sys.version_info.major}{sys.version_info.minor}"
+    platform = re.sub(r"\W", "_", sysconfig.get_platform())
+    return f"{f'{here}-{here}t' if WITHOUT_GIL else 'cp311-abi3'}-{platform}"
+
+
+def about_wheel():
+    """The files that describe a wheel, except RECORD."""
+    kind = f"Wheel-Version: 1.0\nGenerator: {RELEASE}\nRoot-Is-Purelib: false\nTag: {tag()}\n"
+    return {f"{ABOUT}/METADATA": metadata(), f"{ABOUT}/WHEEL": kind.encode()}
+
+
+def write_wheel(folder, files):
+    """Writes a wheel with these files. The same files make the same wheel."""
+    files = sorted({**files, **about_wheel()}.items())
+    record = [f"{name},sha256={base64.urlsafe_b64encode(hashlib.sha256(data).digest()).decode()[:-1]}"
+              f",{len(data)}" for name, data in files]
+    files.append((f"{ABOUT}/RECORD", "\n".join([*record, f"{ABOUT}/RECORD,,", ""]).encode()))
+    name = f"{RELEASE}-{tag()}.whl"
+    with zipfile.ZipFile(os.path.join(folder, name), "w") as wheel:
+        for path, data in files:
+            info = zipfile.ZipInfo(path)  # whose time is that of 1980
+            info.create_system, info.external_attr = 3, 0o100644 << 16
+            wheel.writestr(info, data, zipfile.ZIP_DEFLATED)
+    return name
+
+
+# ---- The calls of PEP 517 and PEP 660
+
+def prepare_metadata_for_build_wheel(metadata_directory, config_settings=None):
+    """Writes what describes a wheel, without a build."""
+    del config_settings
+    os.mkdir(os.path.join(metadata_directory, ABOUT))
+    for name, data in about_wheel().items():
+        pathlib.Path(metadata_directory, name).write_bytes(data)
+    return ABOUT
+
+
+def build_wheel(wheel_directory, config_settings=None, metadata_directory=None):
+    """Makes a wheel."""
+    del config_settings, metadata_directory
+    files = {name: path.read_bytes() for name, path in source_files().items()
+             if name.startswith("vulfsjor/")}
+    return write_wheel(wheel_directory, {**files, f"vulfsjor/{module_name()}": compiled()})
+
+
+prepare_metadata_for_build_editable = prepare_metadata_for_build_wheel
+
+
+def build_editable(wheel_directory, config_settings=None, metadata_directory=None):
+    """Writes the module to this folder's package, and makes a wheel that points to this folder."""
+    del config_settings, metadata_directory
+    (HERE / "vulfsjor" / module_name()).write_bytes(compiled())
+    return write_wheel(wheel_directory, {f"{PROJECT['name']}.pth": os.fsencode(HERE) + b"\n"})
+
+
+def build_sdist(sdist_directory, config_settings=None):
+    """Makes a source distribution. The same files make the same one."""
+    del config_settings
+    files = {"PKG-INFO": metadata(),
+             **{name: path.read_bytes() for name, path in source_files().items()}}
+    name = f"{RELEASE}.tar.gz"
+    with open(os.path.join(sdist_directory, name), "wb") as file, \
+            gzip.GzipFile("", "wb", 9, file, 0) as packed, \
+            tarfile.open(fileobj=packed, mode="w", format=tarfile.PAX_FORMAT) as archive:
+        for path, data in sorted(files.items()):
+            info = tarfile.TarInfo(f"{RELEASE}/{path}")  # which belongs to root
+            info.size, info.mtime = len(data), 315532800  # 1980, as in a wheel
+            archive.addfile(info, io.BytesIO(data))
+    return name
+
+
+if __name__ == "__main__":
+    CALLS = {"wheel": build_wheel, "sdist": build_sdist}
+    if len(sys.argv) != 3 or sys.argv[1] not in CALLS:
+        sys.exit("usage: build_package.py wheel|sdist FOLDER")
+    print(CALLS[sys.argv[1]](sys.argv[2]))

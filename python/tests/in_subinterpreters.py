@@ -1,0 +1,73 @@
+"""Runs the package in subinterpreters, with a GIL each where Python has that, several times, and
+from 3.13 on several at once: in_subinterpreters.py FOLDER, which has the package."""
+import hashlib
+import sys
+import threading
+
+try:
+    import _interpreters as interpreters
+except ImportError:
+    import _xxsubinterpreters as interpreters
+
+DATA = bytes(range(256)) * 12_289
+WANTED = [hashlib.blake2b(DATA, key=b"key").digest(), hashlib.blake2s(DATA).digest()]
+sys.path.insert(0, sys.argv[1])
+import vulfsjor  # noqa: E402
+
+ROOT = vulfsjor.tree_root(DATA, 4096)
+# hashlib itself is not used there: that of 3.12.1 corrupts memory. Nor are threads before 3.13.
+PROGRAM = f"""
+import sys
+sys.path.insert(0, {sys.argv[1]!r})
+import vulfsjor
+data = bytes(range(256)) * 12_289
+hasher = vulfsjor.blake2b(key=b"key")
+hasher.update(data)
+assert [hasher.copy().digest(), vulfsjor.blake2s(data).digest()] == {WANTED!r}
+assert hasher.verify({WANTED[0]!r}) and not hasher.verify(b"other")
+assert vulfsjor.blake2s_many([data, data]) == [{WANTED[1]!r}] * 2
+for threads in (1, 3 if sys.version_info >= (3, 13) else 1):
+    tree = vulfsjor.TreeHasher(4096)
+    tree.update(data, threads=threads)
+    assert tree.digest() == vulfsjor.tree_root(data, 4096, threads=threads) == {ROOT!r}
+for wrong in ("text", None):
+    try:
+        vulfsjor.blake2b(wrong)
+    except TypeError:
+        continue
+    raise AssertionError
+try:
+    vulfsjor.blake2b.name = 5
+except TypeError:
+    kept = [vulfsjor.blake2b(b"kept"), vulfsjor.TreeHasher(5), vulfsjor._library.plain_bytes(data)]
+else:
+    raise AssertionError
+"""
+failures = []
+
+
+def run(each):
+    """Runs the program in an interpreter."""
+    try:
+        failed = interpreters.run_string(each, PROGRAM)
+    except Exception as error:  # in 3.11 and 3.12
+        failed = error
+    if failed:
+        failures.append(getattr(failed, "formatted", failed))
+
+
+for _ in range(3):
+    created = [interpreters.create() for _ in range(3)]
+    if sys.version_info >= (3, 13):
+        threads = [threading.Thread(target=run, args=(each,)) for each in created]
+        for thread in threads:
+            thread.start()
+        for thread in threads:
+            thread.join()
+    else:
+        for each in created:
+            run(each)
+    for each in created:
+        interpreters.destroy(each)
+assert vulfsjor.blake2b(DATA, key=b"key").digest() == WANTED[0]
+sys.exit("\n".join(map(str, failures)) or 0)
