@@ -20,8 +20,8 @@ declare global {
 /** Bytes. If it is a view, only the part that it covers is read. */
 export type Bytes = ArrayBufferView | ArrayBuffer | SharedArrayBuffer;
 
-/** The options of a hash or a message authentication code. */
-export interface Options {
+/** The options of several hashes or message authentication codes. */
+export interface ManyOptions {
   /** The length of the digest in bytes: 1 to 64, BLAKE2s 1 to 32. The default is the maximum. */
   digestLength?: number | undefined;
   /** A key of 1 to 64 bytes, BLAKE2s 1 to 32. The digest is then a MAC. */
@@ -53,8 +53,8 @@ export interface NodePosition {
   lastNode?: boolean | undefined;
 }
 
-/** The options of a hash that may be a node of a tree of hashes. */
-export interface NodeOptions extends Options {
+/** The options of a hash or a message authentication code. */
+export interface HashOptions extends ManyOptions {
   /** Which node it is. The default is sequential hashing. */
   tree?: NodePosition | undefined;
 }
@@ -92,6 +92,11 @@ export interface ThreadsOptions {
    * the calling thread, as do leaves longer than 64 MiB.
    */
   threads?: number | undefined;
+  /**
+   * Called once, with the reason, if a worker cannot be started. The calling thread then hashes in
+   * its place, and the root is the same. If it throws, the promise rejects with that error.
+   */
+  onFallback?: ((reason: unknown) => void) | undefined;
 }
 
 /** Progress and cancellation. */
@@ -146,20 +151,20 @@ export interface ReadableStreamLike {
 export type Source = BlobLike | ReadableStreamLike | FileHandleLike | AsyncIterable<Bytes>;
 
 /** Returns the BLAKE2b digest of a message. */
-export function blake2b(message: Bytes, options?: NodeOptions): Uint8Array;
+export function blake2b(message: Bytes, options?: HashOptions): Uint8Array;
 /** Returns the BLAKE2s digest of a message. */
-export function blake2s(message: Bytes, options?: NodeOptions): Uint8Array;
+export function blake2s(message: Bytes, options?: HashOptions): Uint8Array;
 
 /**
  * Returns the BLAKE2b digests of several messages with the same options. Four messages in a row
  * that have the same length are hashed in parallel.
  */
-export function blake2bMany(messages: Iterable<Bytes>, options?: Options): Uint8Array[];
+export function blake2bMany(messages: Iterable<Bytes>, options?: ManyOptions): Uint8Array[];
 /**
  * Returns the BLAKE2s digests of several messages with the same options. Eight messages in a row
  * that have the same length are hashed in parallel.
  */
-export function blake2sMany(messages: Iterable<Bytes>, options?: Options): Uint8Array[];
+export function blake2sMany(messages: Iterable<Bytes>, options?: ManyOptions): Uint8Array[];
 
 /**
  * Returns the root of a tree of two levels over BLAKE2b. The message is cut into leaves of
@@ -189,16 +194,17 @@ export function treeRootOfLeaves(digests: Bytes, options: TreeOptions): Uint8Arr
  */
 export function blake2bStream(
   source: Source,
-  options?: NodeOptions & StreamOptions,
+  options?: HashOptions & StreamOptions,
 ): Promise<Uint8Array>;
 /** Returns the BLAKE2s digest of a source, as `blake2bStream` does for BLAKE2b. */
 export function blake2sStream(
   source: Source,
-  options?: NodeOptions & StreamOptions,
+  options?: HashOptions & StreamOptions,
 ): Promise<Uint8Array>;
 /**
  * Returns the `treeRoot` of everything that a source contains, which is read as by `blake2bStream`.
- * If `threads` is not 1, workers hash the leaves, and the promise rejects if one of them fails.
+ * If `threads` is not 1, workers hash the leaves, and the promise rejects if one of them fails
+ * after it has started.
  * The digests of all leaves are in memory until the end, 64 bytes each.
  */
 export function treeRootStream(
@@ -238,18 +244,53 @@ declare class Hasher {
 
 /** An incremental BLAKE2b hash. */
 export class Blake2b extends Hasher {
-  constructor(options?: NodeOptions);
+  constructor(options?: HashOptions);
 }
 
 /** An incremental BLAKE2s hash. */
 export class Blake2s extends Hasher {
-  constructor(options?: NodeOptions);
+  constructor(options?: HashOptions);
 }
 
 /** The root of `treeRoot`, incrementally. */
 export class TreeHash extends Hasher {
   constructor(options: TreeOptions);
 }
+
+/** A `WritableStream` of bytes. */
+export interface WritableStreamLike {
+  readonly locked: boolean;
+  abort(reason?: unknown): Promise<void>;
+  close(): Promise<void>;
+  getWriter(): {
+    write(chunk: Bytes): Promise<void>;
+    close(): Promise<void>;
+    abort(reason?: unknown): Promise<void>;
+    releaseLock(): void;
+  };
+}
+
+// The types of `dom` or of node, where there are some.
+type GlobalReadable = typeof globalThis extends { ReadableStream: { prototype: infer Stream } }
+  ? Stream : ReadableStreamLike;
+type GlobalWritable = typeof globalThis extends { WritableStream: { prototype: infer Stream } }
+  ? Stream : WritableStreamLike;
+
+/**
+ * Returns a `WritableStream` that absorbs the bytes written to it into a hash, for `pipeTo`. If it
+ * is aborted, or a chunk is not bytes, it ends the hash as `wipe` does.
+ */
+export function hashWritable(hash: Blake2b | Blake2s | TreeHash): GlobalWritable;
+
+/**
+ * Returns a pair of streams that passes bytes on unchanged and absorbs them into a hash, for
+ * `pipeThrough`. It reads no faster than the other side. If either side fails before the end of the
+ * data, or a chunk is not bytes, it ends the hash as `wipe` does.
+ */
+export function hashTransform(hash: Blake2b | Blake2s | TreeHash): {
+  readable: GlobalReadable;
+  writable: GlobalWritable;
+};
 
 /** Returns whether two byte arrays are equal. Compares all bytes of arrays of the same length. */
 export function equal(a: Bytes, b: Bytes): boolean;

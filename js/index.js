@@ -1,15 +1,16 @@
 // BLAKE2b and BLAKE2s (RFC 7693) by proved functions. index.d.ts documents the interface.
 
 import {
-  OPTIONS, bytesOf, flagOf, kindOf, lengthOf, offsetOf, refuseMore, settingsOf,
+  OPTIONS, bytesOf, flagOf, isBytes, kindOf, lengthOf, offsetOf, refuseMore, settingsOf,
 } from "./src/arguments.js";
 import {
   BLAKE2B, BLAKE2S, LEAF_DIGEST, TREE, hash, hashLeaves, hashMany, isSame, load, rootOfLeaves,
 } from "./src/engine.js";
 import { Blake2b, Blake2s, TreeHash, hex } from "./src/hashers.js";
+import { hashTransform, hashWritable } from "./src/pipes.js";
 import { hashStream } from "./src/streams.js";
 
-export { Blake2b, Blake2s, TreeHash, hex, load };
+export { Blake2b, Blake2s, TreeHash, hashTransform, hashWritable, hex, load };
 
 function one(kind, caller, message, options, rest) {
   refuseMore(rest, caller, 2);
@@ -20,9 +21,11 @@ function one(kind, caller, message, options, rest) {
 
 function several(kind, caller, messages, options, rest) {
   refuseMore(rest, caller, 2);
-  if (typeof messages?.[Symbol.iterator] !== "function" || typeof messages === "string") {
+  const isIterable = typeof messages?.[Symbol.iterator] === "function";
+  if (!isIterable || typeof messages === "string" || isBytes(messages)) {
     throw new TypeError(
-      `${caller}: messages must be an iterable of bytes, not ${kindOf(messages)}`,
+      `${caller}: messages must be an iterable of bytes, not ${kindOf(messages)}` +
+        (isBytes(messages) ? "; several messages are expected, not one" : ""),
     );
   }
   const [settings] = settingsOf(kind, options, caller, OPTIONS.several);

@@ -1,4 +1,3 @@
-"use strict";
 // The page: passes each file with each hash to a worker, and shows the digests.
 
 const $ = (id) => document.getElementById(id);
@@ -14,7 +13,8 @@ const source = URL.createObjectURL(text);
 const workers = [];
 const waiting = [];
 const running = new Map(); // tasks by their number
-const digests = []; // the shown digests: kind, file, digest, row
+const items = []; // the files, and the digests of each: kind, row, state, digest
+let expected = { entries: [], wrong: 0 }; // what was pasted
 let nextTask = 0;
 
 // ---- Workers
@@ -58,8 +58,8 @@ function start() {
     worker.isFree = false;
     task.worker = worker;
     running.set(task.id, task);
-    const { id, file, kind, leafLength } = task;
-    worker.thread.postMessage({ id, file, kind, leafLength });
+    const { id, file, kind } = task;
+    worker.thread.postMessage({ id, file, kind });
   }
 }
 
@@ -91,15 +91,17 @@ async function copy(text, button) {
   setTimeout(() => (button.textContent = "Copy"), 1500);
 }
 
-function rowOf(file, kind, leafLength) {
+const leafOf = (bytes) =>
+  (bytes % 1024 === 0 ? `${number.format(bytes / 1024)} KiB` : sizeOf(bytes));
+
+function rowOf(file, kind) {
   const value = element("code", { textContent: "…" });
   const button = element("button", { type: "button", textContent: "Copy", hidden: true });
-  button.setAttribute("aria-label", `Copy the ${kind} of ${file.name}`);
+  button.setAttribute("aria-label", `Copy the ${nameOf(kind)} of ${file.name}`);
   button.onclick = () => copy(value.textContent, button);
-  const name = element("dt", { textContent: kind });
-  if (kind === "tree root") {
-    const size = `${number.format(leafLength / 1024)} KiB`;
-    name.append(element("small", { textContent: `leaves of ${size}` }));
+  const name = element("dt", { textContent: nameOf(kind) });
+  if (kind.family === "tree") {
+    name.append(element("small", { textContent: `leaves of ${leafOf(kind.leafLength)}` }));
   }
   const row = element("div", { className: "digest" }, name, element("dd", {}, value), button);
   return { row, value, button };
@@ -122,17 +124,20 @@ function cardOf(file, count) {
   return { card, bar, state, button, list };
 }
 
-// A task for a worker, and its row. It calls progress with its bytes, and close when it ends.
-function taskOf(file, kind, leafLength, list, progress, close) {
-  const { row, value, button } = rowOf(file, kind, leafLength);
+// Adds a task for a worker, and its row. It calls progress with its bytes, and close when it ends.
+function request(item, kind, progress, close) {
+  const { file, list, digests, tasks } = item;
+  const { row, value, button } = rowOf(file, kind);
   list.append(row);
-  return {
-    id: nextTask++, file, kind, leafLength, progress,
+  const entry = { kind, row, state: "open", digest: undefined };
+  digests.push(entry);
+  const task = {
+    id: nextTask++, file, kind, progress,
     done(digest) {
       progress(file.size);
       value.textContent = digest;
       button.hidden = false;
-      digests.push({ kind, file, digest, row });
+      Object.assign(entry, { state: "done", digest });
       close();
     },
     failed(fault) {
@@ -142,12 +147,15 @@ function taskOf(file, kind, leafLength, list, progress, close) {
         textContent: isStopped
           ? fault : `cannot be read (is it a folder, or has it changed?): ${fault}`,
       }));
+      entry.state = "failed";
       close(fault);
     },
   };
+  tasks.push(task);
+  waiting.push(task);
 }
 
-function show(file, kinds, leafLength) {
+function show(file, kinds) {
   const begun = performance.now();
   const { card, bar, state, button, list } = cardOf(file, kinds.length);
   let open = kinds.length;
@@ -172,53 +180,155 @@ function show(file, kinds, leafLength) {
     $("said").textContent = `${file.name}: ${state.textContent}`;
     card.dataset.state = faults > 0 ? "failed" : "done";
   };
-  const tasks = kinds.map((kind, i) =>
-    taskOf(file, kind, leafLength, list, (bytes) => progress(i, bytes), close));
-  button.onclick = () => tasks.forEach(stop);
-  waiting.push(...tasks);
+  const item = { file, list, digests: [], tasks: [], isStopped: false };
+  items.push(item);
+  kinds.forEach((kind, i) => request(item, kind, (bytes) => progress(i, bytes), close));
+  button.onclick = () => {
+    item.isStopped = true;
+    item.tasks.forEach(stop);
+  };
   compare();
 }
 
 function take(files) {
-  const kinds = [...document.querySelectorAll("input[name=kind]:checked")].map((box) => box.value);
-  $("choose").hidden = kinds.length > 0;
-  if (kinds.length === 0) return document.querySelector("input[name=kind]").focus();
-  for (const file of files) show(file, kinds, Number($("leaf").value));
+  const boxes = [...document.querySelectorAll("input[name=kind]:checked")];
+  $("choose").hidden = boxes.length > 0;
+  if (boxes.length === 0) return document.querySelector("input[name=kind]").focus();
+  const leafLength = Number($("leaf").value);
+  const kinds = boxes.map(({ value }) => {
+    const [family, bits] = value.split("-");
+    return bits === undefined ? { family: "tree", bits: LONGEST.tree, leafLength }
+      : { family, bits: Number(bits), leafLength: undefined };
+  });
+  for (const file of files) show(file, kinds);
+  complete();
   start();
 }
 
-// ---- The expected digest
+// ---- The expected digests
 
-// The digest in a text: all of it, perhaps broken into lines, or a word, as in a line of b2sum.
-function digestIn(text) {
-  const all = text.toLowerCase().replace(/\s/g, "");
-  if (/^([0-9a-f]{64}|[0-9a-f]{128})$/.test(all)) return all;
-  return text.toLowerCase().match(/(?<!\w)([0-9a-f]{128}|[0-9a-f]{64})(?!\w)/)?.[1];
+// Whether an entry may be about a digest of this kind.
+const isOf = ({ kinds, isAny }, kind) => isAny || kinds.some((other) => isSameKind(kind, other));
+
+const isIn = (entry, { digests }) =>
+  digests.some(({ kind, digest }) => digest === entry.digest && isOf(entry, kind));
+
+// Computes the digests that are expected of a file and that nobody has chosen.
+function complete() {
+  const { byName } = index();
+  for (const entry of expected.entries) {
+    for (const item of byName(entry)) {
+      if (item.isStopped || isIn(entry, item)) continue;
+      for (const kind of entry.kinds) {
+        if (item.digests.some((other) => isSameKind(other.kind, kind))) continue;
+        request(item, kind, () => {}, compare);
+      }
+    }
+  }
+}
+
+// The files that an entry names, which are all if it names none, and the digests that are equal.
+function index() {
+  const [names, digests] = [new Map(), new Map()];
+  const add = (map, key, value) =>
+    (map.has(key) ? map.get(key).push(value) : map.set(key, [value]));
+  for (const item of items) {
+    add(names, item.file.name, item);
+    for (const each of item.digests) add(digests, each.digest, { ...each, item });
+  }
+  return {
+    byName: ({ base }) => (base === undefined ? items : names.get(base) ?? []),
+    byDigest: (entry) =>
+      (digests.get(entry.digest) ?? []).filter(({ kind }) => isOf(entry, kind)),
+  };
+}
+
+// What is known of an entry: the digests that are equal, and a state. A file has not failed if it is
+// one that the manifest has under this name in another folder.
+function judge(entry, { byName, byDigest }) {
+  const equal = byDigest(entry);
+  const named = byName(entry);
+  const namesakes = () => expected.entries.filter((other) =>
+    other.base === entry.base && other.name !== entry.name &&
+    other.kinds.some((kind) => isOf(entry, kind)));
+  const left = named.filter((item) => !namesakes().some((other) => isIn(other, item)));
+  const states = left.flatMap(({ digests }) =>
+    digests.filter(({ kind }) => isOf(entry, kind)).map(({ state }) => state));
+  const state = equal.some(({ item }) => named.includes(item)) ? "OK"
+    : left.length === 0 ? "no such file below"
+      : states.includes("open") ? "still being computed"
+        : states.every((each) => each === "failed") ? "could not be computed" : "FAILED";
+  return { entry, state, equal };
+}
+
+const say = (text, name) => Object.assign($("verdict"), { textContent: text, className: name });
+const plural = (count, word) => `${number.format(count)} ${word}${count === 1 ? "" : "s"}`;
+
+// The verdict on one digest, of whatever file.
+function sayOne({ state, equal }) {
+  const count = items.flatMap(({ digests }) => digests).filter(({ digest }) => digest).length;
+  if (equal.length > 0) {
+    const which = equal.map(({ kind, item }) => `${nameOf(kind)} of ${item.file.name}`);
+    say(`Equal to the ${which.join(" and to the ")}.`, "good");
+  } else if (waiting.length + running.size > 0) {
+    say("Not equal to any digest so far; some are still being computed.", "quiet");
+  } else if (items.length === 0) say("No file has been hashed yet.", "quiet");
+  else say(`Not equal to any of the ${plural(count, "digest")} below.`, "bad");
+}
+
+const SHOWN = 200; // lines of a manifest
+const STATES = [
+  ["FAILED", "bad"], ["could not be computed", "bad"], ["still being computed", "quiet"],
+  ["no such file below", "quiet"], ["OK", "good"],
+];
+
+// The verdict on a manifest, and what is wrong with each of its files before all that is right.
+function sayAll(judged) {
+  const ranked = STATES.map(([state, name]) =>
+    [state, name, judged.filter((one) => one.state === state)]);
+  const counts = ranked.filter(([, , list]) => list.length > 0)
+    .map(([state, , list]) => `${number.format(list.length)} ${state}`);
+  if (expected.wrong > 0) counts.push(`${plural(expected.wrong, "line")} not understood`);
+  const worst = ranked.find(([, , list]) => list.length > 0)[1];
+  say(`${plural(judged.length, "digest")}: ${counts.join(", ")}.`,
+    worst === "good" && expected.wrong > 0 ? "quiet" : worst);
+  const lines = ranked.flatMap(([state, name, list]) => list.map(({ entry }) => element("li", {},
+    element("span", { textContent: entry.name ?? entry.digest }),
+    element("span", { className: name, textContent: state }))));
+  $("lines").replaceChildren(...lines.slice(0, SHOWN));
+  if (lines.length > SHOWN) {
+    const count = number.format(lines.length - SHOWN);
+    $("lines").append(element("li", { textContent: `and ${count} more` }));
+  }
 }
 
 function compare() {
   const text = $("wanted").value.trim();
-  const wanted = digestIn(text);
-  const equal = digests.filter(({ digest, row }) => {
-    const isEqual = digest === wanted;
-    row.classList.toggle("equal", isEqual);
-    return isEqual;
-  });
-  const say = (text, name) => Object.assign($("verdict"), { textContent: text, className: name });
-  if (text === "") {
-    say("Paste a digest, or a line of b2sum, to compare.", "quiet");
-  } else if (wanted === undefined) {
-    say(`This is not a digest of 64 or 128 hexadecimal digits (${text.length} characters).`, "bad");
-  } else if (equal.length > 0) {
-    const which = equal.map(({ kind, file }) => `${kind} of ${file.name}`);
-    say(`Equal to the ${which.join(" and to the ")}.`, "good");
-  } else if (waiting.length + running.size > 0) {
-    say("Not equal to any digest so far; some are still being computed.", "quiet");
-  } else if (digests.length === 0) {
-    say("No file has been hashed yet.", "quiet");
-  } else {
-    say(`Not equal to any of the ${digests.length} digests below.`, "bad");
+  const indexed = index();
+  const judged = expected.entries.map((entry) => judge(entry, indexed));
+  const rows = new Set(judged.flatMap(({ equal }) => equal.map(({ row }) => row)));
+  for (const { row } of items.flatMap(({ digests }) => digests)) {
+    row.classList.toggle("equal", rows.has(row));
   }
+  $("lines").replaceChildren();
+  if (text === "") say("Paste a digest, or lines of b2sum, to compare.", "quiet");
+  else if (judged.length === 0) {
+    say(
+      `This is not a digest of 128 to 512 bits in hexadecimal (${text.length} characters).`, "bad");
+  } else if (judged.length === 1 && expected.wrong === 0) sayOne(judged[0]);
+  else sayAll(judged);
+}
+
+let pause;
+function expect() {
+  expected = entriesOf($("wanted").value.trim());
+  compare();
+  clearTimeout(pause); // until a pause in typing
+  pause = setTimeout(() => {
+    complete();
+    compare();
+    start();
+  }, 300);
 }
 
 // ---- What the user does
@@ -240,7 +350,7 @@ $("files").onchange = ({ target }) => {
   take([...target.files]);
   target.value = "";
 };
-$("wanted").oninput = compare;
+$("wanted").oninput = expect;
 document.querySelector(".badge").onclick = () => ($("proved").open = true);
 if (location.hash === "#proved") $("proved").open = true;
 begin();

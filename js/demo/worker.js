@@ -3,12 +3,7 @@ import {
   blake2b, blake2bStream, blake2s, blake2sStream, hex, treeRoot, treeRootStream, utf8,
 } from "../index.js";
 
-const streams = {
-  "BLAKE2b-512": (file, more) => blake2bStream(file, more),
-  "BLAKE2b-256": (file, more) => blake2bStream(file, { digestLength: 32, ...more }),
-  "BLAKE2s-256": (file, more) => blake2sStream(file, more),
-  "tree root": (file, more, leafLength) => treeRootStream(file, { leafLength, ...more }),
-};
+const streams = { BLAKE2b: blake2bStream, BLAKE2s: blake2sStream, tree: treeRootStream };
 
 // BLAKE2b-512 and BLAKE2s-256 of abc as in RFC 7693; the other two are hashlib's.
 function testSelf() {
@@ -30,12 +25,14 @@ function testSelf() {
 
 const stops = new Map();
 
-async function run({ id, file, kind, leafLength }) {
+async function run({ id, file, kind: { family, bits, leafLength } }) {
   const control = new AbortController();
   stops.set(id, control);
   try {
     const onProgress = (bytes) => postMessage({ id, bytes });
-    const digest = await streams[kind](file, { onProgress, signal: control.signal }, leafLength);
+    const options = { digestLength: bits / 8, onProgress, signal: control.signal };
+    if (family === "tree") options.leafLength = leafLength;
+    const digest = await streams[family](file, options);
     postMessage({ id, digest: hex(digest) });
   } catch (fault) {
     const text = String(fault?.message ?? fault);

@@ -68,19 +68,31 @@ export function partOf(bytes, begin, length) {
   return new Uint8Array(ofTyped.buffer(bytes), ofTyped.byteOffset(bytes) + begin, length);
 }
 
+// Whether this is an object such as {}, of any realm.
+function isPlain(value) {
+  if (typeof value !== "object" || value === null) return false;
+  const prototype = Object.getPrototypeOf(value);
+  return prototype === null || Object.getPrototypeOf(prototype) === null;
+}
+
 /** What a value is, for an error message. */
 export function kindOf(value) {
   if (value === null || value === undefined) return String(value);
   if (Array.isArray(value)) return "an array";
-  return typeof value === "object" ? "an object" : `a ${typeof value}`;
+  if (typeof value !== "object") return `a ${typeof value}`;
+  const name = isPlain(value) ? undefined : Object.getPrototypeOf(value).constructor?.name;
+  return name ? `an instance of ${name}` : "an object";
 }
+
+/** Whether a value is a view or a buffer. */
+export const isBytes = (value) => ArrayBuffer.isView(value) || isBuffer(value);
 
 /**
  * The bytes of a message, key, salt or tag: a Uint8Array over the caller's own memory. It may be an
  * instance of a subclass, so only lengthOf, partOf, copyOf and set() of another array read it.
  */
 export function bytesOf(value, caller, what) {
-  if (!ArrayBuffer.isView(value) && !isBuffer(value)) {
+  if (!isBytes(value)) {
     const hint = typeof value === "string" ? " (utf8() encodes a string)" : "";
     throw new TypeError(
       `${caller}: ${what} must be a Uint8Array, another view or an ArrayBuffer, ` +
@@ -145,14 +157,6 @@ export function flagOf(value, caller, what) {
   return value === true;
 }
 
-// Whether this is an object such as {}, of any realm. A promise, a map or bytes have no property of
-// an option, and would pass for options that name nothing.
-function isPlain(value) {
-  if (typeof value !== "object" || value === null) return false;
-  const prototype = Object.getPrototypeOf(value);
-  return prototype === null || Object.getPrototypeOf(prototype) === null;
-}
-
 /**
  * The known options, each read once and from the object itself. An unknown name is refused, since a
  * misspelled key or digestLength would silently return another digest.
@@ -160,10 +164,9 @@ function isPlain(value) {
 function optionsOf(options, caller, what, known) {
   const read = Object.create(null);
   if (options === undefined) return read;
+  // a promise, a map or bytes have no property of an option, and would pass for none given
   if (!isPlain(options)) {
-    const given = typeof options === "object" && options !== null
-      ? `an instance of ${options.constructor?.name}` : kindOf(options);
-    throw new TypeError(`${caller}: ${what} must be a plain object, not ${given}`);
+    throw new TypeError(`${caller}: ${what} must be a plain object, not ${kindOf(options)}`);
   }
   for (const name of Object.keys(options)) {
     if (!known.includes(name)) {

@@ -57,7 +57,8 @@ const PERSONALIZATION = 1232;
 const LIMITS = 1248;
 const PLAN = 1280;
 const PART = 1352;
-const ARGUMENTS_END = 1400;
+const NODE = 1400;
+const ARGUMENTS_END = 1416;
 const RECORDS = 2048;
 const OUTS = RECORDS + 16 * BATCH;
 const WINDOW = 8192;
@@ -77,7 +78,7 @@ class Engine {
     this.bytes = new Uint8Array(exports.memory.buffer);
     this.view = new DataView(exports.memory.buffer);
     this.isBusy = false;
-    this.isSame = exports.vulfsjor_ffi_is_same;
+    this.compare = exports.vulfsjor_ffi_memcmp;
     this.plan = exports.vulfsjor_ffi_tree_plan;
     this.part = exports.vulfsjor_ffi_tree_part;
     const functionsOf = (name, calls) =>
@@ -99,7 +100,7 @@ class Engine {
     this.at = {}; // the places as the library's pointers
     for (const [name, place] of Object.entries({
       state: STATE, out: OUT, tag: TAG, key: KEY, salt: SALT, personalization: PERSONALIZATION,
-      limits: LIMITS, plan: PLAN, part: PART, records: RECORDS, outs: OUTS, window: WINDOW,
+      limits: LIMITS, plan: PLAN, part: PART, node: NODE, records: RECORDS, outs: OUTS, window: WINDOW,
     })) {
       this.at[name] = BigInt(this.base + place);
     }
@@ -122,6 +123,13 @@ class Engine {
     ];
   }
 
+  /** Writes tree parameters as the library's struct. */
+  putNode({ nodeOffset, leafLength, fanout, depth, nodeDepth, innerLength }) {
+    this.view.setBigUint64(this.base + NODE, nodeOffset, true);
+    this.view.setUint32(this.base + NODE + 8, leafLength, true);
+    this.put(Uint8Array.of(fanout, depth, nodeDepth, innerLength), NODE + 12);
+  }
+
   /** Initializes a state in the slot. */
   begin(kind, settings) {
     const { digestLength, leafLength, node, tree } = settings;
@@ -142,9 +150,9 @@ class Engine {
     if (tree === undefined) {
       return granted(calls.init_salt_personal(this.at.state, size, this.at.key, key, ...labels));
     }
+    this.putNode(tree);
     granted(calls.init_tree(
-      this.at.state, size, this.at.key, key, ...labels, tree.fanout, tree.depth, tree.leafLength,
-      tree.nodeOffset, tree.nodeDepth, tree.innerLength));
+      this.at.state, size, this.at.key, key, ...labels, this.at.node));
     if (tree.lastNode) granted(calls.set_last_node(this.at.state, 1));
   }
 
@@ -272,7 +280,7 @@ export function verify(kind, state, digestLength, tag) {
     let status;
     if (kind.isTree) {
       engine.end(kind, digestLength);
-      status = engine.isSame(engine.at.out, BigInt(digestLength), engine.at.tag, length);
+      status = engine.compare(engine.at.out, BigInt(digestLength), engine.at.tag, length);
     } else {
       status = engine.calls[kind.name].verify(engine.at.state, engine.at.tag, length);
     }
@@ -471,7 +479,7 @@ export function isSame(a, b) {
       const size = Math.min(most, length - at);
       const count = engine.put(isWhole ? a : partOf(a, at, size), WINDOW);
       engine.put(isWhole ? b : partOf(b, at, size), WINDOW + most);
-      difference |= engine.isSame(engine.at.window, count, second, count);
+      difference |= engine.compare(engine.at.window, count, second, count);
     }
     engine.clean(TREE, 2 * most);
     return difference === 0;

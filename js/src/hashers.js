@@ -24,7 +24,7 @@ export function hex(bytes) {
   return digits;
 }
 
-class Hasher {
+export class Hasher {
   #kind;
   #name;
   #state;

@@ -1,11 +1,10 @@
 // Hashes of what arrives piece by piece: files, blobs, responses, node's streams.
 
 import {
-  OPTIONS, bytesOf, integerOf, kindOf, lengthOf, refuseMore, settingsOf,
+  OPTIONS, bytesOf, integerOf, isBytes, kindOf, lengthOf, refuseMore, settingsOf,
 } from "./arguments.js";
-import {
-  LONGEST_LEAF, MOST_THREADS, TreeThreads, mayReadBlobs, processorCount,
-} from "./threads.js";
+import { LONGEST_LEAF, TreeThreads } from "./threads.js";
+import { MOST_THREADS, mayReadBlobs, processorCount } from "./workers.js";
 
 // How much of a blob is read at a time.
 const SLICE = 4 * 1024 * 1024;
@@ -50,6 +49,12 @@ function openFile(handle, caller) {
   return reader;
 }
 
+// What to do with a value that is no source, for an error message.
+function adviceOn(source, caller) {
+  if (isBytes(source)) return `; use ${caller.replace("Stream", "")}()`;
+  return typeof source?.body?.getReader === "function" ? "; pass its body" : "";
+}
+
 // A reader of a source: next returns its chunks as an iterator does, total is its length if that is
 // known, and close releases it, before its end if it is not done. prepare, if it is there, is
 // called first. part, if it is there, returns what a worker reads.
@@ -71,7 +76,7 @@ function open(source, caller) {
   if (!isBlob && typeof source?.[Symbol.asyncIterator] !== "function") {
     throw new TypeError(
       `${caller}: source must be a Blob, a ReadableStream, a FileHandle or an async iterable of ` +
-        `bytes, not ${kindOf(source)}`,
+        `bytes, not ${kindOf(source)}${adviceOn(source, caller)}`,
     );
   }
   const iterator = (isBlob ? slicesOf(source) : source)[Symbol.asyncIterator]();
@@ -96,29 +101,28 @@ function unlessAborted(result, signal) {
   });
 }
 
-function callbackOf(value, caller) {
+function checkCallback(value, caller, what) {
   if (value !== undefined && typeof value !== "function") {
-    throw new TypeError(`${caller}: onProgress must be a function, not ${kindOf(value)}`);
+    throw new TypeError(`${caller}: ${what} must be a function, not ${kindOf(value)}`);
   }
-  return value;
 }
 
-function signalOf(value, caller) {
+function checkSignal(value, caller) {
   if (value !== undefined && typeof value?.throwIfAborted !== "function") {
     throw new TypeError(`${caller}: signal must be an AbortSignal, not ${kindOf(value)}`);
   }
-  return value;
 }
 
 /** The digest of all chunks of a source: a hash by Hasher or, with threads, a tree by workers. */
 export async function hashStream(kind, Hasher, caller, source, options, rest) {
   refuseMore(rest, caller, 2);
   const known = [...OPTIONS[kind.isTree ? "tree" : "hash"], "onProgress", "signal"];
-  if (kind.isTree) known.push("threads");
+  if (kind.isTree) known.push("threads", "onFallback");
   const [settings, read] = settingsOf(kind, options, caller, known);
-  const { onProgress, signal, threads, ...own } = read;
-  callbackOf(onProgress, caller);
-  signalOf(signal, caller);
+  const { onProgress, onFallback, signal, threads, ...own } = read;
+  checkCallback(onProgress, caller, "onProgress");
+  checkCallback(onFallback, caller, "onFallback");
+  checkSignal(signal, caller);
   const count = integerOf(threads, caller, "threads", 0, MOST_THREADS, 1) || processorCount();
   const reader = open(source, caller);
   const control = new AbortController(); // aborts with the signal, or if a worker fails
@@ -133,7 +137,9 @@ export async function hashStream(kind, Hasher, caller, source, options, rest) {
     control.signal.throwIfAborted();
     if (reader.prepare) await unlessAborted(reader.prepare(), control.signal);
     const isShared = count > 1 && settings.leafLength <= LONGEST_LEAF;
-    run = isShared ? new TreeThreads(settings, count, caller, report, control) : new Hasher(own);
+    run = isShared
+      ? new TreeThreads(settings, count, caller, { report, onFallback, control })
+      : new Hasher(own);
     if (isShared && reader.part) return await run.digestOf(reader.total, reader.part);
     for (;;) {
       control.signal.throwIfAborted();

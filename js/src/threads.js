@@ -1,7 +1,8 @@
 // The root of a tree by several workers, each of which hashes ranges of leaves.
 
 import { copyOf, lengthOf, partOf } from "./arguments.js";
-import { moduleOf, partOfPlan, planOf, rootOfLeaves } from "./engine.js";
+import { partOfPlan, planOf, rootOfLeaves } from "./engine.js";
+import { RangeWorker } from "./workers.js";
 
 // A range has about this number of bytes, in fours of leaves, unless four leaves are longer than the
 // second. Then it is one leaf.
@@ -11,44 +12,10 @@ const LONGEST_RANGE = 16 * 1024 * 1024;
 const LONGEST_MESSAGE = 2n ** 58n - 1n;
 /** Leaves longer than this are hashed on the calling thread, since a range is held in memory. */
 export const LONGEST_LEAF = 64 * 1024 * 1024;
-/** The maximum number of workers of a call. */
-export const MOST_THREADS = 256;
-
-// A module of node, or undefined in a browser.
-const ofNode = (name) => globalThis.process?.getBuiltinModule?.(`node:${name}`);
-
-/**
- * Whether workers may read blobs. Those of node may not: node refuses to pass a blob that is backed
- * by a file, and ends the process if a worker reads a part of one.
- */
-export const mayReadBlobs = () => ofNode("worker_threads") === undefined;
-
-/** The number of processors that this process may use, at most MOST_THREADS. */
-export function processorCount() {
-  const count = ofNode("os")?.availableParallelism() ?? globalThis.navigator?.hardwareConcurrency;
-  return Math.min(count ?? 1, MOST_THREADS);
-}
-
-// Starts a worker of node or of the browser. It calls onDigests with each result, and onFault with
-// the error if the worker fails.
-function startWorker(onDigests, onFault) {
-  const node = ofNode("worker_threads");
-  if (node === undefined) {
-    const worker = new Worker(new URL("./worker.js", import.meta.url), { type: "module" });
-    worker.onmessage = ({ data }) => onDigests(data);
-    worker.onmessageerror = () => onFault(new Error("its result could not be read"));
-    worker.onerror = ({ message }) => onFault(new Error(message ?? "it could not be started"));
-    return worker;
-  }
-  // without the flags of the process, some of which are refused for a file
-  const worker = new node.Worker(new URL("./worker.js", import.meta.url), { execArgv: [] });
-  worker.on("message", onDigests).on("messageerror", onFault).on("error", onFault);
-  return worker.on("exit", (code) => onFault(new Error(`it exited with code ${code}`)));
-}
-
 /**
  * The root of a message that comes in pieces, or that the workers read. report is called with the
- * number of bytes of each range that was hashed. A failure of a worker or of report aborts control.
+ * number of bytes of each range that was hashed, and onFallback once, with the error, if a worker
+ * cannot be started. What a worker or one of these throws aborts control.
  */
 export class TreeThreads {
   #settings;
@@ -56,6 +23,7 @@ export class TreeThreads {
   #count;
   #caller;
   #report;
+  #onFallback;
   #control;
   #workers = [];
   #idle = [];
@@ -66,7 +34,7 @@ export class TreeThreads {
   #leaf; // its first leaf
   #wake = () => {};
 
-  constructor(settings, count, caller, report, control) {
+  constructor(settings, count, caller, { report, onFallback, control }) {
     const { leafLength, digestLength, salt, personalization } = settings;
     // copies, since a view would take its whole buffer along to the workers
     this.#settings = { leafLength, salt: copyOf(salt), personalization: copyOf(personalization) };
@@ -74,6 +42,7 @@ export class TreeThreads {
     this.#count = count;
     this.#caller = caller;
     this.#report = report;
+    this.#onFallback = onFallback;
     this.#control = control;
     this.#plan = planOf(LONGEST_MESSAGE, leafLength, RANGE, LONGEST_RANGE);
     control.signal.addEventListener("abort", () => this.#wake());
@@ -94,23 +63,30 @@ export class TreeThreads {
     this.#control.signal.throwIfAborted();
   }
 
+  // Calls what the caller gave. If it throws, the call is aborted.
+  #tell(callback, ...values) {
+    try {
+      callback?.(...values);
+    } catch (fault) {
+      this.#control.abort(fault);
+    }
+  }
+
   #start() {
-    const fail = (cause) => {
-      const message = `${this.#caller}: a worker failed: ${cause?.message ?? cause}`;
-      this.#control.abort(new Error(message, { cause }));
-    };
     const entry = {};
-    const onDigests = (digests) => {
-      this.#digests[entry.range] = digests;
-      this.#idle.push(entry);
-      try {
-        this.#report(entry.length);
-      } catch (fault) {
-        this.#control.abort(fault);
-      }
-      this.#wake();
-    };
-    entry.worker = startWorker(onDigests, fail);
+    entry.worker = new RangeWorker(this.#caller, {
+      onDigests: (digests) => {
+        this.#digests[entry.range] = digests;
+        this.#idle.push(entry);
+        this.#tell(this.#report, entry.length);
+        this.#wake();
+      },
+      onFallback: (cause) => {
+        this.#tell(this.#onFallback, cause);
+        this.#onFallback = undefined;
+      },
+      onFault: (fault) => this.#control.abort(fault),
+    });
     this.#workers.push(entry.worker);
     return entry;
   }
@@ -122,10 +98,7 @@ export class TreeThreads {
     const entry = this.#idle.pop() ?? this.#start();
     entry.range = this.#digests.push(undefined) - 1;
     entry.length = length;
-    const job = {
-      module: moduleOf(), settings: this.#settings, range: { first, ends }, ...source,
-    };
-    entry.worker.postMessage(job, source.message === undefined ? [] : [source.message.buffer]);
+    entry.worker.post({ settings: this.#settings, range: { first, ends }, ...source });
   }
 
   // Passes the range that is filled.
@@ -179,6 +152,6 @@ export class TreeThreads {
 
   /** Stops the workers. */
   wipe() {
-    for (const worker of this.#workers) worker.terminate();
+    for (const worker of this.#workers) worker.stop();
   }
 }

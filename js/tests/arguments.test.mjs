@@ -41,8 +41,13 @@ const NO_BYTES = [
   [[1, 2], "an array"],
   [{ length: 3 }, "an object"],
   [{ length: 3, [Symbol.toStringTag]: "ArrayBuffer" }, "an object"],
-  [{ byteLength: 3, __proto__: ArrayBuffer.prototype }, "an object"],
-  [Object.create(Uint8Array.prototype), "an object"],
+  [{ byteLength: 3, __proto__: ArrayBuffer.prototype }, "an instance of ArrayBuffer"],
+  [Object.create(Uint8Array.prototype), "an instance of Uint8Array"],
+  [Promise.resolve(M), "an instance of Promise"],
+  [new Blob(["abc"]), "an instance of Blob"],
+  [new (class {})(), "an object"], // which has no name
+  [Object.create(Object.create(null)), "an object"], // nor has this
+  [vm.runInNewContext("new Map()"), "an instance of Map"],
   [Symbol("x"), "a symbol"],
   [() => {}, "a function"],
 ];
@@ -238,7 +243,7 @@ for (const [name, hash, Hasher, most, short, offset] of FAMILIES) {
     const others = [
       [null, "null"], [32, "a number"], ["key", "a string"], [() => {}, "a function"],
       [bytes(3), "an instance of Uint8Array"],
-      [new ArrayBuffer(3), "an instance of ArrayBuffer"], [[], "an instance of Array"],
+      [new ArrayBuffer(3), "an instance of ArrayBuffer"], [[], "an array"],
       [new Map(), "an instance of Map"],
       [Promise.resolve({}), "an instance of Promise"],
       [Object.create({ digestLength: 3 }), "an instance of Object"],
@@ -340,7 +345,12 @@ test("several messages", () => {
       refuses(() => many(value), TypeError,
         `${many.name}: messages must be an iterable of bytes, not ${said}`);
     }
-    refuses(() => many(M), TypeError,
+    for (const one of [M, M.buffer, new DataView(M.buffer), new SharedArrayBuffer(3)]) {
+      refuses(() => many(one), TypeError,
+        `${many.name}: messages must be an iterable of bytes, not an instance of ` +
+          `${one.constructor.name}; several messages are expected, not one`);
+    }
+    refuses(() => many([5]), TypeError,
       `${many.name}: message 0 must be a Uint8Array, another view or an ArrayBuffer, not a number`);
     refuses(() => many([M], { tree: {} }), TypeError,
       `${many.name}: unknown property "tree" of options; ` +
@@ -379,9 +389,20 @@ test("one argument more is refused, except by five calls that ignore it", async 
 test("streams reject what calls refuse", async () => {
   const rejects = (promise, Class, message) =>
     assert.rejects(promise, { name: Class.name, message });
-  await rejects(blake2bStream(M), TypeError,
-    "blake2bStream: source must be a Blob, a ReadableStream, a FileHandle or an async iterable " +
-      "of bytes, not an object");
+  for (const [stream, one] of [
+    [blake2bStream, "blake2b"], [blake2sStream, "blake2s"], [treeRootStream, "treeRoot"],
+  ]) {
+    for (const [source, said] of [
+      [M, `an instance of Uint8Array; use ${one}()`],
+      [M.buffer, `an instance of ArrayBuffer; use ${one}()`],
+      [new Response("abc"), "an instance of Response; pass its body"],
+      [new Response(), "an instance of Response"], [{}, "an object"],
+    ]) {
+      await rejects(stream(source, one === "treeRoot" ? { leafLength: 5 } : {}), TypeError,
+        `${stream.name}: source must be a Blob, a ReadableStream, a FileHandle or an async ` +
+          `iterable of bytes, not ${said}`);
+    }
+  }
   await rejects(blake2sStream("abc"), TypeError,
     "blake2sStream: source must be a Blob, a ReadableStream, a FileHandle or an async iterable " +
       "of bytes, not a string");

@@ -25,8 +25,8 @@ assert.throws(
   () => new WebAssembly.Instance(new WebAssembly.Module(lower(lower(module)))), /not 64 bits wide/);
 
 const top = base + PAGES * 65536;
-const PLACES = [0, 1024, 6144, 6272, 7168, 8192];
-const [STATE, OUT, KEY, SALT, RECORDS, MESSAGES] = PLACES.map((place) => base + place);
+const PLACES = [0, 1024, 6144, 6272, 6400, 7168, 8192];
+const [STATE, OUT, KEY, SALT, NODE, RECORDS, MESSAGES] = PLACES.map((place) => base + place);
 const both = [wide, narrow].map(({ memory }) => new Uint8Array(memory.buffer));
 const put = (bytes, at) => both.forEach((memory) => memory.set(bytes, at));
 const text = (at, most) => [BigInt(at), BigInt(randomInt(most + 1))];
@@ -49,9 +49,13 @@ function someCall() {
     () => call("", BigInt(OUT), size, ...message, ...key),
     () => call("_init_salt_personal", state, size, ...key, ...salts),
     () => call("_init_key", state, size, ...key),
-    () => call(
-      "_init_tree", state, size, ...key, ...salts, randomInt(256), randomInt(256),
-      randomInt(2 ** 32), BigInt(randomInt(2 ** 47)), randomInt(256), randomInt(most + 1)),
+    () => {
+      const node = Uint8Array.from(randomBytes(16));
+      new DataView(node.buffer).setBigUint64(0, BigInt(randomInt(2 ** 47)), true);
+      node[15] = randomInt(most + 1);
+      put(node, NODE);
+      return call("_init_tree", state, size, ...key, ...salts, BigInt(NODE));
+    },
     () => call("_init_param", state, BigInt(MESSAGES), BigInt(most)),
     () => call("_update", state, ...message),
     () => call("_update", state, ...message),
@@ -90,7 +94,7 @@ function someCall() {
       BigInt(64 * randomInt(8) + (randomInt(5) === 0 ? 1 : 0)),
       ...salts, randomInt(9)),
     () => tree(
-      "_accepts", size, BigInt(randomInt(20)), BigInt(randomInt(20)), randomInt(3)),
+      "_check", size, BigInt(randomInt(20)), BigInt(randomInt(20)), randomInt(3)),
     () => tree("_init_leaf", state, BigInt(randomInt(9)), randomInt(2), ...salts, randomInt(9)),
     () => tree("_init_root", state, size, ...salts, randomInt(9)),
     () => tree(
@@ -98,9 +102,10 @@ function someCall() {
       BigInt(RECORDS)),
     () => tree("_plan_update", BigInt(OUT), state, BigInt(randomInt(1000)), BigInt(RECORDS)),
     () => tree("_part", BigInt(OUT + 128), BigInt(OUT), BigInt(randomInt(3))),
-    () => ["vulfsjor_ffi_is_same", [...message, BigInt(MESSAGES + randomInt(2)), message[1]]],
+    () => ["vulfsjor_ffi_memcmp", [...message, BigInt(MESSAGES + randomInt(2)), message[1]]],
+    () => ["vulfsjor_ffi_wipe", text(MESSAGES, 1000)],
     () => ["vulfsjor_ffi_version", []],
-  ][randomInt(36)]();
+  ][randomInt(37)]();
 }
 
 put(randomBytes(top - base), base);

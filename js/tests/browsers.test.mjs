@@ -17,14 +17,15 @@ const TYPES = {
 const CHECK = `const [vulfsjor, { checkCases }, cases] = await Promise.all([import("/index.js"),
   import("/tests/check_cases.mjs"), fetch("/cases.json").then((answer) => answer.json())]);
   const answer = await checkCases(vulfsjor, cases);`;
-// Hashes a tree by workers of the browser, whole ones and then some that do not exist or throw.
+// Hashes a tree by workers of the browser: whole ones, some that do not exist, and some that throw
+// after they have started.
 const THREADS = `const message = Uint8Array.from({ length: 9_000_001 }, (_, i) => i ^ (i >> 8));
+  const onFallback = (cause) => threads.push(String(cause));
   const byThreads = () =>
-    vulfsjor.treeRootStream(new Blob([message]), { leafLength: 65536, threads: 3 })
+    vulfsjor.treeRootStream(new Blob([message]), { leafLength: 65536, threads: 3, onFallback })
       .then((root) => vulfsjor.hex(root), String);
-  const threads = [
-    vulfsjor.hex(vulfsjor.treeRoot(message, { leafLength: 65536 })), await byThreads(),
-  ];
+  const threads = [vulfsjor.hex(vulfsjor.treeRoot(message, { leafLength: 65536 }))];
+  threads.push(await byThreads());
   const { Worker: Whole } = globalThis;
   for (const script of ["/none.js", "/throws.js"]) {
     globalThis.Worker = class extends Whole {
@@ -32,14 +33,23 @@ const THREADS = `const message = Uint8Array.from({ length: 9_000_001 }, (_, i) =
     };
     threads.push(await byThreads());
   }
-  globalThis.Worker = Whole;`;
+  globalThis.Worker = Whole;
+  const [through, last] = [new vulfsjor.Blake2b(), new vulfsjor.Blake2b()];
+  await new Blob([message]).stream().pipeThrough(vulfsjor.hashTransform(through))
+    .pipeTo(vulfsjor.hashWritable(last));
+  const piped = [vulfsjor.hex(vulfsjor.blake2b(message)), through.hex(), last.hex()];
+  const ended = new vulfsjor.Blake2b();
+  const { readable, writable } = vulfsjor.hashTransform(ended);
+  await readable.cancel();
+  await new Promise((resolve) => setTimeout(resolve));
+  try { ended.digest(); } catch (fault) { piped.push(String(fault).split(",")[0]); }`;
 const PAGE = `<!DOCTYPE html><title>tests</title><script type="module">
 const send = (answer) => fetch("/done", { method: "POST", body: JSON.stringify(answer) });
 try {
   ${CHECK}
   ${THREADS}
   const worker = new Worker("/worker.js", { type: "module" });
-  worker.onmessage = ({ data }) => send({ page: answer, worker: data, threads });
+  worker.onmessage = ({ data }) => send({ page: answer, worker: data, threads, piped });
   worker.onerror = (event) => send({ fault: "worker: " + event.message });
 } catch (fault) {
   send({ fault: String(fault) });
@@ -65,7 +75,7 @@ async function answerOf(command, wordsOf, cases) {
       "/": PAGE,
       "/cases.json": JSON.stringify(cases),
       "/worker.js": `${CHECK}\npostMessage(answer);`,
-      "/throws.js": "onmessage = () => { throw new Error('no reason'); };",
+      "/throws.js": "postMessage('ready'); onmessage = () => { throw new Error('no reason'); };",
     };
     try {
       const body = files[pathname] ?? readFileSync(join(top, pathname));
@@ -110,12 +120,14 @@ for (const [command, wordsOf] of Object.entries(BROWSERS)) {
       return t.skip(`no ${has("python3") ? command : "python3"}`);
     }
     const cases = shortCases();
-    const { fault, page, worker, threads } = await answerOf(command, wordsOf, cases);
+    const { fault, page, worker, threads, piped } = await answerOf(command, wordsOf, cases);
     assert.equal(fault, undefined);
-    const [root, byThreads, ...failed] = threads;
-    assert.equal(byThreads, root);
-    assert.equal(failed[0], "Error: treeRootStream: a worker failed: it could not be started");
-    assert.match(failed[1], /^Error: treeRootStream: a worker failed: .*no reason$/);
+    const [root, byThreads, cause, byOne, failed, ...more] = threads;
+    assert.deepEqual(
+      [byThreads, cause, byOne, more], [root, "Error: it could not be started", root, []]);
+    assert.match(failed, /^Error: treeRootStream: a worker failed: .*no reason$/);
+    assert.deepEqual(
+      piped, [...Array(3).fill(piped[0]), "TypeError: Blake2b.digest: this hash has ended"]);
     for (const { right, wrong } of [page, worker]) {
       assert.deepEqual(wrong, []);
       assert.equal(right, cases.length);

@@ -11,7 +11,7 @@ const GIVEN = {
   vulfsjor_ffi_blake2b: 3, vulfsjor_ffi_blake2s: 3,
   vulfsjor_ffi_blake2b_update: 2, vulfsjor_ffi_blake2s_update: 2,
   vulfsjor_ffi_tree_update: 2, vulfsjor_ffi_blake2b_many: 4, vulfsjor_ffi_blake2s_many: 4,
-  vulfsjor_ffi_tree_leaves: 5, vulfsjor_ffi_tree_root_of_leaves: 3, vulfsjor_ffi_is_same: 1,
+  vulfsjor_ffi_tree_leaves: 5, vulfsjor_ffi_tree_root_of_leaves: 3, vulfsjor_ffi_memcmp: 1,
 };
 const PLANS = /tree_(plan|part)$/; // not noted
 WebAssembly.Instance = class {
@@ -99,8 +99,8 @@ test("leaves are passed as many as fit into the window with their digests", () =
 test("equal compares halves of the window", () => {
   const both = (length) => equal(part(length), message.slice(0, length));
   makes(() => both(0));
-  makes(() => both(WINDOW / 2), `is_same ${WINDOW / 2}`);
-  makes(() => both(WINDOW / 2 + 1), `is_same ${WINDOW / 2}`, "is_same 1");
+  makes(() => both(WINDOW / 2), `memcmp ${WINDOW / 2}`);
+  makes(() => both(WINDOW / 2 + 1), `memcmp ${WINDOW / 2}`, "memcmp 1");
   makes(() => equal(part(1), part(2)));
 });
 

@@ -128,7 +128,7 @@ test("an expected digest is compared with all digests", async (t) => {
   const unequal = "Not equal to any of the 8 digests below. 0";
   const changed = (c) => (c === "0" ? "1" : "0");
   const not = (length) =>
-    `This is not a digest of 64 or 128 hexadecimal digits (${length} characters). 0`;
+    `This is not a digest of 128 to 512 bits in hexadecimal (${length} characters). 0`;
   for (const [text, verdict] of [
     [digest, equal],
     [` ${digest.toUpperCase().slice(0, 32)}\n${digest.slice(32)} `, equal],
@@ -139,9 +139,10 @@ test("an expected digest is compared with all digests", async (t) => {
     [digest.replace(/^./, changed), unequal],
     [digest.replace(/.$/, changed), unequal],
     [`${digest}0  empty.txt`, not(76)],
-    [digest.slice(2), not(62)],
+    [digest.slice(1), not(63)], [digest.slice(0, 30), not(30)],
+    [`${digests["BLAKE2b-512"]}00`, not(130)],
     ["g".repeat(64), not(64)],
-    ["", "Paste a digest, or a line of b2sum, to compare. 0"],
+    ["", "Paste a digest, or lines of b2sum, to compare. 0"],
   ]) {
     assert.equal(await compare(text), verdict, text);
   }
@@ -149,8 +150,105 @@ test("an expected digest is compared with all digests", async (t) => {
   assert.equal(await compare(digest),
     "Equal to the BLAKE2s-256 of empty.txt and to the BLAKE2s-256 of empty.txt. 2");
   assert.equal(await page.evaluate("document.getElementById('verdict').className"), "good");
-  await compare(digest.slice(2));
+  await compare(digest.slice(1));
   assert.equal(await page.evaluate("document.getElementById('verdict').className"), "bad");
+  assert.deepEqual(page.faults, []);
+});
+
+// By hashlib, of one byte "o" and of none. Lines as b2sum writes them, and in other usual forms.
+const MANIFEST = `# made by hand
+4ccbe3a80f8112da36171794db81f2d5  one byte
+11820b909d0301bb4f27b925cf970703df0a6150 *a/folder/one byte
+BLAKE2b-224 (empty.txt) = 836CC68931C2E4E3E838602ECA1902591D216837BAFDDFE6F0C8CB07
+b32811423377f52d7862286ee1a72ee540524380fda1724a6f25d7978c6fd3244a6caf0498812673c5e05ef583825100 empty.txt
+BLAKE2s-128 (one byte) = b0b2850a0db21cea059541b48650649f
+BLAKE2s (./empty.txt) = 69217a3079908094e11121d042354a7c1f55b6482ca1a51e1b250dfd1ed0eef9\r
+BLAKE2b-tree-4096-256 (one byte) = d7b3b88155c2e9ea38422686d799a9fa9685cc441ecdba0f19f924552e4f3857
+BLAKE2b-tree-1000 (empty.txt) = 186d406ce35b5df41038733cd84cf4f66c208bc02ad778bc1f5aff11e321d5989f48839ceb17224764cb603f0da7becb3a587b6ad5447099326d2a76452cc8ee
+`;
+const PAUSE = "new Promise((resolve) => setTimeout(resolve, 500))"; // longer than one in typing
+const VERDICT = "document.getElementById('verdict').textContent";
+const LINES =
+  "[...document.querySelectorAll('#lines li')].map((line) => line.innerText.split('\\n'))";
+
+test("a manifest has a verdict for each file, with digests of all lengths", async (t) => {
+  if (missing) return t.skip(missing);
+  const page = await opened();
+  assert.equal(await page.compare(MANIFEST), "8 digests: 8 no such file below. 0");
+  await page.evaluate(PAUSE);
+  await page.hash(["one byte", "empty.txt"]);
+  await page.until(`${VERDICT} === "8 digests: 8 OK."`, 20);
+  assert.equal(await page.evaluate("document.getElementById('verdict').className"), "good");
+  const names = ["one byte", "a/folder/one byte", "empty.txt", "empty.txt", "one byte",
+    "./empty.txt", "one byte", "empty.txt"];
+  assert.deepEqual(await page.evaluate(LINES), names.map((name) => [name, "OK"]));
+  const cards = await page.evaluate(CARDS);
+  assert.deepEqual(cards.map(({ digests }) => Object.keys(digests)), [
+    [...KINDS, "BLAKE2b-224", "BLAKE2b-384", "tree root"],
+    [...KINDS, "BLAKE2b-128", "BLAKE2s-128", "BLAKE2b-160", "BLAKE2s-160", "tree root, 256 bits"],
+  ].map((kinds) => [...new Set(kinds)]));
+  const small = "[...document.querySelectorAll('small')].map((e) => e.textContent)";
+  assert.deepEqual(await page.evaluate(small),
+    ["leaves of 64 KiB", "leaves of 1,000 bytes", "leaves of 64 KiB", "leaves of 4 KiB"]);
+  // each line with another digit, the last one of its digest or the first
+  const lines = MANIFEST.trim().split("\n").slice(1);
+  for (const [i, line] of lines.entries()) {
+    const changed = [...lines];
+    changed[i] = line.replace(
+      /(?<![0-9a-f])[0-9a-f](?=[0-9a-f]{20})/i, (c) => (c === "0" ? "1" : "0"));
+    assert.notEqual(changed[i], line);
+    await page.compare(changed.join("\n"));
+    await page.until(`${VERDICT} === "8 digests: 1 FAILED, 7 OK."`, 20);
+    assert.deepEqual((await page.evaluate(LINES))[0], [names[i], "FAILED"]);
+    assert.equal(await page.evaluate("document.getElementById('verdict').className"), "bad");
+  }
+  assert.deepEqual(page.faults, []);
+});
+
+test("what is in a manifest and is not here, or is no line of one, is said", async (t) => {
+  if (missing) return t.skip(missing);
+  const page = await opened();
+  await page.hash(["one byte", "empty.txt"]);
+  const b256 = "dedab4ca710107c66d0f9bad9aef7f52f9958e724198fb9981b77e3fb6ae4e56"; // of one byte
+  const nothing = "836cc68931c2e4e3e838602eca1902591d216837bafddfe6f0c8cb07"; // of none
+  const other = b256.replace(/6$/, "7");
+  for (const [text, verdict, ...lines] of [
+    // two files of one name, of which one is here
+    [`${b256}  a/one byte\n${other}  b/one byte`, "2 digests: 1 no such file below, 1 OK.",
+      ["b/one byte", "no such file below"], ["a/one byte", "OK"]],
+    // another file has the digest
+    [`${b256}  other\n${b256}  one byte`, "2 digests: 1 no such file below, 1 OK.",
+      ["other", "no such file below"], ["one byte", "OK"]],
+    // the digest of another kind, or of another file
+    [`BLAKE2s (one byte) = ${b256}\n${b256}  empty.txt`, "2 digests: 2 FAILED.",
+      ["one byte", "FAILED"], ["empty.txt", "FAILED"]],
+    // lines that are none: odd digits, a length that is not that of the tag, and too long
+    [`${b256}  one byte\n${b256}0  one byte\nBLAKE2b-128 (one byte) = ${b256}\n` +
+      `BLAKE2s (one byte) = ${b256}00\nBLAKE2b-tree-4294967296-256 (one byte) = ${b256}\n` +
+      `BLAKE2s-264 (one byte) = ${b256}00\nand a remark`,
+      "1 digest: 1 OK, 6 lines not understood.", ["one byte", "OK"]],
+    // names that are escaped, and a digest alone
+    [`\\${b256}  a\\nb\\\\c\n${b256}`, "2 digests: 1 no such file below, 1 OK.",
+      ["a b\\c", "no such file below"], [b256, "OK"]],
+    [`${nothing}\n${"0".repeat(56)}`, "2 digests: 1 FAILED, 1 OK.",
+      ["0".repeat(56), "FAILED"], [nothing, "OK"]],
+  ]) {
+    await page.compare(text);
+    await page.until(`${VERDICT} === ${JSON.stringify(verdict)}`, 20);
+    assert.deepEqual(await page.evaluate(LINES), lines, text);
+  }
+  // no more lines are shown than can be read
+  await page.compare(`${b256}  name\n`.repeat(1000));
+  assert.equal(await page.evaluate(VERDICT), "1,000 digests: 1,000 no such file below.");
+  assert.deepEqual((await page.evaluate(LINES)).slice(199),
+    [["name", "no such file below"], ["and 800 more"]]);
+  // a digest alone is computed for each file, after a pause
+  await page.compare("0".repeat(40));
+  await page.compare("b0b2850a0db21cea059541b48650649f");
+  await page.until(`${VERDICT} === "Equal to the BLAKE2s-128 of one byte."`, 20);
+  await page.evaluate(PAUSE);
+  assert.equal(
+    (await page.evaluate(CARDS)).some(({ digests }) => "BLAKE2b-160" in digests), false);
   assert.deepEqual(page.faults, []);
 });
 
@@ -176,7 +274,7 @@ test("a digest is copied, also if the page may not write to the clipboard", asyn
   assert.equal(await click(3), "Copied true");
   assert.deepEqual(await page.evaluate("copied"),
     [digests["BLAKE2s-256"], `copy ${digests["tree root"]}`]);
-  assert.equal(await page.evaluate("document.querySelectorAll('textarea').length"), 0);
+  assert.equal(await page.evaluate("document.querySelectorAll('textarea').length"), 1);
   assert.equal(await page.textOf("said"), "Copied");
   await page.until("document.querySelectorAll('.digest button')[3].textContent === 'Copy'", 5);
   assert.deepEqual(page.faults, []);
@@ -234,6 +332,12 @@ test("all of it works by keyboard alone", async (t) => {
   assert.equal(
     await page.evaluate("document.activeElement === document.querySelector('article')"), true);
   assert.equal(await page.textOf("verdict"), "Not equal to any of the 4 digests below.");
+  // and no other digest of it is computed
+  await page.compare("0".repeat(32));
+  await page.until("document.getElementById('verdict').textContent.includes('the 6 digests')");
+  const [stopped, whole] = await page.evaluate(CARDS);
+  assert.deepEqual(
+    [stopped, whole].map(({ digests }) => "BLAKE2b-128" in digests), [false, true]);
   assert.deepEqual(page.faults, []);
 });
 
@@ -286,6 +390,17 @@ test("it fits narrow and wide windows, light and dark, and its text has contrast
     }
   }
   assert.equal(grounds.size, 2);
+});
+
+test("no hole is between the tree root and its leaves", async (t) => {
+  if (missing) return t.skip(missing);
+  for (const width of [360, 500]) {
+    const page = await opened({ width });
+    const [one, two] = await page.evaluate(`[...document.querySelectorAll(".pair label")].map(
+      (label) => label.getBoundingClientRect().toJSON())`);
+    const gap = two.top > one.top + 10 ? two.left - one.left : two.left - one.right;
+    assert.ok(gap >= 0 && gap < 12, `${width}: ${gap}`);
+  }
 });
 
 test("what is chosen is computed, and nothing else", async (t) => {
@@ -510,5 +625,5 @@ test("each control has a name and a role", async (t) => {
   for (const { role, name } of acting) assert.ok(name?.value, role.value);
   const names = acting.map(({ name }) => name.value);
   assert.ok(names.includes("Copy the BLAKE2b-512 of one byte"), String(names));
-  assert.ok(names.includes("Compare with an expected digest"), String(names));
+  assert.ok(names.includes("Compare with expected digests"), String(names));
 });

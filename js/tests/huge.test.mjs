@@ -2,6 +2,7 @@
 // run only if VULFSJOR_TEST_HUGE is set. Memory and files are sparse.
 import assert from "node:assert/strict";
 import { createReadStream, mkdtempSync, openSync, readSync, rmSync, writeSync } from "node:fs";
+import { open } from "node:fs/promises";
 import { tmpdir } from "node:os";
 import { join } from "node:path";
 import test from "node:test";
@@ -72,6 +73,8 @@ test("messages of 2^32 bytes and more", { skip }, async (t) => {
   for (const [byte, at, count] of ENDS) {
     writeSync(descriptor, Buffer.alloc(count, byte), 0, count, at);
   }
+  const handle = await open(file);
+  t.after(() => handle.close());
   const counts = [];
   const onProgress = (...both) => counts.push(both);
   const calls = {
@@ -88,6 +91,8 @@ test("messages of 2^32 bytes and more", { skip }, async (t) => {
       blake2bStream(blobOf(descriptor), { ...options, onProgress })],
     "blake2sStream of a file": [WANTED.blake2s[1], () =>
       blake2sStream(createReadStream(file, { highWaterMark: 2 ** 24 }), options)],
+    "treeRootStream of an open file, by threads": [WANTED[SMALL][1], () =>
+      treeRootStream(handle, { ...treeOf(SMALL), threads: 0 })],
     ...Object.fromEntries([SMALL, LARGE, LONG].map((leafLength) =>
       [`treeRootStream, leaves of ${leafLength}`, [WANTED[leafLength][1], () =>
         treeRootStream(blobOf(descriptor), { ...treeOf(leafLength), threads: 0 })]])),

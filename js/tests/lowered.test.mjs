@@ -31,14 +31,17 @@ test("tools/build.mjs writes and compares src/wasm.js, and writes the page", (t)
     cpSync(here(`../${path}`), file(`js/${path}`), { recursive: true });
   }
   cpSync(MODULE, file("dist/wasm/vulfsjor.wasm"));
+  assert.deepEqual(build("--check"), [0, ""]);
   const made = file("js/src/wasm.js");
   const text = readFileSync(made, "utf8");
-  assert.deepEqual(build("--check"), [0, ""]);
-  writeFileSync(made, `${text} `);
-  assert.deepEqual(build("--check"), [1, `build: ${made} is not what this script makes\n`]);
-  assert.equal(readFileSync(made, "utf8"), `${text} `);
-  assert.deepEqual(build(), [0, ""]);
-  assert.equal(readFileSync(made, "utf8"), text);
+  for (const other of [file("js/src/worker_text.js"), made]) {
+    const before = readFileSync(other, "utf8");
+    writeFileSync(other, `${before} `);
+    assert.deepEqual(build("--check"), [1, `build: ${other} is not what this script makes\n`]);
+    assert.equal(readFileSync(other, "utf8"), `${before} `);
+    assert.deepEqual(build(), [0, ""]);
+    assert.equal(readFileSync(other, "utf8"), before);
+  }
   writeFileSync(made, "");
   const { scripts, version } = JSON.parse(readFileSync(here("../package.json"), "utf8"));
   const script = (name) => execFileSync("sh", ["-c", scripts[name]], { cwd: file("js") });
@@ -86,10 +89,10 @@ test("10,000 random calls of both modules return the same and leave the same mem
     process.execPath, [...flags, here("both_memories.mjs"), MODULE, "10000"], { encoding: "utf8" });
   const answers = JSON.parse(text);
   // each function was called, and each that refuses was seen to do both
-  assert.equal(new Set(Object.keys(answers).map((each) => each.split(" ")[0])).size, 48);
+  assert.equal(new Set(Object.keys(answers).map((each) => each.split(" ")[0])).size, 49);
   for (const name of [
     "blake2b", "blake2s_init_salt_personal", "blake2b_update", "blake2s_final", "blake2b_many",
-    "tree_update", "tree_leaves", "tree_root_of_leaves", "is_same",
+    "tree_update", "tree_leaves", "tree_root_of_leaves", "memcmp",
   ]) {
     assert.ok(
       answers[`vulfsjor_ffi_${name} 0`] > 10 && answers[`vulfsjor_ffi_${name} -1`] > 3,

@@ -30,8 +30,8 @@ test("npm packs and installs it, and programs import it by its name", (t) => {
       run("npm", "pack", "--json", "--pack-destination", folder, top));
     assert.deepEqual(files.map(({ path }) => path).sort(), [
       "README.md", "index.d.ts", "index.js", "package.json", "src/arguments.js", "src/engine.js",
-      "src/hashers.js",
-      "src/streams.js", "src/threads.js", "src/wasm.js", "src/worker.js",
+      "src/hashers.js", "src/pipes.js", "src/ranges.js", "src/streams.js", "src/threads.js",
+      "src/vulfsjor_worker.js", "src/wasm.js", "src/worker_text.js", "src/workers.js",
     ]);
     run("npm", "install", "--offline", "--no-audit", "--no-fund", join(folder, filename));
     const print = 'console.log(hex(blake2b(utf8("abc"))).slice(0, 8));';
@@ -44,6 +44,32 @@ test("npm packs and installs it, and programs import it by its name", (t) => {
     for (const from of forms) {
       assert.equal(run(process.execPath, "--no-warnings", "-e", inCommon(from)), "ba80a53f\n");
     }
+  });
+});
+
+test("npm installs it by the command of the pages, and it needs this folder no longer", (t) => {
+  if (!has("npm")) return t.skip("no npm");
+  const command = "npm install --install-links PATH/js";
+  const commands = ["README.md", "js/README.md"].map((page) =>
+    readFileSync(join(top, "..", page), "utf8").match(/npm install [^`\n]*/g));
+  assert.deepEqual(commands, [[command], [command]]);
+  inFolder((folder) => {
+    const path = join(folder, "a clone");
+    for (const file of ["package.json", "index.js", "index.d.ts", "src"]) {
+      cpSync(join(top, file), join(path, "js", file), { recursive: true });
+    }
+    const [npm, ...words] = command.split(" ").map((word) => word.replace("PATH", path));
+    const cwd = join(folder, "app");
+    mkdirSync(cwd);
+    execFileSync(
+      npm, [...words, "--offline", "--no-audit", "--no-fund"], { cwd, stdio: "pipe" });
+    rmSync(path, { recursive: true });
+    const program = `import { blake2b, hex, treeRootStream, utf8 } from "vulfsjor";
+      const root = await treeRootStream(new Blob(["abc"]), { leafLength: 2, threads: 2 });
+      console.log(hex(blake2b(utf8("abc"))).slice(0, 8), hex(root).slice(0, 8));`;
+    const printed = execFileSync(
+      process.execPath, ["--input-type=module", "-e", program], { cwd, encoding: "utf8" });
+    assert.equal(printed, "ba80a53f 19fc31bb\n"); // the RFC's and hashlib's
   });
 });
 

@@ -8,12 +8,13 @@ import { fileURLToPath } from "node:url";
 import { hashRow, rootRow } from "../../bench/javascript.mjs";
 import { blake2b } from "../index.js";
 import { BLAKE2B, BLAKE2S, LEAF_DIGEST, TREE, memory } from "../src/engine.js";
-import { LONGEST_LEAF, MOST_THREADS } from "../src/threads.js";
+import { LONGEST_LEAF } from "../src/threads.js";
+import { MOST_THREADS } from "../src/workers.js";
 
 const cwd = fileURLToPath(new URL("..", import.meta.url));
 const read = (path) => readFileSync(new URL(path, import.meta.url), "utf8");
 
-for (const [page, count] of [["js/README.md", 6], ["README.md", 1]]) {
+for (const [page, count] of [["js/README.md", 9], ["README.md", 1]]) {
   test(`each example of ${page} runs alone`, () => {
     const blocks = [...read(`../../${page}`).matchAll(/```js\n([^`]*)```/g)];
     assert.equal(blocks.length, count);

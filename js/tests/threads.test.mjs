@@ -9,7 +9,7 @@ import { join } from "node:path";
 import test, { after } from "node:test";
 import workerThreads from "node:worker_threads";
 import { blake2b, blake2bStream, hex, treeLeaves, treeRoot, treeRootOfLeaves, treeRootStream, utf8 } from "../index.js";
-import { processorCount } from "../src/threads.js";
+import { processorCount } from "../src/workers.js";
 import { assertClean } from "./common.mjs";
 
 const MESSAGE = new Uint8Array(randomBytes(9_000_001));
@@ -17,8 +17,9 @@ const SALT = utf8("a salt");
 const RANGE = 4 * 1024 * 1024;
 
 const rootOf = (message, options) => hex(treeRoot(message, options));
+const onFallback = (cause) => { throw cause; };
 const byThreads = async (source, options) =>
-  hex(await treeRootStream(source, { threads: 3, ...options }));
+  hex(await treeRootStream(source, { threads: 3, onFallback, ...options }));
 async function* inPieces(message, size) {
   for (let at = 0; at < message.length; at += size) yield message.subarray(at, at + size);
 }
@@ -203,7 +204,7 @@ test("as many workers as there are ranges start, and all of them are stopped", a
 });
 
 test("workers use the module that is compiled here", async () => {
-  const worker = new URL("../src/worker.js", import.meta.url).href;
+  const worker = new URL("../src/vulfsjor_worker.js", import.meta.url).href;
   const program = `globalThis.atob = () => { throw new Error("decoded again"); };
     import("${worker}");`;
   const Class = counted([], () => [program, { eval: true }]);
@@ -222,37 +223,35 @@ test("ranges and digests are transferred, not copied", async () => {
   };
   await withWorkers(Class, () => byThreads(new Blob([MESSAGE]), { leafLength: 65536 }));
   assert.deepEqual(lengths, [0, 0, 0]);
-  // the worker's side, here
-  const sent = [];
-  globalThis.postMessage = (...words) => sent.push(words);
-  await import("../src/worker.js");
-  const message = MESSAGE.slice(0, 1000);
-  const settings = { leafLength: 100, salt: SALT, personalization: new Uint8Array(0) };
-  globalThis.onmessage({ data: { settings, range: { first: 5n, ends: true }, message } });
-  delete globalThis.postMessage;
-  delete globalThis.onmessage;
-  const digests = treeLeaves(message, { leafLength: 100, first: 5, ends: true, salt: SALT });
-  assert.deepEqual(sent, [[digests, [digests.buffer]]]);
 });
 
-test("a worker reads a blob, and what fails there is its error", async (t) => {
+test("a worker reads bytes, a file or a blob, and what fails there is its error", async (t) => {
   const sent = [];
   const { setTimeout: before } = globalThis;
+  const { file } = await openMessage(t);
   t.after(() => {
     delete globalThis.postMessage;
     globalThis.setTimeout = before;
   });
   globalThis.postMessage = (...words) => sent.push(words);
-  await import("../src/worker.js?blob");
+  await import("../src/vulfsjor_worker.js");
   const { onmessage } = globalThis;
   delete globalThis.onmessage;
+  assert.deepEqual(sent.splice(0), [["ready"]]);
   const settings = { leafLength: 100, salt: SALT, personalization: new Uint8Array(0) };
   const range = { first: 5n, ends: true };
-  const message = MESSAGE.slice(0, 1000);
-  onmessage({ data: { settings, range, blob: new Blob([message]) } });
-  while (sent.length === 0) await new Promise((resolve) => setImmediate(resolve));
+  const message = MESSAGE.slice(700, 1700);
   const digests = treeLeaves(message, { leafLength: 100, first: 5, ends: true, salt: SALT });
-  assert.deepEqual(sent, [[digests, [digests.buffer]]]);
+  const far = 2 ** 32 + 7; // past 4 GiB of a file that is almost all hole
+  await file.write(message, 0, message.length, far);
+  for (const source of [
+    { message }, { blob: new Blob([message]) }, { file: { fd: file.fd, at: 700, length: 1000 } },
+    { file: { fd: file.fd, at: far, length: 1000 } },
+  ]) {
+    onmessage({ data: { settings, range, ...source } });
+    while (sent.length === 0) await new Promise((resolve) => setImmediate(resolve));
+    assert.deepEqual(sent.splice(0), [[digests, [digests.buffer]]]);
+  }
   const fault = new Error("unreadable");
   const thrown = new Promise((resolve) => (globalThis.setTimeout = resolve));
   onmessage({ data: { settings, range, blob: { arrayBuffer: () => Promise.reject(fault) } } });
@@ -264,7 +263,7 @@ async function openMessage(t) {
   const folder = await mkdtemp(join(os.tmpdir(), "vulfsjor-"));
   const path = join(folder, "message");
   await writeFile(path, MESSAGE);
-  const file = await open(path);
+  const file = await open(path, "r+");
   t.after(async () => {
     await file.close();
     await rm(folder, { recursive: true });
@@ -296,6 +295,7 @@ test("workers read an open file of node", async (t) => {
       assert.deepEqual(counts.at(-1) ?? [0, 0], [length, length]);
       const range = 4 * leafLength * Math.max(1, Math.floor(RANGE / leafLength / 4));
       const ranges = threads === 1 ? 0 : Math.max(1, Math.ceil(length / range));
+      jobs.sort((a, b) => a.file.at - b.file.at); // a worker is given its first when it has started
       assert.deepEqual(
         jobs.map(({ file: { fd, at, length: part }, message: bytes }) => [fd, at, part, bytes]),
         Array.from({ length: ranges }, (_, i) =>
@@ -303,6 +303,61 @@ test("workers read an open file of node", async (t) => {
     }
     assert.deepEqual(await blake2bStream(file), blake2b(message));
   }
+});
+
+test("past 4 GiB each part of a file is read where it is", async () => {
+  const size = 2 ** 32 + 3 * RANGE + 5;
+  // by workers, which answer with zeros
+  const jobs = [];
+  const Class = class extends EventEmitter {
+    constructor() {
+      super();
+      setImmediate(() => this.emit("message", "ready"));
+    }
+    postMessage({ file, range }) {
+      jobs.push([file.at, file.length, range.first, range.ends]);
+      const digests = new Uint8Array(64 * Math.ceil(file.length / 65536));
+      setImmediate(() => this.emit("message", digests));
+    }
+    terminate() {}
+  };
+  const handle = { fd: 3, stat: async () => ({ isFile: () => true, size }) };
+  await withWorkers(Class, () => byThreads(handle, { leafLength: 65536 }));
+  const whole = Math.floor(size / RANGE);
+  assert.deepEqual(jobs.sort((a, b) => a[0] - b[0]), Array.from({ length: whole + 1 }, (_, i) => [
+    i * RANGE, i < whole ? RANGE : 5, BigInt(i * RANGE) / 65536n, i === whole]));
+  // by this thread, from a file that says it has read 4 GiB at once
+  const places = [];
+  handle.read = async (bytes, offset, length, at) => {
+    places.push([offset, length, at]);
+    const from = places.length * 1000;
+    bytes.set(MESSAGE.subarray(from, from + Math.min(length, 1000)));
+    return { bytesRead: places.length === 1 ? 2 ** 32 + 3 * RANGE - 10 : Math.min(length, 10) };
+  };
+  const counts = [];
+  const digest = await blake2bStream(handle, { onProgress: (count) => counts.push(count) });
+  assert.deepEqual(places, [
+    [0, RANGE, 0], [0, 15, size - 15], [0, 5, size - 5]]);
+  const read = new Uint8Array(RANGE + 15);
+  read.set(MESSAGE.subarray(1000, 2000));
+  read.set(MESSAGE.subarray(2000, 2010), RANGE);
+  read.set(MESSAGE.subarray(3000, 3005), RANGE + 10);
+  assert.deepEqual(digest, blake2b(read));
+  assert.deepEqual(counts, [RANGE, RANGE + 10, RANGE + 15]);
+});
+
+test("a file that is read in short pieces has the same digest", async (t) => {
+  const { file } = await openMessage(t);
+  const short = {
+    fd: file.fd,
+    stat: () => file.stat(),
+    read: (bytes, offset, length, at) => file.read(bytes, offset, Math.min(length, 1_000_000), at),
+  };
+  const counts = [];
+  const onProgress = (...both) => counts.push(both);
+  assert.deepEqual(await blake2bStream(short, { onProgress }), blake2b(MESSAGE));
+  assert.deepEqual(counts, Array.from({ length: 10 }, (_, i) =>
+    [Math.min((i + 1) * 1_000_000, 9_000_001), 9_000_001]));
 });
 
 test("a file that ends early, is closed or is a folder is refused", async (t) => {
@@ -372,16 +427,32 @@ test("a browser says how many processors there are, or nothing", async () => {
   }
 });
 
+// A worker of a browser that starts, unless it is told to fail, and then does what work() does.
+class Fake {
+  static made = [];
+  static failing = () => undefined;
+  constructor(url, options) {
+    Fake.made.push([String(url), options]);
+    const fault = Fake.failing(String(url));
+    if (fault instanceof Error) throw fault;
+    setImmediate(() => (fault ? this.onerror(fault) : this.onmessage({ data: "ready" })));
+  }
+  async postMessage({ settings, range, blob, message, module }) {
+    assert.ok(module instanceof WebAssembly.Module);
+    const bytes = message ?? new Uint8Array(await blob.arrayBuffer());
+    this.onmessage({ data: treeLeaves(bytes, { ...settings, ...range }) });
+  }
+  terminate() { Fake.made.push("stopped"); }
+}
+
 test("in a browser, workers read slices of a blob", async () => {
   const ranges = [];
-  const Class = class {
-    postMessage({ settings, range, blob, message }, transferred) {
-      assert.deepEqual([message, transferred], [undefined, []]);
-      ranges.push([range.first, blob.size]);
-      blob.arrayBuffer().then((buffer) =>
-        this.onmessage({ data: treeLeaves(new Uint8Array(buffer), { ...settings, ...range }) }));
+  const Class = class extends Fake {
+    postMessage(job, transferred) {
+      assert.deepEqual([job.message, transferred], [undefined, []]);
+      ranges.push([Number(job.range.first), job.blob.size]);
+      super.postMessage(job);
     }
-    terminate() {}
   };
   for (const length of [MESSAGE.length, RANGE, 0]) {
     const message = MESSAGE.subarray(0, length);
@@ -389,8 +460,8 @@ test("in a browser, workers read slices of a blob", async () => {
       Class, 4, () => byThreads(new Blob([message]), { leafLength: 65536, threads: 2 }));
     assert.equal(root, rootOf(message, { leafLength: 65536 }));
   }
-  assert.deepEqual(ranges, [
-    [0n, RANGE], [64n, RANGE], [128n, MESSAGE.length - 2 * RANGE], [0n, RANGE], [0n, 0],
+  assert.deepEqual(ranges.sort((a, b) => a[0] - b[0] || a[1] - b[1]), [
+    [0, 0], [0, RANGE], [0, RANGE], [64, RANGE], [128, MESSAGE.length - 2 * RANGE],
   ]);
 });
 
@@ -402,6 +473,12 @@ test("what a worker of node or of a browser reports is an error of the call", as
     ["exit", 5, "it exited with code 5"],
   ]) {
     const Class = class extends EventEmitter {
+      constructor(program, words) {
+        super();
+        assert.match(program, /^"use strict";/);
+        assert.deepEqual(words, { eval: true, execArgv: [] });
+        setImmediate(() => this.emit("message", "ready"));
+      }
       postMessage() { setImmediate(() => this.emit(event, value)); }
       terminate() {}
     };
@@ -412,23 +489,63 @@ test("what a worker of node or of a browser reports is an error of the call", as
     ["messageerror", {}, "its result could not be read"],
     ["error", {}, "it could not be started"], ["error", { message: "no" }, "no"],
   ]) {
-    let stopped = 0;
-    const Class = class {
-      constructor(url, words) {
-        assert.match(url.href, /\/src\/worker\.js$/);
-        assert.deepEqual(words, { type: "module" });
-      }
+    const Class = class extends Fake {
       postMessage() { setImmediate(() => this[`on${event}`](value)); }
-      terminate() { stopped++; }
     };
+    Fake.made.length = 0;
     await assert.rejects(
       inBrowser(Class, 4, () => byThreads(new Blob([MESSAGE]), { ...options, threads: 2 })),
       { message: `treeRootStream: a worker failed: ${message}` });
-    assert.equal(stopped, 2);
+    assert.deepEqual(Fake.made.splice(2), ["stopped", "stopped"]);
   }
 });
 
-test("threads is an integer from 0 to 256, of the tree alone", async () => {
+test("where a text cannot be started a file is, or else the calling thread hashes", async (t) => {
+  t.after(() => (Fake.failing = () => undefined));
+  const released = [];
+  const { revokeObjectURL } = URL;
+  t.after(() => (URL.revokeObjectURL = revokeObjectURL));
+  URL.revokeObjectURL = (url) => {
+    released.push(url);
+    revokeObjectURL(url);
+  };
+  const file = [new URL("../src/vulfsjor_worker.js", import.meta.url).href, { type: "module" }];
+  const thrown = new Error("refused");
+  const isText = (url) => url.startsWith("blob:");
+  for (const [failing, cause, made] of [
+    [() => undefined, undefined, ["text", "stopped"]],
+    [(url) => isText(url) && {}, undefined, ["text", "stopped", "file", "stopped"]],
+    [(url) => (isText(url) ? thrown : undefined), undefined, ["text", "file", "stopped"]],
+    [(url) => (isText(url) ? thrown : { message: "no file" }), "no file",
+      ["text", "file", "stopped"]],
+    [(url) => (isText(url) ? {} : thrown), "refused", ["text", "stopped", "file"]],
+    [() => ({}), "it could not be started", ["text", "stopped", "file", "stopped"]],
+  ]) {
+    Fake.failing = failing;
+    for (const source of [new Blob([MESSAGE]), inPieces(MESSAGE, 777_777)]) {
+      Fake.made.length = 0;
+      released.length = 0;
+      const [causes, counts] = [[], []];
+      const root = await inBrowser(Fake, 4, () => byThreads(source, {
+        leafLength: 65536, threads: 2,
+        onFallback: (...words) => causes.push(words), onProgress: (count) => counts.push(count),
+      }));
+      assert.equal(root, rootOf(MESSAGE, { leafLength: 65536 }));
+      // of the two workers only the first calls onFallback, and each is started once
+      assert.deepEqual(causes.map(([fault, ...more]) => [fault.message, ...more]),
+        cause === undefined ? [] : [[cause]]);
+      const twice = made.flatMap((name) => [name, name]).sort();
+      assert.deepEqual(Fake.made.map((entry) =>
+        (entry === "stopped" ? entry : isText(entry[0]) ? "text" : "file")).sort(), twice);
+      assert.deepEqual(Fake.made.filter(([url]) => url === file[0]),
+        Array(2 * made.includes("file")).fill(file));
+      assert.equal(new Set(released).size, 2);
+      assert.deepEqual([counts.length, counts.at(-1)], [3, MESSAGE.length]);
+    }
+  }
+});
+
+test("threads is an integer from 0 to 256, onFallback a function, and only of trees", async () => {
   const rejects = (options, name, message) =>
     assert.rejects(treeRootStream(new Blob([]), { leafLength: 5, ...options }), { name, message });
   for (const threads of [257, 1.5, -1, NaN]) {
@@ -438,6 +555,8 @@ test("threads is an integer from 0 to 256, of the tree alone", async () => {
   }
   await rejects(
     { threads: "4" }, "TypeError", "treeRootStream: threads must be a number, not a string");
+  await rejects({ onFallback: true }, "TypeError",
+    "treeRootStream: onFallback must be a function, not a boolean");
   assert.throws(() => treeRoot(MESSAGE, { leafLength: 5, threads: 2 }), {
     message: 'treeRoot: unknown property "threads" of options; ' +
       "known are leafLength, digestLength, salt, personalization",
@@ -501,12 +620,14 @@ test("an abort, or progress that throws, ends it and stops the workers", async (
 });
 
 test("a worker that fails is an error, and nothing hangs", async () => {
+  const started = (act) => `const { parentPort } = require("node:worker_threads");
+    parentPort.once("message", () => { ${act} });
+    parentPort.postMessage("ready");`;
   const programs = {
-    "nothing here": 'throw new Error("nothing here")',
-    "a thing": 'throw "a thing"',
-    "it exited with code 3": "process.exit(3)",
-    "it exited with code 0":
-      'require("node:worker_threads").parentPort.once("message", () => process.exit(0))',
+    "nothing here": started('throw new Error("nothing here")'),
+    "a thing": started('throw "a thing"'),
+    "it exited with code 3": started("process.exit(3)"),
+    "it exited with code 0": started("process.exit(0)"),
   };
   for (const [cause, program] of Object.entries(programs)) {
     for (const source of [endless().stream, new Blob([MESSAGE]), new Blob([])]) {
@@ -518,20 +639,63 @@ test("a worker that fails is an error, and nothing hangs", async () => {
       await ended(begun);
     }
   }
-  const refusing = class { constructor() { throw new Error("no room"); } };
-  await assert.rejects(
-    withWorkers(refusing, () => byThreads(new Blob([MESSAGE]), { leafLength: 1 })),
-    /^Error: no room$/);
   // one of several, and a source that stalls
   let number = 0;
   const second = counted(
-    [], (...words) => (++number === 2 ? ["process.exit(3)", { eval: true }] : words));
+    [], (...words) => (++number === 2 ? [started("process.exit(3)"), { eval: true }] : words));
   const stalled = (async function* () {
     yield MESSAGE;
     await new Promise(() => setTimeout(() => {}, 1e6).unref());
   })();
   await assert.rejects(withWorkers(second, () => byThreads(stalled, { leafLength: 65536 })),
     { message: "treeRootStream: a worker failed: it exited with code 3" });
+});
+
+test("in node, too, the calling thread hashes what no worker can be started for", async (t) => {
+  const { file } = await openMessage(t);
+  const wanted = rootOf(MESSAGE, { leafLength: 65536 });
+  const options = { leafLength: 65536, threads: 2 };
+  const begun = [];
+  const failing = (program) => counted(begun, () => [program, { eval: true }]);
+  let number = 0;
+  const refusing = class { constructor() { throw new Error("no room"); } };
+  for (const [Class, cause] of [
+    [failing('throw new Error("nothing here")'), "nothing here"],
+    [failing("process.exit(3)"), "it exited with code 3"],
+    [failing(""), "it exited with code 0"], [refusing, "no room"],
+    // only one of two
+    [counted(begun, (...words) =>
+      (++number % 2 === 0 ? ["process.exit(3)", { eval: true }] : words)), "it exited with code 3"],
+  ]) {
+    for (const source of [file, new Blob([MESSAGE]), inPieces(MESSAGE, 777_777)]) {
+      const causes = [];
+      const onFallback = (fault) => causes.push(fault.message);
+      const root = await withWorkers(Class, () => byThreads(source, { ...options, onFallback }));
+      assert.equal(root, wanted);
+      assert.deepEqual(causes, [cause]);
+    }
+  }
+  await ended(begun);
+  // without a function to call, and with one that throws
+  const fault = new Error("I want workers");
+  const call = (more) => withWorkers(refusing, () => byThreads(file, { ...options, ...more }));
+  assert.equal(await call({ onFallback: undefined }), wanted);
+  await assert.rejects(call({ onFallback() { throw fault; } }), fault);
+  // an abort comes through between ranges, and the file's errors are those of the call
+  const control = new AbortController();
+  const counts = [];
+  const onProgress = (count) => {
+    counts.push(count);
+    setImmediate(() => control.abort(fault));
+  };
+  await assert.rejects(
+    call({ leafLength: 64, onFallback() {}, onProgress, signal: control.signal }), fault);
+  assert.ok(counts.length < 3, String(counts));
+  const size = MESSAGE.length + 5;
+  const longer = { fd: file.fd, stat: async () => ({ isFile: () => true, size }) };
+  await assert.rejects(
+    withWorkers(refusing, () => byThreads(longer, { ...options, onFallback() {} })),
+    { message: `the file ends at byte ${MESSAGE.length}` });
 });
 
 test("a process ends after a call by threads", () => {

@@ -54,7 +54,7 @@ test("the values of the README and of the package for Python", () => {
 test("the names that the package has", () => {
   assert.deepEqual(Object.keys(vulfsjor).sort(), [
     "Blake2b", "Blake2s", "TreeHash", "blake2b", "blake2bMany", "blake2bStream", "blake2s",
-    "blake2sMany", "blake2sStream", "equal", "fromHex", "hex", "load", "treeLeaves", "treeRoot",
-    "treeRootOfLeaves", "treeRootStream", "utf8",
+    "blake2sMany", "blake2sStream", "equal", "fromHex", "hashTransform", "hashWritable", "hex",
+    "load", "treeLeaves", "treeRoot", "treeRootOfLeaves", "treeRootStream", "utf8",
   ]);
 });

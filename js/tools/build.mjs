@@ -2,13 +2,14 @@
 // Writes what is made from dist/wasm/vulfsjor.wasm, the module that the proved source compiles to:
 //
 //   tools/build.mjs                writes src/wasm.js: the module with a 32-bit memory (lower.mjs)
-//                                  in base64, and the hashes of both
-//   tools/build.mjs --check        compares src/wasm.js with that instead
+//                                  in base64, and the hashes of both; and src/worker_text.js:
+//                                  the script of a worker, from src/vulfsjor_worker.js
+//   tools/build.mjs --check        compares these files with that instead
 //   tools/build.mjs --page FILE    writes the page in one file, from src/ and the files of demo/
 import { createHash } from "node:crypto";
 import { readFileSync, writeFileSync } from "node:fs";
 import { fileURLToPath } from "node:url";
-import { bundle } from "./bundle.mjs";
+import { bundle, shorten } from "./bundle.mjs";
 import { lower } from "./lower.mjs";
 
 const here = (path) => fileURLToPath(new URL(path, import.meta.url));
@@ -34,11 +35,22 @@ export function decode() {
 `;
 }
 
+// The module comes with the first range, so the text leaves it out.
+function workerText() {
+  const script = shorten(bundle(here("../src/vulfsjor_worker.js"), [here("../src/wasm.js")]));
+  return `// Made by tools/build.mjs from vulfsjor_worker.js and what it imports. Do not edit.
+
+/** The script of a worker. */
+export const text =
+  ${JSON.stringify(script)};
+`;
+}
+
 // The page's policy allows its own script and style (by their hashes), WebAssembly, and workers
 // from blob: URLs. It allows nothing else, and no connection.
 function pageOf() {
   const read = (name) => readFileSync(here(`../demo/${name}`), "utf8");
-  const script = read("page.js");
+  const script = read("manifest.js") + read("page.js");
   const style = read("page.css");
   const allow = (text) => `'sha256-${sha256(text, "base64")}'`;
   const values = {
@@ -61,18 +73,19 @@ function pageOf() {
   return read("page.html").replace(/@(\w+)@/g, (_, name) => values[name]);
 }
 
-function check(target, text) {
-  if (readFileSync(target, "utf8") === text) return;
-  console.error(`build: ${target} is not what this script makes`);
+function check(name, text) {
+  if (readFileSync(here(name), "utf8") === text) return;
+  console.error(`build: ${here(name)} is not what this script makes`);
   process.exitCode = 1;
 }
 
-const TARGET = here("../src/wasm.js");
 const [option, file] = process.argv.slice(2);
-if (option === undefined) writeFileSync(TARGET, wasmOf(readFileSync(MODULE)));
-else if (option === "--check") check(TARGET, wasmOf(readFileSync(MODULE)));
-else if (option === "--page" && file !== undefined) writeFileSync(file, pageOf());
-else {
+if (option === "--page" && file !== undefined) writeFileSync(file, pageOf());
+else if (option === undefined || option === "--check") {
+  const put = option === undefined ? (name, text) => writeFileSync(here(name), text) : check;
+  put("../src/wasm.js", wasmOf(readFileSync(MODULE)));
+  put("../src/worker_text.js", workerText());
+} else {
   console.error("usage: tools/build.mjs [--check | --page FILE]");
   process.exitCode = 2;
 }

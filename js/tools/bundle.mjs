@@ -10,16 +10,16 @@ const LIST = /^export \{([^}]*)\};$/gm;
 const namesIn = (list) => list.split(",").map((name) => name.trim()).filter((name) => name !== "");
 
 /**
- * The script of the module in this file. The workers of treeRootStream are not in it, and cannot be
- * started from it.
+ * The script of the module in this file. The modules that leftOut names export nothing in it.
  */
-export function bundle(file) {
+export function bundle(file, leftOut = []) {
   const numbers = new Map();
   const parts = [];
   const add = (path) => {
     if (numbers.has(path)) return numbers.get(path);
     const exported = [];
-    const text = readFileSync(path, "utf8")
+    const source = leftOut.includes(path) ? "" : readFileSync(path, "utf8");
+    const text = source
       .replace(IMPORT, (_, list, whole, from) => {
         const number = add(resolve(dirname(path), from));
         return `const ${whole ?? `{ ${namesIn(list).join(", ")} }`} = module${number};`;
@@ -44,4 +44,9 @@ export function bundle(file) {
   };
   add(resolve(file));
   return `"use strict";\n${parts.join("")}`;
+}
+
+/** The same script without comments that have lines of their own, indentation and empty lines. */
+export function shorten(script) {
+  return script.replace(/^ *\/\*\*?[^]*?\*\/$|^ *\/\/.*$/gm, "").replace(/^\s+/gm, "");
 }

@@ -1,14 +1,13 @@
 // Compiles, and each line marked as an error is one.
 import {
-  Blake2b, Blake2s, TreeHash, blake2b, blake2bMany, blake2bStream, blake2s, equal, fromHex, hex,
-  load,
-  treeLeaves, treeRoot, treeRootOfLeaves, treeRootStream, utf8, type Bytes, type FileHandleLike,
-  type NodeOptions,
+  Blake2b, Blake2s, TreeHash, blake2b, blake2bMany, blake2bStream, blake2s, equal, fromHex,
+  hashTransform, hashWritable, hex, load, treeLeaves, treeRoot, treeRootOfLeaves, treeRootStream, utf8, type Bytes, type FileHandleLike,
+  type HashOptions, type ManyOptions,
 } from "vulfsjor";
 
 const digest: Uint8Array = blake2b(
   new Uint8Array(3), { digestLength: 32, key: new ArrayBuffer(3) });
-const options: NodeOptions = {
+const options: HashOptions = {
   salt: new DataView(new ArrayBuffer(3)), tree: { nodeOffset: 5n, lastNode: true },
 };
 const text: string = new Blake2b(options).update(digest).copy().reset().hex();
@@ -17,14 +16,16 @@ const isSame: boolean = equal(digest, fromHex(hex(digest))) && copy.verify(utf8(
 const roots: Uint8Array[] = [
   treeRoot(digest, { leafLength: 5 }), new TreeHash({ leafLength: 5 }).digest(),
 ];
-const many: Uint8Array[] = blake2bMany(new Set<Bytes>([digest, new SharedArrayBuffer(3)]));
+const ofEach: ManyOptions = { key: digest };
+const many: Uint8Array[] = blake2bMany(new Set<Bytes>([digest, new SharedArrayBuffer(3)]), ofEach);
 async function all(file: Blob, signal: AbortSignal): Promise<Uint8Array[]> {
   await load();
   return [
     await blake2bStream(
       file, { key: digest, signal, onProgress: (bytes, total) => console.log(bytes, total ?? 0) }),
     await blake2bStream(file.stream()),
-    await treeRootStream(file, { leafLength: 65536, threads: 4 }),
+    await treeRootStream(
+      file, { leafLength: 65536, threads: 4, onFallback: (reason) => { throw reason; } }),
     treeRootOfLeaves(
       treeLeaves(digest, { leafLength: 5, first: 0n, ends: true }), { leafLength: 5 }),
   ];
@@ -47,6 +48,15 @@ blake2bStream(strings);
 blake2bStream(digest);
 // @ts-expect-error a signal, and not its controller
 blake2bStream(file, { signal: new AbortController() });
+
+// pipes of a browser
+const copied: Promise<void> = file.stream().pipeThrough(hashTransform(new Blake2b()))
+  .pipeTo(hashWritable(new TreeHash({ leafLength: 5 })));
+console.log(copied);
+// @ts-expect-error options are those of the hash
+hashTransform({ digestLength: 32 });
+// @ts-expect-error a pair, and no sink
+file.stream().pipeTo(hashTransform(new Blake2b()));
 
 // @ts-expect-error a string is not bytes
 blake2b("abc");

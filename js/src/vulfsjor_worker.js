@@ -1,0 +1,16 @@
+// Hashes ranges of leaves in a worker, for workers.js, which starts it from worker_text.js or from
+// this file.
+
+import { moduleOf } from "./engine.js";
+import { digestsOf } from "./ranges.js";
+
+const { parentPort } = globalThis.process?.getBuiltinModule?.("node:worker_threads") ?? {};
+const port = parentPort ?? globalThis;
+
+// An error that this throws reaches the other side as the worker's; that of a promise would not.
+const fail = (fault) => setTimeout(() => { throw fault; });
+port.onmessage = ({ data: { module, ...job } }) => {
+  moduleOf(module); // so that it is not compiled again here
+  digestsOf(job).then((digests) => port.postMessage(digests, [digests.buffer])).catch(fail);
+};
+port.postMessage("ready");

@@ -1,0 +1,162 @@
+// Bundles of the package, and workers in them: in node and in Chromium, under policies that forbid
+// some ways to start a worker.
+import assert from "node:assert/strict";
+import { execFile, spawnSync } from "node:child_process";
+import { cpSync, mkdtempSync, readFileSync, rmSync, writeFileSync } from "node:fs";
+import { createServer } from "node:http";
+import { tmpdir } from "node:os";
+import { extname, join } from "node:path";
+import test, { after, before } from "node:test";
+import { fileURLToPath } from "node:url";
+import { promisify } from "node:util";
+import { startChromium } from "./chromium.mjs";
+
+const top = fileURLToPath(new URL("..", import.meta.url));
+const has = (command) => spawnSync(command, ["--version"]).status === 0;
+const WORKER = "node_modules/vulfsjor/src/vulfsjor_worker.js";
+// A message of two ranges, and its root by hashlib.
+const MESSAGE = "new Uint8Array(5_000_000).map((_, i) => i ^ (i >> 8))";
+const WANTED = "3a0a24dac3e2a0b92973e1ad072c28b690377ea0e5dbbc0b7c50d7cac83ecd14" +
+  "d33fd302a7654e6fa9a2345cf81602f2cce9f1ef0cc02e0f9796d8fa40abc183";
+// Hashes by workers, and shows the root and why a worker could not be started.
+const PROGRAM = `import { hex, treeRootStream } from "vulfsjor";
+  const message = ${MESSAGE};
+  const causes = [];
+  const onFallback = (cause) => causes.push(String(cause));
+  treeRootStream(new Blob([message]), { leafLength: 65536, threads: 3, onFallback }).then(
+    (root) => show([hex(root), ...causes]), (fault) => show([String(fault)]));
+  const show = (answer) => globalThis.document
+    ? document.body.append(JSON.stringify(answer)) : console.log(JSON.stringify(answer));`;
+
+let folder;
+const path = (name) => join(folder, name);
+
+before(() => {
+  folder = mkdtempSync(join(tmpdir(), "vulfsjor-bundlers-"));
+  for (const file of ["package.json", "index.js", "src"]) {
+    cpSync(join(top, file), path(`node_modules/vulfsjor/${file}`), { recursive: true });
+  }
+  writeFileSync(path("app.mjs"), PROGRAM);
+  // for bundlers that resolve no names without a plugin
+  writeFileSync(
+    path("path.mjs"), PROGRAM.replace('"vulfsjor"', '"./node_modules/vulfsjor/index.js"'));
+});
+after(() => rmSync(folder, { recursive: true }));
+
+const run = promisify(execFile);
+// Bundles, and asserts that the bundler had no remark.
+async function bundle(command, ...words) {
+  const { stdout, stderr } = await run(command, words, { cwd: folder });
+  const remarks = (stdout + stderr).replace("webpack compiled successfully\n", "");
+  assert.equal(remarks, "", `${command} ${words.join(" ")}`);
+}
+
+// What each bundler writes for each format, in a folder of its own with no other file.
+const BUNDLERS = {
+  esbuild: (format, file) => bundle("esbuild", "app.mjs", "--bundle", "--log-level=warning",
+    `--format=${format}`, `--outfile=${file}`, ...(format === "iife" ? ["--minify"] : [])),
+  rollup: (format, file) => bundle("rollup", "path.mjs", "--silent", "--format",
+    format === "esm" ? "es" : format, "--file", file),
+};
+
+for (const [command, write] of Object.entries(BUNDLERS)) {
+  test(`bundles of ${command} start their workers in node`, async (t) => {
+    if (!has(command)) return t.skip(`no ${command}`);
+    await Promise.all(["esm", "iife", "cjs"].map(async (format) => {
+      const file = `${command}-${format}/app.${format === "esm" ? "mjs" : "cjs"}`;
+      await write(format, file);
+      const { stdout } = await run(process.execPath, [path(file)]);
+      assert.deepEqual(JSON.parse(stdout), [WANTED], `${command} ${format}`);
+    }));
+  });
+}
+
+const TYPES = { "": "text/html", ".js": "text/javascript", ".mjs": "text/javascript" };
+const PAGES = {
+  module: '<script type="module" src="app.mjs"></script>',
+  script: '<body><script src="app.js"></script>',
+};
+
+// Serves folders of bundles: /NAME/PAGE/POLICY/ is the page over the folder NAME, under the policy
+// with this source of workers, or with no policy.
+async function serve(t) {
+  const server = createServer(({ url }, response) => {
+    const [, name, page, policy, ...places] = decodeURIComponent(url).split("/");
+    const file = places.join("/");
+    try {
+      const body = file === "" ? PAGES[page] : readFileSync(path(`${name}/${file}`));
+      response.setHeader("content-type", TYPES[extname(file)]);
+      if (policy !== "none given") {
+        response.setHeader("content-security-policy",
+          `default-src 'none'; script-src 'self' 'wasm-unsafe-eval'; worker-src ${policy}`);
+      }
+      response.end(body);
+    } catch {
+      response.writeHead(404).end();
+    }
+  });
+  await new Promise((resolve) => server.listen(0, "127.0.0.1", resolve));
+  t.after(() => {
+    server.closeAllConnections();
+    server.close();
+  });
+  return `http://127.0.0.1:${server.address().port}`;
+}
+
+// Opens pages, and asserts that each has the root, and the cause for which no worker was started.
+async function look(t, pages) {
+  const chromium = await startChromium().catch((fault) => {
+    if (fault.code !== "ENOENT") throw fault;
+  });
+  if (chromium === undefined) return t.skip("no chromium");
+  t.after(() => chromium.close());
+  const address = await serve(t);
+  for (const [name, page, policy, cause] of pages) {
+    const { until } = await chromium.open(`${address}/${name}/${page}/${policy}/`);
+    const [root, ...causes] = JSON.parse(await until("document.body.textContent.trim()", 60));
+    const where = `${name} ${page} ${policy}`;
+    assert.equal(root, WANTED, where);
+    assert.equal(causes.length, cause === undefined ? 0 : 1, `${where}: ${causes}`);
+    if (cause !== undefined) assert.match(causes[0], cause, where);
+  }
+}
+
+const NO_WORKER = /^Error: it could not be started$/;
+
+test("workers start in Chromium with esbuild and without, or one thread hashes", async (t) => {
+  if (!has("esbuild")) return t.skip("no esbuild");
+  const build = BUNDLERS.esbuild;
+  await Promise.all([
+    build("esm", "alone/app.mjs"), build("iife", "alone/app.js"), build("esm", "beside/app.mjs"),
+    // as README says
+    bundle("esbuild", WORKER, "--bundle", "--log-level=warning", "--format=esm",
+      "--outfile=beside/vulfsjor_worker.js"),
+  ]);
+  cpSync(path("path.mjs"), path("plain/app.mjs"));
+  cpSync(path("node_modules"), path("plain/node_modules"), { recursive: true });
+  await look(t, [
+    ["plain", "module", "none given"], ["plain", "module", "'self'"],
+    ["alone", "module", "none given"], ["alone", "script", "none given"],
+    ["alone", "module", "blob:"], ["alone", "script", "blob:"],
+    ["beside", "module", "'self'"],
+    ["alone", "module", "'self'", NO_WORKER], // for want of the file
+    ["beside", "module", "'none'", NO_WORKER],
+    ["alone", "script", "'self'", /^TypeError: .*URL/],
+  ]);
+});
+
+test("webpack finds the file of the worker", async (t) => {
+  if (!has("webpack")) return t.skip("no webpack");
+  await bundle("webpack", "--mode", "production", "--entry", "./app.mjs", "--output-path",
+    "webpack", "--output-filename", "app.js", "--stats", "errors-warnings");
+  await look(t, [
+    ["webpack", "script", "none given"], ["webpack", "script", "blob:"],
+    ["webpack", "script", "'self'"], ["webpack", "script", "'none'", NO_WORKER],
+  ]);
+});
+
+test("the file of the worker is named in the form of Vite and webpack", () => {
+  const source = readFileSync(join(top, "src/workers.js"), "utf8");
+  assert.equal(source.split(
+    'new Worker(new URL("./vulfsjor_worker.js", import.meta.url), { type: "module" })').length, 2);
+});
