@@ -15,13 +15,16 @@ help: ## list these names
 install: $(PROGRAMS:%=install-%) ## install b2, b2sum, their man pages and completions, and the C library in PREFIX
 	c/install.sh "$(PREFIX)"
 
+# Writes a file anew below $(to): $(call put,FILE,FOLDER,NAME)
+put = umask 022 && mkdir -p "$(to)/$(2)" && rm -f "$(to)/$(2)/$(3)" && cat $(1) >"$(to)/$(2)/$(3)"
+
 install-%:
-	install -d "$(to)/bin"
+	umask 022 && mkdir -p "$(to)/bin"
 	./$* --build "$(to)/bin/$*"
-	install -D -m 644 docs/$*.1 "$(to)/share/man/man1/$*.1"
-	install -D -m 644 completions/$*.bash "$(to)/share/bash-completion/completions/$*"
-	install -D -m 644 completions/_$* "$(to)/share/zsh/site-functions/_$*"
-	install -D -m 644 completions/$*.fish "$(to)/share/fish/vendor_completions.d/$*.fish"
+	$(call put,docs/$*.1,share/man/man1,$*.1)
+	$(call put,completions/$*.bash,share/bash-completion/completions,$*)
+	$(call put,completions/_$*,share/zsh/site-functions,_$*)
+	$(call put,completions/$*.fish,share/fish/vendor_completions.d,$*.fish)
 
 uninstall: $(PROGRAMS:%=uninstall-%) ## remove what `make install` has installed
 	c/install.sh --uninstall "$(PREFIX)"

@@ -23,7 +23,7 @@ TEXTS = {f"x86_64/{name}-{level}.s": level for name in ("vulfsjor", "b2", "b2sum
 TEXTS |= {f"aarch64/{name}.s": "arm" for name in ("vulfsjor", "b2", "b2sum")}
 PROGRAM = LIBRARY | {"read", "write", "__write", "__sysv_signal", "__x86_get_cpuid_feature_leaf", "rattle_alloc",
                      "rattle_arg", "rattle_dealloc", "rattle_errno", "rattle_realloc", "rattle_set_errno"}
-SUMS = PROGRAM | {"__xpg_strerror_r", "close", "open"}
+SUMS = PROGRAM - {"read", "__sysv_signal"} | {"__xpg_strerror_r", "close", "b2sum_open", "b2sum_read", "b2sum_signal"}
 LABEL = re.compile(r"([\w.]+):")
 CALL = re.compile(r"\t(?:callq?|jmpq?|bl?|b)\t([\w.]+)(?:@PLT)?$")
 VECTOR = re.compile(r"\b[vqdshb][0-9]+\b")

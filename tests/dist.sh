@@ -38,6 +38,7 @@ more=\$(sed -n 's/^run .*"\(-march=[^"]*\)".*/ \1/p' "\$2/bin/clang")
 line="\$crate for \$cpu\$more, \$(cat "$work/turn" 2>/dev/null)"
 printf '\t.globl\tf\n\tcallq\tmemcpy@PLT\nf:\n\tjmp\t.L1\n.L1:\n\t.ascii\t"%s"\n' "\$line" \
     >"\$2/module.s"
+printf '\tcallq\t%s@PLT\n' open read __sysv_signal >>"\$2/module.s"
 echo '"b2sum::hashes::update_tree":' >>"\$2/module.s"
 while [ "\$1" != -o ]; do shift; done
 echo "\$line" >"\$2"
@@ -116,6 +117,9 @@ check "each file is made of its crate, for its processor" \
 check "only b2sum has a weak function" diff <(cd dist && grep -hE 'weak|hidden.b2sum' */*.s |
     LC_ALL=C sort -u) \
     <(printf '\t.%s\n' {hidden,weak}$'\tb2sum..hashes..update_tree_1_2_3_'{arm,v2,v3,v4})
+check "only b2sum calls functions of c/b2sum.c" diff <(cd dist && grep -cE 'b2sum_(open|read|signal)@' */*.s |
+    grep -v :0; grep -lE '[^_](open|read|signal)@' x86_64/*.s) \
+    <(printf '%s:3\n' aarch64/b2sum.s x86_64/b2sum-v{2,3,4}.s; printf '%s\n' x86_64/{b2,vulfsjor}-v{2,3,4}.s)
 check "it is current" dist current
 check "it is what the sources compile to" counts 31 0 0
 rm crates/*/out/rlib/stamp
@@ -294,6 +298,24 @@ c..ff_1:
 END
 check "a weak function that is absent is refused" diff - \
     <(tools/plain_names.py _1 c::g <<<'"c::f":' 2>&1) <<<"plain_names.py: there is no function c::g"
+check "calls of functions elsewhere are renamed, and nothing else" diff - \
+    <(printf '%s\n' '	.globl	g' '	callq	read@PLT' '	bl	open' '	callq	pread@PLT' '	bl	c.open' '	bl	open2' \
+        '"c::read":' '	.ascii	"read"' '	callq	read.x' |
+        tools/plain_names.py _1 open=our_open read=our_read) <<'END'
+	.globl	g_1
+	.hidden	g_1
+	callq	our_read@PLT
+	bl	our_open
+	callq	pread@PLT
+	bl	c.open
+	bl	open2
+c..read_1:
+	.ascii	"read"
+	callq	read.x
+END
+check "one that is never called is refused" diff - \
+    <(printf '%s\n' '	.globl	g' '	callq	reads' '	.ascii	"read"' | tools/plain_names.py _1 read=our_read 2>&1) \
+    <<<"plain_names.py: read is never called"
 # What object_format.py makes of these lines, for macOS and for Windows.
 convert() { tools/object_format.py "$1" <"$work/elf.s"; }
 printf '\t%s\n' '.file	"f"' '.section	.text.f_1_2_3_v3,"ax",@progbits' '.globl	f_1_2_3_v3' \

@@ -2,14 +2,15 @@
 
 A test that only needs a digest calls hashlib. The functions here are for what hashlib does not have
 in one call (roots, ranges of leaves). What it does not have at all (steps, a parameter block of any
-bytes) is computed by tests/from_specification.py, for the family SCALAR["b"] or SCALAR["s"].
-`check` compares that with hashlib.
+bytes, BLAKE2bp and BLAKE2sp with a key or with shorter digests) is computed by
+tests/from_specification.py, for the family SCALAR["b"] or SCALAR["s"]. `check` compares that with
+hashlib.
 """
 import hashlib
 import sys
 
 from blake2_kinds import FAMILIES
-from from_specification import B, S, Input, Place, steps
+from from_specification import B, S, Input, Place, parallel, steps
 
 SCALAR = {"b": B, "s": S}
 
@@ -40,6 +41,24 @@ def tree_root(message, leaf_size, digest_size=64, **texts):
     return root_of_leaves(digests, leaf_size, digest_size, **texts)
 
 
+def parallel_digest(name, message, digest_size, key=b"", salt=b"", person=b""):
+    """The digest of BLAKE2bp ("b") or BLAKE2sp ("s"). hashlib has no nodes whose output is longer than the digest
+    length that they name, and no root that names a key and has no block of it."""
+    return parallel(SCALAR[name], digest_size, Input(message, key, salt, person))
+
+
+def parallel_by_hashlib(name, message, **texts):
+    """The same without a key, of the longest digest. `texts` are salt and person."""
+    count = {"b": 4, "s": 8}[name]
+    family = SCALAR[name]
+    blocks = [message[i:i + family.block] for i in range(0, len(message), family.block)]
+
+    def node(data, **place):
+        return FAMILIES[name].function(data, fanout=count, depth=2, inner_size=family.digest, **place, **texts).digest()
+    outputs = [node(b"".join(blocks[j::count]), node_offset=j, last_node=j == count - 1) for j in range(count)]
+    return node(b"".join(outputs), node_depth=1, last_node=True)
+
+
 def hashlib_node(given):
     """The arguments of hashlib's functions for an input, except its message and its key."""
     place = given.place
@@ -64,3 +83,8 @@ def check(source):
                 wanted = FAMILIES[name].function(message, digest_size=size, key=key or b"", **hashlib_node(given))
                 if steps(family, size, given)[1] != wanted.digest():
                     sys.exit(f"oracle: another digest than hashlib's, BLAKE2{name} of {size} bytes")
+        for length in (0, family.block, source.randrange(20 * family.block)):
+            given = Input(source.randbytes(length), None, salt, persona)
+            if parallel(family, family.digest, given) != parallel_by_hashlib(
+                    name, given.message, salt=salt, person=persona):
+                sys.exit(f"oracle: another digest than hashlib's, BLAKE2{name}p of {length} bytes")

@@ -196,7 +196,8 @@ def check_specification():
 
 
 # Where the version is, by what is before it.
-VERSIONS = (("c/include/vulfsjor.h", r"VULFSJOR_VERSION \""), ("js/package.json", r"^ *\"version\": \""), *(
+VERSIONS = (("c/include/vulfsjor.h", r"VULFSJOR_VERSION \""), ("js/package.json", r"^ *\"version\": \""), (
+    "crates/b2sum_commands/src/program.rt", r"\bb2sum \(Vulfsjor\) "), *(
     (path, r"^version = \"") for path in ("Cargo.toml", "rust-digest/Cargo.toml", "python/pyproject.toml")))
 
 
@@ -222,6 +223,20 @@ def check_files():
     for crate in paths("crates/*"):
         if f"| `{os.path.basename(crate)}` |" not in read("docs/MAP.md"):
             yield f"MAP: no row has the crate `{os.path.basename(crate)}`"
+
+
+def check_crates():
+    """The dependencies of the crates: hex is the only crate of the kit, and b2 needs none of b2sum's"""
+    rows = (line.split(":") for line in read("crates.txt").splitlines() if line)
+    needs = {name.split()[0]: set(rest.split()) for name, rest in rows}
+    if len(needs) != len(paths("crates/*")):
+        yield f"crates.txt: {len(needs)} crates"
+    for crate, used in needs.items():
+        for other in used - needs.keys() - {"hex"}:
+            yield f"crates.txt: {crate} needs {other}"
+        for other in used if not crate.startswith("b2sum") else ():
+            if other.startswith("b2sum"):
+                yield f"crates.txt: {crate} needs {other}"
 
 
 def measured(header):
@@ -369,8 +384,9 @@ def check_merges():
 def main():
     if sys.argv[1:]:
         sys.exit("usage: tests/pages.py")
-    for check in (check_clauses, check_edits, check_specification, check_version, check_files, check_links,
-                  check_quotes, check_speeds, check_guides, check_comments, check_symbolic_links, check_merges):
+    for check in (check_clauses, check_edits, check_specification, check_version, check_files, check_crates,
+                  check_links, check_quotes, check_speeds, check_guides, check_comments, check_symbolic_links,
+                  check_merges):
         absent = check in (check_symbolic_links, check_merges) and not os.path.exists(os.path.join(TOP, ".git"))
         try:
             wrong = [] if absent else list(check())

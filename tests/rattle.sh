@@ -12,7 +12,7 @@ if [ -n "${RT_CI-}" ]; then
     check "rt ci, which ended with status $RT_CI" [ "$RT_CI" -eq 0 ]
     finish
 fi
-[ $# -gt 0 ] || set -- blake2_tests blake2_kat b2_tests
+[ $# -gt 0 ] || set -- blake2_tests blake2_kat blake2_parallel_tests b2_tests
 has rt || { skip "the tests in Rattle" "no rt"; finish; }
 log=$work/rt
 for crate; do

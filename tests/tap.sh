@@ -82,7 +82,8 @@ assemble() {
     if [[ $1 == */b2sum* ]]; then
         [[ $1 != */aarch64/* ]] || build=arm.s
         words+=("-DUPDATE_TREE=$(sed -n 's/^\t\.weak\t//p' "$1")" "-I$top/c/include" -pthread
-            "$top"/c/{b2sum,threads,choose}.c "-DCHOOSE_ONE=${build%.s}" "${1/b2sum/vulfsjor}")
+            -DEND=b2sum_end "-DCHOOSE_ONE=${build%.s}" "$top"/c/{b2sum,threads,choose}.c
+            "${1/b2sum/vulfsjor}")
     fi
     cc -O2 -fno-lto -o "$2" "${words[@]}" "$1" "${@:3}"
 }

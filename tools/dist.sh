@@ -5,7 +5,8 @@
 #   tools/dist.sh make FOLDER FILE..   makes these of its files in another folder
 #   tools/dist.sh check                builds dist/ anew elsewhere, and compares byte for byte
 #   tools/dist.sh current              compares hashes only, of the files and the sources, with
-#                                      those in dist/MANIFEST
+#                                      those in dist/MANIFEST: status 1 if one is another, 2 if they
+#                                      could not be compared
 #
 # `make` and `check` need the toolchain of Rattle. They use what `rt ci` has proved, and prove the
 # rest. The same toolchain makes the same bytes every time, in any folder. `current` needs no
@@ -24,10 +25,11 @@ compiled=(aarch64/b2.s aarch64/b2sum.s aarch64/vulfsjor.s wasm/vulfsjor.wasm
     x86_64/b2sum-v2.s x86_64/b2sum-v3.s x86_64/b2sum-v4.s
     x86_64/vulfsjor-v2.s x86_64/vulfsjor-v3.s x86_64/vulfsjor-v4.s)
 declare -A format_of=([macos]=macho [windows]=coff)
-mapfile -t files < <(for file in "${compiled[@]}"; do
+list=$(for file in "${compiled[@]}"; do
     echo "$file"
     [[ $file == */b2sum* || $file != *.s ]] || printf "${file/\//-%s/}\n" "${!format_of[@]}"
-done | LC_ALL=C sort)
+done | LC_ALL=C sort) || exit 2
+mapfile -t files <<<"$list"
 source "$top/tools/kit.sh"
 
 stop() {
@@ -46,28 +48,41 @@ crate_of() {
 # The functions of a crate that C may replace: those of c/b2sum.c start threads.
 weak_of() { [ "$1" != b2sum ] || echo b2sum::hashes::update_tree; }
 
+# The functions of the C library that a crate gets from C of ours instead: those of c/b2sum.c. They
+# have names of their own, so nothing else in the program gets them.
+ours_of() { [ "$1" != b2sum ] || printf '%s=b2sum_%s\n' open open read read __sysv_signal signal; }
+
 # A hash of all that decides what is compiled except the toolchain. A line that is a comment decides
 # nothing.
 sources() {
     local folders
-    mapfile -t folders < <(crates_of "${crates[@]}" | sort -u | sed 's|.*|crates/&/src|')
-    cd "$top"
-    {
+    folders=$(crates_of "${crates[@]}" | sort -u | sed 's|.*|crates/&/src|') || return
+    mapfile -t folders <<<"$folders"
+    cd "$top" && {
         find "${folders[@]}" -name '*.rt' | LC_ALL=C sort |
-            xargs awk 'FNR == 1 { print "== " FILENAME } !/^[ \t]*\/\//'
-        version _
-        cat tools/plain_names.py tools/aarch64_attributes.csv tools/x86_64_v2.sed \
-            tools/x86_64_v4.sed tools/clear_registers.py tools/object_format.py
+            xargs awk 'FNR == 1 { print "== " FILENAME } !/^[ \t]*\/\//' &&
+            version _ &&
+            cat tools/plain_names.py tools/aarch64_attributes.csv tools/x86_64_v2.sed \
+                tools/x86_64_v4.sed tools/clear_registers.py tools/object_format.py
     } | sha256sum | cut -d ' ' -f 1
 }
 
 # What MANIFEST says of this word, and what follows from it.
 said() { sed -n "s/^# $1: //p" "$manifest"; }
 is_whole() {
-    printf '%s\n' "${files[@]}" | diff <(sed -n 's/^[0-9a-f]*  //p' "$manifest") - >&2 &&
-        (cd "$top/dist" && sha256sum --quiet --strict -c MANIFEST) >&2
+    local file wanted sums
+    for file in "${files[@]}"; do
+        [ -f "$top/dist/$file" ] || { echo "dist.sh: there is no dist/$file" >&2 && return 1; }
+    done
+    wanted=$(sed '/^#/d' "$manifest") && sums=$(cd "$top/dist" && sha256sum "${files[@]}") ||
+        return 2
+    [ "$sums" = "$wanted" ] || { diff <(echo "$wanted") - <<<"$sums" >&2 || return 1; }
 }
-is_current() { [ "$(said sources)" = "$(sources)" ]; }
+is_current() {
+    local wanted hash
+    wanted=$(said sources) && hash=$(sources) || return 2
+    [ "$wanted" = "$hash" ]
+}
 has_same_tools() { [ "$(said tools)" = "$(hash_of_tools)" ]; }
 
 # ---- building
@@ -118,7 +133,8 @@ build() {
         {
             echo "/* Made by tools/dist.sh from the proved crate $crate." \
                 "dist/README.md says how. */"
-            "$top/tools/plain_names.py" "_$(version _)_$end" $(weak_of "$crate") \
+            "$top/tools/plain_names.py" "_$(version _)_$end" \
+                $(weak_of "$crate") $(ours_of "$crate") \
                 <"$room/toolchain/module.s"
         } >"$to"
     fi
@@ -194,6 +210,10 @@ compare_all() {
 case ${1-},$# in
     --help,1 | -h,1) usage && exit ;;
     current,1)
+        # The tools of the two, before one that is absent makes a difference.
+        for tool in awk cat cut diff find sed sha256sum sort tr xargs; do
+            has "$tool" || { echo "dist.sh: there is no $tool on the PATH" >&2 && exit 2; }
+        done
         is_whole && is_current
         exit
         ;;

@@ -39,7 +39,8 @@ add_words() {
     words+=("-DMAIN=$(main_of "$1")" "-I$top/c/include")
     [ $# -eq 1 ] || words+=("-DMAIN_V3=$(main_of "$2")" "-DMAIN_V4=$(main_of "$3")")
     if [ "$name" = b2sum ]; then
-        words+=("-DUPDATE_TREE=$(weak_of "$1")" "$top"/c/{b2sum,threads,choose}.c -pthread)
+        words+=(-DEND=b2sum_end "-DUPDATE_TREE=$(weak_of "$1")"
+            "$top"/c/{b2sum,threads,choose}.c -pthread)
         [ $# -eq 1 ] ||
             words+=("-DUPDATE_TREE_V3=$(weak_of "$2")" "-DUPDATE_TREE_V4=$(weak_of "$3")")
     elif [ $# -eq 3 ]; then
@@ -47,13 +48,20 @@ add_words() {
     fi
 }
 
-# Whether dist/ is whole and made from these sources. The bash of macOS is too old for the second.
-is_made() {
+# Ends the script unless dist/ is whole and made from these sources. The bash of macOS is too old
+# for the second.
+check_dist() {
+    local status=0
     if [[ $OSTYPE != darwin* ]]; then
-        "$top/tools/dist.sh" current
+        "$top/tools/dist.sh" current || status=$?
     else
-        (cd "$top/dist" && shasum -a 256 -s -c MANIFEST)
+        (cd "$top/dist" && shasum -a 256 -s -c MANIFEST) || status=$?
     fi
+    case $status in
+        0) ;;
+        1) fail "dist/ was not made from these sources: run make dist" ;;
+        *) fail "dist/ could not be compared with these sources" ;;
+    esac
 }
 
 # Builds the program as this file, for the machine that the compiler compiles for, which has to be
@@ -84,7 +92,7 @@ build() {
         *) fail "there is no build for $target" ;;
     esac
     [[ $target == "${2-}"* ]] || fail "CC compiles for $target, and this machine is $2"
-    is_made || fail "dist/ was not made from these sources: run make dist"
+    check_dist
     echo "$name: assembling ${texts[*]}, which is done once" >&2
     begun=$(mktemp -- "$1.XXXXXX")
     trap 'rm -f -- "$begun" "$begun.new"' EXIT

@@ -1,0 +1,124 @@
+#!/usr/bin/env bash
+# Tests the scripts on a Linux without GNU's tools, with those of BusyBox, bash, a C compiler and
+# its binutils alone on the PATH; and what they build over the C library musl.
+source "$(dirname "$(readlink -f "$0")")/../c/tests/installed.sh"
+tools=$work/tools
+repository=$work/repository
+
+# A folder with those tools alone.
+make_tools() {
+    local tool
+    mkdir "$tools" || return 1
+    for tool in $(busybox --list); do ln -s "$(command -v busybox)" "$tools/$tool" || return 1; done
+    for tool in bash cc as ld ar make; do ln -sf "$(command -v "$tool")" "$tools/$tool"; done
+}
+
+# The repository, whose programs are built in a folder of its own.
+make_repository() {
+    mkdir "$repository" && cp "$top"/{b2,b2sum,Makefile} "$repository/" &&
+        ln -s "$top"/{c,completions,crates,dist,docs,tools} "$repository/" && echo abc >"$work/abc"
+}
+
+# Runs a command with only those tools.
+alone() { (cd "$repository" && env -i PATH="$tools" HOME="$work" "$@"); }
+
+programs_run() {
+    alone ./b2sum "$work/abc" >"$work/sums" && sums_by_hashlib "$work/abc" | diff "$work/sums" - &&
+        alone ./b2sum --check "$work/sums"
+}
+
+# The library: the same files as with the tools here, and all of them go again.
+installs() {
+    alone c/install.sh "$work/again/./x/../lib" && diff -r "$prefix" "$work/again/lib" &&
+        [ "$(readlink "$work/again/lib/lib/libvulfsjor.so")" = libvulfsjor.so.0 ] &&
+        alone c/install.sh --uninstall "$work/again/lib" &&
+        [ -z "$(find "$work/again" ! -type d)" ]
+}
+
+# `make install`, under a mask that keeps files from others, which is not that of what is installed.
+make_installs() {
+    (umask 077 && alone make -s install "PREFIX=$work/a prefix") &&
+        diff <(cd "$work/a prefix" && find . ! -type d | sed 's|^./||' | LC_ALL=C sort) <({
+            printf 'bin/%s\n' b2 b2sum
+            printf 'share/man/man1/%s.1\n' b2 b2sum
+            printf 'share/bash-completion/completions/%s\n' b2 b2sum
+            printf 'share/zsh/site-functions/_%s\n' b2 b2sum
+            printf 'share/fish/vendor_completions.d/%s.fish\n' b2 b2sum
+            cd "$prefix" && find . ! -type d | sed 's|^./||'
+        } | LC_ALL=C sort) &&
+        cmp "$work/a prefix/share/man/man1/b2.1" "$top/docs/b2.1" &&
+        [ "$("$work/a prefix/bin/b2" sum b512 <"$work/abc")  $work/abc" = \
+            "$(sums_by_hashlib "$work/abc")" ] &&
+        [ -z "$(find "$work/a prefix" \( -type d -o -type f \) ! -perm -o=r)" ] &&
+        "$work/a prefix/bin/b2sum" "$work/abc" | diff - <(sums_by_hashlib "$work/abc") &&
+        alone make -s uninstall "PREFIX=$work/a prefix" &&
+        [ -z "$(find "$work/a prefix" ! -type d)" ]
+}
+
+# Without one of the tools nothing is built or installed, its name is printed, and dist/ is not
+# blamed.
+names_what_is_missing() {
+    local tool
+    for tool in awk cat cut diff find sed sha256sum sort tr xargs mktemp cc; do
+        mv "$tools/$tool" "$work/hidden" && rm -rf "$repository/out" "$work/none"
+        ! alone ./b2sum "$work/abc" >"$work/said" 2>"$work/errors" &&
+            ! alone c/install.sh "$work/none" >>"$work/said" 2>"$work/errors.install" &&
+            [ ! -e "$work/none" ] && [ ! -s "$work/said" ] && mv "$work/hidden" "$tools/$tool" &&
+            ! grep -E "not made from|different" "$work/errors" "$work/errors.install" &&
+            grep -w -- "$tool" "$work/errors" && grep -w -- "$tool" "$work/errors.install" || {
+            echo "without $tool"
+            return 1
+        }
+    done
+}
+
+# Tools that are there and fail: dist/ is not blamed by b2sum, nor a list of functions by join.sh.
+# diff only shows what differs.
+fails_to_compare() {
+    local call tool
+    for call in {awk,cat,cut,find,sed,sha256sum,sort,tr,xargs}:"./b2sum $work/abc" \
+        {grep,sed,sort,tr}:"c/join.sh $work/none $top/dist/x86_64/vulfsjor-v2.s"; do
+        tool=${call%%:*}
+        mv "$tools/$tool" "$work/hidden" && rm -rf "$repository/out" "$work/none" &&
+            printf '#!%s\nexit 1\n' "$BASH" >"$tools/$tool" && chmod +x "$tools/$tool"
+        # shellcheck disable=SC2086
+        ! alone ${call#*:} >"$work/said" 2>"$work/errors" && rm "$tools/$tool" &&
+            mv "$work/hidden" "$tools/$tool" && [ ! -s "$work/said" ] && [ ! -e "$work/none" ] &&
+            ! grep -E "not made from|different" "$work/errors" || { echo "$call" && return 1; }
+    done
+}
+
+# The library and b2sum over musl, with the example of the guide and threads.
+musl() {
+    local folder=$work/musl words
+    echo abc >"$work/abc"
+    CC=musl-gcc "$here/install.sh" --from "$dist" "$folder" &&
+        block_of c/README.md c >"$work/hello.c" || return 1
+    for words in "" -static; do
+        # shellcheck disable=SC2086
+        musl-gcc -O2 $words "${warnings[@]}" -I"$folder/include" "$work/hello.c" \
+            "$folder/lib/libvulfsjor.a" -o "$work/hello" && "$work/hello" >"$work/said" &&
+            diff "$work/said" <(wanted_of_readme) || return 1
+    done
+    CC="musl-gcc -static" "$top/b2sum" --build "$work/b2sum" &&
+        "$work/b2sum" "$work/abc" | diff - <(sums_by_hashlib "$work/abc") &&
+        cat "$archive" "$archive" >"$work/long" && "$work/b2sum" --tree 65536 "$work/long" |
+        sed 's/.* = //' | diff - <(roots_by_hashlib 65536 "$work/long" | cut -d ' ' -f 1)
+}
+
+test_busybox() {
+    if has busybox && has python3 && has make; then
+        check "a folder with BusyBox's tools" make_tools && make_repository || return
+        check "b2sum" programs_run
+        check "c/install.sh" installs
+        check "make install" make_installs
+        check "a tool that is missing is named" names_what_is_missing
+        check "a comparison that fails is not a difference" fails_to_compare
+    else
+        skip "the scripts with BusyBox's tools alone" "no busybox, python3 or make"
+    fi
+    needs musl-gcc python3
+    check "the library, threads and b2sum over musl" musl
+}
+
+part test_busybox
