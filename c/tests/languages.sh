@@ -103,14 +103,12 @@ cpp_links() {
         "$prefix/lib/libvulfsjor-threads.a" "$archive" -pthread && "$work/link"
 }
 
-# hasher.cpp, by this compiler and standard, with the warnings of careful projects. The header of C
-# is a system header here.
+# hasher.cpp, by this compiler and standard, with the warnings of careful projects.
 hasher_of_cpp() {
     local compiler=$1 standard=$2
-    mkdir -p "$work/cpp" && cp "$include/vulfsjor.hpp" "$work/cpp/" &&
-        "$compiler" "-std=$standard" -O1 "${warnings[@]}" -Wconversion -Wshadow -Wold-style-cast \
-            -Wzero-as-null-pointer-constant "${@:3}" -isystem "$include" -I"$work/cpp" \
-            "$tests/hasher.cpp" "$archive" -o "$work/hasher" &&
+    "$compiler" "-std=$standard" -O1 "${warnings[@]}" -Wconversion -Wsign-conversion -Wshadow \
+        -Wold-style-cast -Wzero-as-null-pointer-constant "${@:3}" -I"$include" \
+        "$tests/hasher.cpp" "$archive" -o "$work/hasher" &&
         "$work/hasher" >"$work/lines" && python3 "$tests/check_lines.py" <"$work/lines"
 }
 
