@@ -9,10 +9,10 @@ and python/tests/test_package.py those in Python's guide. A block in C, C++ or R
 A block in cmake is a whole CMakeLists.txt, whose program `hello` is run. The blocks of a page run in order in one
 folder, which starts with links to b2, b2sum, c and dist of the repository, and for the guides with a file `data.bin` of
 100,000 bytes, which is the reader's; what a block leaves there is the next one's. Those of README.md in sh run in a
-fresh clone of the repository, with no tools but those of READMES_TOOLS on the PATH, and leave no file that git does not
-ignore. If a block in `text` follows an example, it is what the example prints, and so is what a comment in it `prints`;
-a line that ends with `...` is the beginning of a line. In cmake and sh, PATH is the repository and FOLDER the installed
-library.
+fresh clone of the repository by a user of core.autocrlf, with no tools but those of READMES_TOOLS on the PATH, and
+leave no file that git does not ignore. If a block in `text` follows an example, it is what the example prints, and so
+is what a comment in it `prints`; a line that ends with `...` is the beginning of a line. In cmake and sh, PATH is the
+repository and FOLDER the installed library.
 
 The installed library is a copy of that in the folder VULFSJOR_INSTALLED, if that is set, as by ./test. The module for
 Python is built here, and the script ends with an error if that fails. An example whose tool is absent is skipped: for
@@ -124,7 +124,8 @@ class Runner:
 
 
 class RunnerOfClone(Runner):
-    """Runs the examples in the shell in a fresh clone of the files of the repository that git does not ignore."""
+    """Runs the examples in the shell in a fresh clone of the files of the repository that git does not ignore. The
+    clone is made under core.autocrlf, so that it differs from others if an attribute of git is missing."""
 
     needs = {"sh": ("git",)}
 
@@ -136,7 +137,10 @@ class RunnerOfClone(Runner):
             git = *git, f"--git-dir={work / 'origin/.git'}", f"--work-tree={TOP}"
             self.call(*git, "add", "-A", at=TOP)
             self.call(*git, "commit", "-q", "-m", "all files", at=TOP)
-            self.call("git", "clone", "-q", work / "origin", work / "clone")
+            self.call("git", "clone", "-q", "-c", "core.autocrlf=true", work / "origin", work / "clone")
+            ends = self.call("git", "ls-files", "--eol", at=work / "clone")
+            if "w/crlf" in ends or "w/mixed" in ends:
+                raise RuntimeError("in a clone under core.autocrlf, some lines end with CR LF")
             (work / "bin").mkdir()
             for tool in READMES_TOOLS.split():
                 (work / "bin" / tool).symlink_to(shutil.which(tool))
