@@ -1,0 +1,91 @@
+/* Makes keyed calls of vulfsjor.h, for bench/stack.sh, over the search of c/tests/key_scan.c:
+ *
+ *   stack             for each call a line: its number, its name, and how many pieces of the key
+ *                     it leaves
+ *   stack NUMBER      that call, in the function `counted`
+ *   stack most        the largest number of pieces after a hash in one call, and after `.._many`
+ *                     with one to nine messages, each over messages of 0 to 1,000 bytes */
+#define main key_scan
+#include "../c/tests/key_scan.c"
+#undef main
+
+#include <stdlib.h>
+
+static int plain_salt(void) {
+    return BLAKE(init_salt_personal)(&state, MAX, key, MAX, NULL, 0, NULL, 0);
+}
+
+static int plain_tree(void) {
+    return BLAKE(init_tree)(&state, MAX, key, MAX, NULL, 0, NULL, 0, &tree);
+}
+
+static int call_verify(void) { return BLAKE(verify)(&state, tag, MAX); }
+
+static void start_plain(void) {
+    if (BLAKE(init)(&state, MAX)) fail("an init");
+    if (BLAKE(update)(&state, message, 1)) fail("an update");
+}
+
+static const struct {
+    const char *name;
+    int (*call)(void);
+    void (*before)(void);
+    size_t length;
+} ROWS[] = {
+    {"a hash in one call", call_one_call, nothing, 64},
+    {"`.._init_salt_personal`", plain_salt, nothing, 64},
+    {"`.._init_key`", call_init_key, nothing, 64},
+    {"`.._init_tree`", plain_tree, nothing, 64},
+    {"`.._many`, one message", call_many_one, nothing, 64},
+    {"`.._many`, 4 messages", call_many_four, nothing, 64},
+    {"`.._many`, 8 messages", call_many_lanes, nothing, 64},
+    {"the first `.._update`, of 64 bytes", call_update, start, 64},
+    {"the first `.._update`, of 1,000 bytes", call_update, start, 1000},
+    {"`.._final` of an empty message", call_final, start, 0},
+    {"`.._verify` of an empty message", call_verify, start, 0},
+    {"an update of one byte without a key", call_update, start_plain, 1},
+};
+
+/* The call of a row, whose instructions are counted. */
+static __attribute__((noinline)) int counted(int (*call)(void)) {
+    int status = call();
+
+    __asm__ volatile("" : : : "memory");
+    return status;
+}
+
+/* The larger of a number and the most pieces that a call leaves. */
+static int more_pieces(int most, int (*call)(void)) {
+    for (size_t bytes = 0; bytes <= LONGEST; bytes++) {
+        int found;
+
+        take_length(bytes);
+        found = pieces_after(nothing, call, "a call");
+        if (found > most) most = found;
+    }
+    return most;
+}
+
+int main(int count, char **words) {
+    for (size_t i = 0; i < MAX; i++) key[i] = (uint8_t)(0xA5 ^ (i * 37) ^ (i * i));
+    for (size_t i = 0; i < LONGEST; i++) message[i] = (uint8_t)(i * 11 + 3 + (i >> 4) * 5);
+    if (count > 1 && !strcmp(words[1], "most")) {
+        int many = more_pieces(more_pieces(0, call_many_one), call_many_four);
+
+        many = more_pieces(more_pieces(many, call_many_lanes), call_many_more);
+        printf("%d, %d\n", more_pieces(0, call_one_call), many);
+    } else if (count > 1) {
+        size_t row = (size_t)atoi(words[1]);
+
+        take_length(ROWS[row].length);
+        ROWS[row].before();
+        if (counted(ROWS[row].call)) fail(ROWS[row].name);
+    } else {
+        for (size_t row = 0; row < sizeof ROWS / sizeof *ROWS; row++) {
+            take_length(ROWS[row].length);
+            printf("%zu|%s|%d\n", row, ROWS[row].name,
+                   pieces_after(ROWS[row].before, ROWS[row].call, ROWS[row].name));
+        }
+    }
+    return fails != 0;
+}
