@@ -296,27 +296,150 @@ def check_speeds():
         yield from (f"{page}: the tables of docs/SPEED.md say {row!r}" for row in rows if row not in text)
 
 
+def tables(page):
+    """The tables of a page: for each the cells of its header, and those of its rows."""
+    for block in re.findall(r"(?m)^\|.*\n\|[ |:-]+\n(?:\|.*\n)+", read(page)):
+        header, _, *rows = ([cell.strip() for cell in line.strip("|").split("|")] for line in block.splitlines())
+        yield header, rows
+
+
+def interval(cell):
+    """The numbers that a cell such as `1,156`, `0.72 GB/s` or `1913 ns` is rounded from: the lowest and the highest."""
+    digits = cell.split()[0].replace(",", "")
+    half = 0.5 / 10 ** len(digits.partition(".")[2])
+    return float(digits) - half, float(digits) + half
+
+
+def is_ratio(ratio, over, under):
+    """Whether the first cell may be the ratio of the other two."""
+    (low, high), (a, b), (c, d) = map(interval, (ratio, over, under))
+    return low * c <= b and a <= high * d
+
+
+def ratios_to(header, rows):
+    """The ratios of a table to the candidate that its header names, in its column or, if it has no number there, in the
+    first one: row, ratio and the two speeds, as cells."""
+    for i, title in enumerate(header):
+        base = title.partition("ratio to ")[2]
+        if base:
+            found = next(row for row in rows if row[0] in (base, f"ours: {base}"))
+            unit = header[i - 1].rpartition(", ")[2]
+            for row in rows:
+                if row[i]:
+                    pair = row[i - 1], found[i - 1] or found[1]
+                    yield row[0], row[i], *(pair if unit == "GB/s" else reversed(pair))
+
+
+def ratios_by_row(header, rows):
+    """The same of a table whose header names no candidate: those of programs over files and of JavaScript."""
+    base = {}
+    for row in rows:
+        if header[0] == "read":
+            is_base = row[1] in ("`b2sum` of coreutils", "`b2sum --tree 65536`, 1 processor")
+            base.update({row[0]: row[2]} if is_base else {})
+    for row in rows:
+        if header[0] == "read":
+            yield row[1], row[3], base[row[0]], row[2]
+        elif header[0] == "hash":
+            yield row[0], row[4], *(row[2:4] if row[2].endswith("GB/s") else row[3:1:-1])
+        elif header[0] == "tree root of":
+            yield row[0], row[3], row[2], row[1]
+            yield row[0], row[5], row[4], row[1]
+
+
+def check_ratios():
+    """The ratios of docs/SPEED.md: each is that of the two numbers in its table"""
+    count = wanted = 0
+    for header, rows in tables("docs/SPEED.md"):
+        for row, ratio, over, under in (*ratios_to(header, rows), *ratios_by_row(header, rows)):
+            count += 1
+            if not is_ratio(ratio, over, under):
+                yield f"SPEED: {header[0]}, {row}: {ratio} is not {over} / {under}"
+        columns = [i for i, title in enumerate(header) if title.startswith("ratio") and header[0]]
+        wanted += sum(bool(row[i]) for row in rows for i in columns)
+    if count != wanted or not count:
+        yield f"SPEED: of {wanted} ratios {count} are read"
+
+
+def size(count):
+    """A number of bytes in the largest unit that divides it."""
+    return next(f"{count >> bits} {unit}" for bits, unit in ((30, "GiB"), (20, "MiB"), (10, "KiB"), (0, "bytes"))
+                if count % (1 << bits) == 0)
+
+
+def constant(path, name):
+    """The value of a constant in C, Rust or Rattle that is a number or a power of two."""
+    base, _, bits = find(rf"\b{name}(?:: u?size|: u64)?[ =(]+([0-9]+(?: << [0-9]+)?)\b", read(path), path).partition(" << ")
+    return int(base) << int(bits or 0)
+
+
+def thread_words():
+    """Sentences that have the numbers of trees by threads: of each the page, and the words."""
+    least, part, most, leaves = (constant("c/threads.c", f"{name}") for name in (
+        "LEAST_BYTES", "PART_BYTES", "MOST_BUFFER_BYTES", "MOST_LEAVES"))
+    for name, value in (("LEAST", least), ("PART", part), ("MOST_BUFFER", most)):
+        path = "rust/src/threads.rs" if f"{name}_BYTES: " in read("rust/src/threads.rs") else "rust/src/file.rs"
+        if constant(path, f"{name}_BYTES") != value:
+            yield path, f"{name}_BYTES of c/threads.c, {value}"
+    buffers = f"up to {size(part)} or four leaves, whichever is more, and"
+    digests = size(64 * leaves)
+    yield "docs/LARGE.md", f"one thread for each {size(least)}, and so a second one from {size(2 * least)} on"
+    yield "docs/LARGE.md", f"{buffers} of at most {size(most)}"
+    yield "docs/LARGE.md", f"`vulfsjor_tree_update_fd` at most {digests}, however long the file is"
+    yield "c/include/vulfsjor_threads.h", f"at most one thread for each {size(least)} of"
+    yield "c/include/vulfsjor_threads.h", f"{buffers} at most {size(most)}"
+    yield "c/include/vulfsjor_threads.h", f"vulfsjor_tree_update_fd needs at most {digests} for digests"
+    yield "c/include/vulfsjor_threads.h", f"A regular file of at least {size(least)} is read by all threads"
+    yield "rust/README.md", f"It starts a second thread from {size(2 * least)} on"
+    yield "rust/src/threads.rs", f"(less than {size(least)} for each)"
+    yield "rust/src/file.rs", f"A regular file of at least {size(2 * least)} is read and hashed by"
+    yield "rust/src/file.rs", f"Each thread has a buffer of at most {size(most)}"
+
+
+def leaf_words():
+    """The same of the digests of leaves."""
+    digest = int(find(r"digest blake2b ([0-9]+) ", definition("blake2_tree", "TreeRoot", "leaf_digests"), "TreeRoot"))
+    of_a_gib = size((1 << 14) * digest)
+    for words in (f"hashes each leaf to {digest} bytes", f"hashes {digest} bytes for each leaf in one thread",
+                  f"1/{(1 << 16) // digest:,} of the message at 64 KiB, 1/{(1 << 10) // digest} at 1 KiB",
+                  f"you hash one leaf again, and {digest} bytes for each leaf of the message",
+                  f"A call allocates {digest} bytes for each leaf, which is {of_a_gib} for 1 GiB in leaves of 64 KiB",
+                  f"the digests of the leaves, {digest} bytes for each",
+                  f"For 1 GiB in leaves of 64 KiB you keep {of_a_gib} of digests"):
+        yield "docs/LARGE.md", words
+    yield "docs/B2SUM.md", f"and {digest} bytes for each leaf of it"
+    short, middle, long = (float(cell) for cell in newest(measured("16 MiB"), "root")[::2])
+    yield "docs/LARGE.md", (f"of 4 KiB the speed was {round(100 - 100 * short / middle)} percent lower, with leaves of "
+                            f"1 MiB {round(100 - 100 * long / middle)} percent")
+
+
+def b2sum_words():
+    """The same of the program b2sum."""
+    piece, tree = (constant("crates/b2sum/src/hashes.rt", name) for name in ("PIECE_BYTES", "TREE_PIECE_BYTES"))
+    least, threads = (constant("c/b2sum.c", name) for name in ("LEAST_BYTES", "MOST_THREADS"))
+    of = {name: Values("blake2_simd", "Family", name) for name in ("output_bytes", "key_bytes", "salt_bytes")}
+    (out_b, out_s), (key_b, key_s), (salt_b, salt_s) = ([int(values[it]) for it in LANGUAGES] for values in of.values())
+    leaf = int(find(r"nat_lt n \(2 \^ ([0-9]+)\)", definition("b2_commands", "Words", "some_leaf"), "some_leaf"))
+    peer = find(r'startswith\("b2sum \(GNU coreutils\) ([0-9.]+)', read("tests/b2sum.py"), "tests/b2sum.py")
+    longest = int(find(r"char path\[([0-9]+)\]", read("c/b2sum.c"), "c/b2sum.c")) - 1
+    for words in (f"of GNU coreutils {peer} and has", f"at most {8 * out_b} (BLAKE2s: {8 * out_s}), the default",
+                  f"as the key: 1 to {key_b} (BLAKE2s: {key_s})", f"up to {salt_b} bytes (BLAKE2s: {salt_s})",
+                  f"leaves of LEAF bytes, 1 to {2 ** leaf - 1}", f"it reads {size(piece)} at a time",
+                  f"the piece that it reads, at most {size(tree)}", f"of {size(2 * least)} or more, up to {threads} processors read",
+                  f"--tree 65536 --progress FILE # up to {threads} processors",
+                  f"of the at most {longest:,} bytes of a path"):
+        yield "docs/B2SUM.md", words
+    yield "docs/LARGE.md", f"reads a file with up to {threads} threads"
+
+
 def check_guides():
-    """The numbers of the guides: versions, lengths from which threads start, and their buffers"""
-    code, rust = read("c/threads.c"), read("rust/src/threads.rs") + read("rust/src/file.rs")
-    least, part, most = (int(find(rf"\b{name}_BYTES\b[ =(]*1 << ([0-9]+)", code, "c/threads.c"))
-                         for name in ("LEAST", "PART", "MOST_BUFFER"))
-    for name, bits in (("LEAST", least), ("PART", part), ("MOST_BUFFER", most)):
-        if f" {name}_BYTES: u64 = 1 << {bits};" not in rust:
-            yield f"rust/src/: {name}_BYTES is not that of c/threads.c"
-    one, two = (f"{1 << bits >> 10} KiB" for bits in (least, least + 1))
+    """The numbers of the guides: versions, lengths from which threads start, their buffers, and those of b2sum"""
     compiler = find(r'(?m)^rust-version = "(.*)"$', read("Cargo.toml"), "Cargo.toml")
     cmake = find(r"cmake_minimum_required\(VERSION (.*)\)", read("c/CMakeLists.txt"), "c/CMakeLists.txt")
-    for page, words in (("docs/LARGE.md", f"one thread for each {one}, and so a second one from {two} on"),
-                        ("docs/LARGE.md", f"up to {1 << part >> 20} MiB or four leaves, whichever is more, and of at "
-                                          f"most {1 << most >> 20} MiB"),
-                        ("rust/README.md", f"It starts a second thread from {two} on"),
+    for page, words in (*thread_words(), *leaf_words(), *b2sum_words(),
                         ("rust/README.md", f"You need Rust {compiler} or later"),
-                        ("rust/src/threads.rs", f"(less than {one} for each)"),
-                        ("rust/src/file.rs", f"A regular file of at least {two} is read and hashed by"),
-                        ("rust/src/file.rs", f"Each thread has a buffer of at most {1 << most >> 20} MiB"),
                         ("c/README.md", f"**CMake** {cmake} or later")):
-        if words not in one_spaced(read(page).replace("///", "")):
+        if words not in one_spaced(re.sub(r"(?m)^ *(///|\*) ", "", read(page))):
             yield f"{page}: the code says {words!r}"
 
 
@@ -385,7 +508,7 @@ def main():
     if sys.argv[1:]:
         sys.exit("usage: tests/pages.py")
     for check in (check_clauses, check_edits, check_specification, check_version, check_files, check_crates,
-                  check_links, check_quotes, check_speeds, check_guides, check_comments, check_symbolic_links,
+                  check_links, check_quotes, check_speeds, check_ratios, check_guides, check_comments, check_symbolic_links,
                   check_merges):
         absent = check in (check_symbolic_links, check_merges) and not os.path.exists(os.path.join(TOP, ".git"))
         try:
