@@ -369,7 +369,8 @@ def size(count):
 
 def constant(path, name):
     """The value of a constant in C, Rust or Rattle that is a number or a power of two."""
-    base, _, bits = find(rf"\b{name}(?:: u?size|: u64)?[ =(]+([0-9]+(?: << [0-9]+)?)\b", read(path), path).partition(" << ")
+    value = find(rf"\b{name}(?:: u?size|: u64)?[ =(]+([0-9]+(?: << [0-9]+)?)\b", read(path), path)
+    base, _, bits = value.partition(" << ")
     return int(base) << int(bits or 0)
 
 
@@ -425,7 +426,8 @@ def b2sum_words():
     for words in (f"of GNU coreutils {peer} and has", f"at most {8 * out_b} (BLAKE2s: {8 * out_s}), the default",
                   f"as the key: 1 to {key_b} (BLAKE2s: {key_s})", f"up to {salt_b} bytes (BLAKE2s: {salt_s})",
                   f"leaves of LEAF bytes, 1 to {2 ** leaf - 1}", f"it reads {size(piece)} at a time",
-                  f"the piece that it reads, at most {size(tree)}", f"of {size(2 * least)} or more, up to {threads} processors read",
+                  f"the piece that it reads, at most {size(tree)}",
+                  f"of {size(2 * least)} or more, up to {threads} processors read",
                   f"--tree 65536 --progress FILE # up to {threads} processors",
                   f"of the at most {longest:,} bytes of a path"):
         yield "docs/B2SUM.md", words
@@ -508,8 +510,8 @@ def main():
     if sys.argv[1:]:
         sys.exit("usage: tests/pages.py")
     for check in (check_clauses, check_edits, check_specification, check_version, check_files, check_crates,
-                  check_links, check_quotes, check_speeds, check_ratios, check_guides, check_comments, check_symbolic_links,
-                  check_merges):
+                  check_links, check_quotes, check_speeds, check_ratios, check_guides, check_comments,
+                  check_symbolic_links, check_merges):
         absent = check in (check_symbolic_links, check_merges) and not os.path.exists(os.path.join(TOP, ".git"))
         try:
             wrong = [] if absent else list(check())
