@@ -432,6 +432,7 @@ def b2sum_words():
                   f"of the at most {longest:,} bytes of a path"):
         yield "docs/B2SUM.md", words
     yield "docs/LARGE.md", f"reads a file with up to {threads} threads"
+    yield "docs/TUTORIAL.md", f"several threads for files of {size(2 * least)} or more"
 
 
 def check_guides():
