@@ -103,12 +103,14 @@ cpp_links() {
         "$prefix/lib/libvulfsjor-threads.a" "$archive" -pthread && "$work/link"
 }
 
-# hasher.cpp, by this compiler and standard, with the warnings of careful projects.
+# hasher.cpp, by this compiler and standard, with the warnings of careful projects: compiled, and
+# compiled and run.
+compile_hasher() {
+    "$1" "-std=$2" "${warnings[@]}" -Wconversion -Wsign-conversion -Wshadow -Wold-style-cast \
+        -Wzero-as-null-pointer-constant -I"$include" "$tests/hasher.cpp" "${@:3}"
+}
 hasher_of_cpp() {
-    local compiler=$1 standard=$2
-    "$compiler" "-std=$standard" -O1 "${warnings[@]}" -Wconversion -Wsign-conversion -Wshadow \
-        -Wold-style-cast -Wzero-as-null-pointer-constant "${@:3}" -I"$include" \
-        "$tests/hasher.cpp" "$archive" -o "$work/hasher" &&
+    compile_hasher "$@" "$archive" -o "$work/hasher" &&
         "$work/hasher" >"$work/lines" && python3 "$tests/check_lines.py" <"$work/lines"
 }
 
@@ -227,12 +229,14 @@ test_languages() {
     done
     check "link.cpp" cpp_links
     needs c++ python3
-    check "hasher.cpp in C++17" hasher_of_cpp c++ c++17
-    check "hasher.cpp in C++20, without exceptions" hasher_of_cpp c++ c++20 -fno-exceptions
+    # Each standard with exceptions and without, and each compiler with all of these.
+    check "hasher.cpp in C++17" hasher_of_cpp c++ c++17 -O1
+    check "hasher.cpp in C++20, compiled" compile_hasher c++ c++20 -fsyntax-only
     needs clang++ python3
-    check "hasher.cpp in C++17, by clang++, without exceptions" hasher_of_cpp clang++ c++17 \
+    check "hasher.cpp in C++17, by clang++, without exceptions, compiled" compile_hasher clang++ \
+        c++17 -fno-exceptions -fsyntax-only
+    check "hasher.cpp in C++20, by clang++, without exceptions" hasher_of_cpp clang++ c++20 \
         -fno-exceptions
-    check "hasher.cpp in C++20, by clang++" hasher_of_cpp clang++ c++20
     needs
     test_keys
     for family in b s; do

@@ -5,12 +5,13 @@ BLAKE2s write what the RFC says; and that no branch and no address of a whole ca
 secret. Prints TAP; the status is 1 if something failed. docs/MACHINE.md says what is shown and how
 to read the output.
 
-    tools/machine/check.py            the proofs, of whole calls only some cases, the rules of
-                                      terms, and instructions on the processor
-    tools/machine/check.py --long     also all cases of whole calls, more runs of each instruction,
-                                      whole functions against hashlib, the types of the tool, and
-                                      the changes that must be refused; the same as
-                                      VULFSJOR_TEST_HUGE=1
+    tools/machine/check.py            the proofs, of whole calls only some cases of one build for
+                                      x86-64 and that for ARM, the rules of terms, and
+                                      instructions on the processor
+    tools/machine/check.py --long     also all cases of whole calls in all builds, more runs of
+                                      each instruction, whole functions against hashlib, the types
+                                      of the tool, and the changes that must be refused; the same
+                                      as VULFSJOR_TEST_HUGE=1
     tools/machine/check.py FILE..     only the proofs of these files, by their paths from the root,
                                       with all cases
 
@@ -46,6 +47,8 @@ FAMILIES = {"blake2b": "BLAKE2b", "blake2s": "BLAKE2s"}
 # The families of exported functions, by the parts in which calls are followed.
 FOLLOWED = {"BLAKE2b": ("blake2b", "version"), "BLAKE2s": ("blake2s", "memcmp", "wipe"),
             "trees": ("tree",)}
+# The builds in which whole calls are executed, and those of trees followed, without --long.
+SHORT = ("dist/x86_64/vulfsjor-v3.s", "dist/aarch64/vulfsjor.s")
 
 
 def missing(path):
@@ -290,10 +293,11 @@ def jobs(arguments):
     found += [(search, (path,)) for path in chosen]
     found += [(f, (path,)) for path in libraries for f in (look, scrub)]
     is_short = not arguments and HUGE not in os.environ
-    found += [(write_and_return, part) for path in libraries
+    found += [(write_and_return, part) for path in libraries if path in SHORT or not is_short
               for part in parts_of_calls(path, is_short)]
     followed = [path for path in libraries if path not in calls.NOT_FOLLOWED]
-    found[:0] = [(follow, (path, part)) for part in reversed(FOLLOWED) for path in followed]
+    found[:0] = [(follow, (path, part)) for part in reversed(FOLLOWED) for path in followed
+                 if path in SHORT or part != "trees" or not is_short]
     if not arguments:
         found.append((specification, ()))
         found[:0] = [(rules, (width,)) for width in (64, 32, 16, 8)]
