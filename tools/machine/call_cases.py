@@ -39,6 +39,7 @@ class Setup:
         self.state_at: Any = None
         self.out: Any = None
         self.cells: list = []
+        self.reads_key: tuple = ()     # the condition of must_scrub
 
     def number(self, name, low=0, high=MOST):
         """A variable between two numbers, or a number."""
@@ -131,7 +132,10 @@ class Setup:
         if not ends:
             raise CannotShow("no path of the call is possible")
         for end in ends:
-            self.compare(end, expected(Terms(self.calls, end)))
+            a = Terms(self.calls, end)
+            self.compare(end, expected(a))
+            if self.reads_key and S.must_scrub(a, *self.reads_key) and not end.is_scrubbed:
+                raise IsWrong("scrub_stack is not called at the end")
         return len(ends)
 
     def compare(self, m, expected):
@@ -202,6 +206,7 @@ class Cases:
         while waiting:
             reset()
             self.calls.forget()
+            self.calls.exported = name
             at = waiting.pop()
             setup = Setup(self.calls, self.kind, at)
             try:
@@ -275,6 +280,7 @@ class Cases:
                 for node in ((0, 0), (1, MOST)):
                     def case(setup):
                         s = self.add_ready(setup, pending_length=(pending, pending), last_node=node)
+                        setup.reads_key = s.counter, s.start_length
                         s = s.but(pending_length=pending)
                         n, absorb = amount(setup)
                         data = self.message(setup, n)
@@ -305,6 +311,7 @@ class Cases:
             def case(setup):
                 """ready"""
                 s = self.add_ready(setup, last_node=node)
+                setup.reads_key = s.counter, s.start_length
                 room = setup.number("room")
                 out = self.out(setup, room)
                 hold(setup, S.fits(s.output_size, room))
@@ -331,6 +338,7 @@ class Cases:
             for node in ((0, 0), (1, MOST)):
                 def case(setup):
                     s = self.add_ready(setup, output_size=(size, size), last_node=node)
+                    setup.reads_key = s.counter, s.start_length
                     s = s.but(output_size=size)
                     tag = setup.pass_buffer("tag", T.const(64, size))
 
@@ -368,6 +376,7 @@ class Cases:
             def accepted(setup):
                 setup.pass_state()
                 given, conditions = read(setup, (1, kind.w) if has_key else (0, 0))
+                setup.reads_key = given[2],
                 hold(setup, conditions)
                 return lambda a: (0, S.init_tree(a, kind, *given), [])
             accepted.__doc__ = "accepted, key %s" % has_key
@@ -408,6 +417,7 @@ class Cases:
         def accepted(setup):
             setup.pass_state()
             given, conditions = read(setup, (1, kind.w))
+            setup.reads_key = given[2],
             hold(setup, conditions)
             return lambda a: (0, S.init_tree(a, kind, *given), [])
         yield accepted
@@ -476,6 +486,7 @@ class Cases:
                     n, absorb = amount(setup)
                     size, out, data, key, keyed, conditions = arguments(
                         setup, n, (1, kind.w) if has_key else (0, 0))
+                    setup.reads_key = keyed,
                     hold(setup, conditions + S.is_counted(pending, n))
                     return lambda a: (0, None, S.one_shot(
                         a, kind, size, key, keyed, lambda s: absorb(a, s, data), out))

@@ -119,6 +119,16 @@ def init_param(a, kind, block):
     return from_block(a, kind, block, a.from_bytes(block[:1]))
 
 
+# What is left on the stack.
+
+def must_scrub(a, *condition):
+    """A call that has read a key, or compressed the block of one, overwrites its part of the stack:
+    an init and the call in one if (key_size,) is not 0, and update, final and verify if the first
+    of (counter, start_length) is less, because the key's block is then the next or a later one that
+    is compressed. Calls that are refused have read none."""
+    return a.may_be_less(0, *condition) if len(condition) == 1 else a.may_be_less(*condition)
+
+
 # Messages.
 
 def update_few(a, kind, s, data, n):

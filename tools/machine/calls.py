@@ -130,8 +130,9 @@ def entry(machine, text, low, size):
 class Analysis:
     """Follows calls through the functions of a file."""
 
-    def __init__(self, program):
+    def __init__(self, program, exported=""):
         self.program, self.codes = program, {}
+        self.exported, self.scrubs = exported, functions.scrubs(program)
         self.listed = {functions.in_file(program.path, name): (kind, lanes)
                        for name, kind, lanes in functions.FILES[program.path]}
         self.reached, self.entered, self.at = set(), set(), None
@@ -192,6 +193,8 @@ class Analysis:
             key = heapq.heappop(waiting)
             m, pc = states[key].copy(), key[0]
             while pc is not None:
+                if pc not in code:
+                    raise IsWrong("%s goes on behind its end" % name)
                 i = self.at = code[pc]
                 m.where = "%s/%x%s." % (path, pc, in_round(m))
                 self.reached.add(pc)
@@ -207,9 +210,9 @@ class Analysis:
         """Executes an instruction. Returns the address of the next, if it is the only one."""
         code = self.codes[name][0]
         if m.is_call(i):
-            m.enter(i)
+            link = m.enter(i)
             self.call(m, i, path)
-            m.leave()
+            m.leave(link)
             m.forget_below()
             return i.next
         if m.is_return(i):
@@ -251,7 +254,7 @@ class Analysis:
                 m.copy_memory(to, source, length)
         elif name in self.listed:
             compress(m, arguments, *self.listed[name])
-        elif not name.startswith(functions.SCRUB_STACK):
+        elif name not in self.scrubs:
             self.enter(m, name, i, path)
             return
         m.clobber()
@@ -269,6 +272,8 @@ class Analysis:
         m.rounds, m.undecided = kept
         self.entered.add(name)
         if name in ANSWERING:
+            if not self.exported.endswith(ANSWERS):
+                raise IsWrong("a comparison whose answer is not that of the call")
             if not m.is_bit(m.answer()[0]):
                 raise CannotShow("the answer of %s may have more values than 0 and 1" % name)
             m.answer()[0] = (m.new(8, "answer", (0, 1, 1)), 0)
@@ -317,7 +322,7 @@ def exports(program):
 
 def show(program, name, kinds, family):
     """Follows a call, or raises Refused. Returns the analysis."""
-    analysis = Analysis(program)
+    analysis = Analysis(program, name)
     entry = 16, 8 if program.kind == "x86_64" else 0
     waiting = [(entry, has_key) for has_key in ((False, True) if KEY in kinds else (False,))]
     while waiting:

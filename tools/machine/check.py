@@ -238,7 +238,7 @@ def scrub(path):
     if missing(path):
         return [("skip", title, "no " + missing(path))]
     program = programs.read(path)
-    found = wiping.names(program)
+    found = functions.scrubs(program)
     try:
         for name, count in found.items():
             wiping.show(program, name, count)

@@ -2,11 +2,13 @@
 
 import struct
 
-PROGBITS, SYMBOLS, RELOCATIONS, NOBITS = 1, 2, 4, 8        # types of sections
-WRITABLE, ALLOCATED, EXECUTABLE = 1, 2, 4                  # flags of sections
+PROGBITS, SYMBOLS, RELOCATIONS, NOBITS, GROUP = 1, 2, 4, 8, 17    # types of sections
+WRITABLE, ALLOCATED, EXECUTABLE, MERGED = 1, 2, 4, 16      # flags of sections
+STRINGS = MERGED | 32
 FUNCTION = 2                                               # a type of symbols
 LOCAL, GLOBAL = 0, 1                                       # bindings of symbols
 UNDEFINED = 0                                              # a number of no section
+HIDDEN = 2                                                 # a visibility of symbols
 
 
 class Section:
@@ -18,10 +20,12 @@ class Section:
 
 
 class Symbol:
-    """A symbol: its type, its binding, and the number of its section."""
+    """A symbol: its type, its binding, the number of its section, and whether other libraries and
+    the program that it is linked into do not see it."""
 
-    def __init__(self, name, info, section):
+    def __init__(self, name, info, other, section):
         self.name, self.type, self.binding, self.section = name, info & 15, info >> 4, section
+        self.is_hidden = other & 3 == HIDDEN
 
 
 class Elf:
@@ -38,8 +42,8 @@ class Elf:
             if section.type == SYMBOLS:
                 strings = self.sections[header[6]].data
                 for at in range(0, section.size, 24):
-                    name, info, _, of = struct.unpack_from("<IBBH", section.data, at)
-                    self.symbols.append(Symbol(text_at(strings, name), info, of))
+                    name, info, other, of = struct.unpack_from("<IBBH", section.data, at)
+                    self.symbols.append(Symbol(text_at(strings, name), info, other, of))
 
 
 def text_at(data, at):

@@ -93,11 +93,31 @@ class Exact(Follower):
     def begin(self, alignment, ranges, block):
         super().begin(alignment, ranges, block)
         self.decisions, self.secret_of, self.where, self.compared_bytes = {}, None, "exact", None
+        # The lowest place of the stack that was used, and whether all below the frame of the call
+        # was overwritten since.
+        self.deepest, self.is_scrubbed = 0, False
 
     def copy(self):
         other = super().copy()
         other.decisions = dict(self.decisions)
         return other
+
+    def enter(self, i):
+        link = super().enter(i)
+        self.go_down(self.lowest())
+        return link
+
+    def go_down(self, low):
+        """Uses the stack down to a place."""
+        self.deepest, self.is_scrubbed = min(self.deepest, low), False
+
+    def scrub(self, count):
+        """A call of scrub_stack, which overwrites so many bytes below its caller's frame. Of what
+        the frames above keep, nothing may be secret."""
+        if self.deepest < self.lowest() - count or any(
+                base is self.stack and is_secret_byte(b) for (base, _), b in self.memory.items()):
+            raise IsWrong("scrub_stack overwrites %d bytes, and the call has used more" % count)
+        self.is_scrubbed = True
 
     def clobber(self):
         super().clobber()
@@ -392,9 +412,9 @@ class Exact(Follower):
         for t, u in ((a, b), (b, a)):
             if u.op != "const" or t.op == "const":
                 continue
-            if set(T.linear(t)[1]) == {self.stack}:
-                return self.aligned_stack(t, (1 << t.w) - u.args)
             low = (u.args ^ (1 << t.w) - 1) + 1
+            if set(T.linear(t)[1]) == {self.stack}:
+                return self.aligned_stack(t, low)
             if low & low - 1 == 0 and self.divided(t, low):
                 return self.divided(t, low)[0]
             if u.args & u.args + 1 == 0 and self.divided(t, u.args + 1):
@@ -466,6 +486,7 @@ class Exact(Follower):
         base, offset, region = self.place(address, len(data), aligned)
         self.check_writable(region, address)
         data = self.cleaned(data, False)
+        self.is_scrubbed &= base is not self.stack
         if base_of(offset) is None:
             raise CannotShow("it writes at an offset that is not a number: %r" % offset)
         for at, b in zip(offsets(offset, len(data)), data):
@@ -477,13 +498,13 @@ class Exact(Follower):
 
     # Functions of the C library.
 
-    def check_disjoint(self, to, source, length):
-        """memcpy may not copy to bytes that it copies from. Arguments do not overlap."""
+    def check_disjoint(self, what, to, size, source, length):
+        """Refuses a function that may write to bytes that it reads, of two places with at most so
+        many bytes. Arguments do not overlap."""
         (base, at, _), (other, start, _) = self.region_of(to), self.region_of(source)
-        distance = self.range_of(T.add(64, (1, at), (-1, start)))
-        size = self.unsigned(length)[1]
-        if base is other and size and -size < distance[1] and distance[0] < size:
-            raise IsWrong("memcpy of %r bytes to %r, from %r" % (length, to, source))
+        low, high, _ = self.range_of(T.add(64, (1, at), (-1, start)))
+        if base is other and size and length and -size < high and low < length:
+            raise IsWrong("%s of %d bytes to %r, from %r" % (what, size, to, source))
 
     def copy_memory(self, to, source, length):
         if length.op == "const":

@@ -372,9 +372,16 @@ class Follower(Ranges, Machine):
         constant, items = T.linear(address)
         if items != {self.stack: 1}:
             raise CannotShow("the stack pointer is not known")
+        if low & low - 1:
+            raise CannotShow("an and of the stack pointer with %#x" % ((1 << 64) - low))
         if low > self.alignment[0]:
             raise Aligned(low)
         return T.add(64, (1, address), (-1, T.const(64, (constant + self.alignment[1]) % low)))
+
+    def check_stack(self):
+        """Refuses a call at which the stack is not aligned as the calling convention says."""
+        if (self.lowest() + self.alignment[1]) % 16:
+            raise IsWrong("the stack pointer is not a multiple of 16 at a call")
 
     def forget_below(self):
         """Forgets the stack below its pointer, where a signal and the next call may write."""

@@ -108,10 +108,13 @@ class FollowArm(Follower, arm.Arm):
         return self.general[0]
 
     def enter(self, i):
-        self.general[arm.LINK] = T.split(self.new(64, "link"))
+        self.check_stack()
+        link = self.new(64, "link")
+        self.general[arm.LINK] = T.split(link)
+        return link
 
-    def leave(self):
-        pass
+    def leave(self, link):
+        """The register of the return address belongs to the call."""
 
     def at_entry(self):
         return T.word(self.general[arm.LINK]), self.stack_pointer(), self.saved()

@@ -56,12 +56,17 @@ class FollowX86(Follower, x86.X86):
         return self.general[x86.RAX]
 
     def enter(self, i):
-        """A call pushes the return address."""
+        """A call pushes the return address, to which it must return."""
+        self.check_stack()
+        link = self.new(64, "link")
         self.general[x86.RSP] = T.split(self.moved(-8))
-        self.store(self.stack_pointer(), T.split(self.new(64, "link")))
+        self.store(self.stack_pointer(), T.split(link))
+        return link
 
-    def leave(self):
+    def leave(self, link):
         """A return takes it from the stack."""
+        if self.load(self.stack_pointer(), 8) != T.split(link):
+            raise IsWrong("a call overwrites its return address")
         self.general[x86.RSP] = T.split(self.moved(8))
 
     def at_entry(self):
@@ -232,8 +237,9 @@ class FollowX86(Follower, x86.X86):
             raise x86.unknown(i)
         if name == "ptest":
             data = self.read(ops[0]) + self.read(ops[1], 16)
+            r = self.new(64) if any(data) else T.const(64, 0)
             self.flags = ("secret",) if any(map(is_secret, data)) else (
-                ("other",) + (self.new(64),) * 3)
+                ("logic" if r.op == "const" else "other",) + (r,) * 3)
         elif name in ("movss", "movsd"):
             self.move_low(4 if name == "movss" else 8, ops, vex)
         elif re.fullmatch("pextr[bwdq]", name):

@@ -38,6 +38,12 @@ FILES = {
 }
 
 
+def scrubs(program):
+    """The functions of a file that overwrite the stack, with their numbers of bytes."""
+    found = {name: re.fullmatch(re.escape(SCRUB_STACK) + r"(\d+)", name) for name in program.functions}
+    return {name: int(m[1]) for name, m in found.items() if m}
+
+
 def architecture(path):
     """What runs a file: x86_64, aarch64 or wasm."""
     return next((kind for kind in ("x86_64", "aarch64") if "/%s/" % kind in path), "wasm")

@@ -84,7 +84,8 @@ def refuse(short, function, number, old, new):
     rest: list
     what, _, count = function.partition(" ")
     if what == "scrub":
-        name, show, rest = functions.SCRUB_STACK + count, wiping.show, [int(count)]
+        count, _, name = count.partition(" ")
+        name, show, rest = name or functions.SCRUB_STACK + count, show_scrub, [count]
     elif what == "whole":
         exported, _, name = count.partition(" ")
         exported = "vulfsjor_ffi_" + exported
@@ -131,6 +132,11 @@ def follow_call(program, name, exported):
     for entry in calls.exports(program):
         if entry[0] == exported:
             calls.show(program, *entry)
+
+
+def show_scrub(program, _, count):
+    """That scrub_stack of so many bytes overwrites them."""
+    wiping.show(program, functions.SCRUB_STACK + count, int(count))
 
 
 def compute_call(program, name, exported):

@@ -22,12 +22,19 @@ MODELS = {"x86_64": x86, "aarch64": arm, "wasm": wasm}
 
 CONSTANTS = ".rodata"                  # the section of the constants
 # The sections of a file that a processor sees, by the start of their names, with their flags.
-SECTIONS = ((".text", elf.ALLOCATED | elf.EXECUTABLE), (CONSTANTS, elf.ALLOCATED))
+SECTIONS = ((".text", elf.ALLOCATED | elf.EXECUTABLE), (CONSTANTS, elf.ALLOCATED),
+            (CONSTANTS, elf.ALLOCATED | elf.MERGED), (CONSTANTS, elf.ALLOCATED | elf.STRINGS))
 # Numbers that the linker fills in, in pages that are not writable when the program starts.
 OF_PROGRAMS = (".data.rel.ro", elf.ALLOCATED | elf.WRITABLE)
+# The directives that the files use. Each means the same to all assemblers, in all folders.
+DIRECTIVES = frozenset("ascii byte file globl hidden hword ident long p2align popsection pushsection "
+                       "quad section short size type weak word xword zero".split())
+DIRECTIVE = re.compile(r"(?:^|[;/]|(?<!:lo12):)\s*\.([a-z]\w*)\b(?!\s*[:.])", re.I | re.M)
 # The kinds of relocation that fill in 4 bytes of constants, R_X86_64_PC32 and R_AARCH64_PREL32.
 # Any other fills in at most 8.
 OF_FOUR_BYTES = (2, 261)
+# What the linker fills in where the code calls a function or jumps to it.
+OF_CALLS = ("R_X86_64_PLT32", "R_X86_64_PC32", "R_AARCH64_CALL26", "R_AARCH64_JUMP26")
 # What the linker fills in where the code has the address of a constant.
 OF_CONSTANTS = ("R_X86_64_PC32", "R_AARCH64_ADR_PREL_PG_HI21", "R_AARCH64_ADD_ABS_LO12_NC",
                 "R_AARCH64_LDST64_ABS_LO12_NC", "R_AARCH64_LDST128_ABS_LO12_NC")
@@ -86,6 +93,10 @@ class Program:
         """The functions of an assembly text."""
         if edit:
             text = edit(text)
+        other = {name.lower() for name in DIRECTIVE.findall(text)} - DIRECTIVES
+        if other:
+            raise CannotShow("the directive .%s, which may mean something else to another "
+                             "assembler" % min(other))
         compiler, prefix, style = TOOLS[self.kind]
         with tempfile.TemporaryDirectory() as d:
             s, o, so = (os.path.join(d, "a" + suffix) for suffix in (".s", ".o", ".so"))
@@ -116,13 +127,19 @@ class Program:
     def read_symbols(self, file):
         """The functions that other files may call, and the symbols that they define, of an object
         file. All that a processor sees must be code or constants that nothing writes."""
+        is_library = functions.is_library(self.path)
+        allowed = SECTIONS + (() if is_library else (OF_PROGRAMS,))
         for s in file.sections:
-            allowed = SECTIONS + (() if functions.is_library(self.path) else (OF_PROGRAMS,))
-            kept = s.flags & (elf.ALLOCATED | elf.EXECUTABLE | elf.WRITABLE)
-            if s.size and s.flags & elf.ALLOCATED and (s.type != elf.PROGBITS or not any(
-                    s.name.startswith(name) and kept == flags for name, flags in allowed)):
-                raise IsWrong("the section %s has data, or code that may be overwritten or that "
-                              "runs at the start" % s.name)
+            is_kept = s.size and s.flags & elf.ALLOCATED
+            if s.type == elf.GROUP or not s.flags & elf.ALLOCATED and s.flags & elf.EXECUTABLE or (
+                    is_kept and (s.type != elf.PROGBITS or not any(
+                        s.name.startswith(name) and s.flags == flags for name, flags in allowed))):
+                raise IsWrong("the section %s has data, or code that may be overwritten, that "
+                              "another file may replace, or that runs at the start" % s.name)
+        for symbol in file.symbols:
+            if is_library and symbol.binding != elf.LOCAL and symbol.section != elf.UNDEFINED and (
+                    not symbol.is_hidden):
+                raise IsWrong("another file may define %s too" % symbol.name)
         self.globals = sorted(without_version(s.name) for s in file.symbols
                               if s.binding != elf.LOCAL and s.section != elf.UNDEFINED)
         self.external = {s.name for s in file.symbols if s.section == elf.UNDEFINED}
@@ -164,6 +181,8 @@ class Program:
                 found.append((instruction or self.model.Instruction)(int(m[1], 16), m[3].strip()))
                 found[-1].next = found[-1].address + len(m[2].replace(" ", "")) // 2
             elif not m and start <= int(line.partition(":")[0], 16) < end:
+                if found[-1] in filled:
+                    raise CannotShow("the linker fills in two numbers of " + found[-1].text)
                 self.check_relocation(found[-1], line)
                 filled.add(found[-1])
         for i in found:
@@ -222,12 +241,19 @@ class Program:
     def check_relocation(self, i, line):
         """Refuses a number that the linker fills in, except the address of a constant of the file,
         and of the function that a call or a jump goes to."""
-        kind, symbol = found(r": (R_\w+)\t(.*)", line).groups()
-        symbol = re.sub(r"[+-]0x[0-9a-f]+$", "", symbol)
-        sections = {s[1] for s in self.symbols if s[3] == symbol}
-        if i.name not in ("call", "bl", "b") and not i.name.startswith("j") and (
-                kind not in OF_CONSTANTS or sections != {CONSTANTS}
-                or kind == "R_X86_64_PC32" and "[rip" not in i.text):
+        at, kind, symbol, plus = found(
+            r"([0-9a-f]+): (R_\w+)\t(.*?)([+-]0x[0-9a-f]+)?$", line).groups()
+        symbols = [s for s in self.symbols if s[3] == symbol]
+        if i.name in ("call", "bl", "b") or i.name.startswith("j"):
+            is_right = kind in OF_CALLS
+        else:
+            is_right = kind in OF_CONSTANTS and {s[1] for s in symbols} == {CONSTANTS}
+        if is_right and kind == "R_X86_64_PC32" and i.target is None:
+            # The number is that of the address if it leads to where objdump says that it does.
+            place = re.search(r"\[rip.*# ([0-9a-f]+)", i.text)
+            is_right = place is not None and int(place[1], 16) == (
+                symbols[0][0] + int(plus or "0", 0) + i.next - int(at, 16))
+        if not is_right:
             raise CannotShow("the linker fills in a number of %s: %s of %s" % (
                 i.text, kind, symbol))
 
@@ -257,7 +283,8 @@ class Program:
 def found(pattern, text):
     """The match of a pattern that is in a text."""
     m = re.search(pattern, text)
-    assert m, text
+    if not m:
+        raise CannotShow("%s has not the form %s" % (text, pattern))
     return m
 
 

@@ -152,6 +152,13 @@ def linear(t):
     return 0, {t: 1}
 
 
+def need_width(w, *terms):
+    """Refuses terms of another width."""
+    for t in terms:
+        if t.w != w:
+            raise CannotShow("%r has %d bits instead of %d" % (t, t.w, w))
+
+
 def add(w, *parts):
     """The sum of pairs of a coefficient and a term."""
     if len(parts) == 2:
@@ -162,7 +169,7 @@ def add(w, *parts):
     constant = 0
     sums: dict = {}
     for factor, t in parts:
-        assert t.w == w
+        need_width(w, t)
         c, terms = linear(t)
         constant += factor * c
         for u, k in terms.items():
@@ -201,7 +208,7 @@ def _members(terms):
 
 def xor(w, *terms):
     """The exclusive or of terms."""
-    assert all(t.w == w for t in terms)
+    need_width(w, *terms)
     simple = leaves(lambda *a: _xor_all(a), w, *terms)
     if simple:
         return simple
@@ -233,7 +240,7 @@ def _ror_number(w, n, k):
 
 def ror(w, t, k):
     """A rotation to the right by k bits."""
-    assert t.w == w
+    need_width(w, t)
     return remembered(_ror, w, t, k % w) if k % w else t
 
 
@@ -465,7 +472,7 @@ def depends(t, taint):
         changed = [name for name, found in names.items() if found & taint]
         numbers.update({name: Numbers(-seed)[name] for name in changed})
         if value(t, numbers, {}) != before:
-            return "it changes with %s" % ", ".join(sorted(changed)[:3])
+            return "it changes with %s" % ", ".join(sorted(map(str, changed))[:3])
     return None
 
 

@@ -2,6 +2,7 @@
 all inputs, and nothing else. F is a function of which nothing is known here, because compression.py
 shows what it computes. docs/MACHINE.md says what is shown."""
 
+import re
 from typing import Any
 
 import calls
@@ -15,6 +16,9 @@ from machine import bitwise, chunks, image, need_public
 from terms import CannotShow, IsWrong
 
 PATHS, LIMIT = 200, 200000             # of a call: paths at a time, and instructions
+# What takes memory of the stack in a compression, and how much: 8 bytes if there is no number.
+MOVES_STACK = re.compile(r"(?!add\b)\w+\s+r?sp,")
+TAKES = re.compile(r"\bsub\s+(?:rsp,|sp, sp, #)(0x[0-9a-f]+|\d+)$|\bpush\b|\[sp, #-(\d+)\]!")
 INSTRUCTIONS = {kind: module.Instruction for kind, module in calls.MODELS.items()}
 
 
@@ -54,6 +58,10 @@ class Terms:
         if is_less is None:
             raise CannotShow("whether %r < %r is not known" % (a, b))
         return 0 if is_less else T.add(64, (1, a), (-1, b))
+
+    def may_be_less(self, a, b):
+        """Whether a < b, unless it is known that it is not."""
+        return self.machine.decided("<", self.word(a), self.word(b)) is not False
 
     def xor(self, data, other):
         return bitwise(T.xor, list(data), list(other))
@@ -102,9 +110,9 @@ class Loop:
         if len(ends) != 1 or len(calls.compressed) != 1:
             raise CannotShow("an iteration has %d paths and %d compressions" % (
                 len(ends), len(calls.compressed)))
-        relation, a, b = ends[0].condition(calls.code(self.name)[0][self.last])
-        if relation != "!=":
-            raise CannotShow("the loop goes on if a word is %s another" % relation)
+        relation, a, b = ends[0].condition(calls.code(self.name)[0][self.last]) or (None,) * 3
+        if relation != "!=" or a.w != 64:
+            raise CannotShow("the loop goes on by another condition than two words of 64 bits")
         return ends[0], T.add(a.w, (1, a), (-1, b)), calls.compressed[0]
 
     def show(self):
@@ -196,8 +204,9 @@ class Loop:
 class Calls:
     """Executes the functions of a file."""
 
-    def __init__(self, program):
+    def __init__(self, program, exported=""):
         self.program, self.codes, self.at, self.count = program, {}, None, 0
+        self.exported, self.scrubs, self.frames = exported, functions.scrubs(program), {}
         self.listed = {functions.in_file(program.path, name): (kind, lanes)
                        for name, kind, lanes in functions.FILES[program.path]}
         self.answering = tuple(functions.IS_DIGEST_OF % f for f in ("blake2b", "blake2s"))
@@ -249,6 +258,8 @@ class Calls:
             if len(waiting) > PATHS or self.count > LIMIT:
                 raise CannotShow("there are too many paths")
             self.count += 1
+            if pc not in code:
+                raise IsWrong("%s goes on behind its end" % name)
             i = self.at = code[pc]
             if pc in loops and pc != inside:
                 m = Loop(self, name, pc, loops[pc], m).show()
@@ -269,9 +280,9 @@ class Calls:
         """Executes an instruction."""
         code = self.codes[name][0]
         if m.is_call(i):
-            m.enter(i)
+            link = m.enter(i)
             for n in self.call(m, i):
-                n.leave()
+                n.leave(link)
                 n.forget_below()
                 waiting.append((n, i.next))
         elif m.is_return(i):
@@ -284,6 +295,7 @@ class Calls:
             top = m.stack_pointer()
             m.step(i)
             if m.stack_pointer() is not top:
+                m.deepest = min(m.deepest, m.lowest())
                 m.forget_below()
             waiting.append((m, i.next))
         else:
@@ -313,19 +325,24 @@ class Calls:
             m.fill_memory(to, T.split(source)[0], length)
         elif name in OF_C:
             if name == "memcpy" and length is not T.const(64, 0):
-                m.check_disjoint(to, source, length)
+                size = m.unsigned(length)[1]
+                m.check_disjoint(name, to, size, source, size)
             m.copy_memory(to, source, length)
-        elif not name.startswith(functions.SCRUB_STACK):
+        elif name not in self.scrubs:
             ends = self.run(name, m)
             return ends if name not in self.answering else [
                 other for end in ends for other in self.answers(end)]
+        else:
+            m.scrub(self.scrubs[name])
         m.clobber()
         if name in OF_C:
             m.answer()[:] = T.split(to)
         return [m]
 
     def answers(self, m):
-        """The answer of a comparison is public: 1 or 0."""
+        """The answer of a comparison is public: 1 or 0. A call compares once."""
+        if m.compared_bytes or not self.exported.endswith("_verify"):
+            raise IsWrong("a comparison whose answer is not that of the call")
         byte = m.answer()[0]
         if byte in (0, 1):
             return [m]
@@ -337,15 +354,30 @@ class Calls:
             found.append(n)
         return found
 
+    def frame(self, name):
+        """How many bytes of the stack a compression uses: those that it takes, in no loop."""
+        if name not in self.frames:
+            code, taken = self.program.code(name), 0
+            for i in code:
+                m = TAKES.search(i.text)
+                if MOVES_STACK.match(i.text) and not m or m and any(
+                        j.target is not None and j.target <= i.address <= j.address for j in code):
+                    raise CannotShow("it is not known what %s takes of the stack" % i.text)
+                taken += int(m[1] or m[2] or "8", 0) if m else 0
+            self.frames[name] = taken
+        return self.frames[name]
+
     def compress(self, m, kind, lanes):
         """A call of F: of one message."""
         if lanes != 1:
             raise CannotShow("a compression of several messages")
+        m.go_down(m.lowest() - self.frame(self.program.target(self.at, OF_C)))
         h, block, counter, last, node = (m.argument(k) for k in range(5))
         need_public(counter, "the counter")
         flags = [T.split(t)[0] for t in (last, node)]
         if any(b not in (0, 1) for b in flags):
             raise CannotShow("a flag is not known: %r" % (flags,))
+        m.check_disjoint("a compression", h, 8 * kind.bytes, block, kind.block)
         chain, data = m.load(h, 8 * kind.bytes), m.load(block, kind.block)
         base, offset, region = m.region_of(block)
         result = Terms(self, m).compress(kind, chain, data, counter, *flags)

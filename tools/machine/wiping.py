@@ -1,14 +1,18 @@
-"""Shows that scrub_stack overwrites its N bytes of the stack with zeros, on x86-64 and ARM."""
+"""Shows that scrub_stack overwrites its N bytes of the stack with zeros, on x86-64 and ARM, and does
+nothing else."""
 
-import re
 from typing import Any
 
 import functions
 import program as programs
 import terms as T
+from calls import OF_C
 from compression import STACK, Runner
-from machine import Region, junk
+from exact import MODELS, Cells, fresh
+from following import reset
+from machine import Region, image, junk
 from terms import CannotShow, IsWrong
+from whole_calls import Calls
 from x86 import UPPER
 
 GAP = 64                               # bytes for saved registers between the caller and the zeros
@@ -17,18 +21,8 @@ CONVENTION = {"x86_64": ((7, 6, 2), (3, 4, 5, 12, 13, 14, 15)),
               "aarch64": ((0, 1, 2), tuple(range(19, 30)) + (31,))}
 
 
-def names(program):
-    """The functions of a file that overwrite the stack, with their numbers of bytes."""
-    found = {}
-    for name in program.functions:
-        m = re.fullmatch(re.escape(functions.SCRUB_STACK) + r"(\d+)", name)
-        if m:
-            found[name] = int(m[1])
-    return found
-
-
 class Scrub:
-    """A call of scrub_stack, in which memset writes its bytes, and settle changes nothing else."""
+    """A call of scrub_stack, in which memset writes its bytes."""
 
     def __init__(self, program, name, count):
         self.program, self.count = program, count
@@ -114,8 +108,45 @@ class Scrub:
                 data[16:] = old[16:]   # of what memset leaves there, nothing is shown
 
 
+class WithSettle(Calls):
+    """Executes scrub_stack with settle, which must leave the zeros."""
+
+    def __init__(self, program, count):
+        super().__init__(program)
+        self.scrubs, self.wanted = {}, count
+
+    def call(self, m, i):
+        to = m.argument(0)
+        ends = super().call(m, i)
+        if self.program.target(i, OF_C) == "%s%d" % (functions.SETTLE, self.wanted):
+            for end in ends:
+                if any(end.load(to, self.wanted)):
+                    raise IsWrong("settle overwrites the zeros")
+        return ends
+
+
+def show_whole(program, name, count):
+    """That scrub_stack, with settle, returns to its call, keeps what belongs to the caller, and
+    writes only below the caller's frame."""
+    reset()
+    calls, model = WithSettle(program, count), MODELS[program.kind]
+    sp, back = (T.var(64, t, T.PUBLIC) for t in ("sp", "return address"))
+    above = T.split(back) if program.kind == "x86_64" else []
+    stack = Cells(-STACK, len(above), lambda k: above[k] if k >= 0 else fresh(
+        "stack", T.SECRET)[0], True, (16, len(above)))
+    constants = Cells(0, 1 << 32, program.constant, False, (4096, 0))
+    m = model({image(): constants, sp: stack}, {})
+    m.begin((16, len(above)), {}, 0)
+    m.start(sp, back, [])
+    try:
+        calls.run(name, m)
+    except T.Refused as e:
+        raise type(e)("at %s: %s" % (" ".join(calls.at.text.split()), e))
+
+
 def show(program, name, count):
     """Proves the claim for a function, or raises Refused."""
+    show_whole(program, name, count)
     T.reset()
     scrub = Scrub(program, name, count)
     try:

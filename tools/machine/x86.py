@@ -75,8 +75,10 @@ def operand(text, target):
         name, _, scale = piece.partition("*")
         if name in GENERAL and GENERAL[name][1] == 8 and sign != "-":
             parts.append((int(scale or 1), GENERAL[name][0], None))
-        else:
+        elif re.fullmatch(r"0x[0-9a-f]+|[0-9]+", piece):
             parts.append((-1 if sign == "-" else 1, None, int(piece, 0)))
+        else:
+            raise no_operand(text)
     return Operand("memory", size=size, parts=parts, is_broadcast=is_broadcast)
 
 
@@ -521,7 +523,8 @@ class X86(Machine):
 
     def mask_step(self, i):
         m = MASK.fullmatch(i.name)
-        assert m
+        if not m:
+            raise unknown(i)
         action, letter = m.groups()
         size, ops, kinds = MASK_BYTES[letter], i.operands, [o.kind for o in i.operands]
         if action == "mov" and kinds == ["mask", "general"]:
