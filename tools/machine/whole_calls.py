@@ -110,9 +110,10 @@ class Loop:
         if len(ends) != 1 or len(calls.compressed) != 1:
             raise CannotShow("an iteration has %d paths and %d compressions" % (
                 len(ends), len(calls.compressed)))
-        relation, a, b = ends[0].condition(calls.code(self.name)[0][self.last]) or (None,) * 3
-        if relation != "!=" or a.w != 64:
+        compared = ends[0].condition(calls.code(self.name)[0][self.last])
+        if compared is None or compared[0] != "!=" or compared[1].w != 64:
             raise CannotShow("the loop goes on by another condition than two words of 64 bits")
+        _, a, b = compared
         return ends[0], T.add(a.w, (1, a), (-1, b)), calls.compressed[0]
 
     def show(self):

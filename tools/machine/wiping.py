@@ -129,7 +129,8 @@ def show_whole(program, name, count):
     """That scrub_stack, with settle, returns to its call, keeps what belongs to the caller, and
     writes only below the caller's frame."""
     reset()
-    calls, model = WithSettle(program, count), MODELS[program.kind]
+    calls: Any = WithSettle(program, count)
+    model: Any = MODELS[program.kind]
     sp, back = (T.var(64, t, T.PUBLIC) for t in ("sp", "return address"))
     above = T.split(back) if program.kind == "x86_64" else []
     stack = Cells(-STACK, len(above), lambda k: above[k] if k >= 0 else fresh(
