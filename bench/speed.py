@@ -114,8 +114,12 @@ def text_of(name, cpu):
 def program_of(cpu):
     """The program b2 for the processor, linked from dist/."""
     with open(text_of("b2", cpu)) as text:
-        main = re.search(r"^\t\.globl\t(main\w*)$", text.read(), re.MULTILINE)[1]
-    path = compiled(cpu + "-b2", ["-DMAIN=" + main, os.path.join(TOP, "c", "b2.c"), text_of("b2", cpu)])
+        main = re.search(r"^\tvj_export\t(main\w*)$", text.read(), re.MULTILINE)[1]
+    assembly = os.path.join(OUT, cpu + "-b2.S")
+    with open(assembly, "w") as both:
+        for name in (os.path.join(TOP, "dist", "macros.h"), text_of("b2", cpu)):
+            both.write(f'#include "{name}"\n')
+    path = compiled(cpu + "-b2", ["-DMAIN=" + main, os.path.join(TOP, "c", "b2.c"), assembly])
     if path is None:
         sys.exit("speed: the program needs a C compiler (cc)")
     return path

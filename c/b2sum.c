@@ -1,11 +1,8 @@
 /* The C of the program b2sum, together with b2.c: how it opens and reads files, the threads of
  * --tree, what --progress shows, and how the program ends. The assembly file calls b2sum_open,
- * b2sum_read and b2sum_signal instead of open, read and signal of the C library, and the function
- * here instead of its own update_tree. None of this is proved. tests/b2sum.c tests each function.
- *
- * UPDATE_TREE is the name of update_tree in the assembly file, such as
- * b2sum..hashes..update_tree_0_1_0_v2. If three files are linked, UPDATE_TREE_V3 and UPDATE_TREE_V4
- * are those of the others. */
+ * b2sum_read and b2sum_signal instead of open, read and signal of the C library, and
+ * b2sum_update_tree instead of its own update_tree. None of this is proved. tests/b2sum.c tests each
+ * function. */
 #define _GNU_SOURCE
 #include <errno.h>
 #include <fcntl.h>
@@ -32,6 +29,7 @@ ssize_t rattle_arg(size_t i, char *bytes, size_t size);
 HIDDEN int b2sum_open(const char *name, int flags, ...);
 HIDDEN ssize_t b2sum_read(int file, void *bytes, size_t size);
 HIDDEN void (*b2sum_signal(int number, void (*handler)(int)))(int);
+HIDDEN void b2sum_update_tree(vulfsjor_tree_state *state, const void *bytes, size_t length);
 HIDDEN int b2sum_end(int status);
 
 /* ---- The start and the end. */
@@ -318,8 +316,8 @@ ssize_t b2sum_read(int file, void *bytes, size_t size) {
     return count;
 }
 
-/* Absorbs the bytes into a state of the library. */
-static void update(vulfsjor_tree_state *state, const void *bytes, size_t length) {
+/* Absorbs the bytes into a state of the library, by several threads. */
+void b2sum_update_tree(vulfsjor_tree_state *state, const void *bytes, size_t length) {
     if (tree.length && length == tree.length && bytes == tree.bytes &&
         !memcmp(state, &tree.state, sizeof *state))
         *state = tree.next;
@@ -330,19 +328,3 @@ static void update(vulfsjor_tree_state *state, const void *bytes, size_t length)
     tree.is_known = true;
     tree.length = 0;
 }
-
-#define TEXT_OF(words) #words
-#define TEXT(words) TEXT_OF(words)
-
-/* The function of this name of the assembly file, which absorbs the bytes in one thread there. */
-#define UPDATE(function, name)                                                                 \
-    void function(vulfsjor_tree_state *state, const void *bytes, size_t length) __asm__(name); \
-    void function(vulfsjor_tree_state *state, const void *bytes, size_t length) {              \
-        update(state, bytes, length);                                                          \
-    }
-
-UPDATE(b2sum_update, TEXT(UPDATE_TREE))
-#ifdef UPDATE_TREE_V3
-UPDATE(b2sum_update_v3, TEXT(UPDATE_TREE_V3))
-UPDATE(b2sum_update_v4, TEXT(UPDATE_TREE_V4))
-#endif

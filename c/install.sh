@@ -139,9 +139,9 @@ case $machine,$system in
     *,none) ;;
     x86_64-*)
         cpus=${cpu:-x86-64-v2 x86-64-v3 x86-64-v4}
-        for level in $cpus; do texts+=("x86_64$system/vulfsjor-${level#x86-64-}.s"); done
+        for level in $cpus; do texts+=("x86_64/vulfsjor-${level#x86-64-}.s"); done
         ;;
-    aarch64-* | arm64-*) [ -n "$cpu" ] || cpus=aarch64 texts=("aarch64$system/vulfsjor.s") ;;
+    aarch64-* | arm64-*) [ -n "$cpu" ] || cpus=aarch64 texts=(aarch64/vulfsjor.s) ;;
 esac
 [ ${#texts[@]} -gt 0 ] || fail "there is no build for $machine${cpu:+ and $cpu}"
 work=$(mktemp -d)

@@ -61,13 +61,13 @@ compare_functions "$here/calls.h" 's/^CALL[A-Z_]*(\(vulfsjor_[a-z0-9_]*\),.*/\1/
 objects=()
 for text; do
     # After each function's name come the version and the build.
-    compare_functions "$text" \
-        "s/^\t\.globl\t_\{0,1\}\(.*\)_${version//./_}_[a-z0-9]*\$/\1/p"
+    compare_functions "$text" "s/^\tvj_export\t\(.*\)_${version//./_}_[a-z0-9]*\$/\1/p"
     objects+=("$work/build_${#objects[@]}.o")
-    "${cc[@]}" -c "$text" -o "${objects[-1]}"
+    "${cc[@]}" -include "$here/../dist/macros.h" -x assembler-with-cpp -c "$text" \
+        -o "${objects[-1]}"
 done
 if [ $# -eq 1 ]; then
-    one=$(sed -n 's/^\t\.globl\t.*_//p;T;q' "$1")
+    one=$(sed -n 's/^\tvj_export\t.*_//p;T;q' "$1")
     words=("-DCHOOSE_ONE=$one")
 fi
 mkdir -p "$folder"

@@ -32,12 +32,12 @@ PROJECT = tomllib.loads((HERE / "pyproject.toml").read_text(encoding="utf-8"))["
 RELEASE = f"{PROJECT['name']}-{PROJECT['version']}"
 ABOUT = f"{RELEASE}.dist-info"
 
-# The texts of the library by processor. choose.c has its functions by their own names; on x86-64 a
-# call goes to the build that the processor runs. Each system has them in folders of its own, which
-# end in what is here.
-TEXTS = {"x86_64": [f"vulfsjor-{level}.s" for level in ("v2", "v3", "v4")],
-         "aarch64": ["vulfsjor.s"]}
-SYSTEMS = {"linux": "", "macosx": "-macos", "mingw": "-windows", "win": "-windows"}
+# The texts of the library, which vulfsjor.S includes for the processor and the system. choose.c has
+# its functions by their own names; on x86-64 a call goes to the build that the processor runs.
+TEXTS = ["vulfsjor.S", "macros.h", "aarch64/vulfsjor.s",
+         *(f"x86_64/vulfsjor-{level}.s" for level in ("v2", "v3", "v4")),
+         *(f"{processor}/{macros}.inc" for processor in ("aarch64", "x86_64")
+           for macros in ("coff", "elf", "macho"))]
 
 # The files of a source distribution: those of this folder, and those of the repository.
 OWN = ("README.md", "build_package.py", "pyproject.toml", "src/library.[ch]", "src/trees.c",
@@ -46,9 +46,7 @@ SHARED = {
     "src/vulfsjor.h": "c/include/vulfsjor.h",
     "src/choose.c": "c/choose.c",
     "src/calls.h": "c/calls.h",
-    **{f"src/{processor}{end}/{name}": f"dist/{processor}{end}/{name}"
-       for processor, names in TEXTS.items() for end in sorted(set(SYSTEMS.values()))
-       for name in names},
+    **{f"src/{name}": f"dist/{name}" for name in TEXTS},
 }
 
 # Clang warns of each option that means nothing for assembly. LTO loses the assembly of choose.c.
@@ -56,7 +54,7 @@ COMPILING = ["-std=c99", "-O2", "-DNDEBUG", "-Wall", "-Wextra", "-fvisibility=hi
              "-Wno-unused-command-line-argument"]
 LINKING = {"linux": ["-fPIC", "-shared", "-Wl,--gc-sections", "-Wl,-z,relro,-z,now"],
            "macosx": ["-bundle", "-undefined", "dynamic_lookup", "-Wl,-dead_strip"],
-           "-windows": ["-shared", f"-L{sys.base_prefix}/libs", f"-L{sys.base_prefix}/lib"]}
+           "windows": ["-shared", f"-L{sys.base_prefix}/libs", f"-L{sys.base_prefix}/lib"]}
 WITHOUT_GIL = bool(sysconfig.get_config_var("Py_GIL_DISABLED"))
 
 
@@ -81,7 +79,7 @@ def source_files():
 # ---- The module
 
 def target():
-    """The system that the module is for, its folder of texts, and the compiler's options for it."""
+    """The system that the module is for, and the compiler's options for it."""
     platform = sysconfig.get_platform()  # such as macosx-11.0-arm64 or mingw_x86_64_ucrt
     found = re.fullmatch(r"(linux|macosx|mingw|win)[-_](?:([\d.]+)-)?"
                          r"(?:(x86_64|amd64)|(aarch64|arm64))(?:_\w+)?", platform)
@@ -89,10 +87,12 @@ def target():
         refuse("vulfsjor is assembly for Linux, macOS and Windows on x86-64 and on 64-bit ARM, and "
                f"has none for {platform}")
     system, version, x86, arm = found.groups()
-    options = list(LINKING.get(system) or LINKING[SYSTEMS[system]])
+    if system not in LINKING:
+        system = "windows"
+    options = list(LINKING[system])
     if system == "macosx":
         options += ["-arch", x86 or arm, f"-mmacosx-version-min={version}"]
-    return system, "x86_64" if x86 else "aarch64", options
+    return system, options
 
 
 def compiler(system):
@@ -104,7 +104,7 @@ def compiler(system):
                 refuse("MSVC cannot assemble the code of vulfsjor: set CC to the GCC of MinGW-w64")
             return shlex.split(words)
     refuse(f"there is no C compiler{f' {asked}' if asked else ''}: install GCC"
-           f"{' of MinGW-w64' if SYSTEMS[system] == '-windows' else ' or Clang'}, or set CC")
+           f"{' of MinGW-w64' if system == 'windows' else ' or Clang'}, or set CC")
 
 
 def module_name():
@@ -117,12 +117,11 @@ def module_name():
 
 def compiled():
     """The bytes of the module."""
-    system, processor, options = target()
-    texts = [f"src/{processor}{SYSTEMS[system]}/{name}" for name in TEXTS[processor]]
+    system, options = target()
     includes = {sysconfig.get_path("include"), sysconfig.get_path("platinclude")}
     with tempfile.TemporaryDirectory() as work:
         for name, path in source_files().items():
-            if name in texts or name.endswith((".c", ".h")):
+            if name.startswith("src/"):
                 os.makedirs(os.path.dirname(f"{work}/{name}"), exist_ok=True)
                 shutil.copyfile(path, f"{work}/{name}")
         made = os.path.join(work, module_name())
@@ -130,8 +129,8 @@ def compiled():
             [*compiler(system), *COMPILING, *(f"-I{folder}" for folder in sorted(includes)),
              *(["-DPy_GIL_DISABLED=1"] if WITHOUT_GIL else []),
              *shlex.split(os.environ.get("CFLAGS", "")), *options, "-o", made, "src/library.c",
-             "src/trees.c", "src/choose.c", *texts, *shlex.split(os.environ.get("LDFLAGS", "")),
-             *(["-lpython3"] if SYSTEMS[system] == "-windows" else [])], cwd=work, check=False)
+             "src/trees.c", "src/choose.c", "src/vulfsjor.S", *shlex.split(os.environ.get("LDFLAGS", "")),
+             *(["-lpython3"] if system == "windows" else [])], cwd=work, check=False)
         if done.returncode:
             has_headers = any(os.path.exists(f"{folder}/Python.h") for folder in includes)
             refuse("the compiler failed" + ("" if has_headers else

@@ -1,10 +1,11 @@
 #!/usr/bin/env python3
-"""Looks at the assembly files of dist/, with no toolchain: each symbol ends in the version and the build, exported
-functions are hidden, nothing is called that is not there except a few functions of the C library, and nothing is used
-that Windows or macOS reserves. Messages of BLAKE2b are compressed one by one for x86-64-v2, by fours elsewhere, and by
-eights too for x86-64-v4. On ARM one message is compressed without vector registers and several messages with them. For
-x86-64-v4 only the compression of eight messages has instructions of 512 bits, and each function clears those of the
-upper 16 vector registers that it uses, after a call with a key all of them.
+"""Looks at the assembly files of dist/, with no toolchain: each symbol ends in the version and the build, nothing is
+called that is not there except a few functions of the C library, each function is called or exported, only macros differ
+between systems, no preprocessor changes a line, and nothing is used that Windows or macOS reserves. Messages of BLAKE2b
+are compressed one by one for x86-64-v2, by fours elsewhere, and by eights too for x86-64-v4; b2sum leaves that to the
+library. On ARM one message is compressed without vector registers and several messages with them. For x86-64-v4 only the
+compression of eight messages has instructions of 512 bits, and each function clears those of the upper 16 vector
+registers that it uses, after a call with a key all of them.
 
     tests/assembly.py [DIST]
 
@@ -23,9 +24,16 @@ TEXTS = {f"x86_64/{name}-{level}.s": level for name in ("vulfsjor", "b2", "b2sum
 TEXTS |= {f"aarch64/{name}.s": "arm" for name in ("vulfsjor", "b2", "b2sum")}
 PROGRAM = LIBRARY | {"read", "write", "__write", "__sysv_signal", "__x86_get_cpuid_feature_leaf", "rattle_alloc",
                      "rattle_arg", "rattle_dealloc", "rattle_errno", "rattle_realloc", "rattle_set_errno"}
-SUMS = PROGRAM - {"read", "__sysv_signal"} | {"__xpg_strerror_r", "close", "b2sum_open", "b2sum_read", "b2sum_signal"}
-LABEL = re.compile(r"([\w.]+):")
-CALL = re.compile(r"\t(?:callq?|jmpq?|bl?|b)\t([\w.]+)(?:@PLT)?$")
+SUMS = PROGRAM - {"read", "__sysv_signal"} | {"__xpg_strerror_r", "close", "b2sum_open", "b2sum_read", "b2sum_signal",
+                                              "b2sum_update_tree"}
+FUNCTION = re.compile(r"\tvj_(?:function|cold|export)\t([\w.]+)$")
+# A call of what is here, and one of what is not, by a macro.
+CALL = re.compile(r"\t(?:callq?|jmpq?|bl?|b)\t([A-Za-z_][\w.]*)$")
+OUTSIDE = re.compile(r"\tvj_(?:c_|system_)?(?:call|jump)\t([\w.]+)(?:, \w+)?$")
+# The directives that all object formats have.
+DIRECTIVES = {".ascii", ".asciz", ".byte", ".long", ".p2align", ".quad", ".short", ".zero"}
+# What a preprocessor changes: lines of its own, comments, and names that GCC defines.
+PREPROCESSED = re.compile(r"^\s*#|//|/\*|\b(?:linux|unix|i386)\b")
 VECTOR = re.compile(r"\b[vqdshb][0-9]+\b")
 UPPER = re.compile(r"%[xyz]mm(1[6-9]|2[0-9]|3[01])\b")
 CLEARS = re.compile(r"\tvpxord\t%xmm(\d+), %xmm\1, %xmm\1")
@@ -43,12 +51,14 @@ VERSION = version().replace(".", "_")
 
 
 def functions(lines):
-    """The instructions of each function, by its name."""
+    """The instructions and macros of each function, by its name."""
     found, own = {}, None
     for line in lines:
-        label = LABEL.match(line)
-        if label and not line.startswith(".L"):
-            own = found.setdefault(label[1], [])
+        head = FUNCTION.match(line)
+        if head:
+            own = found.setdefault(head[1], [])
+        elif line.startswith("\tvj_end\t"):
+            own = None
         elif own is not None and re.match(r"\t[a-z]", line):
             own.append(line)
     return found
@@ -62,26 +72,31 @@ def check_text(name, text, end):
     """Whether each statement about a file holds, by its words."""
     lines = text.split("\n")
     code = functions(lines)
-    weak = [line.split("\t")[2] for line in lines if line.startswith("\t.weak\t")]
-    exported = weak + [line.split("\t")[2] for line in lines if line.startswith("\t.globl\t")]
-    hidden = [line.split("\t")[2] for line in lines if line.startswith("\t.hidden\t")]
-    called = {call[1] for line in lines if (call := CALL.match(line)) and not call[1].startswith(".L")} - code.keys()
+    exported = [line.split("\t")[2] for line in lines if line.startswith("\tvj_export\t")]
+    called = {call[1] for line in lines if (call := CALL.match(line))}
+    outside = {call[1] for line in lines if (call := OUTSIDE.match(line))}
+    named = {word for line in lines if not FUNCTION.match(line) and not line.startswith("\tvj_end\t")
+             for word in re.findall(r"[A-Za-z_][\w.]*", line)}
     labels = [line[:-1] for line in lines if re.fullmatch(r"\.L[^\t]*:", line)]
+    words = {line.split("\t")[1] for line in lines if line.startswith("\t.")}
     yield "each function ends in the version and the build", code and all(it.endswith(f"_{end}") for it in code)
-    yield "so does each local label", labels and all(it.startswith(f".L{end}_") for it in labels)
-    yield "each exported function is hidden", exported and sorted(exported) == sorted(hidden) and set(exported) <= code.keys()
-    yield "C may replace the function of trees in b2sum, and no other", weak == (
-        [f"b2sum..hashes..update_tree_{end}"] if "/b2sum" in name else [])
-    yield "it calls what is there, and the C library", called <= (SUMS if "/b2sum" in name else PROGRAM if "/b2" in name else LIBRARY)
+    yield "so does the name of each constant", labels and all(it.startswith(f".L{end}_") for it in labels)
+    yield "each function is exported, or called or named by another", exported and code.keys() <= named | set(exported)
+    yield "b2sum has no function of trees of its own", "/b2sum" not in name or not any("update_tree" in it for it in code)
+    yield "it calls what is there, and the C library", called <= code.keys() and LIBRARY - {"memmove"} <= outside <= (
+        SUMS if "/b2sum" in name else PROGRAM if "/b2" in name else LIBRARY)
+    yield "it has only directives that all systems have", words and words <= DIRECTIVES
+    yield "no preprocessor changes a line", not any(
+        PREPROCESSED.search(line) for line in lines[1:] if not line.startswith("\t.asci"))
     yield "it uses no red zone and no x18", not any(map(RESERVED.search, lines)) and not any(
-        any(map(INDEXED.search, body)) and not any(line.startswith("\tcall") for line in body) for body in code.values())
+        any(map(INDEXED.search, body)) and not any("call" in line.split("\t")[1] for line in body) for body in code.values())
 
 
-def check_parallel(text, build):
-    """Whether as many messages of BLAKE2b are compressed in parallel as is fastest."""
+def check_parallel(name, text, build):
+    """Whether as many messages of BLAKE2b are compressed in parallel as is fastest. b2sum leaves that to the library."""
     found = sorted(it for it in functions(text.split("\n")) if it.startswith((FOUR, EIGHT)))
     yield "it compresses as many messages of BLAKE2b in parallel as is fastest", found == [
-        f"{it}_{VERSION}_{build}" for it in PARALLEL[build]]
+        f"{it}_{VERSION}_{build}" for it in PARALLEL[build] if "/b2sum" not in name]
 
 
 def check_arm(name, text):
@@ -92,7 +107,7 @@ def check_arm(name, text):
         yield (f"{family}: one message is compressed without vector registers",
                len(one) == 1 and len(code[one[0]]) > 1000 and count_vectors(code[one[0]]) == 0)
         several = [it for it in code if it.startswith(f"blake2_compress..many..{family}..compress_blocks_{VERSION}")]
-        if several or family == "blake2b" or "/vulfsjor" in name:
+        if several or "/vulfsjor" in name or (family == "blake2b" and "/b2sum" not in name):
             yield (f"{family}: several messages are compressed with them",
                    len(several) == 1 and count_vectors(code[several[0]]) > 3000)
 
@@ -115,8 +130,8 @@ def check_upper(name, text):
     used = {it: {number for line in lines for number in UPPER.findall(line)} for it, lines in code.items()}
     wide = f"{EIGHT}_{VERSION}_v4"
     yield "only the compression of eight messages of BLAKE2b has instructions of 512 bits", [
-        it for it, lines in code.items() if any("%zmm" in line for line in lines)] == [wide]
-    yield "it has little else, and keeps its rows in registers", 1300 < sum(
+        it for it, lines in code.items() if any("%zmm" in line for line in lines)] == [wide] * ("/b2sum" not in name)
+    yield "it has little else, and keeps its rows in registers", "/b2sum" in name or 1300 < sum(
         "%zmm" in line for line in code.get(wide, [])) < 1700
     yield "each function clears the upper registers that it uses", all(
         used[it] <= before_returns(code[it]) for it in code) and any(used.values())
@@ -130,7 +145,7 @@ def main():
     for name, build in TEXTS.items():
         with open(os.path.join(dist, name), encoding="utf-8") as file:
             text = file.read()
-        checks = [*check_text(name, text, f"{VERSION}_{build}"), *check_parallel(text, build),
+        checks = [*check_text(name, text, f"{VERSION}_{build}"), *check_parallel(name, text, build),
                   *(check_arm(name, text) if build == "arm" else []),
                   *(check_upper(name, text) if build == "v4" else [])]
         for words, holds in checks:

@@ -26,26 +26,30 @@ printf '%s\n' '#include <stdio.h>' '#include <unistd.h>' 'long rattle_arg(size_t
     'for (long i = 1; (n = rattle_arg(i, word, sizeof word)) >= 0; i++)' \
     'if (n == 10) printf("<%d>", (int)getpid()); else printf("<%.*s>", (int)n, word);' \
     'while ((c = getchar()) != EOF) putchar(c); puts(BUILD); return 7; }' >"$work/main.c"
-# A file of the small dist/: COMPILER FILE BUILD.
+# A file of the small dist/, whose main is exported by a macro: COMPILER FILE BUILD.
+cp "$top"/dist/{b2,b2sum,vulfsjor}.S "$top/dist/macros.h" "$repository/dist/"
+for machine in x86_64 aarch64; do
+    printf '.macro vj_export name\n\t.text\n\t.globl\t\\name\n\\name:\n.endm\n\t.section .note.GNU-stack,"",%%progbits\n' \
+        >"$repository/dist/$machine/elf.inc"
+    touch "$repository/dist/$machine"/{coff,macho}.inc
+done
 write_text() {
     "$1" -O1 -S "-DMAIN=main_0_1_0_$3" "-DBUILD=\"$3\"" "$work/main.c" -o - |
-        sed 's/\.global\t/.globl\t/' >"$repository/dist/$2"
+        sed "/\.globa\{0,1\}l\t/d;s/^main_0_1_0_$3:/\tvj_export\tmain_0_1_0_$3/
+            s/\.L[A-Z]*[0-9]*/&_$3/g" >"$repository/dist/$2"
 }
 machine=$(uname -m) arm=aarch64-linux-gnu-gcc here=arm
 [ "$machine" = x86_64 ] || arm=cc
 [ $arm = cc ] || for level in v2 v3 v4; do write_text cc x86_64/b2-$level.s $level; done
 [ $arm = cc ] || { here=$("$top/tools/processor.sh") && here=${here#x86-64-}; }
 ! has $arm || write_text $arm aarch64/b2.s arm
-# Those of b2sum name a function that C replaces, and are linked with a library whose functions are
-# empty.
+# Those of b2sum are linked with a library whose functions are empty.
 for file in "$repository"/dist/*/b2*.s; do
-    sums=${file%/*}/b2sum${file##*/b2}
-    sed 's/<%/[%/' "$file" >"$sums"
-    printf '\t.weak\tb2sum..hashes..update_tree_%s\n' "${file##*[/-]}" >>"$sums"
+    sed 's/<%/[%/' "$file" >"${file%/*}/b2sum${file##*/b2}"
 done
 for build in x86_64/vulfsjor-v{2,3,4} aarch64/vulfsjor; do
     end=$(version _)_${build##*-}
-    sed -n "s/^CALL(\"\(.*\)\").*/\t.globl\t\1_${end/aarch64*/arm}\n\1_${end/aarch64*/arm}:/p" \
+    sed -n "s/^CALL(\"\(.*\)\").*/\tvj_export\t\1_${end/aarch64*/arm}/p" \
         "$top/c/choose.c" >"$repository/dist/$build.s"
 done
 program=$repository/out/b2-$machine
@@ -111,11 +115,6 @@ check "with the threads of glibc before 2.34" grep -q -- ' -pthread ' "$work/cal
 check "b2sum builds the other program, and passes on all arguments" \
     ends 7 "[two words>[--help>in$here" 1
 check "and says so" says "b2sum: built $other"
-are_replaced() {
-    diff <(nm "$other" | sed -n 's/.* [Tt] .*update_tree_\(.*s\)$/\1/p' | sort) \
-        <([ "$machine" != x86_64 ] && echo b2.s || printf '%s\n' v2.s v3.s v4.s)
-}
-check "C replaces the function of trees in each file" are_replaced
 run PATH="$work" "$BASH" "$repository/b2sum" --build
 check "the next run does not" ends 7 "[--build>in$here" 0
 ln -s "$repository/b2sum" "$work/linked sum" && run "$work/linked sum" a
@@ -156,21 +155,20 @@ for i686-w64-mingw32:there is no build for i686-w64-mingw32
 END
 
 # The files that are assembled for another system, by a compiler that makes nothing.
-printf '#!/bin/sh\necho "$1"\nexit $(($# > 2))\n' >"$work/bin/for"
-while IFS=: read -r machine_of files; do
-    for file in $files; do
-        mkdir -p "$repository/${file%/*}" && printf '\t.globl\t_main_1\n' >"$repository/$file"
-    done
+printf '#!/bin/sh\necho "$1"\necho "$*" | tr " " "\\n" >"%s/words"\nexit $(($# > 2))\n' "$work" \
+    >"$work/bin/for"
+while IFS=: read -r machine_of mains; do
     run CC="for $machine_of" "$repository/b2" --build "$work/other"
-    check "the files for $machine_of" says "b2: assembling $files, which is done once"
+    check "the words for $machine_of" says "b2: assembling dist/b2.S, which is done once"
+    check "and its builds" eval 'diff <(grep -o "DMAIN[^ ]*" "$work/words") <(printf "%s\n" $mains)'
     run CC="for $machine_of" "$repository/b2sum" --build "$work/other"
     check "b2sum has none" says "b2sum: there is no build for $machine_of"
 done <<'END'
-x86_64-w64-mingw32:dist/x86_64-windows/b2-v2.s dist/x86_64-windows/b2-v3.s dist/x86_64-windows/b2-v4.s
-x86_64-w64-windows-gnu:dist/x86_64-windows/b2-v2.s dist/x86_64-windows/b2-v3.s dist/x86_64-windows/b2-v4.s
-aarch64-w64-mingw32:dist/aarch64-windows/b2.s
-x86_64-apple-darwin23.1.0:dist/x86_64-macos/b2-v2.s dist/x86_64-macos/b2-v3.s dist/x86_64-macos/b2-v4.s
-arm64-apple-darwin23.1.0:dist/aarch64-macos/b2.s
+x86_64-w64-mingw32:DMAIN=main_0_1_0_v2 DMAIN_V3=main_0_1_0_v3 DMAIN_V4=main_0_1_0_v4
+x86_64-w64-windows-gnu:DMAIN=main_0_1_0_v2 DMAIN_V3=main_0_1_0_v3 DMAIN_V4=main_0_1_0_v4
+aarch64-w64-mingw32:DMAIN=main_0_1_0_arm
+x86_64-apple-darwin23.1.0:DMAIN=main_0_1_0_v2 DMAIN_V3=main_0_1_0_v3 DMAIN_V4=main_0_1_0_v4
+arm64-apple-darwin23.1.0:DMAIN=main_0_1_0_arm
 END
 
 # On macOS the script compares the files with MANIFEST by itself.
@@ -178,7 +176,7 @@ if has shasum; then
     (cd "$repository/dist" && sha256sum ./*/*.s >MANIFEST)
     run OSTYPE=darwin23 "$repository/b2" --build "$work/checked"
     check "with the bash of macOS it builds from a whole dist/" [ -x "$work/checked" ]
-    echo >>"$repository/dist/aarch64-macos/b2.s"
+    echo >>"$repository/dist/aarch64/b2.s"
     run OSTYPE=darwin23 "$repository/b2" --build "$work/checked"
     check "and not from a changed one" says "b2: dist/ was not made from these sources"
     rm -f "$work/calls"

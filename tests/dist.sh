@@ -35,11 +35,15 @@ while [ "\$1" != --toolchain ]; do shift; done
 more=\$(sed -n 's/^run .*"\(-march=[^"]*\)".*/ \1/p' "\$2/bin/clang")
 [ ! -e "\$2.sed" ] || more+=" edited\$(sed -n 's|.*s/i64 4/i64 \(.\)/.*|\1|p' "\$2.sed")"
 [ ! -e "\$2.py" ] || more+=" cleared"
+for script in "\$2"-*.sed; do [ ! -e "\$script" ] || more+=" with \$(basename "\$script")"; done
 line="\$crate for \$cpu\$more, \$(cat "$work/turn" 2>/dev/null)"
-printf '\t.globl\tf\n\tcallq\tmemcpy@PLT\nf:\n\tjmp\t.L1\n.L1:\n\t.ascii\t"%s"\n' "\$line" \
-    >"\$2/module.s"
-printf '\tcallq\t%s@PLT\n' open read __sysv_signal >>"\$2/module.s"
-echo '"b2sum::hashes::update_tree":' >>"\$2/module.s"
+{
+    printf '\t%s\n' '.section	.text.f,"ax",@progbits' '.globl	f' '.p2align	4' '.type	f,@function'
+    printf '%s\n' f: '	jmp	.L1' .L1:
+    printf '\tcallq\t%s@PLT\n' open read __sysv_signal
+    printf '%s\n' .Lfunc_end0: '	.size	f, .Lfunc_end0-f' '	.section	.rodata.line,"a",@progbits'
+    printf '\t.ascii\t"%s"\n' "\$line"
+} >"\$2/module.s"
 while [ "\$1" != -o ]; do shift; done
 echo "\$line" >"\$2"
 END
@@ -49,8 +53,8 @@ chmod +x "$work/bin/rt" "$kit"/bin/*
 # The repository.
 repository=$work/a\ repository
 mkdir -p "$repository/tools" "$repository/tests" "$repository/dist"
-cp "$top"/tools/{dist.sh,kit.sh,aarch64_attributes.csv,x86_64_v{2,4}.sed} "$repository/tools/"
-cp "$top"/tools/{plain_names,clear_registers,object_format}.py "$repository/tools/"
+cp "$top"/tools/{dist.sh,kit.sh,aarch64_attributes.csv,{x86_64_v{2,4},b2sum}.sed} "$repository/tools/"
+cp "$top"/tools/{plain_names,clear_registers,one_text}.py "$repository/tools/"
 cp "$top/tests/tap.sh" "$repository/tests/"
 printf '# Changes\n\n## 1.2.3\n\n## 0.9.0\n' >"$repository/CHANGELOG.md"
 printf '%s\n' blake2_state: b2_commands: "blake2_ffi staticlib: blake2_state" \
@@ -98,30 +102,25 @@ both=$'check blake2_ffi\ncheck b2sum\ncheck b2\n'
 
 # The files, and what each is made of.
 wanted_files() {
-    local system name crate level
-    for system in "" -macos -windows; do
-        for name in b2:b2 vulfsjor:blake2_ffi b2sum:b2sum; do
-            crate=${name#*:} name=${name%:*}
-            [ "$system" = "" ] || [ "$name" != b2sum ] || continue
-            echo "aarch64$system/$name.s:$crate for generic,"
-            for level in "2 edited1" 3 "3 -march=x86-64-v4 edited8 cleared"; do
-                set -- ${level/*v4*/4} && echo "x86_64$system/$name-v$1.s:$crate for x86-64-v$level,"
-            done
+    local name crate level more
+    for name in b2:b2 vulfsjor:blake2_ffi b2sum:b2sum; do
+        crate=${name#*:} name=${name%:*} more=
+        [ "$name" != b2sum ] || more=" with toolchain-b2sum.sed"
+        echo "aarch64/$name.s:$crate for generic$more,"
+        for level in "2 edited1" 3 "3 -march=x86-64-v4 edited8 cleared"; do
+            set -- ${level/*v4*/4} && echo "x86_64/$name-v$1.s:$crate for x86-64-v$level$more,"
         done
     done
     echo "wasm/vulfsjor.wasm:blake2_ffi for lime1,"
 }
 check "make" dist make
 check "each file is made of its crate, for its processor" \
-    diff <(cd dist && grep -ao '[a-z0-9_]* for .*,' */* | LC_ALL=C sort) <(wanted_files | LC_ALL=C sort)
-check "only b2sum has a weak function" diff <(cd dist && grep -hE 'weak|hidden.b2sum' */*.s |
-    LC_ALL=C sort -u) \
-    <(printf '\t.%s\n' {hidden,weak}$'\tb2sum..hashes..update_tree_1_2_3_'{arm,v2,v3,v4})
-check "only b2sum calls functions of c/b2sum.c" diff <(cd dist && grep -cE 'b2sum_(open|read|signal)@' */*.s |
-    grep -v :0; grep -lE '[^_](open|read|signal)@' x86_64/*.s) \
+    diff <(cd dist && grep -ao '[a-z0-9_]* for .*,' */*.{s,wasm} | LC_ALL=C sort) <(wanted_files | LC_ALL=C sort)
+check "only b2sum calls functions of c/b2sum.c" diff <(cd dist && grep -cE 'b2sum_(open|read|signal)$' */*.s |
+    grep -v :0; grep -lE '	(open|read|__sysv_signal)' x86_64/*.s) \
     <(printf '%s:3\n' aarch64/b2sum.s x86_64/b2sum-v{2,3,4}.s; printf '%s\n' x86_64/{b2,vulfsjor}-v{2,3,4}.s)
 check "it is current" dist current
-check "it is what the sources compile to" counts 31 0 0
+check "it is what the sources compile to" counts 15 0 0
 rm crates/*/out/rlib/stamp
 check "what rt ci has left is not proved again" proves ""
 touch -d '+9 seconds' crates/blake2_state/src/lib.rt
@@ -132,20 +131,18 @@ mkdir -p crates/{blake2_state,b2_commands}/out/rlib
 touch crates/b2_commands/out/rlib/stamp
 check "and if rt check has left a stamp" proves $'check b2sum\ncheck b2\n'
 check "one file in another folder" dist make "$work/some" x86_64/b2-v2.s
-check "and one for another system" dist make "$work/other" x86_64-macos/b2-v2.s
-check "they are the same" cmp "$work/other/x86_64-macos/b2-v2.s" dist/x86_64-macos/b2-v2.s
 check "it is the same, and there is no other" \
     eval 'cmp "$work/some/x86_64/b2-v2.s" dist/x86_64/b2-v2.s && [ "$(ls "$work/some"/*)" = b2-v2.s ]'
 
 echo other >"$work/turn"
-check "other code is found" counts 2 29 0
+check "other code is found" counts 2 13 0
 rm "$work/turn"
 cp -r dist "$work/old"
 for file in aarch64/b2.s wasm/vulfsjor.wasm; do
     check "a change of $file is found" changed 1 "dist/$file" '$a\ '
     echo >>"dist/$file"
 done
-check "by check, each of both, and by their hashes" counts 28 3 0
+check "by check, each of both, and by their hashes" counts 12 3 0
 rm -r dist && mv "$work/old" dist
 mv dist/wasm/vulfsjor.wasm "$work/old"
 check "a file that is absent is found" eval "! dist current"
@@ -162,7 +159,7 @@ check "nor a file next to src/" dist current
 mv crates/blake2_ffi/src/lib.rt crates/blake2_ffi/src/more.rt
 check "another name of a file is found" eval "! dist current"
 mv crates/blake2_ffi/src/more.rt crates/blake2_ffi/src/lib.rt
-for file in tools/{{plain_names,clear_registers,object_format}.py,aarch64_attributes.csv,x86_64_v{2,4}.sed}; do
+for file in tools/{{plain_names,clear_registers,one_text}.py,aarch64_attributes.csv,{x86_64_v{2,4},b2sum}.sed}; do
     check "a change of $file is found" changed 1 "$file" '$a # more'
 done
 check "another version is found" changed 1 CHANGELOG.md 's/1\.2\.3/1.2.4/'
@@ -170,7 +167,7 @@ check "another version is found" changed 1 CHANGELOG.md 's/1\.2\.3/1.2.4/'
 # Another kit, none, and what it refuses.
 for name in bin/rattle bin/rattle-link toolchain/bin/{clang,ld.lld}; do
     echo "# 2" >>"$kit/$name"
-    check "with another $name only hashes are compared" counts 2 0 29
+    check "with another $name only hashes are compared" counts 2 0 13
     sed -i '$d' "$kit/$name"
 done
 echo "# 2" >>"$kit/bin/rattle"
@@ -178,9 +175,9 @@ check "and the reason is told" ends 0 \
     "x86_64/b2-v3.s is what the proofs build # SKIP it was made with another toolchain, kit 1" check
 sed -i '$d' "$kit/bin/rattle"
 echo "kit 2" >"$kit/version"
-check "another kit with the same tools compares all" counts 31 0 0
+check "another kit with the same tools compares all" counts 15 0 0
 mv "$work/bin/rt" "$work/rt"
-PATH=/usr/bin:/bin check "without a kit only hashes are compared" counts 2 0 29
+PATH=/usr/bin:/bin check "without a kit only hashes are compared" counts 2 0 13
 PATH=/usr/bin:/bin check "make needs rt" ends 1 "the toolchain's command rt is not on the PATH" make
 mv "$work/rt" "$work/bin/rt"
 : >"$work/refuse"
@@ -191,13 +188,13 @@ rm -rf "$work/refuse" crates/*/out
 check "a refused library is shown" ends 1 "not proved below" make
 check "help" ends 0 "tools/dist.sh current" --help
 for words in "" "make a" "check a" "what" "make $work/some x86_64/b2-v5.s" \
-    "make $work/some wasm-macos/vulfsjor.wasm" "make $work/some x86_64-macos/b2sum-v2.s"; do
+    "make $work/some x86_64/elf.inc" "make $work/some vulfsjor.S"; do
     # shellcheck disable=SC2086
     check "the words '$words' are refused" ends 1 "dist.sh: " $words
 done
 
 check "names in dist/ end in the version and the build" \
-    grep -qx f_1_2_3_v2: dist/x86_64/b2-v2.s
+    grep -qx $'\tvj_export\tf_1_2_3_v2' dist/x86_64/b2-v2.s
 
 # What the edits for x86-64-v4 make of these lines.
 check "each function needs 256 bits at most" diff - \
@@ -285,19 +282,6 @@ c..g..64_1_v3:
 	.ident	"c::f"
 	.file	"c::f"
 END
-check "a weak function can be replaced" diff - \
-    <(printf '%s\n' '	.globl	g' '"c::f":' '	callq	"c::f"' '"c::ff":' |
-        tools/plain_names.py _1 c::f) <<'END'
-	.globl	g_1
-	.hidden	g_1
-	.weak	c..f_1
-	.hidden	c..f_1
-c..f_1:
-	callq	c..f_1
-c..ff_1:
-END
-check "a weak function that is absent is refused" diff - \
-    <(tools/plain_names.py _1 c::g <<<'"c::f":' 2>&1) <<<"plain_names.py: there is no function c::g"
 check "calls of functions elsewhere are renamed, and nothing else" diff - \
     <(printf '%s\n' '	.globl	g' '	callq	read@PLT' '	bl	open' '	callq	pread@PLT' '	bl	c.open' '	bl	open2' \
         '"c::read":' '	.ascii	"read"' '	callq	read.x' |
@@ -316,60 +300,79 @@ END
 check "one that is never called is refused" diff - \
     <(printf '%s\n' '	.globl	g' '	callq	reads' '	.ascii	"read"' | tools/plain_names.py _1 read=our_read 2>&1) \
     <<<"plain_names.py: read is never called"
-# What object_format.py makes of these lines, for macOS and for Windows.
-convert() { tools/object_format.py "$1" <"$work/elf.s"; }
-printf '\t%s\n' '.file	"f"' '.section	.text.f_1_2_3_v3,"ax",@progbits' '.globl	f_1_2_3_v3' \
-    '.hidden	f_1_2_3_v3' '.type	f_1_2_3_v3,@function' >"$work/elf.s"
-printf 'f_1_2_3_v3:\n' >>"$work/elf.s"
-printf '\t%s\n' 'movaps	.L1_2_3_v3_CPI0_1(%rip), %xmm0' 'callq	read@PLT' 'callq	rattle_arg@PLT' \
-    'jne	.L1_2_3_v3_BB0_1' 'jmp	memcpy@PLT' '.section	.rodata.cst16,"aM",@progbits,16' '.xword	7' \
-    '.ascii	"f_1_2_3_v3 read"' '.long	.L1_2_3_v3_BB0_1-.L1_2_3_v3_JTI0_0' \
-    '.section	".note.GNU-stack","",@progbits' >>"$work/elf.s"
-check "the lines for macOS" diff - <(convert macho) <<'END'
-	.section	__TEXT,__text,regular,pure_instructions
-	.globl	_f_1_2_3_v3
-	.private_extern	_f_1_2_3_v3
-_f_1_2_3_v3:
-	movaps	l1_2_3_v3_CPI0_1(%rip), %xmm0
-	callq	_read
-	callq	_rattle_arg
-	jne	L1_2_3_v3_BB0_1
-	jmp	_memcpy
-	.section	__TEXT,__const
-	.quad	7
-	.ascii	"f_1_2_3_v3 read"
-	.long	L1_2_3_v3_BB0_1-L1_2_3_v3_JTI0_0
-
-.subsections_via_symbols
-END
-check "the lines for Windows" diff - <(convert coff) <<'END'
-	.section	.text$f_1_2_3_v3,"xr"
-	.globl	f_1_2_3_v3
-f_1_2_3_v3:
-	movaps	.L1_2_3_v3_CPI0_1(%rip), %xmm0
-	callq	b2_read
-	callq	rattle_arg
-	jne	.L1_2_3_v3_BB0_1
-	jmp	sysv_memcpy_1_2_3_v3
-	.section	.rdata,"dr"
-	.quad	7
-	.ascii	"f_1_2_3_v3 read"
-	.long	.L1_2_3_v3_BB0_1-.L1_2_3_v3_JTI0_0
-
-	.section	.text$sysv_memcpy_1_2_3_v3,"xr"
-	.p2align	4
-sysv_memcpy_1_2_3_v3:
-	subq	$40, %rsp
-	movq	%rdx, %r8
-	movq	%rsi, %rdx
-	movq	%rdi, %rcx
-	callq	memcpy
-	addq	$40, %rsp
-	retq
-END
-echo "	.weak	f" >>"$work/elf.s"
-check "a directive that it does not know is refused" \
-    eval 'convert coff 2>&1 | grep -qxF "object_format.py: what is .weak f?" && ! convert macho'
 check "two names that would be one are refused" diff - <(rename '"a::b":' '"a:: b":' 2>&1) \
     <<<"plain_names.py: two names would be one"
+
+# What one_text.py makes of these lines: a function that is exported and one that is seldom called,
+# with tables of jumps and constants.
+head() { printf '\t%s\n' ".section	.text.$1,\"ax\",@progbits" "${@:2}" ".type	${1#unlikely.},@function"; }
+write_elf() {
+    printf '\t.file\t"rattle"\n'
+    head f_1_2_3_v3 '.globl	f_1_2_3_v3' '.hidden	f_1_2_3_v3' '.p2align	4'
+    printf '%s\n' f_1_2_3_v3: '	callq	g_1_2_3_v3' '	jne	.LB2' .LB1: '	movq	.LC1(%rip), %rax' \
+        '	callq	read@PLT' .LB3: '	callq	rattle_arg@PLT' '	callq	memcpy@PLT' '	jmp	.LB1' .LB2: "$@" \
+        '	jmp	memset@PLT' .Lfunc_end0: '	.size	f_1_2_3_v3, .Lfunc_end0-f_1_2_3_v3' \
+        '	.section	.rodata.f_1_2_3_v3,"a",@progbits' '	.p2align	2, 0x0' .LT1: '	.long	.LB2-.LT1' '' \
+        '	.section	.rodata.cst8,"aM",@progbits,8' .LC1: '	.xword	7'
+    head unlikely.g_1_2_3_v3 '.p2align	4'
+    printf '%s\n' g_1_2_3_v3: .LB4: '	je	.LB4' .Lfunc_end1: \
+        '	.size	g_1_2_3_v3, .Lfunc_end1-g_1_2_3_v3' '	.type	.Lstatic.0,@object' \
+        '	.section	.rodata..Lstatic.0,"a",@progbits' .Lstatic.0: '	.ascii	"f_1_2_3_v3 // .LB1"' \
+        '	.size	.Lstatic.0, 18' '	.section	.data.rel.ro.k_1_2_3_v3,"aw",@progbits' \
+        '	.quad	g_1_2_3_v3' '	.ident	"clang"' '	.section	".note.GNU-stack","",@progbits'
+}
+one_text() { write_elf "$@" | tools/one_text.py; }
+check "a text for every system" diff - <(one_text) <<'END'
+	vj_export	f_1_2_3_v3
+	callq	g_1_2_3_v3
+	jne	2f
+1:
+	movq	.LC1(%rip), %rax
+	vj_system_call	read, b2_read
+	vj_call	rattle_arg
+	vj_c_call	memcpy
+	jmp	1b
+2:
+	vj_c_jump	memset
+	vj_end	f_1_2_3_v3
+
+	vj_data	f_1_2_3_v3
+	.p2align	2, 0x0
+.LT1:
+	.long	2b-.LT1
+
+	vj_constants	8
+.LC1:
+	.quad	7
+	vj_cold	g_1_2_3_v3
+1:
+	je	1b
+	vj_end	g_1_2_3_v3
+
+	vj_data	static.0_1_2_3_v3
+.Lstatic.0:
+	.ascii	"f_1_2_3_v3 // .LB1"
+	vj_relocated	k_1_2_3_v3
+	.quad	g_1_2_3_v3
+END
+check "and the forms of ARM" diff - <(write_elf '	adrp	x0, .LC1' '	ldr	d0, [x0, :lo12:.LC1]' \
+    '	add	x0, x0, :lo12:.LT1' '	bl	write' '	b	memset' '	ret' | sed 's/^\t\.p2align\t4/\t.p2align\t2/' |
+    tools/one_text.py | sed -n '/^2:/,/ret/p') <<'END'
+2:
+	vj_page	x0, .LC1
+	vj_load	d0, x0, .LC1
+	vj_address	x0, x0, .LT1
+	vj_system_call	write, b2_write
+	vj_c_jump	memset
+	ret
+END
+for line in '	.weak	f' '	jmp	.LB4' '	jmp	.LB9' '	callq	f_1_2_3_v3' '	leaq	f_1_2_3_v3(%rip), %rax' \
+    '	movq	g@GOTPCREL(%rip), %rax' '	adrp	x0, :got:g' '	nop // a comment' \
+    '#define a' '	movl	linux(%rip), %eax' '	.section	.init_array,"aw",@progbits' \
+    '	.type	f_1_2_3_v3,@object' h:; do
+    check "the line '$line' is refused" eval \
+        '! one_text "$line" >"$work/log_of_one" 2>&1 && grep -q "^one_text.py: what is " "$work/log_of_one"'
+done
+check "so is a name that would be a label in Mach-O" eval \
+    '! write_elf | sed s/g_1_2_3_v3/lines_1_2_3_v3/ | tools/one_text.py 2>/dev/null'
 finish

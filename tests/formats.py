@@ -1,11 +1,11 @@
 #!/usr/bin/env python3
-"""Compares the assembly files of dist/ for macOS and Windows with those for Linux: each is what tools/object_format.py
-writes, has the same lines but for the names, and as an object the same instructions in each function. The objects call
-only what they may, and linkers for these systems accept them.
+"""Assembles each text of dist/ for Linux, macOS and Windows: each function has the same instructions there, the objects
+call only what they may, and linkers for these systems accept them. What tools/machine reads is, byte for byte, what the
+assembler makes of the text. The files for callers have all texts, as they are.
 
     tests/formats.py [DIST]
 
-DIST is dist/ if it is left out. Needs clang, llvm-objdump and llvm-nm for the objects, and ld64.lld and lld-link.
+DIST is dist/ if it is left out. Needs clang, llvm-objdump and llvm-nm, and ld64.lld and lld-link.
 """
 import functools
 import os
@@ -18,49 +18,23 @@ import tempfile
 import tap
 from blake2_kinds import TOP
 
-SYSTEMS = {"macos": ("macho", "apple-macos11"), "windows": ("coff", "pc-windows-msvc")}
-TEXTS = {"x86_64": [f"{name}-{level}" for name in ("vulfsjor", "b2") for level in ("v2", "v3", "v4")],
-         "aarch64": ["vulfsjor", "b2"]}
+sys.path.insert(0, os.path.join(TOP, "tools", "machine"))
+import macros  # pylint: disable=wrong-import-position
+
+SYSTEMS = {"linux": "linux-gnu", "macos": "apple-macos11", "windows": "pc-windows-msvc"}
+TEXTS = {"x86_64": [f"{name}-{level}" for name in ("vulfsjor", "b2", "b2sum") for level in ("v2", "v3", "v4")],
+         "aarch64": ["vulfsjor", "b2", "b2sum"]}
 C_LIBRARY = {"memcpy", "memmove", "memset"}
-OF_B2 = {f"rattle_{it}" for it in ("alloc", "arg", "dealloc", "errno", "realloc", "set_errno")}
-CALLED = {"macos": {"read", "write", "__sysv_signal"}, "windows": {"b2_read", "b2_write", "b2_signal"}}
-NUMBERS = {".hword": ".short", ".word": ".long", ".xword": ".quad"}
+OF_PROGRAMS = {f"rattle_{it}" for it in ("alloc", "arg", "dealloc", "errno", "realloc", "set_errno")}
+OF_PROGRAMS |= {"__x86_get_cpuid_feature_leaf"}
+OF_B2 = {"linux": {"read", "write", "__write", "__sysv_signal"}, "windows": {"b2_read", "b2_write", "b2_signal"}}
+OF_B2SUM = {"b2sum_open", "b2sum_read", "b2sum_signal", "b2sum_update_tree", "__xpg_strerror_r", "close"}
 TOOLS = ("clang", "llvm-objdump", "llvm-nm")
 PADDING = re.compile(r"(nop|data16|cs nop|xchgw %ax, %ax|int3|udf)")
 
 
 def run(*words, stdin=None):
     return subprocess.run(words, stdin=stdin, capture_output=True, text=True, check=True).stdout
-
-
-@functools.lru_cache(maxsize=None)
-def plain(name):
-    """A name without what an object format or a calling convention adds."""
-    name = re.sub(r"^(?:\.L|L|l)(?=\d)", "", name.lstrip("_"))
-    name = re.sub(r"^sysv_(mem\w+?)_\d.*", r"\1", name)
-    return {"b2_read": "read", "b2_write": "write", "b2_signal": "sysv_signal"}.get(name, name)
-
-
-@functools.lru_cache(maxsize=2)  # the text for Linux is compared twice
-def plain_lines(text):
-    """The lines of a text that decide what the processor does and reads, with plain names."""
-    lines = re.sub(r"\t\.section\t\.text\$sysv_.*", "", text, flags=re.S).split("\n")
-    return [line for line in map(plain_line, lines) if line is not None]
-
-
-@functools.lru_cache(maxsize=None)
-def plain_line(line):
-    """A line with plain names, or None if it decides nothing."""
-    line = re.sub(r"@PLT|@PAGE(OFF)?|:lo12:", "", line)
-    section = re.match(r"\t\.section\t(?:\.|__)(text|TEXT,__text|rodata|rdata|TEXT,__const)", line)
-    if section:
-        line = "code" if "text" in section[1] else "data"
-    elif re.match(r"\t\.(?:type|size|ident|file|hidden|private_extern|section)|\.subsections|/\*|$", line):
-        return None
-    line = re.sub(r"^\t(\.[hx]?word)", lambda it: "\t" + NUMBERS[it[1]], line)
-    if line.startswith("\t.ascii"):
-        return line
-    return re.sub(r"(?<![\w.$%])[.A-Za-z_][\w.]*(?![\w.])", lambda it: plain(it[0]), line)
 
 
 def symbols(path, *kinds):
@@ -96,36 +70,43 @@ def functions(path, arch):
             text = instruction(line.split(":", 1)[1].strip())
             if not PADDING.match(text):
                 body.append(text)
-    return {name: body for name, body in found.items() if not name.startswith("sysv_")}
+    return {name: body for name, body in found.items() if not name.startswith("vj_sysv_")}
 
 
-def check_text(dist, folder, name, room, elf):
-    """The statements about one file, by their words, each with what else was found."""
-    arch, system = folder.split("-")
-    form, target = SYSTEMS[system]
-    path, of_linux = (os.path.join(dist, it, f"{name}.s") for it in (folder, arch))
-    with open(path, encoding="utf-8") as file, open(of_linux, encoding="utf-8") as source:
-        text, wanted = file.read(), source.read()
-    with open(of_linux, encoding="utf-8") as source:
-        again = run(os.path.join(TOP, "tools", "object_format.py"), form, stdin=source)
-    yield "it is what tools/object_format.py writes", again == text, ""
-    ours, theirs = plain_lines(wanted), plain_lines(text)
-    pairs = [it for it in zip(ours, theirs) if it[0] != it[1]]
-    yield ("its lines are those of the file for Linux but for names", not pairs and len(ours) == len(theirs) > 10000,
-           pairs[:3])
-    if elf is None:
-        return
-    made = os.path.join(room, f"{folder}-{name}.o")
-    run("clang", f"--target={arch}-{target}", "-c", path, "-o", made)
-    theirs = functions(made, arch)
-    same = [it for it in elf if elf[it] == theirs.get(it)]
+def assembled(path, arch, system, made):
+    """Assembles a text of dist/ with its macros, or a file for callers."""
+    words = [] if path.endswith(".S") else ["-include", os.path.join(TOP, "dist", "macros.h"), "-x", "assembler-with-cpp"]
+    run("clang", f"--target={arch}-{SYSTEMS[system]}", *words, "-c", path, "-o", made)
+    return made
+
+
+def may_call(name, system):
+    """The functions elsewhere that a text may call."""
+    own = OF_B2.get(system, OF_B2["linux"]) | OF_PROGRAMS
+    return C_LIBRARY | (own | OF_B2SUM if name.startswith("b2sum") else own if name.startswith("b2") else set())
+
+
+def is_read_so(path, arch, room):
+    """Whether the text that tools/machine reads is assembled to the same bytes."""
+    read = os.path.join(room, "read.s")
+    with open(path, encoding="utf-8") as file, open(read, "w", encoding="utf-8") as to:
+        to.write(macros.expanded(file.read(), arch))
+    run("clang", f"--target={arch}-{SYSTEMS['linux']}", "-c", read, "-o", f"{read}.o")
+    with open(f"{read}.o", "rb") as ours, open(assembled(path, arch, "linux", f"{read}.linux.o"), "rb") as theirs:
+        return ours.read() == theirs.read()
+
+
+def check_system(name, arch, system, made, elf):
+    """The statements about the object of a text for a system, by their words, each with what else was found."""
+    found = functions(made, arch)
+    same = [it for it in elf if elf[it] == found.get(it)]
     yield (f"{len(same)} of {len(elf)} functions have the instructions of those for Linux",
-           len(same) == len(elf) == len(theirs) > 50 and sum(map(len, elf.values())) > 8000,
+           len(same) == len(elf) == len(found) > 40 and sum(map(len, elf.values())) > 8000,
            sorted(elf.keys() - set(same))[:5])
-    may = C_LIBRARY | (CALLED[system] | OF_B2 | {"__write", "__x86_get_cpuid_feature_leaf"} if "b2" in name else set())
     called = {re.sub("^_", "", it) if system == "macos" else it for it in symbols(made, "-u")}
-    yield "it calls the C library and what c/b2.c has", C_LIBRARY <= called <= may, called - may
-    link = os.path.join(room, "linked")
+    yield "it calls the C library and what the C of the programs has", (
+        C_LIBRARY <= called <= may_call(name, system)), called - may_call(name, system)
+    link = f"{made}.linked"
     mac_linker = next(filter(None, map(shutil.which, ("ld64.lld", "ld64.lld-14"))), None)
     if system == "macos" and mac_linker:
         run(mac_linker, "-arch", arch.replace("aarch64", "arm64"), "-platform_version", "macos", "11", "11", "-dylib",
@@ -136,22 +117,34 @@ def check_text(dist, folder, name, room, elf):
         yield "lld-link links it", os.path.getsize(link) > 50000, ""
 
 
+def check_text(path, arch, name, room):
+    """Prints the results of a text, and returns its functions."""
+    elf = functions(assembled(path, arch, "linux", os.path.join(room, "elf.o")), arch)
+    tap.result(is_read_so(path, arch, room), f"{arch}/{name}.s: tools/machine reads what the assembler makes of it")
+    for system in ("macos", "windows"):
+        made = assembled(path, arch, system, os.path.join(room, f"{arch}-{name}-{system}.o"))
+        for words, holds, why in check_system(name, arch, system, made, elf):
+            tap.result(holds, f"{arch}/{name}.s on {system}: {words}", str(why))
+    return elf
+
+
 def main():
     dist = sys.argv[1] if len(sys.argv) > 1 else os.path.join(TOP, "dist")
     missing = [tool for tool in TOOLS if not shutil.which(tool)]
     if missing:
-        tap.result(True, "the objects for macOS and Windows", skipped=f"no {', '.join(missing)}")
+        tap.result(True, "the objects for Linux, macOS and Windows", skipped=f"no {', '.join(missing)}")
+        tap.finish()
     with tempfile.TemporaryDirectory() as room:
         for arch, names in TEXTS.items():
+            found = {}
             for name in names:
-                elf = None
-                if not missing:
-                    made = os.path.join(room, "elf.o")
-                    run("clang", f"--target={arch}-linux-gnu", "-c", os.path.join(dist, arch, f"{name}.s"), "-o", made)
-                    elf = functions(made, arch)
+                of_file = found.setdefault(name.partition("-")[0], {})
+                of_file.update(check_text(os.path.join(dist, arch, f"{name}.s"), arch, name, room))
+            for file, wanted in found.items():
                 for system in SYSTEMS:
-                    for words, holds, why in check_text(dist, f"{arch}-{system}", name, room, elf):
-                        tap.result(holds, f"{arch}-{system}/{name}.s: {words}", str(why))
+                    made = assembled(os.path.join(dist, f"{file}.S"), arch, system, os.path.join(room, "all.o"))
+                    tap.result(functions(made, arch) == wanted,
+                               f"{file}.S on {system}, {arch}: it has the functions of its texts, and no others")
     tap.finish()
 
 

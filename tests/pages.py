@@ -11,6 +11,7 @@ import os
 import re
 import subprocess
 import sys
+import tempfile
 
 import tap
 from blake2_kinds import TOP, Unreadable, read, version
@@ -507,11 +508,58 @@ def check_merges():
     return done.stdout.splitlines()
 
 
+# What the programs of CC say of the machine that they compile for, by the name of its system.
+TARGETS = {"Linux": ("x86_64-linux-gnu", "aarch64-linux-gnu"), "Windows": ("x86_64-w64-mingw32", "aarch64-w64-mingw32"),
+           "macOS": ("x86_64-apple-darwin23", "arm64-apple-darwin23")}
+# The scripts that build, with arguments that name a file or a folder.
+BUILDING = {"the library": ("c/install.sh", "{}"), "`b2`": ("b2", "--build", "{}"), "`b2sum`": ("b2sum", "--build", "{}")}
+# Each sentence of a page that says what there is for which systems.
+SENTENCES = {
+    "README.md": [("the library", r"\*\*Platforms\*\* .*?WebAssembly; (.*?); `b2sum`"), ("`b2sum`", r"`b2sum` on ([^.]*)\.")],
+    "docs/PLATFORMS.md": [("`b2sum`", r"The program `b2sum` is for ([^.]*)\.")],
+    "docs/FAQ.md": [("`b2`", r"\*\*(macOS, Windows)\?\*\* The library for C and the program `b2` build for both"),
+                    ("`b2sum`", r"`b2sum` is for ([^.]*)\.")],
+    "docs/B2SUM.md": [("`b2sum`", r"The program is for ([^.]*)\.")],
+    "dist/README.md": [("the library", r"Each text is for (.*?)\."), ("`b2sum`", r"`b2sum` is linked for ([^.]*)\.")],
+}
+
+
+@functools.cache
+def has_build(script, target):
+    """Whether a script, for a compiler that says this and then fails, finds a build to compile."""
+    with tempfile.TemporaryDirectory() as folder:
+        fake = os.path.join(folder, "cc")
+        with open(fake, "w", encoding="utf-8") as file:
+            file.write(f'#!/bin/sh\n[ "$*" = -dumpmachine ] || exit 1\necho {target}\n')
+        os.chmod(fake, 0o755)
+        words = [word.format(os.path.join(folder, "made")) for word in BUILDING[script]]
+        done = subprocess.run([os.path.join(TOP, words[0]), *words[1:]], env={**os.environ, "CC": fake},
+                              capture_output=True, text=True, check=False)
+        return "there is no build for" not in done.stderr
+
+
+def check_systems():
+    """The systems that the pages name for the library and the programs, with those that the scripts build for"""
+    built = {script: {system for system, targets in TARGETS.items() if all(has_build(script, it) for it in targets)}
+             for script in BUILDING}
+    for page, sentences in SENTENCES.items():
+        text = " ".join(read(page).split())
+        for script, pattern in sentences:
+            named = set(re.findall("|".join(TARGETS), find(pattern, text, page)))
+            wanted = built[script] - {"Linux"} if pattern.startswith(r"\*\*(macOS") else built[script]
+            wanted = wanted - {"Linux"} if "WebAssembly; (" in pattern else wanted
+            if named != wanted:
+                yield f"{page}: {script} is for {sorted(named)}, and is built for {sorted(built[script])}"
+    rows = dict(re.findall(r"^\| (Linux|Windows|macOS), x86-64.*? \| (yes|no)", read("docs/PLATFORMS.md"), re.MULTILINE))
+    if {system for system, has in rows.items() if has == "yes"} != built["the library"] & built["`b2`"]:
+        yield f"docs/PLATFORMS.md: the table has {rows}"
+
+
 def main():
     if sys.argv[1:]:
         sys.exit("usage: tests/pages.py")
     for check in (check_clauses, check_edits, check_specification, check_version, check_files, check_crates,
-                  check_links, check_quotes, check_speeds, check_ratios, check_guides, check_comments,
+                  check_links, check_quotes, check_speeds, check_ratios, check_guides, check_comments, check_systems,
                   check_symbolic_links, check_merges):
         absent = check in (check_symbolic_links, check_merges) and not os.path.exists(os.path.join(TOP, ".git"))
         try:

@@ -74,18 +74,24 @@ version() {
 # The first block of a page in this language: PAGE LANGUAGE.
 block_of() { sed -n "/^\`\`\`$2\$/,/^\`\`\`\$/{/^\`\`\`\$/q;/^\`\`\`/d;p}" "$top/$1"; }
 
+# Writes a file for the compiler with the macros of dist/ and one of its texts, and prints its path.
+with_macros() {
+    local file
+    file=$work/$(basename "${1%.s}").S
+    printf '#include "%s"\n' "$top/dist/macros.h" "$(readlink -f "$1")" >"$file" && echo "$file"
+}
+
 # The name of `main` in a file of a program in dist/, and the program from it: FILE PROGRAM
 # [ARGUMENTS FOR THE COMPILER..]
-main_of() { sed -n 's/^\t\.globl\t\(main_.*\)/\1/p' "$1"; }
+main_of() { sed -n 's/^\tvj_export\t\(main_.*\)/\1/p' "$1"; }
 assemble() {
     local words=("$top/c/b2.c" "-DMAIN=$(main_of "$1")") build=${1##*-}
     if [[ $1 == */b2sum* ]]; then
         [[ $1 != */aarch64/* ]] || build=arm.s
-        words+=("-DUPDATE_TREE=$(sed -n 's/^\t\.weak\t//p' "$1")" "-I$top/c/include" -pthread
-            -DEND=b2sum_end "-DCHOOSE_ONE=${build%.s}" "$top"/c/{b2sum,threads,choose}.c
-            "${1/b2sum/vulfsjor}")
+        words+=("-I$top/c/include" -pthread -DEND=b2sum_end "-DCHOOSE_ONE=${build%.s}"
+            "$top"/c/{b2sum,threads,choose}.c "$(with_macros "${1/b2sum/vulfsjor}")")
     fi
-    cc -O2 -fno-lto -o "$2" "${words[@]}" "$1" "${@:3}"
+    cc -O2 -fno-lto -o "$2" "${words[@]}" "$(with_macros "$1")" "${@:3}"
 }
 
 # The programs of dist/ that this processor runs, newest first, as files in `work`: b2, or NAME.

@@ -18,18 +18,12 @@ set -euo pipefail
 source "$(dirname "$(readlink -f "$0")")/../tests/tap.sh"
 manifest=$top/dist/MANIFEST
 crates=(blake2_ffi b2 b2sum)
-# What is compiled, for Linux and WebAssembly; and the systems whose files are made of those for
-# Linux, each with its object format. b2sum is for Linux only.
-compiled=(aarch64/b2.s aarch64/b2sum.s aarch64/vulfsjor.s wasm/vulfsjor.wasm
+# Its files, except those by which they are assembled: dist/*.S, dist/macros.h and dist/*/*.inc are
+# written by hand.
+files=(aarch64/b2.s aarch64/b2sum.s aarch64/vulfsjor.s wasm/vulfsjor.wasm
     x86_64/b2-v2.s x86_64/b2-v3.s x86_64/b2-v4.s
     x86_64/b2sum-v2.s x86_64/b2sum-v3.s x86_64/b2sum-v4.s
     x86_64/vulfsjor-v2.s x86_64/vulfsjor-v3.s x86_64/vulfsjor-v4.s)
-declare -A format_of=([macos]=macho [windows]=coff)
-list=$(for file in "${compiled[@]}"; do
-    echo "$file"
-    [[ $file == */b2sum* || $file != *.s ]] || printf "${file/\//-%s/}\n" "${!format_of[@]}"
-done | LC_ALL=C sort) || exit 2
-mapfile -t files <<<"$list"
 source "$top/tools/kit.sh"
 
 stop() {
@@ -39,14 +33,10 @@ stop() {
 
 usage() { sed -n '2,/^set /{/^set /d;s/^#\{0,1\} \{0,1\}//;p}' "$0"; }
 
-# The file for Linux that a file of dist/ is made of, or the file itself; and its crate.
-compiled_of() { sed 's|-[a-z]*/|/|' <<<"$1"; }
+# The crate of a file.
 crate_of() {
     case ${1##*/} in b2sum*) echo b2sum ;; b2*) echo b2 ;; *) echo blake2_ffi ;; esac
 }
-
-# The functions of a crate that C may replace: those of c/b2sum.c start threads.
-weak_of() { [ "$1" != b2sum ] || echo b2sum::hashes::update_tree; }
 
 # The functions of the C library that a crate gets from C of ours instead: those of c/b2sum.c. They
 # have names of their own, so nothing else in the program gets them.
@@ -63,7 +53,7 @@ sources() {
             xargs awk 'FNR == 1 { print "== " FILENAME } !/^[ \t]*\/\//' &&
             version _ &&
             cat tools/plain_names.py tools/aarch64_attributes.csv tools/x86_64_v2.sed \
-                tools/x86_64_v4.sed tools/clear_registers.py tools/object_format.py
+                tools/x86_64_v4.sed tools/b2sum.sed tools/clear_registers.py tools/one_text.py
     } | sha256sum | cut -d ' ' -f 1
 }
 
@@ -87,10 +77,10 @@ has_same_tools() { [ "$(said tools)" = "$(hash_of_tools)" ]; }
 
 # ---- building
 
-# Builds a file of dist/ for Linux in this folder, over the proved libraries.
+# Builds a file of dist/ in this folder, over the proved libraries. It is compiled for Linux, and
+# tools/one_text.py makes it a text for every system.
 #
-# No file uses the red zone, which Windows overwrites, or x18, which macOS and Windows reserve: the
-# same instructions are the files for those systems.
+# No file uses the red zone, which Windows overwrites, or x18, which macOS and Windows reserve.
 #
 # On aarch64 the compression of one message is compiled without vector registers, and that of
 # several with them: a NEON instruction takes two to four cycles there, and one message is a single
@@ -117,6 +107,7 @@ build() {
         wasm/*.wasm) target=wasm64-unknown-unknown cpu=lime1 more=(-msimd128) ;;
     esac
     [ "$crate" = blake2_ffi ] || kind=()
+    [ "$crate" != b2sum ] || cp "$top/tools/b2sum.sed" "$room/toolchain-b2sum.sed"
     echo "dist.sh: building $file" >&2
     rm -rf "$room"/toolchain{,.sed,.py}
     $make "$room/toolchain" "${more[@]}"
@@ -134,22 +125,10 @@ build() {
             echo "/* Made by tools/dist.sh from the proved crate $crate." \
                 "dist/README.md says how. */"
             "$top/tools/plain_names.py" "_$(version _)_$end" \
-                $(weak_of "$crate") $(ours_of "$crate") \
-                <"$room/toolchain/module.s"
+                $(ours_of "$crate") \
+                <"$room/toolchain/module.s" >"$room/module.s"
+            "$top/tools/one_text.py" <"$room/module.s"
         } >"$to"
-    fi
-}
-
-# Writes a file of dist/ in a folder: as it was built, or converted from that.
-put() {
-    local to=$1/$2 built system=${2%%/*}
-    built=$(compiled_of "$2")
-    [ -e "$work/compiled/$built" ] || build "$work/compiled" "$built"
-    mkdir -p "$(dirname "$to")"
-    if [ "$built" = "$2" ]; then
-        cp "$work/compiled/$built" "$to"
-    else
-        "$top/tools/object_format.py" "${format_of[${system##*-}]}" <"$work/compiled/$built" >"$to"
     fi
 }
 
@@ -166,7 +145,7 @@ make() {
     done
     for crate in "${crates[@]}"; do
         for file; do
-            [ "$(crate_of "$file")" != "$crate" ] || put "$folder" "$file"
+            [ "$(crate_of "$file")" != "$crate" ] || build "$folder" "$file"
         done &
         lanes+=($!)
     done

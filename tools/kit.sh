@@ -80,8 +80,8 @@ link_module() {
 
 # Makes a folder to use instead of the kit's toolchain. Its clang gets these arguments too, and
 # fails if it prints anything. It leaves the text of what it compiles in FOLDER/module.s, and
-# assembles that. FOLDER.sed, if it is there, edits LLVM's text of the module before, and FOLDER.py
-# the assembly after that. Rattle runs it without an environment, in a temporary folder.
+# assembles that. FOLDER.sed and FOLDER-*.sed, if they are there, edit LLVM's text of the module
+# before, and FOLDER.py the assembly after that. Rattle runs it without an environment, in a temporary folder.
 make_toolchain() {
     local folder=$1 kit more python
     python=$(python3 -c "import sys; print(sys.executable)" || :)
@@ -106,11 +106,14 @@ case " \$* " in
         ;;
 esac
 target=\$1 module=module.bc
-if [ -e "$folder.sed" ]; then
-    module="$folder/module.ll"
-    run "\$target" -S -emit-llvm -Xclang -disable-llvm-passes -x ir module.bc -o "\$module"
-    /bin/sed -i -f "$folder.sed" "\$module" || exit
-fi
+for edit in "$folder".sed "$folder"-*.sed; do
+    [ -e "\$edit" ] || continue
+    if [ "\$module" = module.bc ]; then
+        module="$folder/module.ll"
+        run "\$target" -S -emit-llvm -Xclang -disable-llvm-passes -x ir module.bc -o "\$module"
+    fi
+    /bin/sed -i -f "\$edit" "\$module" || exit
+done
 for word; do
     shift
     case \$word in

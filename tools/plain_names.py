@@ -1,14 +1,13 @@
 #!/usr/bin/env python3
 """Gives the symbols of an assembly text plain names that end in the version and the build:
 
-    tools/plain_names.py _0_1_0_v3 [WEAK..] [NAME=OURS..] <module.s >file.s
+    tools/plain_names.py _0_1_0_v3 [NAME=OURS..] <module.s >file.s
 
 Rattle's names stand in quotes, as "blake2_compress::many::blake2b::outputs::<=64>", which not every assembler takes. This one
 becomes blake2_compress..many..blake2b..outputs..64_0_1_0_v3. Exported names and local labels get the end too, so that several
 such texts can stand in one program, and in one run of an assembler. Exported names are hidden: a program's objects see
-them, and a shared library that is linked from them does not export them. The functions WEAK, by their names in Rattle,
-become hidden and weak: a program may have others in their place. A call of the function NAME elsewhere, such as read,
-becomes one of OURS. Nothing else changes: the instructions stay as they are, and so do the names of other functions
+them, and a shared library that is linked from them does not export them. A call of the function NAME elsewhere, such as
+read, becomes one of OURS. Nothing else changes: the instructions stay as they are, and so do the names of other functions
 elsewhere, such as memcpy.
 """
 import re
@@ -27,15 +26,6 @@ def labels(lines):
     return [line for line in lines if re.match(r'["\w.][^\t]*:$', line)]
 
 
-def with_weak(lines, names):
-    """The lines, with two more before the label of each of these functions."""
-    for name in names:
-        if f'"{name}":' not in lines:
-            sys.exit(f"plain_names.py: there is no function {name}")
-    weak = {f'"{name}":': [f'\t.weak\t"{name}"', f'\t.hidden\t"{name}"'] for name in names}
-    return [it for line in lines for it in [*weak.get(line, []), line]]
-
-
 def with_ours(lines, ours):
     """The lines, with calls of these functions elsewhere instead of others."""
     calls, found = re.compile(rf"(?<![\w.:])(?:{'|'.join(ours)})(?![\w.:])"), set()
@@ -51,9 +41,8 @@ def with_ours(lines, ours):
 
 
 def main():
-    end, ours = sys.argv[1], dict(word.split("=") for word in sys.argv[2:] if "=" in word)
-    weak = [word for word in sys.argv[2:] if "=" not in word]
-    lines = with_weak(with_ours(sys.stdin.read().split("\n"), ours), weak)
+    end, ours = sys.argv[1], dict(word.split("=") for word in sys.argv[2:])
+    lines = with_ours(sys.stdin.read().split("\n"), ours)
     exported = "|".join(line[len(EXPORT):] for line in lines if line.startswith(EXPORT))
     names = re.compile(rf'"([^"]*::[^"]*)"|\b(?:{exported})\b')
     renamed = [line if IS_DATA.match(line) else

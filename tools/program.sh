@@ -5,13 +5,12 @@
 # (otherwise of ~/.cache), one for each clone. On x86-64 it contains all builds and chooses one at
 # run time, so machines with other processors may share the folder.
 machine=${BASH_VERSINFO[5]%%-*}
-x86_64=("dist/x86_64/$name-"v{2,3,4}.s) aarch64=("dist/aarch64/$name.s")
+texts=("dist/$name.S")
 sources=(c/b2.c c/choose.c c/include/vulfsjor.h)
 # b2sum is linked with the library too, whose functions hash trees by threads.
 if [ "$name" = b2sum ]; then
     sources+=(c/b2sum.c c/threads.c c/include/vulfsjor_threads.h)
-    x86_64+=(dist/x86_64/vulfsjor-v{2,3,4}.s)
-    aarch64+=(dist/aarch64/vulfsjor.s)
+    texts+=(dist/vulfsjor.S)
 fi
 
 fail() {
@@ -24,25 +23,27 @@ fail() {
 is_current() {
     local file
     [ -x "$1" ] || return
-    for file in "$name" tools/program.sh dist/MANIFEST "${x86_64[@]}" "${aarch64[@]}" \
+    for file in "$name" tools/program.sh dist/MANIFEST dist/macros.h "${texts[@]}" \
         "${sources[@]}"; do
         [ "$1" -nt "$top/$file" ] || return
     done
+    for file in "$top"/dist/*/*.inc "$top"/dist/*/"$name"[.-]*s; do
+        [ "$1" -nt "$file" ] || return
+    done
+    [ "$name" = b2 ] || for file in "$top"/dist/*/vulfsjor*.s; do
+        [ "$1" -nt "$file" ] || return
+    done
 }
 
-# The name of the main in a file of dist/, and that of the function that C replaces.
-main_of() { sed -n $'s/^\t\\.globl\t_\\{0,1\\}\\(main_.*\\)/\\1/p' "$top/$1"; }
-weak_of() { sed -n 's/^\t\.weak\t//p' "$top/$1"; }
+# The name of the main in a file of dist/.
+main_of() { sed -n $'s/^\tvj_export\t\\(main_.*\\)/\\1/p' "$top/dist/$1"; }
 
 # Adds to `words` what the compiler gets for a program of these files: FILE, or FILE V3 V4.
 add_words() {
     words+=("-DMAIN=$(main_of "$1")" "-I$top/c/include")
     [ $# -eq 1 ] || words+=("-DMAIN_V3=$(main_of "$2")" "-DMAIN_V4=$(main_of "$3")")
     if [ "$name" = b2sum ]; then
-        words+=(-DEND=b2sum_end "-DUPDATE_TREE=$(weak_of "$1")"
-            "$top"/c/{b2sum,threads,choose}.c -pthread)
-        [ $# -eq 1 ] ||
-            words+=("-DUPDATE_TREE_V3=$(weak_of "$2")" "-DUPDATE_TREE_V4=$(weak_of "$3")")
+        words+=(-DEND=b2sum_end "$top"/c/{b2sum,threads,choose}.c -pthread)
     elif [ $# -eq 3 ]; then
         words+=('-DCHOOSE_FUNCTIONS=<stddef.h>' "$top/c/choose.c")
     fi
@@ -67,28 +68,22 @@ check_dist() {
 # Builds the program as this file, for the machine that the compiler compiles for, which has to be
 # this one if it is named: FILE [MACHINE]. It is then as old as the beginning of its build.
 build() {
-    local cc target texts system words
+    local cc target system words
     read -ra cc <<<"${CC:-cc}"
     command -v "${cc[0]-}" >/dev/null || fail "a C compiler is needed: cc, or the one that CC names"
     target=$("${cc[@]}" -dumpmachine)
     case $target in
         *x32 | *ilp32) system=none ;;
-        *-linux*) system= words=(-Wl,-z,relro -Wl,-z,now) ;;
-        *-mingw32 | *-windows-gnu) system=-windows words=(-municode) ;;
-        *-apple-*) system=-macos words=(-fno-lto) ;;
+        *-linux*) system=linux words=(-Wl,--gc-sections -Wl,-z,relro -Wl,-z,now) ;;
+        *-mingw32 | *-windows-gnu) system=windows words=(-Wl,--gc-sections -municode) ;;
+        *-apple-*) system=macos words=(-Wl,-dead_strip) ;;
         *) system=none ;;
     esac
-    [ "$name" = b2 ] || [ -z "$system" ] || system=none
+    [ "$name" = b2 ] || [ $system = linux ] || system=none
     case $target,$system in
         *,none) fail "there is no build for $target" ;;
-        x86_64-*)
-            texts=("${x86_64[@]/x86_64/x86_64$system}")
-            add_words "${texts[@]:0:3}"
-            ;;
-        aarch64-* | arm64-*)
-            texts=("${aarch64[@]/aarch64/aarch64$system}")
-            add_words "${texts[0]}"
-            ;;
+        x86_64-*) add_words x86_64/$name-v{2,3,4}.s ;;
+        aarch64-* | arm64-*) add_words "aarch64/$name.s" ;;
         *) fail "there is no build for $target" ;;
     esac
     [[ $target == "${2-}"* ]] || fail "CC compiles for $target, and this machine is $2"

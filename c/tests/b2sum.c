@@ -322,9 +322,7 @@ static void check_plain(int file, const char *whole) {
 
 /* ---- Trees. */
 
-void update_two(vulfsjor_tree_state *state, const void *bytes, size_t length) __asm__("update.2");
-void update_three(vulfsjor_tree_state *state, const void *bytes, size_t length) __asm__("update.3");
-void update_four(vulfsjor_tree_state *state, const void *bytes, size_t length) __asm__("update.4");
+void b2sum_update_tree(vulfsjor_tree_state *state, const void *bytes, size_t length);
 
 /* How many updates were made by threads, and how many by the library alone; whether the first fail;
  * and whether there is no memory. */
@@ -364,21 +362,21 @@ static vulfsjor_tree_state state_after(uint32_t leaf, const char *whole, size_t 
     vulfsjor_tree_state state;
 
     CHECK(!vulfsjor_tree_init(&state, 64, "salt", 4, "", 0, leaf));
-    update_two(&state, whole, head);
+    b2sum_update_tree(&state, whole, head);
     return state;
 }
 
-/* Each function absorbs the bytes, by threads or, if that fails, alone. */
+/* The bytes are absorbed by threads or, if that fails, alone. */
 static void check_updates(void) {
     vulfsjor_tree_state state = state_after(4, "abc", 3);
 
     CHECK(updates == 1 && plain_updates == 0);
-    update_three(&state, "defg", 4);
+    b2sum_update_tree(&state, "defg", 4);
     CHECK(updates == 2 && plain_updates == 0);
     status_of_threads = -1;
-    update_two(&state, "h", 1);
-    update_three(&state, "", 0);
-    update_four(&state, "i", 1);
+    b2sum_update_tree(&state, "h", 1);
+    b2sum_update_tree(&state, "", 0);
+    b2sum_update_tree(&state, "i", 1);
     CHECK(updates == 5 && plain_updates == 3 && is_of(&state, "abcdefghi", 9));
     status_of_threads = 0;
 }
@@ -419,16 +417,16 @@ static void check_ahead(int file, const char *whole) {
         const size_t all = cases[i].head + cases[i].size;
         for (unstarted = 0; unstarted < 4; unstarted += 2) {
             state = read_ahead(file, whole, cases[i].leaf, cases[i].head, cases[i].size);
-            update_two(&state, ahead, cases[i].size);
+            b2sum_update_tree(&state, ahead, cases[i].size);
             CHECK(updates == !cases[i].is_hashed && plain_updates == 0);
             CHECK(is_of(&state, whole, all));
         }
     }
     unstarted = 0;
     state = read_ahead(file, whole, 65536, 10, 3 * MIB);
-    update_three(&state, ahead, 3 * MIB);
+    b2sum_update_tree(&state, ahead, 3 * MIB);
     CHECK(reads_into(ahead, file, whole, 3 * MIB + 10, 4 * MIB, 4 * MIB));
-    update_three(&state, ahead, 4 * MIB);
+    b2sum_update_tree(&state, ahead, 4 * MIB);
     CHECK(updates == 0 && is_of(&state, whole, 7 * MIB + 10));
 }
 
@@ -437,21 +435,21 @@ static void check_others(int file, const char *whole) {
     static char other[ALL];
     vulfsjor_tree_state state = read_ahead(file, whole, 65536, 10, 3 * MIB), first;
 
-    update_two(&state, ahead, 3 * MIB - 1);
+    b2sum_update_tree(&state, ahead, 3 * MIB - 1);
     CHECK(updates == 1 && is_of(&state, whole, 3 * MIB + 9));
     state = read_ahead(file, whole, 65536, 10, 3 * MIB);
     memcpy(other, ahead, 3 * MIB);
-    update_two(&state, other, 3 * MIB);
+    b2sum_update_tree(&state, other, 3 * MIB);
     CHECK(updates == 1 && is_of(&state, whole, 3 * MIB + 10));
     first = state_after(65536, whole, 9);
     state = read_ahead(file, whole, 65536, 10, 3 * MIB);
-    update_two(&first, ahead, 3 * MIB);
+    b2sum_update_tree(&first, ahead, 3 * MIB);
     memcpy(other, whole, 9);
     memcpy(other + 9, whole + 10, 3 * MIB);
     CHECK(updates == 1 && is_of(&first, other, 3 * MIB + 9));
     state = read_ahead(file, whole, 65536, 10, 3 * MIB);
-    update_two(&state, ahead, 3 * MIB);
-    update_two(&state, ahead, 3 * MIB);
+    b2sum_update_tree(&state, ahead, 3 * MIB);
+    b2sum_update_tree(&state, ahead, 3 * MIB);
     memcpy(other, whole, 3 * MIB + 10);
     memcpy(other + 3 * MIB + 10, whole + 10, 3 * MIB);
     CHECK(updates == 1 && is_of(&state, other, 6 * MIB + 10));
@@ -464,20 +462,20 @@ static void check_unhashed(int file, const char *whole) {
 
     CHECK(opens_as("a", "a") && reads_into(ahead, file, whole, 10, 3 * MIB, 3 * MIB));
     updates = 0;
-    update_two(&state, ahead, 3 * MIB);
+    b2sum_update_tree(&state, ahead, 3 * MIB);
     CHECK(updates == 1 && is_of(&state, whole, 3 * MIB + 10));
     state = state_after(65536, whole, 10);
     CHECK(reads_into(ahead, file, whole, 7 * MIB, 3 * MIB, 3 * MIB));
     has_no_memory = 1;
     CHECK(reads_into(ahead, file, whole, 10, 3 * MIB, 3 * MIB));
     has_no_memory = updates = 0;
-    update_two(&state, ahead, 3 * MIB);
+    b2sum_update_tree(&state, ahead, 3 * MIB);
     CHECK(updates == 1 && is_of(&state, whole, 3 * MIB + 10));
     state = state_after(65536, whole, 10);
     unset_place = (next_count = 3 * MIB) + 10;
     CHECK(lseek(file, 10, SEEK_SET) == 10 && b2sum_read(file, ahead, 3 * MIB) == 3 * MIB);
     updates = next_count = 0;
-    update_two(&state, ahead, 3 * MIB);
+    b2sum_update_tree(&state, ahead, 3 * MIB);
     CHECK(updates == 1 && ahead[0] == 'r');
     unset_place = -1;
     for (bad_place = 10; bad_place < 3 * MIB + 10; bad_place += MIB / 2 - 3) {
@@ -485,7 +483,7 @@ static void check_unhashed(int file, const char *whole) {
         state = state_after(65536, whole, 10);
         CHECK(reads_into(ahead, file, whole, 10, 3 * MIB, count));
         updates = 0;
-        update_two(&state, ahead, (size_t)count);
+        b2sum_update_tree(&state, ahead, (size_t)count);
         CHECK(updates == 1 && is_of(&state, whole, (size_t)bad_place));
     }
     bad_place = ALL;

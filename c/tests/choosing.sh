@@ -47,8 +47,8 @@ join_refuses_a_difference() {
         echo 'calls.h <_vulfsjor_ffi_tree_part /^CALL(vulfsjor_ffi_tree_part,/d'
         echo 'calls.h >_vulfsjor_ffi_more $a CALL(vulfsjor_ffi_more, int, (void), ())'
         for file in "${texts[@]##*/}"; do
-            echo "$file <_vulfsjor_ffi_tree_part /^\t\.globl\tvulfsjor_ffi_tree_part_/d"
-            echo "$file >_vulfsjor_ffi_more \$a \\\t.globl\tvulfsjor_ffi_more_$(version _)_v2"
+            echo "$file <_vulfsjor_ffi_tree_part /^\tvj_export\tvulfsjor_ffi_tree_part_/d"
+            echo "$file >_vulfsjor_ffi_more \$a \\\tvj_export\tvulfsjor_ffi_more_$(version _)_v2"
         done
     )
 }
@@ -72,21 +72,22 @@ shared_library_is_right() {
         grep -vE ' (w|U) (_ITM_|__cxa_finalize|__gmon|abort|write|mem(cpy|move|set))'
 }
 
-# The texts alone, by a plain `cc -c`, and those of another version, in one shared library and in
-# one run of the assembler: no name of one is that of another, and none is exported.
+# The texts one by one, and those of another version, in one shared library and in one run of the
+# assembler: no name of one is that of another, and none is exported.
 texts_stand_together() {
     local text count=0 objects=()
+    echo "#include \"$dist/macros.h\"" >"$work/all.S"
     for text; do
         sed "s/$(version _)/7_8_9/g" "$text" >"$work/other.s" &&
-            cc -c "$text" -o "$work/text_$count.o" &&
-            cc -c "$work/other.s" -o "$work/other_$count.o" &&
-            cat "$text" "$work/other.s" >>"$work/all.s" || return 1
+            cc -c "$(with_macros "$text")" -o "$work/text_$count.o" &&
+            cc -c "$(with_macros "$work/other.s")" -o "$work/other_$count.o" &&
+            cat "$text" "$work/other.s" >>"$work/all.S" || return 1
         objects+=("$work/text_$count.o" "$work/other_$count.o")
         count=$((count + 1))
     done
     cc -shared "${objects[@]}" -o "$work/texts.so" &&
         [ -z "$(nm -D --defined-only "$work/texts.so")" ] &&
-        cc -c "$work/all.s" -o "$work/all.o"
+        cc -c "$work/all.S" -o "$work/all.o"
 }
 
 # Somebody else's shared library, linked with one of the archives, shows none of its functions.

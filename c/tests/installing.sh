@@ -110,16 +110,18 @@ installs_again() {
         files_below "$folder" | diff <(wanted_files lib/) -
 }
 
-# A project of its own that has the library's files as a part, by hand: the header, choose.c and the
-# texts in one folder, compiled together with its program, also with link-time optimization.
+# A project of its own that has the library's files as a part, by hand, as c/README.md has it:
+# compiled together with its program.
 vendored_by_hand() {
-    local folder=$work/by_hand words texts=("$dist"/x86_64/vulfsjor-v[234].s)
-    is_x86 || texts=("$dist/aarch64/vulfsjor.s")
-    mkdir -p "$folder" && cp "$here/include/vulfsjor.h" "$here/choose.c" "${texts[@]}" "$folder/" &&
-        write_program "$folder/program.c" && cd "$folder" || return 1
+    local folder=$work/by\ hand words
+    mkdir -p "$folder/YOURS" && ln -sf "$top/c" "$top/dist" "$folder/" &&
+        write_program "$folder/YOURS/hello.c" && cd "$folder" || return 1
+    sed -n 's/^    \(\(cp\|rm\) .*YOURS.*\)/\1/p' "$here/README.md" >copy.sh
+    [ "$(wc -l <copy.sh)" -eq 2 ] && sh -e copy.sh && cd YOURS && [ ! -e x86_64/b2-v2.s ] &&
+        rm ../c ../dist || return 1
     for words in -O0 -O2 "-O2 -static" "-O2 -fPIC -shared"; do
         # shellcheck disable=SC2086
-        cc $words "${warnings[@]}" -std=gnu99 program.c choose.c vulfsjor*.s -o program || return 1
+        cc $words "${warnings[@]}" -std=gnu99 -I. hello.c choose.c vulfsjor.S -o program || return 1
         [[ $words == *-shared ]] || ./program || return 1
     done
     [ "$(nm -D --defined-only program | awk 'NF == 3 { print $3 }' | grep -c vulfsjor)" -eq 0 ]
@@ -346,7 +348,7 @@ END
             "help install uninstall test prove dist bench docs" ]
 }
 
-# Has CMake choose the code for a system and a processor, and prints the names of its files.
+# Has CMake configure the library for a system and a processor, and prints the name of its text.
 # Nothing is compiled.
 choose_by_cmake() {
     local build
@@ -354,25 +356,21 @@ choose_by_cmake() {
         cmake -S "$here" -B "$build" -DCMAKE_SYSTEM_NAME="$1" -DCMAKE_SYSTEM_PROCESSOR="$2" \
             -DCMAKE_TRY_COMPILE_TARGET_TYPE=STATIC_LIBRARY "${@:3}" >"$work/configured" 2>&1 ||
         { cat "$work/configured" && return 1; }
-    grep -rhoE 'dist/[a-z0-9_-]+/vulfsjor[v0-9-]*\.s' "$build" | LC_ALL=C sort -u
+    grep -rhoE 'dist/[a-z0-9_-]*/?vulfsjor[v0-9-]*\.[sS]' "$build" | LC_ALL=C sort -u
 }
 
-# What CMake chooses by each name of a processor, and where it has nothing to choose.
+# That CMake has code for each system and name of a processor, and where it has none.
 chosen_by_cmake() {
     local name system refusal="vulfsjor has no code for"
-    for name in x86_64 AMD64 amd64; do
-        choose_by_cmake Linux $name | diff <(printf 'dist/x86_64/vulfsjor-v%s.s\n' 2 3 4) - ||
-            return 1
+    for name in x86_64 AMD64 amd64 aarch64 arm64 ARM64; do
+        for system in Linux Darwin Windows; do
+            choose_by_cmake $system $name | diff <(echo dist/vulfsjor.S) - || return 1
+        done
     done
-    for name in aarch64 arm64; do
-        choose_by_cmake Linux $name | diff <(echo dist/aarch64/vulfsjor.s) - || return 1
-    done
-    for system in Darwin,macos Windows,windows; do
-        choose_by_cmake ${system%,*} x86_64 | diff - \
-            <(printf "dist/x86_64-${system#*,}/vulfsjor-v%s.s\n" 2 3 4) &&
-            choose_by_cmake ${system%,*} arm64 | diff - \
-                <(echo "dist/aarch64-${system#*,}/vulfsjor.s") || return 1
-    done
+    choose_by_cmake Darwin arm64 "-DCMAKE_OSX_ARCHITECTURES=arm64;x86_64" |
+        diff <(echo dist/vulfsjor.S) - &&
+        refuses 1 "$refusal Darwin on i386" \
+            choose_by_cmake Darwin arm64 "-DCMAKE_OSX_ARCHITECTURES=arm64;i386" || return 1
     refuses 1 "$refusal FreeBSD on x86_64" choose_by_cmake FreeBSD x86_64 &&
         refuses 1 "$refusal Linux on aarch64_be" choose_by_cmake Linux aarch64_be || return 1
     ! is_x86 ||

@@ -6,6 +6,7 @@
 source "$(dirname "$(readlink -f "$0")")/installed.sh"
 sdk=$work/sdk
 linker=$(command -v ld64.lld || command -v ld64.lld-14)
+lipo=$(command -v llvm-lipo || command -v llvm-lipo-14)
 
 # What the library and the program need of the C library of macOS.
 write_sdk() {
@@ -58,6 +59,16 @@ installs() {
         "$here/install.sh" --uninstall "$folder" && [ -z "$(find "$folder" ! -type d)" ]
 }
 
+# One command makes an object for both processors of a Mac, with the functions of each.
+is_universal() {
+    mkdir -p "$work/lipo" && ln -sf "$lipo" "$work/lipo/lipo" &&
+        PATH=$work/lipo:$PATH clang --target=arm64-apple-macos11 -arch arm64 -arch x86_64 \
+            -c "$dist/vulfsjor.S" -o "$work/universal.o" &&
+        "$lipo" "$work/universal.o" -verify_arch arm64 x86_64 &&
+        llvm-nm --arch=x86_64 "$work/universal.o" | grep -q ' T _vulfsjor_ffi_blake2b_.*_v4$' &&
+        llvm-nm --arch=arm64 "$work/universal.o" | grep -q ' T _vulfsjor_ffi_blake2b_.*_arm$'
+}
+
 # The program is linked, and calls what the list above has.
 builds_program() {
     CC=$work/$1 "$top/b2" --build "$work/b2_$1" && llvm-objdump --macho --private-header \
@@ -83,7 +94,7 @@ for name, function, size in ("B", hashlib.blake2b, 64), ("S", hashlib.blake2s, 3
             /^\t?\.(build_version|subsections|private_extern|no_dead|loh|zerofill)/d
             s/\b(l?_[a-zA-Z_.0-9]+)@PAGEOFF/:lo12:\1/;s/@PAGE\b//
             s/([ \t,:[])_([a-z])/\1\2/g;s/^_([a-z])/\1/' "$work/macho.s" >"$work/elf.s" &&
-        aarch64-linux-gnu-gcc "$work/elf.s" "$dist/aarch64/vulfsjor.s" -static -o "$work/packed" &&
+        aarch64-linux-gnu-gcc "$work/elf.s" "$dist/vulfsjor.S" -static -o "$work/packed" &&
         qemu-aarch64 "$work/packed"
 }
 
@@ -100,6 +111,9 @@ test_macos() {
         check "install.sh for macOS on $processor" installs $processor
         check "b2 for macOS on $processor" builds_program $processor
     done
+    [ -n "$lipo" ] || missing="no llvm-lipo"
+    check "an object for both processors" is_universal
+    needs
     if has qemu-aarch64 && has aarch64-linux-gnu-gcc && has python3; then
         check "packed.c by the convention of macOS on ARM" packed_runs
     else

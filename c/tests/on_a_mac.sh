@@ -6,12 +6,7 @@
 cd "$(dirname "$0")/../.." || exit 1
 work=$(mktemp -d) || exit 1
 trap 'rm -rf "$work"' EXIT
-failed=0 system=
-[ "$(uname -s)" != Darwin ] || system=-macos
-case $(uname -m) in
-    arm64 | aarch64) texts=dist/aarch64$system/vulfsjor.s ;;
-    *) texts=$(echo dist/x86_64$system/vulfsjor-v[234].s) ;;
-esac
+failed=0
 
 try() {
     name=$1
@@ -23,7 +18,7 @@ try() {
         echo "not ok - $name" && tail -n 20 "$work/log"
     fi
 }
-compile() { cc -std=c99 -O2 $define -Ic/include "c/tests/$1.c" c/choose.c $texts -o "$work/$1"; }
+compile() { cc -std=c99 -O2 $define -Ic/include "c/tests/$1.c" c/choose.c dist/vulfsjor.S -o "$work/$1"; }
 vectors() { python3 tests/vectors.py --lines $family >"$work/lines" &&
     grep '^[hnrt] ' "$work/lines" >"$work/cases"; }
 edges() { "$work/edges" >"$work/lines" && python3 c/tests/check_lines.py <"$work/lines"; }
@@ -33,7 +28,7 @@ print(hashlib.blake2b(sys.stdin.buffer.read()).hexdigest())')" ]
 }
 
 uname -srm
-[ -z "$system" ] || sw_vers
+[ "$(uname -s)" != Darwin ] || sw_vers
 cc --version
 for family in b s; do
     define=

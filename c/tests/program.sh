@@ -16,9 +16,9 @@ functions_of_b2sum() {
     local calls=openat,readv,isatty,clock_gettime,write,pread,pthread_create,sched_getaffinity
     calls+=,lseek,malloc,vulfsjor_ffi_tree_update,posix_fadvise,close,dprintf
     is_x86 || build=arm text=$dist/aarch64/vulfsjor.s
-    cc -O2 -g "${warnings[@]}" -DMAIN=checks -DUPDATE_TREE=update.2 -DUPDATE_TREE_V3=update.3 \
-        -DUPDATE_TREE_V4=update.4 "-Wl,--wrap=${calls//,/,--wrap=}" "-I$here/include" \
-        "-DCHOOSE_ONE=$build" "$here"/{b2,b2sum,choose}.c "$text" "$tests/b2sum.c" -pthread \
+    cc -O2 -g "${warnings[@]}" -DMAIN=checks "-Wl,--wrap=${calls//,/,--wrap=}" \
+        "-I$here/include" "-DCHOOSE_ONE=$build" "$here"/{b2,b2sum,choose}.c \
+        "$(with_macros "$text")" "$tests/b2sum.c" -pthread \
         -o "$work/sums" "$@" || return
     for words in --progress "a-longer-word --prog" "--pr --"; do
         SHOWS=1 timeout 60 "$work/sums" $words
@@ -64,7 +64,7 @@ program_by_musl() {
     local text=$dist/x86_64/b2-v2.s
     cc() { musl-gcc -static "$@"; }
     functions_of_program && functions_of_b2sum &&
-        cc -O2 "-DMAIN=$(main_of "$text")" "$here/b2.c" "$text" -o "$work/b2_musl" &&
+        assemble "$text" "$work/b2_musl" &&
         printf abc >"$work/abc" &&
         "$work/b2_musl" sum b512 <"$work/abc" |
         diff - <(sums_by_hashlib "$work/abc" | sed 's/ .*//') &&

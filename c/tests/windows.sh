@@ -110,7 +110,7 @@ one_build_for_windows() {
 # Over a library for tests that goes from one build to the others, which the first family makes.
 all_builds_for_windows() {
     [ -e "$work/both" ] || CC=$mingw "$here/join.sh" --test "$(seq -s '' 2 "$level")" "$work/both" \
-        "$dist"/x86_64-windows/vulfsjor-v[234].s || return 1
+        "$dist"/x86_64/vulfsjor-v[234].s || return 1
     archive=$work/both/libvulfsjor.a family=$1 &&
         compile_and_run "$work/test_both" -O2 $(family_words "$1") "$archive"
 }
@@ -120,9 +120,9 @@ all_builds_for_windows() {
 example_with_traps() {
     local trapped=$1 texts=() build
     for build in v2 v3 v4; do
-        texts+=("$dist/x86_64-windows/vulfsjor-$build.s")
+        texts+=("$dist/x86_64/vulfsjor-$build.s")
         [ $build != "$trapped" ] || {
-            sed '/^vulfsjor_ffi_[a-z0-9_]*:$/a\\tud2' "${texts[-1]}" >"$work/trapped.s" &&
+            sed '/^\tvj_export\t/a\\tud2' "${texts[-1]}" >"$work/trapped.s" &&
                 texts[-1]=$work/trapped.s
         }
     done
@@ -162,9 +162,9 @@ program_for_windows() {
 
 # One build of the program alone.
 one_program_for_windows() {
-    local text=$dist/x86_64-windows/b2-$1.s
-    "$mingw" -O2 -municode "${warnings[@]}" "-DMAIN=$(main_of "$text")" "$here/b2.c" "$text" \
-        -o "$work/b2_one.exe" && write_script "$work/b2_one" &&
+    local text=$dist/x86_64/b2-$1.s
+    "$mingw" -O2 -municode "${warnings[@]}" "-DMAIN=$(main_of "$text")" "$here/b2.c" \
+        "$(with_macros "$text")" -o "$work/b2_one.exe" && write_script "$work/b2_one" &&
         [ "$(printf abc | "$work/b2_one" sum s256)" = \
             "$(printf abc | python3 -c 'import hashlib, sys
 print(hashlib.blake2s(sys.stdin.buffer.read()).hexdigest())')" ]

@@ -30,10 +30,11 @@ with open(os.path.join(TOP, "CHANGELOG.md"), encoding="utf-8") as PAGE:
 ABOUT = f"vulfsjor-{VERSION}.dist-info"
 # The files that the package shares with the repository, by their names in a source distribution.
 SHARED = {"src/vulfsjor.h": "c/include/vulfsjor.h", "src/choose.c": "c/choose.c",
-          "src/calls.h": "c/calls.h", **{
-              f"src/{folder}{system}/vulfsjor{build}.s": f"dist/{folder}{system}/vulfsjor{build}.s"
-              for system in ("", "-macos", "-windows") for folder, build in (
-                  ("aarch64", ""), ("x86_64", "-v2"), ("x86_64", "-v3"), ("x86_64", "-v4"))}}
+          "src/calls.h": "c/calls.h", **{f"src/{name}": f"dist/{name}" for name in (
+              "macros.h", "vulfsjor.S", "aarch64/vulfsjor.s", "x86_64/vulfsjor-v2.s",
+              "x86_64/vulfsjor-v3.s", "x86_64/vulfsjor-v4.s", "aarch64/coff.inc",
+              "aarch64/elf.inc", "aarch64/macho.inc", "x86_64/coff.inc", "x86_64/elf.inc",
+              "x86_64/macho.inc")}}
 # A compiler that writes its words to the file that it should make.
 FAKE = """#!/bin/sh
 for word; do [ "$last" = -o ] && made=$word; last=$word; done
@@ -148,18 +149,15 @@ class Build(Test):
 
     def test_the_words_of_a_platform(self):
         """Those that the compiler gets, and the name of the wheel."""
-        levels = ["vulfsjor-v2.s", "vulfsjor-v3.s", "vulfsjor-v4.s"]
         fake, linux = f"'{self.fake()}' -x", "-shared -Wl,--gc-sections -Wl,-z,relro,-z,now"
         mac = "-bundle -undefined dynamic_lookup -Wl,-dead_strip -arch {} -mmacosx-version-min={}"
         windows = f"-shared -L{sys.base_prefix}/libs -L{sys.base_prefix}/lib"
-        for name, wanted, names, options in (
-                ("linux-x86_64", "x86_64", levels, f"-fPIC {linux}"),
-                ("linux-aarch64", "aarch64", ["vulfsjor.s"], f"-fPIC {linux}"),
-                ("macosx-10.13-x86_64", "x86_64-macos", levels, mac.format("x86_64", "10.13")),
-                ("macosx-11.0-arm64", "aarch64-macos", ["vulfsjor.s"], mac.format("arm64", "11.0")),
-                ("mingw_x86_64_ucrt_gnu", "x86_64-windows", levels, windows),
-                ("win-amd64", "x86_64-windows", levels, windows),
-                ("win-arm64", "aarch64-windows", ["vulfsjor.s"], windows)):
+        for name, options in (
+                ("linux-x86_64", f"-fPIC {linux}"), ("linux-aarch64", f"-fPIC {linux}"),
+                ("macosx-10.13-x86_64", mac.format("x86_64", "10.13")),
+                ("macosx-11.0-arm64", mac.format("arm64", "11.0")),
+                ("mingw_x86_64_ucrt_gnu", windows), ("win-amd64", windows),
+                ("win-arm64", windows)):
             wheel = self.made("wheel", os.path.join(TOP, "python"), CC=fake, CFLAGS="-g '-D A'",
                               LDFLAGS="-lz", _PYTHON_HOST_PLATFORM=name)
             with zipfile.ZipFile(wheel) as file:
@@ -168,9 +166,8 @@ class Build(Test):
             platform_name = re.sub("[-.]", "_", name)
             self.assertEqual(os.path.basename(wheel),
                              f"vulfsjor-{VERSION}-cp311-abi3-{platform_name}.whl")
-            self.assertEqual([word for word in words if word.endswith((".c", ".s"))],
-                             ["src/library.c", "src/trees.c", "src/choose.c",
-                              *(f"src/{wanted}/{it}" for it in names)])
+            self.assertEqual([word for word in words if word.endswith((".c", ".s", ".S"))],
+                             ["src/library.c", "src/trees.c", "src/choose.c", "src/vulfsjor.S"])
             self.assertEqual((words[0], words[-1]),
                              ("-x", "-lpython3" if options == windows else "-lz"))
             self.assertEqual(words[words.index("-g"):words.index("-o")],

@@ -136,12 +136,14 @@ macro_rules! text_symbol {
     };
 }
 
-// What differs between the object formats of Linux (ELF), macOS (Mach-O) and Windows (COFF): how the
-// section of code begins and ends, what comes before a name of C, and how a name is hidden. A
+// What differs between the object formats of Linux (ELF), macOS (Mach-O) and Windows (COFF): the
+// macros of `dist/`, how the section of code begins and ends, what comes before a name of C, and
+// how a name is hidden. A
 // program for Windows exports only what it lists, so there the name follows a comment.
 #[cfg(target_os = "linux")]
 #[rustfmt::skip]
 macro_rules! object {
+    (macros) => { "elf.inc" };
     (begin) => { ".pushsection .text" };
     (end) => { ".popsection" };
     (name) => { "" };
@@ -150,6 +152,7 @@ macro_rules! object {
 #[cfg(target_os = "macos")]
 #[rustfmt::skip]
 macro_rules! object {
+    (macros) => { "macho.inc" };
     (begin) => { ".pushsection __TEXT,__text,regular,pure_instructions" };
     (end) => { ".popsection" };
     (name) => { "_" };
@@ -158,28 +161,19 @@ macro_rules! object {
 #[cfg(windows)]
 #[rustfmt::skip]
 macro_rules! object {
+    (macros) => { "coff.inc" };
     (begin) => { ".text" };
     (end) => { ".text" };
     (name) => { "" };
     (hidden) => { "// " };
 }
 
-// A file of `dist/` for this system.
-#[rustfmt::skip]
+// What a file of `dist/` holds.
 macro_rules! dist {
-    ($processor:literal, $name:literal) => {
-        concat!("../../dist/", $processor, system!(), "/", $name)
+    ($processor:literal, $name:expr) => {
+        include_str!(concat!("../../dist/", $processor, "/", $name))
     };
 }
-#[cfg(target_os = "linux")]
-#[rustfmt::skip]
-macro_rules! system { () => { "" }; }
-#[cfg(target_os = "macos")]
-#[rustfmt::skip]
-macro_rules! system { () => { "-macos" }; }
-#[cfg(windows)]
-#[rustfmt::skip]
-macro_rules! system { () => { "-windows" }; }
 
 // Functions with the calling convention of the assembly, which on x86-64 is System V's everywhere.
 #[cfg(not(all(windows, target_arch = "x86_64")))]
@@ -189,13 +183,13 @@ macro_rules! of_text { ($($function:tt)+) => { extern "C" { $($function)+ } }; }
 #[rustfmt::skip]
 macro_rules! of_text { ($($function:tt)+) => { extern "sysv64" { $($function)+ } }; }
 
-// A module with the functions of one build. While the assembler reads the text, `.globl`, `.hidden`
-// and `.private_extern` are macros that do nothing, so all names of the text stay local to the
-// object file. The names of `symbol!` follow the text. They are hidden: only the program, or the
-// shared library, that the crate is linked into sees them.
+// A module with the functions of one build. While the assembler reads the text, `vj_export` is
+// another macro, so all names of the text stay local to the object file. The names of `symbol!`
+// follow the text. They are hidden: only the program, or the shared library, that the crate is
+// linked into sees them. No macro stays: other texts may follow in the same assembly.
 macro_rules! build {
     (
-        $build:ident, $file:expr, ($($option:ident),+),
+        $build:ident, $processor:literal, $file:literal, ($($option:ident),+),
         $(
             $(#[$attribute:meta])*
             fn $name:ident($($argument:ident: $type:ty),* $(,)?) $(-> $answer:ty)?;
@@ -206,22 +200,19 @@ macro_rules! build {
 
             global_asm!(
                 object!(begin),
-                ".macro .globl name",
+                dist!($processor, object!(macros)),
+                ".purgem vj_export",
+                ".macro vj_export name",
+                "vj_function \\name",
                 ".endm",
-                ".macro .hidden name",
-                ".endm",
-                ".macro .private_extern name",
-                ".endm",
-                include_str!($file),
-                ".purgem .globl",
-                ".purgem .hidden",
-                ".purgem .private_extern",
+                dist!($processor, $file),
+                dist!($processor, "purge.inc"),
                 $(
                     concat!(".globl \"", object!(name), symbol!($name, $build), "\""),
                     concat!(object!(hidden), "\"", object!(name), symbol!($name, $build), "\""),
                     concat!(
                         ".set \"", object!(name), symbol!($name, $build), "\", ",
-                        object!(name), text_symbol!($name, $build)
+                        text_symbol!($name, $build)
                     ),
                 )+
                 object!(end),
@@ -284,13 +275,13 @@ macro_rules! calls {
 macro_rules! functions {
     ($($function:tt)+) => {
         #[cfg(target_arch = "x86_64")]
-        build!(v2, dist!("x86_64", "vulfsjor-v2.s"), (att_syntax, raw), $($function)+);
+        build!(v2, "x86_64", "vulfsjor-v2.s", (att_syntax, raw), $($function)+);
         #[cfg(target_arch = "x86_64")]
-        build!(v3, dist!("x86_64", "vulfsjor-v3.s"), (att_syntax, raw), $($function)+);
+        build!(v3, "x86_64", "vulfsjor-v3.s", (att_syntax, raw), $($function)+);
         #[cfg(target_arch = "x86_64")]
-        build!(v4, dist!("x86_64", "vulfsjor-v4.s"), (att_syntax, raw), $($function)+);
+        build!(v4, "x86_64", "vulfsjor-v4.s", (att_syntax, raw), $($function)+);
         #[cfg(target_arch = "aarch64")]
-        build!(arm, dist!("aarch64", "vulfsjor.s"), (raw), $($function)+);
+        build!(arm, "aarch64", "vulfsjor.s", (raw), $($function)+);
         calls!($($function)+);
     };
 }

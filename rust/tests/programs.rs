@@ -277,11 +277,11 @@ fn the_package() {
     let mut wanted = files(TOP.as_ref(), &["rust/src"]);
     let others = ["rust/README.md", "rust/examples/sum.rs", "dist/MANIFEST"];
     wanted.extend(others.map(String::from));
-    for system in ["", "-macos", "-windows"] {
-        wanted.push(format!("dist/aarch64{system}/vulfsjor.s"));
-        for level in ["v2", "v3", "v4"] {
-            wanted.push(format!("dist/x86_64{system}/vulfsjor-{level}.s"));
-        }
+    let macros = ["coff.inc", "elf.inc", "macho.inc", "purge.inc"];
+    let x86_64 = ["vulfsjor-v2.s", "vulfsjor-v3.s", "vulfsjor-v4.s"];
+    for (processor, texts) in [("aarch64", &["vulfsjor.s"][..]), ("x86_64", &x86_64)] {
+        let names = macros.iter().chain(texts);
+        wanted.extend(names.map(|name| format!("dist/{processor}/{name}")));
     }
     wanted.sort();
     assert_eq!(files(&root, &["rust", "dist"]), wanted);

@@ -50,7 +50,8 @@ def changed(lines, number, old, new):
     text = new if exact else re.sub(old, new, clean[at], count=1)
     if text == clean[at]:
         raise NoMatch("the change of %r changes nothing" % clean[at])
-    inserted = [part for part in text.split("; ") if part]
+    # The labels of a file are numbers too, from 1 up.
+    inserted = [re.sub(r"\b(\d)(f$|:$)", r"9999\1\2", part) for part in text.split("; ") if part]
     return lines[:at] + inserted + lines[at + 1:]
 
 
@@ -60,8 +61,8 @@ def edit_text(name, is_data, *change):
         lines = text.split("\n")
         label = re.compile(r"\"?%s_\d+_\d+_\d+_\w+\"?:" % re.escape(name))
         start = next(k for k, line in enumerate(lines) if label.match(line))
-        end = next(k for k in range(start, len(lines)) if "func_end" in lines[k])
-        before = [k for k in range(start) if "func_end" in lines[k]]
+        end = next(k for k in range(start, len(lines)) if lines[k].startswith("\t.size\t"))
+        before = [k for k in range(start) if lines[k].startswith("\t.size\t")]
         first, last = (max(before, default=0), start) if is_data else (start + 1, end)
         return "\n".join(lines[:first] + changed(lines[first:last], *change) + lines[last:])
     return edit

@@ -10,6 +10,7 @@ import tempfile
 import arm
 import elf
 import functions
+import macros
 import wasm
 import wasm_format
 import x86
@@ -91,6 +92,7 @@ class Program:
 
     def read_text(self, text, edit):
         """The functions of an assembly text."""
+        text = macros.expanded(text, self.kind)
         if edit:
             text = edit(text)
         other = {name.lower() for name in DIRECTIVE.findall(text)} - DIRECTIVES
