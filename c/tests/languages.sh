@@ -80,9 +80,15 @@ compare_lines() {
 # compiler of MinGW fails above -O0.
 passes() {
     cc -std=c99 -O1 "${warnings[@]}" $(family_words "$1") -I"$include" -I"$libb2" "${@:2}" \
-        "$tests/passes.c" -o "$work/passes" && "$work/passes"
+        "$tests/passes.c" -o "$work/passes" && "$work/passes" >"$work/passed_$1"
 }
 passes_by_calls() { passes "$1" -O0 -DCHOOSE_ONE=passes '-DCHOOSE_FUNCTIONS="calls.h"'; }
+
+# Whether passes.c has called each function of the library, with both families.
+all_are_passed() {
+    LC_ALL=C sort -u "$work"/passed_[bs] |
+        diff - <(sed -n 's/^CALL("\(.*\)")$/\1/p' "$here/choose.c" | LC_ALL=C sort)
+}
 
 # Which argument is refused.
 refused_arguments() {
@@ -245,6 +251,7 @@ test_languages() {
         check "refused.c, blake2$family" refused_arguments $family
         check "lengths.c, blake2$family" long_buffers $family
     done
+    check "passes.c calls each function" all_are_passed
     [ -n "${VULFSJOR_TEST_HUGE-}" ] || skip "lengths.c, every call" "VULFSJOR_TEST_HUGE is not set"
     if has python3; then
         for family in b s; do test_family $family; done

@@ -1,6 +1,7 @@
 /* Tests what the inline functions of vulfsjor.h and of libb2/blake2.h pass to the library, for
  * lengths beyond 2^32 and 2^63: functions of this file stand for the library, note their arguments
- * and return the status that a test chooses. Nothing is hashed. Returns 0 if all checks pass.
+ * and return the status that a test chooses. Nothing is hashed. Prints the name of each function
+ * that is called, and returns 0 if all checks pass.
  *
  *   cc -std=c99 -Wall -Wextra -Wpedantic -Werror -I FOLDER/include
  *       -I FOLDER/include/vulfsjor-libb2 passes.c -o passes
@@ -46,6 +47,7 @@ static struct {
 } last, before;
 
 static uint64_t note(const char *name, size_t count, const uint64_t *given) {
+    puts(name);
     before = last;
     last.name = name;
     last.count = count;

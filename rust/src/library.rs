@@ -138,8 +138,8 @@ macro_rules! text_symbol {
 
 // What differs between the object formats of Linux (ELF), macOS (Mach-O) and Windows (COFF): the
 // macros of `dist/`, how the section of code begins and ends, what comes before a name of C, and
-// how a name is hidden. A
-// program for Windows exports only what it lists, so there the name follows a comment.
+// how a name is hidden. A program for Windows exports only what it lists, so there the name follows
+// a comment.
 #[cfg(target_os = "linux")]
 #[rustfmt::skip]
 macro_rules! object {
