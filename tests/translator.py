@@ -1,0 +1,329 @@
+#!/usr/bin/env python3
+"""Tests tools/wasm_to_c.py: random functions of all its instructions do in C, on several processors, what node does with
+the module; and what it does not know, it refuses. With VULFSJOR_TEST_HUGE more functions, and each change of the
+translator in translator/mutations.txt is seen by one of these tests.
+
+    tests/translator.py [SEED COUNT]
+
+Needs node and a C compiler. Other processors need their compiler and emulator.
+"""
+import os
+import re
+import shutil
+import subprocess
+import sys
+import tempfile
+import types
+
+import tap
+from blake2_kinds import TOP
+
+FOLDER = os.path.join(TOP, "tests", "translator")
+sys.path.append(FOLDER)
+import functions  # noqa: E402
+import wasm_to_c  # noqa: E402
+from terms import CannotShow  # noqa: E402
+
+# The compilers, with words, and what runs their programs.
+NATIVE = {"cc -O2": (["cc", "-O2"], []),
+          "clang -O1 with sanitizers": (["clang", "-O1", "-fsanitize=address,undefined", "-fno-sanitize-recover=all"], []),
+          "cc -O1, an unknown order of bytes": (["cc", "-O1", "-U__BYTE_ORDER__"], [])}
+CROSS = {"riscv64": ("riscv64-linux-gnu-gcc", "qemu-riscv64"), "s390x": ("s390x-linux-gnu-gcc", "qemu-s390x"),
+         "i386": ("i686-linux-gnu-gcc", "qemu-i386"), "armhf": ("arm-linux-gnueabihf-gcc", "qemu-arm"),
+         "ppc64el": ("powerpc64le-linux-gnu-gcc", "qemu-ppc64le")}
+# Those that see changes of the translator, the quickest first.
+SEEING = [(["cc", "-O0"], []), (["cc", "-O0", "-U__BYTE_ORDER__"], []), (["s390x-linux-gnu-gcc", "-O0", "-static"], ["qemu-s390x"]),
+          NATIVE["clang -O1 with sanitizers"]]
+INPUTS = [(0, 0), (1, 2**64 - 1), (0x0123456789abcdef, 0xfedcba9876543210), (1 << 63, 1 << 31),
+          (0x7fffffff80000000, 0xff80), (0x9e3779b97f4a7c15, 0xbf58476d1ce4e5b9), (33, 0x94d049bb133111eb)]
+C_TYPES = {"i64": "uint64_t", "i32": "uint32_t"}
+HARNESS = """
+#include "vulfsjor.h"
+#include <stdio.h>
+static void show(unsigned long long result, const unsigned char *buffer) {
+    int i;
+    printf("%%llx ", result);
+    for (i = 0; i < 64; i++) printf("%%02x", buffer[i]);
+    puts("");
+}
+int main(void) {
+    static const uint64_t in[][2] = {%s};
+    unsigned char buffer[64];
+    int i, k;
+%s    return 0;
+}
+"""
+CALL = """    for (i = 0; i < %d; i++) {
+        for (k = 0; k < 64; k++) buffer[k] = (unsigned char)(k * 37 + 11);
+        %svulfsjor_ffi_t%d(buffer, in[i][0], in[i][1])%s;
+    }
+"""
+SCRIPT = """
+import { readFileSync } from "fs";
+const { exports: e } = (await WebAssembly.instantiate(readFileSync("m.wasm"))).instance;
+const bytes = new Uint8Array(e.memory.buffer), lines = [];
+for (const [k, bits] of [%s].entries()) for (const [a, b] of [%s]) {
+  for (let i = 0; i < 64; i++) bytes[1024 + i] = i * 37 + 11;
+  const r = BigInt.asUintN(bits, BigInt(e["vulfsjor_ffi_t" + k](1024n, a, b) ?? 0));
+  lines.push(r.toString(16) + " " + Buffer.from(bytes.slice(1024, 1088)).toString("hex"));
+}
+console.log(lines.join("\\n"));
+"""
+HAS_ALL = {f"{type_}.{name}" for type_ in ("i32", "i64") for name in functions.BINARY + functions.COMPARISONS +
+           functions.LOADS[type_] + functions.STORES[type_] + functions.EXTENDS[type_] + ["const", "div_u", "rem_u", "eqz"]}
+HAS_ALL |= {"i32.wrap_i64", "i64.extend_i32_s", "i64.extend_i32_u", "local.get", "local.set", "local.tee", "global.get",
+            "global.set", "memory.copy", "memory.fill", "block", "loop", "end", "br", "br_if", "return", "unreachable",
+            "select", "drop", "call"}
+
+
+def header_of(results):
+    """A header with the prototypes of these functions."""
+    lines = [f"{C_TYPES[each[0]] if each else 'void'} vulfsjor_ffi_t{k}(uint8_t *a, uint64_t b, uint64_t c);"
+             for k, each in enumerate(results)]
+    return "\n".join(['#include <stdint.h>', '#define VULFSJOR_VERSION "7.8.9"', *lines, ""])
+
+
+class Case:
+    """A module of random functions, in a folder with a program in C that calls each, and what node returns."""
+
+    def __init__(self, folder, seed, count):
+        self.folder = folder
+        self.data, results, self.lines = functions.random_module(seed, count)
+        self.header = header_of(results)
+        calls = [CALL % (len(INPUTS), "show(" if each else "", k, ", buffer)" if each else "; show(0, buffer)")
+                 for k, each in enumerate(results)]
+        self.write("m.wasm", self.data)
+        self.write("vulfsjor.h", self.header.encode())
+        self.write("main.c", (HARNESS % (", ".join(f"{{UINT64_C({a}), UINT64_C({b})}}" for a, b in INPUTS),
+                                         "".join(calls))).encode())
+        self.write("run.mjs", (SCRIPT % (", ".join("32" if each == ["i32"] else "64" for each in results), ", ".join(
+            f"[{a}n, {b}n]" for a, b in INPUTS))).encode())
+        self.wanted = self.output(["node", "--experimental-wasm-memory64", "--no-warnings", "run.mjs"])
+
+    def write(self, name, data):
+        """Writes a file."""
+        with open(os.path.join(self.folder, name), "wb") as file:
+            file.write(data)
+
+    def output(self, words):
+        """What a command prints, or why it fails."""
+        done = subprocess.run(words, cwd=self.folder, capture_output=True, text=True, check=False, timeout=600)
+        return done.stdout if not done.returncode else f"{words[0]}: {done.returncode} {done.stderr[-3000:]}"
+
+    def translate(self, translator=wasm_to_c):
+        """Writes the functions in C."""
+        self.write("v.c", str(translator.Program(self.data, self.header)).encode())
+
+    def run(self, compiler, emulator):
+        """What the functions in C return."""
+        said = self.output([*compiler, "-std=c99", "-w", "-I.", "main.c", "v.c", "-o", "run"])
+        return said or self.output([*emulator, "./run"])
+
+    def difference(self, got):
+        """The first function whose result is another than node's, or nothing."""
+        pairs = list(zip(self.wanted.splitlines(), got.splitlines()))
+        bad = [k for k, (a, b) in enumerate(pairs) if a != b]
+        if not bad and got == self.wanted:
+            return ""
+        return f"t{bad[0] // len(INPUTS)}: {pairs[bad[0]]}" if bad else f"ends early: {got[-2000:]}"
+
+
+def test_targets(case, name):
+    """The functions on each processor whose compiler is there."""
+    targets = dict(NATIVE)
+    targets.update({processor: ([compiler, "-O2", "-static"], [emulator])
+                    for processor, (compiler, emulator) in CROSS.items()})
+    for target, (compiler, emulator) in targets.items():
+        missing = [tool for tool in (compiler[0], *emulator) if not shutil.which(tool)]
+        if missing:
+            tap.result(True, f"{name}, {target}", skipped=f"no {missing[0]}")
+            continue
+        why = case.difference(case.run(compiler, emulator))
+        tap.result(not why, f"{name}, {target}", why)
+
+
+# ---- what is refused
+
+def one(lines, results=("i64",), locals_=("i64", "i64", "i32"), more=b"", names=("vulfsjor_ffi_t0",), exports=None):
+    """A module with a function of these lines for each name."""
+    made = [(name, ["i64"] * 3, list(results), list(locals_), lines + ["end"]) for name in names]
+    return functions.module(made, exports or {names[0]: 0}, more)
+
+
+RETURN = ["local.get 1"]
+TAKE = ["global.get 0", "i64.const 32", "i64.sub", "local.tee 3", "global.set 0"]
+GIVE = ["local.get 3", "i64.const 32", "i64.add", "global.set 0"]
+RUNTIME = {"__rattle_leave": ["i32.const 0", "global.set 1", "unreachable"],
+           "__rattle_trap": ["i32.const 0", "drop", "unreachable"],
+           "a::settle::<=16>": ["nop"], "a::scrub_stack::<=16>": ["nop"],
+           "__rattle_enter": ["i32.const 0"]}
+REFUSED = {
+    "an import": one(RETURN, more=functions.section(2, b"\x00")),
+    "a table": one(RETURN, more=functions.section(4, b"\x01\x70\x00\x00")),
+    "a start": one(RETURN) + functions.section(8, b"\0"),
+    "data": one(RETURN) + functions.section(11, b"\x01\0\x42\x10\x0b\x01x"),
+    "a memory of 32 bits": one(RETURN).replace(b"\x05\x03\x01\x04\x02", b"\x05\x03\x01\x00\x02"),
+    "another export": one(RETURN).replace(b"\x06memory\x02\0", b"\x06memorx\x02\0"),
+    "another function than the header's": one(RETURN, exports={"vulfsjor_ffi_t1": 0}),
+    "a function that the header lacks": one(RETURN, exports={"vulfsjor_ffi_t0": 0, "vulfsjor_ffi_t1": 0}),
+    "other globals": one(RETURN).replace(b"\x7f\x01\x41\0\x0b", b"\x7f\x01\x41\1\x0b"),
+    "two names that are one in C": one(RETURN + ["local.get 0", "local.get 1", "local.get 2", "call 1", "local.get 0",
+                                                 "local.get 1", "local.get 2", "call 2", "drop", "drop"],
+                                       names=("vulfsjor_ffi_t0", "a::b", "a:b")),
+    "an if": one(["local.get 5", "if", "end"] + RETURN),
+    "a block with a result": one(["block i64", "local.get 1", "end"]),
+    "a branch with a result": one(["local.get 1", "local.get 5", "br_if 0"]),
+    "br to the end of a function with a result": one(["local.get 1", "br 0"]),
+    "a table of branches": one(["block", "local.get 5", "br_table 1 0 0", "end"] + RETURN),
+    "operands that are left over": one(["local.get 1"] + RETURN),
+    "a quotient of signed numbers": one(["local.get 1", "local.get 2", "i64.div_s"]),
+    "a rest of signed numbers": one(["local.get 1", "local.get 2", "i64.rem_s"]),
+    "clz": one(["local.get 1", "i64.clz"]), "ctz": one(["local.get 1", "i64.ctz"]),
+    "popcnt": one(["local.get 1", "i64.popcnt"]),
+    "floating point": one(["local.get 0", "f64.load 0", "drop"] + RETURN),
+    "the flag of a call elsewhere": one(["i32.const 0", "global.set 1"] + RETURN),
+    "another global": one(["global.get 2"]),
+    "another global in a function with a part of the stack": one(TAKE + ["global.get 2", "drop"] + GIVE + RETURN),
+    "a stack pointer from somewhere": one(["local.get 0", "global.set 0"] + RETURN),
+    "a stack pointer from memory": one(TAKE + ["local.get 0", "i64.load 0", "global.set 0"] + RETURN),
+    "a stack pointer that stays lower": one(TAKE + ["local.get 3", "i64.const 16", "i64.add", "global.set 0"] + RETURN),
+    "a part of the stack of 24 bytes": one([x.replace("32", "24") for x in TAKE + GIVE] + RETURN),
+    "a part of the stack of a length that is not known": one(["global.get 0", "local.get 1", "i64.sub", "global.set 0"] +
+                                                             RETURN),
+    "two parts of the stack": one(TAKE + ["local.get 3", "i64.const 16", "i64.sub", "global.set 0"] + GIVE + RETURN),
+    "a store below the part of the stack": one(TAKE + ["local.get 3", "i64.const 8", "i64.sub", "local.get 1",
+                                                       "i64.store 0"] + GIVE + RETURN),
+    "a store above the part of the stack": one(TAKE + ["local.get 3", "local.get 1", "i64.store 25"] + GIVE + RETURN),
+    "a load above the part of the stack": one(TAKE + ["local.get 3", "i64.load8_u 32", "drop"] + GIVE + RETURN),
+    "parts of the stack of two lengths": one(TAKE + ["global.get 0", "i64.const 64", "i64.sub", "drop"] + GIVE + RETURN),
+    "a load above the stack pointer": one(["global.get 0", "i64.load 0"]),
+    "an alignment of 8": one(TAKE[:3] + ["i64.const -8", "i64.and", "local.tee 3", "global.set 0"] + RETURN),
+    "an alignment of 128": one(TAKE[:3] + ["i64.const -128", "i64.and", "local.tee 3", "global.set 0"] + RETURN),
+    "a stack pointer after another branch": one(TAKE[:3] + ["local.set 3", "block", "local.get 5", "br_if 0",
+                                                            "local.get 1", "local.set 3", "end", "local.get 3",
+                                                            "global.set 0"] + RETURN),
+    "a stack pointer that a loop changes": one(TAKE[:3] + [
+        "local.set 3", "loop", "local.get 3", "global.set 0", "local.get 1", "local.set 3", "local.get 5", "br_if 0",
+        "end"] + RETURN),
+    **{f"another {name}": functions.module(
+        [("vulfsjor_ffi_t0", ["i64"] * 3, ["i64"], [], RETURN + ["end"]),
+         (name, [], ["i32"] if name == "__rattle_enter" else [], ["i64"], lines + ["end"])], {"vulfsjor_ffi_t0": 0})
+       for name, lines in RUNTIME.items()},
+}
+# What is like some of these, and is translated.
+ACCEPTED = {
+    "a function": one(RETURN), "a part of the stack": one(TAKE + GIVE + RETURN),
+    "the last bytes of it": one(TAKE + ["local.get 3", "local.get 1", "i64.store 24"] + GIVE + RETURN),
+    "an address that is reached by a negative number": one(TAKE + [
+        "local.get 3", "i64.const 32", "i64.add", "i64.const -8", "i64.add", "local.get 1", "i64.store 0"] + GIVE + RETURN),
+    "a stack pointer that waits": one(TAKE[:3] + ["local.set 3", "local.get 3", "local.get 1", "local.set 3",
+                                                  "global.set 0"] + RETURN),
+    "an alignment of 32": one(["global.get 0", "local.tee 4"] + TAKE[1:3] + [
+        "i64.const -32", "i64.and", "local.tee 3", "global.set 0", "local.get 4", "global.set 0"] + RETURN),
+    "data of no bytes": one(RETURN) + functions.section(11, b"\x01\0\x42\x10\x0b\0"),
+    "the same stack pointer after two branches": one(TAKE[:3] + [
+        "local.set 3", "block", "local.get 5", "br_if 0", "local.get 3", "local.set 3", "end", "local.get 3",
+        "global.set 0"] + RETURN),
+}
+
+
+def refusal(translator, data):
+    """Why a module is refused, or nothing."""
+    try:
+        str(translator.Program(data, header_of([["i64"]])))
+    except (translator.Refused, CannotShow) as why:
+        return str(why) or "refused"
+    return ""
+
+
+def wrong_refusals(translator):
+    """The names of modules that are not refused, or refused although they are known."""
+    return ([name for name, data in REFUSED.items() if not refusal(translator, data)] +
+            [f"{name}: {refusal(translator, data)}" for name, data in ACCEPTED.items() if refusal(translator, data)])
+
+
+# ---- changes of the translator
+
+def mutations():
+    """The changes of translator/mutations.txt: file, old text, new text."""
+    with open(os.path.join(FOLDER, "mutations.txt"), encoding="utf-8") as file:
+        lines = [line.rstrip("\n") for line in file if line.strip() and not line.startswith("#")]
+    for line in lines:
+        name, old, new = re.fullmatch("(py|c): (.*?) => ?(.*)", line).groups()
+        yield "wasm_to_c." + name, old.replace("\\n", "\n"), new.replace("\\n", "\n")
+
+
+def changed(name, old, new):
+    """The translator with a change of the tool or of its part in C."""
+    texts = {}
+    for each in ("wasm_to_c.py", "wasm_to_c.c"):
+        with open(os.path.join(TOP, "tools", each), encoding="utf-8") as file:
+            texts[each] = file.read()
+    if texts[name].count(old) != 1:
+        raise ValueError(f"{name} has {old!r} {texts[name].count(old)} times")
+    texts[name] = texts[name].replace(old, new)
+    made = types.ModuleType("changed")
+    made.__file__ = os.path.join(TOP, "tools", "wasm_to_c.py")
+    exec(compile(texts["wasm_to_c.py"], "changed", "exec"), made.__dict__)  # pylint: disable=exec-used
+    parts = re.split(r"^/\* ---- (\w+) \*/\n", texts["wasm_to_c.c"], flags=re.MULTILINE)
+    made.Parts.__init__ = lambda self: setattr(self, "texts", dict(zip(parts[1::2], (
+        text.strip("\n") for text in parts[2::2]))))
+    return made
+
+
+def sees(cases, translator):
+    """Whether a test sees that this translator is another."""
+    try:
+        if wrong_refusals(translator):
+            return True
+    except Exception:  # pylint: disable=broad-except
+        return True
+    for case in cases:
+        try:
+            case.translate(translator)
+        except Exception:  # pylint: disable=broad-except
+            return True
+        if any(case.difference(case.run(*target)) for target in SEEING):
+            return True
+    return False
+
+
+def test_mutations(cases):
+    """Each change of the translator is seen."""
+    for name, old, new in mutations():
+        try:
+            seen = sees(cases, changed(name, old, new))
+            why = "no test fails"
+        except ValueError as error:
+            seen, why = False, str(error)
+        tap.result(seen, f"a change of {name} is seen: {old!r} -> {new!r}", why)
+
+
+def main():
+    """Runs the tests."""
+    huge = bool(os.environ.get("VULFSJOR_TEST_HUGE"))
+    seed, count = map(int, sys.argv[1:3]) if len(sys.argv) == 3 else (1, 300 if huge else 40)
+    wrong = wrong_refusals(wasm_to_c)
+    tap.result(not wrong, f"{len(REFUSED)} modules are refused, and {len(ACCEPTED)} like them are not", "\n".join(wrong))
+    if not shutil.which("node") or not shutil.which("cc"):
+        tap.result(True, "random functions next to node", skipped="no node or no cc")
+        tap.finish()
+    with tempfile.TemporaryDirectory() as folder:
+        case = Case(folder, seed, count)
+        used = {line.split()[0] for lines in case.lines for line in lines}
+        tap.result(used >= HAS_ALL, f"{count} random functions have each instruction", HAS_ALL - used)
+        tap.result(len(case.wanted.splitlines()) == len(INPUTS) * count, "node calls each of them", case.wanted)
+        case.translate()
+        test_targets(case, f"{len(INPUTS) * count} calls of random functions next to node")
+    missing = [tool for compiler, emulator in SEEING for tool in (compiler[0], *emulator) if not shutil.which(tool)]
+    if not huge or missing:
+        tap.result(True, "changes of the translator are seen",
+                   skipped=f"no {missing[0]}" if huge else "VULFSJOR_TEST_HUGE is not set")
+        tap.finish()
+    with tempfile.TemporaryDirectory() as a, tempfile.TemporaryDirectory() as b:
+        test_mutations([Case(a, 1, 40), Case(b, 2, 40)])
+    tap.finish()
+
+
+if __name__ == "__main__":
+    main()

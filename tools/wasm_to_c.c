@@ -1,0 +1,212 @@
+/* The text in C that no module has, in parts for tools/wasm_to_c.py: it writes those that it needs,
+ * in this order. A word such as @VERSION@ stands for what it knows. This file is not compiled. */
+
+/* ---- head */
+/* BLAKE2b and BLAKE2s for processors without assembly in dist/: the functions of vulfsjor.h, in C99.
+ *
+ * Do not edit. tools/wasm_to_c.py translates the WebAssembly module that the proved crate blake2_ffi
+ * compiles to, instruction by instruction. The translator and your C compiler are tested, not
+ * proved. The comment above a function has its name in the crates; docs/PORTABLE.md says how the
+ * text is read, and where it is more than a translation: SCRUB, `frame`, and what is not here.
+ *
+ * Addresses and lengths are 64-bit numbers. Numbers in memory are little-endian on every processor,
+ * also in states. All names are hidden from other shared libraries, unless CHOOSE_SHOWN is defined.
+ * With CHOOSE_BESIDE each name of a function of vulfsjor.h ends in the version and `_c`, as a build
+ * of the assembly does. */
+#include <stddef.h>
+#include <stdint.h>
+#include <stdlib.h>
+#include <string.h>
+
+#if defined(__GNUC__) && !defined(_WIN32) && !defined(CHOOSE_SHOWN)
+#pragma GCC visibility push(hidden)
+#include "vulfsjor.h"
+#pragma GCC visibility pop
+#else
+#include "vulfsjor.h"
+#endif
+
+#ifdef CHOOSE_BESIDE
+#define NAME(name) vulfsjor_ffi_##name##_@VERSION@_c
+#else
+#define NAME(name) vulfsjor_ffi_##name
+#endif
+
+/* A function that no other contains, so that SCRUB reaches what it leaves on the stack. */
+#if defined(__GNUC__)
+#define APART static __attribute__((noinline))
+#elif defined(_MSC_VER)
+#define APART static __declspec(noinline)
+#else
+#define APART static
+#endif
+
+#define POINTER(a) ((unsigned char *)(uintptr_t)(a))
+#define ADDRESS(p) ((uint64_t)(uintptr_t)(p))
+
+/* A number whose bytes in memory are those of x in little-endian order, and back. */
+#if defined(_MSC_VER) || \
+    (defined(__BYTE_ORDER__) && __BYTE_ORDER__ == __ORDER_LITTLE_ENDIAN__)
+#define IN_ORDER(n) return x;
+#elif defined(__GNUC__) && defined(__BYTE_ORDER__) && __BYTE_ORDER__ == __ORDER_BIG_ENDIAN__
+#define IN_ORDER(n) return __builtin_bswap##n(x);
+#else
+#define IN_ORDER(n)                                                          \
+    unsigned char bytes[n / 8];                                              \
+    int i;                                                                   \
+    for (i = 0; i < n / 8; i++) bytes[i] = (unsigned char)(x >> (8 * i));    \
+    memcpy(&x, bytes, sizeof x);                                             \
+    return x;
+#endif
+#define ORDER(n) \
+    static inline uint##n##_t in_order##n(uint##n##_t x) { IN_ORDER(n) }
+#define LOAD(n)                                           \
+    static inline uint##n##_t load##n(uint64_t a) {       \
+        uint##n##_t x;                                    \
+        memcpy(&x, POINTER(a), sizeof x);                 \
+        return in_order##n(x);                            \
+    }
+#define STORE(n)                                              \
+    static inline void store##n(uint64_t a, uint##n##_t x) {  \
+        x = in_order##n(x);                                   \
+        memcpy(POINTER(a), &x, sizeof x);                     \
+    }
+
+/* Instructions that C has no operator for. */
+#define ROTL(n)                                                        \
+    static inline uint##n##_t rotl##n(uint##n##_t x, uint##n##_t k) {  \
+        return x << (k & (n - 1)) | x >> ((0 - k) & (n - 1));          \
+    }
+#define ROTR(n)                                                        \
+    static inline uint##n##_t rotr##n(uint##n##_t x, uint##n##_t k) {  \
+        return x >> (k & (n - 1)) | x << ((0 - k) & (n - 1));          \
+    }
+/* The sign is shifted in from the left: all of it but one, and one that is there already. */
+#define SHR_S(n)                                                                              \
+    static inline uint##n##_t shr_s##n(uint##n##_t x, uint##n##_t k) {                        \
+        return x >> (k & (n - 1)) | (0 - (x >> (n - 1))) << ((n - 1) - (k & (n - 1)));        \
+    }
+/* The bits below and with `top`, whose bit is that of the sign. */
+#define SIGN(n)                                                          \
+    static inline uint##n##_t sign##n(uint##n##_t x, uint##n##_t top) {  \
+        return ((x & (top * 2 - 1)) ^ top) - top;                        \
+    }
+#define DIVIDE(name, n, operator)                                        \
+    static inline uint##n##_t name##n(uint##n##_t a, uint##n##_t b) {    \
+        if (!b) abort();                                                 \
+        return a operator b;                                             \
+    }
+
+/* ---- order16 */
+ORDER(16)
+
+/* ---- order32 */
+ORDER(32)
+
+/* ---- order64 */
+ORDER(64)
+
+/* ---- load8 */
+static inline uint8_t load8(uint64_t a) { return *POINTER(a); }
+
+/* ---- load16 */
+LOAD(16)
+
+/* ---- load32 */
+LOAD(32)
+
+/* ---- load64 */
+LOAD(64)
+
+/* ---- store8 */
+static inline void store8(uint64_t a, uint8_t x) { *POINTER(a) = x; }
+
+/* ---- store16 */
+STORE(16)
+
+/* ---- store32 */
+STORE(32)
+
+/* ---- store64 */
+STORE(64)
+
+/* ---- copy */
+static inline void copy(uint64_t to, uint64_t from, uint64_t length) {
+    if (length) memmove(POINTER(to), POINTER(from), (size_t)length);
+}
+
+/* ---- fill */
+static inline void fill(uint64_t to, uint32_t byte, uint64_t length) {
+    if (length) memset(POINTER(to), (unsigned char)byte, (size_t)length);
+}
+
+/* ---- rotl32 */
+ROTL(32)
+
+/* ---- rotl64 */
+ROTL(64)
+
+/* ---- rotr32 */
+ROTR(32)
+
+/* ---- rotr64 */
+ROTR(64)
+
+/* ---- shr_s32 */
+SHR_S(32)
+
+/* ---- shr_s64 */
+SHR_S(64)
+
+/* ---- sign32 */
+SIGN(32)
+
+/* ---- sign64 */
+SIGN(64)
+
+/* ---- div_u32 */
+DIVIDE(div_u, 32, /)
+
+/* ---- div_u64 */
+DIVIDE(div_u, 64, /)
+
+/* ---- rem_u32 */
+DIVIDE(rem_u, 32, %)
+
+/* ---- rem_u64 */
+DIVIDE(rem_u, 64, %)
+
+/* ---- scrub */
+/* Overwrites the stack below the caller. */
+#define SCRUB(name, length)                                                    \
+    APART void name(void) {                                                    \
+        volatile uint64_t room[(length) / 8];                                  \
+        size_t i;                                                              \
+        for (i = 0; i < sizeof room / sizeof *room; i++) room[i] = 0;          \
+    }
+
+/* ---- many */
+@HEAD@ {
+    /* The module's messages are two 64-bit numbers each. A call refuses all groups or none, except
+     * for a length, so that is looked at before the first. */
+    enum { GROUP = 32 };
+    const uint64_t most = UINT64_MAX - (key_length ? VULFSJOR_@FAMILY@_BLOCKBYTES : 0);
+    uint64_t group[2 * GROUP];
+    size_t i, n;
+
+    if (!output_size || out_length % output_size || out_length / output_size != count) return -1;
+    for (i = 0; i < count; i++)
+        if (messages[i].length > most) return -1;
+    do {
+        n = count < GROUP ? count : GROUP;
+        for (i = 0; i < n; i++) {
+            store64(ADDRESS(group + 2 * i), ADDRESS(messages[i].bytes));
+            store64(ADDRESS(group + 2 * i + 1), messages[i].length);
+        }
+        if (@INNER@(ADDRESS(out), n * output_size, output_size, ADDRESS(group), n, ADDRESS(key),
+                key_length, ADDRESS(salt), salt_length, ADDRESS(personal), personal_length))
+            return -1;
+        out += n * output_size, messages += n, count -= n;
+    } while (count);
+    return 0;
+}
