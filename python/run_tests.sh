@@ -5,10 +5,10 @@
 #
 # It runs the unit tests of python/tests in each interpreter that PYTHONS names (python3 and
 # /usr/bin/python3), from 3.11 on, over one module, which the first of them builds that has its
-# headers. Tests that do not depend on the interpreter run only in the last of them, which finds
-# Debian's packages, unless VULFSJOR_TEST_HUGE is 1; test_interpreters.py looks for other versions by
-# itself. `python3 -m unittest discover python/tests` does the same in one interpreter. If a tool is
-# missing, its tests are skipped.
+# headers. All tests run in the last of them, which finds Debian's packages. In another, unless
+# VULFSJOR_TEST_HUGE is 1, those that depend on the interpreter run if it is another version of
+# Python; test_interpreters.py looks for other versions by itself. `python3 -m unittest discover
+# python/tests` does the same in one interpreter. If a tool is missing, its tests are skipped.
 set -u
 source "$(dirname "$(readlink -f "$0")")/../tests/tap.sh"
 [ $# -eq 0 ] || { echo "usage: python/run_tests.sh" >&2 && exit 2; }
@@ -34,6 +34,9 @@ build() {
     return 77
 }
 
+# The version of Python that an interpreter is, such as 3.11.
+version_of() { "$1" -c 'import sys; print("%d.%d" % sys.version_info[:2])'; }
+
 # The tests of a file in an interpreter, each with a line.
 run_file() { "$1" -m unittest discover -v -s "$tests" -p "$2.py"; }
 
@@ -50,11 +53,14 @@ case $? in
     77) skip "the package for Python" "no cc, or no python3 with headers"; finish ;;
     *) fail "the package for Python is built" "$work/built"; finish ;;
 esac
+last=$(version_of "${interpreters[-1]}")
 for each in "${interpreters[@]}"; do
+    other=$(version_of "$each")
+    [ "$other" != "$last" ] || other=
     for file in "$tests"/test_*.py; do
         name=$(basename "$file" .py)
-        case $name,$each,${VULFSJOR_TEST_HUGE-} in
-            test_compare,* | test_package,* | test_trees,* | *,"${interpreters[-1]}",* | *,1) ;;
+        case $name$other,$each,${VULFSJOR_TEST_HUGE-} in
+            test_compare3* | test_package3* | test_trees3* | *,"${interpreters[-1]}",* | *,1) ;;
             *) skip "$name in $each" "VULFSJOR_TEST_HUGE is not set" && continue ;;
         esac
         check "$name in $each" run_file "$each" "$name"

@@ -2,6 +2,9 @@
 # Tests a tree in parts, by threads, and the programs of c/examples that hash trees.
 source "$(dirname "$(readlink -f "$0")")/installed.sh"
 
+# A number of random turns: of those of the full test a third.
+turns() { [ -n "${VULFSJOR_TEST_HUGE-}" ] && echo "$1" || echo $(($1 / 3)); }
+
 # The words of the linker by which the calls that thread_faults.c replaces go to it.
 replaced_calls() {
     sed -n 's/^WRAP([^,]*, \([a-z0-9_]*\),.*$/-Wl,--wrap=\1/p' "$tests/thread_faults.c"
@@ -27,7 +30,7 @@ parts_with() {
 # threads.c with these words, over the installed archive.
 threads_installed() {
     compile_threads "$work/threads" -O2 "$tests/threads.c" "$prefix/lib/libvulfsjor-threads.a" &&
-        "$work/threads" "$work/files" 200
+        "$work/threads" "$work/files" "$(turns 200)"
 }
 
 # threads.c and thread_faults.c with these words, where each few bytes have a thread of their own.
@@ -35,7 +38,7 @@ threads_with() {
     compile_threads "$work/threads" -DLEAST_BYTES=1 "$@" "$tests/threads.c" "$here/threads.c" &&
         compile_threads "$work/faults" -DLEAST_BYTES=1 "$@" "$tests/thread_faults.c" \
             "$here/threads.c" $(replaced_calls) &&
-        "$work/threads" "$work/files" 60 && "$work/faults" "$work/files" &&
+        "$work/threads" "$work/files" "$(turns 60)" && "$work/faults" "$work/files" &&
         compile_threads "$work/faults" "$@" "$tests/thread_faults.c" "$here/threads.c" \
             $(replaced_calls) &&
         "$work/faults" "$work/files"
@@ -179,7 +182,7 @@ test_threads() {
         skip "a tree in parts, and by threads" "no python3"
         return
     fi
-    check "parts.c" parts_with 20000 -O2
+    check "parts.c" parts_with "$(turns 20000)" -O2
     check "threads.c, with the installed library" threads_installed
     check "threads.c and thread_faults.c" threads_with -O2
     check "the numbers in vulfsjor_threads.h" numbers_of_header
@@ -189,7 +192,7 @@ test_threads() {
         check "threads.c and thread_faults.c, with the sanitizer $kind" sanitized "$kind"
     done
     needs_sanitizers
-    check "parts.c, with sanitizers" parts_with 20000 -O1 "${sanitizers[@]}"
+    check "parts.c, with sanitizers" parts_with "$(turns 20000)" -O1 "${sanitizers[@]}"
     needs
     check "the program c/examples/tree_sum.c" tree_sum_example
     check "the program c/examples/tree_parts.c" tree_parts_example

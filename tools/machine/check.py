@@ -47,8 +47,9 @@ FAMILIES = {"blake2b": "BLAKE2b", "blake2s": "BLAKE2s"}
 # The families of exported functions, by the parts in which calls are followed.
 FOLLOWED = {"BLAKE2b": ("blake2b", "version"), "BLAKE2s": ("blake2s", "memcmp", "wipe"),
             "trees": ("tree",)}
-# The builds in which whole calls are executed, and those of trees followed, without --long.
+# The builds in which whole calls are executed and followed without --long, and the widths of rules.
 SHORT = ("dist/x86_64/vulfsjor-v3.s", "dist/aarch64/vulfsjor.s")
+SHORT_WIDTHS = (64, 8)
 
 
 def missing(path):
@@ -297,10 +298,11 @@ def jobs(arguments):
               for part in parts_of_calls(path, is_short)]
     followed = [path for path in libraries if path not in calls.NOT_FOLLOWED]
     found[:0] = [(follow, (path, part)) for part in reversed(FOLLOWED) for path in followed
-                 if path in SHORT or part != "trees" or not is_short]
+                 if path in SHORT or not is_short]
     if not arguments:
         found.append((specification, ()))
-        found[:0] = [(rules, (width,)) for width in (64, 32, 16, 8)]
+        found[:0] = [(rules, (width,)) for width in (64, 32, 16, 8)
+                     if width in SHORT_WIDTHS or not is_short]
         found += [(instructions, (path,)) for path in functions.FILES
                   if not path.rpartition("/")[2].startswith("b2")]
         found += [(public_bytes, (path,)) for path in followed]
