@@ -47,7 +47,8 @@ FAMILIES = {"blake2b": "BLAKE2b", "blake2s": "BLAKE2s"}
 # The families of exported functions, by the parts in which calls are followed.
 FOLLOWED = {"BLAKE2b": ("blake2b", "version"), "BLAKE2s": ("blake2s", "memcmp", "wipe"),
             "trees": ("tree",)}
-# The builds in which whole calls are executed and followed without --long, and the widths of rules.
+# The builds in which whole calls are executed and followed without --long, with the tests of the
+# models for that; and the widths of rules.
 SHORT = ("dist/x86_64/vulfsjor-v3.s", "dist/aarch64/vulfsjor.s")
 SHORT_WIDTHS = (64, 8)
 
@@ -305,8 +306,8 @@ def jobs(arguments):
                      if width in SHORT_WIDTHS or not is_short]
         found += [(instructions, (path,)) for path in functions.FILES
                   if not path.rpartition("/")[2].startswith("b2")]
-        found += [(public_bytes, (path,)) for path in followed]
-        found += [(exact_model, (path,)) for path in libraries]
+        found += [(public_bytes, (path,)) for path in followed if path in SHORT or not is_short]
+        found += [(exact_model, (path,)) for path in libraries if path in SHORT or not is_short]
         found += [(planted, (change,)) for change in mutations.OF_THE_TOOL]
     if not arguments and HUGE in os.environ:
         found += [(whole, (path,)) for path in functions.FILES] + [(types, ())]
