@@ -124,6 +124,48 @@ CALL(vulfsjor_ffi_blake2s_digest_size, size_t, (const vulfsjor_blake2s_state *st
 CALL(vulfsjor_ffi_blake2s_count, uint64_t, (const vulfsjor_blake2s_state *state), (state))
 CALL(vulfsjor_ffi_blake2s_state_size, size_t, (void), ())
 
+CALL(vulfsjor_ffi_blake2bp, int32_t, (uint8_t *out, size_t out_length, const uint8_t *input,
+     size_t input_length, const uint8_t *key, size_t key_length), (out, out_length, input,
+     input_length, key, key_length))
+CALL(vulfsjor_ffi_blake2bp_init_salt_personal, int32_t, (vulfsjor_blake2bp_state *state,
+     size_t output_size, const uint8_t *key, size_t key_length, const uint8_t *salt,
+     size_t salt_length, const uint8_t *personal, size_t personal_length), (state, output_size, key,
+     key_length, salt, salt_length, personal, personal_length))
+CALL(vulfsjor_ffi_blake2bp_init_key, int32_t, (vulfsjor_blake2bp_state *state, size_t output_size,
+     const uint8_t *key, size_t key_length), (state, output_size, key, key_length))
+CALL(vulfsjor_ffi_blake2bp_update, int32_t, (vulfsjor_blake2bp_state *state, const uint8_t *input,
+     size_t input_length), (state, input, input_length))
+CALL(vulfsjor_ffi_blake2bp_final, int32_t, (vulfsjor_blake2bp_state *state, uint8_t *out,
+     size_t out_length), (state, out, out_length))
+CALL(vulfsjor_ffi_blake2bp_verify, int32_t, (vulfsjor_blake2bp_state *state, const uint8_t *tag,
+     size_t tag_length), (state, tag, tag_length))
+CALL(vulfsjor_ffi_blake2bp_reset, int32_t, (vulfsjor_blake2bp_state *state), (state))
+CALL_VOID(vulfsjor_ffi_blake2bp_wipe, (vulfsjor_blake2bp_state *state), (state))
+CALL(vulfsjor_ffi_blake2bp_digest_size, size_t, (const vulfsjor_blake2bp_state *state), (state))
+CALL(vulfsjor_ffi_blake2bp_count, uint64_t, (const vulfsjor_blake2bp_state *state), (state))
+CALL(vulfsjor_ffi_blake2bp_state_size, size_t, (void), ())
+
+CALL(vulfsjor_ffi_blake2sp, int32_t, (uint8_t *out, size_t out_length, const uint8_t *input,
+     size_t input_length, const uint8_t *key, size_t key_length), (out, out_length, input,
+     input_length, key, key_length))
+CALL(vulfsjor_ffi_blake2sp_init_salt_personal, int32_t, (vulfsjor_blake2sp_state *state,
+     size_t output_size, const uint8_t *key, size_t key_length, const uint8_t *salt,
+     size_t salt_length, const uint8_t *personal, size_t personal_length), (state, output_size, key,
+     key_length, salt, salt_length, personal, personal_length))
+CALL(vulfsjor_ffi_blake2sp_init_key, int32_t, (vulfsjor_blake2sp_state *state, size_t output_size,
+     const uint8_t *key, size_t key_length), (state, output_size, key, key_length))
+CALL(vulfsjor_ffi_blake2sp_update, int32_t, (vulfsjor_blake2sp_state *state, const uint8_t *input,
+     size_t input_length), (state, input, input_length))
+CALL(vulfsjor_ffi_blake2sp_final, int32_t, (vulfsjor_blake2sp_state *state, uint8_t *out,
+     size_t out_length), (state, out, out_length))
+CALL(vulfsjor_ffi_blake2sp_verify, int32_t, (vulfsjor_blake2sp_state *state, const uint8_t *tag,
+     size_t tag_length), (state, tag, tag_length))
+CALL(vulfsjor_ffi_blake2sp_reset, int32_t, (vulfsjor_blake2sp_state *state), (state))
+CALL_VOID(vulfsjor_ffi_blake2sp_wipe, (vulfsjor_blake2sp_state *state), (state))
+CALL(vulfsjor_ffi_blake2sp_digest_size, size_t, (const vulfsjor_blake2sp_state *state), (state))
+CALL(vulfsjor_ffi_blake2sp_count, uint64_t, (const vulfsjor_blake2sp_state *state), (state))
+CALL(vulfsjor_ffi_blake2sp_state_size, size_t, (void), ())
+
 CALL(vulfsjor_ffi_tree_root, int32_t, (uint8_t *out, size_t out_length, const uint8_t *input,
      size_t input_length, const uint8_t *salt, size_t salt_length, const uint8_t *personal,
      size_t personal_length, uint32_t leaf_length), (out, out_length, input, input_length, salt,

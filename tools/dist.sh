@@ -42,6 +42,15 @@ crate_of() {
 # have names of their own, so nothing else in the program gets them.
 ours_of() { [ "$1" != b2sum ] || printf '%s=b2sum_%s\n' open open read read __sysv_signal signal; }
 
+# Whether a crate has BLAKE2bp and BLAKE2sp.
+has_parallel() { crates_of "$1" | grep -x blake2_parallel >/dev/null; }
+
+# The attributes that functions of a crate get from LLVM, for a target.
+attributes_of() {
+    [[ $2 != aarch64-* ]] || cat "$top/tools/aarch64_attributes.csv"
+    ! has_parallel "$1" || cat "$top/tools/parallel_attributes.csv"
+}
+
 # A hash of all that decides what is compiled except the toolchain. A line that is a comment decides
 # nothing.
 sources() {
@@ -52,8 +61,9 @@ sources() {
         find "${folders[@]}" -name '*.rt' | LC_ALL=C sort |
             xargs awk 'FNR == 1 { print "== " FILENAME } !/^[ \t]*\/\//' &&
             version _ &&
-            cat tools/plain_names.py tools/aarch64_attributes.csv tools/x86_64_v2.sed \
-                tools/x86_64_v4.sed tools/b2sum.sed tools/clear_registers.py tools/one_text.py
+            cat tools/plain_names.py tools/aarch64_attributes.csv tools/parallel_attributes.csv \
+                tools/x86_64_v2.sed tools/x86_64_v4.sed tools/b2sum.sed tools/clear_registers.py \
+                tools/one_text.py
     } | sha256sum | cut -d ' ' -f 1
 }
 
@@ -84,8 +94,15 @@ has_same_tools() { [ "$(said tools)" = "$(hash_of_tools)" ]; }
 #
 # On aarch64 the compression of one message is compiled without vector registers, and that of
 # several with them: a NEON instruction takes two to four cycles there, and one message is a single
-# chain of them. aarch64_attributes.csv names the functions for LLVM. A name in it that is not in
-# the code makes clang print a line, and then the build fails.
+# chain of them. aarch64_attributes.csv names the functions for LLVM.
+#
+# In a crate with BLAKE2bp and BLAKE2sp the rounds of several messages have more than one caller, and
+# LLVM would call them there instead of writing them out. parallel_attributes.csv says that writing
+# them out costs nothing, which LLVM reads only if it computes the whole cost. So the other functions
+# are compiled as without these two.
+#
+# A name in a list of attributes that is not in the code makes clang print a line, and then the build
+# fails.
 #
 # Rattle has no x86-64-v4, so clang gets it after x86-64-v3 (make_v4_toolchain in kit.sh).
 build() {
@@ -99,13 +116,12 @@ build() {
             more=(-mllvm -force-attribute=noredzone) ;;
         x86_64/*-v4.s) target=x86_64-unknown-linux-gnu cpu=x86-64-v3 end=v4 \
             make=make_v4_toolchain more=(-mllvm -force-attribute=noredzone) ;;
-        aarch64/*.s)
-            target=aarch64-unknown-linux-gnu cpu=generic end=arm
-            more=(-ffixed-x18 -mllvm
-                "-forceattrs-csv-path=$top/tools/aarch64_attributes.csv")
-            ;;
+        aarch64/*.s) target=aarch64-unknown-linux-gnu cpu=generic end=arm more=(-ffixed-x18) ;;
         wasm/*.wasm) target=wasm64-unknown-unknown cpu=lime1 more=(-msimd128) ;;
     esac
+    attributes_of "$crate" "$target" >"$room.csv"
+    [ ! -s "$room.csv" ] || more+=(-mllvm "-forceattrs-csv-path=$room.csv")
+    ! has_parallel "$crate" || more+=(-mllvm -inline-cost-full)
     [ "$crate" = blake2_ffi ] || kind=()
     [ "$crate" != b2sum ] || cp "$top/tools/b2sum.sed" "$room/toolchain-b2sum.sed"
     echo "dist.sh: building $file" >&2

@@ -19,6 +19,10 @@ NUMBERS = {"uint8_t": "u8", "uint32_t": "u32", "uint64_t": "u64", "int32_t": "i3
 STRUCTS = {
     "blake2b_state": ("crates/blake2_state/src/blake2b.rt", "State", None),
     "blake2s_state": ("crates/blake2_state/src/blake2s.rt", "State", None),
+    "blake2bp_lanes": ("crates/blake2_parallel/src/lanes/blake2b.rt", "Lanes", None),
+    "blake2bp_state": ("crates/blake2_parallel/src/blake2b.rt", "State", None),
+    "blake2sp_lanes": ("crates/blake2_parallel/src/lanes/blake2s.rt", "Lanes", None),
+    "blake2sp_state": ("crates/blake2_parallel/src/blake2s.rt", "State", None),
     "tree_state": ("crates/blake2_state/src/tree.rt", "TreeState", None),
     "tree": ("crates/blake2_ffi/src/lib.rt", "NodeParameters", "Tree"),
     "message": ("crates/blake2_ffi/src/lib.rt", "Text", "Text"),
@@ -28,8 +32,8 @@ STRUCTS = {
 }
 # What the types are called in the header, besides those.
 NAMES = {"NodeParameters": "tree", "Text": "message", "Tree": "tree", "TreeState": "tree_state",
-         "Blake2bState": "blake2b_state", "Blake2sState": "blake2s_state", "Limits": "limits", "Plan": "plan",
-         "Part": "part"}
+         "Blake2bState": "blake2b_state", "Blake2sState": "blake2s_state", "Blake2bpState": "blake2bp_state",
+         "Blake2spState": "blake2sp_state", "Limits": "limits", "Plan": "plan", "Part": "part"}
 # Names that differ: C's are those of the BLAKE2 document.
 SAME = {"persona": "personal", "persona_length": "personal_length", "messages_length": "count",
         "bytes_length": "length"}
@@ -41,19 +45,27 @@ def without_comments(text):
 
 
 def of_c(words):
-    """A declaration of C, such as `const uint8_t *a` or `uint64_t chain[8]`: its name and its type as in Rust."""
-    const, type_, star, name, many = re.fullmatch(r"(const )?(\w+) ?(\*?)(\w+)(\[\d+\])?", words).groups()
+    """A declaration of C, such as `const uint8_t *a` or `uint64_t rows[8][4]`: its name and its type as in Rust."""
+    const, type_, star, name, many = re.fullmatch(r"(const )?(\w+) ?(\*?)(\w+)((?:\[\d+\])*)", words).groups()
     type_ = NUMBERS.get(type_, type_.removeprefix("vulfsjor_"))
     pointer = f"*{'const' if const else 'mut'} " if star else ""
-    return name, pointer + (type_ or "u8") + (many or "")
+    return name, pointer + (type_ or "u8") + many
+
+
+def state_of(name):
+    """What State is called in C in a module of this name, or in a struct that C calls so: blake2b_state in others."""
+    family = re.search("blake2[bs]p?", name)
+    return (family[0] if family else "blake2b") + "_state"
 
 
 def of_rust(words, state):
     """The same of Rust and Rattle, where a slice is a pointer and a length. `state` is what State is called in C."""
     name, type_ = words.removeprefix("pub ").removeprefix("pub(crate) ").split(": ", 1)
     type_ = re.sub(r"<'\w+>|'\w+ ", "", type_).replace("LABEL_BYTES", "16")
+    type_ = re.sub(r"\[\[(\w+); (\d+)\]; (\d+)\]", r"\1[\3][\2]", type_)
     type_ = re.sub(r"\[(\w+); (\d+)\]", r"\1[\2]", type_)
-    type_ = re.sub(r"[A-Z]\w*", lambda m: NAMES.get(m[0], state if m[0] == "State" else m[0]), type_)
+    names = {"State": state, "Lanes": state.replace("_state", "_lanes"), **NAMES}
+    type_ = re.sub(r"[A-Z]\w*", lambda m: names.get(m[0], m[0]), type_)
     slice_ = re.fullmatch(r"(&|&mut )\[(\w+)\]", type_)
     if slice_:
         pointer = "*const " if slice_[1] == "&" else "*mut "
@@ -87,7 +99,7 @@ def signature(head, state):
 def exports():
     """The exports of Rattle."""
     for module in modules("crates/blake2_ffi/src/lib.rt"):
-        state = "blake2s_state" if "blake2s" in module.path else "blake2b_state"
+        state = state_of("::".join(module.path))
         for item in module.items:
             if item.is_export:
                 yield signature(" ".join(" ".join(item.head).split()), state)
@@ -124,8 +136,7 @@ def differences():
         fields_of_c = [of_c(" ".join(one.split()).replace("void", "uint8_t")) for one in body.split(";") if one.strip()]
         for place, type_ in ((file, rattle), (LIBRARY, rust)):
             if type_:
-                state = "blake2s_state" if name == "blake2s_state" else "blake2b_state"
-                given = [each for one in fields(read(place), type_) or () for each in of_rust(one, state)]
+                given = [each for one in fields(read(place), type_) or () for each in of_rust(one, state_of(name))]
                 if given != fields_of_c:
                     yield f"{place}: {type_} is not as vulfsjor_{name} of {HEADER}"
 

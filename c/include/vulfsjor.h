@@ -1,5 +1,5 @@
-/* BLAKE2b and BLAKE2s (RFC 7693): hashes, message authentication codes and trees of hashes. For C99
- * and later, and for C++11 and later.
+/* BLAKE2b and BLAKE2s (RFC 7693), BLAKE2bp and BLAKE2sp: hashes, message authentication codes and
+ * trees of hashes. For C99 and later, and for C++11 and later.
  *
  *     unsigned char digest[32];
  *     vulfsjor_blake2b_state state;
@@ -36,9 +36,9 @@
  * one state at the same time only in functions that accept a pointer to const.
  *
  * Secrets: final and verify wipe the state. A call that is passed a key, or that compresses the
- * key's block (the first update, or a final or verify of an empty message), overwrites its part of
- * the stack before it returns. Registers are not wiped. docs/WIPING.md says what was found and
- * tested. */
+ * key's block (the first update, or a final or verify of an empty message; in BLAKE2bp and BLAKE2sp
+ * also those of a short message, and each reset), overwrites its part of the stack before it
+ * returns. Registers are not wiped. docs/WIPING.md says what was found and tested. */
 #ifndef VULFSJOR_H
 #define VULFSJOR_H
 
@@ -79,7 +79,17 @@ enum {
     VULFSJOR_BLAKE2S_OUTBYTES = 32,
     VULFSJOR_BLAKE2S_KEYBYTES = 32,
     VULFSJOR_BLAKE2S_SALTBYTES = 8,
-    VULFSJOR_BLAKE2S_PERSONALBYTES = 8
+    VULFSJOR_BLAKE2S_PERSONALBYTES = 8,
+    VULFSJOR_BLAKE2BP_BLOCKBYTES = 128,
+    VULFSJOR_BLAKE2BP_OUTBYTES = 64,
+    VULFSJOR_BLAKE2BP_KEYBYTES = 64,
+    VULFSJOR_BLAKE2BP_SALTBYTES = 16,
+    VULFSJOR_BLAKE2BP_PERSONALBYTES = 16,
+    VULFSJOR_BLAKE2SP_BLOCKBYTES = 64,
+    VULFSJOR_BLAKE2SP_OUTBYTES = 32,
+    VULFSJOR_BLAKE2SP_KEYBYTES = 32,
+    VULFSJOR_BLAKE2SP_SALTBYTES = 8,
+    VULFSJOR_BLAKE2SP_PERSONALBYTES = 8
 };
 
 /* A state of BLAKE2b. Keep it in any memory with the alignment of its type. Copy it by assignment;
@@ -114,6 +124,42 @@ typedef struct vulfsjor_blake2s_state {
     uint8_t pending[64];     /* starts with the pending bytes */
     uint8_t start_block[64]; /* the same after a reset */
 } vulfsjor_blake2s_state;
+
+/* The leaves in a state of BLAKE2bp, and the input that is pending. */
+typedef struct vulfsjor_blake2bp_lanes {
+    uint64_t rows[8][4];  /* the chaining words: row k has word k of each leaf */
+    uint64_t counter;     /* the bytes of the blocks that each leaf has compressed */
+    size_t length;        /* the bytes that are pending, 0 to 896 */
+    uint8_t pending[896]; /* starts with the pending bytes */
+} vulfsjor_blake2bp_lanes;
+
+/* A state of BLAKE2bp. What the comment on vulfsjor_blake2b_state says holds for it too. */
+typedef struct vulfsjor_blake2bp_state {
+    vulfsjor_blake2bp_lanes lanes; /* the leaves */
+    uint64_t first[8][4];          /* their chaining words before the first block */
+    uint64_t root[8];              /* the chaining words of the root before its first block */
+    size_t start_length;           /* the pending bytes after a reset: 512 with a key, or 0 */
+    size_t output_size;            /* the bytes of the digest, 1 to 64; 0 in a wiped state */
+    uint8_t key_block[128];        /* the key, followed by zeros */
+} vulfsjor_blake2bp_state;
+
+/* The leaves in a state of BLAKE2sp, and the input that is pending. */
+typedef struct vulfsjor_blake2sp_lanes {
+    uint32_t rows[8][8];  /* the chaining words: row k has word k of each leaf */
+    uint64_t counter;     /* the bytes of the blocks that each leaf has compressed */
+    size_t length;        /* the bytes that are pending, 0 to 960 */
+    uint8_t pending[960]; /* starts with the pending bytes */
+} vulfsjor_blake2sp_lanes;
+
+/* A state of BLAKE2sp. What the comment on vulfsjor_blake2b_state says holds for it too. */
+typedef struct vulfsjor_blake2sp_state {
+    vulfsjor_blake2sp_lanes lanes; /* the leaves */
+    uint32_t first[8][8];          /* their chaining words before the first block */
+    uint32_t root[8];              /* the chaining words of the root before its first block */
+    size_t start_length;           /* the pending bytes after a reset: 512 with a key, or 0 */
+    size_t output_size;            /* the bytes of the digest, 1 to 32; 0 in a wiped state */
+    uint8_t key_block[64];         /* the key, followed by zeros */
+} vulfsjor_blake2sp_state;
 
 /* The parameter block of BLAKE2b (the BLAKE2 document, 2.8), with the field names of the reference
  * code. Without a tree, fanout and depth are 1, and node_offset, leaf_length, node_depth and
@@ -224,6 +270,8 @@ typedef struct vulfsjor_part {
 /* The library requires a 64-bit platform and these layouts. */
 typedef char vulfsjor_layouts[sizeof(size_t) == 8 && sizeof(vulfsjor_blake2b_state) == 424 &&
                               sizeof(vulfsjor_blake2s_state) == 232 &&
+                              sizeof(vulfsjor_blake2bp_state) == 1632 &&
+                              sizeof(vulfsjor_blake2sp_state) == 1600 &&
                               sizeof(vulfsjor_tree) == 16 &&
                               sizeof(vulfsjor_tree_state) == 912 &&
                               sizeof(vulfsjor_message) == 16 &&
@@ -305,6 +353,46 @@ void vulfsjor_ffi_blake2s_wipe(vulfsjor_blake2s_state *state);
 size_t vulfsjor_ffi_blake2s_digest_size(const vulfsjor_blake2s_state *state);
 uint64_t vulfsjor_ffi_blake2s_count(const vulfsjor_blake2s_state *state);
 size_t vulfsjor_ffi_blake2s_state_size(void);
+
+int32_t vulfsjor_ffi_blake2bp(uint8_t *out, size_t out_length, const uint8_t *input,
+                              size_t input_length, const uint8_t *key, size_t key_length);
+int32_t vulfsjor_ffi_blake2bp_init_salt_personal(vulfsjor_blake2bp_state *state, size_t output_size,
+                                                 const uint8_t *key, size_t key_length,
+                                                 const uint8_t *salt, size_t salt_length,
+                                                 const uint8_t *personal, size_t personal_length);
+int32_t vulfsjor_ffi_blake2bp_init_key(vulfsjor_blake2bp_state *state, size_t output_size,
+                                       const uint8_t *key, size_t key_length);
+int32_t vulfsjor_ffi_blake2bp_update(vulfsjor_blake2bp_state *state, const uint8_t *input,
+                                     size_t input_length);
+int32_t vulfsjor_ffi_blake2bp_final(vulfsjor_blake2bp_state *state, uint8_t *out,
+                                    size_t out_length);
+int32_t vulfsjor_ffi_blake2bp_verify(vulfsjor_blake2bp_state *state, const uint8_t *tag,
+                                     size_t tag_length);
+int32_t vulfsjor_ffi_blake2bp_reset(vulfsjor_blake2bp_state *state);
+void vulfsjor_ffi_blake2bp_wipe(vulfsjor_blake2bp_state *state);
+size_t vulfsjor_ffi_blake2bp_digest_size(const vulfsjor_blake2bp_state *state);
+uint64_t vulfsjor_ffi_blake2bp_count(const vulfsjor_blake2bp_state *state);
+size_t vulfsjor_ffi_blake2bp_state_size(void);
+
+int32_t vulfsjor_ffi_blake2sp(uint8_t *out, size_t out_length, const uint8_t *input,
+                              size_t input_length, const uint8_t *key, size_t key_length);
+int32_t vulfsjor_ffi_blake2sp_init_salt_personal(vulfsjor_blake2sp_state *state, size_t output_size,
+                                                 const uint8_t *key, size_t key_length,
+                                                 const uint8_t *salt, size_t salt_length,
+                                                 const uint8_t *personal, size_t personal_length);
+int32_t vulfsjor_ffi_blake2sp_init_key(vulfsjor_blake2sp_state *state, size_t output_size,
+                                       const uint8_t *key, size_t key_length);
+int32_t vulfsjor_ffi_blake2sp_update(vulfsjor_blake2sp_state *state, const uint8_t *input,
+                                     size_t input_length);
+int32_t vulfsjor_ffi_blake2sp_final(vulfsjor_blake2sp_state *state, uint8_t *out,
+                                    size_t out_length);
+int32_t vulfsjor_ffi_blake2sp_verify(vulfsjor_blake2sp_state *state, const uint8_t *tag,
+                                     size_t tag_length);
+int32_t vulfsjor_ffi_blake2sp_reset(vulfsjor_blake2sp_state *state);
+void vulfsjor_ffi_blake2sp_wipe(vulfsjor_blake2sp_state *state);
+size_t vulfsjor_ffi_blake2sp_digest_size(const vulfsjor_blake2sp_state *state);
+uint64_t vulfsjor_ffi_blake2sp_count(const vulfsjor_blake2sp_state *state);
+size_t vulfsjor_ffi_blake2sp_state_size(void);
 
 int32_t vulfsjor_ffi_tree_root(uint8_t *out, size_t out_length, const uint8_t *input,
                                size_t input_length, const uint8_t *salt, size_t salt_length,
@@ -755,6 +843,210 @@ VULFSJOR_MUST_USE static inline int vulfsjor_blake2s_many(
                                      vulfsjor_text(personal), personallen);
 }
 
+/* -- BLAKE2bp (the BLAKE2 document, "Parallel hashing"). The blocks of the message are dealt out to
+ * four leaves of BLAKE2b, and a root hashes the digests of the leaves. One thread hashes all leaves
+ * in parallel: long messages are hashed faster than by BLAKE2b, and short ones slower
+ * (docs/SPEED.md has times). The digest is not the BLAKE2b digest of the message. */
+
+/* Initializes a state for BLAKE2bp digests of outlen bytes, 1 to 64. The key has 0 to 64 bytes;
+ * without a key keylen is 0. With a key the digest is a message authentication code. The salt and
+ * the personalization have 0 to 16 bytes each, and trailing zeros in them change nothing. They are
+ * an extension: the BLAKE2 document gives BLAKE2bp neither. Here they are in the parameter block of
+ * each node. Returns -1 and sets the state to zero if a length is out of range. */
+static inline int vulfsjor_blake2bp_init_salt_personal(
+    vulfsjor_blake2bp_state *S, size_t outlen, const void *key, size_t keylen, const void *salt,
+    size_t saltlen, const void *personal, size_t personallen) {
+    if (!S) return -1;
+    memset(S, 0, sizeof *S);
+    if ((!key && keylen) || (!salt && saltlen) || (!personal && personallen)) return -1;
+    return vulfsjor_ffi_blake2bp_init_salt_personal(S, outlen, vulfsjor_text(key), keylen,
+                                                    vulfsjor_text(salt), saltlen,
+                                                    vulfsjor_text(personal), personallen);
+}
+
+/* Initializes a state for BLAKE2bp digests of outlen bytes, 1 to 64, without key, salt and
+ * personalization. Returns -1 and sets the state to zero if outlen is out of range. */
+static inline int vulfsjor_blake2bp_init(vulfsjor_blake2bp_state *S, size_t outlen) {
+    return vulfsjor_blake2bp_init_salt_personal(S, outlen, "", 0, "", 0, "", 0);
+}
+
+/* Initializes a state for BLAKE2bp digests of outlen bytes, 1 to 64, under a key of 1 to 64 bytes,
+ * without salt and personalization. Returns -1 and sets the state to zero if a length is out of
+ * range. A key of 0 bytes is refused here. */
+static inline int vulfsjor_blake2bp_init_key(vulfsjor_blake2bp_state *S, size_t outlen,
+                                             const void *key, size_t keylen) {
+    if (!S) return -1;
+    memset(S, 0, sizeof *S);
+    if (!key) return -1;
+    return vulfsjor_ffi_blake2bp_init_key(S, outlen, vulfsjor_text(key), keylen);
+}
+
+/* Absorbs inlen bytes of input. The digest does not depend on how the input is split into calls.
+ * Pieces of at least 4096 bytes are fastest. Returns -1 if the state is not ready, or if the bytes
+ * absorbed since the init or the last reset, with 512 bytes for a key, would be 2^64 or more. The
+ * state is then unchanged. */
+VULFSJOR_MUST_USE static inline int vulfsjor_blake2bp_update(vulfsjor_blake2bp_state *S,
+                                                             const void *in, size_t inlen) {
+    if (!S || (!in && inlen)) return -1;
+    return vulfsjor_ffi_blake2bp_update(S, vulfsjor_text(in), inlen);
+}
+
+/* Writes the digest of all input to the beginning of out, and wipes the state. outlen is the room
+ * in out. It may be more than the length of the digest; the remaining bytes are unchanged. Returns
+ * -1 if the state is not ready or the digest is longer than outlen. Then out and the state are
+ * unchanged. */
+VULFSJOR_MUST_USE static inline int vulfsjor_blake2bp_final(vulfsjor_blake2bp_state *S, void *out,
+                                                            size_t outlen) {
+    if (!S || !out) return -1;
+    return vulfsjor_ffi_blake2bp_final(S, vulfsjor_bytes(out), outlen);
+}
+
+/* Returns 0 if tag is the whole digest of all input, and -1 otherwise, as vulfsjor_blake2b_verify
+ * does. It wipes the state in either case, so copy the state first to try another tag. All bytes of
+ * a tag of the right length are compared. The state is unchanged if it was not ready, or if tag is
+ * null and taglen is not 0. */
+VULFSJOR_MUST_USE static inline int vulfsjor_blake2bp_verify(vulfsjor_blake2bp_state *S,
+                                                             const void *tag, size_t taglen) {
+    if (!S || (!tag && taglen)) return -1;
+    return vulfsjor_ffi_blake2bp_verify(S, vulfsjor_text(tag), taglen);
+}
+
+/* Discards all input. Digest length, key, salt and personalization are kept. Returns -1 if the
+ * state is not ready. */
+static inline int vulfsjor_blake2bp_reset(vulfsjor_blake2bp_state *S) {
+    if (!S) return -1;
+    return vulfsjor_ffi_blake2bp_reset(S);
+}
+
+/* Sets every byte of the state to zero, whether it is ready or not. Does nothing if S is null. */
+static inline void vulfsjor_blake2bp_wipe(vulfsjor_blake2bp_state *S) {
+    if (S) vulfsjor_ffi_blake2bp_wipe(S);
+}
+
+/* Returns the length of the state's digest, 1 to 64; 0 if the state is null or not ready. */
+static inline size_t vulfsjor_blake2bp_digest_size(const vulfsjor_blake2bp_state *S) {
+    return S ? vulfsjor_ffi_blake2bp_digest_size(S) : 0;
+}
+
+/* Returns the number of bytes of input absorbed since the init or the last reset; 0 if the state is
+ * null or not ready. */
+static inline uint64_t vulfsjor_blake2bp_count(const vulfsjor_blake2bp_state *S) {
+    return S ? vulfsjor_ffi_blake2bp_count(S) : 0;
+}
+
+/* Writes the BLAKE2bp digest of the input to out: outlen bytes, 1 to 64, under a key of 0 to 64
+ * bytes; without a key keylen is 0. Returns -1 and writes nothing if a length is out of range, or
+ * if the input and 512 bytes for a key have 2^64 bytes or more. */
+VULFSJOR_MUST_USE static inline int vulfsjor_blake2bp(void *out, size_t outlen, const void *in,
+                                                      size_t inlen, const void *key,
+                                                      size_t keylen) {
+    if (!out || (!in && inlen) || (!key && keylen)) return -1;
+    return vulfsjor_ffi_blake2bp(vulfsjor_bytes(out), outlen, vulfsjor_text(in), inlen,
+                                 vulfsjor_text(key), keylen);
+}
+
+/* -- BLAKE2sp (the BLAKE2 document, "Parallel hashing"). The blocks of the message are dealt out to
+ * eight leaves of BLAKE2s, and a root hashes the digests of the leaves. One thread hashes all leaves
+ * in parallel: long messages are hashed faster than by BLAKE2s, and short ones slower
+ * (docs/SPEED.md has times). The digest is not the BLAKE2s digest of the message. */
+
+/* Initializes a state for BLAKE2sp digests of outlen bytes, 1 to 32. The key has 0 to 32 bytes;
+ * without a key keylen is 0. With a key the digest is a message authentication code. The salt and
+ * the personalization have 0 to 8 bytes each, and trailing zeros in them change nothing. They are
+ * an extension: the BLAKE2 document gives BLAKE2sp neither. Here they are in the parameter block of
+ * each node. Returns -1 and sets the state to zero if a length is out of range. */
+static inline int vulfsjor_blake2sp_init_salt_personal(
+    vulfsjor_blake2sp_state *S, size_t outlen, const void *key, size_t keylen, const void *salt,
+    size_t saltlen, const void *personal, size_t personallen) {
+    if (!S) return -1;
+    memset(S, 0, sizeof *S);
+    if ((!key && keylen) || (!salt && saltlen) || (!personal && personallen)) return -1;
+    return vulfsjor_ffi_blake2sp_init_salt_personal(S, outlen, vulfsjor_text(key), keylen,
+                                                    vulfsjor_text(salt), saltlen,
+                                                    vulfsjor_text(personal), personallen);
+}
+
+/* Initializes a state for BLAKE2sp digests of outlen bytes, 1 to 32, without key, salt and
+ * personalization. Returns -1 and sets the state to zero if outlen is out of range. */
+static inline int vulfsjor_blake2sp_init(vulfsjor_blake2sp_state *S, size_t outlen) {
+    return vulfsjor_blake2sp_init_salt_personal(S, outlen, "", 0, "", 0, "", 0);
+}
+
+/* Initializes a state for BLAKE2sp digests of outlen bytes, 1 to 32, under a key of 1 to 32 bytes,
+ * without salt and personalization. Returns -1 and sets the state to zero if a length is out of
+ * range. A key of 0 bytes is refused here. */
+static inline int vulfsjor_blake2sp_init_key(vulfsjor_blake2sp_state *S, size_t outlen,
+                                             const void *key, size_t keylen) {
+    if (!S) return -1;
+    memset(S, 0, sizeof *S);
+    if (!key) return -1;
+    return vulfsjor_ffi_blake2sp_init_key(S, outlen, vulfsjor_text(key), keylen);
+}
+
+/* Absorbs inlen bytes of input. The digest does not depend on how the input is split into calls.
+ * Pieces of at least 4096 bytes are fastest. Returns -1 if the state is not ready, or if the bytes
+ * absorbed since the init or the last reset, with 512 bytes for a key, would be 2^64 or more. The
+ * state is then unchanged. */
+VULFSJOR_MUST_USE static inline int vulfsjor_blake2sp_update(vulfsjor_blake2sp_state *S,
+                                                             const void *in, size_t inlen) {
+    if (!S || (!in && inlen)) return -1;
+    return vulfsjor_ffi_blake2sp_update(S, vulfsjor_text(in), inlen);
+}
+
+/* Writes the digest of all input to the beginning of out, and wipes the state. outlen is the room
+ * in out. It may be more than the length of the digest; the remaining bytes are unchanged. Returns
+ * -1 if the state is not ready or the digest is longer than outlen. Then out and the state are
+ * unchanged. */
+VULFSJOR_MUST_USE static inline int vulfsjor_blake2sp_final(vulfsjor_blake2sp_state *S, void *out,
+                                                            size_t outlen) {
+    if (!S || !out) return -1;
+    return vulfsjor_ffi_blake2sp_final(S, vulfsjor_bytes(out), outlen);
+}
+
+/* Returns 0 if tag is the whole digest of all input, and -1 otherwise, as vulfsjor_blake2s_verify
+ * does. It wipes the state in either case, so copy the state first to try another tag. All bytes of
+ * a tag of the right length are compared. The state is unchanged if it was not ready, or if tag is
+ * null and taglen is not 0. */
+VULFSJOR_MUST_USE static inline int vulfsjor_blake2sp_verify(vulfsjor_blake2sp_state *S,
+                                                             const void *tag, size_t taglen) {
+    if (!S || (!tag && taglen)) return -1;
+    return vulfsjor_ffi_blake2sp_verify(S, vulfsjor_text(tag), taglen);
+}
+
+/* Discards all input. Digest length, key, salt and personalization are kept. Returns -1 if the
+ * state is not ready. */
+static inline int vulfsjor_blake2sp_reset(vulfsjor_blake2sp_state *S) {
+    if (!S) return -1;
+    return vulfsjor_ffi_blake2sp_reset(S);
+}
+
+/* Sets every byte of the state to zero, whether it is ready or not. Does nothing if S is null. */
+static inline void vulfsjor_blake2sp_wipe(vulfsjor_blake2sp_state *S) {
+    if (S) vulfsjor_ffi_blake2sp_wipe(S);
+}
+
+/* Returns the length of the state's digest, 1 to 32; 0 if the state is null or not ready. */
+static inline size_t vulfsjor_blake2sp_digest_size(const vulfsjor_blake2sp_state *S) {
+    return S ? vulfsjor_ffi_blake2sp_digest_size(S) : 0;
+}
+
+/* Returns the number of bytes of input absorbed since the init or the last reset; 0 if the state is
+ * null or not ready. */
+static inline uint64_t vulfsjor_blake2sp_count(const vulfsjor_blake2sp_state *S) {
+    return S ? vulfsjor_ffi_blake2sp_count(S) : 0;
+}
+
+/* Writes the BLAKE2sp digest of the input to out: outlen bytes, 1 to 32, under a key of 0 to 32
+ * bytes; without a key keylen is 0. Returns -1 and writes nothing if a length is out of range, or
+ * if the input and 512 bytes for a key have 2^64 bytes or more. */
+VULFSJOR_MUST_USE static inline int vulfsjor_blake2sp(void *out, size_t outlen, const void *in,
+                                                      size_t inlen, const void *key,
+                                                      size_t keylen) {
+    if (!out || (!in && inlen) || (!key && keylen)) return -1;
+    return vulfsjor_ffi_blake2sp(vulfsjor_bytes(out), outlen, vulfsjor_text(in), inlen,
+                                 vulfsjor_text(key), keylen);
+}
+
 /* -- The tree of two levels over BLAKE2b (the BLAKE2 document, 2.10). The message is cut into
  * leaves of leaf_length bytes, the last of which may be shorter. The root hashes their digests of
  * 64 bytes. All nodes have the salt and the personalization, fanout 0, depth 2, this leaf length
@@ -983,13 +1275,13 @@ static inline int vulfsjor_tree_init_root(vulfsjor_blake2b_state *S, size_t outl
  *   memcmp                         the bytes differ
  *   bin2hex                        outlen is less than 2 * inlen + 1
  *   hex2bin                        hexlen is not 2 * outlen, or a character is not a digit
- *   BLAKE2b and BLAKE2s:
+ *   BLAKE2b and BLAKE2s, and of these calls those that BLAKE2bp and BLAKE2sp have:
  *   _init, _init_salt_personal,    an argument that _refused returns
  *   _init_tree
  *   _init_key                      an argument that _refused returns, or a key of 0 bytes
  *   _init_param                    a field that _param_refused returns
  *   the hash in one call           an argument that _refused returns, or input and a key's block of
- *                                  2^64 bytes or more
+ *                                  2^64 bytes or more (BLAKE2bp and BLAKE2sp: 512 bytes for a key)
  *   _many                          the same of any message, or one with null bytes, which
  *                                  vulfsjor_null_message returns
  *   _update                        the state is not ready (_digest_size returns 0 for it), or it
@@ -1136,6 +1428,44 @@ static inline vulfsjor_argument vulfsjor_blake2s_param_refused(const vulfsjor_bl
     one.key_length = 0;
     if (vulfsjor_blake2s_init_param(&S, &one)) return VULFSJOR_ARGUMENT_OUTLEN;
     return vulfsjor_blake2s_init_param(&S, P) ? VULFSJOR_ARGUMENT_KEY : VULFSJOR_ARGUMENT_NONE;
+}
+
+/* Returns the first of these arguments, in this order, that an init of BLAKE2bp refuses, or
+ * VULFSJOR_ARGUMENT_NONE. They are those of vulfsjor_blake2bp_init_salt_personal. */
+static inline vulfsjor_argument vulfsjor_blake2bp_refused(size_t outlen, const void *key,
+                                                           size_t keylen, const void *salt,
+                                                           size_t saltlen, const void *personal,
+                                                           size_t personallen) {
+    vulfsjor_blake2bp_state S;
+    int refused;
+    if (vulfsjor_blake2bp_init(&S, outlen)) return VULFSJOR_ARGUMENT_OUTLEN;
+    refused = vulfsjor_blake2bp_init_salt_personal(&S, 1, key, keylen, salt, 0, personal, 0);
+    vulfsjor_blake2bp_wipe(&S);
+    if (refused) return VULFSJOR_ARGUMENT_KEY;
+    if (vulfsjor_blake2bp_init_salt_personal(&S, 1, key, 0, salt, saltlen, personal, 0))
+        return VULFSJOR_ARGUMENT_SALT;
+    if (vulfsjor_blake2bp_init_salt_personal(&S, 1, key, 0, salt, 0, personal, personallen))
+        return VULFSJOR_ARGUMENT_PERSONAL;
+    return VULFSJOR_ARGUMENT_NONE;
+}
+
+/* Returns the first of these arguments, in this order, that an init of BLAKE2sp refuses, or
+ * VULFSJOR_ARGUMENT_NONE. They are those of vulfsjor_blake2sp_init_salt_personal. */
+static inline vulfsjor_argument vulfsjor_blake2sp_refused(size_t outlen, const void *key,
+                                                           size_t keylen, const void *salt,
+                                                           size_t saltlen, const void *personal,
+                                                           size_t personallen) {
+    vulfsjor_blake2sp_state S;
+    int refused;
+    if (vulfsjor_blake2sp_init(&S, outlen)) return VULFSJOR_ARGUMENT_OUTLEN;
+    refused = vulfsjor_blake2sp_init_salt_personal(&S, 1, key, keylen, salt, 0, personal, 0);
+    vulfsjor_blake2sp_wipe(&S);
+    if (refused) return VULFSJOR_ARGUMENT_KEY;
+    if (vulfsjor_blake2sp_init_salt_personal(&S, 1, key, 0, salt, saltlen, personal, 0))
+        return VULFSJOR_ARGUMENT_SALT;
+    if (vulfsjor_blake2sp_init_salt_personal(&S, 1, key, 0, salt, 0, personal, personallen))
+        return VULFSJOR_ARGUMENT_PERSONAL;
+    return VULFSJOR_ARGUMENT_NONE;
 }
 
 /* Returns the first argument, in this order, that vulfsjor_tree_init with these arguments refuses,

@@ -3,7 +3,7 @@
  * c/join.sh puts them and the library into libvulfsjor-libb2.a. They are those of
  * ../include/libb2/blake2.h, for linking, and have the same states.
  *
- * c/LIBB2.md lists the differences from libb2. blake2sp and blake2bp are not here. */
+ * c/LIBB2.md lists the differences from libb2. */
 #include "../include/vulfsjor.h"
 
 #pragma GCC visibility push(hidden)

@@ -6,6 +6,7 @@
  *   cc -std=c99 -Wall -Wextra -Wpedantic -Werror -I FOLDER/include
  *       -I FOLDER/include/vulfsjor-libb2 passes.c -o passes
  *   cc the same with -DTEST_S                the same for BLAKE2s, without the tree
+ *   cc the same with -DTEST_P                the same for BLAKE2bp, or BLAKE2sp with both
  *   cc the same with -DCHOOSE_ONE=passes -DCHOOSE_FUNCTIONS='"calls.h"'
  *                                            the same through calls.h, as on Windows and macOS: the
  *                                            functions of this file stand for the assembly */
@@ -66,29 +67,20 @@ static int wipes;
 #define BYTES(name) const uint8_t *name, size_t name##_length
 #define OUT uint8_t *o, size_t n
 #define MORE BYTES(s), BYTES(p)
+/* The functions of each family, and those that BLAKE2bp and BLAKE2sp do not have. */
 #define FAMILY_NOTES(x)                                                                            \
     NOTE(int32_t, vulfsjor_ffi_##x, 6, (OUT, BYTES(i), BYTES(k)),                                  \
          (o, n, i, i_length, k, k_length))                                                         \
-    NOTE(int32_t, vulfsjor_ffi_##x##_many, 11,                                                     \
-         (OUT, size_t z, const vulfsjor_message *m, size_t c, BYTES(k), MORE),                     \
-         (o, n, z, m, c, k, k_length, s, s_length, p, p_length))                                   \
     NOTE(int32_t, vulfsjor_ffi_##x##_init_salt_personal, 8,                                        \
          (vulfsjor_##x##_state * S, size_t n, BYTES(k), MORE),                                     \
          (S, n, k, k_length, s, s_length, p, p_length))                                            \
     NOTE(int32_t, vulfsjor_ffi_##x##_init_key, 4, (vulfsjor_##x##_state * S, size_t n, BYTES(k)),  \
          (S, n, k, k_length))                                                                      \
-    NOTE(int32_t, vulfsjor_ffi_##x##_init_tree, 9,                                                 \
-         (vulfsjor_##x##_state * S, size_t n, BYTES(k), MORE, const vulfsjor_tree *t),             \
-         (S, n, k, k_length, s, s_length, p, p_length, t))                                         \
-    NOTE(int32_t, vulfsjor_ffi_##x##_init_param, 3, (vulfsjor_##x##_state * S, BYTES(b)),          \
-         (S, b, b_length))                                                                         \
     NOTE(int32_t, vulfsjor_ffi_##x##_update, 3, (vulfsjor_##x##_state * S, BYTES(i)),              \
          (S, i, i_length))                                                                         \
     NOTE(int32_t, vulfsjor_ffi_##x##_final, 3, (vulfsjor_##x##_state * S, OUT), (S, o, n))         \
     NOTE(int32_t, vulfsjor_ffi_##x##_verify, 3, (vulfsjor_##x##_state * S, BYTES(t)),              \
          (S, t, t_length))                                                                         \
-    NOTE(int32_t, vulfsjor_ffi_##x##_set_last_node, 2, (vulfsjor_##x##_state * S, uint32_t on),    \
-         (S, on))                                                                                  \
     NOTE(int32_t, vulfsjor_ffi_##x##_reset, 1, (vulfsjor_##x##_state * S), (S))                    \
     NOTE(size_t, vulfsjor_ffi_##x##_digest_size, 1, (const vulfsjor_##x##_state *S), (S))          \
     NOTE(uint64_t, vulfsjor_ffi_##x##_count, 1, (const vulfsjor_##x##_state *S), (S))              \
@@ -97,8 +89,23 @@ static int wipes;
         wipes++;                                                                                   \
         note("vulfsjor_ffi_" #x "_wipe", 1, (const uint64_t[]){Z(S)});                             \
     }
+#define MORE_NOTES(x)                                                                              \
+    NOTE(int32_t, vulfsjor_ffi_##x##_many, 11,                                                     \
+         (OUT, size_t z, const vulfsjor_message *m, size_t c, BYTES(k), MORE),                     \
+         (o, n, z, m, c, k, k_length, s, s_length, p, p_length))                                   \
+    NOTE(int32_t, vulfsjor_ffi_##x##_init_tree, 9,                                                 \
+         (vulfsjor_##x##_state * S, size_t n, BYTES(k), MORE, const vulfsjor_tree *t),             \
+         (S, n, k, k_length, s, s_length, p, p_length, t))                                         \
+    NOTE(int32_t, vulfsjor_ffi_##x##_init_param, 3, (vulfsjor_##x##_state * S, BYTES(b)),          \
+         (S, b, b_length))                                                                         \
+    NOTE(int32_t, vulfsjor_ffi_##x##_set_last_node, 2, (vulfsjor_##x##_state * S, uint32_t on),    \
+         (S, on))
 FAMILY_NOTES(blake2b)
 FAMILY_NOTES(blake2s)
+FAMILY_NOTES(blake2bp)
+FAMILY_NOTES(blake2sp)
+MORE_NOTES(blake2b)
+MORE_NOTES(blake2s)
 
 NOTE(int32_t, vulfsjor_ffi_memcmp, 4, (BYTES(a), BYTES(b)), (a, a_length, b, b_length))
 NOTE(int32_t, vulfsjor_ffi_tree_root, 9, (OUT, BYTES(i), MORE, uint32_t l),
@@ -179,14 +186,23 @@ static int is_call(const char *name, size_t count, const uint64_t *wanted) {
 /* The inline function has the name and the arguments of that of the library. */
 #define SAME(x, n, arguments) PASSES(vulfsjor_##x arguments, "vulfsjor_ffi_" #x, n, arguments)
 
-#ifdef TEST_S
-#define NAME(name) "vulfsjor_ffi_blake2s_" #name
-#define WHOLE "vulfsjor_ffi_blake2s"
+#ifdef TEST_P
+#define REFUSED(...) BLAKE(refused)(__VA_ARGS__)
+#else
+#define REFUSED(...) BLAKE(refused)(__VA_ARGS__, NULL)
+#endif
+#define WHOLE "vulfsjor_ffi_blake2" FAMILY
+#define NAME(name) WHOLE "_" #name
+#if defined(TEST_S) && defined(TEST_P)
+#define B(name) blake2sp_##name
+#define HASH blake2sp
+#elif defined(TEST_P)
+#define B(name) blake2bp_##name
+#define HASH blake2bp
+#elif defined(TEST_S)
 #define B(name) blake2s_##name
 #define HASH blake2s
 #else
-#define NAME(name) "vulfsjor_ffi_blake2b_" #name
-#define WHOLE "vulfsjor_ffi_blake2b"
 #define B(name) blake2b_##name
 #define HASH blake2b
 #endif
@@ -198,11 +214,8 @@ static int is_call(const char *name, size_t count, const uint64_t *wanted) {
 #define L4 (~(size_t)0)
 static uint8_t in[1], out[1], key[1], salt[1], persona[1];
 static state_t state;
-static const vulfsjor_tree place = {~(uint64_t)1, ~(uint32_t)2, 3, 4, 5, 6};
 
 static void inits(void) {
-    param_t param = {0};
-
     PASSES(BLAKE(init)(&state, L1), NAME(init_salt_personal), 8,
            (&state, L1, ANY, 0, ANY, 0, ANY, 0));
     PASSES(BLAKE(init_key)(&state, L1, key, L2), NAME(init_key), 4, (&state, L1, key, L2));
@@ -210,20 +223,29 @@ static void inits(void) {
            NAME(init_salt_personal), 8, (&state, L1, key, L2, salt, L3, persona, L4));
     PASSES(BLAKE(init_salt_personal)(&state, L1, 0, 0, 0, 0, 0, 0), NAME(init_salt_personal), 8,
            (&state, L1, ANY, 0, ANY, 0, ANY, 0));
+}
+
+#ifndef TEST_P
+static void nodes_and_messages(void) {
+    static const vulfsjor_tree place = {~(uint64_t)1, ~(uint32_t)2, 3, 4, 5, 6};
+    vulfsjor_message messages[3] = {{in, L1}, {in, L2}, {in, 0}};
+    param_t param = {0};
+
     PASSES(BLAKE(init_tree)(&state, L1, key, L2, salt, L3, persona, L4, &place), NAME(init_tree),
            9, (&state, L1, key, L2, salt, L3, persona, L4, &place));
     PASSES(BLAKE(init_param)(&state, &param), NAME(init_param), 3, (&state, &param, MAX));
+    PASSES(BLAKE(set_last_node)(&state, -2), NAME(set_last_node), 2, (&state, 1));
+    PASSES(BLAKE(set_last_node)(&state, 0), NAME(set_last_node), 2, (&state, 0));
+    PASSES(BLAKE(many)(out, L3 / 4, messages, 3, key, L1, salt, L2, persona, L4), NAME(many), 11,
+           (out, L3 / 4 * 3, L3 / 4, messages, 3, key, L1, salt, L2, persona, L4));
 }
+#endif
 
 static void calls(void) {
-    vulfsjor_message messages[3] = {{in, L1}, {in, L2}, {in, 0}};
-
     PASSES(BLAKE(update)(&state, in, L1), NAME(update), 3, (&state, in, L1));
     PASSES(BLAKE(update)(&state, NULL, 0), NAME(update), 3, (&state, ANY, 0));
     PASSES(BLAKE(final)(&state, out, L1), NAME(final), 3, (&state, out, L1));
     PASSES(BLAKE(verify)(&state, in, L2), NAME(verify), 3, (&state, in, L2));
-    PASSES(BLAKE(set_last_node)(&state, -2), NAME(set_last_node), 2, (&state, 1));
-    PASSES(BLAKE(set_last_node)(&state, 0), NAME(set_last_node), 2, (&state, 0));
     PASSES(BLAKE(reset)(&state), NAME(reset), 1, (&state));
     COUNTS(size_t, BLAKE(digest_size)(&state), NAME(digest_size), 1, (&state));
     COUNTS(uint64_t, BLAKE(count)(&state), NAME(count), 1, (&state));
@@ -232,10 +254,8 @@ static void calls(void) {
     CHECK(is_call(NAME(wipe), 1, (const uint64_t[]){Z(&state)}));
     last.answer = 0;
     wipes = 0; /* the scratch state of the key is wiped */
-    CHECK(!BLAKE(refused)(1, key, 1, 0, 0, 0, 0, 0) && wipes == 1);
+    CHECK(!REFUSED(1, key, 1, 0, 0, 0, 0) && wipes == 1);
     PASSES(ONE_CALL(out, L1, in, L2, key, L3), WHOLE, 6, (out, L1, in, L2, key, L3));
-    PASSES(BLAKE(many)(out, L3 / 4, messages, 3, key, L1, salt, L2, persona, L4), NAME(many), 11,
-           (out, L3 / 4 * 3, L3 / 4, messages, 3, key, L1, salt, L2, persona, L4));
 }
 
 /* The same for a call by one of libb2's names, which wipes its copy of the state afterwards. */
@@ -252,25 +272,27 @@ static void calls(void) {
 
 /* The names of libb2. */
 static void names_of_libb2(void) {
-    param_t param = {0};
     B(state) other = {0};
     uint8_t digest[MAX];
 
     COPIES(B(init)(&other, L1), NAME(init_salt_personal), 8, (ANY, L1, ANY, 0, ANY, 0, ANY, 0));
     COPIES(B(init_key)(&other, L1, key, L2), NAME(init_key), 4, (ANY, L1, key, L2));
+#ifndef TEST_P
+    param_t param = {0};
     COPIES(B(init_param)(&other, &param), NAME(init_param), 3, (ANY, &param, MAX));
+#endif
     COPIES(B(update)(&other, in, L1), NAME(update), 3, (ANY, in, L1));
+    COPIES((other.outlen = MAX, B(final)(&other, out, MAX)), NAME(final), 3, (ANY, out, MAX));
     other.outlen = MAX;
-    COPIES(B(final)(&other, out, MAX), NAME(final), 3, (ANY, out, MAX));
     CHECK(B(final)(&other, out, L1 + MAX - 1) == -1 && !last.name);
     PASSES(HASH(digest, in, key, MAX, L1, L2), WHOLE, 6, (ANY, MAX, in, L1, key, L2));
     CHECK(HASH(digest, in, key, L1, 1, 1) == -1 && !last.name);
-#ifndef TEST_S
+#if !defined(TEST_S) && !defined(TEST_P)
     PASSES(blake2(digest, in, key, MAX, L1, L2), WHOLE, 6, (ANY, MAX, in, L1, key, L2));
 #endif
 }
 
-#ifndef TEST_S
+#if !defined(TEST_S) && !defined(TEST_P)
 static void trees(void) {
     vulfsjor_tree_state tree;
     const uint32_t leaf = ~(uint32_t)6;
@@ -324,9 +346,12 @@ static void trees(void) {
 
 int main(void) {
     inits();
+#ifndef TEST_P
+    nodes_and_messages();
+#endif
     calls();
     names_of_libb2();
-#ifndef TEST_S
+#if !defined(TEST_S) && !defined(TEST_P)
     trees();
 #endif
     fprintf(stderr, "%d checks, %d failures\n", checks, fails);

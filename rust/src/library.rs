@@ -32,6 +32,8 @@ macro_rules! state {
 
 state!(Blake2bState, 53);
 state!(Blake2sState, 29);
+state!(Blake2bpState, 204);
+state!(Blake2spState, 200);
 state!(TreeState, 114);
 
 // One of several messages: `vulfsjor_message` of the header.
@@ -373,6 +375,62 @@ functions! {
     fn blake2s_count(state: &Blake2sState) -> u64;
     #[cfg(test)]
     fn blake2s_state_size() -> usize;
+
+    fn blake2bp(
+        out: *mut u8,
+        out_length: usize,
+        input: *const u8,
+        input_length: usize,
+        key: *const u8,
+        key_length: usize,
+    ) -> i32;
+    fn blake2bp_init_salt_personal(
+        state: &mut Blake2bpState,
+        output_size: usize,
+        key: *const u8,
+        key_length: usize,
+        salt: *const u8,
+        salt_length: usize,
+        persona: *const u8,
+        persona_length: usize,
+    ) -> i32;
+    fn blake2bp_update(state: &mut Blake2bpState, input: *const u8, input_length: usize) -> i32;
+    fn blake2bp_final(state: &mut Blake2bpState, out: *mut u8, out_length: usize) -> i32;
+    fn blake2bp_verify(state: &mut Blake2bpState, tag: *const u8, tag_length: usize) -> i32;
+    fn blake2bp_reset(state: &mut Blake2bpState) -> i32;
+    fn blake2bp_wipe(state: &mut Blake2bpState);
+    fn blake2bp_digest_size(state: &Blake2bpState) -> usize;
+    fn blake2bp_count(state: &Blake2bpState) -> u64;
+    #[cfg(test)]
+    fn blake2bp_state_size() -> usize;
+
+    fn blake2sp(
+        out: *mut u8,
+        out_length: usize,
+        input: *const u8,
+        input_length: usize,
+        key: *const u8,
+        key_length: usize,
+    ) -> i32;
+    fn blake2sp_init_salt_personal(
+        state: &mut Blake2spState,
+        output_size: usize,
+        key: *const u8,
+        key_length: usize,
+        salt: *const u8,
+        salt_length: usize,
+        persona: *const u8,
+        persona_length: usize,
+    ) -> i32;
+    fn blake2sp_update(state: &mut Blake2spState, input: *const u8, input_length: usize) -> i32;
+    fn blake2sp_final(state: &mut Blake2spState, out: *mut u8, out_length: usize) -> i32;
+    fn blake2sp_verify(state: &mut Blake2spState, tag: *const u8, tag_length: usize) -> i32;
+    fn blake2sp_reset(state: &mut Blake2spState) -> i32;
+    fn blake2sp_wipe(state: &mut Blake2spState);
+    fn blake2sp_digest_size(state: &Blake2spState) -> usize;
+    fn blake2sp_count(state: &Blake2spState) -> u64;
+    #[cfg(test)]
+    fn blake2sp_state_size() -> usize;
 
     fn memcmp(a: *const u8, a_length: usize, b: *const u8, b_length: usize) -> i32;
 

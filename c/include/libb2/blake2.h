@@ -6,7 +6,8 @@
  *
  * A state has libb2's fields, size and alignment, and each call copies it. So code that was
  * compiled with this header, code that was compiled with libb2's own, and the functions of
- * libvulfsjor-libb2.a may share a state.
+ * libvulfsjor-libb2.a may share a state. A state of BLAKE2bp or BLAKE2sp has other contents than
+ * libb2's, so libb2's functions and these cannot continue each other's.
  *
  * Stricter than libb2:
  *   - Null pointers: libb2 ends the program for most of them; here the call returns -1. So does an
@@ -16,8 +17,7 @@
  *   - init_param returns -1 for a digest of 0 bytes or of more than 64 (BLAKE2s: 32), and for a key
  *     of more than 64 (32). libb2 accepts them.
  *
- * Not here: blake2sp, blake2bp, BLAKE2_API, and the tags of libb2's structs. c/LIBB2.md of the
- * repository has the complete list. */
+ * c/LIBB2.md of the repository has the complete list of differences. */
 #ifndef VULFSJOR_LIBB2_BLAKE2_H
 #define VULFSJOR_LIBB2_BLAKE2_H
 
@@ -39,19 +39,37 @@ enum blake2b_constant {
     BLAKE2B_PERSONALBYTES = 16
 };
 
+/* The structs have libb2's tags too. */
+#define __blake2b_param vulfsjor_blake2b_param
+#define __blake2s_param vulfsjor_blake2s_param
 typedef vulfsjor_blake2b_param blake2b_param;
 typedef vulfsjor_blake2s_param blake2s_param;
+
+/* What libb2 puts before its declarations. */
+#define BLAKE2_API
 
 /* How the functions are declared: libb2/libb2.c of the repository defines them for linking. */
 #ifndef VULFSJOR_LIBB2_FUNCTION
 #define VULFSJOR_LIBB2_FUNCTION static inline
 #endif
 
+/* The hash in one call of a family. It writes the digest of the input to out, which may overlap the
+ * input and the key. Returns -1 and writes nothing if a length is out of range. */
+#define VULFSJOR_LIBB2_ONE_CALL(x, longest)                                                        \
+    VULFSJOR_LIBB2_FUNCTION int x(uint8_t *out, const void *in, const void *key, size_t outlen,    \
+                                  size_t inlen, size_t keylen) {                                   \
+        uint8_t digest[longest];                                                                   \
+        if (!out || outlen > sizeof digest) return -1;                                             \
+        if (vulfsjor_##x(digest, outlen, in, inlen, key, keylen)) return -1;                       \
+        memcpy(out, digest, outlen);                                                               \
+        return 0;                                                                                  \
+    }
+
 /* The functions of one family, named x, with words of this type, and a state of `size` bytes.
  * libb2's counter has two words, which are one number with the low bytes first; 64 bits are in
  * use. */
 #define VULFSJOR_LIBB2_FAMILY(x, word, block, longest, size)                                       \
-    typedef struct __attribute__((packed)) x##_state {                                             \
+    typedef struct __attribute__((packed)) __##x##_state {                                         \
         word h[8], t[2], f[2];                                                                     \
         uint8_t buf[2 * block];                                                                    \
         uint32_t buflen;                                                                           \
@@ -120,20 +138,63 @@ typedef vulfsjor_blake2s_param blake2s_param;
         vulfsjor_libb2_##x##_load(&run, S);                                                        \
         return vulfsjor_libb2_##x##_store(S, &run, vulfsjor_##x##_final(&run, out, outlen), 1);    \
     }                                                                                              \
+    VULFSJOR_LIBB2_ONE_CALL(x, longest)
+
+/* The functions of BLAKE2bp or BLAKE2sp, named x, with a state of `size` bytes. Our state is at its
+ * beginning, and `outlen` is libb2's. */
+#define VULFSJOR_LIBB2_PARALLEL(x, leaf, leaves, block, longest, size)                             \
+    typedef struct __attribute__((packed)) __##x##_state {                                         \
+        leaf##_state S[leaves][1], R[1];                                                           \
+        uint8_t buf[leaves * block];                                                               \
+        uint32_t buflen;                                                                           \
+        uint8_t outlen;                                                                            \
+    } x##_state;                                                                                   \
+    typedef char vulfsjor_libb2_##x##_layout[sizeof(x##_state) == size &&                          \
+                                             sizeof(vulfsjor_##x##_state) < size ? 1 : -1];        \
                                                                                                    \
-    /* Writes the digest of the input to out, which may overlap the input and the key. Returns -1  \
-     * and writes nothing if a length is out of range. */                                          \
-    VULFSJOR_LIBB2_FUNCTION int x(uint8_t *out, const void *in, const void *key, size_t outlen,    \
-                                  size_t inlen, size_t keylen) {                                   \
-        uint8_t digest[longest];                                                                   \
-        if (!out || outlen > sizeof digest) return -1;                                             \
-        if (vulfsjor_##x(digest, outlen, in, inlen, key, keylen)) return -1;                       \
-        memcpy(out, digest, outlen);                                                               \
-        return 0;                                                                                  \
-    }
+    /* Copies our state back, unless a call failed that leaves it unchanged, and wipes ours. */    \
+    static inline int vulfsjor_libb2_##x##_store(x##_state *S, vulfsjor_##x##_state *run,          \
+                                                 int status, int goes_on) {                        \
+        if (!status || !goes_on) {                                                                 \
+            memset(S, 0, sizeof *S);                                                               \
+            memcpy(S, run, sizeof *run);                                                           \
+            S->outlen = VULFSJOR_CAST(uint8_t, run->output_size);                                  \
+        }                                                                                          \
+        vulfsjor_##x##_wipe(run);                                                                  \
+        return status;                                                                             \
+    }                                                                                              \
+                                                                                                   \
+    VULFSJOR_LIBB2_FUNCTION int x##_init(x##_state *S, size_t outlen) {                            \
+        vulfsjor_##x##_state run;                                                                  \
+        if (!S) return -1;                                                                         \
+        return vulfsjor_libb2_##x##_store(S, &run, vulfsjor_##x##_init(&run, outlen), 0);          \
+    }                                                                                              \
+    VULFSJOR_LIBB2_FUNCTION int x##_init_key(x##_state *S, size_t outlen, const void *key,         \
+                                             size_t keylen) {                                      \
+        vulfsjor_##x##_state run;                                                                  \
+        if (!S) return -1;                                                                         \
+        return vulfsjor_libb2_##x##_store(                                                         \
+            S, &run, vulfsjor_##x##_init_key(&run, outlen, key, keylen), 0);                       \
+    }                                                                                              \
+    VULFSJOR_LIBB2_FUNCTION int x##_update(x##_state *S, const uint8_t *in, size_t inlen) {        \
+        vulfsjor_##x##_state run;                                                                  \
+        if (!S) return -1;                                                                         \
+        memcpy(&run, S, sizeof run);                                                               \
+        return vulfsjor_libb2_##x##_store(S, &run, vulfsjor_##x##_update(&run, in, inlen), 1);     \
+    }                                                                                              \
+    VULFSJOR_LIBB2_FUNCTION int x##_final(x##_state *S, uint8_t *out, size_t outlen) {             \
+        vulfsjor_##x##_state run;                                                                  \
+        if (!S || outlen != S->outlen) return -1;                                                  \
+        memcpy(&run, S, sizeof run);                                                               \
+        return vulfsjor_libb2_##x##_store(S, &run, vulfsjor_##x##_final(&run, out, outlen), 1);    \
+    }                                                                                              \
+    VULFSJOR_LIBB2_ONE_CALL(x, longest)
 
 VULFSJOR_LIBB2_FAMILY(blake2b, uint64_t, BLAKE2B_BLOCKBYTES, BLAKE2B_OUTBYTES, 358)
 VULFSJOR_LIBB2_FAMILY(blake2s, uint32_t, BLAKE2S_BLOCKBYTES, BLAKE2S_OUTBYTES, 182)
+
+VULFSJOR_LIBB2_PARALLEL(blake2bp, blake2b, 4, BLAKE2B_BLOCKBYTES, BLAKE2B_OUTBYTES, 2307)
+VULFSJOR_LIBB2_PARALLEL(blake2sp, blake2s, 8, BLAKE2S_BLOCKBYTES, BLAKE2S_OUTBYTES, 2155)
 
 /* The same as blake2b. */
 static inline int blake2(uint8_t *out, const void *in, const void *key, size_t outlen, size_t inlen,

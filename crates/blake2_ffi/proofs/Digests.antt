@@ -1,7 +1,7 @@
 -- Digests that are written one after the other.
 use Rattle.std.proofs.Common.{◌≡◌, ℕ, zero, suc, ◌+◌, ◌-◌, ◌*◌, ◌≤◌, List, [], ◌∷◌, ◌++◌, length}
 use Rattle.std.proofs.Common.{map, take, drop, slice_index_or, refl, sym, ap, ap₂, ◌∙◌, append-nil}
-use Rattle.std.proofs.Common.{append_assoc, length-append, arith}
+use Rattle.std.proofs.Common.{append_assoc, length-append, arith, Bool, false}
 use Rattle.std.specs.List.{concat, flat_map}
 use Rattle.std.proofs.lemmas.Grind.{flat_map-append}
 use Rattle.std.proofs.lemmas.List.{take-append-drop, take-take, drop-take, take_all, drop_all}
@@ -9,6 +9,7 @@ use Rattle.std.proofs.lemmas.List.{take_at, drop_at, drop-drop, length-drop}
 use Rattle.std.proofs.lemmas.Nat.{mul-le}
 use borrow.Rule.Slice.PartMut.{put_mid}
 use Rattle.blake2_simd.proofs.Lanes.{lanes}
+use Rattle.blake2_digest.specs.States.{Fresh, Meaning, Updated, digest_now}
 
 -- What a list maps to, one after the other.
 flat_is : {X : Type 0} (g : X → List ℕ) (xs : List X) → flat_map g xs ≡ concat (map g xs)
@@ -89,3 +90,16 @@ more_written g n done k xs was out new within room long begun written =
     (written ∙ ap (λ l. flat_map g (take k l)
     ++ drop (k * n) (take (length out - done * n) (drop (done * n) out))) whole)
     ∙ ap₂ (λ l m. l ++ drop m was) (sym (flat_more g done k xs)) at
+
+-- The digest of a message is written in all bytes: that of a new state which has absorbed it.
+pub whole_written : {S : Type 0} (m : Meaning S) (digest : Bool → List ℕ → List ℕ)
+    (count size : ℕ) (made after : S) (input was : List ℕ) {new : List ℕ}
+    → Fresh m digest count made → Updated m made input after → size ≡ length was
+    → new ≡ digest_now m after ++ drop size was → new ≡ digest false input
+whole_written m digest count size made after input was fresh updated long written =
+    let flag : m.last_node after ≡ false = updated.last_node ∙ fresh.last_node in
+    let now : digest_now m after ≡ digest false input =
+    ap (λ (on : Bool). m.future after on []) flag ∙ updated.future false []
+    ∙ fresh.future false (input ++ []) ∙ ap (digest false) (append-nil input) in
+    let rest : drop size was ≡ [] = drop_all size was (omega (arith, long)) in
+    written ∙ (λ i. now i ++ rest i) ∙ append-nil (digest false input)

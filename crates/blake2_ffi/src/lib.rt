@@ -1,7 +1,7 @@
-//! BLAKE2b and BLAKE2s (RFC 7693) as a static library for C: the digest of a message in one call,
-//! or step by step with a state that the caller keeps. `c/include/vulfsjor.h` declares these
-//! functions and says what a caller must guarantee. C programs use the functions `vulfsjor_*` of
-//! that header, which accept null pointers too.
+//! BLAKE2b and BLAKE2s (RFC 7693), BLAKE2bp and BLAKE2sp as a static library for C: the digest of a
+//! message in one call, or step by step with a state that the caller keeps. `c/include/vulfsjor.h`
+//! declares these functions and says what a caller must guarantee. C programs use the functions
+//! `vulfsjor_*` of that header, which accept null pointers too.
 //!
 //! No pointer is null, not even that of no bytes. A buffer is a pointer and its length in bytes.
 //! What a function writes overlaps none of its other arguments. A state is memory of written
@@ -15,7 +15,9 @@ ghost use Rattle.blake2_ffi.specs.Status.{Returns};
 ghost use Rattle.blake2_ffi.specs.Trees.{given_tree};
 
 mod blake2b;
+mod blake2bp;
 mod blake2s;
+mod blake2sp;
 mod many;
 mod plans;
 mod trees;
