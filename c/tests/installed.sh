@@ -52,8 +52,11 @@ needs_sanitizers() {
     links "${sanitizers[@]}" && "$work/linked" || missing="cc has none"
 }
 
-# The words of a test program for a family.
-family_words() { [ "$1" = s ] && echo -DTEST_S; }
+# The words of a test program for a family: b, s, bp or sp.
+family_words() {
+    [[ $1 != s* ]] || echo -DTEST_S
+    [[ $1 != *p ]] || echo -DTEST_P
+}
 
 # The words for a program over a library of this name.
 words_for() {
@@ -75,7 +78,8 @@ write_cases() {
     mkdir "$cases"
     for family in b s; do
         python3 "$top/tests/vectors.py" --lines $family >"$work/lines" &&
-            grep '^[hnrt] ' "$work/lines" >"$cases/$family" || return 1
+            grep '^[hnrt] ' "$work/lines" >"$cases/$family" &&
+            grep '^p ' "$work/lines" >"$cases/${family}p" || return 1
     done
 }
 

@@ -7,6 +7,7 @@
  *
  *   cc -std=gnu99 -O2 -Wl,-z,now -I FOLDER/include key_scan.c ARCHIVE -o key_scan
  *   cc the same with -DTEST_S       the same of BLAKE2s
+ *   cc the same with -DTEST_P       the same of BLAKE2bp, or of BLAKE2sp with both
  *   cc the same with -DLIBB2_NAMES and ARCHIVE-libb2        the calls by libb2's names
  *
  * With -z now no call goes by the dynamic linker, which would save vector registers on the
@@ -67,25 +68,35 @@ static int call_final(void) { return BLAKE(final)(&state, out, MAX); }
 static int call_one_call(void) { return BLAKE2(out, message, key, MAX, length, MAX); }
 #else
 static uint8_t salt[2 * MAX];
-static vulfsjor_tree tree = {3, 4096, 2, 2, 0, MAX}, no_tree = {3, 4096, 2, 0, 0, MAX};
 
 static int call_init_salt(void) {
     return BLAKE(init_salt_personal)(&state, MAX, key, MAX, salt, MAX / 4, salt, MAX / 4);
-}
-
-static int call_init_tree(void) {
-    return BLAKE(init_tree)(&state, MAX, key, MAX, salt, MAX / 4, salt, MAX / 4, &tree);
 }
 
 static int call_refused_salt(void) {
     return !BLAKE(init_salt_personal)(&state, MAX, key, MAX, salt, MAX / 4 + 1, salt, 0);
 }
 
+static int call_one_call(void) { return ONE_CALL(out, MAX, message, length, key, MAX); }
+
+#ifdef TEST_P
+static int call_refused(void) {
+    return BLAKE(refused)(MAX, key, MAX, salt, MAX / 4, salt, MAX) != VULFSJOR_ARGUMENT_PERSONAL;
+}
+
+static int call_refused_null(void) {
+    return BLAKE(refused)(MAX, key, MAX, NULL, 1, NULL, 0) != VULFSJOR_ARGUMENT_SALT;
+}
+#else
+static vulfsjor_tree tree = {3, 4096, 2, 2, 0, MAX}, no_tree = {3, 4096, 2, 0, 0, MAX};
+
+static int call_init_tree(void) {
+    return BLAKE(init_tree)(&state, MAX, key, MAX, salt, MAX / 4, salt, MAX / 4, &tree);
+}
+
 static int call_refused_depth(void) {
     return !BLAKE(init_tree)(&state, MAX, key, MAX, salt, 0, salt, 0, &no_tree);
 }
-
-static int call_one_call(void) { return ONE_CALL(out, MAX, message, length, key, MAX); }
 
 static int call_refused(void) {
     return BLAKE(refused)(MAX, key, MAX, salt, MAX / 4, salt, MAX / 4, &no_tree) !=
@@ -109,6 +120,7 @@ static int call_many_more(void) {
 }
 
 static int call_set_last_node(void) { return BLAKE(set_last_node)(&state, 1); }
+#endif
 
 static int call_verify_right(void) { return BLAKE(verify)(&state, tag, MAX); }
 
@@ -287,16 +299,18 @@ static const struct {
     {call_final, start_and_take, 1, "final"},
 #ifndef LIBB2_NAMES
     {call_init_salt, nothing, 0, "init_salt_personal with a key"},
-    {call_init_tree, nothing, 0, "init_tree with a key"},
     {call_refused_salt, start, 1, "init_salt_personal, refused for its salt"},
-    {call_refused_depth, start, 1, "init_tree, refused for its depth"},
-    {call_refused, nothing, 0, "which argument of a keyed call is refused, its depth"},
+    {call_refused, nothing, 0, "which argument of a keyed call is refused, its last"},
     {call_refused_null, nothing, 0, "which argument of a keyed call is refused, a null salt"},
+#ifndef TEST_P
+    {call_init_tree, nothing, 0, "init_tree with a key"},
+    {call_refused_depth, start, 1, "init_tree, refused for its depth"},
     {call_many_one, nothing, 0, "many, one message"},
     {call_many_four, nothing, 0, "many, four messages"},
     {call_many_lanes, nothing, 0, "many, as many as are hashed at once"},
     {call_many_more, nothing, 0, "many, one more, of another length"},
     {call_set_last_node, start_and_take, 0, "set_last_node"},
+#endif
     {call_verify_right, start_and_take, 1, "verify, a right tag"},
     {call_verify_wrong, start_and_take, 1, "verify, a wrong tag"},
     {call_verify_short, start_and_take, 1, "verify, a tag of another length"},
@@ -338,7 +352,8 @@ static __attribute__((noinline)) void finds_registers(void) {
 
 /* Makes a call over messages of several lengths. */
 static void try_call(size_t index) {
-    static const size_t lengths[] = {0, 1, BLOCK - 1, BLOCK, BLOCK + 1, 2 * BLOCK, LONGEST};
+    static const size_t lengths[] = {0,   1,   BLOCK - 1, BLOCK, BLOCK + 1, 2 * BLOCK,
+                                     384, 385, LONGEST};
     const char *name = CALLED[index].name;
     int greatest = 0;
 

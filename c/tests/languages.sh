@@ -202,6 +202,24 @@ test_family() {
     needs
 }
 
+# parallel.c of a family, with these words.
+parallel_cases() {
+    cc -std=c99 -g "${warnings[@]}" -I"$include" $(family_words "$family") \
+        -o "$work/parallel" "$tests/parallel.c" "$@" && LD_LIBRARY_PATH=$prefix/lib \
+        "$work/parallel" "$cases/$family"
+}
+
+# BLAKE2bp or BLAKE2sp.
+test_parallel() {
+    family=$1
+    check "parallel.c, blake2$family" parallel_cases -O2 "$archive"
+    check "parallel.c, blake2$family, with the shared library" parallel_cases -O2 "$shared"
+    needs_sanitizers
+    check "parallel.c, blake2$family, with sanitizers" parallel_cases -O1 "${sanitizers[@]}" \
+        "$archive"
+    needs
+}
+
 # What calls leave of a key on the dead stack, and in a state.
 scan_for_keys() {
     cc -std=gnu99 -O2 "${warnings[@]}" -Wl,-z,now -I"$include" $(family_words "$family") \
@@ -209,7 +227,7 @@ scan_for_keys() {
 }
 
 test_keys() {
-    for family in b s; do
+    for family in b s bp sp; do
         check "key_scan.c, blake2$family" scan_for_keys
     done
 }
@@ -245,9 +263,11 @@ test_languages() {
         -fno-exceptions
     needs
     test_keys
-    for family in b s; do
+    for family in b s bp sp; do
         check "passes.c, blake2$family" passes $family
         check "passes.c, blake2$family, through calls.h" passes_by_calls $family
+    done
+    for family in b s; do
         check "refused.c, blake2$family" refused_arguments $family
         check "lengths.c, blake2$family" long_buffers $family
     done
@@ -255,6 +275,7 @@ test_languages() {
     [ -n "${VULFSJOR_TEST_HUGE-}" ] || skip "lengths.c, every call" "VULFSJOR_TEST_HUGE is not set"
     if has python3; then
         for family in b s; do test_family $family; done
+        for family in bp sp; do test_parallel $family; done
         check "a status that is ignored" ignored_statuses_warn
         test_examples
     else

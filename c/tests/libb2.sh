@@ -13,6 +13,48 @@ names_of_libb2() {
         "$work/libb2_names" "$cases/$family"
 }
 
+# The same of libb2_parallel.c. libb2's threads would spin while they wait.
+parallel_names_of_libb2() {
+    local family=$1
+    shift
+    cc -std=c99 -g -O1 "${warnings[@]}" $(family_words "$family") -o "$work/libb2_names" \
+        "$tests/libb2_parallel.c" "$@" &&
+        OMP_WAIT_POLICY=passive GOMP_SPINCOUNT=0 "$work/libb2_names" "$cases/$family"
+}
+
+# Random cases of BLAKE2bp or BLAKE2sp against libb2, which needs all of its threads.
+random_cases() {
+    cc -std=c99 -O2 "${warnings[@]}" $(family_words "$1") -I"$include" \
+        "$tests/against_libb2.c" "$archive" -lb2 -o "$work/against_libb2" &&
+        env -u OMP_THREAD_LIMIT OMP_WAIT_POLICY=passive GOMP_SPINCOUNT=0 \
+            "$work/against_libb2" "$2" "$3"
+}
+
+# What docs/ and LIBB2.md say of threads: libb2 returns another digest, and no error, if it gets
+# fewer threads than it has leaves. The functions here start none.
+too_few_threads() {
+    local family=$1 theirs ours wanted
+    cat >"$work/few.c" <<'END'
+#include <blake2.h>
+#include <stdio.h>
+int main(void) {
+    static unsigned char in[100000];
+    unsigned char out[32] = {0};
+    for (size_t i = 0; i < sizeof in; i++) in[i] = (unsigned char)(i % 251);
+    if (HASH(out, in, NULL, sizeof out, sizeof in, 0)) return 1;
+    for (size_t i = 0; i < sizeof out; i++) printf("%02x", out[i]);
+    return puts("") < 0;
+}
+END
+    wanted=$(PYTHONPATH=$top/tests python3 -c "from oracle import parallel_digest
+print(parallel_digest('${family:0:1}', bytes(i % 251 for i in range(100000)), 32).hex())") &&
+        cc "-DHASH=blake2$family" "$work/few.c" -lb2 -o "$work/theirs" &&
+        cc "-DHASH=blake2$family" "$work/few.c" "$beside" -o "$work/ours" &&
+        theirs=$(OMP_THREAD_LIMIT=1 "$work/theirs") && ours=$(OMP_THREAD_LIMIT=1 "$work/ours") &&
+        [ "$ours" = "$wanted" ] && [ "$theirs" != "$wanted" ] &&
+        [ "$(env -u OMP_THREAD_LIMIT "$work/theirs")" = "$wanted" ]
+}
+
 # What calls by libb2's names leave of a key on the dead stack.
 keys_of_names() {
     cc -std=gnu99 -O2 "${warnings[@]}" -Wl,-z,now -I"$include" -DLIBB2_NAMES \
@@ -25,7 +67,8 @@ configure_finds() {
     local name
     for name in blake2b blake2b_init blake2b_init_key blake2b_init_param blake2b_update \
         blake2b_final blake2s blake2s_init blake2s_init_key blake2s_init_param blake2s_update \
-        blake2s_final; do
+        blake2s_final blake2bp blake2bp_init blake2bp_init_key blake2bp_update blake2bp_final \
+        blake2sp blake2sp_init blake2sp_init_key blake2sp_update blake2sp_final; do
         echo "char $name(void); int main(void) { return $name(); }" >"$work/conftest.c"
         cc -w -fno-builtin -o "$work/conftest" "$work/conftest.c" -L"$prefix/lib/vulfsjor-libb2" \
             -Wl,-Bstatic -lb2 -Wl,-Bdynamic || return 1
@@ -97,6 +140,9 @@ for turn in range(4):
     print(hashlib.blake2b(data).hexdigest() + hashlib.blake2s(data, key=b"k").hexdigest())')
 }
 
+# Whether libb2 has threads, as it has where it was built with OpenMP.
+libb2_has_threads() { links -lb2 -Wl,--no-as-needed && ldd "$work/linked" | grep -q libgomp; }
+
 has_libb2() { links -lb2 && echo '#include <blake2.h>' | cc -fsyntax-only -x c - 2>/dev/null; }
 
 # The machine's own lists of packages, asked for sources in the place of programs.
@@ -160,7 +206,7 @@ test_sources() {
     ! has apt-get || (fetch_sources libb2 librsync) >"$work/fetching" 2>&1
     needs
     [ -e "$work/fetched/libb2/src/blake2b-test.c" ] || missing=$why
-    for name in blake2b blake2s; do
+    for name in blake2b blake2s blake2bp blake2sp; do
         check "libb2's $name-test.c over the header" libb2_test $name header
         check "libb2's $name-test.c over its own header" libb2_test $name names
     done
@@ -177,7 +223,7 @@ test_libb2() {
     check "libb2.c without a warning" cc -std=c99 -O2 "${warnings[@]}" -c "$here/libb2/libb2.c" \
         -o "$work/libb2.o"
     check "a configure script finds libb2" configure_finds
-    for family in b s; do
+    for family in b s bp sp; do
         check "key_scan.c by libb2's names, blake2$family" keys_of_names $family
     done
     needs python3
@@ -185,6 +231,9 @@ test_libb2() {
         check "libb2's names, blake2$family" names_of_libb2 $family "$beside"
         check "libb2's names by the header here, blake2$family" names_of_libb2 $family \
             -DOWN_HEADER -I"$libb2" "$archive"
+        check "libb2's names, blake2${family}p" parallel_names_of_libb2 ${family}p "$beside"
+        check "libb2's names by the header here, blake2${family}p" parallel_names_of_libb2 \
+            ${family}p -DOWN_HEADER -I"$libb2" "$archive"
     done
     has_libb2 || missing="no libb2"
     for family in b s; do
@@ -192,9 +241,21 @@ test_libb2() {
             -DOWN_HEADER "$beside"
         check "what is said of libb2 itself, blake2$family" names_of_libb2 $family \
             -DOWN_HEADER -DLIBB2 -w -lb2
+        check "libb2's names with its own header, blake2${family}p" parallel_names_of_libb2 \
+            ${family}p -DOWN_HEADER "$beside"
+        check "what is said of libb2 itself, blake2${family}p" parallel_names_of_libb2 \
+            ${family}p -DOWN_HEADER -DLIBB2 -w -lb2
+        check "1,000 random cases against libb2, blake2${family}p" random_cases ${family}p \
+            1000 2
+        check_huge "10,000 random cases against libb2, blake2${family}p" random_cases \
+            ${family}p 10000 1
     done
     check "this library and libb2 in one program" beside_libb2
     check "states that both headers share" shared_states
+    libb2_has_threads || missing=${missing:-"libb2 has no threads"}
+    for family in bp sp; do
+        check "libb2 with too few threads, blake2$family" too_few_threads $family
+    done
     needs
     test_sources
 }

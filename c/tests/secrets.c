@@ -10,7 +10,7 @@
  *   secrets address   an address from a byte of a key: each has to be reported
  *
  * It has to run under valgrind with --error-limit=no, and returns 0 if all is as expected. TEST_S
- * is defined for BLAKE2s. */
+ * is defined for BLAKE2s, and TEST_P for BLAKE2bp, or with it for BLAKE2sp. */
 #include "family.h"
 
 #include <stdio.h>
@@ -123,6 +123,7 @@ static void one_call(void) {
             "another digest in one call");
 }
 
+#ifndef TEST_P
 /* One to nine messages: some are hashed in parallel, and some one by one. */
 static void many(void) {
     vulfsjor_message messages[9];
@@ -138,6 +139,8 @@ static void many(void) {
             require(is_wanted(out + i * wanted.length), "another digest of many");
     }
 }
+
+#endif
 
 /* The key as digits, and back. The status depends on whether all characters are digits. */
 static void hexadecimal(void) {
@@ -159,7 +162,9 @@ static void hash_case(void) {
                                        salt.length, persona.bytes, persona.length),
             "init_salt_personal is refused");
     of_state(&made);
+#ifndef TEST_P
     many();
+#endif
     if (salt.length + persona.length) return;
     one_call();
     require(!BLAKE(init)(&made, wanted.length), "init is refused");
@@ -169,6 +174,7 @@ static void hash_case(void) {
     of_state(&made);
 }
 
+#ifndef TEST_P
 static void node_case(const char *numbers) {
     unsigned fanout, depth, node_depth, inner_length, last_node;
     unsigned long leaf_length;
@@ -205,8 +211,9 @@ static void block_case(const char *digits, int last_node) {
     require(!BLAKE(set_last_node)(&made, last_node), "set_last_node is refused");
     of_state(&made);
 }
+#endif
 
-#ifndef TEST_S
+#if !defined(TEST_S) && !defined(TEST_P)
 /* A root in one call, in pieces, and in parts: the digests of leaves are secrets too. */
 static void root_case(uint32_t leaf) {
     static uint8_t digests[4096 * 64];
@@ -260,15 +267,17 @@ static void one_case(char kind) {
     if (strlen(field[first]) > 2 * sizeof message.bytes) return;
     read_text(&message, field[first]);
     read_text(&wanted, field[first + 1]);
-    if (kind == 'h' || kind == 'n') {
+    if (kind == 'h' || kind == 'n' || kind == 'p') {
         read_text(&key, field[1]);
         read_text(&salt, field[2]);
         read_text(&persona, field[3]);
     }
-    if (kind == 'h') hash_case();
+    if (kind == 'h' || kind == 'p') hash_case();
+#ifndef TEST_P
     if (kind == 'n') node_case(field[4]);
     if (kind == 't') block_case(field[0], atoi(field[1]));
-#ifndef TEST_S
+#endif
+#if !defined(TEST_S) && !defined(TEST_P)
     if (kind == 'r') {
         read_text(&salt, field[1]);
         read_text(&persona, field[2]);

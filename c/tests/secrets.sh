@@ -23,20 +23,22 @@ test_secrets() {
     ! is_x86 || skip "branches and addresses by secrets, x86-64-v4" "memcheck has no AVX-512"
     [ "${cpu[*]}" != "--cpu x86-64-v4" ] || return 0
     ! chooses || builds=$(seq -s " " 2 $((level < 3 ? level : 3)))
-    # Of the cases each seventeenth: memcheck is slow.
+    # Of the cases each seventeenth, and each seventh of the fewer ones: memcheck is slow.
     mkdir "$work/cases"
     for family in b s; do
         awk 'NR % 17 == 1 && length($0) < 8900' "$cases/$family" >"$work/cases/$family"
+        awk 'NR % 7 == 1' "$cases/${family}p" >"$work/cases/${family}p"
     done
     check "the numbers of cases in docs/WIPING.md" grep -qF "The test has $(wc -l <"$work/cases/b") \
-cases of BLAKE2b and $(wc -l <"$work/cases/s") of BLAKE2s," "$top/docs/WIPING.md"
+cases of BLAKE2b, $(wc -l <"$work/cases/s") of BLAKE2s, $(wc -l <"$work/cases/bp") of BLAKE2bp and \
+$(wc -l <"$work/cases/sp") of BLAKE2sp." "$top/docs/WIPING.md"
     for build in $builds; do
         if [ "$build" != none ]; then
             library=$work/build_$build/libvulfsjor.a
             check "a library with only build $build, for secrets" "$here/join.sh" --test "$build" \
                 "$work/build_$build" "$dist"/x86_64/vulfsjor-v{2,3,4}.s || return
         fi
-        for family in b s; do
+        for family in b s bp sp; do
             check "no branch or address by a key or a message, blake2$family, build $build" \
                 secrets_run "$library" "$family" "$work/cases/$family"
         done

@@ -1,8 +1,8 @@
 //! The hashers and MACs of the crate `vulfsjor` under the traits of the crate `digest` 0.10, for
 //! generic code that requires a `Digest`, a `Mac` or a `VariableOutput`. Names, key lengths and
-//! results are those of the crate `blake2` 0.10, except that an empty key is refused. This code is
-//! not proved; it calls `vulfsjor`, which calls the proved functions. A value is wiped when it is
-//! dropped.
+//! results are those of the crate `blake2` 0.10, except that an empty key is refused. BLAKE2bp and
+//! BLAKE2sp, which `blake2` does not have, are here too. This code is not proved; it calls
+//! `vulfsjor`, which calls the proved functions. A value is wiped when it is dropped.
 //!
 //! `hmac::SimpleHmac`, `hkdf::SimpleHkdf` and `pbkdf2` accept these hash functions. `hmac::Hmac`
 //! does not: it requires one that compresses each block as soon as the block is full. BLAKE2 needs
@@ -59,7 +59,8 @@ macro_rules! family {
             }
 
             /// Returns a hasher with a salt and a persona. The error is `InvalidLength`, exactly if
-            /// one of them is longer than the family accepts.
+            /// one of them is longer than the family accepts. In BLAKE2bp and BLAKE2sp both are an
+            /// extension, which the BLAKE2 document does not have.
             pub fn new_with_salt_and_personal(
                 salt: &[u8],
                 persona: &[u8],
@@ -247,6 +248,8 @@ macro_rules! family {
 
 family!("Blake2b", Blake2b, Blake2bMac, Blake2bVar, U64, U128, blake2b);
 family!("Blake2s", Blake2s, Blake2sMac, Blake2sVar, U32, U64, blake2s);
+family!("Blake2bp", Blake2bp, Blake2bpMac, Blake2bpVar, U64, U128, blake2bp);
+family!("Blake2sp", Blake2sp, Blake2spMac, Blake2spVar, U32, U64, blake2sp);
 
 /// BLAKE2b with digests of 64 bytes.
 pub type Blake2b512 = Blake2b<U64>;
@@ -258,7 +261,17 @@ pub type Blake2b128 = Blake2b<U16>;
 pub type Blake2s256 = Blake2s<U32>;
 /// BLAKE2s with digests of 16 bytes.
 pub type Blake2s128 = Blake2s<U16>;
+/// BLAKE2bp with digests of 64 bytes.
+pub type Blake2bp512 = Blake2bp<U64>;
+/// BLAKE2bp with digests of 32 bytes.
+pub type Blake2bp256 = Blake2bp<U32>;
+/// BLAKE2sp with digests of 32 bytes.
+pub type Blake2sp256 = Blake2sp<U32>;
 /// BLAKE2b's MAC with tags of 64 bytes.
 pub type Blake2bMac512 = Blake2bMac<U64>;
 /// BLAKE2s's MAC with tags of 32 bytes.
 pub type Blake2sMac256 = Blake2sMac<U32>;
+/// BLAKE2bp's MAC with tags of 64 bytes.
+pub type Blake2bpMac512 = Blake2bpMac<U64>;
+/// BLAKE2sp's MAC with tags of 32 bytes.
+pub type Blake2spMac256 = Blake2spMac<U32>;

@@ -259,12 +259,60 @@ family!(
     (U1, U16, U20, U28, U32)
 );
 
+// Tests the vectors of BLAKE2bp or BLAKE2sp whose digests have this size. How many there are.
+macro_rules! parallel {
+    ($letter:literal, $hasher:ident, $mac:ident, $n:ty) => {{
+        let mut met = 0;
+        for fields in lines($letter, "p") {
+            let [key, salt, persona, message, wanted] =
+                [1, 2, 3, 4, 5].map(|field| bytes(&fields[field]));
+            if <$n as digest::typenum::Unsigned>::USIZE != wanted.len() {
+                continue;
+            }
+            met += 1;
+            if key.is_empty() {
+                let start = $hasher::<$n>::new_with_salt_and_personal(&salt, &persona).unwrap();
+                digest_by_all_ways(start, &message, &wanted);
+            } else {
+                let start = $mac::<$n>::new_with_salt_and_personal(&key, &salt, &persona).unwrap();
+                tag_by_all_ways(start, &message, &wanted);
+            }
+        }
+        met
+    }};
+}
+
+#[test]
+fn parallel_digests_and_tags() {
+    assert!(parallel!("b", Blake2bp, Blake2bpMac, U64) >= 20);
+    assert!(parallel!("s", Blake2sp, Blake2spMac, U32) >= 20);
+    assert!(Blake2bp::<U64>::new_with_salt_and_personal(&[1; 17], b"").is_err());
+    assert!(Blake2sp::<U32>::new_with_salt_and_personal(b"", &[1; 9]).is_err());
+    assert!(<Blake2bpMac<U64> as KeyInit>::new_from_slice(b"").is_err());
+    assert!(<Blake2spMac<U32> as KeyInit>::new_from_slice(&[1; 33]).is_err());
+    let mut hasher = <Blake2bpVar as VariableOutput>::new(20).unwrap();
+    Update::update(&mut hasher, b"abc");
+    let mut out = [0; 20];
+    hasher.finalize_variable(&mut out).unwrap();
+    let params = vulfsjor::Params::new().output_size(20);
+    assert_eq!(params.blake2bp_hash(b"abc").unwrap(), out);
+    assert_eq!(name_of::<Blake2bp<U16>>(), "Blake2bp128");
+    assert_eq!(name_of::<Blake2spMac<U16>>(), "Blake2spMac128");
+    assert_eq!(<Blake2bp<U16> as BlockSizeUser>::block_size(), 128);
+    assert_eq!(<Blake2sp<U16> as BlockSizeUser>::block_size(), 64);
+}
+
 #[test]
 fn types_with_names() {
     assert_eq!(Output::<Blake2b512>::default().len(), 64);
     assert_eq!(Blake2b256::digest(b"x"), Blake2b::<U32>::digest(b"x"));
     assert_eq!(Blake2b512::digest(b"x"), Blake2b::<U64>::digest(b"x"));
     assert_eq!(Blake2s256::digest(b"x"), Blake2s::<U32>::digest(b"x"));
+    assert_eq!(Blake2bp512::digest(b"x"), Blake2bp::<U64>::digest(b"x"));
+    assert_eq!(Blake2bp256::digest(b"x"), Blake2bp::<U32>::digest(b"x"));
+    assert_eq!(Blake2sp256::digest(b"x"), Blake2sp::<U32>::digest(b"x"));
+    assert_eq!(<Blake2bpMac512 as OutputSizeUser>::output_size(), 64);
+    assert_eq!(<Blake2spMac256 as OutputSizeUser>::output_size(), 32);
     assert_eq!(<Blake2bMac512 as OutputSizeUser>::output_size(), 64);
     assert_eq!(<Blake2sMac256 as OutputSizeUser>::output_size(), 32);
 }

@@ -1,6 +1,6 @@
 use crate::digest::Digest;
 use crate::error::{check_equal, check_range};
-use crate::library::{self, Blake2bState, Blake2sState, Text};
+use crate::library::{self, Blake2bState, Blake2bpState, Blake2sState, Blake2spState, Text};
 use crate::params::FamilyLimits;
 use crate::{InvalidArgument, MacError, Params};
 
@@ -8,13 +8,11 @@ use crate::{InvalidArgument, MacError, Params};
 // the stack.
 const PART: usize = 16;
 
-// What both families have, on top of the states and the functions of `library`.
+// What all families have, on top of the states and the functions of `library`.
 macro_rules! family {
     (
-        $family:literal, $at_once:literal, $hasher:ident, $mac:ident, $make:ident, $state:ident,
-        $max:literal, $limits:expr, $one_call:ident, $many:ident, $init_tree:ident, $update:ident,
-        $end:ident,
-        $verify:ident, $set_last_node:ident, $reset:ident, $wipe:ident, $digest_size:ident,
+        $family:literal, $hasher:ident, $mac:ident, $state:ident, $max:literal, $one_call:ident,
+        $update:ident, $end:ident, $verify:ident, $reset:ident, $wipe:ident, $digest_size:ident,
         $count:ident
     ) => {
         #[doc = concat!("A ", $family, " hash in progress. It is wiped when it is dropped.")]
@@ -31,6 +29,214 @@ macro_rules! family {
                 Self::with_params(&Params::new()).expect("lengths of the family")
             }
 
+            #[doc = concat!("Returns the digest of a message, in ", stringify!($max), " bytes.")]
+            pub fn digest(message: impl AsRef<[u8]>) -> Digest {
+                Self::one_call(message.as_ref(), b"").expect("no key, and no input of 2^64 bytes")
+            }
+
+            // The digest under a key, or without one if that is empty.
+            fn one_call(message: &[u8], key: &[u8]) -> Result<Digest, InvalidArgument> {
+                let mut digest = Digest::zeros($max);
+                // Safety: the pointers come from slices of these lengths. The output overlaps none
+                // of them and has 64 bytes, which is at least what the call writes.
+                let status = unsafe {
+                    library::$one_call(
+                        digest.bytes.as_mut_ptr(),
+                        $max,
+                        message.as_ptr(),
+                        message.len(),
+                        key.as_ptr(),
+                        key.len(),
+                    )
+                };
+                let explain = || check_range("key.len()", key.len() as u64, 1, $max);
+                InvalidArgument::unless_zero(status, explain).map(|()| digest)
+            }
+
+            /// Absorbs the input after all earlier input.
+            ///
+            /// # Panics
+            ///
+            /// If the input since the last reset, with the blocks of a key, would have 2^64 bytes
+            /// or more. The hasher is then unchanged.
+            pub fn update(&mut self, input: impl AsRef<[u8]>) -> &mut Self {
+                let input = input.as_ref();
+                // Safety: the pointer comes from a slice of this length, which the state cannot
+                // overlap.
+                let status =
+                    unsafe { library::$update(&mut self.state, input.as_ptr(), input.len()) };
+                assert_eq!(status, 0, "an input of 2^64 bytes");
+                self
+            }
+
+            /// Returns the digest of all input since the last reset. The hasher is unchanged, and
+            /// can absorb more input.
+            ///
+            /// ```
+            #[doc = concat!("use vulfsjor::", stringify!($hasher), ";")]
+            ///
+            #[doc = concat!("let digest = ", stringify!($hasher), "::digest(b\"abc\");")]
+            #[doc = concat!(
+                "assert_eq!(", stringify!($hasher), "::new().update(b\"abc\").finalize(), digest);"
+            )]
+            /// ```
+            pub fn finalize(&self) -> Digest {
+                let mut copy = $hasher { state: $state::ZEROS };
+                copy.state.0.copy_from_slice(&self.state.0);
+                // Safety: the state has initialized bytes.
+                let mut digest = Digest::zeros(unsafe { library::$digest_size(&copy.state) });
+                // Safety: the output has this length, and does not overlap the state.
+                let status =
+                    unsafe { library::$end(&mut copy.state, digest.bytes.as_mut_ptr(), 64) };
+                assert_eq!(status, 0, "a state that new has made");
+                digest
+            }
+
+            /// Returns the digest of all input, and [resets](Self::reset) the hasher.
+            pub fn finalize_reset(&mut self) -> Digest {
+                let digest = self.finalize();
+                self.reset();
+                digest
+            }
+
+            /// Discards all input. The parameters stay, and so does a last-node flag.
+            pub fn reset(&mut self) {
+                // Safety: the state has initialized bytes.
+                let status = unsafe { library::$reset(&mut self.state) };
+                assert_eq!(status, 0, "a state that new has made");
+            }
+
+            /// Returns the number of bytes of input since the last reset, without the key.
+            pub fn count(&self) -> u64 {
+                // Safety: the state has initialized bytes.
+                unsafe { library::$count(&self.state) }
+            }
+        }
+
+        impl Clone for $hasher {
+            fn clone(&self) -> Self {
+                let mut copy = $hasher { state: $state::ZEROS };
+                copy.state.0.copy_from_slice(&self.state.0);
+                copy
+            }
+        }
+
+        impl Default for $hasher {
+            fn default() -> Self {
+                Self::new()
+            }
+        }
+
+        impl Drop for $hasher {
+            fn drop(&mut self) {
+                // Safety: the state has initialized bytes.
+                unsafe { library::$wipe(&mut self.state) }
+            }
+        }
+
+        of_stream!($hasher);
+
+        #[doc = concat!("A ", $family, " message authentication code in progress. It is wiped")]
+        /// when it is dropped.
+        ///
+        /// Compare tags with `verify`. The project's README, "Use it safely", has the rules for
+        /// keys, tags and personalization.
+        #[derive(Clone)]
+        pub struct $mac($hasher);
+
+        impl $mac {
+            #[doc = concat!("Returns a MAC with tags of ", stringify!($max), " bytes.")]
+            ///
+            /// # Errors
+            ///
+            /// [`InvalidArgument`] exactly if the key does not have
+            #[doc = concat!("1 to ", stringify!($max), " bytes.")]
+            pub fn new(key: &[u8]) -> Result<Self, InvalidArgument> {
+                Self::with_params(&Params::new().key(key))
+            }
+
+            /// Returns a MAC with these parameters, which include the key.
+            ///
+            /// # Errors
+            ///
+            /// [`InvalidArgument`] exactly if there is no key, or a hasher with these parameters
+            /// is refused.
+            pub fn with_params(params: &Params<'_>) -> Result<Self, InvalidArgument> {
+                check_range("key.len()", params.key_or_none().len() as u64, 1, $max)?;
+                $hasher::with_params(params).map($mac)
+            }
+
+            #[doc = concat!("Returns the tag of a message, in ", stringify!($max), " bytes.")]
+            ///
+            /// # Errors
+            ///
+            /// [`InvalidArgument`] exactly if the key does not have
+            #[doc = concat!("1 to ", stringify!($max), " bytes.")]
+            pub fn tag(key: &[u8], message: impl AsRef<[u8]>) -> Result<Digest, InvalidArgument> {
+                check_range("key.len()", key.len() as u64, 1, $max)?;
+                $hasher::one_call(message.as_ref(), key)
+            }
+
+            /// Absorbs the input after all earlier input.
+            ///
+            /// # Panics
+            ///
+            /// If the input since the last reset, with the blocks of the key, would have 2^64 bytes
+            /// or more. The MAC is then unchanged.
+            pub fn update(&mut self, input: impl AsRef<[u8]>) -> &mut Self {
+                self.0.update(input);
+                self
+            }
+
+            /// Returns the tag of all input since the last reset. The MAC is unchanged, and can
+            /// absorb more input.
+            pub fn finalize(&self) -> Digest {
+                self.0.finalize()
+            }
+
+            /// Returns the tag of all input, and [resets](Self::reset) the MAC.
+            pub fn finalize_reset(&mut self) -> Digest {
+                self.0.finalize_reset()
+            }
+
+            /// Returns `Ok` exactly if the tag is the whole tag of all input. All bytes of a tag
+            /// of the same length are compared, wherever they differ. The MAC is unchanged.
+            ///
+            /// # Errors
+            ///
+            /// [`MacError`] for any other tag.
+            pub fn verify(&self, tag: &[u8]) -> Result<(), MacError> {
+                let mut copy = $hasher { state: $state::ZEROS };
+                copy.state.0.copy_from_slice(&self.0.state.0);
+                // Safety: the pointer comes from a slice of this length, which the state cannot
+                // overlap.
+                let status =
+                    unsafe { library::$verify(&mut copy.state, tag.as_ptr(), tag.len()) };
+                if status == 0 { Ok(()) } else { Err(MacError) }
+            }
+
+            /// Discards all input. The key and the other parameters stay.
+            pub fn reset(&mut self) {
+                self.0.reset();
+            }
+
+            /// Returns the number of bytes of input since the last reset, without the key.
+            pub fn count(&self) -> u64 {
+                self.0.count()
+            }
+        }
+
+        of_stream!($mac);
+    };
+}
+
+// What BLAKE2b and BLAKE2s have besides: tree parameters, the last-node flag and several messages.
+macro_rules! sequential {
+    (
+        $at_once:literal, $hasher:ident, $make:ident, $state:ident, $max:literal, $limits:expr,
+        $many:ident, $init_tree:ident, $set_last_node:ident
+    ) => {
+        impl $hasher {
             /// Returns a hasher with these parameters.
             ///
             /// # Errors
@@ -71,30 +277,6 @@ macro_rules! family {
                     hasher.set_last_node(true);
                 }
                 Ok(hasher)
-            }
-
-            #[doc = concat!("Returns the digest of a message, in ", stringify!($max), " bytes.")]
-            pub fn digest(message: impl AsRef<[u8]>) -> Digest {
-                Self::one_call(message.as_ref(), b"").expect("no key, and no input of 2^64 bytes")
-            }
-
-            // The digest under a key, or without one if that is empty.
-            fn one_call(message: &[u8], key: &[u8]) -> Result<Digest, InvalidArgument> {
-                let mut digest = Digest::zeros($max);
-                // Safety: the pointers come from slices of these lengths. The output overlaps none
-                // of them and has 64 bytes, which is at least what the call writes.
-                let status = unsafe {
-                    library::$one_call(
-                        digest.bytes.as_mut_ptr(),
-                        $max,
-                        message.as_ptr(),
-                        message.len(),
-                        key.as_ptr(),
-                        key.len(),
-                    )
-                };
-                let explain = || check_range("key.len()", key.len() as u64, 1, $max);
-                InvalidArgument::unless_zero(status, explain).map(|()| digest)
             }
 
             /// Writes the digests of several messages under these parameters, each of `N` bytes.
@@ -173,59 +355,6 @@ macro_rules! family {
                 InvalidArgument::unless_zero(status, || params.check(&$limits))
             }
 
-            /// Absorbs the input after all earlier input.
-            ///
-            /// # Panics
-            ///
-            /// If the input since the last reset, with the block of a key, would have 2^64 bytes or
-            /// more. The hasher is then unchanged.
-            pub fn update(&mut self, input: impl AsRef<[u8]>) -> &mut Self {
-                let input = input.as_ref();
-                // Safety: the pointer comes from a slice of this length, which the state cannot
-                // overlap.
-                let status =
-                    unsafe { library::$update(&mut self.state, input.as_ptr(), input.len()) };
-                assert_eq!(status, 0, "an input of 2^64 bytes");
-                self
-            }
-
-            /// Returns the digest of all input since the last reset. The hasher is unchanged, and
-            /// can absorb more input.
-            ///
-            /// ```
-            #[doc = concat!("use vulfsjor::", stringify!($hasher), ";")]
-            ///
-            #[doc = concat!("let digest = ", stringify!($hasher), "::digest(b\"abc\");")]
-            #[doc = concat!(
-                "assert_eq!(", stringify!($hasher), "::new().update(b\"abc\").finalize(), digest);"
-            )]
-            /// ```
-            pub fn finalize(&self) -> Digest {
-                let mut copy = $hasher { state: $state::ZEROS };
-                copy.state.0.copy_from_slice(&self.state.0);
-                // Safety: the state has initialized bytes.
-                let mut digest = Digest::zeros(unsafe { library::$digest_size(&copy.state) });
-                // Safety: the output has this length, and does not overlap the state.
-                let status =
-                    unsafe { library::$end(&mut copy.state, digest.bytes.as_mut_ptr(), 64) };
-                assert_eq!(status, 0, "a state that new has made");
-                digest
-            }
-
-            /// Returns the digest of all input, and [resets](Self::reset) the hasher.
-            pub fn finalize_reset(&mut self) -> Digest {
-                let digest = self.finalize();
-                self.reset();
-                digest
-            }
-
-            /// Discards all input. The parameters and the last-node flag stay.
-            pub fn reset(&mut self) {
-                // Safety: the state has initialized bytes.
-                let status = unsafe { library::$reset(&mut self.state) };
-                assert_eq!(status, 0, "a state that new has made");
-            }
-
             /// Sets or clears the last-node flag (the BLAKE2 document, section 2.10), at any time
             /// before the digest.
             pub fn set_last_node(&mut self, on: bool) {
@@ -233,147 +362,61 @@ macro_rules! family {
                 let status = unsafe { library::$set_last_node(&mut self.state, u32::from(on)) };
                 assert_eq!(status, 0, "a state that new has made");
             }
-
-            /// Returns the number of bytes of input since the last reset, without the key.
-            pub fn count(&self) -> u64 {
-                // Safety: the state has initialized bytes.
-                unsafe { library::$count(&self.state) }
-            }
         }
+    };
+}
 
-        impl Clone for $hasher {
-            fn clone(&self) -> Self {
-                let mut copy = $hasher { state: $state::ZEROS };
-                copy.state.0.copy_from_slice(&self.state.0);
-                copy
-            }
-        }
-
-        impl Default for $hasher {
-            fn default() -> Self {
-                Self::new()
-            }
-        }
-
-        impl Drop for $hasher {
-            fn drop(&mut self) {
-                // Safety: the state has initialized bytes.
-                unsafe { library::$wipe(&mut self.state) }
-            }
-        }
-
-        of_stream!($hasher);
-
-        #[doc = concat!("A ", $family, " message authentication code in progress. It is wiped")]
-        /// when it is dropped.
-        ///
-        /// Compare tags with `verify`. The project's README, "Use it safely", has the rules for
-        /// keys, tags and personalization.
-        #[derive(Clone)]
-        pub struct $mac($hasher);
-
-        impl $mac {
-            #[doc = concat!("Returns a MAC with tags of ", stringify!($max), " bytes.")]
+// What BLAKE2bp and BLAKE2sp have instead.
+macro_rules! parallel {
+    ($hasher:ident, $state:ident, $max:literal, $limits:expr, $init:ident) => {
+        impl $hasher {
+            /// Returns a hasher with these parameters.
+            ///
+            /// A salt and a persona are an extension: the BLAKE2 document gives this hash function
+            /// neither. They are in the parameter block of each node.
             ///
             /// # Errors
             ///
-            /// [`InvalidArgument`] exactly if the key does not have
-            #[doc = concat!("1 to ", stringify!($max), " bytes.")]
-            pub fn new(key: &[u8]) -> Result<Self, InvalidArgument> {
-                Self::with_params(&Params::new().key(key))
-            }
-
-            /// Returns a MAC with these parameters, which include the key.
-            ///
-            /// # Errors
-            ///
-            /// [`InvalidArgument`] exactly if there is no key, or a length or a tree parameter is
-            /// out of the family's range.
+            /// [`InvalidArgument`] exactly if a length is out of the family's range, or the
+            /// parameters set tree parameters or the last-node flag.
             pub fn with_params(params: &Params<'_>) -> Result<Self, InvalidArgument> {
-                check_range("key.len()", params.key_or_none().len() as u64, 1, $max)?;
-                $hasher::with_params(params).map($mac)
-            }
-
-            #[doc = concat!("Returns the tag of a message, in ", stringify!($max), " bytes.")]
-            ///
-            /// # Errors
-            ///
-            /// [`InvalidArgument`] exactly if the key does not have
-            #[doc = concat!("1 to ", stringify!($max), " bytes.")]
-            pub fn tag(key: &[u8], message: impl AsRef<[u8]>) -> Result<Digest, InvalidArgument> {
-                check_range("key.len()", key.len() as u64, 1, $max)?;
-                $hasher::one_call(message.as_ref(), key)
-            }
-
-            /// Absorbs the input after all earlier input.
-            ///
-            /// # Panics
-            ///
-            /// If the input since the last reset, with the block of the key, would have 2^64 bytes
-            /// or more. The MAC is then unchanged.
-            pub fn update(&mut self, input: impl AsRef<[u8]>) -> &mut Self {
-                self.0.update(input);
-                self
-            }
-
-            /// Returns the tag of all input since the last reset. The MAC is unchanged, and can
-            /// absorb more input.
-            pub fn finalize(&self) -> Digest {
-                self.0.finalize()
-            }
-
-            /// Returns the tag of all input, and [resets](Self::reset) the MAC.
-            pub fn finalize_reset(&mut self) -> Digest {
-                self.0.finalize_reset()
-            }
-
-            /// Returns `Ok` exactly if the tag is the whole tag of all input. All bytes of a tag
-            /// of the same length are compared, wherever they differ. The MAC is unchanged.
-            ///
-            /// # Errors
-            ///
-            /// [`MacError`] for any other tag.
-            pub fn verify(&self, tag: &[u8]) -> Result<(), MacError> {
-                let mut copy = $hasher { state: $state::ZEROS };
-                copy.state.0.copy_from_slice(&self.0.state.0);
-                // Safety: the pointer comes from a slice of this length, which the state cannot
-                // overlap.
-                let status =
-                    unsafe { library::$verify(&mut copy.state, tag.as_ptr(), tag.len()) };
-                if status == 0 { Ok(()) } else { Err(MacError) }
-            }
-
-            /// Discards all input. The key and the other parameters stay.
-            pub fn reset(&mut self) {
-                self.0.reset();
-            }
-
-            /// Returns the number of bytes of input since the last reset, without the key.
-            pub fn count(&self) -> u64 {
-                self.0.count()
+                params.check_sequential()?;
+                params.check_key($max)?;
+                let Params { output_size, salt, persona, .. } = *params;
+                let key = params.key_or_none();
+                library::need_a_build();
+                let mut hasher = $hasher { state: $state::ZEROS };
+                // Safety: the pointers come from slices of these lengths, and none is null. The
+                // state overlaps none of them.
+                let status = unsafe {
+                    library::$init(
+                        &mut hasher.state,
+                        output_size.unwrap_or($max),
+                        key.as_ptr(),
+                        key.len(),
+                        salt.as_ptr(),
+                        salt.len(),
+                        persona.as_ptr(),
+                        persona.len(),
+                    )
+                };
+                InvalidArgument::unless_zero(status, || params.check(&$limits))?;
+                Ok(hasher)
             }
         }
-
-        of_stream!($mac);
     };
 }
 
 family!(
     "BLAKE2b",
-    "four",
     Blake2b,
     Blake2bMac,
-    blake2b,
     Blake2bState,
     64,
-    FamilyLimits::BLAKE2B,
     blake2b,
-    blake2b_many,
-    blake2b_init_tree,
     blake2b_update,
     blake2b_final,
     blake2b_verify,
-    blake2b_set_last_node,
     blake2b_reset,
     blake2b_wipe,
     blake2b_digest_size,
@@ -382,22 +425,88 @@ family!(
 
 family!(
     "BLAKE2s",
-    "eight",
     Blake2s,
     Blake2sMac,
-    blake2s,
     Blake2sState,
     32,
-    FamilyLimits::BLAKE2S,
     blake2s,
-    blake2s_many,
-    blake2s_init_tree,
     blake2s_update,
     blake2s_final,
     blake2s_verify,
-    blake2s_set_last_node,
     blake2s_reset,
     blake2s_wipe,
     blake2s_digest_size,
     blake2s_count
+);
+
+family!(
+    "BLAKE2bp",
+    Blake2bp,
+    Blake2bpMac,
+    Blake2bpState,
+    64,
+    blake2bp,
+    blake2bp_update,
+    blake2bp_final,
+    blake2bp_verify,
+    blake2bp_reset,
+    blake2bp_wipe,
+    blake2bp_digest_size,
+    blake2bp_count
+);
+
+family!(
+    "BLAKE2sp",
+    Blake2sp,
+    Blake2spMac,
+    Blake2spState,
+    32,
+    blake2sp,
+    blake2sp_update,
+    blake2sp_final,
+    blake2sp_verify,
+    blake2sp_reset,
+    blake2sp_wipe,
+    blake2sp_digest_size,
+    blake2sp_count
+);
+
+sequential!(
+    "four",
+    Blake2b,
+    blake2b,
+    Blake2bState,
+    64,
+    FamilyLimits::BLAKE2B,
+    blake2b_many,
+    blake2b_init_tree,
+    blake2b_set_last_node
+);
+
+sequential!(
+    "eight",
+    Blake2s,
+    blake2s,
+    Blake2sState,
+    32,
+    FamilyLimits::BLAKE2S,
+    blake2s_many,
+    blake2s_init_tree,
+    blake2s_set_last_node
+);
+
+parallel!(
+    Blake2bp,
+    Blake2bpState,
+    64,
+    FamilyLimits::BLAKE2B,
+    blake2bp_init_salt_personal
+);
+
+parallel!(
+    Blake2sp,
+    Blake2spState,
+    32,
+    FamilyLimits::BLAKE2S,
+    blake2sp_init_salt_personal
 );

@@ -1,7 +1,7 @@
-//! BLAKE2b and BLAKE2s (RFC 7693): safe bindings to formally verified functions. The crate contains
-//! the assembly that the proved source compiles to. It has no dependencies, and allocates memory
-//! only in the calls that use several threads or read. The Rust code of the crate is tested, not
-//! proved.
+//! BLAKE2b and BLAKE2s (RFC 7693), BLAKE2bp and BLAKE2sp: safe bindings to formally verified
+//! functions. The crate contains the assembly that the proved source compiles to. It has no
+//! dependencies, and allocates memory only in the calls that use several threads or read. The Rust
+//! code of the crate is tested, not proved.
 //!
 //! It runs on Linux, macOS and Windows, on 64-bit ARM and on x86-64 from x86-64-v2 on (SSE4.2 and
 //! POPCNT), and uses AVX2 and AVX-512 if the processor has them. On an older x86-64 processor the
@@ -87,6 +87,17 @@
 //! `TreeParams::root_file` that of a file, and `TreeHasher::update_threads` absorbs a piece with
 //! several threads. [`TreeParams::leaves`] and [`TreeParams::root_of_leaves`] compute it in parts,
 //! on any threads, processes or machines.
+//!
+//! BLAKE2bp and BLAKE2sp hash four or eight leaves in parallel on one processor, and are faster on
+//! long messages. Their digests are other ones than those of BLAKE2b and BLAKE2s:
+//!
+//! ```
+//! use vulfsjor::{Blake2b, Blake2bp};
+//!
+//! let digest = Blake2bp::digest(b"hello world");
+//! assert_eq!(Blake2bp::new().update(b"hello ").update(b"world").finalize(), digest);
+//! assert_ne!(Blake2b::digest(b"hello world"), digest);
+//! ```
 //!
 //! A stream, with the feature `std`: a hasher reads from an `io::Read`, and is an `io::Write`.
 //!
@@ -215,7 +226,9 @@ mod tree_params;
 
 pub use digest::{Digest, HexString};
 pub use error::{Bounds, HexError, InvalidArgument, MacError};
-pub use family::{Blake2b, Blake2bMac, Blake2s, Blake2sMac};
+pub use family::{
+    Blake2b, Blake2bMac, Blake2bp, Blake2bpMac, Blake2s, Blake2sMac, Blake2sp, Blake2spMac,
+};
 pub use params::{Params, Tree};
 pub use tree::TreeHasher;
 pub use tree_params::TreeParams;

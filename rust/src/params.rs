@@ -1,7 +1,7 @@
 use core::fmt;
 
 use crate::error::{check_equal, check_range};
-use crate::{Blake2b, Blake2s, Digest, InvalidArgument};
+use crate::{Blake2b, Blake2bp, Blake2s, Blake2sp, Digest, InvalidArgument};
 
 // The largest lengths of a family, in bytes, and its last node offset.
 pub(crate) struct FamilyLimits {
@@ -96,7 +96,8 @@ impl<'a> Params<'a> {
         }
     }
 
-    /// Sets the number of bytes in the digest: 1 to 64 for BLAKE2b, 1 to 32 for BLAKE2s.
+    /// Sets the number of bytes in the digest: 1 to 64 for BLAKE2b, 1 to 32 for BLAKE2s. The limits
+    /// of BLAKE2bp and BLAKE2sp are here and below those of BLAKE2b and BLAKE2s.
     pub fn output_size(self, bytes: usize) -> Self {
         Params {
             output_size: Some(bytes),
@@ -187,6 +188,62 @@ impl<'a> Params<'a> {
     /// [`InvalidArgument`] exactly if a length or a tree parameter is out of BLAKE2s's range.
     pub fn blake2s_hash(&self, message: impl AsRef<[u8]>) -> Result<Digest, InvalidArgument> {
         Ok(self.blake2s()?.update(message).finalize())
+    }
+
+    /// Returns a BLAKE2bp hasher with these parameters.
+    ///
+    /// # Errors
+    ///
+    /// [`InvalidArgument`] exactly if a length is out of BLAKE2bp's range, or tree parameters or
+    /// the last-node flag are set.
+    pub fn blake2bp(&self) -> Result<Blake2bp, InvalidArgument> {
+        Blake2bp::with_params(self)
+    }
+
+    /// Returns the BLAKE2bp digest of a message under these parameters.
+    ///
+    /// ```
+    /// use vulfsjor::Params;
+    ///
+    /// let digest = Params::new().output_size(20).blake2bp_hash("message")?;
+    /// assert_ne!(digest, Params::new().output_size(20).blake2b_hash("message")?);
+    /// # Ok::<(), vulfsjor::InvalidArgument>(())
+    /// ```
+    ///
+    /// # Errors
+    ///
+    /// [`InvalidArgument`] exactly if a length is out of BLAKE2bp's range, or tree parameters or
+    /// the last-node flag are set.
+    pub fn blake2bp_hash(&self, message: impl AsRef<[u8]>) -> Result<Digest, InvalidArgument> {
+        Ok(self.blake2bp()?.update(message).finalize())
+    }
+
+    /// Returns a BLAKE2sp hasher with these parameters.
+    ///
+    /// # Errors
+    ///
+    /// [`InvalidArgument`] exactly if a length is out of BLAKE2sp's range, or tree parameters or
+    /// the last-node flag are set.
+    pub fn blake2sp(&self) -> Result<Blake2sp, InvalidArgument> {
+        Blake2sp::with_params(self)
+    }
+
+    /// Returns the BLAKE2sp digest of a message under these parameters.
+    ///
+    /// ```
+    /// use vulfsjor::Params;
+    ///
+    /// let digest = Params::new().output_size(20).blake2sp_hash("message")?;
+    /// assert_ne!(digest, Params::new().output_size(20).blake2s_hash("message")?);
+    /// # Ok::<(), vulfsjor::InvalidArgument>(())
+    /// ```
+    ///
+    /// # Errors
+    ///
+    /// [`InvalidArgument`] exactly if a length is out of BLAKE2sp's range, or tree parameters or
+    /// the last-node flag are set.
+    pub fn blake2sp_hash(&self, message: impl AsRef<[u8]>) -> Result<Digest, InvalidArgument> {
+        Ok(self.blake2sp()?.update(message).finalize())
     }
 
     // The key, or no bytes if there is none.

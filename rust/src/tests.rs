@@ -5,7 +5,9 @@ use std::mem::size_of;
 use std::panic::{catch_unwind, AssertUnwindSafe};
 use std::string::{String, ToString};
 
-use crate::library::{self, Blake2bState, Blake2sState, TreeState};
+use crate::library::{
+    self, Blake2bState, Blake2bpState, Blake2sState, Blake2spState, TreeState,
+};
 use crate::*;
 
 // The text of the panic that a call ends with.
@@ -23,6 +25,8 @@ fn layouts_and_version_are_those_of_the_library() {
     unsafe {
         assert_eq!(library::blake2b_state_size(), size_of::<Blake2bState>());
         assert_eq!(library::blake2s_state_size(), size_of::<Blake2sState>());
+        assert_eq!(library::blake2bp_state_size(), size_of::<Blake2bpState>());
+        assert_eq!(library::blake2sp_state_size(), size_of::<Blake2spState>());
         assert_eq!(library::tree_state_size(), size_of::<TreeState>());
         // A plan and its parts are as large as vulfsjor.h says: its test compares.
         #[cfg(feature = "std")]
@@ -101,8 +105,64 @@ macro_rules! family {
     };
 }
 
+macro_rules! parallel {
+    ($test:ident, $hasher:ident, $state:ident, $leaves:literal) => {
+        mod $test {
+            use super::*;
+
+            // A hasher whose leaves have compressed this number of bytes less than 2^64 together,
+            // a multiple of their number. c/include/vulfsjor.h names the word of the counter and
+            // the next, the number of pending bytes.
+            fn near_the_end(hasher: $hasher, bytes: u64) -> $hasher {
+                let mut hasher = hasher;
+                hasher.state.0[32] = 0u64.wrapping_sub(bytes) / $leaves;
+                hasher.state.0[33] = 0;
+                hasher
+            }
+
+            #[test]
+            fn a_state_that_no_init_has_made_is_refused() {
+                let none = || $hasher {
+                    state: $state::ZEROS,
+                };
+                assert_eq!(none().count(), 0);
+                assert!(panic_of(|| none().update(b"").count()).contains("an input of 2^64 bytes"));
+                assert!(panic_of(|| none().finalize()).contains("a state that new has made"));
+                assert!(panic_of(|| none().finalize_reset()).contains("a state that new has made"));
+                assert!(panic_of(|| none().reset()).contains("a state that new has made"));
+            }
+
+            #[test]
+            fn inputs_end_before_2_to_the_64() {
+                let mut hasher = near_the_end($hasher::new(), 2048);
+                hasher.update([7; 2047]);
+                assert_eq!(hasher.count(), u64::MAX);
+                let before = hasher.clone().finalize();
+                let panic = panic_of(|| hasher.update(b"x").count());
+                assert!(panic.contains("an input of 2^64 bytes"));
+                assert_eq!(hasher.update(b"").finalize(), before);
+                assert_eq!(hasher.count(), u64::MAX);
+            }
+
+            #[test]
+            fn a_key_counts_512_bytes_to_the_end_and_none_to_the_input() {
+                let params = Params::new().key(b"key").output_size(1);
+                let hasher = $hasher::with_params(&params).unwrap();
+                assert_eq!(hasher.count(), 0);
+                let mut hasher = near_the_end(hasher, 1024);
+                hasher.update([7; 1023]);
+                assert_eq!(hasher.count(), u64::MAX - 512);
+                let panic = panic_of(|| hasher.update(b"x").count());
+                assert!(panic.contains("an input of 2^64 bytes"));
+            }
+        }
+    };
+}
+
 family!(blake2b, Blake2b, Blake2bState, 128, 16);
 family!(blake2s, Blake2s, Blake2sState, 64, 8);
+parallel!(blake2bp, Blake2bp, Blake2bpState, 4);
+parallel!(blake2sp, Blake2sp, Blake2spState, 8);
 
 #[test]
 fn a_tree_that_no_init_has_made_is_refused() {
