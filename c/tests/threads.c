@@ -4,7 +4,8 @@
  * calls at the same time. Returns 0 if all is as it should be.
  *
  *   cc -std=gnu99 -I FOLDER/include threads.c ARCHIVE-threads.a ARCHIVE.a -pthread -o threads
- *   ./threads FOLDER             makes its files in this folder
+ *   ./threads FOLDER [TURNS]     makes its files in this folder; TURNS (400) are random messages.
+ *                                With fewer than 60, fewer long leaves and updates are tried too
  *
  * It is also run over threads.c compiled with -DLEAST_BYTES=1, so few bytes have many threads. */
 #define _GNU_SOURCE
@@ -177,13 +178,13 @@ static void roots_at_edges(void) {
     }
 }
 
-/* Leaves of which a buffer has just room for four or for one, or no room. */
-static void roots_of_long_leaves(void) {
+/* Leaves of which a buffer has just room for four or for one, or no room: each of so many. */
+static void roots_of_long_leaves(size_t step) {
     static const uint32_t leaves[] = {4 << 20, (4 << 20) + 1, 16 << 20, (16 << 20) + 1,
                                       17 << 20,      BYTES,    UINT32_MAX};
 
     write_file(path, BYTES);
-    for (size_t i = 0; i < sizeof leaves / sizeof *leaves; i++) {
+    for (size_t i = 0; i < sizeof leaves / sizeof *leaves; i += step) {
         compare(BYTES, 64, leaves[i], 3);
         compare_by_file(BYTES, i % 2 ? 777 : leaves[i] % BYTES, leaves[i], 3);
     }
@@ -226,8 +227,8 @@ static void compare_updates(size_t length, uint32_t leaf, size_t most, unsigned 
     CHECK(!memcmp(root, wanted, 64));
 }
 
-static void updates(void) {
-    for (int turn = 0; turn < 200; turn++)
+static void updates(int turns) {
+    for (int turn = 0; turn < turns; turn++)
         compare_updates(random_below(30000), (uint32_t)(1 + random_below(turn % 2 ? 2000 : 60)),
                         turn % 3 ? 10000 : 300, (unsigned)random_below(6));
     for (int turn = 0; turn < 8; turn++)
@@ -639,8 +640,8 @@ int main(int count, char **words) {
     threads = entries("/proc/self/task"); /* a sanitizer has one more, from the first thread on */
     RUN(random_roots(turns));
     RUN(roots_at_edges());
-    RUN(roots_of_long_leaves());
-    RUN(updates());
+    RUN(roots_of_long_leaves(turns < 60 ? 2 : 1));
+    RUN(updates(turns < 60 ? 70 : 200));
     RUN(updates_at_leaves());
     RUN(refused_updates());
     RUN(refused_updates_by_files());
