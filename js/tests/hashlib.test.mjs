@@ -8,7 +8,7 @@ import * as vulfsjor from "../index.js";
 import { digestOf, leavesOf, messagesOf, namesOf, optionsOf } from "./check_cases.mjs";
 import { assertClean, bytesOf, hexOf, randomCases } from "./common.mjs";
 
-const COUNT = process.env.VULFSJOR_CASES ?? "10000";
+const COUNT = process.env.VULFSJOR_CASES ?? (process.env.VULFSJOR_TEST_HUGE ? "10000" : "3000");
 const SEED = process.env.VULFSJOR_SEED ?? "7693";
 
 // A message in one of the types that hold bytes.
