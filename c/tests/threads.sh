@@ -38,11 +38,15 @@ threads_with() {
     compile_threads "$work/threads" -DLEAST_BYTES=1 "$@" "$tests/threads.c" "$here/threads.c" &&
         compile_threads "$work/faults" -DLEAST_BYTES=1 "$@" "$tests/thread_faults.c" \
             "$here/threads.c" $(replaced_calls) &&
-        "$work/threads" "$work/files" "$(turns 60)" && "$work/faults" "$work/files" &&
-        compile_threads "$work/faults" "$@" "$tests/thread_faults.c" "$here/threads.c" \
-            $(replaced_calls) &&
-        "$work/faults" "$work/files"
+        "$work/threads" "$work/files" "$(turns 60)" && "$work/faults" "$work/files"
 }
+
+# thread_faults.c with these words, and as many threads as in the library.
+faults_with() {
+    compile_threads "$work/faults" "$@" "$tests/thread_faults.c" "$here/threads.c" \
+        $(replaced_calls) && "$work/faults" "$work/files"
+}
+threads_and_faults() { threads_with "$@" && faults_with "$@"; }
 
 # The numbers in the comment of vulfsjor_threads.h are those of threads.c.
 numbers_of_header() {
@@ -65,10 +69,13 @@ numbers_of_header() {
     done
 }
 
-# The same with a sanitizer, where memory that is not there is refused as without one.
+# The same with a sanitizer, where memory that is not there is refused as without one. Only the full
+# test has faults in as many threads as in the library.
 sanitized() {
+    local test=threads_with
+    [ -z "${VULFSJOR_TEST_HUGE-}" ] || test=threads_and_faults
     TSAN_OPTIONS=allocator_may_return_null=1 ASAN_OPTIONS=allocator_may_return_null=1 \
-        threads_with -O1 "-fsanitize=$1" -fno-sanitize-recover=all
+        $test -O1 "-fsanitize=$1" -fno-sanitize-recover=all
 }
 
 # Compiles a program of c/examples with the words of this name for pkg-config.
@@ -184,7 +191,7 @@ test_threads() {
     fi
     check "parts.c" parts_with "$(turns 20000)" -O2
     check "threads.c, with the installed library" threads_installed
-    check "threads.c and thread_faults.c" threads_with -O2
+    check "threads.c and thread_faults.c" threads_and_faults -O2
     check "the numbers in vulfsjor_threads.h" numbers_of_header
     for kind in thread address,undefined; do
         needs
