@@ -27,11 +27,12 @@ printf '%s\n' '#include <stdio.h>' '#include <unistd.h>' 'long rattle_arg(size_t
     'if (n == 10) printf("<%d>", (int)getpid()); else printf("<%.*s>", (int)n, word);' \
     'while ((c = getchar()) != EOF) putchar(c); puts(BUILD); return 7; }' >"$work/main.c"
 # A file of the small dist/, whose main is exported by a macro: COMPILER FILE BUILD.
-cp "$top"/dist/{b2,b2sum,vulfsjor}.S "$top/dist/macros.h" "$repository/dist/"
-for machine in x86_64 aarch64; do
+for folder in x86_64 aarch64; do
     printf '.macro vj_export name\n\t.text\n\t.globl\t\\name\n\\name:\n.endm\n\t.section .note.GNU-stack,"",%%progbits\n' \
-        >"$repository/dist/$machine/elf.inc"
-    touch "$repository/dist/$machine"/{coff,macho}.inc
+        >"$repository/dist/$folder/elf.inc"
+    for format in coff macho; do
+        echo "/* $folder $format */" >"$repository/dist/$folder/$format.inc"
+    done
 done
 write_text() {
     "$1" -O1 -S "-DMAIN=main_0_1_0_$3" "-DBUILD=\"$3\"" "$work/main.c" -o - |
@@ -155,20 +156,20 @@ for i686-w64-mingw32:there is no build for i686-w64-mingw32
 END
 
 # The files that are assembled for another system, by a compiler that makes nothing.
-printf '#!/bin/sh\necho "$1"\necho "$*" | tr " " "\\n" >"%s/words"\nexit $(($# > 2))\n' "$work" \
+printf '#!/bin/sh\necho "$1"\nfor text; do case $text in *.s) break ;; esac; done\n[ $# -le 2 ] || ! head -n 1 "$text" >"%s/first"\n' "$work" \
     >"$work/bin/for"
-while IFS=: read -r machine_of mains; do
+while IFS=: read -r machine_of files macros; do
     run CC="for $machine_of" "$repository/b2" --build "$work/other"
-    check "the words for $machine_of" says "b2: assembling dist/b2.S, which is done once"
-    check "and its builds" eval 'diff <(grep -o "DMAIN[^ ]*" "$work/words") <(printf "%s\n" $mains)'
+    check "the files for $machine_of" says "b2: assembling $files, which is done once"
+    check "and its macros" grep -qxF "/* $macros */" "$work/first"
     run CC="for $machine_of" "$repository/b2sum" --build "$work/other"
     check "b2sum has none" says "b2sum: there is no build for $machine_of"
 done <<'END'
-x86_64-w64-mingw32:DMAIN=main_0_1_0_v2 DMAIN_V3=main_0_1_0_v3 DMAIN_V4=main_0_1_0_v4
-x86_64-w64-windows-gnu:DMAIN=main_0_1_0_v2 DMAIN_V3=main_0_1_0_v3 DMAIN_V4=main_0_1_0_v4
-aarch64-w64-mingw32:DMAIN=main_0_1_0_arm
-x86_64-apple-darwin23.1.0:DMAIN=main_0_1_0_v2 DMAIN_V3=main_0_1_0_v3 DMAIN_V4=main_0_1_0_v4
-arm64-apple-darwin23.1.0:DMAIN=main_0_1_0_arm
+x86_64-w64-mingw32:dist/x86_64/b2-v2.s dist/x86_64/b2-v3.s dist/x86_64/b2-v4.s:x86_64 coff
+x86_64-w64-windows-gnu:dist/x86_64/b2-v2.s dist/x86_64/b2-v3.s dist/x86_64/b2-v4.s:x86_64 coff
+aarch64-w64-mingw32:dist/aarch64/b2.s:aarch64 coff
+x86_64-apple-darwin23.1.0:dist/x86_64/b2-v2.s dist/x86_64/b2-v3.s dist/x86_64/b2-v4.s:x86_64 macho
+arm64-apple-darwin23.1.0:dist/aarch64/b2.s:aarch64 macho
 END
 
 # On macOS the script compares the files with MANIFEST by itself.

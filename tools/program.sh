@@ -5,12 +5,13 @@
 # (otherwise of ~/.cache), one for each clone. On x86-64 it contains all builds and chooses one at
 # run time, so machines with other processors may share the folder.
 machine=${BASH_VERSINFO[5]%%-*}
-texts=("dist/$name.S")
+x86_64=("dist/x86_64/$name-"v{2,3,4}.s) aarch64=("dist/aarch64/$name.s")
 sources=(c/b2.c c/choose.c c/include/vulfsjor.h)
 # b2sum is linked with the library too, whose functions hash trees by threads.
 if [ "$name" = b2sum ]; then
     sources+=(c/b2sum.c c/threads.c c/include/vulfsjor_threads.h)
-    texts+=(dist/vulfsjor.S)
+    x86_64+=(dist/x86_64/vulfsjor-v{2,3,4}.s)
+    aarch64+=(dist/aarch64/vulfsjor.s)
 fi
 
 fail() {
@@ -23,20 +24,14 @@ fail() {
 is_current() {
     local file
     [ -x "$1" ] || return
-    for file in "$name" tools/program.sh dist/MANIFEST dist/macros.h "${texts[@]}" \
-        "${sources[@]}"; do
+    for file in "$name" tools/program.sh dist/MANIFEST dist/{x86_64,aarch64}/{elf,macho,coff}.inc \
+        "${x86_64[@]}" "${aarch64[@]}" "${sources[@]}"; do
         [ "$1" -nt "$top/$file" ] || return
-    done
-    for file in "$top"/dist/*/*.inc "$top"/dist/*/"$name"[.-]*s; do
-        [ "$1" -nt "$file" ] || return
-    done
-    [ "$name" = b2 ] || for file in "$top"/dist/*/vulfsjor*.s; do
-        [ "$1" -nt "$file" ] || return
     done
 }
 
 # The name of the main in a file of dist/.
-main_of() { sed -n $'s/^\tvj_export\t\\(main_.*\\)/\\1/p' "$top/dist/$1"; }
+main_of() { sed -n $'s/^\tvj_export\t\\(main_.*\\)/\\1/p' "$top/$1"; }
 
 # Adds to `words` what the compiler gets for a program of these files: FILE, or FILE V3 V4.
 add_words() {
@@ -65,37 +60,54 @@ check_dist() {
     esac
 }
 
+# Writes the macros for the object format, and after them those of `texts` with this name.
+write_assembly() {
+    local file own=()
+    for file in "${texts[@]}"; do
+        case $file in */"$1"[.-]*) own+=("$top/$file") ;; esac
+    done
+    cat "${own[0]%/*}/$format.inc" "${own[@]}" >"$begun.$1.s"
+}
+
 # Builds the program as this file, for the machine that the compiler compiles for, which has to be
 # this one if it is named: FILE [MACHINE]. It is then as old as the beginning of its build.
 build() {
-    local cc target system words
+    local cc target texts format words
     read -ra cc <<<"${CC:-cc}"
     command -v "${cc[0]-}" >/dev/null || fail "a C compiler is needed: cc, or the one that CC names"
     target=$("${cc[@]}" -dumpmachine)
     case $target in
-        *x32 | *ilp32) system=none ;;
-        *-linux*) system=linux words=(-Wl,--gc-sections -Wl,-z,relro -Wl,-z,now) ;;
-        *-mingw32 | *-windows-gnu) system=windows words=(-Wl,--gc-sections -municode) ;;
-        *-apple-*) system=macos words=(-Wl,-dead_strip) ;;
-        *) system=none ;;
+        *x32 | *ilp32) format=none ;;
+        *-linux*) format=elf words=(-Wl,--gc-sections -Wl,-z,relro -Wl,-z,now) ;;
+        *-mingw32 | *-windows-gnu) format=coff words=(-Wl,--gc-sections -municode) ;;
+        *-apple-*) format=macho words=(-Wl,-dead_strip) ;;
+        *) format=none ;;
     esac
-    [ "$name" = b2 ] || [ $system = linux ] || system=none
-    case $target,$system in
+    [ "$name" = b2 ] || [ $format = elf ] || format=none
+    case $target,$format in
         *,none) fail "there is no build for $target" ;;
-        x86_64-*) add_words x86_64/$name-v{2,3,4}.s ;;
-        aarch64-* | arm64-*) add_words "aarch64/$name.s" ;;
+        x86_64-*)
+            texts=("${x86_64[@]}")
+            add_words "${texts[@]:0:3}"
+            ;;
+        aarch64-* | arm64-*)
+            texts=("${aarch64[@]}")
+            add_words "${texts[0]}"
+            ;;
         *) fail "there is no build for $target" ;;
     esac
     [[ $target == "${2-}"* ]] || fail "CC compiles for $target, and this machine is $2"
     check_dist
     echo "$name: assembling ${texts[*]}, which is done once" >&2
     begun=$(mktemp -- "$1.XXXXXX")
-    trap 'rm -f -- "$begun" "$begun.new"' EXIT
-    "${cc[@]}" -O2 -fno-lto "${words[@]}" -o "$begun.new" "$top/c/b2.c" "${texts[@]/#/$top/}"
+    trap 'rm -f -- "$begun" "$begun".*' EXIT
+    write_assembly "$name"
+    [ "$name" = b2 ] || write_assembly vulfsjor
+    "${cc[@]}" -O2 -fno-lto "${words[@]}" -o "$begun.new" "$top/c/b2.c" "$begun"*.s
     chmod 755 "$begun.new"
     touch -r "$begun" "$begun.new"
     mv -f -- "$begun.new" "$1"
-    rm -f -- "$begun"
+    rm -f -- "$begun" "$begun"*.s
     trap - EXIT
     echo "$name: built $1" >&2
 }

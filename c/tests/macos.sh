@@ -59,14 +59,28 @@ installs() {
         "$here/install.sh" --uninstall "$folder" && [ -z "$(find "$folder" ! -type d)" ]
 }
 
-# One command makes an object for both processors of a Mac, with the functions of each.
+# Whether an object is for both processors of a Mac, with the functions of each.
 is_universal() {
-    mkdir -p "$work/lipo" && ln -sf "$lipo" "$work/lipo/lipo" &&
-        PATH=$work/lipo:$PATH clang --target=arm64-apple-macos11 -arch arm64 -arch x86_64 \
-            -c "$dist/vulfsjor.S" -o "$work/universal.o" &&
-        "$lipo" "$work/universal.o" -verify_arch arm64 x86_64 &&
-        llvm-nm --arch=x86_64 "$work/universal.o" | grep -q ' T _vulfsjor_ffi_blake2b_.*_v4$' &&
-        llvm-nm --arch=arm64 "$work/universal.o" | grep -q ' T _vulfsjor_ffi_blake2b_.*_arm$'
+    "$lipo" "$1" -verify_arch arm64 x86_64 &&
+        llvm-nm --arch=x86_64 "$1" | grep -q ' T _vulfsjor_ffi_blake2b_.*_v4$' &&
+        llvm-nm --arch=arm64 "$1" | grep -q ' T _vulfsjor_ffi_blake2b_.*_arm$'
+}
+
+# One command makes it, and so does CMake. lipo is LLVM's.
+makes_universal() {
+    local build=$work/universal
+    mkdir -p "$build/bin" && ln -sf "$lipo" "$build/bin/lipo" && export PATH=$build/bin:$PATH &&
+        "$work/arm64" -arch arm64 -arch x86_64 -c "$dist/vulfsjor.S" -o "$build/both.o" &&
+        is_universal "$build/both.o" || return 1
+    has cmake || return 0
+    cmake -S "$here" -B "$build" -DCMAKE_SYSTEM_NAME=Darwin -DCMAKE_SYSTEM_PROCESSOR=arm64 \
+        -DCMAKE_C_COMPILER="$work/arm64" -DCMAKE_OSX_ARCHITECTURES="arm64;x86_64" \
+        -DCMAKE_OSX_SYSROOT="$sdk" -DCMAKE_TRY_COMPILE_TARGET_TYPE=STATIC_LIBRARY &&
+        cmake --build "$build" && is_universal "$(find "$build" -name vulfsjor.S.o)" &&
+        ! cmake -S "$here" -B "$build/none" -DCMAKE_SYSTEM_NAME=Darwin \
+            -DCMAKE_C_COMPILER="$work/arm64" -DCMAKE_OSX_ARCHITECTURES="arm64;i386" \
+            -DCMAKE_OSX_SYSROOT="$sdk" -DCMAKE_TRY_COMPILE_TARGET_TYPE=STATIC_LIBRARY \
+            2>"$build/said" && grep -q "vulfsjor has no code for Darwin" "$build/said"
 }
 
 # The program is linked, and calls what the list above has.
@@ -112,7 +126,7 @@ test_macos() {
         check "b2 for macOS on $processor" builds_program $processor
     done
     [ -n "$lipo" ] || missing="no llvm-lipo"
-    check "an object for both processors" is_universal
+    check "an object for both processors, and a library by CMake" makes_universal
     needs
     if has qemu-aarch64 && has aarch64-linux-gnu-gcc && has python3; then
         check "packed.c by the convention of macOS on ARM" packed_runs

@@ -51,7 +51,7 @@ def changed(lines, number, old, new):
     if text == clean[at]:
         raise NoMatch("the change of %r changes nothing" % clean[at])
     # The labels of a file are numbers too, from 1 up.
-    inserted = [re.sub(r"\b(\d)(f$|:$)", r"9999\1\2", part) for part in text.split("; ") if part]
+    inserted = [re.sub(r"(?<![\w$%])(\d)(f$|:)", r"9999\1\2", part) for part in text.split("; ") if part]
     return lines[:at] + inserted + lines[at + 1:]
 
 
