@@ -1,5 +1,5 @@
-/* BLAKE2b and BLAKE2s for Python, with the interface of hashlib, by the proved functions of the
- * library vulfsjor, whose assembly is linked with this file. */
+/* BLAKE2b, BLAKE2s, BLAKE2bp and BLAKE2sp for Python, with the interface of hashlib, by the proved
+ * functions of the library vulfsjor, whose assembly is linked with this file. */
 #include "library.h"
 
 #ifdef __x86_64__
@@ -15,9 +15,10 @@ typedef struct messages {
     vulfsjor_message *texts;
 } messages;
 
-/* What differs between them. Each function is one call of the header's. */
+/* What differs between them. Each function is one call of the header's. BLAKE2bp and BLAKE2sp have
+ * a fixed tree: they ignore that of init, and set_last_node and many are NULL. */
 typedef struct family {
-    const char *name, *arguments;
+    const char *name, *prefix, *arguments;
     int block, out, key, salt, person;
     size_t state;
     uint64_t last_offset;
@@ -32,12 +33,8 @@ typedef struct family {
                 const Py_buffer *salt, const Py_buffer *person);
 } family;
 
-#define FAMILY(f, NAME, offset)                                                                    \
-    static int f##_init(void *S, size_t o, const Py_buffer *k, const Py_buffer *s,                 \
-                        const Py_buffer *p, const vulfsjor_tree *t) {                              \
-        return vulfsjor_##f##_init_tree(S, o, TEXT(k), TEXT(s), TEXT(p), t);                       \
-    }                                                                                              \
-    static int f##_last(void *S) { return vulfsjor_##f##_set_last_node(S, 1); }                    \
+/* What all have. The formats of the arguments are those of `parse`. */
+#define FAMILY(f, NAME, format, offset, last, many)                                                \
     static int f##_update(void *S, const void *in, size_t n) {                                     \
         return vulfsjor_##f##_update(S, in, n);                                                    \
     }                                                                                              \
@@ -48,18 +45,36 @@ typedef struct family {
         return vulfsjor_##f##_verify(S, t, n);                                                     \
     }                                                                                              \
     static void f##_wipe(void *S) { vulfsjor_##f##_wipe(S); }                                      \
+    static const family f = {                                                                      \
+        #f, #NAME "_", format ":" #f,                                                              \
+        VULFSJOR_##NAME##_BLOCKBYTES, VULFSJOR_##NAME##_OUTBYTES, VULFSJOR_##NAME##_KEYBYTES,      \
+        VULFSJOR_##NAME##_SALTBYTES, VULFSJOR_##NAME##_PERSONALBYTES,                              \
+        sizeof(vulfsjor_##f##_state), offset,                                                      \
+        f##_init, last, f##_update, f##_end, f##_verify, f##_wipe, many};
+
+#define PLAIN(f, NAME, offset)                                                                     \
+    static int f##_init(void *S, size_t o, const Py_buffer *k, const Py_buffer *s,                 \
+                        const Py_buffer *p, const vulfsjor_tree *t) {                              \
+        return vulfsjor_##f##_init_tree(S, o, TEXT(k), TEXT(s), TEXT(p), t);                       \
+    }                                                                                              \
+    static int f##_last(void *S) { return vulfsjor_##f##_set_last_node(S, 1); }                    \
     static int f##_many(uint8_t *out, size_t o, const messages *m, const Py_buffer *k,             \
                         const Py_buffer *s, const Py_buffer *p) {                                  \
         return vulfsjor_##f##_many(out, o, m->texts, (size_t)m->count, TEXT(k), TEXT(s), TEXT(p)); \
     }                                                                                              \
-    static const family f = {                                                                      \
-        #f, "|O$iy*y*y*iiOOiipp:" #f,                                                              \
-        VULFSJOR_##NAME##_BLOCKBYTES, VULFSJOR_##NAME##_OUTBYTES, VULFSJOR_##NAME##_KEYBYTES,      \
-        VULFSJOR_##NAME##_SALTBYTES, VULFSJOR_##NAME##_PERSONALBYTES,                              \
-        sizeof(vulfsjor_##f##_state), offset,                                                      \
-        f##_init, f##_last, f##_update, f##_end, f##_verify, f##_wipe, f##_many};
-FAMILY(blake2b, BLAKE2B, UINT64_MAX)
-FAMILY(blake2s, BLAKE2S, ((uint64_t)1 << 48) - 1)
+    FAMILY(f, NAME, "|O$iy*y*y*iiOOiipp", offset, f##_last, f##_many)
+PLAIN(blake2b, BLAKE2B, UINT64_MAX)
+PLAIN(blake2s, BLAKE2S, ((uint64_t)1 << 48) - 1)
+
+#define PARALLEL(f, NAME)                                                                          \
+    static int f##_init(void *S, size_t o, const Py_buffer *k, const Py_buffer *s,                 \
+                        const Py_buffer *p, const vulfsjor_tree *t) {                              \
+        (void)t;                                                                                   \
+        return vulfsjor_##f##_init_salt_personal(S, o, TEXT(k), TEXT(s), TEXT(p));                 \
+    }                                                                                              \
+    FAMILY(f, NAME, "|O$iy*y*y*p", 0, NULL, NULL)
+PARALLEL(blake2bp, BLAKE2BP)
+PARALLEL(blake2sp, BLAKE2SP)
 
 /* ---- Arguments: see library.h */
 
@@ -131,6 +146,8 @@ PyObject *refused(PyObject *exception, const char *why) {
 typedef union state {
     vulfsjor_blake2b_state b;
     vulfsjor_blake2s_state s;
+    vulfsjor_blake2bp_state bp;
+    vulfsjor_blake2sp_state sp;
 } state;
 
 /* With the GIL the lock is made at the first update of many bytes: nothing else lets other threads
@@ -241,18 +258,27 @@ static int begin(hash *self, const given *g) {
     return g->data ? take(self, g->data) : 0;
 }
 
-static PyObject *make(PyTypeObject *type, PyObject *args, PyObject *words, const family *f) {
+/* Reads the arguments. 0 if one has the wrong type or name, with an exception. */
+static int parse(PyObject *args, PyObject *words, const family *f, given *g) {
     static char *names[] = {"",          "digest_size", "key",        "salt",       "person",
                             "fanout",    "depth",       "leaf_size",  "node_offset", "node_depth",
                             "inner_size", "last_node",  "usedforsecurity", NULL};
+    static char *fewer[] = {"", "digest_size", "key", "salt", "person", "usedforsecurity", NULL};
+    if (!f->set_last_node)
+        return PyArg_ParseTupleAndKeywords(args, words, f->arguments, fewer, &g->data, &g->size,
+                                           &g->key, &g->salt, &g->person, &g->secure);
+    return PyArg_ParseTupleAndKeywords(args, words, f->arguments, names, &g->data, &g->size,
+                                       &g->key, &g->salt, &g->person, &g->fanout, &g->depth,
+                                       &g->leaf, &g->offset, &g->node_depth, &g->inner, &g->last,
+                                       &g->secure);
+}
+
+static PyObject *make(PyTypeObject *type, PyObject *args, PyObject *words, const family *f) {
     given g = {.size = f->out, .fanout = 1, .depth = 1, .secure = 1};
     hash *self = NULL;
     if (!words && PyTuple_Size(args) <= 1) { /* nothing but data, which needs no search for words */
         g.data = PyTuple_Size(args) ? PyTuple_GetItem(args, 0) : NULL;
-    } else if (!PyArg_ParseTupleAndKeywords(args, words, f->arguments, names, &g.data, &g.size,
-                                            &g.key, &g.salt, &g.person, &g.fanout, &g.depth,
-                                            &g.leaf, &g.offset, &g.node_depth, &g.inner, &g.last,
-                                            &g.secure)) {
+    } else if (!parse(args, words, f, &g)) {
         return NULL;
     }
     if (!check_given(&g, f)) self = empty(type, f, g.size);
@@ -261,14 +287,6 @@ static PyObject *make(PyTypeObject *type, PyObject *args, PyObject *words, const
     release(&g.salt);
     release(&g.person);
     return (PyObject *)self;
-}
-
-static PyObject *make_b(PyTypeObject *type, PyObject *args, PyObject *words) {
-    return make(type, args, words, &blake2b);
-}
-
-static PyObject *make_s(PyTypeObject *type, PyObject *args, PyObject *words) {
-    return make(type, args, words, &blake2s);
 }
 
 static void end_of_life(PyObject *object) {
@@ -504,25 +522,35 @@ static PyMethodDef functions[] = {
     {"blake2s_many", WITH_WORDS(many_s), MANY(blake2s, 32, "eight")},
     {NULL, NULL, 0, NULL}};
 
-#define DOC(f, size, longest)                                                                      \
-    #f "(data=b'', /, *, digest_size=" #size ", key=b'', salt=b'', person=b'', fanout=1,"          \
-       " depth=1,\n"                                                                               \
-       "        leaf_size=0, node_offset=0, node_depth=0, inner_size=0, last_node=False,\n"        \
-       "        usedforsecurity=True)\n--\n\nReturn a new hash object.\n\n"                        \
-       "digest_size is 1 to " #size ", a key has up to " #size " bytes, salt and person up to "    \
-       #longest " each."
-static PyType_Slot slots_b[] = {
-    {Py_tp_new, make_b},    {Py_tp_dealloc, end_of_life},      {Py_tp_methods, methods},
-    {Py_tp_getset, fields}, {Py_tp_doc, DOC(blake2b, 64, 16)}, {0, NULL}};
-static PyType_Slot slots_s[] = {
-    {Py_tp_new, make_s},    {Py_tp_dealloc, end_of_life},     {Py_tp_methods, methods},
-    {Py_tp_getset, fields}, {Py_tp_doc, DOC(blake2s, 32, 8)}, {0, NULL}};
+#define TREE                                                                                       \
+    " fanout=1, depth=1,\n"                                                                        \
+    "        leaf_size=0, node_offset=0, node_depth=0, inner_size=0, last_node=False,"
+#define EXTENSION(name)                                                                            \
+    "\nSalt and person are an extension: the BLAKE2 document gives " name " neither."
 /* An object has room for the state of its family only. */
-#define SIZE(f) (int)(offsetof(hash, run) + sizeof(vulfsjor_##f##_state))
-static PyType_Spec spec_b = {"vulfsjor.blake2b", SIZE(blake2b), 0, Py_TPFLAGS_DEFAULT, slots_b};
-static PyType_Spec spec_s = {"vulfsjor.blake2s", SIZE(blake2s), 0, Py_TPFLAGS_DEFAULT, slots_s};
+#define TYPE(f, size, longest, tree, more)                                                         \
+    static PyObject *make_##f(PyTypeObject *type, PyObject *args, PyObject *words) {               \
+        return make(type, args, words, &f);                                                        \
+    }                                                                                              \
+    static PyType_Slot slots_##f[] = {                                                             \
+        {Py_tp_new, make_##f},                                                                     \
+        {Py_tp_dealloc, end_of_life},                                                              \
+        {Py_tp_methods, methods},                                                                  \
+        {Py_tp_getset, fields},                                                                    \
+        {Py_tp_doc, #f "(data=b'', /, *, digest_size=" #size ", key=b'', salt=b'', person=b'',"    \
+                    tree "\n        usedforsecurity=True)\n--\n\nReturn a new hash object.\n\n"    \
+                    "digest_size is 1 to " #size ", a key has up to " #size " bytes, salt and"     \
+                    " person up to " #longest " each." more},                                      \
+        {0, NULL}};                                                                                \
+    static PyType_Spec spec_##f = {                                                                \
+        "vulfsjor." #f, (int)(offsetof(hash, run) + sizeof(vulfsjor_##f##_state)), 0,              \
+        Py_TPFLAGS_DEFAULT, slots_##f};
+TYPE(blake2b, 64, 16, TREE, "")
+TYPE(blake2s, 32, 8, TREE, "")
+TYPE(blake2bp, 64, 16, "", EXTENSION("BLAKE2bp"))
+TYPE(blake2sp, 32, 8, "", EXTENSION("BLAKE2sp"))
 
-/* The class of both classes, so that no program changes them. (The limited API can't set the flag
+/* The class of these classes, so that no program changes them. (The limited API can't set the flag
  * of immutable types on one that has constants.) */
 static int refuse(PyObject *type, PyObject *name, PyObject *value) {
     (void)type, (void)value;
@@ -555,7 +583,7 @@ static int set_numbers(PyObject *at, const char *prefix, const family *f) {
 
 /* Returns the class, or NULL with an exception. */
 static PyObject *add_family(PyObject *module, PyObject *type_of_types, PyType_Spec *spec,
-                            const family *f, const char *prefix) {
+                            const family *f) {
     PyObject *type = PyType_FromModuleAndSpec(module, spec, NULL);
     if (!type || set_numbers(type, "", f)) {
         Py_XDECREF(type);
@@ -563,7 +591,7 @@ static PyObject *add_family(PyObject *module, PyObject *type_of_types, PyType_Sp
     }
     Py_INCREF(type_of_types); /* the class before, `type`, is static, and counts no instances */
     Py_SET_TYPE(type, (PyTypeObject *)type_of_types);
-    if (PyModule_AddObjectRef(module, f->name, type) || set_numbers(module, prefix, f))
+    if (PyModule_AddObjectRef(module, f->name, type) || set_numbers(module, f->prefix, f))
         Py_CLEAR(type);
     return type;
 }
@@ -601,17 +629,23 @@ static int ask_processor(PyObject *module) {
 }
 
 static int fill(PyObject *module) {
+    static const struct {
+        PyType_Spec *spec;
+        const family *f;
+    } others[] = {
+        {&spec_blake2s, &blake2s}, {&spec_blake2bp, &blake2bp}, {&spec_blake2sp, &blake2sp}};
     PyObject *types = PyType_FromSpecWithBases(&spec_of_types, (PyObject *)&PyType_Type);
     classes *own = PyModule_GetState(module);
     int failed;
     if (!types) return -1;
-    failed = !(own->blake2b = add_family(module, types, &spec_b, &blake2b, "BLAKE2B_"));
-    if (!failed) {
-        PyObject *other = add_family(module, types, &spec_s, &blake2s, "BLAKE2S_");
-        failed = !other || add_version(module) || PyModule_AddFunctions(module, tree_functions) ||
-                 add_tree_types(module);
+    failed = !(own->blake2b = add_family(module, types, &spec_blake2b, &blake2b));
+    for (int i = 0; !failed && i < 3; i++) {
+        PyObject *other = add_family(module, types, others[i].spec, others[i].f);
+        failed = !other;
         Py_XDECREF(other);
     }
+    failed = failed || add_version(module) || PyModule_AddFunctions(module, tree_functions) ||
+             add_tree_types(module);
     Py_DECREF(types);
     return failed ? -1 : 0;
 }

@@ -14,6 +14,7 @@ WANTED = [hashlib.blake2b(DATA, key=b"key").digest(), hashlib.blake2s(DATA).dige
 sys.path.insert(0, sys.argv[1])
 import vulfsjor  # noqa: E402
 
+PARALLEL = vulfsjor.blake2bp(DATA).digest()
 ROOT = vulfsjor.tree_root(DATA, 4096)
 # hashlib itself is not used there: that of 3.12.1 corrupts memory. Nor are threads before 3.13.
 PROGRAM = f"""
@@ -25,6 +26,7 @@ hasher = vulfsjor.blake2b(key=b"key")
 hasher.update(data)
 assert [hasher.copy().digest(), vulfsjor.blake2s(data).digest()] == {WANTED!r}
 assert hasher.verify({WANTED[0]!r}) and not hasher.verify(b"other")
+assert vulfsjor.blake2bp(data).digest() == {PARALLEL!r}
 assert vulfsjor.blake2s_many([data, data]) == [{WANTED[1]!r}] * 2
 for threads in (1, 3 if sys.version_info >= (3, 13) else 1):
     tree = vulfsjor.TreeHasher(4096)

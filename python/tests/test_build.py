@@ -57,7 +57,8 @@ class Test(unittest.TestCase):
 
     def compares(self, folder, *prefix, calls):
         """The package in a folder returns what hashlib does."""
-        self.succeeds(*prefix, sys.executable, "-m", "unittest", "test_compare", cwd=HERE,
+        self.succeeds(*prefix, sys.executable, "-m", "unittest", "test_compare",
+                      "test_package.KnownAnswers", cwd=HERE,
                       env={**os.environ, "VULFSJOR_PACKAGE": folder,
                            "VULFSJOR_TEST_CALLS": str(calls)})
 

@@ -7,6 +7,7 @@ import ctypes
 import itertools
 import mmap
 import os
+import pickle
 import random
 import threading
 import unittest
@@ -151,13 +152,20 @@ def edges_of(module, name, longest):
     make = getattr(module, name)
     for words in edge_parameters(longest):
         yield words, outcome(lambda: make(b"message", **words).hexdigest())
-    yield "two", outcome(lambda: make(b"a", b"b"))
     for data in inputs():
         yield data, outcome(lambda: make(data).hexdigest())
         yield data, outcome(lambda: make().update(data))
+    yield from edges_of_objects(module, name)
+
+
+def edges_of_objects(module, name):
+    """The outcome of calls that return no digest."""
+    make = getattr(module, name)
+    yield "two", outcome(lambda: make(b"a", b"b"))
     yield "none", outcome(lambda: make().update())
     yield "digest", outcome(lambda: make().digest(1))
     yield "subclass", outcome(lambda: type("Sub", (make,), {}))
+    yield "pickle", outcome(lambda: pickle.dumps(make()))
     yield "attribute", outcome(lambda: setattr(make(), "other", 1))
     for field in ("name", "block_size", "digest_size"):
         yield field, outcome(lambda: setattr(make(), field, 1))[0]
@@ -236,7 +244,7 @@ class Compare(unittest.TestCase):
         self.assertGreater(compare_edges(), 1000)
 
     def test_threads_share_an_object(self):
-        for make in (vulfsjor.blake2b, vulfsjor.blake2s):
+        for make in (vulfsjor.blake2b, vulfsjor.blake2s, vulfsjor.blake2bp, vulfsjor.blake2sp):
             share_among_threads(make)
 
 

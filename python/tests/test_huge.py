@@ -8,8 +8,9 @@ import mmap
 import os
 import tempfile
 import unittest
+from functools import partial
 
-import support  # noqa: F401
+from support import parallel
 import oracle
 import vulfsjor
 
@@ -36,8 +37,9 @@ class Cheap(unittest.TestCase):
 
     def test_arguments_are_refused(self):
         data = mapping(2**32 + 64)
-        for make, many in ((vulfsjor.blake2b, vulfsjor.blake2b_many),
-                           (vulfsjor.blake2s, vulfsjor.blake2s_many)):
+        for make, *many in ((vulfsjor.blake2b, vulfsjor.blake2b_many),
+                            (vulfsjor.blake2s, vulfsjor.blake2s_many),
+                            (vulfsjor.blake2bp,), (vulfsjor.blake2sp,)):
             mac = make(b"message", key=b"key")
             data[:mac.digest_size] = mac.digest()
             self.assertTrue(mac.verify(memoryview(data)[:mac.digest_size]))
@@ -46,10 +48,10 @@ class Cheap(unittest.TestCase):
                 view = memoryview(data)[:length]
                 self.assertFalse(mac.verify(view))
                 for name in ("key", "salt", "person"):
-                    with self.assertRaisesRegex(ValueError, f"^maximum {name} length is"):
-                        make(b"message", **{name: view})
-                    with self.assertRaisesRegex(ValueError, f"^maximum {name} length is"):
-                        many([b"message"], **{name: view})
+                    for call in (partial(make, b"message"),
+                                 *(partial(each, [b"message"]) for each in many)):
+                        with self.assertRaisesRegex(ValueError, f"^maximum {name} length is"):
+                            call(**{name: view})
         for name in ("salt", "person"):
             for call in (lambda **more: vulfsjor.tree_root(b"", 1, **more),
                          lambda **more: vulfsjor.tree_root_of_leaves(bytes(64), 1, **more),
@@ -121,17 +123,18 @@ class Slow(unittest.TestCase):
 
     def test_messages(self):
         data = mapping()
-        for name in ("blake2b", "blake2s"):
-            make, many = getattr(vulfsjor, name), getattr(vulfsjor, f"{name}_many")
+        for theirs, make, *many in (
+                (hashlib.blake2b, vulfsjor.blake2b, vulfsjor.blake2b_many),
+                (hashlib.blake2s, vulfsjor.blake2s, vulfsjor.blake2s_many),
+                (parallel("b"), vulfsjor.blake2bp), (parallel("s"), vulfsjor.blake2sp)):
 
             def update():
                 hasher = make()
                 hasher.update(data)
                 return hasher.digest()
 
-            self.are_equal(lambda: getattr(hashlib, name)(data).digest(), update,
-                           lambda: make(data).digest(),
-                           lambda: many([b"short", data, b"other"])[1])
+            self.are_equal(lambda: theirs(data).digest(), update, lambda: make(data).digest(),
+                           *(lambda: each([b"short", data, b"other"])[1] for each in many))
 
     def test_trees(self):
         """Of a mapping and of a file, in parts and in pieces, with leaves of 4 and 64 MiB."""

@@ -22,14 +22,16 @@ import tracemalloc
 import unittest
 import weakref
 
-from support import HERE, WITHOUT_GIL
+from support import HERE, WITHOUT_GIL, parallel
 import oracle
 import vectors
 import vulfsjor
 
 DICE = random.Random(1)
-FAMILIES = (("blake2b", vulfsjor.blake2b, hashlib.blake2b, vulfsjor.blake2b_many, 64),
-            ("blake2s", vulfsjor.blake2s, hashlib.blake2s, vulfsjor.blake2s_many, 32))
+PLAIN = (("blake2b", vulfsjor.blake2b, hashlib.blake2b, vulfsjor.blake2b_many, 64),
+         ("blake2s", vulfsjor.blake2s, hashlib.blake2s, vulfsjor.blake2s_many, 32))
+FAMILIES = (*PLAIN, ("blake2bp", vulfsjor.blake2bp, parallel("b"), None, 64),
+            ("blake2sp", vulfsjor.blake2sp, parallel("s"), None, 32))
 LONG = bytes(1 << 26)
 
 
@@ -40,8 +42,9 @@ class KnownAnswers(unittest.TestCase):
         met = collections.Counter()
         for case in vectors.cases():
             words = vectors.arguments(case)
-            if case["kind"] == "hash":
-                found = getattr(vulfsjor, case["hash"])(vectors.message(case), **words).digest()
+            if case["kind"] in ("hash", "parallel"):
+                make = getattr(vulfsjor, case["hash"] + "p" * (case["kind"] == "parallel"))
+                found = make(vectors.message(case), **words).digest()
             elif case["kind"] == "many":
                 digests = getattr(vulfsjor, case["hash"] + "_many")(vectors.messages(case), **words)
                 found = vectors.hash_of(b"".join(digests))
@@ -51,7 +54,7 @@ class KnownAnswers(unittest.TestCase):
                 continue
             self.assertEqual(found.hex(), case["digest"], case)
             met[case["kind"]] += 1
-        self.assertEqual(met, {"hash": 1744, "many": 60, "root": 207})
+        self.assertEqual(met, {"hash": 1744, "many": 60, "root": 207, "parallel": 234})
 
 
 class Verify(unittest.TestCase):
@@ -90,7 +93,7 @@ class Many(unittest.TestCase):
     """Several messages in one call."""
 
     def test_digests_are_those_of_hashlib(self):
-        for _, _, theirs, many, longest in FAMILIES:
+        for _, _, theirs, many, longest in PLAIN:
             for count in (0, 1, 2, 3, 4, 5, 7, 8, 9, 16, 33):
                 for length in (0, 1, 64, 128, 129, 1000, None):
                     lengths = [
@@ -110,13 +113,13 @@ class Many(unittest.TestCase):
                     self.assertEqual(many(messages, **words), wanted)
 
     def test_any_iterable_of_any_buffers(self):
-        for _, _, theirs, many, _ in FAMILIES:
+        for _, _, theirs, many, _ in PLAIN:
             wanted = [theirs(b"ab").digest()] * 3
             self.assertEqual(many((b"ab", bytearray(b"ab"), memoryview(b"xabx")[1:3])), wanted)
             self.assertEqual(many(b"ab" for _ in range(3)), wanted)
 
     def test_refusals(self):
-        for _, _, _, many, longest in FAMILIES:
+        for _, _, _, many, longest in PLAIN:
             for words in ({"digest_size": 0}, {"digest_size": longest + 1}, {"digest_size": -1},
                           {"key": bytes(longest + 1)}, {"salt": bytes(longest // 4 + 1)},
                           {"person": bytes(longest // 4 + 1)}):
@@ -136,14 +139,14 @@ class Many(unittest.TestCase):
         with mmap.mmap(-1, 5) as mapped:
             one = (b"", b"abc", bytearray(), memoryview(b"abc"), memoryview(b"abc").cast("c"), "",
                    "text", array.array("B", b"abc"), array.array("b"), (ctypes.c_char * 3)(), mapped)
-            for _, _, _, many, _ in FAMILIES:
+            for _, _, _, many, _ in PLAIN:
                 for message in one:
                     with self.assertRaises(TypeError) as caught:
                         many(message)
                     self.assertEqual(
                         str(caught.exception),
                         "messages must be several, such as a list of bytes, not one")
-        for _, _, theirs, many, _ in FAMILIES:
+        for _, _, theirs, many, _ in PLAIN:
             rows = ((ctypes.c_char * 3) * 2).from_buffer_copy(b"abcxyz")
             self.assertEqual(many(rows), [theirs(b"abc").digest(), theirs(b"xyz").digest()])
             self.assertEqual((many([]), many(())), ([], []))
@@ -219,17 +222,19 @@ class Secrets(unittest.TestCase):
     """What is left of a key."""
 
     def test_a_dead_object_has_no_byte_of_its_state(self):
-        for _, make, _, _, longest in FAMILIES:
+        states = {"blake2b": 424, "blake2s": 232, "blake2bp": 1632, "blake2sp": 1600}
+        for name, make, _, _, longest in FAMILIES:
             key = bytes(range(1, longest + 1))
             mac = make(b"message", key=key)
             address, size, head = id(mac), mac.__sizeof__(), object.__basicsize__ + 24
-            self.assertEqual(size, head + (424 if longest == 64 else 232))
+            self.assertEqual(size, head + states[name])
             alive, dead = (ctypes.create_string_buffer(size) for _ in range(2))
             ctypes.memmove(alive, address, size)
             del mac
             ctypes.memmove(dead, address, size)
             self.assertIn(key, alive.raw)
-            self.assertEqual(dead.raw[head:], bytes(size - head))
+            end = size - 8 * (size > 512)  # malloc writes to the last bytes of what it has freed
+            self.assertEqual(dead.raw[head:end], bytes(end - head))
 
     def test_an_object_that_is_refused_half_way_too(self):
         for _, make, _, _, longest in FAMILIES:
@@ -262,13 +267,17 @@ class Counts(unittest.TestCase):
     """Inputs end before 2^64 bytes: a state whose count is set near there takes no more."""
 
     def test_an_input_that_is_too_long_is_refused(self):
-        for (_, make, _, _, longest), chain in zip(FAMILIES, (128, 64)):
+        # Where the count is, what it is after 1,700 bytes, and one near the end. That of BLAKE2bp
+        # and BLAKE2sp is the count of each leaf.
+        counts = ((128, 1664, 2**64 - 256), (64, 1664, 2**64 - 256), (256, 256, 2**62 - 256),
+                  (256, 128, 2**61 - 128))
+        for (_, make, _, _, _), (chain, early, late) in zip(FAMILIES, counts, strict=True):
             for length in (300, 3000):
                 hasher, head = make(), object.__basicsize__ + 24
                 count = ctypes.c_uint64.from_address(id(hasher) + head + chain)
-                hasher.update(bytes(200))
-                self.assertEqual(count.value, 128 if longest == 64 else 192)
-                count.value = 2**64 - 256
+                hasher.update(bytes(1700))
+                self.assertEqual(count.value, early)
+                count.value = late
                 hasher.update(bytes(100))
                 before = hasher.digest()
                 self.assertRaises(OverflowError, hasher.update, bytes(length))
@@ -303,7 +312,7 @@ class Views(unittest.TestCase):
                 )
             self.grows(lambda data: make().update(data), ("data",))
             self.grows(lambda data: make().verify(data), ("data",))
-            for words in ({}, {"digest_size": 0}):
+            for words in ({}, {"digest_size": 0}) if many else ():
                 self.grows(lambda **words: many([b"x", words.pop("data", b"x")], **words),
                            ("data", "key", "salt", "person"), **words)
                 self.grows(
@@ -324,16 +333,19 @@ class Views(unittest.TestCase):
                 for _ in range(400):
                     hasher = make(b"x", key=b"key")
                     hasher.copy().update(bytes(3000))
-                    hasher.digest(), hasher.hexdigest(), hasher.verify(b"x"), many([b"x"] * 5)
+                    hasher.digest(), hasher.hexdigest(), hasher.verify(b"x")
                     for call in (
                         lambda: make("x"),
-                        lambda: many([b"x", "x"]),
+                        lambda: make(digest_size=0),
                         lambda: make(depth=0),
                         lambda: make(leaf_size=-1),
                         lambda: vulfsjor.tree_root("x", 1),
                     ):
                         self.assertRaises((TypeError, ValueError), call)
                     vulfsjor.tree_root(b"x", 1)
+                    if many:
+                        many([b"x"] * 5)
+                        self.assertRaises(TypeError, many, [b"x", "x"])
 
         work()
         references = [sys.getrefcount(make) for _, make, _, _, _ in FAMILIES]
@@ -379,7 +391,8 @@ class Threads(unittest.TestCase):
     def test_long_inputs_let_others_run(self):
         for _, make, _, many, _ in FAMILIES:
             hasher = make()
-            for call in (lambda: hasher.update(LONG), lambda: make(LONG), lambda: many([LONG])):
+            for call in (lambda: hasher.update(LONG), lambda: make(LONG),
+                         *([lambda: many([LONG])] if many else [])):
                 self.assert_lets_others_run(call)
         for call in (
             lambda: vulfsjor.tree_root(LONG, 4096),
@@ -420,7 +433,7 @@ class Threads(unittest.TestCase):
             )
 
     def test_2048_bytes_are_long(self):
-        for make in (vulfsjor.blake2b, vulfsjor.blake2s, lambda: vulfsjor.TreeHasher(4096)):
+        for make in (*(make for _, make, _, _, _ in FAMILIES), lambda: vulfsjor.TreeHasher(4096)):
             hasher, before, end = make(), self.turns, time.monotonic() + 20
             while self.turns == before and time.monotonic() < end:
                 hasher.update(bytes(2048))
@@ -468,7 +481,7 @@ class Shared(unittest.TestCase):
 
     def test_few_bytes(self):
         """No thread has ever updated with many."""
-        for make, wanted in ((vulfsjor.blake2b, hashlib.blake2b), (vulfsjor.blake2s, hashlib.blake2s)):
+        for _, make, wanted, _, _ in FAMILIES:
             hasher, barrier = make(), threading.Barrier(4)
 
             def work():
@@ -581,7 +594,7 @@ class Words(unittest.TestCase):
 
     def test_signatures_are_those_of_hashlib(self):
         positional = inspect.Parameter.POSITIONAL_ONLY
-        for name, make, theirs, _, _ in FAMILIES:
+        for name, make, theirs, _, _ in PLAIN:
             # From 3.13.4 on, hashlib accepts the data by two names too.
             wanted = [each.replace(kind=positional) if each.name == "data" else each
                       for each in inspect.signature(theirs).parameters.values()
@@ -605,7 +618,7 @@ class Words(unittest.TestCase):
                 if parameter in parameters:
                     self.assertIs(parameters[parameter].kind, inspect.Parameter.KEYWORD_ONLY, name)
                     met += 1
-        self.assertEqual(met, 33)
+        self.assertEqual(met, 41)
 
     def test_all_is_documented(self):
         self.assertTrue(vulfsjor.__doc__)

@@ -10,10 +10,11 @@ from support import FOLDER, absent, run
 import vulfsjor
 
 STUB = os.path.join(FOLDER, "vulfsjor", "_library.pyi")
-HASH = "vulfsjor.blake2{}(b'x', digest_size=4, key=b'', salt=b'', person=b'', last_node=True)"
+HASH = "vulfsjor.blake2{}(b'x', digest_size=4, key=b'', salt=b'', person=b'', {}=True)"
 # Expressions and the types of their values.
 RESULTS = {
-    **{expression.format(family): kind.format(family) for family in "bs" for expression, kind in {
+    **{expression.format(family, "last_node" if family in "bs" else "usedforsecurity"):
+       kind.format(family) for family in ("b", "s", "bp", "sp") for expression, kind in {
         HASH: "vulfsjor.blake2{}",
         HASH + ".copy()": "vulfsjor.blake2{}",
         HASH + ".update(bytearray(b'x'))": "None",
@@ -27,10 +28,10 @@ RESULTS = {
         "vulfsjor.blake2{}.MAX_KEY_SIZE": "int",
         "vulfsjor.blake2{}.PERSON_SIZE": "int",
         "vulfsjor.blake2{}.SALT_SIZE": "int",
-        "vulfsjor.blake2{}_many([b'x'], digest_size=4, key=b'', salt=b'', person=b'')":
-            "list[bytes]",
     }.items()},
-    **{f"vulfsjor.BLAKE2{family}_{name}": "int" for family in "BS"
+    **{f"vulfsjor.blake2{family}_many([b'x'], digest_size=4, key=b'', salt=b'', person=b'')":
+       "list[bytes]" for family in "bs"},
+    **{f"vulfsjor.BLAKE2{family}_{name}": "int" for family in ("B", "S", "BP", "SP")
        for name in ("MAX_DIGEST_SIZE", "MAX_KEY_SIZE", "PERSON_SIZE", "SALT_SIZE")},
     "vulfsjor.__version__": "str",
     "vulfsjor.tree_leaf_count(5, leaf_size=2)": "int",
@@ -62,6 +63,8 @@ REFUSED = (
     "vulfsjor.blake2b(key='text')", "vulfsjor.blake2b(digest_size=1.5)",
     "vulfsjor.blake2b(leaf_size=b'')", "vulfsjor.blake2s(data=b'')", "vulfsjor.blake2s(salt=1)",
     "vulfsjor.blake2s().update('text')", "vulfsjor.blake2b().verify('00')",
+    "vulfsjor.blake2bp('text')", "vulfsjor.blake2bp(b'', fanout=1)",
+    "vulfsjor.blake2sp(key=1)", "vulfsjor.blake2sp(last_node=True)",
     "vulfsjor.blake2b_many([b'', 'text'])", "vulfsjor.blake2b_many(5)",
     "vulfsjor.blake2s_many([], 32)", "vulfsjor.tree_root(b'')", "vulfsjor.tree_root(b'', 1, 32)",
     "vulfsjor.tree_root(b'', 1, threads='2')", "vulfsjor.tree_root_file(1.5, 1)",
@@ -153,7 +156,7 @@ class Mypy(unittest.TestCase):
 
     def test_stub(self):
         """The stub next to the module. The class of the classes is not declared."""
-        allowed = self.write("allowed", "vulfsjor._library.blake2[bs]\n")
+        allowed = self.write("allowed", "vulfsjor._library.blake2[bs]p?\n")
         self.assertEqual(self.said("stubtest", "vulfsjor._library", "--allowlist", allowed,
                                    "--mypy-config-file", self.write("config", "[mypy]\n"),
                                    PYTHONPATH=FOLDER),

@@ -1,4 +1,5 @@
-"""BLAKE2b and BLAKE2s (RFC 7693) by formally verified functions, with the interface of hashlib.
+"""BLAKE2b and BLAKE2s (RFC 7693), BLAKE2bp and BLAKE2sp by formally verified functions, with the
+interface of hashlib.
 
     >>> import vulfsjor
     >>> vulfsjor.blake2b(b"hello world", digest_size=16).hexdigest()
@@ -10,6 +11,11 @@ A message authentication code. `verify` compares all bytes of the tag:
     >>> tag = mac.digest()
     >>> mac.verify(tag), mac.verify(tag[:16])
     (True, False)
+
+BLAKE2bp and BLAKE2sp hash long messages faster than BLAKE2b and BLAKE2s, to other digests:
+
+    >>> vulfsjor.blake2bp(b"hello world", digest_size=8).hexdigest()
+    '9c84350dd8a3243f'
 
 Several messages in one call, and the root of a tree of two levels:
 
@@ -24,15 +30,25 @@ from vulfsjor._library import (
     BLAKE2B_MAX_KEY_SIZE as BLAKE2B_MAX_KEY_SIZE,
     BLAKE2B_PERSON_SIZE as BLAKE2B_PERSON_SIZE,
     BLAKE2B_SALT_SIZE as BLAKE2B_SALT_SIZE,
+    BLAKE2BP_MAX_DIGEST_SIZE as BLAKE2BP_MAX_DIGEST_SIZE,
+    BLAKE2BP_MAX_KEY_SIZE as BLAKE2BP_MAX_KEY_SIZE,
+    BLAKE2BP_PERSON_SIZE as BLAKE2BP_PERSON_SIZE,
+    BLAKE2BP_SALT_SIZE as BLAKE2BP_SALT_SIZE,
     BLAKE2S_MAX_DIGEST_SIZE as BLAKE2S_MAX_DIGEST_SIZE,
     BLAKE2S_MAX_KEY_SIZE as BLAKE2S_MAX_KEY_SIZE,
     BLAKE2S_PERSON_SIZE as BLAKE2S_PERSON_SIZE,
     BLAKE2S_SALT_SIZE as BLAKE2S_SALT_SIZE,
+    BLAKE2SP_MAX_DIGEST_SIZE as BLAKE2SP_MAX_DIGEST_SIZE,
+    BLAKE2SP_MAX_KEY_SIZE as BLAKE2SP_MAX_KEY_SIZE,
+    BLAKE2SP_PERSON_SIZE as BLAKE2SP_PERSON_SIZE,
+    BLAKE2SP_SALT_SIZE as BLAKE2SP_SALT_SIZE,
     __version__ as __version__,
     blake2b,
     blake2b_many,
+    blake2bp,
     blake2s,
     blake2s_many,
+    blake2sp,
     tree_leaf_count,
     tree_leaves,
     tree_root_of_leaves,
@@ -40,6 +56,6 @@ from vulfsjor._library import (
 from vulfsjor._threads import TreeHasher, tree_root, tree_root_file
 
 __all__ = [
-    "TreeHasher", "blake2b", "blake2b_many", "blake2s", "blake2s_many", "tree_leaf_count",
-    "tree_leaves", "tree_root", "tree_root_file", "tree_root_of_leaves",
+    "TreeHasher", "blake2b", "blake2b_many", "blake2bp", "blake2s", "blake2s_many", "blake2sp",
+    "tree_leaf_count", "tree_leaves", "tree_root", "tree_root_file", "tree_root_of_leaves",
 ]

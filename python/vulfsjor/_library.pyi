@@ -11,10 +11,18 @@ BLAKE2B_MAX_DIGEST_SIZE: int
 BLAKE2B_MAX_KEY_SIZE: int
 BLAKE2B_PERSON_SIZE: int
 BLAKE2B_SALT_SIZE: int
+BLAKE2BP_MAX_DIGEST_SIZE: int
+BLAKE2BP_MAX_KEY_SIZE: int
+BLAKE2BP_PERSON_SIZE: int
+BLAKE2BP_SALT_SIZE: int
 BLAKE2S_MAX_DIGEST_SIZE: int
 BLAKE2S_MAX_KEY_SIZE: int
 BLAKE2S_PERSON_SIZE: int
 BLAKE2S_SALT_SIZE: int
+BLAKE2SP_MAX_DIGEST_SIZE: int
+BLAKE2SP_MAX_KEY_SIZE: int
+BLAKE2SP_PERSON_SIZE: int
+BLAKE2SP_SALT_SIZE: int
 
 @final
 class blake2b:
@@ -83,6 +91,64 @@ class blake2s:
     @property
     def digest_size(self) -> int: ...
     def copy(self) -> blake2s: ...
+    def digest(self) -> bytes: ...
+    def hexdigest(self) -> str: ...
+    def update(self, data: _Bytes, /) -> None: ...
+    def verify(self, tag: _Bytes, /) -> bool: ...
+
+@final
+class blake2bp:
+    MAX_DIGEST_SIZE: ClassVar[int]
+    MAX_KEY_SIZE: ClassVar[int]
+    PERSON_SIZE: ClassVar[int]
+    SALT_SIZE: ClassVar[int]
+    def __new__(
+        cls,
+        data: _Bytes = b"",
+        /,
+        *,
+        digest_size: SupportsIndex = 64,
+        key: _Bytes = b"",
+        salt: _Bytes = b"",
+        person: _Bytes = b"",
+        usedforsecurity: bool = True,
+    ) -> blake2bp: ...
+    @property
+    def name(self) -> str: ...
+    @property
+    def block_size(self) -> int: ...
+    @property
+    def digest_size(self) -> int: ...
+    def copy(self) -> blake2bp: ...
+    def digest(self) -> bytes: ...
+    def hexdigest(self) -> str: ...
+    def update(self, data: _Bytes, /) -> None: ...
+    def verify(self, tag: _Bytes, /) -> bool: ...
+
+@final
+class blake2sp:
+    MAX_DIGEST_SIZE: ClassVar[int]
+    MAX_KEY_SIZE: ClassVar[int]
+    PERSON_SIZE: ClassVar[int]
+    SALT_SIZE: ClassVar[int]
+    def __new__(
+        cls,
+        data: _Bytes = b"",
+        /,
+        *,
+        digest_size: SupportsIndex = 32,
+        key: _Bytes = b"",
+        salt: _Bytes = b"",
+        person: _Bytes = b"",
+        usedforsecurity: bool = True,
+    ) -> blake2sp: ...
+    @property
+    def name(self) -> str: ...
+    @property
+    def block_size(self) -> int: ...
+    @property
+    def digest_size(self) -> int: ...
+    def copy(self) -> blake2sp: ...
     def digest(self) -> bytes: ...
     def hexdigest(self) -> str: ...
     def update(self, data: _Bytes, /) -> None: ...
