@@ -1,20 +1,19 @@
 //! The files of the system, by names of any bytes.
 
-ghost use Rattle.std.specs.Prelude.{◌<◌, None, true};
+ghost use Rattle.std.specs.Prelude.{◌≡◌, ◌<◌, None, true, false};
 
 use b2sum_commands::{Disk, OpenFile, Output};
 use blake2::engine::{DeviceError, Sink, Source};
 use std::alloc::{AllocError, Global};
 use std::fs::{File, Files};
 use std::io::{self, Read, Stdin, Write};
+use std::os::fd::AsRawFd;
 
 /// The files of a runtime.
 #[derive(Clone, Copy)]
 pub struct System<R> {
     /// The runtime.
     pub files: R,
-    /// Its standard input.
-    pub input: Stdin,
 }
 
 /// A file that is open for reading, or standard input.
@@ -31,6 +30,16 @@ pub enum Reader<F> {
 pub struct Opened<F> {
     reader: Reader<F>,
     error: Option<io::Error>,
+}
+
+impl<F: Read> Opened<F> {
+    /// Returns standard input, which has not failed.
+    pub fn input(input: Stdin) -> Opened<F> {
+        Opened {
+            reader: Reader::Input(input),
+            error: None,
+        }
+    }
 }
 
 impl<F: Read> Source for Opened<F> {
@@ -59,23 +68,42 @@ impl<F: Read> Source for Opened<F> {
     }
 }
 
-impl<F: Read> OpenFile for Opened<F> {
+impl<F: Read + AsRawFd> OpenFile for Opened<F> {
     fn reason(&self) -> io::Error {
         match self.error {
             Some(error) => error,
             None => io::Error::from(io::ErrorKind::Other),
         }
     }
+
+    fn number(&self) -> i32 {
+        match &self.reader {
+            Reader::File(file) => file.as_raw_fd(),
+            Reader::Input(input) => input.as_raw_fd(),
+        }
+    }
 }
 
-impl<R: Files> Disk for System<R> {
-    ghost holds = { λ _ _. None };
+// Keeps the memory of the process from others. It is a separate function in the text, so that
+// `c/b2sum.c` can do it: nothing here can.
+#[inline(never)]
+fn hide_memory() {}
 
-    ghost input_holds = { λ _. None };
-
-    ghost refuses = { λ _ _. true };
+impl<R: Files> Disk for System<R>
+where
+    R::File: AsRawFd,
+{
+    ghost files = { λ _. record {
+      holds = λ _. None;
+      refuses = λ _. true;
+      lacks = λ _. true;
+    } };
 
     type File = Opened<R::File>;
+
+    fn keep_secrets(&self) {
+        hide_memory();
+    }
 
     fn open(&self, alloc: Global, name: &[u8]) -> io::Result<Opened<R::File>> {
         let name = text_of(alloc, name)?;
@@ -84,13 +112,6 @@ impl<R: Files> Disk for System<R> {
             reader: Reader::File(file),
             error: None,
         })
-    }
-
-    fn input(&self) -> Opened<R::File> {
-        Opened {
-            reader: Reader::Input(self.input),
-            error: None,
-        }
     }
 }
 
@@ -131,7 +152,9 @@ pub struct Writer<W> {
 
 impl<W: Write> Writer<W> {
     /// Returns a sink into the writer, which has not failed.
-    pub fn new(inner: W) -> Writer<W> {
+    pub fn new(inner: W) -> Writer<W>
+        ensures { ⟦<Writer<W> as Sink>⟧.failed result ≡ false }
+    {
         Writer { inner, error: None }
     }
 }

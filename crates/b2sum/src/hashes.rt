@@ -11,7 +11,7 @@ ghost use Rattle.blake2_state.specs.TreeStates.{IsReady as IsReadyTree, IsAsOpen
 ghost use Rattle.blake2_tree.specs.TreeRoot.{tree_parameters, tree_root};
 ghost use Rattle.b2sum.specs.Digests.{digest_with};
 
-use b2sum_commands::{Hashes, Options};
+use b2sum_commands::{Hashes, OpenFile, Options};
 use b2sum_lines::Algorithm;
 use blake2::engine::{Source, StreamFault};
 use blake2_digest::tell_bytes;
@@ -33,11 +33,9 @@ const TREE_PIECE_BYTES: usize = 1 << 24;
 impl Hashes for Blake2 {
     ghost use Rattle.b2sum.specs.Digests.{digest_with};
 
-    ghost digest = { digest_with };
+    ghost hashing = { record { digest = digest_with; rejects = λ _ _. true } };
 
-    ghost rejects = { λ _ _. true };
-
-    fn digest_source<S: Source>(
+    fn digest_source<S: OpenFile>(
         &self,
         options: &Options,
         bytes: usize,

@@ -5,9 +5,9 @@
 mod disk;
 mod hashes;
 
-use b2sum_commands::run;
-use blake2::engine::{Sink, write_whole};
-use disk::{System, Writer};
+use b2sum_commands::{Host, Session, run};
+use blake2::engine::write_whole;
+use disk::{Opened, System, Writer};
 use hashes::Blake2;
 use std::alloc::{AllocError, Global};
 use std::env::FillError;
@@ -18,25 +18,20 @@ use std::rt::Env;
 const USUAL_ARGUMENT: usize = 256;
 
 fn main(rt: HostRuntime) -> ExitCode {
-    let disk = System {
-        files: &rt,
-        input: rt.stdin(),
+    let host = Host {
+        alloc: rt.alloc(),
+        hashes: Blake2,
+        disk: System { files: &rt },
     };
-    let mut output = Writer::new(rt.stdout());
-    let mut messages = Writer::new(rt.stderr());
-    let status = match arguments(&rt, rt.alloc()) {
-        Ok(words) => run(
-            rt.alloc(),
-            &Blake2,
-            &disk,
-            words.as_slice(),
-            &mut output,
-            &mut messages,
-        ),
-        Err(_) => {
-            if !messages.failed() {
-                let _ = write_whole(&mut messages, b"b2sum: memory exhausted\n");
-            }
+    let output = Writer::new(rt.stdout());
+    let messages = Writer::new(rt.stderr());
+    let input = Opened::input(rt.stdin());
+    let session = Session::new(rt.alloc(), input, output, messages);
+    let words = arguments(&rt, rt.alloc());
+    let status = match (session, words) {
+        (Ok(mut session), Ok(words)) => run(&host, &mut session, words.as_slice()),
+        _ => {
+            let _ = write_whole(&mut Writer::new(rt.stderr()), b"b2sum: memory exhausted\n");
             1
         }
     };

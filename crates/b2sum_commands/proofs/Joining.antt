@@ -16,7 +16,7 @@ use Rattle.std.proofs.Common.{
   ◌∙◌,
 }
 use Rattle.std.proofs.Common.{append_assoc, append-nil, sym}
-use Rattle.std.specs.List.{flat_map, list_all, list_any}
+use Rattle.std.specs.List.{list_all, list_any}
 
 pub and_true : (b : Bool) → (b && true) ≡ b
 and_true true = refl
@@ -45,9 +45,3 @@ pub any_more : {A : Type 0} (p : A → Bool) (xs : List A) (y : A)
 any_more p [] y = or_false (p y)
 any_more p (x ∷ xs) y = ap (λ b. p x || b) (any_more p xs y) ∙ sym
     (or_assoc (p x) (list_any p xs) (p y))
-
-pub map_more : {A : Type 0} (f : A → List ℕ) (xs : List A) (y : A)
-    → flat_map f (xs ++ (y ∷ [])) ≡ flat_map f xs ++ f y
-map_more f [] y = append-nil (f y)
-map_more f (x ∷ xs) y =
-    ap (λ t. f x ++ t) (map_more f xs y) ∙ sym (append_assoc (f x) (flat_map f xs) (f y))

@@ -1,6 +1,6 @@
 pub mod Joining
-pub mod Progress
-pub mod Steps
-mod Running
+pub mod Turns
+pub mod Judging
+pub mod Doing
+pub mod Telling
 pub mod Stops
-pub mod Choosing

@@ -1,11 +1,11 @@
+pub mod Found
+pub mod World
 pub mod Sums
 pub mod Manifests
 pub mod Checks
 pub mod Quoting
 pub mod Runs
-pub mod Fitting
 pub mod Flags
 pub mod CommandLine
 pub mod Accepted
 pub mod Readers
-pub mod CommandRuns

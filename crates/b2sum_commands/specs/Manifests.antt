@@ -2,6 +2,7 @@
 use Rattle.std.specs.Prelude.{◌≡◌, ◌≢◌, ℕ, ◌-◌, ◌==◌, ◌&&◌, ◌||◌, Bool, true, false, not}
 use Rattle.std.specs.Prelude.{if◌then◌else◌, List, [], ◌∷◌, ◌++◌, length, take, get_or, codes}
 use Rattle.std.specs.Prelude.{Option, Some, None}
+use Rattle.std.specs.Io.KnownBytes.{Appends}
 use Rattle.std.specs.List.{list_any, list_all}
 use Rattle.std.specs.Option.{option_map}
 use Rattle.b2sum_lines.specs.Lines.{Line, escaped, line_entry}
@@ -11,12 +12,14 @@ use Rattle.b2sum_lines.specs.declared.entry.Style.{Style}
 use Rattle.b2sum_lines.specs.declared.entry.Style.TheVariants.{Tagged, Text, Binary, Bare}
 use Rattle.b2sum_commands.specs.declared.check.Verdict.{Verdict}
 use Rattle.b2sum_commands.specs.declared.check.Verdict.TheVariants.{Equal, Different, Unread}
-use Rattle.b2sum_commands.specs.declared.check.Verdict.TheVariants.{Skipped, Malformed}
+use Rattle.b2sum_commands.specs.declared.check.Verdict.TheVariants.{Skipped, Malformed, Comment}
 use Rattle.b2sum_commands.specs.declared.options.Options.{Options}
 use Rattle.b2sum_commands.specs.declared.options.Report.{Report}
 use Rattle.b2sum_commands.specs.declared.options.Report.TheVariants.{Each, Warnings, Failures}
 use Rattle.b2sum_commands.specs.declared.options.Report.TheVariants.{Nothing}
-use Rattle.b2sum_commands.specs.Sums.{is_dash, ReadsAs, Leaves}
+use Rattle.b2sum_commands.specs.Found.{Streams}
+use Rattle.b2sum_commands.specs.World.{World}
+use Rattle.b2sum_commands.specs.Sums.{is_dash, ReadsAs, Leaves, CannotSum}
 
 -- ---- lines
 
@@ -58,58 +61,32 @@ spacing_after s Text = Two
 spacing_after s Binary = Two
 spacing_after s Bare = One
 
--- The spacing after a line.
-abbrev pub next_spacing : Spacing → Option (Option Line) → Spacing
+-- The spacing after a line that is no comment.
+abbrev pub next_spacing : Spacing → Option Line → Spacing
 next_spacing s None = s
-next_spacing s (Some None) = s
-next_spacing s (Some (Some e)) = spacing_after s e.style
-
--- Puts the entry of a line before the others, if the line is not a comment.
-abbrev pub onto_items : Option (Option Line) → List (Option Line) → List (Option Line)
-onto_items None items = items
-onto_items (Some i) items = i ∷ items
-
--- The entries of lines in order, none for each malformed line. Comments are left out.
-abbrev pub items : Options → Bool → Spacing → List (List ℕ) → List (Option Line)
-items o input s [] = []
-items o input s (line ∷ lines) =
-    onto_items (item o input s line) (items o input (next_spacing s (item o input s line)) lines)
+next_spacing s (Some e) = spacing_after s e.style
 
 -- ---- verdicts
 
 -- The verdict on an entry, or on a malformed line, is right: the digest of the text that the source
--- returned is that of the entry, or it is not. `cause` is why a file has no digest of a length.
-abbrev pub IsVerdict : (List ℕ → Option (List ℕ)) → (ℕ → List ℕ → Type 0) → (ℕ → List ℕ → List ℕ)
-    → Bool
-    → Option (List ℕ) → Option Line → Verdict → Option (List ℕ) → Type 0
-IsVerdict holds cause hash ignores left None Malformed after = after ≡ left
-IsVerdict holds cause hash ignores left None Equal after = ⊥
-IsVerdict holds cause hash ignores left None Different after = ⊥
-IsVerdict holds cause hash ignores left None Unread after = ⊥
-IsVerdict holds cause hash ignores left None Skipped after = ⊥
-IsVerdict holds cause hash ignores left (Some e) Equal after =
-    (text : List ℕ) × ReadsAs (is_dash e.name) (holds e.name) left after text
-    × (hash (length e.digest) text ≡ e.digest)
-IsVerdict holds cause hash ignores left (Some e) Different after =
-    (text : List ℕ) × ReadsAs (is_dash e.name) (holds e.name) left after text
-    × (hash (length e.digest) text ≢ e.digest)
-IsVerdict holds cause hash ignores left (Some e) Unread after =
-    Leaves (is_dash e.name) left after × cause (length e.digest) e.name
-IsVerdict holds cause hash ignores left (Some e) Skipped after =
-    (ignores ≡ true) × (is_dash e.name ≡ false) × (after ≡ left)
-    × cause (length e.digest) e.name
-IsVerdict holds cause hash ignores left (Some e) Malformed after = ⊥
-
--- The verdicts on entries and malformed lines, one after the other: none is left out.
-abbrev pub AreVerdicts : (List ℕ → Option (List ℕ)) → (ℕ → List ℕ → Type 0) → (ℕ → List ℕ → List ℕ)
-    → Bool
-    → Option (List ℕ) → List (Option Line) → List Verdict → Option (List ℕ) → Type 0
-AreVerdicts holds cause hash ignores left [] [] after = after ≡ left
-AreVerdicts holds cause hash ignores left [] (v ∷ vs) after = ⊥
-AreVerdicts holds cause hash ignores left (i ∷ is) [] after = ⊥
-AreVerdicts holds cause hash ignores left (i ∷ is) (v ∷ vs) after =
-    (mid : Option (List ℕ)) × IsVerdict holds cause hash ignores left i v mid
-    × AreVerdicts holds cause hash ignores mid is vs after
+-- returned is that of the entry, or it is not, or there is a cause. Only a file that is not there is
+-- skipped, and only if the options say so.
+abbrev pub IsVerdict : World → Options → Option (List ℕ) → Option Line → Verdict → Option (List ℕ)
+    → Type 0
+IsVerdict w o left None v after = (v ≡ Malformed) × (after ≡ left)
+IsVerdict w o left (Some e) Equal after =
+    (text : List ℕ) × ReadsAs (is_dash e.name) (w.files.holds e.name) left after text
+    × (w.hashing.digest o (length e.digest) text ≡ e.digest)
+IsVerdict w o left (Some e) Different after =
+    (text : List ℕ) × ReadsAs (is_dash e.name) (w.files.holds e.name) left after text
+    × (w.hashing.digest o (length e.digest) text ≢ e.digest)
+IsVerdict w o left (Some e) Unread after =
+    Leaves (is_dash e.name) left after × CannotSum w o (length e.digest) e.name
+IsVerdict w o left (Some e) Skipped after =
+    (o.ignores_missing ≡ true) × (is_dash e.name ≡ false) × (after ≡ left)
+    × (w.files.refuses e.name ≡ true) × (w.files.lacks e.name ≡ true)
+IsVerdict w o left (Some e) Malformed after = ⊥
+IsVerdict w o left (Some e) Comment after = ⊥
 
 -- ---- when a manifest holds
 
@@ -120,6 +97,7 @@ is_equal Different = false
 is_equal Unread = false
 is_equal Skipped = false
 is_equal Malformed = false
+is_equal Comment = false
 
 -- The verdict does not fail a check that is not strict.
 abbrev pub is_fine : Verdict → Bool
@@ -128,6 +106,7 @@ is_fine Different = false
 is_fine Unread = false
 is_fine Skipped = true
 is_fine Malformed = true
+is_fine Comment = true
 
 -- The line is that of an entry.
 abbrev pub is_formed : Verdict → Bool
@@ -136,6 +115,7 @@ is_formed Different = true
 is_formed Unread = true
 is_formed Skipped = true
 is_formed Malformed = false
+is_formed Comment = true
 
 -- A manifest holds: a file has its digest, none has another or cannot be read, and if the check is
 -- strict, no line is malformed.
@@ -159,6 +139,7 @@ outcome Warnings Unread = codes ": FAILED open or read\n"
 outcome Failures Unread = codes ": FAILED open or read\n"
 outcome r Skipped = []
 outcome r Malformed = []
+outcome r Comment = []
 
 -- A name as it is printed, escaped if it has a newline.
 abbrev pub shown_name : List ℕ → List ℕ
@@ -174,8 +155,13 @@ abbrev pub verdict_line : Report → Option Line → Verdict → List ℕ
 verdict_line r None v = []
 verdict_line r (Some e) v = with_name e.name (outcome r v)
 
--- The lines of entries and verdicts in order.
-abbrev pub verdict_lines : Report → List (Option Line) → List Verdict → List ℕ
-verdict_lines r [] vs = []
-verdict_lines r (i ∷ is) [] = []
-verdict_lines r (i ∷ is) (v ∷ vs) = verdict_line r i v ++ verdict_lines r is vs
+-- A line is checked: its entry, or that it is malformed, has a verdict, whose line is printed.
+abbrev pub IsItem : World → Options → Option (Option Line) → Streams → Streams → Verdict → Type 0
+IsItem w o None old new v = (v ≡ Comment) × (new ≡ old)
+IsItem w o (Some i) old new v =
+    (new.spacing ≡ next_spacing old.spacing i) × IsVerdict w o old.left i v new.left
+    × Appends old.held new.held (verdict_line o.report i v)
+
+-- A line of a manifest is checked. `input` says that the manifest is standard input.
+abbrev pub IsLine : World → Options → Bool → List ℕ → Streams → Streams → Verdict → Type 0
+IsLine w o input line old new v = IsItem w o (item o input old.spacing line) old new v

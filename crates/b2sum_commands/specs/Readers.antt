@@ -8,6 +8,8 @@ use Rattle.b2sum_commands.specs.declared.options.Stop.TheVariants.{Help, Version
 use Rattle.b2sum_commands.specs.declared.options.Stop.TheVariants.{Value}
 use Rattle.b2sum_commands.specs.declared.options.Next as next
 use Rattle.b2sum_commands.specs.declared.options.Next.TheVariants.{Any, Awaited, File}
+use Rattle.b2sum_commands.specs.Found.{Streams}
+use Rattle.b2sum_commands.specs.World.{IsTold}
 use Rattle.b2sum_commands.specs.CommandLine.{Choice, End, Helped, Versioned, Refused}
 use Rattle.b2sum_commands.specs.CommandLine.{Next, Anything, ValueOf, OnlyFile, State}
 
@@ -72,33 +74,19 @@ IsUnfit test (Value first second) = test ≡ false
 IsUnfit test NoMemory = ⊤
 
 -- What is printed if the program stops, with whether the command line is right: the help, the
--- version, or only a message (`told`).
-abbrev pub IsPrinted : List ℕ → List ℕ → Type 0 → Option (List ℕ) → Option (List ℕ) → stop.Stop
-    → Bool → Type 0
-IsPrinted help version told old new Help is_right = (is_right ≡ true) × Appends old new help
-IsPrinted help version told old new Version is_right = (is_right ≡ true) × Appends old new version
-IsPrinted help version told old new (Usage line) is_right =
-    (is_right ≡ false) × (new ≡ old) × told
-IsPrinted help version told old new (Value first second) is_right =
-    (is_right ≡ false) × (new ≡ old) × told
-IsPrinted help version told old new NoMemory is_right = ⊥
-
--- What is printed for a command line that names no task, with whether it is right: the help, the
--- version, or only a message (`told`).
-abbrev pub IsAnswered : List ℕ → List ℕ → Type 0 → Option (List ℕ) → Option (List ℕ)
-    → Result (Choice × List (List ℕ)) End → Bool → Type 0
-IsAnswered help version told old new (Err Helped) is_right =
-    (is_right ≡ true) × Appends old new help
-IsAnswered help version told old new (Err Versioned) is_right =
-    (is_right ≡ true) × Appends old new version
-IsAnswered help version told old new (Err Refused) is_right =
-    (is_right ≡ false) × (new ≡ old) × told
-IsAnswered help version told old new (Ok read) is_right = ⊤
+-- version, or only a message.
+abbrev pub IsPrinted : List ℕ → List ℕ → Streams → Streams → stop.Stop → Bool → Type 0
+IsPrinted help version old new Help well = (well ≡ true) × Appends old.held new.held help
+IsPrinted help version old new Version well = (well ≡ true) × Appends old.held new.held version
+IsPrinted help version old new (Usage line) well =
+    (well ≡ false) × (new.held ≡ old.held) × IsTold old new
+IsPrinted help version old new (Value first second) well =
+    (well ≡ false) × (new.held ≡ old.held) × IsTold old new
+IsPrinted help version old new NoMemory well = ⊥
 
 -- Nothing is printed for a command line that is refused.
-abbrev pub IsKept : Option (List ℕ) → Option (List ℕ) → Result (Choice × List (List ℕ)) End
-    → Type 0
+abbrev pub IsKept : Streams → Streams → Result (Choice × List (List ℕ)) End → Type 0
 IsKept old new (Err Helped) = ⊤
 IsKept old new (Err Versioned) = ⊤
-IsKept old new (Err Refused) = new ≡ old
+IsKept old new (Err Refused) = new.held ≡ old.held
 IsKept old new (Ok read) = ⊤

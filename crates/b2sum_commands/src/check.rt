@@ -1,27 +1,29 @@
 //! The check of manifests.
 
-ghost use Rattle.std.specs.Prelude.{◌≡◌, ◌≢◌, ◌⊎◌, ℕ, ◌<◌, ◌≤◌, ◌^◌, ◌&&◌, ◌||◌, List, Option};
-ghost use Rattle.std.specs.Prelude.{Some, None, ◌++◌, length, not, true, false, IfOk, IfSome, OnOk};
+ghost use Rattle.std.specs.Prelude.{◌≡◌, ◌≢◌, ◌⊎◌, ℕ, ◌<◌, ◌≤◌, ◌&&◌, ◌||◌, List, ◌++◌, length, map};
+ghost use Rattle.std.specs.Prelude.{Some, None, not, true, false, IfOk, IfSome, OnOk};
 ghost use Rattle.std.specs.Io.KnownBytes.{Appends, Consumes, IsAtEnd};
 ghost use Rattle.std.specs.Option.{option_map};
 ghost use Rattle.text_lines.specs.Cuts.{lines_of};
 ghost use Rattle.b2sum_lines.specs.Entries.{entry_value};
-ghost use Rattle.b2sum_commands.specs.Sums.{is_dash, CannotRead, CannotSum, CannotCheck, CannotGet};
-ghost use Rattle.b2sum_commands.specs.Manifests.{trimmed, item, items, spacing_after, IsVerdict};
-ghost use Rattle.b2sum_commands.specs.Manifests.{has_demanded_length};
-ghost use Rattle.b2sum_commands.specs.Manifests.{AreVerdicts, is_equal, is_fine, is_formed};
-ghost use Rattle.b2sum_commands.specs.Manifests.{outcome, with_name, verdict_line, verdict_lines};
-ghost use Rattle.b2sum_commands.specs.Checks.{item_value, IfListed, final_spacing, AreCounted};
-ghost use Rattle.b2sum_commands.specs.Checks.{IsChecked, IsDone, IsText};
+ghost use Rattle.b2sum_commands.specs.World.{world_of, AllInTurn, InTurn, IsQuiet};
+ghost use Rattle.b2sum_commands.specs.Sums.{is_dash, CannotGet, CannotSum};
+ghost use Rattle.b2sum_commands.specs.Manifests.{trimmed, item, spacing_after, IsVerdict};
+ghost use Rattle.b2sum_commands.specs.Manifests.{has_demanded_length, IsItem, IsLine};
+ghost use Rattle.b2sum_commands.specs.Manifests.{outcome, with_name, verdict_line};
+ghost use Rattle.b2sum_commands.specs.Checks.{item_value, IfListed, AreCounted, Adds};
+ghost use Rattle.b2sum_commands.specs.Checks.{IsChecked, IsText};
 ghost use Rattle.b2sum_commands.specs.declared.check.Verdict.TheVariants.{Equal, Different};
 ghost use Rattle.b2sum_commands.specs.declared.check.Verdict.TheVariants.{Skipped, Malformed};
-ghost use Rattle.b2sum_commands.specs.declared.check.Verdict.TheVariants.{Unread};
+ghost use Rattle.b2sum_commands.specs.declared.check.Verdict.TheVariants.{Unread, Comment};
+ghost use Rattle.b2sum_commands.specs.declared.check.Verdict as verdict;
 ghost use Rattle.b2sum_commands.specs.declared.sums.Read.TheVariants.{Whole, Missing, Failed};
 
 use crate::devices::{Disk, Fault, OpenFile, Output, put};
 use crate::hashes::Hashes;
 use crate::options::{Options, Report};
 use crate::quoting::quoted_name;
+use crate::session::{Host, Session};
 use crate::sums::{Read, digest_file, is_dash};
 use crate::texts::{warn, warn_of_count, warn_of_file};
 use b2sum_lines::{Entry, Spacing, Style, push_escaped, read_line};
@@ -43,6 +45,8 @@ pub enum Verdict {
     Skipped,
     /// The line is not that of an entry.
     Malformed,
+    /// The line is a comment, or has nothing.
+    Comment,
 }
 
 /// What the lines of a manifest came to.
@@ -86,9 +90,7 @@ impl Counts {
 
     // Adds a line with this verdict.
     fn add(&mut self, verdict: Verdict)
-        ensures equal { self.new.any_equal ≡ (self.old.any_equal || is_equal verdict) }
-        ensures fine { self.new.all_fine ≡ (self.old.all_fine && is_fine verdict) }
-        ensures formed { self.new.all_formed ≡ (self.old.all_formed && is_formed verdict) }
+        ensures { Adds verdict self.old self.new }
     {
         match verdict {
             Verdict::Equal => {
@@ -108,6 +110,7 @@ impl Counts {
                 self.malformed = self.malformed.saturating_add(1);
                 self.all_formed = false;
             }
+            Verdict::Comment => {}
         }
     }
 
@@ -125,93 +128,110 @@ impl Counts {
     }
 }
 
+/// Checks each manifest, from the first to the last. Returns whether all hold. The spacing of the
+/// lines goes on from one to the next.
+pub fn check_manifests<H: Hashes, D: Disk, K: Output, E: Sink>(
+    host: &Host<H, D>,
+    options: &Options,
+    session: &mut Session<D::File, K, E>,
+    names: &[Vec<u8>],
+) -> Result<bool, Fault>
+    ensures { IfOk result (λ all_hold. AllInTurn (IsChecked
+        (world_of D.File.failed (D.files host.now.disk) H.hashing) options.now)
+        (map (λ name. name.items) names.now) session.old session.new all_hold) }
+{
+    let mut all_hold = true;
+    for name in names {
+        let holds = check_manifest(host, options, session, name.as_slice())?;
+        all_hold &= holds;
+    }
+    Ok(all_hold)
+}
+
 /// Checks the manifest of this name, or standard input for `-`. Returns whether it has an entry
 /// that is equal and none that differs or cannot be read.
 pub fn check_manifest<H: Hashes, D: Disk, K: Output, E: Sink>(
-    alloc: Global,
-    hashes: &H,
-    disk: &D,
+    host: &Host<H, D>,
     options: &Options,
-    spacing: &mut Spacing,
+    session: &mut Session<D::File, K, E>,
     name: &[u8],
-    input: &mut D::File,
-    buffer: &mut [u8],
-    output: &mut K,
-    messages: &mut E,
 ) -> Result<bool, Fault>
-    requires room { 0 < length buffer.old }
-    requires most { length buffer.old ≤ 2 ^ 24 }
-    ensures checked { IfOk result (λ holds. IsChecked (D.holds disk.now)
-        (CannotCheck D.File.failed (D.refuses disk.now))
-        (CannotSum D.File.failed H.rejects (D.refuses disk.now)) H.digest options.now
-        name.now spacing.old spacing.new (D.File.left input.old) (D.File.left input.new)
-        (K.held output.old) (K.held output.new) holds) }
+    ensures { IfOk result (IsChecked (world_of D.File.failed (D.files host.now.disk) H.hashing)
+        options.now name.now session.old session.new) }
 {
-    let Some(manifest) = read_manifest(alloc, disk, name, input, buffer, messages)? else {
+    let Some(manifest) = read_manifest(host, session, name)? else {
         return Ok(false);
     };
-    let title = quoted_name(alloc, title_of(name))?;
-    let counts = check_lines(
-        alloc,
-        hashes,
-        disk,
-        options,
-        spacing,
-        is_dash(name),
-        title.as_slice(),
-        manifest.text.as_slice(),
-        input,
-        buffer,
-        output,
-        messages,
-    )?;
+    let counts = check_lines(host, options, session, &manifest)?;
+    let title = manifest.title.as_slice();
     if !manifest.is_whole {
-        warn(alloc, messages, title.as_slice(), b": ", b"read error")?;
+        warn(
+            host.alloc,
+            &mut session.messages,
+            title,
+            b": ",
+            b"read error",
+        )?;
         return Ok(false);
     }
-    report(alloc, options, title.as_slice(), &counts, messages)?;
+    report(host.alloc, options, title, &counts, &mut session.messages)?;
     Ok(counts.holds(options.is_strict))
 }
 
-// The text of a manifest, and whether it was read to its end.
+// A manifest that was read.
 #[derive(Drop)]
 struct Manifest {
+    // The name as messages have it.
+    title: Vec<u8>,
+    // It is standard input.
+    is_input: bool,
     text: Vec<u8>,
+    // It was read to its end.
     is_whole: bool,
 }
 
 // Returns the manifest of this name, or `None` if it cannot be opened, after a message.
-fn read_manifest<D: Disk, E: Sink>(
-    alloc: Global,
-    disk: &D,
+fn read_manifest<H, D: Disk, K: Output, E: Sink>(
+    host: &Host<H, D>,
+    session: &mut Session<D::File, K, E>,
     name: &[u8],
-    input: &mut D::File,
-    buffer: &mut [u8],
-    messages: &mut E,
 ) -> Result<Option<Manifest>, Fault>
-    requires room { 0 < length buffer.old }
-    ensures none { IfOk result (λ found. found ≡ None → CannotGet D.File.failed
-        (D.refuses disk.now name.now) (is_dash name.now)) }
+    ensures quiet { IsQuiet session.old session.new }
+    ensures none { IfOk result (λ found. found ≡ None
+        → ((is_dash name.now ≡ false) × ((D.files host.now.disk).refuses name.now ≡ true))
+        × (session.new.left ≡ session.old.left)) }
+    ensures input { IfOk result (λ found. IfSome found (λ m. m.is_input ≡ is_dash name.now)) }
     ensures part { IfOk result (λ found. IfSome found (λ m. m.is_whole ≡ false
-        → CannotGet D.File.failed (D.refuses disk.now name.now) (is_dash name.now))) }
+        → (file : D.File) × (D.File.failed file ≡ true))) }
     ensures text { IfOk result (λ found. IfSome found (λ m. m.is_whole ≡ true
-        → IsText (is_dash name.now) (D.holds disk.now name.now)
-        (D.File.left input.old) (D.File.left input.new) m.text.items)) }
+        → IsText (is_dash name.now) ((D.files host.now.disk).holds name.now)
+        session.old.left session.new.left m.text.items)) }
 {
-    let mut text = Vec::new(alloc);
+    let title = quoted_name(host.alloc, title_of(name))?;
+    let mut text = Vec::new(host.alloc);
     if is_dash(name) {
-        let is_whole = read_whole(input, buffer, &mut text)?;
-        return Ok(Some(Manifest { text, is_whole }));
+        let is_whole = read_whole(&mut session.input, session.buffer.as_mut_slice(), &mut text)?;
+        return Ok(Some(Manifest {
+            title,
+            is_input: true,
+            text,
+            is_whole,
+        }));
     }
-    let mut file = match disk.open(alloc, name) {
+    let mut file = match host.disk.open(host.alloc, name) {
         Ok(file) => file,
         Err(error) => {
-            warn_of_file(alloc, error, messages, name)?;
+            warn_of_file(host.alloc, error, &mut session.messages, name)?;
             return Ok(None);
         }
     };
-    let is_whole = read_whole(&mut file, buffer, &mut text)?;
-    Ok(Some(Manifest { text, is_whole }))
+    let is_whole = read_whole(&mut file, session.buffer.as_mut_slice(), &mut text)?;
+    Ok(Some(Manifest {
+        title,
+        is_input: false,
+        text,
+        is_whole,
+    }))
 }
 
 // Returns the name of a manifest as messages have it, before it is quoted.
@@ -248,103 +268,63 @@ fn read_whole<S: Source>(
     Err(Fault::NoMemory)
 }
 
-// Checks each line of a manifest's text, and prints what became of the entries.
+// Checks each line of a manifest, and prints what became of the entries.
 fn check_lines<H: Hashes, D: Disk, K: Output, E: Sink>(
-    alloc: Global,
-    hashes: &H,
-    disk: &D,
+    host: &Host<H, D>,
     options: &Options,
-    spacing: &mut Spacing,
-    is_input: bool,
-    title: &[u8],
-    text: &[u8],
-    input: &mut D::File,
-    buffer: &mut [u8],
-    output: &mut K,
-    messages: &mut E,
+    session: &mut Session<D::File, K, E>,
+    manifest: &Manifest,
 ) -> Result<Counts, Fault>
-    requires room { 0 < length buffer.old }
-    requires most { length buffer.old ≤ 2 ^ 24 }
-    ensures lines { IfOk result (λ counts. (vs : List Verdict)
-        × AreVerdicts (D.holds disk.now)
-        (CannotSum D.File.failed H.rejects (D.refuses disk.now) options.now)
-        (H.digest options.now) options.now.ignores_missing
-        (D.File.left input.old)
-        (items options.now is_input spacing.old (lines_of text.now)) vs
-        (D.File.left input.new)
-        × Appends (K.held output.old) (K.held output.new) (verdict_lines options.now.report
-        (items options.now is_input spacing.old (lines_of text.now)) vs)
+    ensures { IfOk result (λ counts. (vs : List verdict.Verdict)
+        × InTurn (IsLine (world_of D.File.failed (D.files host.now.disk) H.hashing)
+        options.now manifest.now.is_input) (lines_of manifest.now.text.items)
+        session.old session.new vs
         × AreCounted vs counts) }
-    ensures spacing { IfOk result (λ _. spacing.new
-        ≡ final_spacing options.now is_input spacing.old (lines_of text.now)) }
 {
     let mut counts = Counts::none();
     let mut number = 0u64;
-    let mut rest = text;
+    let mut rest = manifest.text.as_slice();
     'lines: while !rest.is_empty() {
         let (line, after) = split_line(rest);
         rest = after;
         number = number.saturating_add(1);
-        let item = read_item(alloc, options, *spacing, is_input, line)?;
-        check_item(
-            alloc,
-            hashes,
-            disk,
-            options,
-            spacing,
-            &item,
-            title,
-            number,
-            &mut counts,
-            input,
-            buffer,
-            output,
-            messages,
-        )?;
+        let verdict = check_line(host, options, session, manifest, line, number)?;
+        counts.add(verdict);
     }
     Ok(counts)
 }
 
-// Checks what a line is, and counts its verdict.
-fn check_item<H: Hashes, D: Disk, K: Output, E: Sink>(
-    alloc: Global,
-    hashes: &H,
-    disk: &D,
+// Checks a line of a manifest, the one of this number.
+fn check_line<H: Hashes, D: Disk, K: Output, E: Sink>(
+    host: &Host<H, D>,
     options: &Options,
-    spacing: &mut Spacing,
-    item: &Item,
-    title: &[u8],
+    session: &mut Session<D::File, K, E>,
+    manifest: &Manifest,
+    line: &[u8],
     number: u64,
-    counts: &mut Counts,
-    input: &mut D::File,
-    buffer: &mut [u8],
-    output: &mut K,
-    messages: &mut E,
-) -> Result<(), Fault>
-    requires room { 0 < length buffer.old }
-    requires most { length buffer.old ≤ 2 ^ 24 }
-    requires fits { IfListed item.now (λ e. length e.digest.items ≤ 64) }
-    ensures { OnOk result (IsDone (D.holds disk.now)
-        (CannotSum D.File.failed H.rejects (D.refuses disk.now) options.now)
-        (H.digest options.now) options.now
-        (item_value item.now) spacing.old spacing.new (D.File.left input.old)
-        (D.File.left input.new) (K.held output.old) (K.held output.new) counts.old counts.new) }
+) -> Result<Verdict, Fault>
+    ensures { IfOk result (IsLine (world_of D.File.failed (D.files host.now.disk) H.hashing)
+        options.now manifest.now.is_input line.now session.old session.new) }
 {
+    let item = read_item(
+        host.alloc,
+        options,
+        session.spacing,
+        manifest.is_input,
+        line,
+    )?;
     match item {
-        Item::Comment => {}
+        Item::Comment => Ok(Verdict::Comment),
         Item::Malformed => {
-            warn_of_line(alloc, options, title, number, messages)?;
-            counts.add(Verdict::Malformed);
+            let title = manifest.title.as_slice();
+            warn_of_line(host.alloc, options, title, number, &mut session.messages)?;
+            Ok(Verdict::Malformed)
         }
         Item::Listed(entry) => {
-            *spacing = spacing_after(*spacing, entry.style);
-            let verdict = check_entry(
-                alloc, hashes, disk, options, entry, input, buffer, output, messages,
-            )?;
-            counts.add(verdict);
+            session.spacing = spacing_after(session.spacing, entry.style);
+            check_entry(host, options, session, &entry)
         }
     }
-    Ok(())
 }
 
 // What a line of a manifest is.
@@ -419,51 +399,27 @@ fn spacing_after(spacing: Spacing, style: Style) -> Spacing
 
 // Compares the file of an entry, and prints its line.
 fn check_entry<H: Hashes, D: Disk, K: Output, E: Sink>(
-    alloc: Global,
-    hashes: &H,
-    disk: &D,
+    host: &Host<H, D>,
     options: &Options,
+    session: &mut Session<D::File, K, E>,
     entry: &Entry,
-    input: &mut D::File,
-    buffer: &mut [u8],
-    output: &mut K,
-    messages: &mut E,
 ) -> Result<Verdict, Fault>
-    requires room { 0 < length buffer.old }
-    requires most { length buffer.old ≤ 2 ^ 24 }
-    requires digest { length entry.now.digest.items ≤ 64 }
-    ensures verdict { IfOk result (λ v. IsVerdict (D.holds disk.now)
-        (CannotSum D.File.failed H.rejects (D.refuses disk.now) options.now) (H.digest options.now)
-        options.now.ignores_missing (D.File.left input.old) (Some (entry_value entry.now)) v
-        (D.File.left input.new)) }
-    ensures unread { IfOk result (λ v. (v ≡ Unread) ⊎ (v ≡ Skipped) → CannotRead D.File.failed
-        (H.rejects options.now (length entry.now.digest.items))
-        (D.refuses disk.now entry.now.name.items) (is_dash entry.now.name.items) input.new) }
-    ensures line { IfOk result (λ v. Appends (K.held output.old) (K.held output.new)
+    requires { length entry.now.digest.items ≤ 64 }
+    ensures verdict { IfOk result (λ v. IsVerdict
+        (world_of D.File.failed (D.files host.now.disk) H.hashing) options.now session.old.left
+        (Some (entry_value entry.now)) v session.new.left) }
+    ensures line { IfOk result (λ v. Appends session.old.held session.new.held
         (verdict_line options.now.report (Some (entry_value entry.now)) v)) }
+    ensures spacing { session.new.spacing ≡ session.old.spacing }
 {
     let mut digest = [0u8; 64];
     let size = entry.digest.len();
-    let read = digest_file(
-        alloc,
-        hashes,
-        disk,
-        options,
-        size,
-        entry.name.as_slice(),
-        input,
-        buffer,
-        messages,
-        &mut digest,
-    )?;
+    let name = entry.name.as_slice();
+    let read = digest_file(host, options, session, name, size, &mut digest)?;
     let all = &digest[..];
     let verdict = verdict_of(read, &all[..size], entry.digest.as_slice());
-    print_outcome(
-        alloc,
-        output,
-        entry.name.as_slice(),
-        outcome_of(options.report, verdict),
-    )?;
+    let outcome = outcome_of(options.report, verdict);
+    print_outcome(host.alloc, &mut session.output, name, outcome)?;
     Ok(verdict)
 }
 
@@ -476,6 +432,7 @@ fn verdict_of(read: Read, digest: &[u8], listed: &[u8]) -> Verdict
     ensures skipped { result ≡ Skipped → read ≡ Missing }
     ensures unread { result ≡ Unread → read ≡ Failed }
     ensures formed { result ≢ Malformed }
+    ensures entry { result ≢ Comment }
 {
     match read {
         Read::Missing => Verdict::Skipped,

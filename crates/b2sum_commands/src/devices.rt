@@ -1,8 +1,10 @@
 //! Files by name, and what is printed where.
 
-ghost use Rattle.std.specs.Prelude.{◌≡◌, ℕ, List, Option, Bool, true, false, IfOk, IsErr, OnOk};
+ghost use Rattle.std.specs.Prelude.{◌≡◌, true, false, IfOk, IfErr, IsErr, OnOk};
 ghost use Rattle.std.specs.Io.KnownBytes.{Appends};
-ghost use Rattle.b2sum_commands.specs.Runs.{EndsWith};
+ghost use Rattle.std.specs.IoError.{error_kind};
+ghost use Rattle.std.specs.declared.io.ErrorKind.TheVariants.{NotFound};
+ghost use Rattle.b2sum_commands.specs.World.{IsWritten};
 
 use blake2_replay::engine::{DeviceError, Sink, Source, write_whole};
 use std::alloc::{AllocError, Global};
@@ -12,6 +14,9 @@ use std::io;
 pub trait OpenFile: Source {
     /// Returns the error of the last read that failed.
     fn reason(&self) -> io::Error;
+
+    /// Returns the number by which the system knows the file.
+    fn number(&self) -> i32;
 }
 
 /// Sinks that know why a write failed.
@@ -22,28 +27,26 @@ pub trait Output: Sink {
 
 /// Files that are opened by names of any bytes.
 pub trait Disk {
-    // The bytes of the file of a name, if the disk says which.
-    ghost holds: { Self → List ℕ → Option (List ℕ) };
+    ghost use Rattle.b2sum_commands.specs.Found.{Files};
 
-    // The bytes of standard input, if the disk says which.
-    ghost input_holds: { Self → Option (List ℕ) };
-
-    // The file of a name may not be opened.
-    ghost refuses: { Self → List ℕ → Bool };
+    // The files by their names.
+    ghost files: { Self → Files };
 
     /// An open file.
     type File: OpenFile + Drop;
 
+    /// Keeps what the program holds from now on from others, as far as the system can. It is called
+    /// before a key is read.
+    fn keep_secrets(&self);
+
     /// Opens the file of this name for reading. The error says why it cannot be opened.
     fn open(&self, alloc: Global, name: &[u8]) -> io::Result<Self::File>
-        ensures refused { IsErr result → refuses self.now name.now ≡ true }
-        ensures bytes { IfOk result (λ file. Self.File.left file ≡ holds self.now name.now) }
+        ensures refused { IsErr result → (files self.now).refuses name.now ≡ true }
+        ensures missing { IfErr result (λ error. error_kind error ≡ NotFound
+            → (files self.now).lacks name.now ≡ true) }
+        ensures bytes { IfOk result
+            (λ file. Self.File.left file ≡ (files self.now).holds name.now) }
         ensures unfailed { IfOk result (λ file. Self.File.failed file ≡ false) };
-
-    /// Returns standard input, from where it is.
-    fn input(&self) -> Self::File
-        ensures bytes { Self.File.left result ≡ input_holds self.now }
-        ensures unfailed { Self.File.failed result ≡ false };
 }
 
 /// Why a command ends early.
@@ -69,6 +72,7 @@ impl From<DeviceError> for Fault {
 
 /// Writes the text, if the sink has not failed before.
 pub(crate) fn put<K: Sink>(sink: &mut K, text: &[u8]) -> Result<(), DeviceError>
+    ensures stays { K.failed sink.old ≡ true → K.failed sink.new ≡ true }
     ensures fails { IsErr result → K.failed sink.new ≡ true }
     ensures whole { OnOk result (Appends (K.held sink.old) (K.held sink.new) text.now) }
 {
@@ -80,7 +84,8 @@ pub(crate) fn put<K: Sink>(sink: &mut K, text: &[u8]) -> Result<(), DeviceError>
 
 /// Writes a message, and leaves a failure to the sink.
 pub(crate) fn tell<E: Sink>(sink: &mut E, text: &[u8])
-    ensures { EndsWith E.held E.failed sink.new text.now }
+    ensures { IsWritten (E.failed sink.old) (E.failed sink.new) (E.held sink.old) (E.held sink.new)
+        text.now }
 {
     let _ = put(sink, text);
 }

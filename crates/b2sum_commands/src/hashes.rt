@@ -1,29 +1,27 @@
 //! The hash functions, which the program passes to the commands.
 
 ghost use Rattle.std.specs.Prelude.{◌≡◌, ◌↔◌, ℕ, ◌<◌, ◌≤◌, ◌^◌, List, length, take, IsTrue, OnOk};
-ghost use Rattle.std.specs.Prelude.{Bool, true, false, ◌||◌, IsErr};
+ghost use Rattle.std.specs.Prelude.{true, false, ◌||◌, IsErr};
 ghost use Rattle.std.specs.Result.{IsErrOf};
 ghost use Rattle.blake2_replay.specs.Streams.{GivesAll};
 
+use crate::devices::OpenFile;
 use crate::options::Options;
-use blake2_replay::engine::{Source, StreamFault};
+use blake2_replay::engine::StreamFault;
 
 /// Hash functions of what sources return.
 pub trait Hashes {
-    ghost use Rattle.b2sum_commands.specs.declared.options.Options.{Options};
+    ghost use Rattle.b2sum_commands.specs.Found.{Hashing};
 
-    // The digest of this many bytes of a text, by the algorithm and the parameters of the options.
-    ghost digest: { Options → ℕ → List ℕ → List ℕ };
-
-    // A digest of this many bytes may be refused by these options, or for the length of a text.
-    ghost rejects: { Options → ℕ → Bool };
+    // The digests of texts.
+    ghost hashing: { Hashing };
 
     /// Writes the digest of all that the source returns at the front of `out`. The digest has
     /// `bytes` bytes, 1 to the most that the algorithm has. The source is read in pieces of the
     /// buffer, which has at least 1 byte and at most 16 MiB. The source must not have failed
     /// before. The error is `StreamFault::Read` if a read returns an error, and `TooLong` if the
     /// source returns 2^64 bytes or more (2^58 for a tree), or if the algorithm refuses a length.
-    fn digest_source<S: Source>(
+    fn digest_source<S: OpenFile>(
         &self,
         options: &Options,
         bytes: usize,
@@ -36,10 +34,10 @@ pub trait Hashes {
         requires most { length buffer.old ≤ 2 ^ 24 }
         ensures read { IsErrOf result StreamFault.Read ↔ IsTrue (S.failed source.new) }
         ensures refused { IsErr result
-            → (S.failed source.new || rejects options.now bytes) ≡ true }
+            → (S.failed source.new || hashing.rejects options.now bytes) ≡ true }
         ensures whole { OnOk result ((text : List ℕ)
             × GivesAll (S.left source.old) (S.left source.new) text
-            × (take bytes out.new ≡ digest options.now bytes text)) };
+            × (take bytes out.new ≡ hashing.digest options.now bytes text)) };
 
     /// Returns the best length of a buffer, in bytes.
     fn piece_bytes(&self, options: &Options) -> usize

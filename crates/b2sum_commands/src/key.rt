@@ -1,7 +1,8 @@
 //! The key of digests, from a file.
 
-ghost use Rattle.std.specs.Prelude.{◌≡◌, ◌<◌, None, IfOk};
-ghost use Rattle.b2sum_commands.specs.Runs.{IsTold};
+ghost use Rattle.std.specs.Prelude.{◌≡◌, ◌≤◌, length, true, None, IfOk, IfSome};
+ghost use Rattle.std.specs.Io.KnownBytes.{Consumes, IsAtEnd};
+ghost use Rattle.b2sum_commands.specs.World.{HasMessage, IsKey};
 
 use crate::devices::{Disk, Fault, OpenFile};
 use crate::texts::{warn_of_file, warn_of_name};
@@ -17,8 +18,13 @@ pub(crate) fn read_key<D: Disk, E: Sink>(
     most: usize,
     messages: &mut E,
 ) -> Result<Option<Vec<u8>>, Fault>
-    ensures { IfOk result (λ key. key ≡ None → IsTold E.held E.failed messages.new) }
+    ensures key { IfOk result (λ key. IfSome key
+        (λ bytes. IsKey ((D.files disk.now).holds name.now) most bytes.items)) }
+    ensures kept { IfOk result (λ key. IfSome key (λ _. messages.new ≡ messages.old)) }
+    ensures told { IfOk result (λ key. key ≡ None → HasMessage (E.failed messages.old)
+        (E.failed messages.new) (E.held messages.old) (E.held messages.new)) }
 {
+    disk.keep_secrets();
     let mut file = match disk.open(alloc, name) {
         Ok(file) => file,
         Err(error) => {
@@ -26,22 +32,10 @@ pub(crate) fn read_key<D: Disk, E: Sink>(
             return Ok(None);
         }
     };
-    let mut key = Vec::new(alloc);
-    let mut buffer = [0u8; 65];
-    for _ in 0..u64::MAX {
-        let Ok(count) = file.read(&mut buffer) else {
-            warn_of_file(alloc, file.reason(), messages, name)?;
-            return Ok(None);
-        };
-        if count == 0 {
-            break;
-        }
-        let bytes = &buffer[..];
-        key.extend_from_slice(&bytes[..count])?;
-        if key.len() > most {
-            break;
-        }
-    }
+    let Some(key) = read_bytes(alloc, &mut file, most)? else {
+        warn_of_file(alloc, file.reason(), messages, name)?;
+        return Ok(None);
+    };
     if key.is_empty() || key.len() > most {
         let reason: &[u8] = if most == 64 {
             b"a key has 1 to 64 bytes"
@@ -52,4 +46,33 @@ pub(crate) fn read_key<D: Disk, E: Sink>(
         return Ok(None);
     }
     Ok(Some(key))
+}
+
+// Returns all bytes that the source returns, or more than `most` if it has more. The result is
+// `None` if a read failed.
+fn read_bytes<S: Source>(
+    alloc: Global,
+    source: &mut S,
+    most: usize,
+) -> Result<Option<Vec<u8>>, Fault>
+    ensures { IfOk result (λ found. IfSome found (λ bytes. length bytes.items ≤ most
+        → Consumes (S.left source.old) (S.left source.new) bytes.items
+        × IsAtEnd (S.left source.new))) }
+{
+    let mut bytes = Vec::with_capacity(alloc, most)?;
+    let mut buffer = [0u8; 65];
+    for _ in 0..u64::MAX {
+        let Ok(count) = source.read(&mut buffer) else {
+            return Ok(None);
+        };
+        if count == 0 {
+            return Ok(Some(bytes));
+        }
+        let piece = &buffer[..];
+        bytes.extend_from_slice(&piece[..count])?;
+        if bytes.len() > most {
+            return Ok(Some(bytes));
+        }
+    }
+    Err(Fault::NoMemory)
 }

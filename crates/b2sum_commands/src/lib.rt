@@ -10,13 +10,15 @@ mod key;
 mod options;
 mod program;
 mod quoting;
+mod session;
 mod sums;
 mod texts;
 mod values;
 
-pub use check::{Counts, Verdict, check_manifest};
+pub use check::{Counts, Verdict, check_manifest, check_manifests};
 pub use devices::{Disk, Fault, OpenFile, Output};
 pub use hashes::Hashes;
 pub use options::{Options, Report};
 pub use program::run;
+pub use session::{Host, Session};
 pub use sums::print_sums;

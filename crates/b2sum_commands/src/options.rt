@@ -7,7 +7,6 @@ ghost use Rattle.b2sum_lines.specs.Lines.{max_bytes, is_tree};
 ghost use Rattle.b2sum_lines.specs.declared.entry.Algorithm.TheVariants.{Blake2b, Blake2s, Tree};
 ghost use Rattle.b2sum_lines.specs.declared.entry.Style.TheVariants.{Tagged, Text, Binary};
 ghost use Rattle.b2sum_commands.specs.declared.options.Report.TheVariants.{Each};
-ghost use Rattle.b2sum_commands.specs.Fitting.{AreFit};
 ghost use Rattle.b2sum_commands.specs.Flags.{long_name, has_value, letter_flag};
 ghost use Rattle.std.specs.List.{starts_with, find, count_by};
 ghost use Rattle.std.specs.Str.{bytes_eq};
@@ -279,7 +278,6 @@ enum Next {
 /// none. The error is `Stop::NoMemory` if an allocation failed.
 pub(crate) fn read_arguments(alloc: Global, words: &[Vec<u8>]) -> Result<Arguments, Stop>
     ensures size { IfOk result (λ a. a.options.bytes ≤ 64) }
-    ensures fit { IfOk result (λ a. AreFit a.options) }
     ensures arguments { IfOk result (AreArguments (map (λ word. word.items) words.now)) }
     ensures stop { IfErr result (StopsBy (command_line (map (λ word. word.items) words.now))) }
 {
@@ -568,7 +566,6 @@ fn take_value(alloc: Global, reader: &mut Reader, flag: Flag, value: &[u8]) -> R
 // Checks the options against one another.
 fn finish(alloc: Global, reader: Reader, files: Vec<Vec<u8>>) -> Result<Arguments, Stop>
     ensures size { IfOk result (λ a. a.options.bytes ≤ 64) }
-    ensures fit { IfOk result (λ a. AreFit a.options) }
     ensures accepted { OnOk result (accepted (choice_of reader) ≡ true) }
     ensures options { IfOk result (λ a. AreOptions (choice_of reader) a.options) }
     ensures no_key { IfOk result (λ a. a.options.key.items ≡ []) }

@@ -1,26 +1,21 @@
 //! The run of the program.
 
-ghost use Rattle.std.specs.Prelude.{◌≡◌, ◌⊎◌, ◌<◌, ◌≤◌, ◌^◌, length, map, true, false, Err, IfOk};
-ghost use Rattle.std.specs.Io.KnownBytes.{Appends};
-ghost use Rattle.b2sum_commands.specs.CommandLine.{Choice, Helped, Versioned, Refused};
-ghost use Rattle.b2sum_lines.specs.declared.entry.Spacing.TheVariants.{Open};
-ghost use Rattle.b2sum_commands.specs.Checks.{AreChecked};
-ghost use Rattle.b2sum_commands.specs.Fitting.{AreFit};
-ghost use Rattle.b2sum_commands.specs.Sums.{CannotCheck, CannotSum};
-ghost use Rattle.b2sum_commands.specs.Runs.{DoesTask, EndsTask, IsTold, Succeeds};
+ghost use Rattle.std.specs.Prelude.{◌≡◌, ◌⊎◌, ◌≤◌, map, true, false, None, Err, IfOk, IfSome, OnOk};
 ghost use Rattle.std.specs.Option.{option_map};
+ghost use Rattle.b2sum_commands.specs.CommandLine.{Choice, Refused};
 ghost use Rattle.b2sum_commands.specs.Accepted.{AreOptions, command_line};
-ghost use Rattle.b2sum_commands.specs.CommandRuns.{DoesChoice, DoesLine, EndsChoice, EndsLine};
-ghost use Rattle.b2sum_commands.specs.Readers.{IsPrinted, IsAnswered, IsRefusal, IsKept};
+ghost use Rattle.b2sum_commands.specs.World.{world_of, HasMessage, IsTold, IsReported};
+ghost use Rattle.b2sum_commands.specs.Runs.{DoesChoice, DoesLine, HasKey};
+ghost use Rattle.b2sum_commands.specs.Readers.{IsPrinted, IsRefusal, IsKept};
 
-use crate::check::check_manifest;
-use crate::devices::{Disk, Fault, Output, put, tell};
+use crate::check::check_manifests;
+use crate::devices::{Disk, Fault, OpenFile, Output, put, tell};
 use crate::hashes::Hashes;
 use crate::key::read_key;
 use crate::options::{Arguments, Options, Stop, read_arguments};
+use crate::session::{Host, Session};
 use crate::sums::print_sums;
 use crate::texts::{reason_of, warn};
-use b2sum_lines::Spacing;
 use blake2_replay::engine::Sink;
 use std::alloc::{AllocError, Global};
 use std::io;
@@ -61,48 +56,31 @@ const TRY_HELP: &[u8] = b"Try 'b2sum --help' for more information.\n";
 /// options are wrong, a file cannot be read, a digest differs, a write fails or an allocation
 /// fails.
 pub fn run<H: Hashes, D: Disk, K: Output, E: Sink>(
-    alloc: Global,
-    hashes: &H,
-    disk: &D,
+    host: &Host<H, D>,
+    session: &mut Session<D::File, K, E>,
     words: &[Vec<u8>],
-    output: &mut K,
-    messages: &mut E,
 ) -> u8
     ensures status { result ≤ 1 }
-    ensures success { result ≡ 0 → Succeeds HELP.now VERSION.now (D.holds disk.now)
-        (CannotSum D.File.failed H.rejects (D.refuses disk.now)) H.digest
-        (D.input_holds disk.now) (K.held output.old) (K.held output.new) }
-    ensures failure { result ≡ 1 → EndsTask (D.holds disk.now)
-        (CannotCheck D.File.failed (D.refuses disk.now))
-        (CannotSum D.File.failed H.rejects (D.refuses disk.now)) H.digest (D.input_holds disk.now)
-        (K.held output.old) (K.held output.new) false ⊎ IsTold E.held E.failed messages.new }
-    ensures task { result ≡ 0 → DoesLine (D.holds disk.now)
-        (CannotSum D.File.failed H.rejects (D.refuses disk.now)) H.digest
-        (D.input_holds disk.now) (K.held output.old) (K.held output.new)
-        (command_line (map (λ word. word.items) words.now)) }
-    ensures ended { result ≡ 1 → EndsLine (D.holds disk.now)
-        (CannotCheck D.File.failed (D.refuses disk.now))
-        (CannotSum D.File.failed H.rejects (D.refuses disk.now)) H.digest
-        (D.input_holds disk.now) (K.held output.old) (K.held output.new)
-        (command_line (map (λ word. word.items) words.now)) false
-        ⊎ IsTold E.held E.failed messages.new }
-    ensures help { command_line (map (λ word. word.items) words.now) ≡ Err Helped → result ≡ 0
-        → Appends (K.held output.old) (K.held output.new) HELP.now }
-    ensures version { command_line (map (λ word. word.items) words.now) ≡ Err Versioned
-        → result ≡ 0 → Appends (K.held output.old) (K.held output.new) VERSION.now }
+    ensures success { result ≡ 0 → DoesLine (world_of D.File.failed (D.files host.now.disk) H.hashing)
+        HELP.now VERSION.now (command_line (map (λ word. word.items) words.now))
+        session.old session.new true }
+    ensures failure { result ≡ 1 → DoesLine (world_of D.File.failed (D.files host.now.disk) H.hashing)
+        HELP.now VERSION.now (command_line (map (λ word. word.items) words.now))
+        session.old session.new false ⊎ IsReported E.failed E.held session.old session.new }
     ensures refused { command_line (map (λ word. word.items) words.now) ≡ Err Refused
-        → (result ≡ 1) × (K.held output.new ≡ K.held output.old)
-        × IsTold E.held E.failed messages.new }
+        → (result ≡ 1) × (session.new.held ≡ session.old.held)
+        × IsReported E.failed E.held session.old session.new }
 {
-    match run_words(alloc, hashes, disk, words, output, messages) {
+    match run_words(host, session, words) {
         Ok(true) => 0,
         Ok(false) => 1,
         Err(Fault::NoMemory) => {
-            tell(messages, b"b2sum: memory exhausted\n");
+            tell(&mut session.messages, b"b2sum: memory exhausted\n");
             1
         }
         Err(Fault::WriteFailed) => {
-            warn_of_write(alloc, output.reason(), messages);
+            let reason = session.output.reason();
+            warn_of_write(host.alloc, reason, &mut session.messages);
             1
         }
     }
@@ -110,7 +88,8 @@ pub fn run<H: Hashes, D: Disk, K: Output, E: Sink>(
 
 // Prints the message of a write that failed.
 fn warn_of_write<E: Sink>(alloc: Global, error: io::Error, messages: &mut E)
-    ensures { IsTold E.held E.failed messages.new }
+    ensures { HasMessage (E.failed messages.old) (E.failed messages.new) (E.held messages.old)
+        (E.held messages.new) }
 {
     let Ok(reason) = reason_of(alloc, error) else {
         return tell(messages, b"b2sum: write error\n");
@@ -121,189 +100,138 @@ fn warn_of_write<E: Sink>(alloc: Global, error: io::Error, messages: &mut E)
 }
 
 fn run_words<H: Hashes, D: Disk, K: Output, E: Sink>(
-    alloc: Global,
-    hashes: &H,
-    disk: &D,
+    host: &Host<H, D>,
+    session: &mut Session<D::File, K, E>,
     words: &[Vec<u8>],
-    output: &mut K,
-    messages: &mut E,
 ) -> Result<bool, Fault>
-    ensures success { IfOk result (λ is_right. is_right ≡ true → Succeeds HELP.now VERSION.now
-        (D.holds disk.now) (CannotSum D.File.failed H.rejects (D.refuses disk.now)) H.digest
-        (D.input_holds disk.now)
-        (K.held output.old) (K.held output.new)) }
-    ensures fails { IfOk result (λ is_right. is_right ≡ false → EndsTask (D.holds disk.now)
-        (CannotCheck D.File.failed (D.refuses disk.now))
-        (CannotSum D.File.failed H.rejects (D.refuses disk.now)) H.digest (D.input_holds disk.now)
-        (K.held output.old) (K.held output.new) false ⊎ IsTold E.held E.failed messages.new) }
-    ensures answered { IfOk result (IsAnswered HELP.now VERSION.now
-        (IsTold E.held E.failed messages.new) (K.held output.old) (K.held output.new)
-        (command_line (map (λ word. word.items) words.now))) }
-    ensures task { IfOk result (λ is_right. is_right ≡ true → DoesLine (D.holds disk.now)
-        (CannotSum D.File.failed H.rejects (D.refuses disk.now)) H.digest
-        (D.input_holds disk.now) (K.held output.old) (K.held output.new)
-        (command_line (map (λ word. word.items) words.now))) }
-    ensures ended { IfOk result (λ is_right. is_right ≡ false → EndsLine (D.holds disk.now)
-        (CannotCheck D.File.failed (D.refuses disk.now))
-        (CannotSum D.File.failed H.rejects (D.refuses disk.now)) H.digest
-        (D.input_holds disk.now) (K.held output.old) (K.held output.new)
-        (command_line (map (λ word. word.items) words.now)) false
-        ⊎ IsTold E.held E.failed messages.new) }
-    ensures kept { IsKept (K.held output.old) (K.held output.new)
+    ensures done { IfOk result (λ well. DoesLine (world_of D.File.failed (D.files host.now.disk) H.hashing)
+        HELP.now VERSION.now (command_line (map (λ word. word.items) words.now))
+        session.old session.new well ⊎ ((well ≡ false) × IsTold session.old session.new)) }
+    ensures kept { IsKept session.old session.new
         (command_line (map (λ word. word.items) words.now)) }
 {
-    match read_arguments(alloc, words) {
-        Ok(arguments) => run_task(alloc, hashes, disk, arguments, output, messages),
-        Err(stop) => print_stop(alloc, stop, output, messages),
+    match read_arguments(host.alloc, words) {
+        Ok(arguments) => run_task(host, session, arguments),
+        Err(stop) => print_stop(host.alloc, session, stop),
     }
 }
 
 // Prints what a command line without a task asks for: the help, the version or a message. Returns
 // whether it is right.
-fn print_stop<K: Output, E: Sink>(
+fn print_stop<F: OpenFile, K: Output, E: Sink>(
     alloc: Global,
+    session: &mut Session<F, K, E>,
     stop: Stop,
-    output: &mut K,
-    messages: &mut E,
 ) -> Result<bool, Fault>
-    ensures printed { IfOk result (IsPrinted HELP.now VERSION.now
-        (IsTold E.held E.failed messages.new) (K.held output.old) (K.held output.new) stop) }
-    ensures refused { IsRefusal stop → K.held output.new ≡ K.held output.old }
+    ensures printed { IfOk result (IsPrinted HELP.now VERSION.now session.old session.new stop) }
+    ensures refused { IsRefusal stop → session.new.held ≡ session.old.held }
 {
     match stop {
         Stop::Help => {
-            put(output, HELP)?;
+            put(&mut session.output, HELP)?;
             Ok(true)
         }
         Stop::Version => {
-            put(output, VERSION)?;
+            put(&mut session.output, VERSION)?;
             Ok(true)
         }
         Stop::Usage(text) => {
-            warn(alloc, messages, text.as_slice(), b"", b"")?;
-            tell(messages, TRY_HELP);
+            tell_usage(alloc, text.as_slice(), &mut session.messages)?;
             Ok(false)
         }
         Stop::Value(first, second) => {
-            warn(alloc, messages, first.as_slice(), b"", b"")?;
-            if !second.is_empty() {
-                warn(alloc, messages, second.as_slice(), b"", b"")?;
-            }
+            let (first, second) = (first.as_slice(), second.as_slice());
+            tell_value(alloc, first, second, &mut session.messages)?;
             Ok(false)
         }
         Stop::NoMemory => Err(Fault::NoMemory),
     }
 }
 
+// Prints the message of wrong options, and the pointer to `--help`.
+fn tell_usage<E: Sink>(alloc: Global, text: &[u8], messages: &mut E) -> Result<(), AllocError>
+    ensures { OnOk result (HasMessage (E.failed messages.old) (E.failed messages.new)
+        (E.held messages.old) (E.held messages.new)) }
+{
+    warn(alloc, messages, text, b"", b"")?;
+    tell(messages, TRY_HELP);
+    Ok(())
+}
+
+// Prints the messages of a wrong value: one, or two.
+fn tell_value<E: Sink>(
+    alloc: Global,
+    first: &[u8],
+    second: &[u8],
+    messages: &mut E,
+) -> Result<(), AllocError>
+    ensures { OnOk result (HasMessage (E.failed messages.old) (E.failed messages.new)
+        (E.held messages.old) (E.held messages.new)) }
+{
+    warn(alloc, messages, first, b"", b"")?;
+    if second.is_empty() {
+        return Ok(());
+    }
+    warn(alloc, messages, second, b"", b"")?;
+    Ok(())
+}
+
 // Does what the arguments say. Returns whether all went well.
 fn run_task<H: Hashes, D: Disk, K: Output, E: Sink>(
-    alloc: Global,
-    hashes: &H,
-    disk: &D,
+    host: &Host<H, D>,
+    session: &mut Session<D::File, K, E>,
     arguments: Arguments,
-    output: &mut K,
-    messages: &mut E,
 ) -> Result<bool, Fault>
-    requires size { arguments.options.bytes ≤ 64 }
-    requires fit { AreFit arguments.options }
-    ensures fails { IfOk result (λ is_right. is_right ≡ false → EndsTask (D.holds disk.now)
-        (CannotCheck D.File.failed (D.refuses disk.now))
-        (CannotSum D.File.failed H.rejects (D.refuses disk.now)) H.digest (D.input_holds disk.now)
-        (K.held output.old) (K.held output.new) false ⊎ IsTold E.held E.failed messages.new) }
-    ensures success { IfOk result (λ is_right. is_right ≡ true → DoesTask (D.holds disk.now)
-        (CannotSum D.File.failed H.rejects (D.refuses disk.now)) H.digest
-        (D.input_holds disk.now) (K.held output.old) (K.held output.new)) }
-    ensures chosen { (c : Choice) → AreOptions c arguments.options
+    requires { arguments.options.bytes ≤ 64 }
+    ensures { (c : Choice) → AreOptions c arguments.options
         → option_map (λ name. name.items) arguments.key_file ≡ c.key_file
-        → IfOk result (λ is_right. is_right ≡ true → DoesChoice (D.holds disk.now)
-        (CannotSum D.File.failed H.rejects (D.refuses disk.now)) H.digest
-        (D.input_holds disk.now) (K.held output.old) (K.held output.new)
-        c (map (λ name. name.items) arguments.files.items)) }
-    ensures ended { (c : Choice) → AreOptions c arguments.options
-        → option_map (λ name. name.items) arguments.key_file ≡ c.key_file
-        → IfOk result (λ is_right. is_right ≡ false → EndsChoice (D.holds disk.now)
-        (CannotCheck D.File.failed (D.refuses disk.now))
-        (CannotSum D.File.failed H.rejects (D.refuses disk.now)) H.digest
-        (D.input_holds disk.now) (K.held output.old) (K.held output.new)
-        c (map (λ name. name.items) arguments.files.items) false
-        ⊎ IsTold E.held E.failed messages.new) }
+        → IfOk result (λ well. DoesChoice (world_of D.File.failed (D.files host.now.disk) H.hashing) c
+        (map (λ name. name.items) arguments.files.items) session.old session.new well
+        ⊎ ((well ≡ false) × IsTold session.old session.new)) }
 {
     let Arguments {
-        mut options,
+        options,
         files,
         key_file,
     } = arguments;
-    if let Some(name) = key_file {
-        let most = options.algorithm.max_bytes();
-        match read_key(alloc, disk, name.as_slice(), most, messages)? {
-            Some(key) => options.key = key,
-            None => return Ok(false),
-        }
-    }
-    let mut input = disk.input();
-    let mut buffer = piece_buffer(alloc, hashes, &options)?;
-    let buffer = buffer.as_mut_slice();
+    let Some(options) = with_key(host, session, options, key_file)? else {
+        return Ok(false);
+    };
+    session.make_room(host.alloc, host.hashes.piece_bytes(&options))?;
     let names = files.as_slice();
     if options.checks {
-        check_all(
-            alloc, hashes, disk, &options, names, &mut input, buffer, output, messages,
-        )
+        session.begin_checks();
+        check_manifests(host, &options, session, names)
     } else {
-        print_sums(
-            alloc, hashes, disk, &options, names, &mut input, buffer, output, messages,
-        )
+        print_sums(host, &options, session, names)
     }
 }
 
-// Checks each manifest, from the first to the last. Returns whether all hold.
-fn check_all<H: Hashes, D: Disk, K: Output, E: Sink>(
-    alloc: Global,
-    hashes: &H,
-    disk: &D,
-    options: &Options,
-    names: &[Vec<u8>],
-    input: &mut D::File,
-    buffer: &mut [u8],
-    output: &mut K,
-    messages: &mut E,
-) -> Result<bool, Fault>
-    requires room { 0 < length buffer.old }
-    requires most { length buffer.old ≤ 2 ^ 24 }
-    ensures checked { IfOk result (λ is_right. (spaced : Spacing)
-        × AreChecked (D.holds disk.now) (CannotCheck D.File.failed (D.refuses disk.now))
-        (CannotSum D.File.failed H.rejects (D.refuses disk.now)) H.digest options.now
-        (map (λ name. name.items) names.now) Open (D.File.left input.old) (K.held output.old)
-        spaced (D.File.left input.new) (K.held output.new) is_right) }
+// Returns the options with the key of the key file, if there is one. For a file that has no key the
+// result is `None`, after a message.
+fn with_key<H: Hashes, D: Disk, K: Output, E: Sink>(
+    host: &Host<H, D>,
+    session: &mut Session<D::File, K, E>,
+    mut options: Options,
+    key_file: Option<Vec<u8>>,
+) -> Result<Option<Options>, Fault>
+    ensures options { (c : Choice) → AreOptions c options
+        → option_map (λ name. name.items) key_file ≡ c.key_file
+        → IfOk result (λ found. IfSome found (λ o. AreOptions c o
+        × HasKey (world_of D.File.failed (D.files host.now.disk) H.hashing) c o)) }
+    ensures bytes { IfOk result (λ found. IfSome found (λ o. o.bytes ≡ options.bytes)) }
+    ensures kept { IfOk result (λ found. IfSome found (λ _. session.new ≡ session.old)) }
+    ensures told { IfOk result (λ found. found ≡ None → IsTold session.old session.new) }
 {
-    let mut is_right = true;
-    let mut spacing = Spacing::Open;
-    for name in names {
-        let holds = check_manifest(
-            alloc,
-            hashes,
-            disk,
-            options,
-            &mut spacing,
-            name.as_slice(),
-            input,
-            buffer,
-            output,
-            messages,
-        )?;
-        is_right &= holds;
-    }
-    Ok(is_right)
-}
-
-// Returns the buffer of all reads.
-fn piece_buffer<H: Hashes>(
-    alloc: Global,
-    hashes: &H,
-    options: &Options,
-) -> Result<Vec<u8>, AllocError>
-    ensures some { IfOk result (λ buffer. 0 < length buffer.items) }
-    ensures most { IfOk result (λ buffer. length buffer.items ≤ 2 ^ 24) }
-{
-    let size = hashes.piece_bytes(options);
-    vec![in alloc; 0u8; size]
+    let Some(name) = key_file else {
+        return Ok(Some(options));
+    };
+    let most = options.algorithm.max_bytes();
+    let name = name.as_slice();
+    let messages = &mut session.messages;
+    let Some(key) = read_key(host.alloc, &host.disk, name, most, messages)? else {
+        return Ok(None);
+    };
+    options.key = key;
+    Ok(Some(options))
 }

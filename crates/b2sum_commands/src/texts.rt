@@ -1,7 +1,7 @@
 //! Messages.
 
-ghost use Rattle.std.specs.Prelude.{◌++◌, ◌∷◌, [], codes, OnOk};
-ghost use Rattle.b2sum_commands.specs.Runs.{EndsWith, IsTold};
+ghost use Rattle.std.specs.Prelude.{◌≡◌, ◌++◌, ◌∷◌, [], codes, IsErr, OnOk};
+ghost use Rattle.b2sum_commands.specs.World.{IsWritten, HasMessage};
 
 use crate::devices::tell;
 use crate::quoting::quoted_name;
@@ -18,7 +18,9 @@ pub(crate) fn warn<E: Sink>(
     second: &[u8],
     third: &[u8],
 ) -> Result<(), AllocError>
-    ensures { OnOk result (EndsWith E.held E.failed sink.new
+    ensures unsaid { IsErr result → sink.new ≡ sink.old }
+    ensures line { OnOk result (IsWritten (E.failed sink.old) (E.failed sink.new)
+        (E.held sink.old) (E.held sink.new)
         (codes "b2sum: " ++ first.now ++ second.now ++ third.now ++ (10 ∷ []))) }
 {
     let mut line = Vec::new(alloc);
@@ -38,7 +40,8 @@ pub(crate) fn warn_of_name<E: Sink>(
     name: &[u8],
     reason: &[u8],
 ) -> Result<(), AllocError>
-    ensures { OnOk result (IsTold E.held E.failed sink.new) }
+    ensures { OnOk result (HasMessage (E.failed sink.old) (E.failed sink.new) (E.held sink.old)
+        (E.held sink.new)) }
 {
     let name = quoted_name(alloc, name)?;
     warn(alloc, sink, name.as_slice(), b": ", reason)
@@ -51,7 +54,8 @@ pub(crate) fn warn_of_file<E: Sink>(
     sink: &mut E,
     name: &[u8],
 ) -> Result<(), AllocError>
-    ensures { OnOk result (IsTold E.held E.failed sink.new) }
+    ensures { OnOk result (HasMessage (E.failed sink.old) (E.failed sink.new) (E.held sink.old)
+        (E.held sink.new)) }
 {
     let text = reason_of(alloc, error)?;
     warn_of_name(alloc, sink, name, text.as_bytes())

@@ -1,16 +1,22 @@
 use Rattle.std.proofs.Common.{refl, [], inl, rules}
-use Rattle.std.proofs.KnownBytes.{Appends-nil}
 use Rattle.b2sum_commands.proofs.check.check_manifest.Goals as goal
 
--- src/check.rt:153:9
 pub returns-in_default : goal.returns-in_default
-returns-in_default g c = record {
-  checked = inl (
-    refl,
-    search rules,
-    [],
-    [],
-    g.D.File.Source.left c.read_manifest.new.input,
-    record { are_verdicts = refl; lines = Appends-nil (g.K.Sink.held c.args.output.now) },
-  );
-}
+returns-in_default g c =
+    let session = c.read_manifest.new.session in
+    inl (
+      refl,
+      record {
+        text = [];
+        start = session;
+        verdicts = [];
+        cause = inl (c.in_ok-manifest.ensures.none (search rules)).0;
+        quiet = c.in_ok-manifest.ensures.quiet;
+        are_judged = record {
+          end = session;
+          lines = refl;
+          quiet = record { held = refl; spacing = refl };
+          left = refl;
+        };
+      },
+    )

@@ -1,0 +1,86 @@
+-- Verdicts, and the counts of them.
+use Rattle.std.proofs.Common.{◌≡◌, ◌≢◌, ◌⊎◌, ℕ, ◌&&◌, ◌||◌, Bool, true, false, not, List, [], ◌∷◌, ◌++◌}
+use Rattle.std.proofs.Common.{Option, Some, inl, inr, refl, ap, ◌∙◌, sym, subst, length, arith}
+use Rattle.std.specs.List.{list_all, list_any}
+use Rattle.b2sum_lines.specs.Lines.{Line}
+use Rattle.b2sum_commands.specs.World.{World}
+use Rattle.b2sum_commands.specs.Checks.{AreCounted, Adds}
+use Rattle.b2sum_commands.specs.Manifests.{IsVerdict, is_equal, is_fine, is_formed, holds_by}
+use Rattle.b2sum_commands.specs.Sums.{is_dash, ReadsAs, Leaves, CannotSum}
+use Rattle.b2sum_commands.specs.declared.check.Counts.{Counts}
+use Rattle.b2sum_commands.specs.declared.check.Verdict.{Verdict}
+use Rattle.b2sum_commands.specs.declared.check.Verdict.TheVariants.{Equal, Different, Unread}
+use Rattle.b2sum_commands.specs.declared.check.Verdict.TheVariants.{Skipped, Malformed, Comment}
+use Rattle.b2sum_commands.specs.declared.options.Options.{Options}
+use Rattle.b2sum_commands.specs.declared.sums.Read.{Read}
+use Rattle.b2sum_commands.specs.declared.sums.Read.TheVariants.{Whole, Missing, Failed}
+use Rattle.b2sum_commands.proofs.Joining.{all_more, any_more}
+
+-- The counts with one more verdict.
+pub count_step : (vs : List Verdict) (v : Verdict) (old new : Counts) → AreCounted vs old
+    → Adds v old new → AreCounted (vs ++ (v ∷ [])) new
+count_step vs v old new c a = record {
+  equal = a.equal ∙ ap (λ b. b || is_equal v) c.equal ∙ sym (any_more is_equal vs v);
+  fine = a.fine ∙ ap (λ b. b && is_fine v) c.fine ∙ sym (all_more is_fine vs v);
+  formed = a.formed ∙ ap (λ b. b && is_formed v) c.formed ∙ sym (all_more is_formed vs v);
+}
+
+-- The result by the counts is that by the verdicts.
+pub counted_holds : (strict : Bool) (vs : List Verdict) (counts : Counts) (b : Bool)
+    → AreCounted vs counts
+    → b ≡ (counts.any_equal && (counts.all_fine && (not strict || counts.all_formed)))
+    → b ≡ holds_by strict vs
+counted_holds strict vs counts b c is =
+    is
+    ∙ ap (λ x. x && (counts.all_fine && (not strict || counts.all_formed))) c.equal
+    ∙ ap (λ x. list_any is_equal vs && (x && (not strict || counts.all_formed))) c.fine
+    ∙ ap (λ x. list_any is_equal vs && (list_all is_fine vs && (not strict || x))) c.formed
+
+-- What a file that is not there, and is to be ignored, is known to be.
+abbrev pub IsAbsent : World → Options → List ℕ → Type 0
+IsAbsent w o name = (o.ignores_missing ≡ true) × (is_dash name ≡ false)
+    × (w.files.refuses name ≡ true) × (w.files.lacks name ≡ true)
+
+-- A file that was not read has a cause.
+pub unread_cause : (w : World) (o : Options) (n : ℕ) (name : List ℕ) (read : Read) → read ≢ Whole
+    → (read ≡ Missing → IsAbsent w o name) → (read ≡ Failed → CannotSum w o n name)
+    → CannotSum w o n name
+unread_cause w o n name Whole other missing failed = absurd (other refl)
+unread_cause w o n name Missing other missing failed =
+    let absent = missing refl in inl (inl (absent.1, absent.2))
+unread_cause w o n name Failed other missing failed = failed refl
+
+-- A verdict on an entry is right.
+pub entry_verdict : (w : World) (o : Options) (left after : Option (List ℕ)) (e : Line)
+    (v : Verdict) (found : List ℕ)
+    → Leaves (is_dash e.name) left after
+    → ((v ≡ Equal) ⊎ (v ≡ Different) → (text : List ℕ)
+    × ReadsAs (is_dash e.name) (w.files.holds e.name) left after text
+    × (found ≡ w.hashing.digest o (length e.digest) text))
+    → (v ≡ Equal → found ≡ e.digest) → (v ≡ Different → found ≢ e.digest)
+    → (v ≡ Skipped → IsAbsent w o e.name)
+    → (v ≡ Unread → CannotSum w o (length e.digest) e.name)
+    → v ≢ Malformed → v ≢ Comment
+    → IsVerdict w o left (Some e) v after
+entry_verdict w o left after e Equal found leaves whole same other absent unread formed entry =
+    let read = whole (inl refl) in (read.0, read.1, sym read.2 ∙ same refl)
+entry_verdict w o left after e Different found leaves whole same other absent unread formed entry =
+    let read = whole (inr refl) in (read.0, read.1, λ is. other refl (read.2 ∙ is))
+entry_verdict w o left after e Unread found leaves whole same other absent unread formed entry =
+    (leaves, unread refl)
+entry_verdict w o left after e Skipped found leaves whole same other absent unread formed entry =
+    let is = absent refl in (
+      is.0,
+      is.1,
+      subst (λ (b : Bool). Leaves b left after) is.1 leaves,
+      is.2,
+      is.3,
+    )
+entry_verdict w o left after e Malformed found leaves whole same other absent unread formed entry =
+    absurd (formed refl)
+entry_verdict w o left after e Comment found leaves whole same other absent unread formed entry =
+    absurd (entry refl)
+
+pub no_bytes : (xs : List ℕ) → length xs ≡ 0 → xs ≡ []
+no_bytes [] h = refl
+no_bytes (x ∷ xs) h = absurd (omega (arith, h))

@@ -1,0 +1,99 @@
+//! What a run works with.
+
+ghost use Rattle.std.specs.Prelude.{◌≡◌, ◌<◌, ◌≤◌, ◌^◌, length, IfOk};
+ghost use Rattle.b2sum_lines.specs.declared.entry.Spacing.TheVariants.{Open};
+
+use crate::devices::{OpenFile, Output};
+use b2sum_lines::Spacing;
+use blake2_replay::engine::{Sink, Source};
+use std::alloc::{AllocError, Global};
+use std::marker::Model;
+
+/// The number of bytes that one read requests, for most hash functions.
+const PIECE_BYTES: usize = 1 << 16;
+
+/// The files, the hash functions and the memory of a run.
+#[derive(Drop)]
+pub struct Host<H, D> {
+    /// The memory.
+    pub alloc: Global,
+    /// The hash functions.
+    pub hashes: H,
+    /// The files.
+    pub disk: D,
+}
+
+/// The streams of a run, and what goes on from one file to the next.
+#[derive(Drop)]
+pub struct Session<F: OpenFile, K: Output, E: Sink> {
+    pub(crate) input: F,
+    pub(crate) output: K,
+    pub(crate) messages: E,
+    // What each read is for.
+    pub(crate) buffer: Vec<u8>,
+    // The spacing of the lines of manifests so far.
+    pub(crate) spacing: Spacing,
+}
+
+impl<F: OpenFile, K: Output, E: Sink> Model for Session<F, K, E> {
+    ghost use Rattle.std.specs.Prelude.{◌<◌, ◌≤◌, ◌^◌, length};
+    ghost use Rattle.b2sum_commands.specs.Found.{Streams};
+
+    ghost Value = { Streams };
+
+    ghost view = { λ s. record {
+      left = F.left s.input;
+      held = K.held s.output;
+      told = E.held s.messages;
+      output_failed = K.failed s.output;
+      messages_failed = E.failed s.messages;
+      spacing = s.spacing;
+    } };
+
+    ghost invariant = { λ s. (0 < length s.buffer.items) × (length s.buffer.items ≤ 2 ^ 24) };
+}
+
+impl<F: OpenFile + Drop, K: Output + Drop, E: Sink + Drop> Session<F, K, E> {
+    /// Returns a session with this standard input, output and messages. The error is that of the
+    /// allocator, for a buffer of 64 KiB.
+    pub fn new(alloc: Global, input: F, output: K, messages: E) -> Result<Self, AllocError>
+        ensures { IfOk result (λ s. s ≡ record {
+          left = F.left input;
+          held = K.held output;
+          told = E.held messages;
+          output_failed = K.failed output;
+          messages_failed = E.failed messages;
+          spacing = Open;
+        }) }
+    {
+        let buffer = vec![in alloc; 0u8; PIECE_BYTES]?;
+        Ok(Session {
+            input,
+            output,
+            messages,
+            buffer,
+            spacing: Spacing::Open,
+        })
+    }
+}
+
+impl<F: OpenFile, K: Output, E: Sink> Session<F, K, E> {
+    /// Begins the check of manifests, whose spacing is not known yet.
+    pub(crate) fn begin_checks(&mut self)
+        ensures { self.new ≡ record self.old { spacing = Open } }
+    {
+        self.spacing = Spacing::Open;
+    }
+
+    /// Makes room for reads of this many bytes.
+    pub(crate) fn make_room(&mut self, alloc: Global, size: usize) -> Result<(), AllocError>
+        requires some { 0 < size }
+        requires most { size ≤ 2 ^ 24 }
+        ensures { self.new ≡ self.old }
+    {
+        if size > self.buffer.len() {
+            self.buffer = vec![in alloc; 0u8; size]?;
+        }
+        Ok(())
+    }
+}
