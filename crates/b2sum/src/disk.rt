@@ -1,6 +1,9 @@
 //! The files of the system, by names of any bytes.
 
-ghost use Rattle.std.specs.Prelude.{◌≡◌, ◌<◌, None, true, false};
+ghost use Rattle.std.specs.Prelude.{◌≡◌, ◌<◌, ◌||◌, None, true, false, is_some, is_err};
+ghost use Rattle.std.specs.Io.{ReadsAtMost};
+ghost use Rattle.blake2_replay.specs.Devices.{Gives};
+ghost use Rattle.b2sum.specs.Reading.{rest_of};
 
 use b2sum_commands::{Disk, OpenFile, Output};
 use blake2::engine::{DeviceError, Sink, Source};
@@ -49,7 +52,15 @@ impl<F: Read> Source for Opened<F> {
 
     ghost failed = { λ s. is_some s.error };
 
-    fn read(&mut self, buf: &mut [u8]) -> Result<usize, DeviceError> {
+    fn read(&mut self, buf: &mut [u8]) -> Result<usize, DeviceError>
+        ensures bound { ReadsAtMost result buf.new }
+        ensures bytes { Gives None None result buf.new }
+        ensures fails { is_some self.new.error ≡ (is_some self.old.error || is_err result) }
+
+        // It returns the next bytes of the file, and none only at the end.
+        ensures passes { Gives (rest_of F.remaining self.old.reader)
+            (rest_of F.remaining self.new.reader) result buf.new }
+    {
         let result = match &mut self.reader {
             Reader::File(file) => file.read(buf),
             Reader::Input(input) => input.read(buf),
