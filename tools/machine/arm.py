@@ -221,7 +221,7 @@ class Arm(Machine):
 
     def access(self, name, ops, shape):
         registers, memory = ops[:-1], ops[-1]
-        if name not in ("ldr", "str", "ldp", "stp", "ldrb") or memory.kind != "memory":
+        if name not in ("ldr", "ldur", "str", "ldp", "stp", "ldrb") or memory.kind != "memory":
             return False
         if len(registers) != (2 if name.endswith("p") else 1) or any(
                 r.kind not in ("general", "vector") or r.size != registers[0].size
@@ -232,7 +232,7 @@ class Arm(Machine):
             here = T.add(64, (1, at), (1, T.const(64, k * r.size)))
             if name == "ldrb":
                 self.write(r, self.load(here, 1) + [0] * 3)
-            elif name in ("ldr", "ldp"):
+            elif name in ("ldr", "ldur", "ldp"):
                 self.write(r, self.load(here, r.size))
             else:
                 self.store(here, self.read(r))
@@ -312,6 +312,8 @@ class Arm(Machine):
             pairs = list(zip(chunks(a, n), chunks(b, n)))
             half = len(pairs) // 2
             result = joined(joined(p) for p in (pairs[:half] if name == "zip1" else pairs[half:]))
+        elif name in ("uzp1", "uzp2"):
+            result = joined(chunks(a + b, n)[name == "uzp2"::2])
         elif name == "tbl" and n == 1:
             places = [number([p]) for p in b]
             result = [a[p] if p < 16 else 0 for p in places]

@@ -24,7 +24,14 @@ def state(n, block):
     return [(8 * n, False)] * 2 + [(8, True)] * 5 + [(block, False)] * 2
 
 
+def parallel_state(n, block, held):
+    """The same of a state of BLAKE2bp or BLAKE2sp, of whose bytes up to `held` are pending."""
+    return ([(256, False)] + [(8, True)] * 2 + [(held, False), (256, False), (8 * n, False)]
+            + [(8, True)] * 2 + [(block, False)])
+
+
 LAYOUTS = {"blake2b": state(8, 128), "blake2s": state(4, 64),
+           "blake2bp": parallel_state(8, 128, 896), "blake2sp": parallel_state(4, 64, 960),
            "tree": state(8, 128) * 2 + [(8, True)] * 4 + [(16, False)] * 2,
            "limits": [(8, True)] * 4, "plan": [(8, True)] * 9, "part": [(8, True)] * 6,
            "place": [(8, True), (4, True)] + [(1, True)] * 4}
@@ -60,12 +67,19 @@ TREES = {
 ANSWERS = ("_verify", "_ffi_memcmp")   # whose result may depend on secrets
 # What the exported functions of a family call, by the end of their names.
 CALLED = {"_final": functions.FINALIZE, "_verify": functions.IS_DIGEST_OF}
-FINALIZING, ANSWERING = (tuple(name % family for family in ("blake2b", "blake2s"))
+# The longest array of bytes that a family's calls index, in bytes.
+LONGEST = {"blake2s": 64, "blake2bp": 896, "blake2sp": 960}
+FAMILIES = ("blake2b", "blake2s", "blake2bp", "blake2sp")
+FINALIZING, ANSWERING = (tuple(name % family for family in FAMILIES)
                          for name in (functions.FINALIZE, functions.IS_DIGEST_OF))
 # Of these whole_calls.py does not show what they write.
 NOT_COMPUTED = ("_many",)
 OF_C = ("memcpy", "memmove", "memset")
 NOT_FOLLOWED = ("dist/x86_64/vulfsjor-v4.s",)   # masks of AVX-512 are not followed
+# Of BLAKE2bp and BLAKE2sp these are followed. The others index up to 960 pending bytes, and compute
+# lengths in vectors: the ranges have no bounds for them.
+PARALLEL = {family: ("_count", "_digest_size", "_reset", "_state_size", "_wipe")
+            for family in ("blake2bp", "blake2sp")}
 # What is not shown, as pairs of a file and a function: those whose pointers have bounds that are
 # too hard for the ranges. There is none now.
 NOT_SHOWN: set = set()
@@ -89,7 +103,7 @@ class Call:
         self.regions[self.sp] = Memory(-STACK, len(above),
                                        lambda k: secret() if k < 0 else above[k])
         self.machine = model(self.regions, {})
-        self.machine.begin(alignment, self.ranges, 64 if family == "blake2s" else 128)
+        self.machine.begin(alignment, self.ranges, LONGEST.get(family, 128))
         self.machine.start(self.sp, back, self.words)
 
     def add(self, kind, layout):
@@ -133,8 +147,8 @@ class Analysis:
     def __init__(self, program, exported=""):
         self.program, self.codes = program, {}
         self.exported, self.scrubs = exported, functions.scrubs(program)
-        self.listed = {functions.in_file(program.path, name): (kind, lanes)
-                       for name, kind, lanes in functions.FILES[program.path]}
+        self.listed = {functions.in_file(program.path, entry[0]): entry
+                       for entry in functions.FILES[program.path]}
         self.reached, self.entered, self.at = set(), set(), None
 
     def code(self, name):
@@ -295,21 +309,28 @@ def rounds_at(m, head, origin):
     return tuple(sorted(rounds.items()))
 
 
-def compress(m, arguments, kind, lanes):
+def compress(m, arguments, name, kind, lanes):
     """A call of a function that compresses, of which compression.py shows what it does."""
-    used = [T.word(T.split(t)[:1]) for t in arguments[3:5]] if lanes == 1 else []
-    for t in arguments[:4 if lanes > 1 else 3] + used:
+    tables: list = []
+    if lanes == 1:
+        used = arguments[:3] + [T.word(T.split(t)[:1]) for t in arguments[3:5]]
+    elif name in (functions.STRIPES_B[0], functions.STRIPES_S[0]):
+        used = arguments[:4]
+    else:
+        used, is_each = arguments[:4], name in (functions.EACH_B[0], functions.EACH_S[0])
+        tables = [(arguments[1], (8 if is_each else 16) * lanes), (arguments[3], 2 * lanes)]
+        tables += [(arguments[2], 8 * lanes)] * is_each
+    for t in used:
         need_public(t, "an argument of a compression")
-    if lanes > 1:
-        for t, size in ((arguments[1], 16 * lanes), (arguments[3], 2 * lanes)):
-            need_public(T.word(m.load(t, size)), "a block's address or a flag")
+    for t, size in tables:
+        need_public(T.word(m.load(t, size)), "a block's address, a counter or a flag")
     m.store(arguments[0], [secret()] * (8 * kind.bytes * lanes))
 
 
 def exports(program):
     """The functions that C programs call, with their arguments and families."""
     for name in program.globals:
-        m = re.fullmatch(r"vulfsjor_ffi_(blake2[bs]|tree|memcmp|wipe|version)(.*)", name)
+        m = re.fullmatch(r"vulfsjor_ffi_(blake2[bs]p?|tree|memcmp|wipe|version)(.*)", name)
         tables: dict = {"tree": TREES, "memcmp": {"": (BYTES, BYTES)}, "wipe": {"": (OUT,)},
                         "version": {"": ()}}
         table = tables.get(m[1], EXPORTS) if m else {}
@@ -318,6 +339,11 @@ def exports(program):
                              "tools/machine/calls.py" % name)
         program.extent(name)           # refuses what is not a function, or may be another's
         yield name, table[m[2]], m[1]
+
+
+def is_followed(name, family):
+    """Whether the secrets in calls of this function are followed."""
+    return name.removeprefix("vulfsjor_ffi_" + family) in PARALLEL.get(family, EXPORTS | TREES)
 
 
 def show(program, name, kinds, family):
@@ -337,7 +363,7 @@ def show(program, name, kinds, family):
             at = " ".join(analysis.at.text.split()) if analysis.at else "the entry"
             raise type(e)("%s: at %s: %s" % (name, at, e))
     missed = [n for end, n in CALLED.items() if name == "vulfsjor_ffi_%s%s" % (family, end)
-              and family in ("blake2b", "blake2s") and n % family not in analysis.entered]
+              and family in FAMILIES and n % family not in analysis.entered]
     if missed:
         raise CannotShow("%s does not call %s: the compiler may have inlined it, or it has another "
                          "name now: see tools/machine/functions.py" % (name, missed[0] % family))

@@ -44,9 +44,10 @@ import wiping
 HUGE = "VULFSJOR_TEST_HUGE"
 HERE = os.path.dirname(os.path.abspath(__file__))
 FAMILIES = {"blake2b": "BLAKE2b", "blake2s": "BLAKE2s"}
+FORMS = {compression.EachCall: " with a counter each", compression.StripesCall: " in stripes"}
 # The families of exported functions, by the parts in which calls are followed.
 FOLLOWED = {"BLAKE2b": ("blake2b", "version"), "BLAKE2s": ("blake2s", "memcmp", "wipe"),
-            "trees": ("tree",)}
+            "BLAKE2bp": ("blake2bp",), "BLAKE2sp": ("blake2sp",), "trees": ("tree",)}
 # The builds in which whole calls are executed and followed without --long, with the tests of the
 # models for that; and the widths of rules.
 SHORT = ("dist/x86_64/vulfsjor-v3.s", "dist/aarch64/vulfsjor.s")
@@ -75,6 +76,7 @@ def prove_one(path, entry, shown):
     of which file."""
     name, kind, lanes = entry
     count = "%d messages" % lanes if lanes > 1 else "one message"
+    count += FORMS.get(compression.call_of(name), "")
     title = "%s: F of %s, %s" % (path, FAMILIES[kind.name], count)
     if missing(path):
         return [("skip", title, "no " + missing(path))]
@@ -182,7 +184,7 @@ def follow(path, family):
     program, count = programs.read(path), 0
     reached: set = set()
     for entry in calls.exports(program):
-        if entry[2] not in FOLLOWED[family]:
+        if entry[2] not in FOLLOWED[family] or not calls.is_followed(entry[0], entry[2]):
             continue
         try:
             found = calls.show(program, *entry)

@@ -18,7 +18,7 @@ from program import read, TOOLS
 BUFFER = 4096                          # bytes on each side of the base of an access
 SKIPPED = {"push", "pop", "ret", "jmp", "je", "jne", "nop", "adrp", "cbz", "cbnz", "b.ne", "b.eq",
            "b"}                        # push to adrp are part of whole functions only
-SETS_FLAGS = ("add", "sub", "dec", "xor", "test", "shr", "subs", "tst")
+SETS_FLAGS = ("add", "sub", "dec", "xor", "test", "shr", "shl", "cmp", "subs", "tst")
 C = """
 #include <stdint.h>
 #include <stdio.h>

@@ -1,5 +1,6 @@
 """Shows that a function computes F of RFC 7693 for all inputs, in constant time."""
 
+import re
 import time
 
 import rfc7693 as R
@@ -30,7 +31,8 @@ def mask(w, name, assumed):
 
 
 class Call:
-    """A call of a compression function: its variables, its memory, and what it must return."""
+    """A call of a function that compresses one block, or blocks of each of several messages: its
+    variables, its memory, and what it must return."""
 
     def __init__(self, program, name, kind, lanes, assumed):
         self.program, self.kind, self.assumed = program, kind, assumed
@@ -52,7 +54,7 @@ class Call:
         if program.kind != "wasm":
             self.regions[image()] = Region(0, 1 << 32, program.constant, None, (4096, 0))
         self.machine = program.machine(name, self.regions, assumed)
-        arguments = self.arguments_of_many() if lanes > 1 else self.arguments_of_one()
+        arguments = self.arguments()
         self.at_block(0)
         self.machine.start(self.sp, self.back, [self.h] + arguments)
         self.saved = self.machine.saved()
@@ -69,6 +71,10 @@ class Call:
         initial = lambda k: back[k] if 0 <= k < top else (T.var(8, "stack%d" % k, T.JUNK), 0)
         return Region(-STACK, top, initial, (-STACK, 0), (16, top))
 
+    def arguments(self):
+        """The arguments after the chaining words."""
+        return self.arguments_of_many() if self.lanes > 1 else self.arguments_of_one()
+
     def arguments_of_one(self):
         """The block, the counter and the flags, whose higher bytes are undefined."""
         flags = []
@@ -79,13 +85,22 @@ class Call:
 
     def arguments_of_many(self):
         """The table of blocks (addresses and numbers), the counter, and the table of flags."""
-        table, flags = (T.var(64, name, T.PUBLIC) for name in ("blocks", "flags"))
         pairs = [t for pair in zip(self.blocks, self.lengths) for t in pair]
+        return [self.table("blocks", pairs), self.counter, self.flags()]
+
+    def table(self, name, words):
+        """A pointer to these words of 64 bits."""
+        table = T.var(64, name, T.PUBLIC)
+        self.regions[self.pointer(table)] = Region(0, 8 * len(words), memory_of_words(words))
+        return table
+
+    def flags(self):
+        """A pointer to the flags of all messages."""
+        flags = T.var(64, "flags", T.PUBLIC)
         bits = [flag("%s%d" % (name, j), self.assumed) for j in range(self.lanes)
                 for name in ("last", "node")]
-        self.regions[self.pointer(table)] = Region(0, 16 * self.lanes, memory_of_words(pairs))
         self.regions[self.pointer(flags)] = Region(0, 2 * self.lanes, lambda k: bits[k])
-        return [table, self.counter, flags]
+        return flags
 
     def at_block(self, i):
         """Lets the memory of the blocks be that of block i, where i is a number or a term."""
@@ -98,15 +113,36 @@ class Call:
             base = self.pointer(T.add(64, (1, p), (1, step)))
             self.regions[base] = Region(0, size, memory_of_words(self.message[j]))
 
+    def without_blocks(self):
+        """Takes the memory of the blocks away."""
+        for p in self.blocks:
+            del self.regions[self.pointer(p)]
+
+    def count(self):
+        """The number of blocks of each message."""
+        return self.lengths[0]
+
+    def ends(self, left):
+        """The terms one of which has to be 0 exactly if no block is left."""
+        return [left, T.add(64, (-1, left))]
+
+    def counted(self, j, i):
+        """The counter of message j at block i, where i is a number or a term."""
+        step = T.const(64, 0) if isinstance(i, int) else T.add(64, (self.kind.block, i))
+        return T.add(64, (1, self.counter), (1, step))
+
+    def masks(self, j):
+        """The words that the flags of message j are xored in as."""
+        return [mask(self.kind.w, "%s%d" % (name, j), self.assumed) for name in ("last", "node")]
+
     def expected(self, h, i=0):
         """F of each message, at block i."""
-        w = self.kind.w
-        step = T.const(64, 0) if isinstance(i, int) else T.add(64, (self.kind.block, i))
-        counter = T.split(T.add(64, (1, self.counter), (1, step)))
-        low, high = T.word(counter[:w // 8]), T.word(counter[w // 8:] or [0] * 8)
-        return [R.F(self.kind, h[j], self.message[j], low, high,
-                    mask(w, "last%d" % j, self.assumed), mask(w, "node%d" % j, self.assumed))
-                for j in range(self.lanes)]
+        found = []
+        for j in range(self.lanes):
+            counter, n = T.split(self.counted(j, i)), self.kind.bytes
+            low, high = T.word(counter[:n]), T.word(counter[n:] or [0] * 8)
+            found.append(R.F(self.kind, h[j], self.message[j], low, high, *self.masks(j)))
+        return found
 
     def result(self, machine, j, k):
         """Chaining word k of message j in memory."""
@@ -122,6 +158,65 @@ class Call:
                 check_same("chaining word %d of message %d" % (k, j), self.result(machine, j, k),
                            wanted[j][k])
         machine.check_return(self.sp, self.back, self.saved)
+
+
+class EachCall(Call):
+    """A call of a function that compresses one block of each of several messages, with a counter for
+    each."""
+
+    def arguments(self):
+        """The tables of the blocks' addresses, of the counters and of the flags."""
+        self.counters = [T.var(64, "counter%d" % j, T.PUBLIC) for j in range(self.lanes)]
+        return [self.table("blocks", self.blocks), self.table("counters", self.counters),
+                self.flags()]
+
+    def counted(self, j, i):
+        return self.counters[j]
+
+
+class StripesCall(Call):
+    """A call of a function that compresses the blocks of stripes, which hold one block of each
+    message, next to each other, with the flags off. The counter is that before the first."""
+
+    def arguments(self):
+        """The address of the stripes, the counter, and the number of stripes. The compiler has
+        removed the number of bytes, which the function does not use."""
+        self.blocks = self.blocks[:1]
+        return [self.blocks[0], self.counter, self.count()]
+
+    def at_block(self, i):
+        self.regions = dict(self.regions)
+        self.machine.regions = self.regions
+        size = self.lanes * self.kind.block
+        step = T.const(64, i * size) if isinstance(i, int) else T.add(64, (size, i))
+        self.regions.pop(self.pointer(self.blocks[0]), None)
+        words = [t for message in self.message for t in message]
+        base = self.pointer(T.add(64, (1, self.blocks[0]), (1, step)))
+        self.regions[base] = Region(0, size, memory_of_words(words))
+
+    def count(self):
+        return T.var(64, "count", T.PUBLIC)
+
+    def ends(self, left):
+        """The bytes of the blocks that are left may be counted too: they are fewer than 2^64."""
+        size = self.kind.block
+        return super().ends(left) + [T.add(64, (n, left)) for n in (size, -size)]
+
+    def counted(self, j, i):
+        return T.add(64, (1, super().counted(j, i)), (1, T.const(64, self.kind.block)))
+
+    def masks(self, j):
+        return [T.const(self.kind.w, 0)] * 2
+
+
+# The calls of functions with these names, besides Call.
+CALLS = {"compress_each": EachCall, "compress_in_lanes": StripesCall,
+         "compress_stripes": StripesCall}
+
+
+def call_of(name):
+    """How a function of this name is called."""
+    return CALLS.get(re.split(r"\.\.|::", name)[-1], Call)
 
 
 def check_same(what, found, wanted):
@@ -174,12 +269,13 @@ class Runner:
                 len(unseen), unseen[0].text))
 
 
-def show_one(program, name, kind, runner):
-    """A function that compresses one block. Each flag on which it branches is tried both ways."""
+def show_one(program, name, kind, lanes, runner):
+    """A function that compresses one block of each message. Each flag on which it branches is tried
+    both ways."""
     waiting: list = [{}]
     while waiting:
         assumed = waiting.pop()
-        call = Call(program, name, kind, 1, assumed)
+        call = call_of(name)(program, name, kind, lanes, assumed)
         try:
             runner.run(call.machine)
         except Fork as f:
@@ -203,11 +299,11 @@ class Loop:
             raise CannotShow("the function has %d loops instead of one: if the compiler has split "
                              "it, tools/machine/compression.py needs a proof for that" % len(heads))
         self.head, = heads
-        self.count = T.var(64, "length0", T.PUBLIC)
-        self.none = Call(program, name, kind, lanes, {self.count: True})
-        for p in self.none.blocks:
-            del self.none.regions[self.none.pointer(p)]
-        self.call = Call(program, name, kind, lanes, {self.count: False})
+        make = call_of(name)
+        self.count = make(program, name, kind, lanes, {}).count()
+        self.none = make(program, name, kind, lanes, {self.count: True})
+        self.none.without_blocks()
+        self.call = make(program, name, kind, lanes, {self.count: False})
 
     def show(self):
         """All of the proof."""
@@ -222,7 +318,7 @@ class Loop:
         self.classify(self.iterate(self.first, False)[0].cells())
         general, after, condition, wanted = self.invariant()
         left = T.add(64, (1, self.count), (-1, self.i), (-1, T.const(64, 1)))
-        if condition not in (left, T.add(64, (-1, left))):
+        if condition not in self.call.ends(left):
             raise IsWrong("the loop ends if %r is 0, instead of %r" % (condition, left))
         self.runner.add(after)
         final, same = self.iterate(general, True)
@@ -358,10 +454,10 @@ def show(program, name, kind, lanes):
     started = time.time()
     runner = Runner(program.code(name))
     try:
-        if lanes > 1:
-            Loop(program, name, kind, lanes, runner).show()
+        if lanes == 1 or call_of(name) is EachCall:
+            show_one(program, name, kind, lanes, runner)
         else:
-            show_one(program, name, kind, runner)
+            Loop(program, name, kind, lanes, runner).show()
         runner.check_all_reached(program.model.Model.FREE)
     except Fork as e:
         raise CannotShow("%s, about which nothing is known" % e)

@@ -11,6 +11,11 @@ ONE_S = ("blake2_compress..words..blake2s..compress", R.BLAKE2S, 1)
 MANY_B = ("blake2_compress..many..blake2b..compress_blocks", R.BLAKE2B, 4)
 MANY_S = ("blake2_compress..many..blake2s..compress_blocks", R.BLAKE2S, 8)
 EIGHT_B = ("blake2_compress..many..blake2b..eight..compress_blocks", R.BLAKE2B, 8)
+# Of the leaves of BLAKE2bp and BLAKE2sp: one block of each, with a counter for each, and stripes.
+EACH_B = ("blake2_compress..many..blake2b..compress_each", R.BLAKE2B, 4)
+EACH_S = ("blake2_compress..many..blake2s..compress_each", R.BLAKE2S, 8)
+STRIPES_B = ("blake2_parallel..lanes..blake2b..compress_in_lanes", R.BLAKE2B, 4)
+STRIPES_S = ("blake2_parallel..lanes..blake2s..compress_stripes", R.BLAKE2S, 8)
 SCRUB_STACK = "blake2_digest..wiping..scrub_stack.."
 SETTLE = "blake2_digest..wiping..settle.."
 # What `_final` and `_verify` call, by the family: the first zeroes the state, and the answer of the
@@ -18,13 +23,13 @@ SETTLE = "blake2_digest..wiping..settle.."
 FINALIZE = "blake2_ffi..%s..finalize"
 IS_DIGEST_OF = "blake2_ffi..%s..is_digest_of"
 
-LIBRARY = (ONE_B, MANY_B, ONE_S, MANY_S)
+LIBRARY = (ONE_B, MANY_B, ONE_S, MANY_S, EACH_B, EACH_S, STRIPES_B, STRIPES_S)
 PROGRAM = (ONE_B, MANY_B, ONE_S)       # b2 hashes several messages with BLAKE2b only
 ONE = (ONE_B, ONE_S)                   # and b2sum by functions of the library
 FILES = {
     "dist/x86_64/vulfsjor-v4.s": LIBRARY + (EIGHT_B,),
     "dist/x86_64/vulfsjor-v3.s": LIBRARY,
-    "dist/x86_64/vulfsjor-v2.s": (ONE_B, ONE_S, MANY_S),
+    "dist/x86_64/vulfsjor-v2.s": (ONE_B, ONE_S, MANY_S, EACH_B, EACH_S, STRIPES_S),
     "dist/aarch64/vulfsjor.s": LIBRARY,
     "dist/x86_64/b2-v4.s": PROGRAM + (EIGHT_B,),
     "dist/x86_64/b2-v3.s": PROGRAM,

@@ -25,7 +25,9 @@ SHORT = {"v4": "dist/x86_64/vulfsjor-v4.s", "v3": "dist/x86_64/vulfsjor-v3.s",
          "b2sum-v2": "dist/x86_64/b2sum-v2.s", "b2sum-arm": "dist/aarch64/b2sum.s",
          "wasm": "dist/wasm/vulfsjor.wasm", "js": "js/src/wasm.js"}
 ENTRIES = {"one b": functions.ONE_B, "one s": functions.ONE_S, "many b": functions.MANY_B,
-           "many s": functions.MANY_S, "eight b": functions.EIGHT_B}
+           "many s": functions.MANY_S, "eight b": functions.EIGHT_B,
+           "each b": functions.EACH_B, "each s": functions.EACH_S,
+           "stripes b": functions.STRIPES_B, "stripes s": functions.STRIPES_S}
 
 
 class NoMatch(Exception):

@@ -349,7 +349,8 @@ def split(t):
     if t.op == "slice":
         return [(t.args[0], t.args[1] + i) for i in range(n)]
     if t.op == "ror" and t.args[1] % 8 == 0:
-        return [(t.args[0], (t.args[1] // 8 + i) % n) for i in range(n)]
+        data, k = split(t.args[0]), t.args[1] // 8
+        return data[k:] + data[:k]
     return [(t, i) for i in range(n)]
 
 
@@ -365,6 +366,9 @@ def word(bs):
             return ror(t.w, t, 8 * i)
         if size > n and i + n <= size and all(b == (t, i + k) for k, b in enumerate(bs)):
             return slice_of(t, i, n)
+        least = min((b[1] for b in bs if isinstance(b, tuple)), default=0)
+        if size > n and all(b == (t, least + (i - least + k) % n) for k, b in enumerate(bs)):
+            return ror(8 * n, slice_of(t, least, n), 8 * (i - least))
     names = {None if isinstance(b, int) else b[0].args[0] if b[0].op == "ite" else b for b in bs}
     names.discard(None)
     if len(names) > 1 or not all(isinstance(name, str) for name in names):

@@ -281,6 +281,7 @@ for _name in ("permq", "permpd"):
 BINARY = {
     "paddq": lambda a, b: lanewise(lambda x, y: T.add(64, (1, x), (1, y)), 8, a, b),
     "paddd": lambda a, b: lanewise(lambda x, y: T.add(32, (1, x), (1, y)), 4, a, b),
+    "psubq": lambda a, b: lanewise(lambda x, y: T.add(64, (1, x), (-1, y)), 8, a, b),
     "pxor": lambda a, b: bitwise(T.xor, a, b),
     "por": lambda a, b: bitwise(T.either, a, b),
     "pand": lambda a, b: bitwise(T.both, a, b),
@@ -491,17 +492,26 @@ class X86(Machine):
     def do_xor(self, i, to, source):
         self.arithmetic(T.xor, to, source)
 
+    def do_cmp(self, i, to, source):
+        self.arithmetic(lambda w, a, b: T.add(w, (1, a), (-1, b)), to, source, keep=False)
+
     def do_test(self, i, to, source):
         self.arithmetic(T.both, to, source, keep=False)
 
-    def do_shr(self, i, to, source=None):
+    def shift_word(self, f, i, to, source):
         count = source.value if source else 1
         data = self.read(to)
         if not 0 < count < 8 * len(data):
             raise unknown(i)
-        result = T.shr(8 * len(data), T.word(data), count)
+        result = f(8 * len(data), T.word(data), count)
         self.zero = result
         self.write(to, T.split(result))
+
+    def do_shr(self, i, to, source=None):
+        self.shift_word(T.shr, i, to, source)
+
+    def do_shl(self, i, to, source=None):
+        self.shift_word(T.shl, i, to, source)
 
     def cmov(self, i, to, source, swap):
         old, new = T.word(self.read(to)), T.word(self.read(source))
