@@ -1,6 +1,9 @@
 """A model of the AArch64 instructions that the shipped code uses. Any other is an error."""
 
+from __future__ import annotations
+
 import re
+from typing import Any
 
 import terms as T
 from machine import Machine, bitwise, chunks, image, invert, joined, junk, lanewise, number
@@ -14,7 +17,7 @@ SAVED = tuple(range(19, 30))
 class Register:
     """A general register, or the low bytes of a vector register."""
 
-    def __init__(self, kind, index, size):
+    def __init__(self, kind: str, index: int, size: int) -> None:
         if kind == "general" and index == PLATFORM:
             raise IsWrong("x18 belongs to the platform")
         self.kind, self.index, self.size = kind, index, size
@@ -23,43 +26,43 @@ class Register:
 class Lanes:
     """A vector register by parts of n bytes, of which perhaps only one."""
 
-    def __init__(self, index, size, n, lane=None):
+    def __init__(self, index: int, size: int, n: int, lane: Any = None) -> None:
         self.kind, self.index, self.size, self.n, self.lane = "lanes", index, size, n, lane
 
 
 class Memory:
     """A base register, an offset, and when to add it: "at" the access only, "before" or "after"."""
 
-    def __init__(self, base, offset, mode):
+    def __init__(self, base: Any, offset: int, mode: str) -> None:
         self.kind, self.base, self.offset, self.mode = "memory", base, offset, mode
 
 
 class Number:
     """A constant."""
 
-    def __init__(self, value):
+    def __init__(self, value: int) -> None:
         self.kind, self.value = "number", value
 
 
 class Shift:
     """A shift of the operand before."""
 
-    def __init__(self, name, count):
+    def __init__(self, name: str, count: int) -> None:
         self.kind, self.name, self.count = "shift", name, count
 
 
 class Word:
     """A condition."""
 
-    def __init__(self, text):
+    def __init__(self, text: str) -> None:
         self.kind, self.text = "word", text
 
 
-def unknown(text):
+def unknown(text: str) -> Any:
     return CannotShow("the operand of %s is not modelled: add it to tools/machine/arm.py" % text)
 
 
-def operand(text):
+def operand(text: str) -> Any:
     """The operand that this is."""
     m = re.fullmatch(r"([xw])(\d+|zr)|(w?sp)", text)
     if m:
@@ -98,8 +101,9 @@ class Instruction:
     """A line of objdump's output."""
 
     __slots__ = ("address", "next", "name", "operands", "text", "target")
+    next: int
 
-    def __init__(self, address, text):
+    def __init__(self, address: int, text: str) -> None:
         self.address, self.text, self.target, self.operands = address, text, None, []
         code = text.partition("//")[0].strip()
         self.name, _, rest = code.partition("\t")
@@ -127,25 +131,25 @@ class Instruction:
 class Arm(Machine):
     """Registers 0 to 30, the stack pointer as the 32nd, and vector registers of 16 bytes."""
 
-    def __init__(self, regions, assumed):
+    def __init__(self, regions: dict, assumed: dict) -> None:
         super().__init__(regions, assumed)
         self.general = [junk("x%d" % i, 8) for i in range(32)]
         self.vector = [junk("v%d" % i, 16) for i in range(32)]
 
-    def stack_pointer(self):
+    def stack_pointer(self) -> T.Term:
         return T.word(self.general[SP])
 
-    def start(self, sp, back, arguments):
+    def start(self, sp: T.Term, back: T.Term, arguments: list) -> None:
         self.stack = sp
         self.general[SP] = T.split(sp)
         self.general[LINK] = T.split(back)
         for register, t in enumerate(arguments):
             self.general[register] = T.split(t)
 
-    def saved(self):
+    def saved(self) -> list:
         return [list(self.general[r]) for r in SAVED] + [self.vector[r][:8] for r in range(8, 16)]
 
-    def check_return(self, sp, back, saved):
+    def check_return(self, sp: T.Term, back: T.Term, saved: list) -> None:
         if self.returned_to is not back:
             raise IsWrong("it returns to %r" % self.returned_to)
         if T.word(self.general[SP]) is not sp:
@@ -153,7 +157,7 @@ class Arm(Machine):
         if self.saved() != saved:
             raise IsWrong("a register that belongs to the caller is not restored")
 
-    def read(self, o, size=None):
+    def read(self, o: Any, size: int | None = None) -> list:
         if o.kind == "general":
             return [0] * o.size if o.index == ZERO else self.general[o.index][:o.size]
         if o.kind == "vector":
@@ -166,7 +170,7 @@ class Arm(Machine):
             return list((o.value & (1 << 8 * size) - 1).to_bytes(size, "little"))
         raise CannotShow("a %s is not a value" % o.kind)
 
-    def write(self, o, data):
+    def write(self, o: Any, data: Any) -> None:
         if o.kind == "general":
             if len(data) != o.size:
                 raise CannotShow("the result has not the size of its register")
@@ -183,7 +187,7 @@ class Arm(Machine):
         else:
             raise CannotShow("the result does not fit a %s" % o.kind)
 
-    def place_of(self, m):
+    def place_of(self, m: Any) -> Any:
         """The address of an access, and what the base register holds after it."""
         base = T.word(self.read(m.base))
         if m.base.index == SP and self.lowest() % 16:
@@ -193,7 +197,7 @@ class Arm(Machine):
             self.write(m.base, T.split(moved))
         return (base, moved) if m.mode == "after" else (moved, None)
 
-    def step(self, i):
+    def step(self, i: Any) -> Any:
         """Executes an instruction. Returns the address of the next one, or None after a return."""
         name, ops = i.name, i.operands
         if name == "ret" and not ops:
@@ -210,7 +214,7 @@ class Arm(Machine):
             return i.next
         shape = " ".join(o.kind for o in ops)
         known = i.target is None and ops and any(
-            f(name, ops, shape) for f in (self.access, self.arithmetic, self.move, self.condition,
+            f(name, ops, shape) for f in (self.access, self.arithmetic, self.move, self.conditional,
                                           self.three_lanes, self.shift_lanes, self.move_lanes))
         if not known:
             raise CannotShow("the instruction %s is not modelled: add it to tools/machine/arm.py, "
@@ -219,7 +223,7 @@ class Arm(Machine):
 
     # Each of the following returns whether it knows this form of the instruction.
 
-    def access(self, name, ops, shape):
+    def access(self, name: str, ops: Any, shape: Any) -> Any:
         registers, memory = ops[:-1], ops[-1]
         if name not in ("ldr", "ldur", "str", "ldp", "stp", "ldrb") or memory.kind != "memory":
             return False
@@ -240,7 +244,7 @@ class Arm(Machine):
             self.write(memory.base, T.split(moved))
         return True
 
-    def arithmetic(self, name, ops, shape):
+    def arithmetic(self, name: str, ops: list, shape: str) -> bool:
         if not shape.startswith("general general ") or len(ops) < 3:
             return False
         to, rest = ops[0], shape[len("general general "):]
@@ -266,7 +270,7 @@ class Arm(Machine):
         self.write(to, T.split(result))
         return True
 
-    def move(self, name, ops, shape):
+    def move(self, name: str, ops: list, shape: str) -> bool:
         to = ops[0]
         if name == "mov" and shape in ("general general", "general number"):
             self.write(to, self.read(ops[1], to.size))
@@ -282,7 +286,7 @@ class Arm(Machine):
             return False
         return True
 
-    def condition(self, name, ops, shape):
+    def conditional(self, name: str, ops: list, shape: str) -> Any:
         to = ops[0]
         w = 8 * to.size
         if name == "tst" and shape == "general number":
@@ -299,7 +303,7 @@ class Arm(Machine):
         self.write(to, T.split(self.choose(self.zero, if_holds, if_not)))
         return True
 
-    def three_lanes(self, name, ops, shape):
+    def three_lanes(self, name: str, ops: list, shape: str) -> bool:
         if shape != "lanes lanes lanes" or not whole(ops):
             return False
         n = ops[0].n
@@ -322,13 +326,13 @@ class Arm(Machine):
         self.write(ops[0], result)
         return True
 
-    def shift_lanes(self, name, ops, shape):
+    def shift_lanes(self, name: str, ops: list, shape: str) -> bool:
         if shape != "lanes lanes number" or not whole(ops):
             return False
         n, k = ops[0].n, ops[2].value
         w = 8 * n
 
-        def accumulate(old, t):
+        def accumulate(old: T.Term, t: T.Term) -> T.Term:
             moved = T.shr(w, t, k)
             # If no bits overlap, the sum is the same as or.
             return T.rotation(w, old, moved) or T.disjoint(old, moved) or (
@@ -345,7 +349,7 @@ class Arm(Machine):
         self.write(ops[0], result)
         return True
 
-    def move_lanes(self, name, ops, shape):
+    def move_lanes(self, name: str, ops: list, shape: str) -> bool:
         if shape not in ("lanes lanes", "lanes general", "vector general", "lanes number"):
             return False
         to, source = ops
@@ -372,7 +376,7 @@ class Arm(Machine):
         return True
 
 
-def whole(ops):
+def whole(ops: list) -> bool:
     """Whether all registers of lanes are meant as a whole, with lanes of one size."""
     lanes = [o for o in ops if o.kind == "lanes"]
     return len({o.n for o in lanes}) == 1 and all(o.lane is None for o in lanes)

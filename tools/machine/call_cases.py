@@ -7,8 +7,10 @@ all inputs of each. In a case, some lengths are numbers, and others variables be
 
 Prints each case and its number of paths, or why it is refused."""
 
+from __future__ import annotations
+
 import sys
-from typing import Any
+from typing import Any, Callable, Iterator
 
 import program as programs
 import call_specification as S
@@ -32,7 +34,10 @@ FREE = (0, MOST)
 class Setup:
     """A call: its arguments, its memory, and what is known of its numbers."""
 
-    def __init__(self, calls, kind, alignment):
+    arguments: list
+    ranges: dict
+
+    def __init__(self, calls: Calls, kind: R.Kind, alignment: tuple) -> None:
         self.calls, self.kind, self.alignment = calls, kind, alignment
         self.sp, self.arguments, self.ranges = T.var(64, "sp", T.PUBLIC), [], {}
         self.regions: dict = {image(): Cells(0, 1 << 32, calls.program.constant, False, (4096, 0))}
@@ -41,7 +46,7 @@ class Setup:
         self.cells: list = []
         self.reads_key: tuple = ()     # the condition of must_scrub
 
-    def number(self, name, low=0, high=MOST):
+    def number(self, name: str, low: int = 0, high: int = MOST) -> T.Term:
         """A variable between two numbers, or a number."""
         if low == high:
             return T.const(64, low)
@@ -49,19 +54,20 @@ class Setup:
         self.ranges[t] = low, high, 1
         return t
 
-    def pass_number(self, name, low=0, high=MOST):
+    def pass_number(self, name: str, low: int = 0, high: int = MOST) -> T.Term:
         t = self.number(name, low, high)
         self.arguments.append(t)
         return t
 
-    def pass_struct(self, name, data):
+    def pass_struct(self, name: str, data: list) -> None:
         """A pointer to bytes that are only read."""
         address = T.var(64, name + " address", T.PUBLIC)
         self.ranges[address] = 1, 1 << 63, 1
         self.regions[address] = Cells(0, len(data), lambda k: data[k], False)
         self.arguments.append(address)
 
-    def pass_buffer(self, name, length, taint=T.SECRET, writable=False):
+    def pass_buffer(self, name: str, length: Any, taint: int = T.SECRET,
+                    writable: bool = False) -> Buffer:
         """A pointer to a buffer, and its length."""
         address = T.var(64, name + " address", T.PUBLIC)
         self.ranges[address] = 1, 1 << 63, 1
@@ -70,9 +76,10 @@ class Setup:
         self.arguments += [address, length]
         return buffer
 
-    def pass_state(self, **fields):
+    def pass_state(self, **fields: tuple) -> S.State:
         """A pointer to a state with these numbers; other fields have any values."""
-        kind, limits = self.kind, dict.fromkeys(S.State.FIELDS[2:7], FREE)
+        kind = self.kind
+        limits: dict = dict.fromkeys(S.State.FIELDS[2:7], FREE)
         limits.update(fields)
         secret = lambda name, n: [(T.var(8, "%s.%d" % (name, k), T.SECRET), 0) for k in range(n)]
         words = lambda name: [b for k in range(8) for b in T.split(
@@ -88,7 +95,7 @@ class Setup:
         return self.state
 
     @staticmethod
-    def bytes_of(state):
+    def bytes_of(state: S.State) -> list:
         """The bytes of a state in memory."""
         found = []
         for name in S.State.FIELDS:
@@ -97,7 +104,7 @@ class Setup:
                 T.const(64, value) if isinstance(value, int) else value)
         return found
 
-    def bound(self, numbers, low, high):
+    def bound(self, numbers: tuple, low: int, high: int) -> bool:
         """Lets a sum be between two numbers. Returns whether that may be."""
         constant, total = 0, []
         for t in numbers:
@@ -116,7 +123,7 @@ class Setup:
         self.ranges[rest] = found + (1,)
         return found[0] <= found[1]
 
-    def run(self, name, expected):
+    def run(self, name: str, expected: Callable) -> int:
         """Executes the call, and compares each of its ends."""
         program = self.calls.program
         model: Any = MODELS[program.kind]
@@ -138,7 +145,7 @@ class Setup:
                 raise IsWrong("scrub_stack is not called at the end")
         return len(ends)
 
-    def compare(self, m, expected):
+    def compare(self, m: Any, expected: tuple) -> None:
         """What a call has left, and what it should."""
         result, state, out = expected
         if callable(result):
@@ -157,7 +164,7 @@ class Setup:
             self.need("the output", m, [m.memory.get((self.out, k), old(k)) for k in range(n)],
                       list(out) + [old(k) for k in range(len(out), n)])
 
-    def need(self, what, m, found, wanted):
+    def need(self, what: str, m: Any, found: list, wanted: list) -> None:
         """Refuses other bytes than are wanted."""
         single = {t: T.const(t.w, low) for t, (low, high, _) in m.ranges.items()
                   if low == high and t.op == "var"}
@@ -169,11 +176,11 @@ class Setup:
                 raise IsWrong("byte %d of %s is %s, not %s" % (k, what, shown(x), shown(y)))
 
 
-def shown(b):
+def shown(b: Any) -> Any:
     return T.show(b, 4)
 
 
-def some(family):
+def some(family: str) -> Any:
     """Numbers of pending bytes and sizes of tags that a short test takes: those at the ends."""
     kind = KINDS[family]
     return (0, 1, kind.block - 1, kind.block), (1, 8, kind.w - 1, kind.w)
@@ -183,7 +190,8 @@ class Cases:
     """The cases of the functions of a family in a file. Each yields a title and a function that
     fills a Setup and returns what is expected."""
 
-    def __init__(self, program, family, pending=None, sizes=None):
+    def __init__(self, program: programs.Program, family: str, pending: Any = None,
+                 sizes: Any = None) -> None:
         """With only some numbers of pending bytes before an update, and some sizes of tags, if
         these are given."""
         self.calls, self.kind = Calls(program), KINDS[family]
@@ -191,7 +199,7 @@ class Cases:
         self.pending = range(self.kind.block + 1) if pending is None else pending
         self.sizes = range(1, self.kind.w + 1) if sizes is None else sizes
 
-    def show(self, export):
+    def show(self, export: str) -> tuple:
         """Shows all cases of an exported function. Returns how many there are, and the paths."""
         cases = paths = 0
         for case in getattr(self, export.lstrip("_") or "one_shot")():
@@ -199,7 +207,7 @@ class Cases:
             paths += self.show_case(self.prefix + export, case)
         return cases, paths
 
-    def show_case(self, name, case):
+    def show_case(self, name: str, case: Callable) -> int:
         """A case, at each alignment of the stack that makes a difference."""
         size, rest = 16, 8 if self.calls.program.kind == "x86_64" else 0
         waiting, paths = [(size, rest)], 0
@@ -222,23 +230,23 @@ class Cases:
 
     # States.
 
-    def ready(self, **fields):
+    def ready(self, **fields: tuple) -> dict:
         """The fields of a state that is ready."""
         kind = self.kind
         return {"output_size": (1, kind.w), "pending_length": (0, kind.block),
                 "start_length": (0, kind.block), **fields}
 
-    def add_ready(self, setup, **fields):
+    def add_ready(self, setup: Setup, **fields: tuple) -> S.State:
         """A state that is ready, as an argument."""
         s = setup.pass_state(**self.ready(**fields))
         hold(setup, S.is_ready(self.kind, s))
         return s
 
-    def unready(self, rest, result=REFUSED):
+    def unready(self, rest: Callable, result: T.Term | int = REFUSED) -> Iterator:
         """The cases of a state that is not ready: each condition fails in one, below or above."""
         for k in range(len(S.is_ready(self.kind, S.zeros(self.kind)))):
             for side in (0, 1):
-                def case(setup):
+                def case(setup: Setup) -> Callable | None:
                     s = setup.pass_state()
                     rest(setup)
                     if not fail(setup, S.is_ready(self.kind, s)[k], side):
@@ -249,19 +257,19 @@ class Cases:
 
     # Messages.
 
-    def message(self, setup, n):
+    def message(self, setup: Setup, n: T.Term) -> Buffer:
         return setup.pass_buffer("message", n)
 
-    def amounts(self, pending):
+    def amounts(self, pending: Any) -> Any:
         """The lengths of a message, by those that `pending` bytes leave: few, or fill + k blocks
         + t. Each is a function of a setup that returns the length and the update."""
         kind, block = self.kind, self.kind.block
 
-        def few(setup):
+        def few(setup: Setup) -> tuple:
             n = setup.number("n", 0, block - pending)
             return n, lambda a, s, data: S.update_few(a, kind, s, data, n)
 
-        def many(setup, k):
+        def many(setup: Any, k: Any) -> Any:
             fill = block - pending if pending else 0
             k, t = k(setup), setup.number("t", 1, block)
             n = T.add(64, (1, T.const(64, fill)), (block, k), (1, t))
@@ -273,12 +281,12 @@ class Cases:
             found.append(lambda setup: many(setup, lambda s: T.const(64, 0)))
         return found
 
-    def update(self):
+    def update(self) -> Iterator:
         kind = self.kind
         for pending in self.pending:
             for amount in self.amounts(pending):
                 for node in ((0, 0), (1, MOST)):
-                    def case(setup):
+                    def case(setup: Setup) -> Callable:
                         s = self.add_ready(setup, pending_length=(pending, pending), last_node=node)
                         setup.reads_key = s.counter, s.start_length
                         s = s.but(pending_length=pending)
@@ -289,7 +297,7 @@ class Cases:
                     case.__doc__ = "%d pending, last node %d" % (pending, node[0])
                     yield case
 
-        def refused(setup):
+        def refused(setup: Setup) -> Callable:
             """the count reaches 2^64"""
             s = self.add_ready(setup)
             n = setup.number("n")
@@ -299,16 +307,16 @@ class Cases:
         yield refused
         yield from self.unready(lambda setup: self.message(setup, setup.number("n")))
 
-    def out(self, setup, room):
+    def out(self, setup: Setup, room: T.Term) -> Buffer:
         """The output, of which no byte beyond the longest digest may be written."""
         buffer = setup.pass_buffer("out", room, writable=True)
         setup.out = setup.arguments[-2]
         return buffer
 
-    def final(self):
+    def final(self) -> Iterator:
         kind = self.kind
         for node in ((0, 0), (1, MOST)):
-            def case(setup):
+            def case(setup: Setup) -> Callable:
                 """ready"""
                 s = self.add_ready(setup, last_node=node)
                 setup.reads_key = s.counter, s.start_length
@@ -316,13 +324,13 @@ class Cases:
                 out = self.out(setup, room)
                 hold(setup, S.fits(s.output_size, room))
 
-                def expected(a):
+                def expected(a: Any) -> tuple:
                     found, state = S.final(a, kind, s, out)
                     return 0, state, found
                 return expected
             yield case
 
-        def refused(setup):
+        def refused(setup: Setup) -> Callable:
             """no room"""
             s = self.add_ready(setup)
             room = setup.number("room")
@@ -332,20 +340,20 @@ class Cases:
         yield refused
         yield from self.unready(lambda setup: self.out(setup, setup.number("room")))
 
-    def verify(self):
+    def verify(self) -> Iterator:
         kind = self.kind
         for size in self.sizes:
             for node in ((0, 0), (1, MOST)):
-                def case(setup):
+                def case(setup: Setup) -> Callable:
                     s = self.add_ready(setup, output_size=(size, size), last_node=node)
                     setup.reads_key = s.counter, s.start_length
                     s = s.but(output_size=size)
                     tag = setup.pass_buffer("tag", T.const(64, size))
 
-                    def expected(a):
+                    def expected(a: Any) -> tuple:
                         byte = S.verify(a, kind, s, tag)
 
-                        def result(m):
+                        def result(m: Any) -> int:
                             if m.compared_bytes is None or m.compared_bytes[0] != byte:
                                 raise IsWrong("the comparison is %s" % (m.compared_bytes,))
                             return 0 if m.compared_bytes[1] else REFUSED
@@ -355,7 +363,7 @@ class Cases:
                 yield case
         for side in (0, 1):
             for node in ((0, 0), (1, MOST)):
-                def other(setup):
+                def other(setup: Setup) -> Callable:
                     """a tag of another length"""
                     s = self.add_ready(setup, last_node=node)
                     n = setup.number("n")
@@ -368,12 +376,12 @@ class Cases:
 
     # Inits and the call in one.
 
-    def made(self, read):
+    def made(self, read: Callable) -> Iterator:
         """The cases of an init: with and without a key, and refused. `read` adds its arguments, and
         returns what the specification needs, and the conditions of its own."""
         kind = self.kind
         for has_key in (False, True):
-            def accepted(setup):
+            def accepted(setup: Setup) -> Callable:
                 setup.pass_state()
                 given, conditions = read(setup, (1, kind.w) if has_key else (0, 0))
                 setup.reads_key = given[2],
@@ -383,12 +391,12 @@ class Cases:
             yield accepted
         yield from self.refused(lambda setup: (setup.pass_state(), read(setup, FREE)[1])[1])
 
-    def refused(self, read):
+    def refused(self, read: Callable) -> Iterator:
         """The cases in which a condition fails. The state is then zero."""
         kind = self.kind
         for k in range(8):
             for side in (0, 1):
-                def case(setup):
+                def case(setup: Setup) -> Callable | None:
                     conditions = read(setup)
                     if k >= len(conditions) or not fail(setup, conditions[k], side):
                         return None
@@ -396,7 +404,7 @@ class Cases:
                 case.__doc__ = "refused: condition %d, side %d" % (k, side)
                 yield case
 
-    def lengths(self, setup, key, others=True):
+    def lengths(self, setup: Setup, key: tuple, others: bool = True) -> tuple:
         """The arguments of an init, but for the state: what the specification needs."""
         kind, n = self.kind, self.kind.w // 4
         size = setup.pass_number("output_size")
@@ -407,14 +415,14 @@ class Cases:
             given += [setup.pass_buffer(name, length) if others else S.nothing, length]
         return given, S.admits(kind, size, keyed, given[4], given[6])
 
-    def init_key(self):
+    def init_key(self) -> Iterator:
         kind = self.kind
 
-        def read(setup, key):
+        def read(setup: Any, key: Any) -> Any:
             given, conditions = self.lengths(setup, key, False)
             return given, conditions + [((given[2],), 1, MOST)]
 
-        def accepted(setup):
+        def accepted(setup: Setup) -> Callable:
             setup.pass_state()
             given, conditions = read(setup, (1, kind.w))
             setup.reads_key = given[2],
@@ -423,15 +431,15 @@ class Cases:
         yield accepted
         yield from self.refused(lambda setup: (setup.pass_state(), read(setup, FREE)[1])[1])
 
-    def init_salt_personal(self):
+    def init_salt_personal(self) -> Iterator:
         yield from self.made(self.lengths)
 
-    def init_tree(self):
+    def init_tree(self) -> Iterator:
         """Tree parameters are numbers of the arguments, or those of a struct."""
         kind = self.kind
         is_struct = calls.EXPORTS["_init_tree"][-1] != calls.NUMBER
 
-        def read(setup, key):
+        def read(setup: Any, key: Any) -> Any:
             given, conditions = self.lengths(setup, key)
             tree = {name: T.var(8 * size, name, T.PUBLIC) for name, size in S.TREE_FIELDS}
             setup.ranges.update({t: (0, (1 << t.w) - 1, 1) for t in tree.values()})
@@ -445,33 +453,33 @@ class Cases:
                              for name in S.TREE]], conditions
         yield from self.made(read)
 
-    def init_param(self):
+    def init_param(self) -> Iterator:
         kind, n = self.kind, self.kind.w
 
-        def read(setup, length):
+        def read(setup: Any, length: Any) -> Any:
             setup.pass_state()
             block = setup.pass_buffer("block", length, T.PUBLIC)
             first, second = (block.initial(k)[0] for k in (0, 1))
             setup.ranges.update({t: (0, 255, 1) for t in (first, second)})
             return block, [((first,), 1, n), ((second,), 0, n)]
 
-        def accepted(setup):
+        def accepted(setup: Setup) -> Callable:
             block, conditions = read(setup, T.const(64, n))
             hold(setup, conditions)
             return lambda a: (0, S.init_param(a, kind, [block(k) for k in range(n)]), [])
         yield accepted
         yield from self.refused(lambda setup: read(setup, T.const(64, n))[1])
         for low_, high in ((0, n - 1), (n + 1, MOST)):
-            def other(setup):
+            def other(setup: Setup) -> Callable:
                 """another length"""
                 read(setup, setup.number("length", low_, high))
                 return lambda a: (REFUSED, S.zeros(kind), [])
             yield other
 
-    def one_shot(self):
+    def one_shot(self) -> Iterator:
         kind, block = self.kind, self.kind.block
 
-        def arguments(setup, n, key):
+        def arguments(setup: Any, n: Any, key: Any) -> Any:
             size = setup.number("output_size")
             out = self.out(setup, size)
             data = self.message(setup, n)
@@ -482,7 +490,7 @@ class Cases:
         for has_key in (False, True):
             pending = block if has_key else 0
             for amount in self.amounts(pending):
-                def accepted(setup):
+                def accepted(setup: Setup) -> Callable:
                     n, absorb = amount(setup)
                     size, out, data, key, keyed, conditions = arguments(
                         setup, n, (1, kind.w) if has_key else (0, 0))
@@ -494,7 +502,7 @@ class Cases:
                 yield accepted
         for k in range(3):
             for side in (0, 1):
-                def refused(setup):
+                def refused(setup: Setup) -> Callable | None:
                     n = setup.number("n")
                     _, _, _, _, keyed, conditions = arguments(setup, n, (1, MOST) if k == 2 else FREE)
                     conditions = conditions + S.is_counted(block, n)
@@ -506,16 +514,16 @@ class Cases:
 
     # The rest.
 
-    def reset(self):
-        def case(setup):
+    def reset(self) -> Iterator:
+        def case(setup: Setup) -> Callable:
             s = self.add_ready(setup)
             return lambda a: (0, S.reset(s), [])
         yield case
         yield from self.unready(lambda setup: None)
 
-    def set_last_node(self):
+    def set_last_node(self) -> Iterator:
         for low_, high in ((0, 0), (1, (1 << 32) - 1)):
-            def case(setup):
+            def case(setup: Setup) -> Callable:
                 s = self.add_ready(setup)
                 on = T.var(32, "on", T.PUBLIC) if high else T.const(32, 0)
                 setup.ranges.update({on: (low_, high, 1)} if high else {})
@@ -524,41 +532,41 @@ class Cases:
             yield case
         yield from self.unready(lambda setup: setup.pass_number("on"))
 
-    def wipe(self):
-        def case(setup):
+    def wipe(self) -> Iterator:
+        def case(setup: Setup) -> Callable:
             setup.pass_state()
             return lambda a: (None, S.zeros(self.kind), [])
         yield case
 
-    def digest_size(self):
-        def case(setup):
+    def digest_size(self) -> Iterator:
+        def case(setup: Setup) -> Callable:
             s = self.add_ready(setup)
             return lambda a: (s.output_size, s, [])
         yield case
         yield from self.unready(lambda setup: None, T.const(64, 0))
 
-    def count(self):
+    def count(self) -> Iterator:
         for low_, high in ((0, MOST), (-MOST, -1)):
-            def case(setup):
+            def case(setup: Setup) -> Callable:
                 s = self.add_ready(setup)
                 setup.bound((s.counter, s.pending_length, (-1, s.start_length)), low_, high)
                 return lambda a: (a.word(S.count(a, s)), s, [])
             yield case
         yield from self.unready(lambda setup: None, T.const(64, 0))
 
-    def state_size(self):
-        def case(setup):
+    def state_size(self) -> Iterator:
+        def case(setup: Setup) -> Callable:
             return lambda a: (T.const(64, len(Setup.bytes_of(S.zeros(self.kind)))), None, [])
         yield case
 
 
-def wide(t):
+def wide(t: T.Term) -> T.Term:
     """A number as an argument: of up to 32 bits, with undefined data above these."""
     data = T.split(t) + [0] * (4 - t.w // 8)
     return T.word(data + (fresh("above", T.JUNK, 4) if t.w <= 32 else []))
 
 
-def fail(setup, condition, side):
+def fail(setup: Setup, condition: tuple, side: int) -> bool:
     """Lets a condition fail, by a number below its bounds or above. Returns whether that may be."""
     numbers, low, high = condition
     negative = any(isinstance(t, tuple) for t in numbers)
@@ -568,13 +576,13 @@ def fail(setup, condition, side):
     return high < most and setup.bound(numbers, high + 1, most)
 
 
-def hold(setup, conditions):
+def hold(setup: Setup, conditions: list) -> None:
     """Lets all of some conditions hold."""
     if not all([setup.bound(*condition) for condition in conditions]):
         raise CannotShow("no call is accepted in this case")
 
 
-def main(arguments):
+def main(arguments: list) -> Any:
     if len(arguments) != 3 or arguments[1] not in KINDS:
         print(__doc__, file=sys.stderr)
         return 2

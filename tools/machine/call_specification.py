@@ -10,24 +10,42 @@ A byte string is a list of bytes; one of a length that is no number has as many 
 at most. Words are lists of bytes too, the lowest first (2.4). `a.below(j, n, x, y)` is the byte x if
 j < n, and otherwise y."""
 
+from __future__ import annotations
+
+from typing import Any, Callable, TYPE_CHECKING
+
+if TYPE_CHECKING:
+    from exact import Buffer
+    from rfc7693 import Kind
+    from terms import Term
+
 
 class State:
     """A state. The fields from `counter` to `last_node` are numbers, the others lists of bytes."""
 
+    chain: Any
+    first: Any
+    counter: Any
+    pending_length: Any
+    start_length: Any
+    output_size: Any
+    last_node: Any
+    pending: Any
+    start_block: Any
     FIELDS = ("chain", "first", "counter", "pending_length", "start_length", "output_size",
               "last_node", "pending", "start_block")
 
-    def __init__(self, *values, **changes):
+    def __init__(self, *values: Any, **changes: Any) -> None:
         for name, value in zip(self.FIELDS, values):
             setattr(self, name, value)
         self.__dict__.update(changes)
 
-    def but(self, **changes):
+    def but(self, **changes: Any) -> State:
         """The state with other values of some fields."""
         return State(**{**self.__dict__, **changes})
 
 
-def zeros(kind):
+def zeros(kind: Kind) -> State:
     """The wiped state, which is not ready."""
     words, block = [0] * 8 * kind.bytes, [0] * kind.block
     return State(words, words, 0, 0, 0, 0, 0, block, block)
@@ -39,35 +57,36 @@ def zeros(kind):
 MOST_COUNTED = 2 ** 64 - 1
 
 
-def is_ready(kind, s):
+def is_ready(kind: Kind, s: State) -> list:
     """A state returns digests if these hold."""
     return [((s.output_size,), 1, kind.w), ((s.pending_length,), 0, kind.block),
             ((s.start_length,), 0, kind.block), ((s.counter, s.pending_length), 0, MOST_COUNTED)]
 
 
-def admits(kind, output_size, key_size, salt_size, persona_size):
+def admits(kind: Kind, output_size: Term, key_size: Any, salt_size: Any, persona_size: Any) -> list:
     """The lengths that RFC 7693, 2.1, and the BLAKE2 document, 2.8, allow."""
     return [((output_size,), 1, kind.w), ((key_size,), 0, kind.w),
             ((salt_size,), 0, kind.w // 4), ((persona_size,), 0, kind.w // 4)]
 
 
-def admits_tree(kind, depth, node_offset, inner_length):
+def admits_tree(kind: Kind, depth: Term, node_offset: Term, inner_length: Term) -> list:
     most = 2 ** 64 - 1 if kind.w == 64 else 2 ** 48 - 1
     return [((depth,), 1, 255), ((node_offset,), 0, most), ((inner_length,), 0, kind.w)]
 
 
-def fits(n, room):
+def fits(n: Term, room: Term) -> list:
     """n bytes fit into `room` bytes: room - n is not negative."""
     return [((room, (-1, n)), 0, MOST_COUNTED)]
 
 
-def is_counted(*numbers):
+def is_counted(*numbers: Term | int) -> list:
     return [(numbers, 0, MOST_COUNTED)]
 
 
 # The states that the inits make.
 
-def parameter_block(a, kind, output_size, key_size, tree, salt, persona):
+def parameter_block(a: Any, kind: Kind, output_size: Term, key_size: Any, tree: list | tuple,
+                    salt: list, persona: list) -> list:
     """The BLAKE2 document, 2.8. Salt and persona are padded with zeros."""
     fanout, depth, leaf_length, node_offset, node_depth, inner_length = tree
     big = kind.w == 64
@@ -84,24 +103,25 @@ TREE_FIELDS = (("node_offset", 8), ("leaf_length", 4), ("fanout", 1), ("depth", 
 SEQUENTIAL = (1, 1, 0, 0, 0, 0)
 
 
-def padded(a, data, n, size):
+def padded(a: Any, data: Buffer | Callable, n: Term | int, size: int) -> list:
     """n bytes of data, and zeros up to a size."""
     return [a.below(j, n, data(j), 0) for j in range(size)]
 
 
-def nothing(_):
+def nothing(_: int) -> int:
     """A salt, a persona or a key of no bytes."""
     return 0
 
 
-def from_block(a, kind, block, output_size):
+def from_block(a: Any, kind: Kind, block: list, output_size: Term) -> State:
     """The state of a parameter block: the initialization vector xor the block (2.5)."""
     first = a.xor(b"".join(n.to_bytes(kind.bytes, "little") for n in kind.iv), block)
     return zeros(kind).but(chain=first, first=first, output_size=output_size)
 
 
-def init_tree(a, kind, output_size, key, key_size, salt, salt_size, persona, persona_size,
-              tree=SEQUENTIAL):
+def init_tree(a: Any, kind: Kind, output_size: Term, key: Buffer, key_size: Any,
+              salt: Buffer | Callable, salt_size: Term | int, persona: Buffer | Callable,
+              persona_size: Term | int, tree: list | tuple = SEQUENTIAL) -> State:
     """Under a key, a block of it is pending (2.9, 3.3)."""
     n = kind.w // 4
     block = parameter_block(a, kind, output_size, key_size, tree, padded(a, salt, salt_size, n),
@@ -114,14 +134,14 @@ def init_tree(a, kind, output_size, key, key_size, salt, salt_size, persona, per
                  start_block=pending)
 
 
-def init_param(a, kind, block):
+def init_param(a: Any, kind: Kind, block: list) -> State:
     """The parameter block is given, and so is the key's block, as the first input."""
     return from_block(a, kind, block, a.from_bytes(block[:1]))
 
 
 # What is left on the stack.
 
-def must_scrub(a, *condition):
+def must_scrub(a: Any, *condition: Term) -> bool:
     """A call that has read a key, or compressed the block of one, overwrites its part of the stack:
     an init and the call in one if (key_size,) is not 0, and update, final and verify if the first
     of (counter, start_length) is less, because the key's block is then the next or a later one that
@@ -131,7 +151,7 @@ def must_scrub(a, *condition):
 
 # Messages.
 
-def update_few(a, kind, s, data, n):
+def update_few(a: Any, kind: Kind, s: State, data: Buffer, n: Any) -> State:
     """n bytes that the pending block has room for: pending_length + n <= block."""
     at = s.pending_length
     pending = s.pending[:at] + [a.below(j, n, data(j), s.pending[at + j])
@@ -139,7 +159,7 @@ def update_few(a, kind, s, data, n):
     return s.but(pending=pending, pending_length=a.plus(at, n))
 
 
-def update_many(a, kind, s, data, k, t):
+def update_many(a: Any, kind: Kind, s: State, data: Buffer, k: Term | int, t: Term) -> State:
     """More bytes: fill + k blocks + t, where 1 <= t <= block and `fill` bytes fill the pending
     block, or none if nothing is pending, when 1 <= k. The last block stays pending (3.3)."""
     fill = kind.block - s.pending_length if s.pending_length else 0
@@ -155,7 +175,7 @@ def update_many(a, kind, s, data, k, t):
                  pending_length=t)
 
 
-def digest(a, kind, s):
+def digest(a: Any, kind: Kind, s: State) -> list:
     """The longest digest: the last block, padded with zeros, with the flag f0, and f1 if the node
     is the last one (3.3; the BLAKE2 document, 2.10)."""
     block = [a.below(j, s.pending_length, b, 0) for j, b in enumerate(s.pending)]
@@ -163,33 +183,34 @@ def digest(a, kind, s):
     return a.compress(kind, s.chain, block, count, 1, a.is_on(s.last_node))
 
 
-def final(a, kind, s, out):
+def final(a: Any, kind: Kind, s: State, out: Buffer) -> tuple:
     """The output after a call, and the state: the digest, and what was behind it."""
     whole = digest(a, kind, s)
     return [a.below(j, s.output_size, b, out(j)) for j, b in enumerate(whole)], zeros(kind)
 
 
-def one_shot(a, kind, output_size, key, key_size, absorb, out):
+def one_shot(a: Any, kind: Kind, output_size: Any, key: Buffer, key_size: Any, absorb: Callable,
+             out: Buffer) -> list:
     """All of it, where `absorb` is one of both updates."""
     s = init_tree(a, kind, output_size, key, key_size, nothing, 0, nothing, 0)
     return final(a, kind, absorb(s), out)[0]
 
 
-def verify(a, kind, s, tag):
+def verify(a: Any, kind: Kind, s: State, tag: Buffer) -> Any:
     """The tag is the digest if this byte is 1, and not if it is 0. It has output_size bytes; a tag
     of another length is not the digest. The state is then wiped."""
     size = s.output_size
     return a.are_equal([tag(j) for j in range(size)], digest(a, kind, s)[:size])
 
 
-def reset(s):
+def reset(s: State) -> State:
     return s.but(chain=s.first, counter=0, pending_length=s.start_length, pending=s.start_block)
 
 
-def set_last_node(s, on):
+def set_last_node(s: State, on: bool) -> State:
     return s.but(last_node=int(on))
 
 
-def count(a, s):
+def count(a: Any, s: State) -> Term | int:
     """What was absorbed since the start, without the key's block, and at least 0."""
     return a.difference(a.plus(s.counter, s.pending_length), s.start_length)

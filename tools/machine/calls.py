@@ -1,8 +1,11 @@
 """Shows that no branch and no address of a whole call depends on a secret: for each function that
 C programs call, all code that it reaches. docs/MACHINE.md says what is shown."""
 
+from __future__ import annotations
+
 import heapq
 import re
+from typing import Any, Callable, Iterator, TYPE_CHECKING
 
 import following_arm
 import following_x86
@@ -13,18 +16,21 @@ from following import Aligned, Memory, is_secret, reset, secret, unknown
 from machine import image, need_public
 from terms import CannotShow, IsWrong
 
+if TYPE_CHECKING:
+    from rfc7693 import Kind
+
 MODELS = {"x86_64": following_x86, "aarch64": following_arm}
 STACK = 65536
 ROUNDS = 20                            # of a loop, which are unrolled
 
 
-def state(n, block):
+def state(n: Any, block: Any) -> Any:
     """The fields of a state as pairs of a size and of whether it is public. n is the size of a
     chaining word."""
     return [(8 * n, False)] * 2 + [(8, True)] * 5 + [(block, False)] * 2
 
 
-def parallel_state(n, block, held):
+def parallel_state(n: int, block: int, held: int) -> list:
     """The same of a state of BLAKE2bp or BLAKE2sp, of whose bytes up to `held` are pending."""
     return ([(256, False)] + [(8, True)] * 2 + [(held, False), (256, False), (8 * n, False)]
             + [(8, True)] * 2 + [(block, False)])
@@ -88,7 +94,8 @@ NOT_SHOWN: set = set()
 class Call:
     """A call of an exported function: its memory and its arguments."""
 
-    def __init__(self, program, kinds, family, alignment, has_key):
+    def __init__(self, program: programs.Program, kinds: tuple, family: str, alignment: tuple,
+                 has_key: bool) -> None:
         self.sp, self.has_key = T.var(64, "sp", T.PUBLIC), has_key
         self.regions = {image(): Memory(0, 1 << 32, program.constant, False)}
         self.words: list = []
@@ -106,7 +113,7 @@ class Call:
         self.machine.begin(alignment, self.ranges, LONGEST.get(family, 128))
         self.machine.start(self.sp, back, self.words)
 
-    def add(self, kind, layout):
+    def add(self, kind: str, layout: list | None) -> None:
         """Adds an argument, with its memory and its length if it has them."""
         word = T.var(64, "%s%d" % (kind, len(self.words)), T.PUBLIC)
         self.words.append(word)
@@ -132,7 +139,7 @@ class Call:
             self.regions[word].table = lambda m, low, size: entry(m, text, low, size)
 
 
-def entry(machine, text, low, size):
+def entry(machine: Any, text: Any, low: int, size: int) -> list:
     """Bytes of a table of messages: pairs of an address and a length."""
     if machine.step_of_place % 16:
         raise CannotShow("the place in the table of messages is not known")
@@ -144,14 +151,20 @@ def entry(machine, text, low, size):
 class Analysis:
     """Follows calls through the functions of a file."""
 
-    def __init__(self, program, exported=""):
+    codes: dict
+    scrubs: dict
+    reached: set
+    entered: set
+    at: Any
+
+    def __init__(self, program: programs.Program, exported: str = "") -> None:
         self.program, self.codes = program, {}
         self.exported, self.scrubs = exported, functions.scrubs(program)
         self.listed = {functions.in_file(program.path, entry[0]): entry
                        for entry in functions.FILES[program.path]}
         self.reached, self.entered, self.at = set(), set(), None
 
-    def code(self, name):
+    def code(self, name: str) -> tuple:
         """The instructions of a function by address, and where its blocks begin."""
         if name not in self.codes:
             found = self.program.code(name, MODELS[self.program.kind].Instruction)
@@ -159,7 +172,7 @@ class Analysis:
             self.codes[name] = {i.address: i for i in found}, starts, found[0].address
         return self.codes[name]
 
-    def run(self, name, machine, path):
+    def run(self, name: str, machine: Any, path: str) -> Any:
         """The state after a call of a function, where all paths meet."""
         code, starts, first = self.code(name)
         states: dict = {}
@@ -173,7 +186,7 @@ class Analysis:
             if i.target is not None and i.target <= i.address:
                 loops[i.target] = max(i.address, loops.get(i.target, 0))
 
-        def arrive(pc, m, origin):
+        def arrive(pc: int, m: Any, origin: int) -> None:
             if pc <= origin:
                 m.rounds = rounds_at(m, pc, origin)
             if pc in loops:
@@ -189,12 +202,12 @@ class Analysis:
             if key not in waiting:
                 heapq.heappush(waiting, key)
 
-        def check(m, first=0):
+        def check(m: Any, first: int = 0) -> None:
             for k, what in list(enumerate(("return address", "stack pointer", "registers")))[first:]:
                 if m.at_entry()[k] != entry[k]:
                     raise IsWrong("the caller's %s: not as at the entry of %s" % (what, name))
 
-        def finish(m, first=0):
+        def finish(m: Any, first: int = 0) -> None:
             check(m, first)
             m.forget_below()
             if ends:
@@ -220,7 +233,8 @@ class Analysis:
             raise CannotShow("%s does not return" % name)
         return ends[0]
 
-    def follow(self, name, m, i, path, arrive, check, finish):
+    def follow(self, name: str, m: Any, i: Any, path: str, arrive: Callable, check: Callable,
+               finish: Callable) -> int | None:
         """Executes an instruction. Returns the address of the next, if it is the only one."""
         code = self.codes[name][0]
         if m.is_call(i):
@@ -256,7 +270,7 @@ class Analysis:
                 finish(n, 1)
         return None
 
-    def call(self, m, i, path):
+    def call(self, m: Any, i: Any, path: str) -> None:
         """A call of another function, whose return address is in its place."""
         name = self.target(i)
         arguments = [m.argument(k) for k in range(5)]
@@ -273,11 +287,11 @@ class Analysis:
             return
         m.clobber()
 
-    def target(self, i):
+    def target(self, i: Any) -> str:
         """The function that a call goes to, by its name without version."""
         return self.program.target(i, OF_C)
 
-    def enter(self, m, name, i, path):
+    def enter(self, m: Any, name: str, i: Any, path: str) -> None:
         """A call of a function whose code is followed."""
         kept = m.rounds, m.undecided
         found = self.run(name, m, "%s/%x%s" % (path, i.address, in_round(m)))
@@ -295,12 +309,12 @@ class Analysis:
             need_zeros(m, next(b for b in m.regions if b.args == "state0"))
 
 
-def in_round(m):
+def in_round(m: Any) -> str:
     """The rounds as text, for the names of variables."""
     return "".join(":%x=%d" % pair for pair in m.rounds)
 
 
-def rounds_at(m, head, origin):
+def rounds_at(m: Any, head: int, origin: int) -> tuple:
     """How often a machine that jumps back to a loop's head has passed the heads of loops by jumps
     that were decided by numbers. Such rounds are kept apart, so that the loop is unrolled."""
     rounds = {h: n for h, n in m.rounds if not head < h <= origin}
@@ -309,7 +323,7 @@ def rounds_at(m, head, origin):
     return tuple(sorted(rounds.items()))
 
 
-def compress(m, arguments, name, kind, lanes):
+def compress(m: Any, arguments: list, name: str, kind: Kind, lanes: int) -> None:
     """A call of a function that compresses, of which compression.py shows what it does."""
     tables: list = []
     if lanes == 1:
@@ -327,7 +341,7 @@ def compress(m, arguments, name, kind, lanes):
     m.store(arguments[0], [secret()] * (8 * kind.bytes * lanes))
 
 
-def exports(program):
+def exports(program: programs.Program) -> Iterator:
     """The functions that C programs call, with their arguments and families."""
     for name in program.globals:
         m = re.fullmatch(r"vulfsjor_ffi_(blake2[bs]p?|tree|memcmp|wipe|version)(.*)", name)
@@ -341,12 +355,12 @@ def exports(program):
         yield name, table[m[2]], m[1]
 
 
-def is_followed(name, family):
+def is_followed(name: str, family: str) -> bool:
     """Whether the secrets in calls of this function are followed."""
     return name.removeprefix("vulfsjor_ffi_" + family) in PARALLEL.get(family, EXPORTS | TREES)
 
 
-def show(program, name, kinds, family):
+def show(program: programs.Program, name: str, kinds: tuple, family: str) -> Analysis:
     """Follows a call, or raises Refused. Returns the analysis."""
     analysis = Analysis(program, name)
     entry = 16, 8 if program.kind == "x86_64" else 0
@@ -370,7 +384,7 @@ def show(program, name, kinds, family):
     return analysis
 
 
-def check(call, after, name):
+def check(call: Call, after: Any, name: str) -> None:
     """What must hold after a call: the result and the public fields of structs do not depend on a
     secret, so that the next call may assume it, and a wiped state is zero."""
     for word, layout in call.structs:
@@ -386,7 +400,7 @@ def check(call, after, name):
         need_public(T.word(after.answer()[:4]), "the result")
 
 
-def need_zeros(m, state):
+def need_zeros(m: Any, state: T.Term) -> None:
     """Refuses a state of which a byte may not be zero."""
     region = m.regions[state]
     for k in range(region.high):

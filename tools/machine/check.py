@@ -20,11 +20,14 @@ qemu-aarch64 to run instructions; python3-z3 for the rules; node to run those of
 is missing is skipped.
 """
 
+from __future__ import annotations
+
 import multiprocessing
 import os
 import shutil
 import subprocess
 import sys
+from typing import Any, Callable, Iterator
 
 import call_cases
 import calls
@@ -54,14 +57,14 @@ SHORT = ("dist/x86_64/vulfsjor-v3.s", "dist/aarch64/vulfsjor.s")
 SHORT_WIDTHS = (64, 8)
 
 
-def missing(path):
+def missing(path: str) -> Any:
     """Which tool is missing for a file, or None."""
     compiler, prefix, _ = programs.TOOLS.get(functions.architecture(path), ([], None, []))
     needed = compiler[:1] + ([prefix + "ld", prefix + "objdump"] if compiler else [])
     return next((tool for tool in needed if not shutil.which(tool)), None)
 
 
-def prove(paths, entry):
+def prove(paths: Any, entry: Any) -> Any:
     """The claim for one function of the files of one build. A function that has the same content
     as that of an earlier file is not executed again."""
     shown: dict = {}
@@ -71,7 +74,7 @@ def prove(paths, entry):
     return results
 
 
-def prove_one(path, entry, shown):
+def prove_one(path: str, entry: Any, shown: Any) -> Any:
     """The claim for one function of a file. `shown` has the contents that are shown already, and
     of which file."""
     name, kind, lanes = entry
@@ -97,7 +100,7 @@ def prove_one(path, entry, shown):
                                            runner.branches, runner.addresses, seconds))]
 
 
-def search(path):
+def search(path: str) -> Any:
     """Whether a file has a copy of the rounds outside of its list of functions."""
     title = "%s: no other function has a copy of the rounds" % path
     if missing(path):
@@ -107,7 +110,7 @@ def search(path):
     return [("not ok", title, why % ", ".join(found)) if found else ("ok", title, "")]
 
 
-def look(path):
+def look(path: str) -> Any:
     """What is looked at in all of a file, besides the code of its functions."""
     title = "%s: nothing that runs or is read is writable, and each exported function is known" % path
     if missing(path):
@@ -119,7 +122,7 @@ def look(path):
     return [("ok", title, "")]
 
 
-def not_runnable(path):
+def not_runnable(path: str) -> Any:
     """What is missing to run a file's instructions, or None."""
     kind = functions.architecture(path)
     runner = {"aarch64": "qemu-aarch64", "x86_64": "cc", "wasm": "node"}[kind]
@@ -129,7 +132,7 @@ def not_runnable(path):
     return needed.upper() if kind == "x86_64" and not has_flag(needed) else None
 
 
-def instructions(path):
+def instructions(path: str) -> Any:
     """The models of the instructions of a file, against the processor."""
     title = "%s: the models of instructions agree with the processor" % path
     missed = not_runnable(path)
@@ -141,7 +144,7 @@ def instructions(path):
     return [(verdict, title, why)]
 
 
-def exact_model(path):
+def exact_model(path: str) -> Any:
     """The model of the calls that are executed over variables, against the processor."""
     title = "%s: the model of whole calls agrees with the processor" % path
     missed = not_runnable(path)
@@ -151,7 +154,7 @@ def exact_model(path):
     return [(verdict, title, why)]
 
 
-def public_bytes(path):
+def public_bytes(path: str) -> Any:
     """What the abstract machine of whole calls says of each instruction, against the processor."""
     title = "%s: what whole calls take for public is so on the processor" % path
     missed = not_runnable(path)
@@ -161,13 +164,13 @@ def public_bytes(path):
     return [(verdict, title, why)]
 
 
-def has_flag(name):
+def has_flag(name: str) -> bool:
     """Whether this processor has a feature."""
     with open("/proc/cpuinfo") as f:
         return name in f.read()
 
 
-def whole(path):
+def whole(path: str) -> Any:
     """Whole functions of a file in the model, against hashlib."""
     title = "%s: whole functions in the model agree with hashlib" % path
     if missing(path):
@@ -176,7 +179,7 @@ def whole(path):
     return [(verdict, title, why)]
 
 
-def follow(path, family):
+def follow(path: str, family: str) -> Any:
     """That whole calls of a family's functions do not depend on secrets."""
     title = "%s: no branch and no address of a call depends on a secret: %s" % (path, family)
     if missing(path):
@@ -199,7 +202,7 @@ def follow(path, family):
              % (count, len(reached)))]
 
 
-def write_and_return(path, family, exports, pending, sizes):
+def write_and_return(path: str, family: str, exports: Any, pending: Any, sizes: Any) -> Any:
     """That whole calls of some functions of a family write and return what they must."""
     title = "%s: what calls of %s write and return: %s" % (
         path, FAMILIES[family], " ".join(e.lstrip("_") or "in one" for e in exports))
@@ -215,7 +218,7 @@ def write_and_return(path, family, exports, pending, sizes):
     return [("ok", title, "%d cases, %d paths" % (cases, paths))]
 
 
-def parts_of_calls(path, is_short):
+def parts_of_calls(path: str, is_short: bool) -> Iterator:
     """The arguments of write_and_return for a file: all cases in parts, or some."""
     for family in FAMILIES:
         exports = [e for e in calls.EXPORTS if e not in calls.NOT_COMPUTED]
@@ -229,14 +232,14 @@ def parts_of_calls(path, is_short):
             yield path, family, part, None, None
 
 
-def specification():
+def specification() -> Any:
     """The specification of whole calls, over numbers."""
     count = 400 if HUGE in os.environ else 40
     verdict, why = check_specification.check(count)
     return [(verdict, "the specification of whole calls agrees with hashlib", why)]
 
 
-def scrub(path):
+def scrub(path: str) -> Any:
     """That each scrub_stack of a file overwrites its bytes."""
     title = "%s: scrub_stack overwrites its bytes" % path
     if missing(path):
@@ -253,18 +256,19 @@ def scrub(path):
     return [("ok", title, "of %s bytes" % ", ".join(map(str, sorted(found.values()))))]
 
 
-def types():
+def types() -> Any:
     """The type hints of the tool, and what mypy infers from them."""
     title = "the types of tools/machine"
     if not shutil.which("mypy"):
         return [("skip", title, "no mypy")]
     files = sorted(os.path.join(HERE, name) for name in os.listdir(HERE) if name.endswith(".py"))
-    run = subprocess.run(["mypy", "--check-untyped-defs", "--ignore-missing-imports",
-                          "--cache-dir=" + os.devnull] + files, stdout=subprocess.PIPE, text=True)
+    run = subprocess.run(["mypy", "--disallow-untyped-defs", "--check-untyped-defs",
+                          "--ignore-missing-imports", "--cache-dir=" + os.devnull] + files,
+                         stdout=subprocess.PIPE, text=True)
     return [("not ok" if run.returncode else "ok", title, run.stdout.strip().split("\n")[-1])]
 
 
-def rules(width):
+def rules(width: int) -> Any:
     """The rules of terms.py, in a process of a Python that has z3."""
     for python in (sys.executable, "/usr/bin/python3"):
         if subprocess.run([python, "-c", "import z3"], stderr=subprocess.DEVNULL).returncode == 0:
@@ -283,7 +287,7 @@ def rules(width):
     return found
 
 
-def jobs(arguments):
+def jobs(arguments: list) -> Any:
     """The jobs, as a function and its arguments: the long ones first."""
     chosen = arguments or list(functions.FILES)
     builds: dict = {}
@@ -317,14 +321,14 @@ def jobs(arguments):
     return found
 
 
-def planted(change):
+def planted(change: Callable) -> list:
     """A change of the tool, which its tests must notice."""
     gone = not_runnable(mutations.SHORT["arm"]) or not_runnable(mutations.SHORT["v2"])
     title = "the tool itself: %s" % change.__name__.replace("_", " ")
     return [("skip", title, "no " + gone)] if gone else change()
 
 
-def refuse(*line):
+def refuse(*line: Any) -> Any:
     """A line of mutations.txt."""
     path = mutations.SHORT[line[0]]
     if missing(path):
@@ -332,7 +336,7 @@ def refuse(*line):
     return mutations.refuse(*line)
 
 
-def read_all(paths):
+def read_all(paths: Any) -> None:
     """Reads the files, which all jobs share. What is wrong with one, its jobs say."""
     for path in paths:
         try:
@@ -342,7 +346,7 @@ def read_all(paths):
             pass
 
 
-def run(job):
+def run(job: Any) -> Any:
     """The results of a job. What no one has foreseen is a failure too."""
     f, arguments = job
     try:
@@ -352,7 +356,7 @@ def run(job):
         return [("not ok", title, "cannot show: %s: %s" % (type(e).__name__, e))]
 
 
-def report(results):
+def report(results: Any) -> Any:
     """Prints results as TAP. Returns whether none has failed."""
     count = failed = 0
     for verdict, title, why in results:
@@ -368,7 +372,7 @@ def report(results):
     return count > 0 and not failed
 
 
-def main(arguments):
+def main(arguments: list) -> Any:
     if set(arguments) & {"-h", "--help"}:
         print(__doc__.strip())
         return 0

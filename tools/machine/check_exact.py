@@ -2,8 +2,11 @@
 random registers and memory, and compares with the model of exact.py: what it has as a number must
 be that number. Flags are compared through instructions that read them."""
 
+from __future__ import annotations
+
 import random
 import re
+from typing import TYPE_CHECKING
 
 import call_cases
 import calls
@@ -14,11 +17,14 @@ import functions
 import terms as T
 from program import read
 
+if TYPE_CHECKING:
+    from program import Program
+
 # Readers of flags that the model refuses: those of the sign and of the overflow.
 SIGNED = re.compile(r"(set|cmov)(n?s|n?o|[lg]e?) |, (mi|pl|vs|vc|ge|lt|gt|le)$")
 
 
-def reached(program):
+def reached(program: Program) -> list:
     """The functions that the calls reach, besides those that compress and the wiping of the
     stack."""
     listed = {functions.in_file(program.path, name) for name, _, _ in functions.FILES[program.path]}
@@ -38,7 +44,7 @@ def reached(program):
     return sorted(found)
 
 
-def machine(program, text, base, data):
+def machine(program: Program, text: str, base: int, data: bytes) -> tuple:
     """The machine of exact.py after the instructions of a text."""
     count, size = check.vectors_of(program.path)
     buf, memory = T.var(64, "buffer", T.PUBLIC), check.MEMORY + check.BUFFER
@@ -58,7 +64,7 @@ def machine(program, text, base, data):
     return m, buf
 
 
-def run(path, rounds):
+def run(path: str, rounds: int) -> tuple:
     """Whether the model agrees with the processor: a verdict, and what differs."""
     program, rng = read(path), random.Random(7)
     names = reached(program)

@@ -3,8 +3,11 @@ in bytes that are secret. What the abstract machine calls public must then be th
 has as a number must be that number. Flags are compared through instructions that read them: after
 each instruction that sets some, and after one that sets them and another that keeps some."""
 
+from __future__ import annotations
+
 import random
 import struct
+from typing import Any, Iterator, TYPE_CHECKING
 
 import calls
 import check_instructions as check
@@ -12,6 +15,9 @@ import functions
 import terms as T
 from following import Memory, is_secret, reset, secret
 from program import read
+
+if TYPE_CHECKING:
+    from program import Program
 
 SPAN = (-check.BUFFER, check.BUFFER)
 # Not run alone: other control, what moves the stack pointer, and what may fault or wait.
@@ -40,7 +46,7 @@ SETS_FLAGS = {
 }
 
 
-def readers(kind, tests, rng):
+def readers(kind: str, tests: list, rng: Any) -> Iterator:
     """Texts of several instructions, of which the last reads flags: one for each test of an
     instruction that sets some, and one for each that keeps some and each that reads some."""
     first, keeping, last = FLAGS[kind]
@@ -52,7 +58,7 @@ def readers(kind, tests, rng):
             yield "; ".join(filter(None, (rng.choice(first), keeper, reader))), 15
 
 
-def chosen(program, count, rng, names=None):
+def chosen(program: Program, count: int, rng: Any, names: list | None = None) -> tuple:
     """Up to `count` instructions of each form, of these functions, or of all that calls reach and
     follow."""
     found: dict = {}
@@ -74,7 +80,7 @@ def chosen(program, count, rng, names=None):
                         for t in rng.sample(sorted(found[f]), min(count, len(found[f])))]
 
 
-def hidden(rng, size):
+def hidden(rng: Any, size: int) -> set:
     """The places of secret bytes: of some registers and of parts of the memory."""
     found = set()
     for j in range(32):
@@ -88,7 +94,7 @@ def hidden(rng, size):
     return found
 
 
-def machine(program, text, base, data, places):
+def machine(program: Program, text: str, base: int, data: bytes, places: set) -> tuple:
     """The abstract machine after an instruction, in which bytes at these places are secret."""
     model = calls.MODELS[program.kind]
     byte = lambda k: secret() if k in places else data[k]
@@ -108,14 +114,14 @@ def machine(program, text, base, data, places):
     return m, buf
 
 
-def execute(m, program, text):
+def execute(m: Any, program: Program, text: str) -> None:
     """Executes the instructions of a text in a model."""
     for part in text.split("; "):
         part = part.replace(" ", "\t", 1) if program.kind == "aarch64" else part
         m.step(calls.MODELS[program.kind].Instruction(0, part))
 
 
-def wrong(program, m, buf, one, two):
+def wrong(program: Program, m: Any, buf: T.Term, one: bytes, two: bytes) -> Any:
     """What is called public and differs between two states, or is another number, or None."""
     count, size = check.vectors_of(program.path)
     numbers = {buf: T.const(64, struct.unpack_from("<32Q", one)[31])}
@@ -139,7 +145,7 @@ def wrong(program, m, buf, one, two):
     return None
 
 
-def run(path, rounds):
+def run(path: str, rounds: int) -> tuple:
     """Whether the abstract machine agrees with the processor: a verdict, and what differs."""
     program, rng = read(path), random.Random(3)
     forms, tests = chosen(program, 2 if rounds > 4 else 1, rng)

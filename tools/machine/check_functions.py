@@ -1,16 +1,22 @@
 """Executes whole functions in the model over numbers, and compares digests with hashlib: messages
 of one block with random lengths, and both values of the flag of the last node."""
 
+from __future__ import annotations
+
 import hashlib
 import random
+from typing import Any, TYPE_CHECKING
 
 import compression
 import functions
 import terms as T
 from program import read
 
+if TYPE_CHECKING:
+    from program import Program
 
-def numbers_of(call, texts, size):
+
+def numbers_of(call: Any, texts: Any, size: int) -> Any:
     """The numbers of a call's variables for messages of one block."""
     kind, n = call.kind, call.kind.bytes
     found = {call.counter: T.const(64, size)}
@@ -26,11 +32,11 @@ def numbers_of(call, texts, size):
     return found
 
 
-def concrete(call, numbers):
+def concrete(call: Any, numbers: list) -> None:
     """Puts the numbers into the memory and the registers of a call."""
     memo: dict = {}
 
-    def byte(b):
+    def byte(b: Any) -> Any:
         return b if isinstance(b, int) else T.split(T.substitute(b[0], numbers, memo))[b[1]]
 
     for region in call.regions.values():
@@ -40,7 +46,7 @@ def concrete(call, numbers):
             register[:] = [byte(b) for b in register]
 
 
-def digests(program, entry, rng):
+def digests(program: Program, entry: Any, rng: Any) -> Any:
     """The digests of random messages by the model, and those of hashlib."""
     name, kind, lanes = entry
     name = functions.in_file(program.path, name)
@@ -59,7 +65,7 @@ def digests(program, entry, rng):
     return found, [hash_of(t, last_node=node).digest() for t, node in zip(texts, nodes)]
 
 
-def check(path, count):
+def check(path: str, count: int) -> Any:
     """Whether the model of each function of a file agrees with hashlib, in `count` runs."""
     program, rng, total = read(path), random.Random(2), 0
     for entry in functions.FILES[path]:

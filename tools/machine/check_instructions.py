@@ -2,18 +2,24 @@
 qemu-aarch64), over random registers and memory, and compares with the model. Zero flags, addresses
 with an index, and jumps have runs of their own. wasm_instructions.py does it for WebAssembly."""
 
+from __future__ import annotations
+
 import os
 import random
 import re
 import struct
 import subprocess
 import tempfile
+from typing import Any, TYPE_CHECKING
 
 import functions
 import terms as T
 import x86
 from machine import Region
 from program import read, TOOLS
+
+if TYPE_CHECKING:
+    from program import Program
 
 BUFFER = 4096                          # bytes on each side of the base of an access
 SKIPPED = {"push", "pop", "ret", "jmp", "je", "jne", "nop", "adrp", "cbz", "cbnz", "b.ne", "b.eq",
@@ -55,7 +61,7 @@ EXTRA = {
 }
 
 
-def form(kind, i):
+def form(kind: str, i: Any) -> Any:
     """The instruction without the numbers of its registers and without its addresses."""
     text = i.text.partition("#" if kind == "x86_64" else "//")[0].strip()
     if i.name in SKIPPED:
@@ -71,7 +77,7 @@ def form(kind, i):
     return re.sub(r"\b\w+\b", lambda m: "g%d" % size(m) if size(m) else m[0], text)
 
 
-def rewritten(kind, i):
+def rewritten(kind: str, i: Any) -> tuple:
     """An instruction over a base register of its own for memory: its text, and the register."""
     if kind == "aarch64":
         text = i.text.partition("//")[0].strip().replace("\t", " ")
@@ -89,14 +95,14 @@ def rewritten(kind, i):
     return re.sub(r"\brsp\b", "r14", text), base
 
 
-def vectors_of(path):
+def vectors_of(path: str) -> tuple:
     """How many vector registers a test of a file loads and compares, and how many bytes of each."""
     if functions.architecture(path) == "aarch64":
         return 32, 16
     return (32, 64) if path.endswith("-v4.s") else (16, 32)
 
 
-def x86_test(k, text, vectors):
+def x86_test(k: int, text: str, vectors: tuple) -> list:
     """A function that loads all registers, runs an instruction, and stores them."""
     count, size = vectors
     moves = ["vmovdqu%s %smm%d, [rax+%d]" % (*(("64", "z") if size == 64 else ("", "y")), j,
@@ -114,7 +120,7 @@ def x86_test(k, text, vectors):
     return out + ["vzeroupper", "pop rdi"] + ["pop " + r for r in reversed(saved)] + ["ret"]
 
 
-def arm_test(k, text, _):
+def arm_test(k: int, text: str, _: tuple) -> list:
     """The same for ARM."""
     saved = ["p x%d, x%d, [sp, #%d]" % (19 + 2 * j, 20 + 2 * j, 16 * j) for j in range(6)]
     saved += ["p d%d, d%d, [sp, #%d]" % (8 + 2 * j, 9 + 2 * j, 96 + 16 * j) for j in range(4)]
@@ -130,7 +136,7 @@ def arm_test(k, text, _):
     return out + ["add sp, sp, #192", "ret"]
 
 
-def assembly(kind, tests, vectors):
+def assembly(kind: str, tests: list, vectors: tuple) -> str:
     """The text of all tests, a table of them, and one of their base registers."""
     out = [".intel_syntax noprefix"] * (kind == "x86_64") + [".text"]
     for k, (text, _) in enumerate(tests):
@@ -141,7 +147,7 @@ def assembly(kind, tests, vectors):
     return "\n".join(out + ['.section .note.GNU-stack,"",%progbits', ""])
 
 
-def model(program, text, base, data):
+def model(program: Any, text: Any, base: Any, data: Any) -> Any:
     """The machine after an instruction in the model."""
     buf = T.var(64, "buffer", T.PUBLIC)
     initial = data[MEMORY:]
@@ -172,7 +178,7 @@ def model(program, text, base, data):
     return m, buf
 
 
-def difference(program, m, buf, before, after):
+def difference(program: Program, m: Any, buf: T.Term, before: bytes, after: bytes) -> Any:
     """What differs between the model and the processor, or None."""
     general = struct.unpack_from("<32Q", after)
     numbers = {buf: T.const(64, general[31])}
@@ -203,7 +209,7 @@ def difference(program, m, buf, before, after):
     return None
 
 
-def state(rng, text, is_plain):
+def state(rng: Any, text: str, is_plain: bool) -> Any:
     """Random registers and memory; or such that results are often zero."""
     data = bytearray(rng.randbytes(SIZE))
     data[ZERO] = rng.randrange(2)
@@ -216,7 +222,7 @@ def state(rng, text, is_plain):
     return data
 
 
-def chosen(program, entries, rng, count):
+def chosen(program: Program, entries: tuple, rng: Any, count: int) -> tuple:
     """Up to `count` instructions of each form, as (text, base register)."""
     found: dict = {}
     for name, _, _ in entries:
@@ -229,7 +235,7 @@ def chosen(program, entries, rng, count):
     return len(found), tests + EXTRA[program.kind]
 
 
-def execute(kind, tests, vectors, inputs):
+def execute(kind: str, tests: list, vectors: tuple, inputs: list) -> list:
     """The states after the tests, on the processor."""
     with tempfile.TemporaryDirectory() as d:
         c, s, exe = (os.path.join(d, n) for n in ("a.c", "b.s", "a"))
@@ -244,7 +250,7 @@ def execute(kind, tests, vectors, inputs):
     return [out[SIZE * n:SIZE * (n + 1)] for n in range(len(inputs))]
 
 
-def check(path, rounds):
+def check(path: str, rounds: int) -> tuple:
     """Whether the model agrees with the processor: a verdict, and the numbers or what differs."""
     program, rng = read(path), random.Random(1)
     forms, tests = chosen(program, functions.FILES[path], rng, 3 if rounds > 4 else 1)

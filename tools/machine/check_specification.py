@@ -1,8 +1,11 @@
 """Executes call_specification.py over numbers, and compares digests with hashlib: random
 parameters, and messages that are absorbed in random pieces."""
 
+from __future__ import annotations
+
 import hashlib
 import random
+from typing import Any
 
 import call_specification as S
 import rfc7693 as R
@@ -12,37 +15,37 @@ import terms as T
 class Numbers:
     """The operations of call_specification.py over numbers."""
 
-    def number(self, n, size):
+    def number(self, n: Any, size: int) -> Any:
         return list(n.to_bytes(size, "little"))
 
-    def from_bytes(self, data):
+    def from_bytes(self, data: list) -> Any:
         return int.from_bytes(bytes(data), "little")
 
-    def below(self, j, n, x, y):
+    def below(self, j: int, n: Any, x: Any, y: Any) -> Any:
         return x if j < n else y
 
-    def plus(self, a, b):
+    def plus(self, a: Any, b: Any) -> Any:
         return a + b
 
-    def times(self, m, k):
+    def times(self, m: Any, k: int) -> Any:
         return m * k
 
-    def difference(self, a, b):
+    def difference(self, a: Any, b: Any) -> Any:
         return max(a - b, 0)
 
-    def xor(self, data, other):
+    def xor(self, data: list, other: Any) -> Any:
         return [x ^ y for x, y in zip(data, other)]
 
-    def is_zero(self, n):
+    def is_zero(self, n: Any) -> Any:
         return n == 0
 
-    def is_on(self, n):
+    def is_on(self, n: Any) -> Any:
         return int(n != 0)
 
-    def are_equal(self, x, y):
+    def are_equal(self, x: Any, y: Any) -> Any:
         return int(list(x) == list(y))
 
-    def compress(self, kind, chain, block, count, last, node):
+    def compress(self, kind: Any, chain: Any, block: Any, count: int, last: Any, node: Any) -> Any:
         words = lambda data: [T.const(kind.w, int.from_bytes(bytes(
             data[k:k + kind.bytes]), "little")) for k in range(0, len(data), kind.bytes)]
         ones = (1 << kind.w) - 1
@@ -51,7 +54,7 @@ class Numbers:
                     T.const(kind.w, node * ones))
         return [b for t in found for b in T.split(t)]
 
-    def compress_all(self, kind, chain, data, start, k, count):
+    def compress_all(self, kind: Any, chain: Any, data: Any, start: Any, k: Any, count: Any) -> Any:
         for i in range(k):
             at = start + kind.block * i
             block = [data(at + j) for j in range(kind.block)]
@@ -59,12 +62,12 @@ class Numbers:
         return chain
 
 
-def reader(data):
+def reader(data: Any) -> Any:
     """The bytes of a buffer, and 0 where a specification does not use what it reads."""
     return lambda j: data[j] if j < len(data) else 0
 
 
-def absorb(a, kind, s, data):
+def absorb(a: Any, kind: Any, s: Any, data: Any) -> Any:
     """The update that the length of the data calls for."""
     n, size, pending = len(data), kind.block, s.pending_length
     if pending + n <= size:
@@ -74,17 +77,17 @@ def absorb(a, kind, s, data):
     return S.update_many(a, kind, s, reader(data), k, n - fill - size * k)
 
 
-def lengths(rng, kind):
+def lengths(rng: Any, kind: Any) -> Any:
     """A length near a multiple of the block's."""
     return max(0, rng.choice((0, 1, 2, 3)) * kind.block + rng.choice((-1, 0, 1, rng.randrange(64))))
 
 
-def holds(conditions):
+def holds(conditions: Any) -> Any:
     total = lambda numbers: sum(n[0] * n[1] if isinstance(n, tuple) else n for n in numbers)
     return all(low <= total(numbers) <= high for numbers, low, high in conditions)
 
 
-def one(a, kind, rng):
+def one(a: Any, kind: Any, rng: Any) -> Any:
     """What differs in one run with random parameters, or None."""
     key, salt, persona = (rng.randbytes(rng.choice((0, rng.randrange(n + 1), n)))
                           for n in (kind.w, kind.w // 4, kind.w // 4))
@@ -128,7 +131,7 @@ def one(a, kind, rng):
     return None if tree != list(S.SEQUENTIAL) else plain(a, kind, size, key, text)
 
 
-def plain(a, kind, size, key, text):
+def plain(a: Any, kind: Any, size: int, key: Any, text: str) -> Any:
     """The same for the call in one."""
     wanted = getattr(hashlib, kind.name)(text, digest_size=size, key=key).digest()
     out = S.one_shot(a, kind, size, reader(key), len(key), lambda s: absorb(a, kind, s, text),
@@ -136,7 +139,7 @@ def plain(a, kind, size, key, text):
     return None if bytes(out[:size]) == wanted else "the digest of a call in one"
 
 
-def check(count):
+def check(count: int) -> Any:
     """Whether the specification agrees with hashlib: a verdict, and what differs."""
     rng, a = random.Random(5), Numbers()
     for kind in (R.BLAKE2B, R.BLAKE2S):

@@ -8,10 +8,13 @@ With VULFSJOR_TEST_HUGE=1 each pair of forms comes in both orders, and each form
 number of bits. Else only the forms for which a rule exists are.
 """
 
+from __future__ import annotations
+
 import os
 import sys
 
 import z3
+from typing import Any, Iterable, Iterator
 
 import terms as T
 
@@ -19,7 +22,7 @@ HUGE = os.environ.get("VULFSJOR_TEST_HUGE") == "1"
 C, D = 0x6a09e667f3bcc908, 0xbb67ae8584caa73b   # any two numbers
 
 
-def formula(t, memo):
+def formula(t: T.Term, memo: dict) -> Any:
     """What a term means, by the definitions of its operators only."""
     if t in memo:
         return memo[t]
@@ -50,18 +53,18 @@ def formula(t, memo):
     return f
 
 
-def part(f, i, n):
+def part(f: Any, i: int, n: int) -> Any:
     """n bytes of a word, from byte i on."""
     return z3.Extract(8 * (i + n) - 1, 8 * i, f)
 
 
-def join(parts):
+def join(parts: Iterable) -> Any:
     """The word of several parts, the lowest first."""
     parts = list(parts)[::-1]
     return parts[0] if len(parts) == 1 else z3.Concat(*parts)
 
 
-def shapes(w):
+def shapes(w: int) -> list:
     """A term of each form, over the same few variables."""
     x, y = T.var(w, "x", T.SECRET), T.var(w, "y", T.PUBLIC)
     wide = T.var(2 * w, "wide", T.JUNK)
@@ -78,7 +81,7 @@ def shapes(w):
     ]
 
 
-def binary(w):
+def binary(w: int) -> Iterator:
     """Pairs of a result and its meaning, for the rules with two operands."""
     made = {"add": lambda a, b: T.add(w, (1, a), (1, b)),
             "sub": lambda a, b: T.add(w, (1, a), (-1, b)),
@@ -94,19 +97,19 @@ def binary(w):
                      for a, b in pairs(w)]
 
 
-def pairs(w):
+def pairs(w: int) -> list:
     """The pairs of terms."""
     found = shapes(w)
     return [(a, b) for k, a in enumerate(found) for b in (found if HUGE else found[k:])]
 
 
-def counts(w, form):
+def counts(w: int, form: T.Term) -> list | range:
     """The numbers of bits by which a term is shifted."""
     few = not HUGE and form.op not in ("const", "var", "xor", "ror")
     return sorted({1, 8 % w or 7, w // 2, w - 1}) if few else range(1, w)
 
 
-def shifts(w):
+def shifts(w: int) -> Iterator:
     """The same for shifts and rotations."""
     numbers = lambda k: z3.BitVecVal(k, w)
     for name, made, means in (
@@ -123,7 +126,7 @@ def shifts(w):
                      for a in shapes(w) for k in counts(w, a)]
 
 
-def places(w):
+def places(w: int) -> Iterator:
     """The same for bytes: parts of words, moves, tests, and other terms for variables."""
     n = w // 8
     all_shapes = shapes(w)
@@ -145,7 +148,7 @@ def places(w):
          lambda f, a=a, b=b: z3.substitute(f(a), (f(x), f(b)))) for a, b in pairs(w)]
 
 
-def check(cases):
+def check(cases: list) -> tuple:
     """The first of the cases that does not hold, as text, or None; and how many have a rule."""
     memo: dict = {}
     count = 0
@@ -170,14 +173,14 @@ def check(cases):
     return None, count
 
 
-def _union(numbers):
+def _union(numbers: Any) -> int:
     result = 0
     for n in numbers:
         result |= n
     return result
 
 
-def main():
+def main() -> None:
     for w in [int(a) for a in sys.argv[1:]] or (8, 16, 32, 64):
         for table in (binary, shifts, places):
             for rule, cases in table(w):

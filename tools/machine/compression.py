@@ -1,28 +1,34 @@
 """Shows that a function computes F of RFC 7693 for all inputs, in constant time."""
 
+from __future__ import annotations
+
 import re
 import time
+from typing import Any, Callable, TYPE_CHECKING
 
 import rfc7693 as R
 import terms as T
 from machine import Fork, Region, image
 from terms import CannotShow, IsWrong
 
+if TYPE_CHECKING:
+    from program import Program
+
 STACK = 16384
 
 
-def memory_of_words(words):
+def memory_of_words(words: list) -> Callable:
     """The bytes of a list of words, as a function of the offset."""
     data = [b for t in words for b in T.split(t)]
     return lambda k: data[k]
 
 
-def flag(name, assumed):
+def flag(name: str, assumed: dict) -> T.Byte:
     """The byte of a flag, which is 0 or 1."""
     return int(assumed[name]) if name in assumed else (T.ite(8, name, 1, 0), 0)
 
 
-def mask(w, name, assumed):
+def mask(w: int, name: str, assumed: dict) -> T.Term:
     """A word of ones if the flag is on, and otherwise of zeros."""
     ones = (1 << w) - 1
     if name in assumed:
@@ -34,7 +40,8 @@ class Call:
     """A call of a function that compresses one block, or blocks of each of several messages: its
     variables, its memory, and what it must return."""
 
-    def __init__(self, program, name, kind, lanes, assumed):
+    def __init__(self, program: Program, name: str, kind: R.Kind, lanes: int,
+                 assumed: dict) -> None:
         self.program, self.kind, self.assumed = program, kind, assumed
         self.lanes = lanes
         w, n = kind.w, kind.bytes
@@ -59,11 +66,11 @@ class Call:
         self.machine.start(self.sp, self.back, [self.h] + arguments)
         self.saved = self.machine.saved()
 
-    def pointer(self, t):
+    def pointer(self, t: T.Term) -> T.Term:
         """An address as the program's memory has it: in a memory of 32 bits, its low half."""
         return T.word(T.split(t)[:self.program.width // 8])
 
-    def stack(self):
+    def stack(self) -> Region:
         """The function's part of the stack. At the entry, sp + 8 is a multiple of 16 on x86-64,
         where the return address lies above, and sp is one elsewhere."""
         top = 8 if self.program.kind == "x86_64" else 0
@@ -71,11 +78,11 @@ class Call:
         initial = lambda k: back[k] if 0 <= k < top else (T.var(8, "stack%d" % k, T.JUNK), 0)
         return Region(-STACK, top, initial, (-STACK, 0), (16, top))
 
-    def arguments(self):
+    def arguments(self) -> list:
         """The arguments after the chaining words."""
         return self.arguments_of_many() if self.lanes > 1 else self.arguments_of_one()
 
-    def arguments_of_one(self):
+    def arguments_of_one(self) -> list:
         """The block, the counter and the flags, whose higher bytes are undefined."""
         flags = []
         for name in ("last0", "node0"):
@@ -83,18 +90,18 @@ class Call:
             flags.append(T.word([flag(name, self.assumed)] + rest))
         return [self.blocks[0], self.counter] + flags
 
-    def arguments_of_many(self):
+    def arguments_of_many(self) -> list:
         """The table of blocks (addresses and numbers), the counter, and the table of flags."""
         pairs = [t for pair in zip(self.blocks, self.lengths) for t in pair]
         return [self.table("blocks", pairs), self.counter, self.flags()]
 
-    def table(self, name, words):
+    def table(self, name: str, words: list) -> T.Term:
         """A pointer to these words of 64 bits."""
         table = T.var(64, name, T.PUBLIC)
         self.regions[self.pointer(table)] = Region(0, 8 * len(words), memory_of_words(words))
         return table
 
-    def flags(self):
+    def flags(self) -> T.Term:
         """A pointer to the flags of all messages."""
         flags = T.var(64, "flags", T.PUBLIC)
         bits = [flag("%s%d" % (name, j), self.assumed) for j in range(self.lanes)
@@ -102,7 +109,7 @@ class Call:
         self.regions[self.pointer(flags)] = Region(0, 2 * self.lanes, lambda k: bits[k])
         return flags
 
-    def at_block(self, i):
+    def at_block(self, i: Any) -> None:
         """Lets the memory of the blocks be that of block i, where i is a number or a term."""
         self.regions = dict(self.regions)
         self.machine.regions = self.regions
@@ -113,29 +120,29 @@ class Call:
             base = self.pointer(T.add(64, (1, p), (1, step)))
             self.regions[base] = Region(0, size, memory_of_words(self.message[j]))
 
-    def without_blocks(self):
+    def without_blocks(self) -> None:
         """Takes the memory of the blocks away."""
         for p in self.blocks:
             del self.regions[self.pointer(p)]
 
-    def count(self):
+    def count(self) -> T.Term:
         """The number of blocks of each message."""
         return self.lengths[0]
 
-    def ends(self, left):
+    def ends(self, left: T.Term) -> list:
         """The terms one of which has to be 0 exactly if no block is left."""
         return [left, T.add(64, (-1, left))]
 
-    def counted(self, j, i):
+    def counted(self, j: int, i: Any) -> T.Term:
         """The counter of message j at block i, where i is a number or a term."""
         step = T.const(64, 0) if isinstance(i, int) else T.add(64, (self.kind.block, i))
         return T.add(64, (1, self.counter), (1, step))
 
-    def masks(self, j):
+    def masks(self, j: int) -> list:
         """The words that the flags of message j are xored in as."""
         return [mask(self.kind.w, "%s%d" % (name, j), self.assumed) for name in ("last", "node")]
 
-    def expected(self, h, i=0):
+    def expected(self, h: list, i: Any = 0) -> list:
         """F of each message, at block i."""
         found = []
         for j in range(self.lanes):
@@ -144,14 +151,14 @@ class Call:
             found.append(R.F(self.kind, h[j], self.message[j], low, high, *self.masks(j)))
         return found
 
-    def result(self, machine, j, k):
+    def result(self, machine: Any, j: int, k: int) -> T.Term:
         """Chaining word k of message j in memory."""
         n = self.kind.bytes
         base = self.pointer(self.h)
         offset = T.const(base.w, n * (k * self.lanes + j))
         return T.word(machine.load(T.add(base.w, (1, base), (1, offset)), n))
 
-    def check_return(self, machine, wanted):
+    def check_return(self, machine: Any, wanted: list) -> None:
         """The chaining words, the stack and the registers after a return."""
         for k in range(8):
             for j in range(self.lanes):
@@ -164,13 +171,13 @@ class EachCall(Call):
     """A call of a function that compresses one block of each of several messages, with a counter for
     each."""
 
-    def arguments(self):
+    def arguments(self) -> list:
         """The tables of the blocks' addresses, of the counters and of the flags."""
         self.counters = [T.var(64, "counter%d" % j, T.PUBLIC) for j in range(self.lanes)]
         return [self.table("blocks", self.blocks), self.table("counters", self.counters),
                 self.flags()]
 
-    def counted(self, j, i):
+    def counted(self, j: int, i: Any) -> T.Term:
         return self.counters[j]
 
 
@@ -178,13 +185,13 @@ class StripesCall(Call):
     """A call of a function that compresses the blocks of stripes, which hold one block of each
     message, next to each other, with the flags off. The counter is that before the first."""
 
-    def arguments(self):
+    def arguments(self) -> list:
         """The address of the stripes, the counter, and the number of stripes. The compiler has
         removed the number of bytes, which the function does not use."""
         self.blocks = self.blocks[:1]
         return [self.blocks[0], self.counter, self.count()]
 
-    def at_block(self, i):
+    def at_block(self, i: Any) -> None:
         self.regions = dict(self.regions)
         self.machine.regions = self.regions
         size = self.lanes * self.kind.block
@@ -194,32 +201,32 @@ class StripesCall(Call):
         base = self.pointer(T.add(64, (1, self.blocks[0]), (1, step)))
         self.regions[base] = Region(0, size, memory_of_words(words))
 
-    def count(self):
+    def count(self) -> T.Term:
         return T.var(64, "count", T.PUBLIC)
 
-    def ends(self, left):
+    def ends(self, left: T.Term) -> list:
         """The bytes of the blocks that are left may be counted too: they are fewer than 2^64."""
         size = self.kind.block
         return super().ends(left) + [T.add(64, (n, left)) for n in (size, -size)]
 
-    def counted(self, j, i):
+    def counted(self, j: int, i: Any) -> T.Term:
         return T.add(64, (1, super().counted(j, i)), (1, T.const(64, self.kind.block)))
 
-    def masks(self, j):
+    def masks(self, j: int) -> list:
         return [T.const(self.kind.w, 0)] * 2
 
 
 # The calls of functions with these names, besides Call.
-CALLS = {"compress_each": EachCall, "compress_in_lanes": StripesCall,
+CALLS: dict[str, type[Call]] = {"compress_each": EachCall, "compress_in_lanes": StripesCall,
          "compress_stripes": StripesCall}
 
 
-def call_of(name):
+def call_of(name: str) -> type[Call]:
     """How a function of this name is called."""
     return CALLS.get(re.split(r"\.\.|::", name)[-1], Call)
 
 
-def check_same(what, found, wanted):
+def check_same(what: str, found: T.Term, wanted: T.Term) -> Any:
     """Refuses a term that is not the one that is wanted."""
     if found is wanted:
         return
@@ -233,13 +240,14 @@ def check_same(what, found, wanted):
 class Runner:
     """Executes a function, and remembers which of its instructions were reached."""
 
-    def __init__(self, code):
+    def __init__(self, code: list) -> None:
         self.code = {i.address: i for i in code}
         self.first = code[0].address
         self.count, self.paths, self.branches, self.addresses = 0, 0, 0, 0
-        self.at, self.visited = None, set()
+        self.at: Any = None
+        self.visited: set = set()
 
-    def run(self, machine, pc=None, stop=None):
+    def run(self, machine: Any, pc: int | None = None, stop: int | None = None) -> Any:
         """Runs from an address to a return, or to the address `stop`. Returns where it stopped."""
         pc = self.first if pc is None else pc
         while True:
@@ -254,13 +262,13 @@ class Runner:
             if self.count > 200000:
                 raise CannotShow("there is no end after 200,000 instructions")
 
-    def add(self, machine):
+    def add(self, machine: Any) -> None:
         """Counts a path that a machine has taken."""
         self.paths += 1
         self.branches += machine.counts["branches"]
         self.addresses += machine.counts["addresses"]
 
-    def check_all_reached(self, free):
+    def check_all_reached(self, free: tuple) -> None:
         """Refuses code that no path has reached, except no-ops."""
         unseen = [i for i in self.code.values()
                   if i.address not in self.visited and i.name not in free]
@@ -269,7 +277,7 @@ class Runner:
                 len(unseen), unseen[0].text))
 
 
-def show_one(program, name, kind, lanes, runner):
+def show_one(program: Program, name: str, kind: R.Kind, lanes: int, runner: Runner) -> None:
     """A function that compresses one block of each message. Each flag on which it branches is tried
     both ways."""
     waiting: list = [{}]
@@ -291,7 +299,8 @@ class Loop:
     """A function that compresses a number of blocks of each of several messages: a proof by
     induction over the iterations of its only loop."""
 
-    def __init__(self, program, name, kind, lanes, runner):
+    def __init__(self, program: Program, name: str, kind: R.Kind, lanes: int,
+                 runner: Runner) -> None:
         self.runner, self.kind = runner, kind
         heads = {i.target for i in runner.code.values()
                  if i.target is not None and i.target <= i.address}
@@ -305,7 +314,7 @@ class Loop:
         self.none.without_blocks()
         self.call = make(program, name, kind, lanes, {self.count: False})
 
-    def show(self):
+    def show(self) -> None:
         """All of the proof."""
         self.runner.run(self.none.machine)
         self.none.check_return(self.none.machine, self.none.words)
@@ -327,13 +336,13 @@ class Loop:
         self.call.check_return(final, wanted)
         self.runner.add(final)
 
-    def initial(self, cell):
+    def initial(self, cell: tuple) -> T.Byte:
         """A byte of a register or of memory when the loop is first reached."""
         if cell in self.at_first:
             return self.at_first[cell]
         return self.call.regions[cell[1]].initial(cell[2])
 
-    def iterate(self, start, is_last):
+    def iterate(self, start: Any, is_last: bool) -> tuple:
         """An iteration, after which the loop ends or goes on, and the term that is 0 if it ends."""
         machine = start.copy()
         machine.assumed = dict(machine.assumed)
@@ -353,7 +362,7 @@ class Loop:
                 "ends" if end is None else "goes on", condition, "0" if is_last else "not 0"))
         return machine, condition
 
-    def group(self, cell):
+    def group(self, cell: tuple) -> tuple:
         """The bytes of the word that a byte belongs to."""
         kind, at, k = cell
         size = 8
@@ -361,7 +370,7 @@ class Loop:
             size = min(8, len(getattr(self.first, kind)[at]))
         return tuple((kind, at, k - k % size + j) for j in range(size))
 
-    def classify(self, at_second):
+    def classify(self, at_second: dict) -> None:
         """Finds what an iteration changes: words that grow by a constant, bytes of chaining words,
         and the rest. What is found is only proposed: invariant() checks it."""
         words = {t: (j, k) for j, row in enumerate(self.call.words) for k, t in enumerate(row)}
@@ -381,17 +390,17 @@ class Loop:
             else:
                 self.scratch.add(c)
 
-    def check_in_stack(self, cell):
+    def check_in_stack(self, cell: tuple) -> None:
         if cell[0] == "memory" and cell[1] is not self.call.pointer(self.call.sp):
             raise IsWrong("the loop writes outside of the stack")
 
-    def grown(self, group, more):
+    def grown(self, group: tuple, more: int) -> T.Term:
         """A word that grows, at the start of iteration i + more."""
         a, step = self.grows[group]
         i = T.word(T.split(self.i)[:a.w // 8])
         return T.add(a.w, (1, a), (step, i), (1, T.const(a.w, step * more)))
 
-    def state(self):
+    def state(self) -> dict:
         """The bytes at the head of the loop in iteration i, by what was proposed."""
         state = {c: self.initial(c) for c in set(self.at_first) | self.scratch | set(self.chain)}
         state.update({c: (T.var(8, "scratch%s" % (c,), T.JUNK), 0) for c in self.scratch})
@@ -400,7 +409,7 @@ class Loop:
             state.update(zip(group, T.split(self.grown(group, 0))))
         return state
 
-    def invariant(self):
+    def invariant(self) -> Any:
         """The machine at iteration i, after it, the condition of the end, and the chaining words
         that the iteration must leave. Bytes that are not as proposed count as undefined in the
         next attempt, and so may not be used."""
@@ -420,7 +429,7 @@ class Loop:
             self.drop(wrong & set(self.chain), after.cells(), wanted)
         raise CannotShow("no invariant of the loop is found")
 
-    def drop(self, cells, at_end, wanted):
+    def drop(self, cells: Any, at_end: Any, wanted: Any) -> None:
         """Takes bytes out of the chaining words, each of which another byte must still hold."""
         dropped = {c: self.chain.pop(c) for c in cells}
         kept = set(self.chain.values())
@@ -429,7 +438,7 @@ class Loop:
                 check_same("after an iteration, byte %d of chaining word %d of message %d" % (
                     b, k, j), T.word([at_end[c]]), T.word([T.split(wanted[j][k])[b]]))
 
-    def wrong(self, state, at_end, wanted):
+    def wrong(self, state: Any, at_end: Any, wanted: Any) -> Any:
         """The bytes that are not as proposed after an iteration."""
         grown = {c for group in self.grows for c in group}
         wrong = set()
@@ -448,7 +457,7 @@ class Loop:
         return wrong
 
 
-def show(program, name, kind, lanes):
+def show(program: Program, name: str, kind: R.Kind, lanes: int) -> tuple:
     """Proves the claim for a function, or raises Refused. Returns the runner, and the seconds."""
     T.reset()
     started = time.time()

@@ -1,5 +1,7 @@
 """Reads the sections and the symbols of an ELF file of 64 bits."""
 
+from __future__ import annotations
+
 import struct
 
 PROGBITS, SYMBOLS, RELOCATIONS, NOBITS, GROUP = 1, 2, 4, 8, 17    # types of sections
@@ -14,7 +16,7 @@ HIDDEN = 2                                                 # a visibility of sym
 class Section:
     """The header of a section, and its bytes."""
 
-    def __init__(self, name, header, data):
+    def __init__(self, name: str, header: tuple, data: bytes) -> None:
         self.name, (_, self.type, self.flags, self.address, at, self.size) = name, header
         self.data = b"" if self.type == NOBITS else data[at:at + self.size]
 
@@ -23,7 +25,7 @@ class Symbol:
     """A symbol: its type, its binding, the number of its section, and whether other libraries and
     the program that it is linked into do not see it."""
 
-    def __init__(self, name, info, other, section):
+    def __init__(self, name: str, info: int, other: int, section: int) -> None:
         self.name, self.type, self.binding, self.section = name, info & 15, info >> 4, section
         self.is_hidden = other & 3 == HIDDEN
 
@@ -31,7 +33,7 @@ class Symbol:
 class Elf:
     """The sections of a file, and its symbols."""
 
-    def __init__(self, data):
+    def __init__(self, data: bytes) -> None:
         table, = struct.unpack_from("<Q", data, 40)
         size, count, names = struct.unpack_from("<HHH", data, 58)
         headers = [struct.unpack_from("<IIQQQQI", data, table + k * size) for k in range(count)]
@@ -46,6 +48,6 @@ class Elf:
                     self.symbols.append(Symbol(text_at(strings, name), info, other, of))
 
 
-def text_at(data, at):
+def text_at(data: bytes, at: int) -> str:
     """The text that begins at a place and ends with a zero."""
     return data[at:data.index(b"\0", at)].decode()

@@ -2,7 +2,10 @@
 forgotten. What a function of the C library copies, if its length is not a number, is a choice
 byte by byte. A branch that is not decided is taken both ways."""
 
+from __future__ import annotations
+
 import itertools
+from typing import Any, Callable, Iterator
 
 import terms as T
 import x86
@@ -19,18 +22,18 @@ _COUNT = itertools.count()             # for names of variables that are used on
 class Undecided(Exception):
     """A comparison that may hold or not: the instruction is executed again for both."""
 
-    def __init__(self, compared):
+    def __init__(self, compared: tuple) -> None:
         super().__init__("a comparison of %s" % (compared,))
         self.compared = compared
 
 
-def fresh(what, taint, n=1):
+def fresh(what: str, taint: int, n: int = 1) -> list:
     """Bytes of which nothing is known: those of one variable."""
     t = T.var(8 * n, "%s%d" % (what, next(_COUNT)), taint)
     return [(t, k) for k in range(n)]
 
 
-def below(machine, j, n, a, b):
+def below(machine: Any, j: int, n: T.Term, a: T.Byte, b: T.Byte) -> T.Byte:
     """The byte a if j is below n, and otherwise b."""
     low, high = machine.unsigned(n)
     if j < low or a == b:
@@ -40,13 +43,13 @@ def below(machine, j, n, a, b):
     return choice(j, n, chosen_of(a, j, n, 0), chosen_of(b, j, n, 1))
 
 
-def choice(j, n, a, b):
+def choice(j: int, n: T.Term, a: T.Byte, b: T.Byte) -> T.Byte:
     if a == b:
         return a
     return T.var(8, ("below", j, n, a, b), T.PUBLIC | T.SECRET), 0
 
 
-def chosen_of(b, j, n, which):
+def chosen_of(b: T.Byte, j: int, n: T.Term, which: int) -> T.Byte:
     """What a byte is if j is below n, or if it is not."""
     if isinstance(b, tuple) and b[0].op == "var" and isinstance(b[0].args, tuple) and (
             b[0].args[:3] == ("below", j, n)):
@@ -54,7 +57,7 @@ def chosen_of(b, j, n, which):
     return b
 
 
-def any_of(a, b):
+def any_of(a: T.Byte, b: T.Byte) -> T.Byte:
     """A byte that is zero if and only if both are."""
     members = members_of(a) | members_of(b)
     if not members:
@@ -66,10 +69,10 @@ class Buffer:
     """Memory of a caller whose length is a term. The byte at an offset is a variable that is named
     by the buffer and the offset."""
 
-    def __init__(self, name, length, taint, writable=False):
+    def __init__(self, name: str, length: T.Term, taint: int, writable: bool = False) -> None:
         self.name, self.length, self.taint, self.writable = name, length, taint, writable
 
-    def initial(self, offset):
+    def initial(self, offset: int) -> T.Byte:
         t = offset if isinstance(offset, T.Term) else T.const(64, offset)
         return T.var(8, (self.name, t), self.taint), 0
 
@@ -79,7 +82,8 @@ class Buffer:
 class Cells:
     """Memory of a number of bytes, or of the stack, from `low` to `high`."""
 
-    def __init__(self, low, high, initial, writable=True, alignment=(8, 0)):
+    def __init__(self, low: int, high: int, initial: Callable, writable: bool = True,
+                 alignment: tuple = (8, 0)) -> None:
         self.low, self.high, self.initial = low, high, initial
         self.writable, self.alignment = writable, alignment
 
@@ -89,29 +93,32 @@ class Exact(Follower):
 
     general: list
     vector: list
+    decisions: dict
+    secret_of: Any
+    compared_bytes: Any
 
-    def begin(self, alignment, ranges, block):
+    def begin(self, alignment: tuple, ranges: dict, block: int) -> None:
         super().begin(alignment, ranges, block)
         self.decisions, self.secret_of, self.where, self.compared_bytes = {}, None, "exact", None
         # The lowest place of the stack that was used, and whether all below the frame of the call
         # was overwritten since.
         self.deepest, self.is_scrubbed = 0, False
 
-    def copy(self):
+    def copy(self) -> Any:
         other = super().copy()
         other.decisions = dict(self.decisions)
         return other
 
-    def enter(self, i):
+    def enter(self, i: Any) -> T.Term:
         link = super().enter(i)
         self.go_down(self.lowest())
         return link
 
-    def go_down(self, low):
+    def go_down(self, low: int) -> None:
         """Uses the stack down to a place."""
         self.deepest, self.is_scrubbed = min(self.deepest, low), False
 
-    def scrub(self, count):
+    def scrub(self, count: int) -> None:
         """A call of scrub_stack, which overwrites so many bytes below its caller's frame. Of what
         the frames above keep, nothing may be secret."""
         if self.deepest < self.lowest() - count or any(
@@ -119,7 +126,7 @@ class Exact(Follower):
             raise IsWrong("scrub_stack overwrites %d bytes, and the call has used more" % count)
         self.is_scrubbed = True
 
-    def clobber(self):
+    def clobber(self) -> None:
         super().clobber()
         for name in self.FILES:
             for at, data in enumerate(getattr(self, name)):
@@ -128,39 +135,39 @@ class Exact(Follower):
                     getattr(self, name)[at] = [
                         y if x is secret() else x for x, y in zip(data, new)]
 
-    def new(self, w, what="", limits=None):
+    def new(self, w: int, what: str = "", limits: Any = None) -> T.Term:
         return self.renew(T.var(w, "new%d" % next(_COUNT), T.PUBLIC), limits)
 
-    def cleaned(self, data, is_word):
+    def cleaned(self, data: list, is_word: bool) -> list:
         return [b if isinstance(b, int) or b not in (secret(), unknown()) else
                 fresh("new", T.SECRET if is_secret(b) else T.PUBLIC)[0] for b in data]
 
     # Numbers.
 
-    def single(self):
+    def single(self) -> dict:
         """The variables of which the value is known."""
         return {v: T.const(v.w, low) for v, (low, high, _) in self.ranges.items()
                 if low == high and v.op == "var"}
 
-    def settled(self, t):
+    def settled(self, t: T.Term) -> T.Term:
         """A word, in which variables of which the value is known are numbers."""
         return T.substitute(t, self.single(), {})
 
-    def settler(self):
+    def settler(self) -> Callable:
         """The same for a byte, if it is public."""
         single = self.single()
         memo: dict = {}
         return lambda b: b if isinstance(b, int) or b[0].taint != T.PUBLIC else T.split(
             T.substitute(b[0], single, memo))[b[1]]
 
-    def settle(self):
+    def settle(self) -> None:
         """The same of all bytes that a path has made, after it has learnt something."""
         byte = self.settler()
         for name in self.FILES:
             setattr(self, name, [[byte(b) for b in r] for r in getattr(self, name)])
         self.memory = {at: byte(b) for at, b in self.memory.items()}
 
-    def is_as_at(self, entry, first):
+    def is_as_at(self, entry: tuple, first: int) -> bool:
         """Whether the return address, the stack pointer and the registers of the caller are those
         of the entry, from the first of these on."""
         found = self.at_entry()
@@ -169,7 +176,7 @@ class Exact(Follower):
         return (first > 0 or found[0] is self.settled(entry[0])) and found[1] is entry[1] and (
             [[byte(b) for b in r] for r in found[2]] == saved)
 
-    def range_of(self, t):
+    def range_of(self, t: T.Term) -> tuple:
         bs = T.split(t)
         while bs and bs[-1] == 0:
             bs.pop()
@@ -188,11 +195,11 @@ class Exact(Follower):
             low, high = low + (p << 8 * k), high + (q << 8 * k)
         return low, high, 1
 
-    def range_of_byte(self, b):
+    def range_of_byte(self, b: Any) -> Any:
         low, high = self.unsigned(b[0]) if b[1] == 0 and b[0].op != "cat" else (0, 255)
         return (low, high) if high <= 255 else (0, 255)
 
-    def integer(self, t):
+    def integer(self, t: T.Term) -> tuple | None:
         """A word as a number plus the sum of variables with coefficients, if it does not wrap."""
         constant, sign, rest = self.parts(t)
         low, high, _ = self.range_of(t)
@@ -201,13 +208,13 @@ class Exact(Follower):
         return constant - (low >> t.w << t.w), sign, rest
 
     @staticmethod
-    def parts(t):
+    def parts(t: T.Term) -> tuple:
         constant, items = T.linear(t)
         if not items:
             return signed(t.w, t.args) if t.w == 64 else t.args, 1, T.const(t.w, 0)
         return signed(t.w, constant), 1, T.add(t.w, *[(k, u) for u, k in items.items()])
 
-    def range_of_combination(self, *words):
+    def range_of_combination(self, *words: tuple) -> tuple | None:
         """The range of a sum of words with signs, as integers, or None."""
         constant, total = 0, []
         for sign, t in words:
@@ -228,7 +235,7 @@ class Exact(Follower):
             low, high = max(low, -negative[1]), min(high, -negative[0])
         return constant + low, constant + high
 
-    def decided(self, relation, a, b):
+    def decided(self, relation: str, a: T.Term, b: T.Term) -> bool | None:
         """Whether a relation of two words holds, or None."""
         if (relation, a, b) in self.decisions:
             return self.decisions[relation, a, b]
@@ -254,7 +261,7 @@ class Exact(Follower):
             holds, fails = fails, holds
         return True if holds else False if fails else None
 
-    def are_apart(self, a, b):
+    def are_apart(self, a: T.Term, b: T.Term) -> bool:
         """Whether a is the difference of two places in memory that both have b bytes. Arguments do
         not overlap, so it is then not below b."""
         items = T.linear(a)[1]
@@ -266,7 +273,7 @@ class Exact(Follower):
         offset = T.add(a.w, (1, a), (-1, first), (1, second))
         return self.has_room(first, second, offset, b)
 
-    def has_room(self, first, second, offset, n):
+    def has_room(self, first: T.Term, second: T.Term, offset: T.Term, n: T.Term) -> bool:
         """Whether there are two places with n bytes each in two regions, which differ by an
         offset. One in a region of a known size is a number."""
         region, other = self.regions[first], self.regions[second]
@@ -281,7 +288,7 @@ class Exact(Follower):
         there = T.add(64, (-1, there)) if there is not zero else there
         return self.inside(region, at, n) and self.inside(other, there, n)
 
-    def inside(self, region, at, n):
+    def inside(self, region: Cells, at: T.Term, n: T.Term) -> bool:
         """Whether n bytes from an offset on are in a region."""
         if isinstance(region, Buffer):
             low, high = 0, region.length
@@ -294,7 +301,7 @@ class Exact(Follower):
         start = self.integer(at)
         return start is not None and found is not None and found[0] >= 0
 
-    def assume(self, relation, a, b):
+    def assume(self, relation: str, a: T.Term, b: T.Term) -> bool:
         answer = self.decided(relation, a, b)
         if answer is not None:
             return answer
@@ -304,7 +311,7 @@ class Exact(Follower):
 
     # Flags.
 
-    def computed(self, kind, f, x, y):
+    def computed(self, kind: str, f: Callable, x: list, y: list) -> list:
         a, b = T.word(x), T.word(y)
         if kind == "product":
             need_public(T.word(x + y), "the time of a product")
@@ -319,7 +326,7 @@ class Exact(Follower):
             self.secret_of = self.flags, r
         return T.split(r)
 
-    def truth(self, condition):
+    def truth(self, condition: str) -> Any:
         if self.flags == ("secret",):
             return "secret"
         compared = self.compared(condition)
@@ -330,7 +337,7 @@ class Exact(Follower):
             raise Undecided(compared)
         return answer
 
-    def bit(self, condition):
+    def bit(self, condition: str) -> Any:
         truth = self.truth(condition)
         if truth != "secret":
             return int(truth)
@@ -338,17 +345,18 @@ class Exact(Follower):
             return fresh("new", T.SECRET)[0]
         return is_zero(self.secret_of[1])
 
-    def chosen(self, condition, a, b):
+    def chosen(self, condition: str, a: list, b: list) -> list:
         truth = self.truth(condition)
         if truth == "secret":
             return fresh("new", T.SECRET, len(a))
         return a if truth else b
 
-    def outcomes(self, i):
+    def outcomes(self, i: Any) -> Iterator:
         compared = self.condition(i)
         if compared is None:
             raise CannotShow("a condition that is not modelled: %s" % i.name)
-        need_public(compared[1], "a branch"), need_public(compared[2], "a branch")
+        need_public(compared[1], "a branch")
+        need_public(compared[2], "a branch")
         answer = self.decided(*compared)
         if answer is None:
             raise Undecided(compared)
@@ -357,13 +365,13 @@ class Exact(Follower):
 
     # Words.
 
-    def norm(self, b):
+    def norm(self, b: T.Byte) -> T.Byte:
         """A byte of a public word, by what is known of its range."""
         if isinstance(b, int) or b[0].taint != T.PUBLIC or b[0].op not in ("var", "add", "slice"):
             return b
         return self.bytes_of(b[0])[b[1]]
 
-    def bytes_of(self, t):
+    def bytes_of(self, t: T.Term) -> list:
         """The bytes of a word: of a sum whose parts are in bytes of their own, those of the parts."""
         constant, items = T.linear(t)
         data = list(constant.to_bytes(t.w // 8, "little"))
@@ -375,13 +383,13 @@ class Exact(Follower):
             data[place:place + size] = T.split(u)[:size]
         return data
 
-    def normal(self, t):
+    def normal(self, t: T.Term) -> list:
         return [self.norm(b) for b in T.split(t)]
 
-    def exclusive(self, a, b):
+    def exclusive(self, a: T.Term, b: T.Term) -> Any:
         return T.word(bitwise(T.xor, self.normal(a), self.normal(b)))
 
-    def either(self, a, b):
+    def either(self, a: T.Term, b: T.Term) -> T.Term:
         for t, u in ((a, b), (b, a)):
             if t.op == "const" and self.is_clear(u, t.args):
                 return T.add(a.w, (1, t), (1, u))
@@ -389,10 +397,10 @@ class Exact(Follower):
                        self.or_byte(x, y) for x, y in zip(self.normal(a), self.normal(b))])
 
     @staticmethod
-    def or_byte(x, y):
+    def or_byte(x: T.Byte, y: T.Byte) -> T.Byte:
         return T.split(T.either(8, T.word([x]), T.word([y])))[0]
 
-    def divided(self, t, m):
+    def divided(self, t: T.Term, m: int) -> Any:
         """A sum as a multiple of m and a rest between 0 and m - 1, or None."""
         constant, items = T.linear(t)
         constant = signed(t.w, constant)
@@ -406,7 +414,7 @@ class Exact(Follower):
             return None
         return T.add(t.w, (1, t), (-1, rest)), rest
 
-    def masked(self, a, b):
+    def masked(self, a: Any, b: Any) -> Any:
         if a is b:
             return a
         for t, u in ((a, b), (b, a)):
@@ -421,7 +429,7 @@ class Exact(Follower):
                 return self.divided(t, u.args + 1)[1]
         return T.both(a.w, T.word(self.normal(a)), T.word(self.normal(b)))
 
-    def shifted_right(self, a, k):
+    def shifted_right(self, a: Any, k: Any) -> Any:
         found = self.divided(a, 1 << k) if a.op in ("add", "var") and not a.taint & ~T.PUBLIC else None
         low, high, _ = self.range_of(found[0]) if found else (-1, 0, 0)
         if not 0 <= low <= high < 1 << a.w:
@@ -430,18 +438,18 @@ class Exact(Follower):
         return T.add(a.w, (1, T.const(a.w, signed(a.w, constant) >> k)),
                      *[(signed(a.w, c) >> k, u) for u, c in items.items()])
 
-    def combined(self, name, x, y):
+    def combined(self, name: str, x: list, y: list) -> list:
         if name not in ("eor", "orr"):
             return [self.mixed(x + y) for _ in x]
         f = self.exclusive if name == "eor" else self.either
         return joined(T.split(f(T.word(p), T.word(q))) for p, q in zip(chunks(x, 8), chunks(y, 8)))
 
-    def mixed(self, data):
+    def mixed(self, data: list) -> Any:
         return fresh("new", T.SECRET if any(map(is_secret, data)) else T.PUBLIC)[0]
 
     # Memory.
 
-    def place(self, address, size, aligned):
+    def place(self, address: T.Term, size: int, aligned: bool) -> tuple:
         """The base, the offset as a term, and the region of an access."""
         base, offset, region = self.region_of(address)
         if not self.inside(region, offset, T.const(64, size)):
@@ -450,7 +458,7 @@ class Exact(Follower):
             self.check_aligned(region, offset, size, address)
         return base, offset, region
 
-    def check_aligned(self, region, offset, size, address):
+    def check_aligned(self, region: Cells, offset: T.Term, size: int, address: T.Term) -> None:
         unit, start = region.alignment if isinstance(region, Cells) else (1, 0)
         if base_of(offset) is None or unit % size:
             if base_of(offset) is not None and self.regions.get(self.stack) is region:
@@ -459,7 +467,7 @@ class Exact(Follower):
         if (start + base_of(offset)) % size:
             raise IsWrong("%r is not a multiple of %d" % (address, size))
 
-    def region_of(self, address):
+    def region_of(self, address: T.Term) -> tuple:
         need_public(address, "an address")
         bases = [u for u, k in T.linear(address)[1].items() if u in self.regions and k == 1]
         if len(bases) != 1:
@@ -471,18 +479,18 @@ class Exact(Follower):
             raise IsWrong("%r is below the stack" % address)
         return bases[0], offset, self.regions[bases[0]]
 
-    def byte_at(self, base, offset, region):
+    def byte_at(self, base: T.Term, offset: int, region: Cells) -> T.Byte:
         """The byte at an offset: a number, or a term in memory that is only read."""
         if isinstance(offset, T.Term) and region.writable:
             raise CannotShow("it reads at an offset that is not a number: %r" % offset)
         found = self.memory.get((base, offset))
         return region.initial(offset) if found is None else found
 
-    def load(self, address, size, aligned=False):
+    def load(self, address: T.Term, size: Any, aligned: bool = False) -> list:
         base, offset, region = self.place(address, size, aligned)
         return [self.byte_at(base, at, region) for at in offsets(offset, size)]
 
-    def store(self, address, data, aligned=False):
+    def store(self, address: T.Term, data: list, aligned: bool = False) -> None:
         base, offset, region = self.place(address, len(data), aligned)
         self.check_writable(region, address)
         data = self.cleaned(data, False)
@@ -492,13 +500,13 @@ class Exact(Follower):
         for at, b in zip(offsets(offset, len(data)), data):
             self.memory[base, at] = b
 
-    def check_writable(self, region, address):
+    def check_writable(self, region: Any, address: T.Term) -> None:
         if not region.writable:
             raise IsWrong("the function writes at %r, which it may only read" % address)
 
     # Functions of the C library.
 
-    def check_disjoint(self, what, to, size, source, length):
+    def check_disjoint(self, what: str, to: T.Term, size: int, source: T.Term, length: int) -> None:
         """Refuses a function that may write to bytes that it reads, of two places with at most so
         many bytes. Arguments do not overlap."""
         (base, at, _), (other, start, _) = self.region_of(to), self.region_of(source)
@@ -506,7 +514,7 @@ class Exact(Follower):
         if base is other and size and length and -size < high and low < length:
             raise IsWrong("%s of %d bytes to %r, from %r" % (what, size, to, source))
 
-    def copy_memory(self, to, source, length):
+    def copy_memory(self, to: T.Term, source: T.Term, length: T.Term) -> None:
         if length.op == "const":
             if length.args:
                 self.store(to, self.load(source, length.args))
@@ -516,7 +524,7 @@ class Exact(Follower):
         data = [self.byte_at(base, at, region) for at in offsets(offset, self.most(length))]
         self.write_some(to, data, length)
 
-    def fill_memory(self, to, byte, length):
+    def fill_memory(self, to: T.Term, byte: T.Byte, length: T.Term) -> None:
         if length.op == "const":
             if length.args:
                 self.store(to, [byte] * length.args)
@@ -527,7 +535,8 @@ class Exact(Follower):
             return
         self.write_some(to, [byte] * self.most(length), length)
 
-    def fill_from(self, base, offset, region, byte, length, to):
+    def fill_from(self, base: T.Term, offset: T.Term, region: Cells, byte: T.Byte, length: T.Term,
+                  to: T.Term) -> None:
         """Fills to an end that is a number, from an offset that is not."""
         end = T.add(64, (1, offset), (1, length))
         low, high = self.range_of(offset)[:2]
@@ -541,7 +550,7 @@ class Exact(Follower):
             j = k - signed(64, constant)
             self.memory[base, k] = below(self, j, size, self.byte_at(base, k, region), byte)
 
-    def write_some(self, to, data, length):
+    def write_some(self, to: T.Term, data: list, length: T.Term) -> None:
         base, offset, region = self.region_of(to)
         self.check_inside(region, offset, length, to)
         self.check_writable(region, to)
@@ -551,24 +560,24 @@ class Exact(Follower):
             old = self.byte_at(base, at, region)
             self.memory[base, at] = below(self, j, length, data[j], old)
 
-    def most(self, length):
+    def most(self, length: T.Term) -> int:
         need_public(length, "a length")
         high = self.unsigned(length)[1]
         if high > 256:
             raise CannotShow("a copy of %r bytes" % length)
         return high
 
-    def check_inside(self, region, offset, length, address):
+    def check_inside(self, region: Any, offset: T.Term, length: T.Term, address: T.Term) -> None:
         if not self.inside(region, offset, length):
             raise IsWrong("%r bytes at %r are not all in its memory" % (length, address))
 
 
-def base_of(offset):
+def base_of(offset: T.Term) -> Any:
     """An offset as a number, or None."""
     return signed(64, offset.args) if offset.op == "const" else None
 
 
-def offsets(offset, size):
+def offsets(offset: T.Term, size: int) -> Any:
     """The offsets of the bytes from one on: numbers, or terms."""
     at = base_of(offset)
     if at is not None:
@@ -576,11 +585,11 @@ def offsets(offset, size):
     return [T.add(64, (1, offset), (1, T.const(64, k))) for k in range(size)]
 
 
-def is_secret_byte(b):
+def is_secret_byte(b: T.Byte) -> bool:
     return not isinstance(b, int) and bool(b[0].taint & T.SECRET)
 
 
-def is_zero(t):
+def is_zero(t: Any) -> T.Byte:
     """A byte that is 1 if a secret word is zero, and otherwise 0."""
     members: frozenset = frozenset()
     for b in T.split(t):
@@ -588,7 +597,7 @@ def is_zero(t):
     return (T.var(8, ("zero", members), T.SECRET), 0) if members else 1
 
 
-def members_of(b):
+def members_of(b: T.Byte) -> frozenset:
     """Bytes that all are zero if and only if this one is."""
     if b == 0:
         return frozenset()
@@ -603,19 +612,19 @@ class ExactX86(Exact, FollowX86):
 
     BITWISE = {"pxor": "xor", "xorps": "xor", "por": "or", "orps": "or"}
 
-    def compared(self, condition):
+    def compared(self, condition: str) -> tuple | None:
         if self.flags and self.flags[0] == "add" and condition in ("b", "ae"):
             return ("carry" if condition == "b" else "no carry",) + self.flags[1:3]
         return super().compared(condition)
 
-    def with_carry(self, to, source, sign):
+    def with_carry(self, to: x86.Operand, source: x86.Operand, sign: int) -> None:
         carry = self.truth("b")
         if carry not in (True, False):
             raise CannotShow("a carry that depends on a secret")
         self.binary_word("other", lambda a, b: T.add(
             a.w, (1, a), (sign, b), (sign, T.const(a.w, int(carry)))), to, source)
 
-    def mix(self, name, ops, vex):
+    def mix(self, name: str, ops: list, vex: bool) -> None:
         sources = [o for o in (ops[1:] if vex else ops) if o.kind != "number"]
         data = [self.read(o, ops[0].size) for o in sources]
         count = ops[-1].value if ops[-1].kind == "number" else None
@@ -636,7 +645,7 @@ class ExactX86(Exact, FollowX86):
             result = fresh("new", taint, ops[0].size)
         self.write(ops[0], result, vex)
 
-    def vector_step(self, i):
+    def vector_step(self, i: Any) -> None:
         name = i.name[i.name.startswith("v"):]
         if name in (*x86.PERMUTATIONS, *x86.ROTATIONS, *x86.TERNARY):
             x86.X86.vector_step(self, i)
@@ -647,7 +656,7 @@ class ExactX86(Exact, FollowX86):
 class ExactArm(Exact, FollowArm):
     """AArch64."""
 
-    def condition(self, i):
+    def condition(self, i: Any) -> tuple:
         if i.name not in ("tbz", "tbnz"):
             return super().condition(i)
         o, k = i.operands[:2]
@@ -655,16 +664,16 @@ class ExactArm(Exact, FollowArm):
         bit = self.masked(byte, T.const(8, 1 << k.value % 8))
         return "==" if i.name == "tbz" else "!=", bit, T.const(8, 0)
 
-    def compare(self, name, ops):
+    def compare(self, name: str, ops: list) -> bool:
         if name == "ccmp":             # its flags are of one comparison or of another
             raise CannotShow("a comparison that depends on another is not modelled in whole calls")
         return super().compare(name, ops)
 
-    def bitfield(self, a, low, size):
+    def bitfield(self, a: T.Term, low: int, size: int) -> Any:
         data = self.masked(a, T.const(a.w, (1 << size) - 1))
         return T.add(a.w, (1 << low, data))
 
-    def compared(self, condition):
+    def compared(self, condition: str) -> tuple | None:
         if self.flags and self.flags[0] == "add" and condition in ("cs", "cc"):
             return ("carry" if condition == "cs" else "no carry",) + self.flags[1:3]
         return super().compared(condition)

@@ -5,8 +5,10 @@ address that may depend on a secret is refused.
 Public words are terms over public variables, of which each has a range. So the offsets of memory
 are known, or within bounds. Where paths meet, what differs becomes a new variable."""
 
+from __future__ import annotations
+
 import copy
-from typing import Any
+from typing import Any, Callable, Iterator
 
 import terms as T
 from machine import Machine, need_public
@@ -17,29 +19,29 @@ TABLE_STEP = 64                        # bytes from which an index is into a tab
 _BYTES: list = []                      # a secret byte, a public one, and a secret bit
 
 
-def reset():
+def reset() -> None:
     """Forgets all terms."""
     T.reset()
     _BYTES[:] = [(T.var(8, "secret", T.SECRET), 0), (T.var(8, "public", T.PUBLIC), 0),
                  (T.var(8, "secret bit", T.SECRET), 0)]
 
 
-def secret():
+def secret() -> T.Byte:
     """A secret byte. All are the same term, because nothing is known about any."""
     return _BYTES[0]
 
 
-def unknown():
+def unknown() -> T.Byte:
     """A public byte about which nothing is known."""
     return _BYTES[1]
 
 
-def secret_bit():
+def secret_bit() -> T.Byte:
     """A secret byte that is 0 or 1."""
     return _BYTES[2]
 
 
-def has_name(b):
+def has_name(b: Any) -> Any:
     """Whether a secret byte keeps its name: a bit, and what a register has at the entry, which the
     call must restore."""
     return b == secret_bit() or b[0].op == "var" and b[0].taint == T.JUNK
@@ -49,17 +51,18 @@ class Memory:
     """Memory from `low` to `high`. `initial` returns the byte at an offset. If it is uniform,
     offsets don't matter, and what is written to it is secret already."""
 
-    def __init__(self, low, high, initial, writable=True, uniform=False):
+    def __init__(self, low: int, high: int, initial: Callable, writable: bool = True,
+                 uniform: bool = False) -> None:
         self.low, self.high, self.initial = low, high, initial
         self.writable, self.uniform = writable, uniform
-        self.table = None              # of a table of messages: what returns an entry's bytes
+        self.table: Any = None         # of a table of messages: what returns an entry's bytes
 
 
-def is_secret(b):
+def is_secret(b: T.Byte) -> bool:
     return not isinstance(b, int) and bool(b[0].taint & ~T.PUBLIC)
 
 
-def joined_byte(a, b):
+def joined_byte(a: T.Byte, b: T.Byte) -> T.Byte:
     """A byte that is one of both."""
     if a == b:
         return a
@@ -69,7 +72,7 @@ def joined_byte(a, b):
 class Aligned(CannotShow):
     """The stack is aligned to more bytes than is known of it at the entry."""
 
-    def __init__(self, need):
+    def __init__(self, need: Any) -> None:
         super().__init__("the stack is aligned to %d bytes" % need)
         self.need = need
 
@@ -81,20 +84,25 @@ class Follower(Ranges, Machine):
     ARGUMENTS: tuple = ()              # the registers of arguments
     RELATIONS: dict = {}               # what a condition compares, see compared()
     flags: Any
+    facts: dict
 
-    def condition(self, i):
+    def enter(self, i: Any) -> Any:
+        """What a call does before its function starts. Returns the return address."""
+        raise NotImplementedError
+
+    def condition(self, i: Any) -> Any:
         """What a conditional jump compares."""
         raise NotImplementedError
 
-    def at_entry(self):
+    def at_entry(self) -> Any:
         """What a return must find: its address, the stack pointer, and the caller's registers."""
         raise NotImplementedError
 
-    def clobber(self):
+    def clobber(self) -> Any:
         """What a function may leave in the registers that do not belong to its caller."""
         raise NotImplementedError
 
-    def begin(self, alignment, ranges, block):
+    def begin(self, alignment: tuple, ranges: dict, block: int) -> None:
         """Adds what the models do not have. `alignment` is that of the stack: a power of two, and
         the stack pointer modulo that. An index that has no bound stays within a block."""
         self.alignment, self.block = alignment, block
@@ -106,7 +114,7 @@ class Follower(Ranges, Machine):
         self.flags = None              # the comparison that the flags are from
         self.where = ""                # the path of calls and the instruction, for new variables
 
-    def copy(self):
+    def copy(self) -> Any:
         other = copy.copy(self)
         for name in self.KNOWN:
             setattr(other, name, dict(getattr(self, name)))
@@ -114,7 +122,7 @@ class Follower(Ranges, Machine):
             setattr(other, name, [list(r) for r in getattr(self, name)])
         return other
 
-    def cleaned(self, data, is_word):
+    def cleaned(self, data: list, is_word: bool) -> list:
         """Bytes as they are kept: what depends on a secret is only secret. A word of which a byte
         is not known is a new variable."""
         data = [secret() if is_secret(b) and not has_name(b) else b for b in data]
@@ -125,13 +133,13 @@ class Follower(Ranges, Machine):
         fresh = lambda k: (self.new(8, "=%d." % k), 0)
         return [fresh(k) if b is unknown() else b for k, b in enumerate(data)]
 
-    def is_bit(self, b):
+    def is_bit(self, b: T.Byte) -> bool:
         """Whether a byte is 0 or 1."""
         return b == secret_bit() or not is_secret(b) and self.unsigned(T.word([b]))[1] <= 1
 
     # Flags.
 
-    def computed(self, kind, f, x, y):
+    def computed(self, kind: str, f: Callable, x: list, y: list) -> list:
         """The bytes of a result of two words, and the flags from it. f returns a term, the range
         of one, or None."""
         a, b = T.word(x), T.word(y)
@@ -146,7 +154,7 @@ class Follower(Ranges, Machine):
         self.flags = kind, a, b, r
         return T.split(r)
 
-    def compared(self, condition):
+    def compared(self, condition: str) -> tuple | None:
         """What a condition compares, as (relation, word, word), or None."""
         if self.flags is None:
             raise CannotShow("the flags are not known")
@@ -158,7 +166,7 @@ class Follower(Ranges, Machine):
             return relation, r, T.const(r.w, 0)
         return None
 
-    def learn(self, relation, a, b, holds):
+    def learn(self, relation: str, a: T.Term, b: T.Term, holds: bool) -> bool:
         """Learns that a comparison holds or does not, and what made a byte that is now known to be
         0 or not. Returns whether that may be."""
         if not self.assume(relation if holds else OPPOSITE[relation], a, b):
@@ -167,11 +175,11 @@ class Follower(Ranges, Machine):
         known: tuple = self.facts[a][low > 0] if a in self.facts and (low > 0 or high == 0) else ()
         return all(self.learn(*other) for other in known)
 
-    def truth(self, condition):
+    def truth(self, condition: Any) -> Any:
         """Whether a condition holds, if that is known, or "secret"."""
         if self.flags == ("secret",):
             return "secret"
-        compared = self.compared(condition)
+        compared: Any = self.compared(condition)
         for holds in (True, False) if compared else ():
             kept = self.ranges, self.residues
             self.ranges, self.residues = map(dict, kept)
@@ -182,7 +190,7 @@ class Follower(Ranges, Machine):
                 return not holds
         return None
 
-    def chosen(self, condition, a, b):
+    def chosen(self, condition: str, a: list, b: list) -> list:
         """The bytes a if a condition holds, and otherwise b, without a branch."""
         truth = self.truth(condition)
         if truth in (True, False):
@@ -191,7 +199,7 @@ class Follower(Ranges, Machine):
             return [secret()] * len(a)
         return a if a == b else self.joined(self, self, a, b, "?", 0)
 
-    def bit(self, condition):
+    def bit(self, condition: str) -> Any:
         """A byte that is 1 if a condition holds, and otherwise 0."""
         truth = self.truth(condition)
         if truth in (True, False):
@@ -204,7 +212,7 @@ class Follower(Ranges, Machine):
             self.facts = {**self.facts, x: tuple(((*compared, on),) for on in (False, True))}
         return x, 0
 
-    def outcomes(self, i):
+    def outcomes(self, i: Any) -> Iterator:
         """The states after a conditional jump, each with whether it jumps."""
         compared = self.condition(i)
         self.by_numbers = compared is not None and compared[1].op == compared[2].op == "const"
@@ -214,7 +222,7 @@ class Follower(Ranges, Machine):
             if compared is None or m.learn(*compared, jumps):
                 yield m, jumps
 
-    def either(self, a, b):
+    def either(self, a: T.Term, b: T.Term) -> T.Term:
         """An or. If it is 0, both are."""
         for t, u in ((a, b), (b, a)):
             if t.op == "const" and (t.args == 0 or self.is_clear(u, t.args)):
@@ -225,7 +233,7 @@ class Follower(Ranges, Machine):
             self.facts = {**self.facts, r: (self.facts[a][0] + self.facts[b][0], ())}
         return r
 
-    def is_clear(self, address, n):
+    def is_clear(self, address: T.Term, n: int) -> bool:
         """Whether an address on the stack has none of the lowest bits that are on in a number."""
         constant, items = T.linear(address)
         if items != {self.stack: 1} or n > 256:
@@ -235,7 +243,7 @@ class Follower(Ranges, Machine):
             raise Aligned(need)
         return (constant + self.alignment[1]) % need & n == 0
 
-    def masked(self, a, b):
+    def masked(self, a: T.Term, b: T.Term) -> Any:
         """An and. One that clears the lowest bits only subtracts them. If it is not 0, neither of
         both is 0."""
         if a.op == b.op == "const":
@@ -258,24 +266,24 @@ class Follower(Ranges, Machine):
             return r
         return 0, n, n & -n or 1
 
-    def exclusive(self, a, b):
+    def exclusive(self, a: T.Term, b: T.Term) -> None:
         """An exclusive or, of which nothing is known."""
 
-    def shifted_right(self, a, k):
+    def shifted_right(self, a: T.Term, k: int) -> Any:
         """The range of a word that is shifted to the right."""
         return tuple(n >> k for n in self.unsigned(a)) + (1,)
 
-    def combined(self, name, x, y):
+    def combined(self, name: str, x: list, y: list) -> list:
         """The bytes of an operation on vectors."""
         return [self.mixed(x + y)] * len(x)
 
-    def mixed(self, data):
+    def mixed(self, data: list) -> T.Byte:
         """A byte that may depend on all of these."""
         return secret() if any(map(is_secret, data)) else unknown()
 
     # Memory.
 
-    def place(self, address, size, aligned):
+    def place(self, address: T.Term, size: int, aligned: bool) -> tuple:
         """The base, the first and the last offset, and the region of an access."""
         need_public(address, "an address")
         constant, items = T.linear(address)
@@ -298,11 +306,11 @@ class Follower(Ranges, Machine):
             high = low + self.block - size
         return base, low, high, region
 
-    def byte(self, base, k, region):
+    def byte(self, base: T.Term, k: int, region: Any) -> T.Byte:
         found = self.memory.get((base, k))
         return region.initial(k) if found is None else found
 
-    def load(self, address, size, aligned=False):
+    def load(self, address: T.Term, size: Any, aligned: bool = False) -> list:
         base, low, high, region = self.place(address, size, aligned)
         if region.table:
             return region.table(self, low, size)
@@ -313,7 +321,7 @@ class Follower(Ranges, Machine):
         data = [self.byte(base, k, region) for k in range(low, high + size)]
         return [secret() if any(map(is_secret, data)) else unknown()] * size
 
-    def store(self, address, data, aligned=False):
+    def store(self, address: T.Term, data: list, aligned: bool = False) -> None:
         base, low, high, region = self.place(address, len(data), aligned)
         if not region.writable:
             raise IsWrong("the function writes at %r, which it may only read" % address)
@@ -326,13 +334,13 @@ class Follower(Ranges, Machine):
         else:
             self.smear(base, low, high + len(data), region, data)
 
-    def smear(self, base, low, high, region, data):
+    def smear(self, base: T.Term, low: int, high: int, region: Memory, data: list) -> None:
         """Writes at a place that is not known: each byte may be an old one or a new one."""
         new = secret() if any(map(is_secret, data)) else unknown()
         for k in range(low, high):
             self.memory[base, k] = joined_byte(self.byte(base, k, region), new)
 
-    def copy_memory(self, to, source, length):
+    def copy_memory(self, to: T.Term, source: T.Term, length: T.Term) -> None:
         """memcpy and memmove."""
         need_public(length, "a length")
         low, high = self.unsigned(length)
@@ -344,7 +352,7 @@ class Follower(Ranges, Machine):
             self.byte(base, k, region) for k in range(first, self.end_of(source, length))]
         self.write_some(to, data, length)
 
-    def fill_memory(self, to, b, length):
+    def fill_memory(self, to: T.Term, b: T.Byte, length: T.Term) -> None:
         """memset."""
         need_public(length, "a length")
         low, high = self.unsigned(length)
@@ -353,7 +361,7 @@ class Follower(Ranges, Machine):
         else:
             self.write_some(to, [b], length)
 
-    def write_some(self, to, data, length):
+    def write_some(self, to: T.Term, data: list, length: T.Term) -> None:
         """Writes some of these bytes, in any order, over a length that is not known."""
         base, first, _, region = self.place(to, 0, False)
         if not region.writable:
@@ -361,13 +369,13 @@ class Follower(Ranges, Machine):
         if not region.uniform:
             self.smear(base, first, self.end_of(to, length), region, data)
 
-    def end_of(self, address, length):
+    def end_of(self, address: T.Term, length: T.Term) -> int:
         """The end of a range of memory whose length is not known."""
         base, low, _, region = self.place(address, 0, False)
         high = self.range_of(T.add(64, (1, address), (1, length), (-1, base)))[1]
         return min(high, low + self.block)
 
-    def aligned_stack(self, address, low):
+    def aligned_stack(self, address: T.Term, low: int) -> Any:
         """An address on the stack, rounded down to a multiple of a power of two."""
         constant, items = T.linear(address)
         if items != {self.stack: 1}:
@@ -378,12 +386,12 @@ class Follower(Ranges, Machine):
             raise Aligned(low)
         return T.add(64, (1, address), (-1, T.const(64, (constant + self.alignment[1]) % low)))
 
-    def check_stack(self):
+    def check_stack(self) -> None:
         """Refuses a call at which the stack is not aligned as the calling convention says."""
         if (self.lowest() + self.alignment[1]) % 16:
             raise IsWrong("the stack pointer is not a multiple of 16 at a call")
 
-    def forget_below(self):
+    def forget_below(self) -> None:
         """Forgets the stack below its pointer, where a signal and the next call may write."""
         low = self.lowest()
         for key in [k for k in self.memory if k[0] is self.stack and k[1] < low]:
@@ -391,7 +399,7 @@ class Follower(Ranges, Machine):
 
     # Paths that meet.
 
-    def join(self, other, place, visits):
+    def join(self, other: Any, place: str, visits: int) -> bool:
         """Adds another path to this state. Returns whether anything changed."""
         old = self.copy()
         self.where = place
@@ -412,12 +420,12 @@ class Follower(Ranges, Machine):
         return any(getattr(self, name) != getattr(old, name)
                    for name in self.FILES + self.KNOWN + ("facts", "flags"))
 
-    def different(self, other):
+    def different(self, other: Any) -> list:
         """The words of memory that are not the same."""
         keys = {key for key, _ in self.memory.items() ^ other.memory.items()}
         return sorted({(base, k & ~7) for base, k in keys}, key=lambda p: (p[0].serial, p[1]))
 
-    def join_ranges(self, other):
+    def join_ranges(self, other: Any) -> None:
         """What holds on both paths. A range that is missing is not known."""
         for name in ("ranges", "residues"):
             mine, yours = getattr(self, name), getattr(other, name)
@@ -426,7 +434,7 @@ class Follower(Ranges, Machine):
             if t.op == "var" and high - low > 2 * TOP:
                 self.renew(t, (-TOP, TOP, 1))
 
-    def joined(self, old, other, a, b, name, visits):
+    def joined(self, old: Any, other: Any, a: list, b: list, name: str, visits: int) -> list:
         """The bytes of a word or a vector that is one of both."""
         if all(x is secret() for x in a):
             return a
@@ -443,7 +451,7 @@ class Follower(Ranges, Machine):
             old_range, merged(old_range, new_range), t.w, visits))
         return T.split(T.add(t.w, (1, base), (1, x)))
 
-    def common(self, t, u):
+    def common(self, t: T.Term, u: T.Term) -> T.Term:
         """The base that two words have in common, or 0. Bases of memory that is only read become
         a base of both."""
         found = [[v for v, k in T.linear(s)[1].items() if v in self.regions and k == 1]
@@ -461,7 +469,7 @@ class Follower(Ranges, Machine):
             self.regions[x] = Memory(0, 0, lambda k: b, False, True)
         return x
 
-    def offset(self, t, base):
+    def offset(self, t: T.Term, base: T.Term) -> tuple:
         """The range of a word without its base, if that is known."""
         if base.op == "const":
             return self.range_of(t)

@@ -1,7 +1,10 @@
 """The abstract machine of following.py for AArch64. The code of whole calls has more operands and
 instructions than the functions that compress, so none of arm.py's are used."""
 
+from __future__ import annotations
+
 import re
+from typing import Any, Callable
 
 import arm
 import terms as T
@@ -17,19 +20,19 @@ STORES, LOADS = ("str", "stur", "stp"), ("ldr", "ldur", "ldp")
 class Word:
     """An operand that an instruction has to know itself, as text."""
 
-    def __init__(self, text):
+    def __init__(self, text: str) -> None:
         self.kind, self.text = "word", text
 
 
 class Place:
     """Memory at a register plus an offset or another register; see arm.Memory."""
 
-    def __init__(self, base, index, offset, mode):
+    def __init__(self, base: Any, index: Any, offset: int, mode: str) -> None:
         self.kind, self.base, self.index, self.offset, self.mode = (
             "memory", base, index, offset, mode)
 
 
-def operand(text):
+def operand(text: str) -> Any:
     m = re.fullmatch(r"([xw])(\d+|zr)|sp", text)
     if m:
         index = arm.SP if text == "sp" else arm.ZERO if m[2] == "zr" else int(m[2])
@@ -57,7 +60,7 @@ class Instruction(arm.Instruction):
 
     __slots__ = ()
 
-    def __init__(self, address, text):
+    def __init__(self, address: int, text: str) -> None:
         self.address, self.text, self.target = address, text, None
         self.name, _, rest = text.partition("//")[0].strip().partition("\t")
         jump = re.fullmatch(r"(.*?)(?:, )?\b([0-9a-f]+) <.*>", rest.strip())
@@ -78,19 +81,19 @@ class FollowArm(Follower, arm.Arm):
     ARGUMENTS: tuple = tuple(range(8))
     RELATIONS = {"eq": "==", "ne": "!=", "cc": "<", "cs": ">=", "hi": ">", "ls": "<="}
 
-    def is_jump(self, i):
+    def is_jump(self, i: arm.Instruction) -> bool:
         return i.name == "b"
 
-    def is_call(self, i):
+    def is_call(self, i: arm.Instruction) -> bool:
         return i.name == "bl"
 
-    def is_return(self, i):
+    def is_return(self, i: arm.Instruction) -> bool:
         return i.name == "ret" and not i.operands
 
-    def is_trap(self, i):
+    def is_trap(self, i: arm.Instruction) -> bool:
         return i.name == "brk"
 
-    def only_returns(self, code, pc):
+    def only_returns(self, code: Any, pc: Any) -> Any:
         for _ in range(3):
             i = code[pc]
             if i.name == "ret":
@@ -101,25 +104,25 @@ class FollowArm(Follower, arm.Arm):
             pc = i.next
         return False
 
-    def argument(self, k):
+    def argument(self, k: int) -> T.Term:
         return T.word(self.general[k])
 
-    def answer(self):
+    def answer(self) -> list:
         return self.general[0]
 
-    def enter(self, i):
+    def enter(self, i: arm.Instruction) -> T.Term:
         self.check_stack()
         link = self.new(64, "link")
         self.general[arm.LINK] = T.split(link)
         return link
 
-    def leave(self, link):
+    def leave(self, link: T.Term) -> None:
         """The register of the return address belongs to the call."""
 
-    def at_entry(self):
+    def at_entry(self) -> tuple:
         return T.word(self.general[arm.LINK]), self.stack_pointer(), self.saved()
 
-    def clobber(self):
+    def clobber(self) -> None:
         """What a function may leave in the registers that do not belong to its caller."""
         for r in range(31):
             if r not in arm.SAVED:
@@ -128,7 +131,7 @@ class FollowArm(Follower, arm.Arm):
                        for r, v in enumerate(self.vector)]
         self.flags = None
 
-    def read(self, o, size=None):
+    def read(self, o: Any, size: Any = None) -> Any:
         if o.kind == "general":
             return [0] * o.size if o.index == arm.ZERO else self.general[o.index][:o.size]
         if o.kind == "vector":
@@ -139,7 +142,7 @@ class FollowArm(Follower, arm.Arm):
             return self.vector[o.index][:o.size]
         return chunks(self.vector[o.index], o.n)[o.lane]
 
-    def write(self, o, data):
+    def write(self, o: Any, data: Any) -> None:
         if o.kind == "general":
             if o.index != arm.ZERO:
                 self.general[o.index] = self.cleaned(
@@ -152,24 +155,24 @@ class FollowArm(Follower, arm.Arm):
             data = joined(parts)
         self.vector[o.index] = data[:16] + [0] * (16 - len(data))
 
-    def step(self, i):
+    def step(self, i: arm.Instruction) -> None:
         """Executes an instruction other than a branch, a call or a return."""
         name, ops = i.name, i.operands
         if name == "nop":
             return
         kind = name.rstrip("bh") if name.endswith(("rb", "rh")) else name
         if kind in LOADS + STORES:
-            self.access(name, kind, ops)
+            self.transfer(name, kind, ops)
         elif not (self.known(name, ops) if ops[0].kind == "general" else self.vectors(name, ops)):
             raise self.unknown(i)
 
-    def unknown(self, i):
+    def unknown(self, i: arm.Instruction) -> T.CannotShow:
         return CannotShow("the instruction %s is not modelled: add it to "
                           "tools/machine/following_arm.py" % " ".join(i.text.split()))
 
     # Memory.
 
-    def place_of(self, m):
+    def place_of(self, m: Any) -> Any:
         """The address of an access, before which the base register may move."""
         base = T.word(self.read(m.base))
         if m.base.index == arm.SP and T.linear(base)[0] % 16:
@@ -182,13 +185,13 @@ class FollowArm(Follower, arm.Arm):
             self.write(m.base, T.split(moved))
         return moved
 
-    def move_base(self, m):
+    def move_base(self, m: Any) -> None:
         """Moves the base register after an access, if it does that."""
         if m.mode == "after":
             base = T.word(self.read(m.base))
             self.write(m.base, T.split(T.add(64, (1, base), (1, T.const(64, m.offset)))))
 
-    def access(self, name, kind, ops):
+    def transfer(self, name: str, kind: Any, ops: list) -> None:
         registers = ops[:-1]
         size = SIZES.get(name[-1], registers[0].size) if name != "sub" else 8
         data = [self.read(r)[:size] for r in registers]
@@ -202,7 +205,7 @@ class FollowArm(Follower, arm.Arm):
 
     # Words.
 
-    def known(self, name, ops):
+    def known(self, name: str, ops: list) -> bool:
         """Executes an instruction on general registers, if it is one of these."""
         to, size = ops[0], ops[0].size
         if ops[-1].kind == "shift" and name not in ("movk", "movz"):
@@ -225,7 +228,7 @@ class FollowArm(Follower, arm.Arm):
             return self.compute(name, ops)
         return True
 
-    def shifted(self, o, shift, size):
+    def shifted(self, o: Any, shift: Any, size: int) -> Any:
         """A shifted operand, in a register that no instruction names."""
         k = shift.count
         if o.kind == "number":
@@ -234,17 +237,17 @@ class FollowArm(Follower, arm.Arm):
             lambda a, b: self.shifted_right(a, k))
         return Value(self.quietly(f, self.read(o, size), [0] * size))
 
-    def quietly(self, f, a, b, kind="other"):
+    def quietly(self, f: Callable, a: list, b: list, kind: str = "other") -> list:
         """The bytes of a result, without the flags."""
         flags = self.flags
         data = self.computed(kind, f, a, b)
         self.flags = flags
         return data
 
-    def value(self, o, size):
+    def value(self, o: Any, size: int) -> list:
         return o.data if isinstance(o, Value) else self.read(o, size)
 
-    def compute(self, name, ops):
+    def compute(self, name: str, ops: list) -> bool:
         to, size = ops[0], ops[0].size
         w = 8 * size
         rest = [self.value(o, size) for o in ops[1:]]
@@ -276,10 +279,10 @@ class FollowArm(Follower, arm.Arm):
                                         "product" if name in ("mul", "umulh") else "other"))
         return True
 
-    def bitfield(self, a, low, size):
+    def bitfield(self, a: T.Term, low: int, size: int) -> None:
         """Some low bits of a word, shifted to the left, of which nothing is known."""
 
-    def compare(self, name, ops):
+    def compare(self, name: str, ops: list) -> bool:
         size = ops[0].size
         a, b = self.value(ops[0], size), self.value(ops[1], size)
         if name == "tst":
@@ -300,7 +303,7 @@ class FollowArm(Follower, arm.Arm):
             self.computed(kind, lambda x, y: T.add(x.w, (1, x), (sign, y)), a, b)
         return True
 
-    def select(self, name, ops):
+    def select(self, name: str, ops: list) -> bool:
         to, size, condition = ops[0], ops[0].size, ops[-1].text
         if condition not in CONDITIONS:
             return False
@@ -318,7 +321,7 @@ class FollowArm(Follower, arm.Arm):
             self.write(to, self.chosen(condition, a, more(b) if name == "csinc" else b))
         return True
 
-    def condition(self, i):
+    def condition(self, i: arm.Instruction) -> Any:
         """What a conditional branch compares."""
         if i.name in ("cbz", "cbnz"):
             t = T.word(self.read(i.operands[0]))
@@ -335,7 +338,7 @@ class FollowArm(Follower, arm.Arm):
             return None
         return self.signed_difference(i.name[2:]) or self.compared(i.name[2:])
 
-    def signed_difference(self, condition):
+    def signed_difference(self, condition: str) -> Any:
         """A comparison with a sign, of two words whose difference is known, as one that is true
         or false."""
         if condition not in ("gt", "le") or self.flags is None or self.flags[0] != "sub":
@@ -348,7 +351,7 @@ class FollowArm(Follower, arm.Arm):
 
     # Vectors.
 
-    def vectors(self, name, ops):
+    def vectors(self, name: str, ops: list) -> bool:
         """Executes an instruction whose result is a vector, if it is one of these."""
         to, data = ops[0], [self.read(o, 8) for o in ops[1:] if o.kind in (
             "general", "vector", "lanes", "number")]
@@ -379,7 +382,7 @@ class FollowArm(Follower, arm.Arm):
             return False
         return True
 
-    def load_lanes(self, name, ops):
+    def load_lanes(self, name: str, ops: list) -> bool:
         """Loads of one lane, of all lanes, and of four vectors whose lanes alternate."""
         to = ops[0]
         if name == "ld4":
@@ -402,7 +405,7 @@ class Value:
 
     kind = "value"
 
-    def __init__(self, data):
+    def __init__(self, data: list) -> None:
         self.data = data
 
 

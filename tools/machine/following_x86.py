@@ -1,6 +1,9 @@
 """The abstract machine of following.py for x86-64. What only moves bytes is as in x86.py."""
 
+from __future__ import annotations
+
 import re
+from typing import Any, Callable
 
 import terms as T
 import x86
@@ -22,19 +25,19 @@ class FollowX86(Follower, x86.X86):
     # What a condition compares after `cmp`. Others are not followed: both ways may be taken.
     RELATIONS = {"e": "==", "ne": "!=", "b": "<", "ae": ">=", "a": ">", "be": "<="}
 
-    def is_jump(self, i):
+    def is_jump(self, i: Any) -> Any:
         return i.name == "jmp"
 
-    def is_call(self, i):
+    def is_call(self, i: Any) -> Any:
         return i.name == "call"
 
-    def is_return(self, i):
+    def is_return(self, i: Any) -> Any:
         return i.name == "ret" and not i.operands
 
-    def is_trap(self, i):
+    def is_trap(self, i: Any) -> Any:
         return i.name == "ud2"
 
-    def only_returns(self, code, pc):
+    def only_returns(self, code: Any, pc: Any) -> Any:
         """Whether only the result is set from here to a return."""
         for _ in range(4):
             i = code[pc]
@@ -46,16 +49,16 @@ class FollowX86(Follower, x86.X86):
             pc = i.next
         return False
 
-    def write(self, o, data, vex=False, aligned=False):
+    def write(self, o: x86.Operand, data: Any, vex: bool = False, aligned: bool = False) -> None:
         super().write(o, self.cleaned(list(data), o.kind == "general"), vex, aligned)
 
-    def argument(self, k):
+    def argument(self, k: int) -> Any:
         return T.word(self.general[x86.ARGUMENTS[k]])
 
-    def answer(self):
+    def answer(self) -> Any:
         return self.general[x86.RAX]
 
-    def enter(self, i):
+    def enter(self, i: Any) -> Any:
         """A call pushes the return address, to which it must return."""
         self.check_stack()
         link = self.new(64, "link")
@@ -63,21 +66,21 @@ class FollowX86(Follower, x86.X86):
         self.store(self.stack_pointer(), T.split(link))
         return link
 
-    def leave(self, link):
+    def leave(self, link: Any) -> None:
         """A return takes it from the stack."""
         if self.load(self.stack_pointer(), 8) != T.split(link):
             raise IsWrong("a call overwrites its return address")
         self.general[x86.RSP] = T.split(self.moved(8))
 
-    def at_entry(self):
+    def at_entry(self) -> Any:
         """What a return must find: its address, the stack pointer, and the caller's registers."""
         sp = self.stack_pointer()
         return T.word(self.load(sp, 8)), sp, self.saved()
 
-    def moved(self, n):
+    def moved(self, n: Any) -> Any:
         return T.add(64, (1, self.stack_pointer()), (1, T.const(64, n)))
 
-    def clobber(self):
+    def clobber(self) -> None:
         """What a function may leave in the registers that do not belong to its caller."""
         for r in range(16):
             if r not in x86.SAVED + (x86.RSP,):
@@ -85,7 +88,7 @@ class FollowX86(Follower, x86.X86):
         self.vector = [[secret()] * x86.WIDTH for _ in range(x86.VECTORS)]
         self.flags = None
 
-    def step(self, i):
+    def step(self, i: x86.Instruction) -> None:
         """Executes an instruction other than a jump, a call or a return."""
         name, ops = i.name, i.operands
         if name.startswith("set") and name[3:] in CONDITIONS:
@@ -98,7 +101,7 @@ class FollowX86(Follower, x86.X86):
         else:
             self.vector_step(i)
 
-    def condition(self, i):
+    def condition(self, i: Any) -> Any:
         """What a conditional jump compares."""
         if i.name[1:] not in CONDITIONS:
             raise x86.unknown(i)
@@ -108,52 +111,54 @@ class FollowX86(Follower, x86.X86):
 
     # Words.
 
-    def binary_word(self, kind, f, to, source, keep=True):
+    def binary_word(self, kind: str, f: Callable, to: x86.Operand, source: x86.Operand,
+                    keep: bool = True) -> None:
         data = self.read(to)
         result = self.computed(kind, f, data, self.read(source, len(data)))
         if keep:
             self.write(to, result)
 
-    def do_add(self, i, to, source):
+    def do_add(self, i: x86.Instruction, to: x86.Operand, source: x86.Operand) -> None:
         self.binary_word("add", lambda a, b: T.add(a.w, (1, a), (1, b)), to, source)
 
-    def do_sub(self, i, to, source, keep=True):
+    def do_sub(self, i: x86.Instruction, to: x86.Operand, source: x86.Operand,
+               keep: bool = True) -> None:
         self.binary_word("sub", lambda a, b: T.add(a.w, (1, a), (-1, b)), to, source, keep)
 
-    def do_cmp(self, i, to, source):
+    def do_cmp(self, i: x86.Instruction, to: x86.Operand, source: x86.Operand) -> None:
         self.do_sub(i, to, source, False)
 
-    def do_xor(self, i, to, source):
+    def do_xor(self, i: x86.Instruction, to: x86.Operand, source: x86.Operand) -> None:
         if same(to, source):
             self.write(to, [0] * to.size)
             self.flags = ("logic",) + (T.const(8 * to.size, 0),) * 3
         else:
             self.binary_word("logic", self.exclusive, to, source)
 
-    def do_or(self, i, to, source):
+    def do_or(self, i: x86.Instruction, to: x86.Operand, source: x86.Operand) -> None:
         self.binary_word("logic", self.either, to, source)
 
-    def do_and(self, i, to, source):
+    def do_and(self, i: x86.Instruction, to: x86.Operand, source: x86.Operand) -> None:
         self.binary_word("logic", self.masked, to, source)
 
-    def do_test(self, i, to, source):
+    def do_test(self, i: x86.Instruction, to: x86.Operand, source: x86.Operand) -> None:
         self.binary_word("logic", (lambda a, b: a) if same(to, source) else self.masked, to, source,
                          False)
 
-    def do_inc(self, i, to):
+    def do_inc(self, i: x86.Instruction, to: x86.Operand) -> None:
         self.count(to, 1)
 
-    def do_dec(self, i, to):
+    def do_dec(self, i: x86.Instruction, to: x86.Operand) -> None:
         self.count(to, -1)
 
-    def count(self, to, step):
+    def count(self, to: x86.Operand, step: int) -> None:
         """inc and dec keep the carry, which may be that of a secret."""
         old = self.flags
         self.binary_word("other", lambda a, b: T.add(a.w, (1, a), (step, b)), to, ONE)
         if (old is None or old[0] in ("secret", "no carry")) and self.flags != ("secret",):
             self.flags = ("no carry",) + self.flags[1:]
 
-    def compared(self, condition):
+    def compared(self, condition: str) -> tuple | None:
         kind = self.flags[0] if self.flags else None
         if kind == "no carry" and condition in OF_CARRY:
             raise IsWrong("a carry that inc or dec keeps depends on secret or unknown data")
@@ -161,60 +166,61 @@ class FollowX86(Follower, x86.X86):
             raise CannotShow("a product does not define this flag")
         return super().compared(condition)
 
-    def do_neg(self, i, to):
+    def do_neg(self, i: x86.Instruction, to: x86.Operand) -> None:
         self.binary_word("other", lambda a, b: T.add(a.w, (-1, a)), to, ONE)
 
-    def do_not(self, i, to):
+    def do_not(self, i: x86.Instruction, to: x86.Operand) -> None:
         flags = self.flags
         self.binary_word("other", lambda a, b: T.add(a.w, (-1, a), (-1, b)), to, ONE)
         self.flags = flags
 
-    def shift_count(self, i, to, source):
+    def shift_count(self, i: x86.Instruction, to: x86.Operand, source: x86.Operand) -> int:
         """The number of bits of a shift. A shift by 0 keeps the flags, and is not known."""
         if source.kind != "number" or not 0 < source.value < 8 * to.size:
             raise x86.unknown(i)
         return source.value
 
-    def do_shl(self, i, to, source=ONE):
+    def do_shl(self, i: x86.Instruction, to: x86.Operand, source: x86.Operand = ONE) -> None:
         k = self.shift_count(i, to, source)
         self.binary_word("other", lambda a, b: T.add(a.w, (1 << k, a)), to, source)
 
-    def do_shr(self, i, to, source=ONE):
+    def do_shr(self, i: x86.Instruction, to: x86.Operand, source: Any = ONE) -> None:
         k = self.shift_count(i, to, source)
         self.binary_word("other", lambda a, b: self.shifted_right(a, k), to, source)
 
-    def do_imul(self, i, to, source, factor=None):
+    def do_imul(self, i: x86.Instruction, to: x86.Operand, source: x86.Operand,
+                factor: Any = None) -> None:
         if factor:
             self.write(to, self.read(source))
         self.binary_word("product", lambda a, b: T.add(a.w, (b.args, a)) if b.op == "const" else
                          None, to, factor or source)
 
-    def with_carry(self, to, source, sign):
+    def with_carry(self, to: x86.Operand, source: x86.Operand, sign: int) -> None:
         if self.flags is None or self.flags[0] in ("secret", "no carry"):
             raise CannotShow("a carry depends on flags that are not public")
         carry = lambda w: self.new(w, "carry", (0, 1, 1))
         self.binary_word("other", lambda a, b: T.add(
             a.w, (1, a), (sign, b), (sign, carry(a.w))), to, source)
 
-    def do_adc(self, i, to, source):
+    def do_adc(self, i: x86.Instruction, to: x86.Operand, source: x86.Operand) -> None:
         self.with_carry(to, source, 1)
 
-    def do_sbb(self, i, to, source):
+    def do_sbb(self, i: x86.Instruction, to: x86.Operand, source: x86.Operand) -> None:
         self.with_carry(to, source, -1)
 
-    def do_mulx(self, i, high, low, source):
+    def do_mulx(self, i: Any, high: Any, low: Any, source: Any) -> None:
         need_public(T.word(self.general[x86.RDX][:high.size] + self.read(source, high.size)),
                     "the time of a product")
         for to in (low, high):
             self.write(to, [unknown()] * to.size)
 
-    def do_mul(self, i, source):
+    def do_mul(self, i: x86.Instruction, source: x86.Operand) -> None:
         self.of_public((x86.RAX,), source)
 
-    def do_div(self, i, source):
+    def do_div(self, i: x86.Instruction, source: x86.Operand) -> None:
         self.of_public((x86.RAX, x86.RDX), source)
 
-    def of_public(self, registers, source):
+    def of_public(self, registers: Any, source: Any) -> None:
         """A product or a division, whose time may depend on the operands: these must be public."""
         pair = [x86.Operand("general", r, source.size) for r in (x86.RAX, x86.RDX)]
         for o in [o for o in pair if o.index in registers] + [source]:
@@ -223,14 +229,14 @@ class FollowX86(Follower, x86.X86):
             self.write(o, [unknown()] * o.size)
         self.flags = None
 
-    def do_xchg(self, i, a, b):
+    def do_xchg(self, i: x86.Instruction, a: Any, b: Any) -> None:
         x, y = self.read(a), self.read(b)
         self.write(a, y)
         self.write(b, x)
 
     # Vectors.
 
-    def vector_step(self, i):
+    def vector_step(self, i: x86.Instruction) -> None:
         vex = i.name.startswith("v")
         name, ops = i.name[vex:], i.operands
         if any(o.mask is not None or o.kind == "mask" for o in ops):
@@ -264,7 +270,7 @@ class FollowX86(Follower, x86.X86):
         else:
             raise x86.unknown(i)
 
-    def move_low(self, n, ops, vex):
+    def move_low(self, n: Any, ops: list, vex: bool) -> None:
         """A move of the lowest n bytes of a vector."""
         if ops[0].kind == "memory":
             self.write(ops[0], self.read(ops[1])[:n])
@@ -273,7 +279,7 @@ class FollowX86(Follower, x86.X86):
         else:
             self.write(ops[0], self.read(ops[-1])[:n] + self.read(ops[-2])[n:16], vex)
 
-    def mix(self, name, ops, vex):
+    def mix(self, name: str, ops: list, vex: bool) -> None:
         sources = [o for o in (ops[1:] if vex else ops) if o.kind != "number"]
         if "xor" in name and same(sources[0], sources[-1]):
             self.write(ops[0], [0] * ops[0].size, vex)
@@ -285,7 +291,7 @@ class FollowX86(Follower, x86.X86):
         self.write(ops[0], [new] * ops[0].size, vex)
 
 
-def same(a, b):
+def same(a: x86.Operand, b: x86.Operand) -> bool:
     """Whether two operands are the same register."""
     return a.kind == b.kind != "memory" and a.kind != "number" and a.index == b.index
 

@@ -1,9 +1,15 @@
 """The functions that compress, by the names that the compiler gives them, and which file has which.
 A crate or a module with another name needs a change here and nowhere else."""
 
+from __future__ import annotations
+
 import re
+from typing import Any, TYPE_CHECKING
 
 import rfc7693 as R
+
+if TYPE_CHECKING:
+    from program import Program
 
 # The name without the version, the family, and of how many messages it compresses blocks.
 ONE_B = ("blake2_compress..words..blake2b..compress", R.BLAKE2B, 1)
@@ -44,29 +50,30 @@ FILES = {
 }
 
 
-def scrubs(program):
+def scrubs(program: Program) -> dict:
     """The functions of a file that overwrite the stack, with their numbers of bytes."""
-    found = {name: re.fullmatch(re.escape(SCRUB_STACK) + r"(\d+)", name) for name in program.functions}
+    pattern = re.compile(re.escape(SCRUB_STACK) + r"(\d+)")
+    found = {name: pattern.fullmatch(name) for name in program.functions}
     return {name: int(m[1]) for name, m in found.items() if m}
 
 
-def architecture(path):
+def architecture(path: str) -> str:
     """What runs a file: x86_64, aarch64 or wasm."""
     return next((kind for kind in ("x86_64", "aarch64") if "/%s/" % kind in path), "wasm")
 
 
-def build(path):
+def build(path: str) -> Any:
     """The folder and the end of a file's name, which the same build of other libraries shares."""
     folder, _, file = path.rpartition("/")
     return folder, file.partition("-")[2]
 
 
-def is_library(path):
+def is_library(path: str) -> bool:
     """Whether a file is a build of the library, not of a program."""
     return path.rpartition("/")[2].startswith("vulfsjor")
 
 
-def in_file(path, name):
+def in_file(path: str, name: str) -> str:
     """A function's name as the file writes it."""
     return name.replace("..", "::") if architecture(path) == "wasm" else name
 
@@ -85,7 +92,7 @@ _SHIFTS = {
 }
 
 
-def has_rounds(kind, texts):
+def has_rounds(kind: str, texts: list) -> bool:
     """Whether a function may have a copy of G, by the texts of its instructions."""
     if kind == "wasm":
         texts = ["%s; %s" % pair for pair in zip(texts, texts[1:])]
@@ -95,7 +102,7 @@ def has_rounds(kind, texts):
     return 63 in shifts or {7, 12} <= shifts
 
 
-def unlisted(program):
+def unlisted(program: Program) -> list:
     """The functions outside of the file's list that may have a copy of G."""
     listed = {in_file(program.path, name) for name, _, _ in FILES[program.path]}
     return [name for name in program.functions

@@ -1,7 +1,9 @@
 """What the models of the processors have in common: memory, conditions, and operations on bytes."""
 
+from __future__ import annotations
+
 import itertools
-from typing import Any
+from typing import Any, Callable, Iterable
 
 import terms as T
 from terms import CannotShow, IsWrong
@@ -10,12 +12,12 @@ from terms import CannotShow, IsWrong
 class Fork(Exception):
     """A branch depends on a condition about which nothing is assumed yet."""
 
-    def __init__(self, condition):
+    def __init__(self, condition: T.Term | str) -> None:
         super().__init__("a branch on %r" % (condition,))
         self.condition = condition
 
 
-def image():
+def image() -> T.Term:
     """The address where the file is loaded. The addresses of its constants count from there."""
     return T.var(64, "image", T.PUBLIC)
 
@@ -26,7 +28,8 @@ class Region:
     `initial` returns the byte at an offset at the start. The base is the second number of
     `alignment` modulo the first. `writable` is the part that may be written."""
 
-    def __init__(self, low, high, initial, writable=None, alignment=(1, 0)):
+    def __init__(self, low: int, high: int, initial: Callable, writable: Any = None,
+                 alignment: tuple = (1, 0)) -> None:
         self.low, self.high, self.initial, self.alignment = low, high, initial, alignment
         self.writable = writable or (0, 0)
 
@@ -39,22 +42,22 @@ class Machine:
     FREE: tuple = ("nop",)             # instructions that need not be reached
     LOSSES = itertools.count()         # a number for each time that the stack shrinks
 
-    def __init__(self, regions, assumed):
+    def __init__(self, regions: dict, assumed: dict) -> None:
         self.regions = regions        # base -> Region
         self.assumed = assumed        # condition -> bool
         self.memory: dict = {}        # (base, offset) -> byte
         self.stack: Any = None        # the base of the stack
-        self.zero = None              # the word that is zero if and only if the zero flag is set
+        self.zero: Any = None         # the word that is zero if and only if the zero flag is set
         self.counts = {"branches": 0, "addresses": 0}
 
     def stack_pointer(self) -> T.Term:
         raise NotImplementedError
 
-    def step(self, i):
+    def step(self, i: Any) -> Any:
         """Executes an instruction."""
         raise NotImplementedError
 
-    def copy(self):
+    def copy(self) -> Any:
         """A machine with the same registers and memory. The flags are unknown."""
         other = type(self)(self.regions, self.assumed)
         other.stack, other.memory = self.stack, dict(self.memory)
@@ -62,7 +65,7 @@ class Machine:
             getattr(other, name)[:] = [list(r) for r in getattr(self, name)]
         return other
 
-    def cells(self):
+    def cells(self) -> dict:
         """The bytes of all registers and of written memory, by (kind, register or base, offset)."""
         found = {}
         for name in self.FILES:
@@ -71,7 +74,7 @@ class Machine:
         found.update({("memory", base, k): b for (base, k), b in self.memory.items()})
         return found
 
-    def set_cells(self, state):
+    def set_cells(self, state: dict) -> None:
         """Sets registers and memory to the bytes that cells() returned."""
         for (kind, at, k), b in state.items():
             if kind == "memory":
@@ -79,7 +82,7 @@ class Machine:
             else:
                 getattr(self, kind)[at][k] = b
 
-    def lowest(self):
+    def lowest(self) -> int:
         """The lowest offset in the stack that the function may use now."""
         constant, items = T.linear(self.stack_pointer())
         if items != {self.stack: 1}:
@@ -87,7 +90,7 @@ class Machine:
         w = self.stack.w
         return (constant + (1 << w - 1)) % (1 << w) - (1 << w - 1) - self.RED_ZONE
 
-    def execute(self, i):
+    def execute(self, i: Any) -> int:
         """Executes an instruction, as step(). If the stack shrinks, bytes below it are lost: a
         signal may overwrite them. Only bytes of the stack may be below its pointer."""
         before = self.lowest()
@@ -103,7 +106,7 @@ class Machine:
             self.memory[self.stack, k] = (T.var(8, "lost%d.%d" % (loss, k), T.JUNK), 0)
         return following
 
-    def place(self, address, size, aligned):
+    def place(self, address: T.Term, size: int, aligned: bool) -> tuple:
         """The base, the offset and the region of an access."""
         need_public(address, "an address")
         constant, items = T.linear(address)
@@ -122,7 +125,7 @@ class Machine:
             raise IsWrong("%r is not a multiple of %d" % (address, size))
         return base, offset, region
 
-    def load(self, address, size, aligned=False):
+    def load(self, address: T.Term, size: Any, aligned: bool = False) -> list:
         """The bytes at an address."""
         base, offset, region = self.place(address, size, aligned)
         result = []
@@ -131,7 +134,7 @@ class Machine:
             result.append(region.initial(k) if found is None else found)
         return result
 
-    def store(self, address, data, aligned=False):
+    def store(self, address: T.Term, data: list, aligned: bool = False) -> None:
         """Writes bytes at an address."""
         base, offset, region = self.place(address, len(data), aligned)
         if not region.writable[0] <= offset <= region.writable[1] - len(data):
@@ -139,7 +142,7 @@ class Machine:
         for k, b in enumerate(data):
             self.memory[(base, offset + k)] = b
 
-    def is_zero(self, t):
+    def is_zero(self, t: Any) -> Any:
         """Whether a word is zero, for a branch."""
         if t is None:
             raise CannotShow("a branch depends on flags that are not modelled")
@@ -158,7 +161,7 @@ class Machine:
             raise Fork(t)
         return self.assumed[t]
 
-    def choose(self, t, if_zero, if_not):
+    def choose(self, t: Any, if_zero: T.Term, if_not: T.Term) -> T.Term:
         """One of two words by whether t is zero, without a branch."""
         if t is None:
             raise CannotShow("a choice depends on flags that are not modelled")
@@ -172,7 +175,7 @@ class Machine:
         return found
 
 
-def need_public(t, what):
+def need_public(t: T.Term, what: str) -> None:
     """Refuses a term that depends on a secret or on undefined data."""
     for taint, name in ((T.SECRET, "secret"), (T.JUNK, "undefined")):
         if t.taint & taint:
@@ -183,26 +186,26 @@ def need_public(t, what):
             raise CannotShow(text)
 
 
-def junk(name, n):
+def junk(name: str, n: int) -> list:
     """n bytes of undefined data."""
     return list(T.remembered(_junk, name, n))
 
 
-def _junk(name, n):
+def _junk(name: str, n: int) -> tuple:
     return tuple((T.var(8, "%s.%d" % (name, k), T.JUNK), 0) for k in range(n))
 
 
-def chunks(data, n):
+def chunks(data: Any, n: int) -> list:
     """The parts of n bytes."""
     return [data[i:i + n] for i in range(0, len(data), n)]
 
 
-def joined(parts):
+def joined(parts: Iterable | list) -> list:
     """The bytes of all parts."""
     return [b for part in parts for b in part]
 
 
-def lanewise(f, n, *sources):
+def lanewise(f: Callable, n: int, *sources: list) -> list:
     """Applies f to the words of n bytes of each source."""
     result = []
     for parts in zip(*[chunks(s, n) for s in sources]):
@@ -210,7 +213,7 @@ def lanewise(f, n, *sources):
     return result
 
 
-def bitwise(f, a, b):
+def bitwise(f: Callable, a: list, b: list) -> list:
     """Applies f to the widest words of at most 8 bytes that do not consist of parts."""
     if len(a) > 8:
         return joined(bitwise(f, x, y) for x, y in zip(chunks(a, 8), chunks(b, 8)))
@@ -223,12 +226,12 @@ def bitwise(f, a, b):
     return bitwise(f, a[:half], b[:half]) + bitwise(f, a[half:], b[half:])
 
 
-def invert(data):
+def invert(data: list) -> list:
     """The complement of each bit."""
     return bitwise(T.xor, data, [255] * len(data))
 
 
-def number(bs):
+def number(bs: list) -> int:
     """The number that constant bytes have."""
     t = T.word(bs)
     if t.op != "const":

@@ -9,7 +9,7 @@ ROOT = os.path.dirname(os.path.dirname(os.path.dirname(os.path.abspath(__file__)
 
 
 @functools.lru_cache(maxsize=None)
-def macros(kind):
+def macros(kind: str) -> tuple[dict[str, tuple[list[str], list[str]]], list[str]]:
     """The parameters and the lines of each macro of a processor's texts, by its name, and the lines
     that are outside of all macros."""
     with open(os.path.join(ROOT, "dist", kind, "elf.inc")) as f:
@@ -20,18 +20,18 @@ def macros(kind):
     return found, macro.sub("", text).splitlines()
 
 
-def lines_of(line, kind):
+def lines_of(line: str, kind: str) -> list[str]:
     """The lines that a line of a text stands for."""
     word, _, rest = line.lstrip("\t").partition("\t")
     if word not in macros(kind)[0]:
         return [line]
     parameters, body = macros(kind)[0][word]
     values = dict(zip(parameters, rest.split(", "), strict=True))
-    filled = [re.sub(r"\\(\w+)", lambda m: values[m[1]], each) for each in body]
+    filled = [re.sub(r"\\(\w+)", lambda m: values[str(m[1])], each) for each in body]
     return [part for each in filled for part in lines_of(each, kind)]
 
 
-def expanded(text, kind):
+def expanded(text: str, kind: str) -> str:
     """A text for ELF without macros."""
     lines = [*macros(kind)[1], *(part for line in text.split("\n") for part in lines_of(line, kind))]
     return "\n".join(lines)

@@ -1,9 +1,11 @@
 """Changes of the code, each of which the proof must refuse: mutations.txt. And changes of the tool,
 each of which one of its own tests must refuse."""
 
+from __future__ import annotations
+
 import os
 import re
-from typing import Any
+from typing import Any, Callable
 
 import call_cases
 import calls
@@ -34,14 +36,14 @@ class NoMatch(Exception):
     """The old instruction is not in the function as often as the table says."""
 
 
-def table():
+def table() -> Any:
     """The lines of the table as (file, function, number, old, new)."""
     with open(TABLE) as f:
         lines = [line.rstrip("\n") for line in f if line.strip() and not line.startswith("#")]
     return [[f.strip() for f in re.split(r" \|(?: |$)", line, maxsplit=4)] for line in lines]
 
 
-def changed(lines, number, old, new):
+def changed(lines: Any, number: Any, old: Any, new: Any) -> Any:
     """The lines with the change at the match of this number, counted from 1."""
     clean = [" ".join(re.sub(r"(#\s|//).*", "", line).split()) for line in lines]
     exact = [k for k, text in enumerate(clean) if text == old]
@@ -57,9 +59,9 @@ def changed(lines, number, old, new):
     return lines[:at] + inserted + lines[at + 1:]
 
 
-def edit_text(name, is_data, *change):
+def edit_text(name: str, is_data: bool, *change: Any) -> Any:
     """An editor of an assembly text, for one function, or for its constants, which precede it."""
-    def edit(text):
+    def edit(text: str) -> Any:
         lines = text.split("\n")
         label = re.compile(r"\"?%s_\d+_\d+_\d+_\w+\"?:" % re.escape(name))
         start = next(k for k, line in enumerate(lines) if label.match(line))
@@ -70,17 +72,17 @@ def edit_text(name, is_data, *change):
     return edit
 
 
-def edit_file(*change):
+def edit_file(*change: Any) -> Any:
     """An editor of all of an assembly text."""
     return lambda text: "\n".join(changed(text.split("\n"), *change))
 
 
-def edit_module(name, *change):
+def edit_module(name: str, *change: Any) -> Any:
     """An editor of the functions of a WebAssembly module."""
     return lambda found: {**found, name: changed(found[name], *change)}
 
 
-def refuse(short, function, number, old, new):
+def refuse(short: str, function: Any, number: Any, old: Any, new: Any) -> Any:
     """The result of a line of the table: which of both exceptions refused the change, and why."""
     path, is_data = SHORT[short], function.endswith(" data")
     show: Any
@@ -120,7 +122,7 @@ def refuse(short, function, number, old, new):
     return [("not ok", title, "the proof accepts the change")]
 
 
-def is_same(program, name):
+def is_same(program: programs.Program, name: str) -> Any:
     """Whether a changed program has the content of the function that it had before. What has no
     content, or is refused, is not the same."""
     try:
@@ -130,33 +132,33 @@ def is_same(program, name):
     return content is not None and content == programs.read(program.path).content(name)
 
 
-def follow_call(program, name, exported):
+def follow_call(program: programs.Program, name: str, exported: str) -> None:
     """Follows a call of an exported function that reaches the changed one."""
     for entry in calls.exports(program):
         if entry[0] == exported:
             calls.show(program, *entry)
 
 
-def show_scrub(program, _, count):
+def show_scrub(program: Any, _: Any, count: Any) -> None:
     """That scrub_stack of so many bytes overwrites them."""
     wiping.show(program, functions.SCRUB_STACK + count, int(count))
 
 
-def compute_call(program, name, exported):
+def compute_call(program: programs.Program, name: str, exported: str) -> None:
     """Shows what a call of an exported function of a family writes, in some cases."""
     family = programs.found(r"vulfsjor_ffi_(blake2[bs])", exported)[1]
     call_cases.Cases(program, family, *call_cases.some(family)).show(
         exported[len("vulfsjor_ffi_" + family):])
 
 
-def look(program, _=None):
+def look(program: programs.Program, _: Any = None) -> None:
     """What is looked at in all of a file: sections, symbols, and which functions are called."""
     list(calls.exports(program))
     for name, _, _ in functions.FILES[program.path]:
         program.code(name)
 
 
-def _on_arm(entry):
+def _on_arm(entry: tuple) -> Any:
     """The verdict on a function of the library for ARM, which takes the least time."""
     try:
         compression.show(programs.Program(SHORT["arm"]), *entry)
@@ -165,7 +167,7 @@ def _on_arm(entry):
     return None
 
 
-def _with(owner, name, value, f):
+def _with(owner: Any, name: str, value: Callable | dict, f: Callable) -> Any:
     """The result of f() while an attribute has another value."""
     kept = owner.__dict__.get(name)
     setattr(owner, name, value)
@@ -178,7 +180,7 @@ def _with(owner, name, value, f):
             setattr(owner, name, kept)
 
 
-def wrong_model():
+def wrong_model() -> list:
     """A model of an instruction in which the second rotation of ARM's eor is missing."""
     arm = programs.arm
     right = arm.Arm.arithmetic
@@ -188,9 +190,9 @@ def wrong_model():
     return _seen("a model of eor without its rotation fails", why)
 
 
-def wrong_rule():
+def wrong_rule() -> Any:
     """A rule that takes the high half of a sum for the sum of the high halves."""
-    def f(t, i, n):
+    def f(t: T.Term, i: int, n: int) -> T.Term:
         if t.op == "add":
             high = lambda u: T.word(T.split(u)[i:i + n])
             return T.add(8 * n, *[(k, high(u)) for u, k in t.args[1]])
@@ -199,7 +201,7 @@ def wrong_rule():
     x, y = (T.var(64, name, T.PUBLIC) for name in "xy")
     total = T.add(64, (1, x), (1, y))
 
-    def high_half():
+    def high_half() -> Any:
         T._results.clear()
         t = T.word(T.split(total)[4:])
         return next((str(seed) for seed in range(1, 9) if T.value(t, T.Numbers(seed), {}) !=
@@ -209,7 +211,7 @@ def wrong_rule():
     return _seen("a rule for the high half of a sum fails", why and "wrong for the numbers " + why)
 
 
-def secret_forgotten():
+def secret_forgotten() -> Any:
     """Operations whose result does not depend on their operands, for whole calls."""
     follower = calls.following_arm.Model
     verdict, why = _with(follower, "mixed", lambda self, data: calls.unknown(),
@@ -217,7 +219,7 @@ def secret_forgotten():
     return _seen("an operation that forgets secrets fails", verdict == "not ok" and why)
 
 
-def carry_forgotten():
+def carry_forgotten() -> Any:
     """inc and dec that set the carry, which they keep."""
     count = lambda self, to, step: self.binary_word(
         "other", lambda a, b: T.add(a.w, (1, a), (step, b)), to, calls.following_x86.ONE)
@@ -226,7 +228,7 @@ def carry_forgotten():
     return _seen("a carry that inc sets fails", verdict == "not ok" and why)
 
 
-def wrong_specification():
+def wrong_specification() -> Any:
     """A specification of whole calls whose last block is not the last."""
     digest = lambda a, kind, s: a.compress(
         kind, s.chain, s.pending, a.plus(s.counter, s.pending_length), 0, 0)
@@ -236,12 +238,12 @@ def wrong_specification():
                  verdict == "not ok" and why)
 
 
-def wrong_choice():
+def wrong_choice() -> Any:
     """A copy of a variable length that takes one byte too many."""
     f = lambda machine, j, n, a, b: exact.choice(j, n, b, a)
     program = programs.read(SHORT["arm"])
 
-    def show():
+    def show() -> Any:
         try:
             return call_cases.Cases(program, "blake2s").show("_final") and None
         except T.Refused as e:
@@ -249,11 +251,11 @@ def wrong_choice():
     return _seen("a copy that chooses the wrong bytes fails", _with(exact, "below", f, show))
 
 
-def call_left_out():
+def call_left_out() -> list:
     """A table of exported functions that has one less."""
     less = {k: v for k, v in calls.EXPORTS.items() if k != "_update"}
 
-    def names():
+    def names() -> Any:
         try:
             return list(calls.exports(programs.Program(SHORT["arm"]))) and None
         except T.CannotShow as e:
@@ -262,13 +264,13 @@ def call_left_out():
                  _with(calls, "EXPORTS", less, names))
 
 
-def name_changed():
+def name_changed() -> list:
     """Another name for what `_final` calls to zero the state."""
     program = programs.read(SHORT["arm"])
     final = next(e for e in calls.exports(program) if e[0] == "vulfsjor_ffi_blake2s_final")
     other = {**calls.CALLED, "_final": "blake2_ffi..%s..zeroed"}
 
-    def show():
+    def show() -> Any:
         try:
             return calls.show(program, *final) and None
         except T.CannotShow as e:
@@ -277,7 +279,7 @@ def name_changed():
                  _with(calls, "CALLED", other, show))
 
 
-def function_left_out():
+def function_left_out() -> list:
     """A file whose list has one function less."""
     path = SHORT["arm"]
     less = {**functions.FILES, path: functions.FILES[path][1:]}
@@ -286,7 +288,7 @@ def function_left_out():
     return _seen("a function left out of its list is found", found and found[0])
 
 
-def _seen(title, why):
+def _seen(title: str, why: Any) -> list:
     return [("ok" if why else "not ok", "the tool itself: " + title, why or "nothing noticed it")]
 
 

@@ -1,11 +1,14 @@
 """Reads the code and the constants of a file: assembles and links it, and disassembles it with
 objdump; or reads a WebAssembly module."""
 
+from __future__ import annotations
+
 import functools
 import os
 import re
 import subprocess
 import tempfile
+from typing import Any
 
 import arm
 import elf
@@ -28,8 +31,8 @@ SECTIONS = ((".text", elf.ALLOCATED | elf.EXECUTABLE), (CONSTANTS, elf.ALLOCATED
 # Numbers that the linker fills in, in pages that are not writable when the program starts.
 OF_PROGRAMS = (".data.rel.ro", elf.ALLOCATED | elf.WRITABLE)
 # The directives that the files use. Each means the same to all assemblers, in all folders.
-DIRECTIVES = frozenset("ascii byte file globl hidden hword ident long p2align popsection pushsection "
-                       "quad section short size type weak word xword zero".split())
+DIRECTIVES = frozenset("ascii byte file globl hidden hword ident long p2align popsection quad "
+                       "pushsection section short size type weak word xword zero".split())
 DIRECTIVE = re.compile(r"(?:^|[;/]|(?<!:lo12):)\s*\.([a-z]\w*)\b(?!\s*[:.])", re.I | re.M)
 # The kinds of relocation that fill in 4 bytes of constants, R_X86_64_PC32 and R_AARCH64_PREL32.
 # Any other fills in at most 8.
@@ -47,7 +50,7 @@ class NotAssembled(Exception):
 
 
 @functools.lru_cache(maxsize=None)
-def read(path):
+def read(path: str) -> Program:
     """The program of a file, which is read once."""
     return Program(path)
 
@@ -57,7 +60,7 @@ class Program:
 
     `edit` changes the text of the file, or the lines of the functions of a module, first."""
 
-    def __init__(self, path, edit=None):
+    def __init__(self, path: str, edit: Any = None) -> None:
         self.path = path
         self.kind = functions.architecture(path)
         self.model, self.width = MODELS[self.kind], 64
@@ -68,7 +71,7 @@ class Program:
         else:
             self.read_text(data.decode(), edit)
 
-    def read_module(self, data, edit):
+    def read_module(self, data: Any, edit: Any) -> None:
         """The functions of a module. One without names has those of the module that it was made
         from, function by function."""
         if self.path.endswith(".js"):
@@ -90,7 +93,7 @@ class Program:
         if edit:
             self.functions = edit(self.functions)
 
-    def read_text(self, text, edit):
+    def read_text(self, text: str, edit: Any) -> None:
         """The functions of an assembly text."""
         text = macros.expanded(text, self.kind)
         if edit:
@@ -126,7 +129,7 @@ class Program:
             elif ":\t" in line or ": R_" in line:
                 lines.append(line)
 
-    def read_symbols(self, file):
+    def read_symbols(self, file: elf.Elf) -> None:
         """The functions that other files may call, and the symbols that they define, of an object
         file. All that a processor sees must be code or constants that nothing writes."""
         is_library = functions.is_library(self.path)
@@ -149,12 +152,12 @@ class Program:
         self.callable = {s.name for s in file.symbols
                          if s.type == elf.FUNCTION and s.binding in (elf.LOCAL, elf.GLOBAL)}
 
-    def is_external(self, shown):
+    def is_external(self, shown: str) -> bool:
         """Whether the target of a call, as objdump shows it, is a function of another file."""
         name, _, rest = shown.partition("@")
         return rest == "plt" and name in self.external
 
-    def target(self, i, external):
+    def target(self, i: Any, external: tuple) -> str:
         """The name without version of the function that a call or a jump goes to: to its start, or
         to one of these functions of another file."""
         shown = found(r"<(.*)>", i.text)[1]
@@ -168,7 +171,7 @@ class Program:
             raise IsWrong("it goes to %s, not to the start of a function" % shown)
         return name
 
-    def code(self, name, instruction=None):
+    def code(self, name: str, instruction: type | None = None) -> list:
         """The instructions of a function, by the model's class for them or another."""
         if name not in self.functions:
             raise CannotShow("%s has no function %s: the compiler may have inlined it, or it has "
@@ -194,7 +197,7 @@ class Program:
             raise CannotShow("objdump does not show all bytes of %s, one after the other" % name)
         return found
 
-    def content(self, name):
+    def content(self, name: str) -> Any:
         """All that executing a function depends on: the text of its instructions, their places
         from its start on, and constants instead of their addresses. None if it has an address of
         constants that is not only read from."""
@@ -216,7 +219,7 @@ class Program:
             found.append((text, place, constant))
         return tuple(found)
 
-    def constant_of(self, i):
+    def constant_of(self, i: Any) -> Any:
         """The constant that an instruction for x86-64 reads: its bytes, and its alignment."""
         for o in i.operands if self.kind == "x86_64" else ():
             if o.kind == "memory" and o.parts[-1][1] == x86.IMAGE and o.size:
@@ -224,7 +227,7 @@ class Program:
                 return tuple(self.constant(at + k) for k in range(o.size)), at % o.size
         return None
 
-    def extent(self, name):
+    def extent(self, name: str) -> tuple:
         """Where the code of a function begins and ends. No other symbol may be in it."""
         found = [s for s in self.symbols if without_version(s[3]) == name]
         if len(found) != 1:
@@ -240,7 +243,7 @@ class Program:
             raise CannotShow("the symbol %s is inside of %s" % (others[0], name))
         return start, start + size
 
-    def check_relocation(self, i, line):
+    def check_relocation(self, i: Any, line: str) -> None:
         """Refuses a number that the linker fills in, except the address of a constant of the file,
         and of the function that a call or a jump goes to."""
         at, kind, symbol, plus = found(
@@ -259,7 +262,7 @@ class Program:
             raise CannotShow("the linker fills in a number of %s: %s of %s" % (
                 i.text, kind, symbol))
 
-    def texts(self, name):
+    def texts(self, name: str) -> list:
         """The instructions of a function, as text without comments."""
         if self.kind == "wasm":
             return self.functions[name]
@@ -267,14 +270,14 @@ class Program:
         texts = [m[3] for m in map(LINE.match, self.functions[name]) if m]
         return [" ".join(t.partition(comment)[0].split()) for t in texts]
 
-    def constant(self, address):
+    def constant(self, address: int) -> int:
         """The byte of the constants at an address."""
         start, data = self.constants
         if not start <= address < start + len(data) or data[address - start] is None:
             raise CannotShow("no constant is known at %#x" % address)
         return data[address - start]
 
-    def machine(self, name, regions, assumed):
+    def machine(self, name: str, regions: dict, assumed: dict) -> Any:
         """A machine for a call of a function."""
         machine = self.model.Model(regions, assumed)
         if self.kind == "wasm":
@@ -282,7 +285,7 @@ class Program:
         return machine
 
 
-def found(pattern, text):
+def found(pattern: str, text: str) -> Any:
     """The match of a pattern that is in a text."""
     m = re.search(pattern, text)
     if not m:
@@ -290,14 +293,15 @@ def found(pattern, text):
     return m
 
 
-def without_version(name):
+def without_version(name: str) -> str:
     """A function's name without the version of its package and of the processor."""
     return re.sub(r"_[0-9]+_[0-9]+_[0-9]+_\w+$", "", name)
 
 
-def constants(file):
+def constants(file: Any) -> Any:
     """The address of a file's constants, and their bytes: None if the linker fills them in."""
-    start, found = 0, []
+    start = 0
+    found: list = []
     for s in file.sections:
         if s.name == CONSTANTS:
             start, found = s.address, list(s.data)

@@ -1,5 +1,7 @@
 """What is known of public words: the range of each variable, and of sums of variables."""
 
+from __future__ import annotations
+
 import terms as T
 
 TOP = 1 << 64
@@ -8,18 +10,18 @@ OPPOSITE = {"==": "!=", "!=": "==", "<": ">=", ">=": "<", ">": "<=", "<=": ">",
 VISITS = 2                             # of a place, after which ranges are widened
 
 
-def merged(a, b):
+def merged(a: tuple, b: tuple) -> tuple:
     """The least range with a step (low, high, step) that has both."""
     low, high = min(a[0], b[0]), max(a[1], b[1])
     return low, high, gcd(gcd(a[2], b[2]), abs(a[0] - b[0]))
 
 
-def signed(w, n):
+def signed(w: int, n: int) -> int:
     """A number of w bits as one from -2^(w-1) on."""
     return n - (1 << w) if n >> w - 1 else n
 
 
-def parts(t):
+def parts(t: T.Term) -> tuple:
     """A term as the sum of a number and of another term or its negative."""
     constant, items = T.linear(t)
     if not items:
@@ -28,7 +30,7 @@ def parts(t):
     return signed(t.w, constant), sign, T.add(t.w, *[(sign * k, u) for u, k in items.items()])
 
 
-def gcd(a, b):
+def gcd(a: int, b: int) -> int:
     while b:
         a, b = b, a % b
     return a
@@ -45,11 +47,11 @@ class Ranges:
     where: str
     block: int
 
-    def new(self, w, what="", limits=None):
+    def new(self, w: int, what: str = "", limits: tuple | None = None) -> T.Term:
         """A new public variable of w bits, named by the place of the instruction."""
         return self.renew(T.var(w, "%s%s" % (self.where, what), T.PUBLIC), limits)
 
-    def renew(self, x, limits):
+    def renew(self, x: T.Term, limits: tuple | None) -> T.Term:
         """A variable that stands for another value from now on."""
         for name in ("ranges", "residues"):
             setattr(self, name, {
@@ -59,7 +61,7 @@ class Ranges:
             self.ranges[x] = limits
         return x
 
-    def range_of(self, t):
+    def range_of(self, t: T.Term) -> tuple:
         """The range (low, high, step) of a term, of which one number is its value modulo 2^w."""
         if t.op == "const":
             n = signed(t.w, t.args) if t.w == 64 else t.args
@@ -78,7 +80,7 @@ class Ranges:
                 return low, high, step
         return 0, (1 << 8 * min(len(bs), t.w // 8)) - 1, 1
 
-    def range_of_rest(self, t):
+    def range_of_rest(self, t: T.Term) -> tuple:
         """The range of a variable, or of a sum without a constant."""
         low, high, step = self.range_of_integer(t)
         other = self.residues.get(t)
@@ -88,7 +90,7 @@ class Ranges:
             return other
         return max(low, other[0]), min(high, other[1]), min(step, 1)
 
-    def range_of_integer(self, t):
+    def range_of_integer(self, t: T.Term) -> tuple:
         """The same, of the sum as an integer."""
         known = self.ranges.get(t)
         if t.op != "add":
@@ -97,7 +99,7 @@ class Ranges:
         return (max(low, known[0]), min(high, known[1]), min(step, 1)) if known else (
             low, high, step)
 
-    def range_of_sum(self, t):
+    def range_of_sum(self, t: T.Term) -> tuple:
         """The range of a sum by those of its parts."""
         low = high = step = 0
         for u, k in t.args[1]:
@@ -106,7 +108,7 @@ class Ranges:
             step = gcd(step, abs(k) * s)
         return low, high, step
 
-    def unsigned(self, t):
+    def unsigned(self, t: T.Term) -> tuple:
         """The range of a term between 0 and 2^w."""
         low, high, _ = self.range_of(t)
         shift = low >> t.w
@@ -114,7 +116,7 @@ class Ranges:
             return low - (shift << t.w), high - (shift << t.w)
         return 0, (1 << t.w) - 1
 
-    def limit(self, t, low, high):
+    def limit(self, t: T.Term, low: int, high: int) -> bool:
         """Learns that a term is between two numbers. Returns whether that may be."""
         constant, sign, rest = parts(t)
         if rest.op == "slice" and rest.args[1] == 0 and self.range_of(rest)[1] < 1 << rest.w:
@@ -137,7 +139,7 @@ class Ranges:
         self.ranges[rest] = found[0] + (step if found[0][0] == a else min(step, 1),)
         return rest.op != "add" or self.limit_parts(rest)
 
-    def limit_parts(self, t):
+    def limit_parts(self, t: T.Term) -> bool:
         """Learns from the range of a sum what follows for its parts."""
         low, high, _ = self.ranges[t]
         first, last, _ = self.range_of_sum(t)
@@ -152,7 +154,7 @@ class Ranges:
             self.ranges[x] = max(a, p), min(b, q), step if p <= a else min(step, 1)
         return True
 
-    def assume(self, relation, a, b):
+    def assume(self, relation: str, a: T.Term, b: T.Term) -> bool:
         """Learns that two words are related. Returns whether that may be."""
         (p, q), (r, s) = self.unsigned(a), self.unsigned(b)
         if relation in (">", ">="):
@@ -174,7 +176,7 @@ class Ranges:
         may = self.limit(a, p, min(q, s - strict)) and self.limit(b, max(r, p + strict), s)
         return may and self.limit(T.add(a.w, (1, b), (-1, a)), strict + 0, s - p)
 
-    def widened(self, old, new, w, visits):
+    def widened(self, old: tuple, new: tuple, w: int, visits: int) -> tuple:
         """A range that stops to grow after some visits. Its end goes to a block's size first."""
         if new == old or visits <= VISITS:
             return new

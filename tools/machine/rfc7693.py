@@ -1,5 +1,9 @@
 """The compression function F of RFC 7693, section 3.2, over terms."""
 
+from __future__ import annotations
+
+from typing import Any
+
 import terms as T
 
 SIGMA = (
@@ -24,7 +28,7 @@ COLUMNS_AND_DIAGONALS = (
 class Kind:
     """The numbers of a family (2.1)."""
 
-    def __init__(self, name, w, rounds, rotations):
+    def __init__(self, name: str, w: int, rounds: int, rotations: Any) -> None:
         self.name, self.w, self.rounds, self.rotations = name, w, rounds, rotations
         self.bytes = w // 8
         self.block = 2 * w
@@ -32,7 +36,7 @@ class Kind:
         self.iv = [root_bits(p, w) for p in (2, 3, 5, 7, 11, 13, 17, 19)]
 
 
-def root_bits(n, w):
+def root_bits(n: Any, w: int) -> Any:
     """The first w bits of the fraction of the square root of n."""
     square, x = n << (2 * w), 1 << (w + 3)
     while x * x > square:
@@ -44,7 +48,8 @@ BLAKE2B = Kind("blake2b", 64, 12, (32, 24, 16, 63))
 BLAKE2S = Kind("blake2s", 32, 10, (16, 12, 8, 7))
 
 
-def F(kind, h, m, low, high, last, last_node):
+def F(kind: Kind, h: list, m: list, low: T.Term, high: T.Term, last: T.Term,
+      last_node: T.Term) -> list:
     """The chaining words after a block. `low` and `high` are the words of the counter, and the
     flags are words of zeros or ones; the second is that of the last node (BLAKE2, 2.10)."""
     w = kind.w

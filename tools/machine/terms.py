@@ -19,8 +19,10 @@ A value in a register or in memory is a list of bytes, the lowest first. A byte 
 pair of a term and of the place of the byte in it. So moves and shuffles only move pairs.
 """
 
+from __future__ import annotations
+
 import random
-from typing import Any
+from typing import Any, Callable, Iterable, Tuple, Union
 
 PUBLIC, SECRET, JUNK = 1, 2, 4
 LIMIT, WIDEST = 200000, 128            # of all terms, and of the parts of one
@@ -38,7 +40,7 @@ class IsWrong(Refused):
     """The code breaks the claim. The message has the inputs, if it depends on them."""
 
 
-def kind_of(e):
+def kind_of(e: Any) -> Any:
     """Which of both a refusal is, as text."""
     return "is wrong" if isinstance(e, IsWrong) else "cannot show"
 
@@ -53,20 +55,24 @@ class Term:
     serial: int
     taint: int
 
-    def __repr__(self):
+    def __repr__(self) -> str:
         return show(self, 3)
+
+
+# A byte: a number, or the byte of a term at a place from its lowest one on.
+Byte = Union[int, Tuple[Term, int]]
 
 
 _table: dict = {}
 _results: dict = {}                          # what remembered() has returned
 
 
-def _too_wide(args):
+def _too_wide(args: Any) -> bool:
     return isinstance(args, tuple) and len(args) == 2 and isinstance(args[1], tuple) and (
         len(args[1]) > WIDEST)
 
 
-def _term(op, w, args, taint):
+def _term(op: str, w: int, args: Any, taint: int) -> Term:
     key = (op, w, args)
     found = _table.get(key)
     if found is None:
@@ -79,13 +85,13 @@ def _term(op, w, args, taint):
     return found
 
 
-def reset():
+def reset() -> None:
     """Forgets all terms. Older terms must not be used with later ones."""
     _table.clear()
     _results.clear()
 
 
-def remembered(f, *arguments):
+def remembered(f: Callable, *arguments: Any) -> Any:
     """The result of a function, computed once for the same arguments."""
     key = (f,) + arguments
     found = _results.get(key)
@@ -94,7 +100,7 @@ def remembered(f, *arguments):
     return found
 
 
-def show(t, depth):
+def show(t: Any, depth: int) -> str:
     """A term as text, without its deeper parts."""
     if not isinstance(t, (Term, tuple)):
         return str(t)
@@ -109,24 +115,24 @@ def show(t, depth):
     return ("" if isinstance(t, tuple) else "%s%d" % (t.op, t.w)) + "[" + ", ".join(shown) + "]"
 
 
-def const(w, n):
+def const(w: int, n: int) -> Term:
     """The number n modulo 2^w."""
     return _term("const", w, n & ((1 << w) - 1), 0)
 
 
-def var(w, name, taint):
+def var(w: int, name: Any, taint: int) -> Term:
     """The variable of this name."""
     return _term("var", w, name, taint)
 
 
-def ite(w, condition, on, off):
+def ite(w: int, condition: Any, on: int, off: int) -> Term:
     """The number `on` if the flag of this name is on, and otherwise `off`."""
     if on == off:
         return const(w, on)
     return _term("ite", w, (condition, on, off), PUBLIC)
 
 
-def leaves(f, w, *terms):
+def leaves(f: Callable, w: int, *terms: Any) -> Term | None:
     """The result of f on numbers, where each term is a number or depends on one condition."""
     condition = None
     for t in terms:
@@ -143,7 +149,7 @@ def leaves(f, w, *terms):
     return ite(w, condition, f(*at(1)) & mask, f(*at(2)) & mask)
 
 
-def linear(t):
+def linear(t: Term) -> tuple:
     """The constant and the coefficients of a term as a sum."""
     if t.op == "const":
         return t.args, {}
@@ -152,14 +158,14 @@ def linear(t):
     return 0, {t: 1}
 
 
-def need_width(w, *terms):
+def need_width(w: int, *terms: Term) -> None:
     """Refuses terms of another width."""
     for t in terms:
         if t.w != w:
             raise CannotShow("%r has %d bits instead of %d" % (t, t.w, w))
 
 
-def add(w, *parts):
+def add(w: int, *parts: tuple) -> Term:
     """The sum of pairs of a coefficient and a term."""
     if len(parts) == 2:
         simple = leaves(lambda a, b: parts[0][0] * a + parts[1][0] * b, w, parts[0][1], parts[1][1])
@@ -186,7 +192,7 @@ def add(w, *parts):
     return _term("add", w, (constant, tuple(items)), taint)
 
 
-def _members(terms):
+def _members(terms: tuple) -> tuple:
     """The constant, the flags' masks and the other members of an exclusive or."""
     constant = 0
     chosen: dict = {}
@@ -206,7 +212,7 @@ def _members(terms):
     return constant, {n: m for n, m in chosen.items() if m}, members
 
 
-def xor(w, *terms):
+def xor(w: int, *terms: Any) -> Term:
     """The exclusive or of terms."""
     need_width(w, *terms)
     simple = leaves(lambda *a: _xor_all(a), w, *terms)
@@ -227,24 +233,24 @@ def xor(w, *terms):
     return _term("xor", w, (constant, tuple(sorted(members, key=lambda u: u.serial))), taint)
 
 
-def _xor_all(numbers):
+def _xor_all(numbers: Iterable | tuple) -> int:
     result = 0
     for n in numbers:
         result ^= n
     return result
 
 
-def _ror_number(w, n, k):
+def _ror_number(w: int, n: int, k: int) -> int:
     return (n >> k | n << (w - k)) & ((1 << w) - 1)
 
 
-def ror(w, t, k):
+def ror(w: int, t: Any, k: int) -> Term:
     """A rotation to the right by k bits."""
     need_width(w, t)
     return remembered(_ror, w, t, k % w) if k % w else t
 
 
-def _ror(w, t, k):
+def _ror(w: int, t: Term, k: int) -> Term:
     simple = leaves(lambda a: _ror_number(w, a, k), w, t)
     if simple:
         return simple
@@ -257,7 +263,7 @@ def _ror(w, t, k):
     return _term("ror", w, (t, k), t.taint)
 
 
-def shl(w, t, k):
+def shl(w: int, t: Term, k: int) -> Term:
     """A shift to the left by k bits, 0 < k < w."""
     simple = leaves(lambda a: a << k, w, t)
     if simple:
@@ -267,7 +273,7 @@ def shl(w, t, k):
     return add(w, (1 << k, t))
 
 
-def shr(w, t, k):
+def shr(w: int, t: Term, k: int) -> Term:
     """A logical shift to the right by k bits, 0 < k < w."""
     simple = leaves(lambda a: a >> k, w, t)
     if simple:
@@ -277,7 +283,7 @@ def shr(w, t, k):
     return _term("shr", w, (t, k), t.taint)
 
 
-def rotation(w, a, b):
+def rotation(w: int, a: Term, b: Term) -> Term | None:
     """The rotation that two shifted words make, whose bits do not overlap, or None."""
     for low, high in ((a, b), (b, a)):
         if low.op == "shr" and high.op == "add":
@@ -287,7 +293,7 @@ def rotation(w, a, b):
     return None
 
 
-def disjoint(a, b):
+def disjoint(a: Term, b: Term) -> Term | None:
     """The bytes of two words of which one is zero in each byte, or None."""
     result = []
     for x, y in zip(split(a), split(b)):
@@ -300,7 +306,7 @@ def disjoint(a, b):
     return word(result)
 
 
-def either(w, a, b):
+def either(w: int, a: Term, b: Term) -> Term | None:
     """The bitwise or of two terms."""
     if a is b:
         return a
@@ -310,14 +316,14 @@ def either(w, a, b):
     return _bytewise(w, a, b, 255, "or")
 
 
-def both(w, a, b):
+def both(w: int, a: Term, b: Term) -> Term | None:
     """The bitwise and of two terms."""
     if a is b:
         return a
     return leaves(lambda x, y: x & y, w, a, b) or _bytewise(w, a, b, 0, "and")
 
 
-def _bytewise(w, a, b, absorbing, what):
+def _bytewise(w: int, a: Term, b: Term, absorbing: int, what: str) -> Term | None:
     result = []
     for x, y in zip(split(a), split(b)):
         if x == absorbing or y == absorbing:
@@ -335,7 +341,7 @@ def _bytewise(w, a, b, absorbing, what):
     return word(result)
 
 
-def split(t):
+def split(t: Any) -> list:
     """The bytes of a term."""
     n = t.w // 8
     if t.op == "const":
@@ -354,7 +360,7 @@ def split(t):
     return [(t, i) for i in range(n)]
 
 
-def word(bs):
+def word(bs: Any) -> Term:
     """The term of a list of bytes."""
     bs = tuple(bs)
     n = len(bs)
@@ -381,12 +387,12 @@ def word(bs):
     return ite(8 * n, names.pop(), number(1), number(2)) if names else const(8 * n, number(0))
 
 
-def slice_of(t, i, n):
+def slice_of(t: Term, i: int, n: int) -> Term:
     """Bytes i to i + n - 1 of a term."""
     return remembered(_slice_of, t, i, n)
 
 
-def _slice_of(t, i, n):
+def _slice_of(t: Term, i: int, n: int) -> Term:
     if t.op == "xor":
         part = lambda u: word(split(u)[i:i + n])
         return xor(8 * n, part(const(t.w, t.args[0])), *[part(u) for u in t.args[1]])
@@ -396,7 +402,7 @@ def _slice_of(t, i, n):
     return _term("slice", 8 * n, (t, i), t.taint)
 
 
-def test(op, w, t):
+def test(op: str, w: int, t: Term) -> Term:
     """The truth of "zero" or "nonzero" of a term, as 0 or 1 in w bits."""
     simple = leaves(lambda n: int((n == 0) == (op == "zero")), w, t)
     if simple:
@@ -408,7 +414,7 @@ def test(op, w, t):
     return _term(op, w, (t,), t.taint)
 
 
-def value(t, numbers, memo):
+def value(t: Term, numbers: Any, memo: dict) -> int:
     """The number that a term has, by the definitions of its operators, where `numbers` has those
     of the variables and whether each flag is on."""
     if t in memo:
@@ -444,17 +450,17 @@ def value(t, numbers, memo):
 class Numbers(dict):
     """Random numbers for the variables, the same for the same seed. Seed 0 has zeros only."""
 
-    def __init__(self, seed, fixed=()):
+    def __init__(self, seed: int, fixed: tuple = ()) -> None:
         super().__init__(fixed)
         self.seed = seed
 
-    def __missing__(self, name):
+    def __missing__(self, name: str) -> int:
         number = random.Random("%s %s" % (self.seed, name)).getrandbits(64) if self.seed else 0
         self[name] = number
         return number
 
 
-def difference(a, b):
+def difference(a: Term, b: Term) -> Any:
     """Inputs for which two terms differ, as text, or None if no difference is found."""
     for seed in range(8):
         numbers = Numbers(seed)
@@ -466,7 +472,7 @@ def difference(a, b):
     return None
 
 
-def depends(t, taint):
+def depends(t: Term, taint: int) -> Any:
     """Inputs for which a term changes with a variable of this taint only, as text, or None."""
     names: dict = {}
     _variables(t, names, set())
@@ -480,7 +486,7 @@ def depends(t, taint):
     return None
 
 
-def _variables(t, names, seen):
+def _variables(t: Term, names: dict, seen: set) -> None:
     """Collects the variables of a term, with their taints."""
     if t in seen or t.op == "const":
         return
@@ -494,7 +500,7 @@ def _variables(t, names, seen):
             _variables(u, names, seen)
 
 
-def substitute(t, mapping, memo):
+def substitute(t: Term, mapping: Any, memo: dict) -> Term:
     """A term with other terms for some variables."""
     if t in memo:
         return memo[t]

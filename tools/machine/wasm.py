@@ -1,7 +1,9 @@
 """A model of the WebAssembly instructions that the compression functions use. Any other is an
 error."""
 
-from typing import Any
+from __future__ import annotations
+
+from typing import Any, Callable
 
 import terms as T
 from machine import Machine, bitwise, chunks, joined, junk, lanewise, number
@@ -17,17 +19,18 @@ class Instruction:
 
     __slots__ = ("address", "next", "name", "numbers", "text", "target")
 
-    def __init__(self, address, text):
+    def __init__(self, address: int, text: str) -> None:
         self.address, self.text, self.next, self.target = address, text, address + 1, None
         self.name, *numbers = text.split()
-        self.numbers = [int(n) if n.lstrip("-").isdigit() else n for n in numbers]
+        self.numbers: list = [int(n) if n.lstrip("-").isdigit() else n for n in numbers]
 
 
-def parse(lines):
+def parse(lines: Any) -> Any:
     """The instructions of a function. A branch to a loop goes to the instruction after `loop`, and
     one to a block goes to its `end`."""
     found = [Instruction(k, line) for k, line in enumerate(lines)]
-    ends, opened = {}, []
+    ends: dict = {}
+    opened: list = []
     for i in found:
         if i.name in ("block", "loop", "if"):
             opened.append(i.address)
@@ -53,19 +56,22 @@ class Wasm(Machine):
     RED_ZONE = 128
     FREE = ("nop", "unreachable", "end")
 
-    def __init__(self, regions, assumed):
+    def __init__(self, regions: dict, assumed: dict) -> None:
         super().__init__(regions, assumed)
-        self.locals, self.globals, self.operands, self.labels = [], [], [], []
+        self.locals: list = []
+        self.globals: list = []
+        self.operands: list = []
+        self.labels: list = []
 
-    def copy(self):
+    def copy(self) -> Any:
         other = super().copy()
         other.labels = list(self.labels)
         return other
 
-    def stack_pointer(self):
+    def stack_pointer(self) -> T.Term:
         return T.word(self.globals[0])
 
-    def start(self, sp, back, arguments):
+    def start(self, sp: T.Term, back: T.Term, arguments: list) -> None:
         """The state at the entry of a function, whose types are in `signature`."""
         self.stack = sp
         self.globals = [T.split(sp)]
@@ -75,27 +81,27 @@ class Wasm(Machine):
             raise CannotShow("the function has other parameters than its kind has")
         self.locals += [[0] * n for n in sizes[len(arguments):]]
 
-    def saved(self):
+    def saved(self) -> list:
         return [list(self.globals[0])]
 
-    def check_return(self, sp, back, saved):
+    def check_return(self, sp: T.Term, back: T.Term, saved: list) -> None:
         if self.saved() != saved:
             raise IsWrong("the stack pointer is not restored")
         if self.operands or self.labels:
             raise CannotShow("values are left on the stack")
 
-    def pop(self):
+    def pop(self) -> list:
         if not self.operands:
             raise CannotShow("the stack of operands is empty")
         return self.operands.pop()
 
-    def pop_word(self):
+    def pop_word(self) -> T.Term:
         return T.word(self.pop())
 
-    def push(self, data):
+    def push(self, data: list | tuple) -> None:
         self.operands.append(list(data))
 
-    def step(self, i):
+    def step(self, i: Instruction) -> Any:
         """Executes an instruction. Returns the address of the next one, or None after a return."""
         kind, _, what = i.name.partition(".")
         method = getattr(self, "do_" + i.name.replace(".", "_"), None)
@@ -113,7 +119,7 @@ class Wasm(Machine):
                              "and run tools/machine/check.py --long" % i.text)
         return i.next
 
-    def control(self, i):
+    def control(self, i: Instruction) -> int | None:
         if i.name in ("block", "loop") and not i.numbers:
             self.labels.append(len(self.operands))
         elif i.name == "return" or i.name == "end" and not self.labels:
@@ -138,60 +144,60 @@ class Wasm(Machine):
             raise CannotShow("%s is not modelled: add it to tools/machine/wasm.py" % i.text)
         return i.next
 
-    def do_nop(self):
+    def do_nop(self) -> None:
         pass
 
-    def do_drop(self):
+    def do_drop(self) -> None:
         self.pop()
 
-    def do_local_get(self, k):
+    def do_local_get(self, k: int) -> None:
         self.push(self.locals[k])
 
-    def do_local_set(self, k):
+    def do_local_set(self, k: int) -> None:
         data = self.pop()
         if len(data) != len(self.locals[k]):
             raise CannotShow("a value has not the size of its local")
         self.locals[k] = data
 
-    def do_local_tee(self, k):
+    def do_local_tee(self, k: int) -> None:
         self.do_local_set(k)
         self.do_local_get(k)
 
-    def do_global_get(self, k):
+    def do_global_get(self, k: int) -> None:
         self.push(self.globals[k])
 
-    def do_i32_const(self, n):
+    def do_i32_const(self, n: int) -> None:
         self.push(T.split(T.const(32, n)))
 
-    def do_i64_const(self, n):
+    def do_i64_const(self, n: int) -> None:
         self.push(T.split(T.const(64, n)))
 
-    def do_i32_wrap_i64(self):
+    def do_i32_wrap_i64(self) -> None:
         self.push(self.pop()[:4])
 
-    def do_i64_extend_i32_u(self):
+    def do_i64_extend_i32_u(self) -> None:
         self.push(self.pop() + [0] * 4)
 
-    def do_v128_const(self, *data):
+    def do_v128_const(self, *data: int) -> None:
         self.push(data)
 
-    def do_i8x16_shuffle(self, *places):
+    def do_i8x16_shuffle(self, *places: int) -> None:
         b, a = self.pop(), self.pop()
         self.push([(a + b)[p] for p in places])
 
-    def do_v128_xor(self):
+    def do_v128_xor(self) -> None:
         b, a = self.pop(), self.pop()
         self.push(bitwise(T.xor, a, b))
 
-    def do_v128_or(self):
+    def do_v128_or(self) -> None:
         b, a = self.pop(), self.pop()
         self.push(bitwise(T.either, a, b))
 
-    def do_v128_and(self):
+    def do_v128_and(self) -> None:
         b, a = self.pop(), self.pop()
         self.push(bitwise(T.both, a, b))
 
-    def do_v128_bitselect(self):
+    def do_v128_bitselect(self) -> None:
         mask, b, a = self.pop(), self.pop(), self.pop()
         chosen = []
         for x, y, m in zip(chunks(a, 4), chunks(b, 4), chunks(mask, 4)):
@@ -202,7 +208,7 @@ class Wasm(Machine):
             chosen.append(T.split(t))
         self.push(joined(chosen))
 
-    def arithmetic(self, n, what):
+    def arithmetic(self, n: int, what: str) -> bool:
         """An operation on words of n bytes."""
         w = 8 * n
         if what == "eqz":
@@ -225,14 +231,14 @@ class Wasm(Machine):
         self.push(T.split(result))
         return True
 
-    def has_no_room(self, a, b):
+    def has_no_room(self, a: T.Term, b: T.Term) -> T.Term:
         """The check of the stack pointer at the entry, which traps without enough room."""
         offset, items = T.linear(a)
         if items != {self.stack: 1} or b.op != "const" or not 0 <= b.args - offset <= ROOM:
             raise CannotShow("there is no rule for %r < %r" % (a, b))
         return T.const(32, 0)
 
-    def lanes(self, n, what, numbers):
+    def lanes(self, n: int, what: str, numbers: list) -> bool:
         """An operation on lanes of n bytes."""
         w = 8 * n
         if what == "splat":
@@ -254,7 +260,7 @@ class Wasm(Machine):
             return False
         return True
 
-    def access(self, kind, what, numbers):
+    def access(self, kind: str, what: Any, numbers: Any) -> Any:
         """A load or a store."""
         if not numbers:
             return False
@@ -282,7 +288,7 @@ class Wasm(Machine):
             return False
         return True
 
-    def effective(self, offset):
+    def effective(self, offset: int) -> T.Term:
         """The address below the values of an access, whose sum with the offset must not wrap."""
         address = self.pop_word()
         self.place(address, 0, False)
@@ -291,12 +297,12 @@ class Wasm(Machine):
         return T.add(address.w, (1, address), (1, T.const(address.w, offset)))
 
 
-def shifted(f, w, t, k):
+def shifted(f: Callable, w: int, t: T.Term, k: int) -> T.Term:
     """A shift by k modulo the width."""
     return f(w, t, k % w) if k % w else t
 
 
-def signed_shift(w, t, k):
+def signed_shift(w: int, t: T.Term, k: int) -> Any:
     """A shift to the right that copies the sign, of a number or of one that a flag chooses."""
     f = lambda n: (n >> k) - (n >> w - 1 << w - k)
     result = T.leaves(f, w, t)

@@ -1,12 +1,16 @@
 """Reads the functions of a WebAssembly module as lines of text, one for each instruction: its name
 and its numbers, such as `i64.const -1`, `v128.load 240` (an offset) or `br_if 0`."""
 
+from __future__ import annotations
+
 import base64
 import re
 import struct
+from typing import Any
 
 from terms import CannotShow
 
+START, LAST = 8, 12                    # the section of a function that runs first, and the last one
 TYPES = {0x7f: "i32", 0x7e: "i64", 0x7d: "f32", 0x7c: "f64", 0x7b: "v128"}
 
 # The numbers that follow an opcode: b a block's type, u an unsigned number, s a signed one, m the
@@ -61,19 +65,19 @@ MORE = {8: "memory.init uu", 10: "memory.copy ll", 11: "memory.fill l"}
 class Reader:
     """Bytes with a position."""
 
-    def __init__(self, data):
+    def __init__(self, data: bytes) -> None:
         self.data, self.at = data, 0
 
-    def take(self, n):
+    def take(self, n: int) -> bytes:
         if n > len(self.data) - self.at:
             raise CannotShow("the module ends too early")
         self.at += n
         return self.data[self.at - n:self.at]
 
-    def byte(self):
+    def byte(self) -> int:
         return self.take(1)[0]
 
-    def number(self, signed=False):
+    def number(self, signed: bool = False) -> int:
         """A number in LEB128."""
         value = shift = 0
         while True:
@@ -83,7 +87,7 @@ class Reader:
             if b < 128:
                 return value - (1 << shift) if signed and b & 64 else value
 
-    def operands(self, kinds):
+    def operands(self, kinds: str) -> list:
         """The numbers after an opcode, as text."""
         found = []
         for kind in kinds:
@@ -102,7 +106,7 @@ class Reader:
                 found.append(str(self.byte() if kind == "l" else self.number(kind == "s")))
         return found
 
-    def instruction(self):
+    def instruction(self) -> str:
         """The next instruction, as text."""
         code = self.byte()
         table = {0xfc: MORE, 0xfd: VECTOR}.get(code, PLAIN)
@@ -120,7 +124,7 @@ class Reader:
 class Function:
     """The types of the parameters and of the locals, and the instructions as text."""
 
-    def __init__(self, parameters, results, body):
+    def __init__(self, parameters: list, results: list, body: bytes) -> None:
         self.parameters, self.results = parameters, results
         reader = Reader(body)
         self.locals = list(parameters)
@@ -135,7 +139,9 @@ class Function:
 class Module:
     """The functions, by their index, the width of addresses in bits, and names if there are any."""
 
-    def __init__(self, data):
+    names: dict
+
+    def __init__(self, data: bytes) -> None:
         reader = Reader(data)
         if reader.take(8) != b"\0asm\1\0\0\0":
             raise CannotShow("this is not a WebAssembly module of version 1")
@@ -145,6 +151,8 @@ class Module:
             content = Reader(reader.take(reader.number()))
             if id_ == 0:
                 self.read_names(content)
+            elif id_ in sections or id_ == START or id_ > LAST:
+                raise CannotShow("the module has a section %d, or has it twice" % id_)
             else:
                 sections[id_] = content
         if 2 in sections:
@@ -161,13 +169,13 @@ class Module:
             raise CannotShow("the module has not one memory")
         self.width = 64 if sections[5].byte() & 4 else 32
 
-    def read_type(self, reader):
+    def read_type(self, reader: Reader) -> list:
         """The parameters and the results of a type of functions."""
         if reader.byte() != 0x60:
             raise CannotShow("a type is not that of a function")
         return [[TYPES[b] for b in reader.take(reader.number())] for _ in range(2)]
 
-    def read_names(self, reader):
+    def read_names(self, reader: Reader) -> None:
         """The names of functions, by index, in the section "name"."""
         if reader.take(reader.number()) != b"name":
             return
@@ -180,7 +188,7 @@ class Module:
                     self.names[index] = part.take(part.number()).decode()
 
 
-def module_of_script(text):
+def module_of_script(text: str) -> Any:
     """The bytes of the module that js/src/wasm.js has in base64."""
     m = re.search(r'const text =\s*"([A-Za-z0-9+/=]+)"', text)
     if not m:

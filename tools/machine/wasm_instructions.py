@@ -2,9 +2,12 @@
 operands, and compares with the model. Control, calls of locals, and the check of the stack are part
 of whole functions only."""
 
+from __future__ import annotations
+
 import json
 import random
 import subprocess
+from typing import Any
 
 import functions
 import terms as T
@@ -34,7 +37,7 @@ RESULT = 128                           # where a result goes; operands are at 0,
 ADDRESS = 256                          # the address that a load or a store gets
 
 
-def signature(text):
+def signature(text: str) -> Any:
     """The types of the operands, and of the result or None."""
     kind, _, what = text.split()[0].partition(".")
     lane = "i64" if kind == "i64x2" else "i32"
@@ -59,7 +62,7 @@ def signature(text):
     return [kind] * (1 if what == "eqz" else 2), "i32" if what in ("eqz", "eq", "ne") else kind
 
 
-def leb(n, signed=False):
+def leb(n: Any, signed: Any = False) -> Any:
     """A number in LEB128."""
     out = []
     while not (0 <= n < 128 and not signed or signed and -64 <= n < 64):
@@ -68,7 +71,7 @@ def leb(n, signed=False):
     return bytes(out + [n & 127])
 
 
-def encoded(text):
+def encoded(text: str) -> Any:
     """The bytes of an instruction."""
     name, *numbers = text.split()
     for prefix, table in ((b"", wasm_format.PLAIN), (b"\xfd", wasm_format.VECTOR)):
@@ -83,7 +86,7 @@ def encoded(text):
     raise T.CannotShow("no opcode is known for " + text)
 
 
-def module(text):
+def module(text: str) -> Any:
     """A module with a function that loads operands, runs the instruction, and stores its result."""
     operands, result = signature(text)
     load = lambda kind, at: b"\x41\0" + encoded("%s.load %d" % (kind, at))
@@ -101,7 +104,7 @@ def module(text):
             + section(10, b"\1" + leb(len(body)) + body))
 
 
-def model(text, data):
+def model(text: str, data: Any) -> Any:
     """The memory after the instruction in the model."""
     operands, result = signature(text)
     memory = Region(0, 512, lambda k: data[k], (0, 512))
@@ -119,7 +122,7 @@ def model(text, data):
     return bytes(after)
 
 
-def chosen(path, rng, count):
+def chosen(path: str, rng: Any, count: int) -> Any:
     """Up to `count` instructions of each name, over all functions of the list."""
     program = read(path)
     found: dict = {}
@@ -131,7 +134,7 @@ def chosen(path, rng, count):
                         for t in rng.sample(sorted(found[n]), min(count, len(found[n])))]
 
 
-def check(path, rounds):
+def check(path: str, rounds: int) -> Any:
     """Whether the model agrees with node: a verdict, and the numbers or what differs."""
     rng = random.Random(5)
     forms, tests = chosen(path, rng, 8)
@@ -159,7 +162,7 @@ def check(path, rounds):
     return "ok", "%d forms, %d instructions, %d runs" % (forms, len(tests), len(inputs))
 
 
-def re_offset(text):
+def re_offset(text: str) -> Any:
     """An access with an offset below 128, so that it stays in the memory of the test."""
     name, *numbers = text.split()
     if ".load" in name or ".store" in name:

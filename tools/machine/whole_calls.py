@@ -2,8 +2,10 @@
 all inputs, and nothing else. F is a function of which nothing is known here, because compression.py
 shows what it computes. docs/MACHINE.md says what is shown."""
 
+from __future__ import annotations
+
 import re
-from typing import Any
+from typing import Any, TYPE_CHECKING
 
 import calls
 import functions
@@ -15,6 +17,9 @@ from following import Aligned, reset
 from machine import bitwise, chunks, image, need_public
 from terms import CannotShow, IsWrong
 
+if TYPE_CHECKING:
+    from rfc7693 import Kind
+
 PATHS, LIMIT = 200, 200000             # of a call: paths at a time, and instructions
 # What takes memory of the stack in a compression, and how much: 8 bytes if there is no number.
 MOVES_STACK = re.compile(r"(?!add\b)\w+\s+r?sp,")
@@ -25,48 +30,48 @@ INSTRUCTIONS = {kind: module.Instruction for kind, module in calls.MODELS.items(
 class Terms:
     """The operations of call_specification.py over terms, by what a path of a call knows."""
 
-    def __init__(self, calls, machine):
+    def __init__(self, calls: Calls, machine: Any) -> None:
         self.calls, self.machine = calls, machine
 
-    def word(self, n):
+    def word(self, n: Any) -> T.Term:
         return T.const(64, n) if isinstance(n, int) else self.machine.settled(n)
 
-    def number(self, n, size):
+    def number(self, n: T.Term | int, size: int) -> list:
         data = self.machine.bytes_of(self.word(n))
         if any(data[size:]):
             raise CannotShow("%r may have more than %d bytes" % (n, size))
         return data[:size]
 
-    def from_bytes(self, data):
+    def from_bytes(self, data: list) -> T.Term:
         return T.word(data + [0] * (8 - len(data)))
 
-    def below(self, j, n, x, y):
+    def below(self, j: int, n: T.Term, x: T.Byte, y: T.Byte) -> T.Byte:
         if isinstance(n, int):
             return x if j < n else y
         return below(self.machine, j, self.word(n), x, y)
 
-    def plus(self, a, b):
+    def plus(self, a: T.Byte | T.Term, b: T.Byte | T.Term) -> Any:
         return a + b if isinstance(a, int) and isinstance(b, int) else T.add(
             64, (1, self.word(a)), (1, self.word(b)))
 
-    def times(self, m, k):
+    def times(self, m: int, k: T.Term | int) -> T.Term | int:
         return m * k if isinstance(k, int) else T.add(64, (m, k))
 
-    def difference(self, a, b):
+    def difference(self, a: T.Term, b: T.Term) -> Any:
         a, b = self.word(a), self.word(b)
         is_less = self.machine.decided("<", a, b)
         if is_less is None:
             raise CannotShow("whether %r < %r is not known" % (a, b))
         return 0 if is_less else T.add(64, (1, a), (-1, b))
 
-    def may_be_less(self, a, b):
+    def may_be_less(self, a: T.Byte | T.Term, b: T.Term) -> bool:
         """Whether a < b, unless it is known that it is not."""
         return self.machine.decided("<", self.word(a), self.word(b)) is not False
 
-    def xor(self, data, other):
+    def xor(self, data: bytes | list, other: list) -> list:
         return bitwise(T.xor, list(data), list(other))
 
-    def is_zero(self, n):
+    def is_zero(self, n: Any) -> bool:
         if isinstance(n, int):
             return n == 0
         low, high = self.machine.unsigned(n)
@@ -74,19 +79,21 @@ class Terms:
             raise CannotShow("whether %r is 0 is not known" % n)
         return high == 0
 
-    def is_on(self, n):
+    def is_on(self, n: T.Term | int) -> int:
         return int(not self.is_zero(n))
 
-    def are_equal(self, x, y):
-        byte = 0
+    def are_equal(self, x: Any, y: Any) -> Any:
+        byte: T.Byte = 0
         for p, q in zip(x, y):
             byte = any_of(byte, self.xor([p], [q])[0])
         return is_zero(T.word([byte]))
 
-    def compress(self, kind, chain, block, count, last, node):
+    def compress(self, kind: Kind, chain: list, block: list, count: T.Term, last: int,
+                 node: int) -> list:
         return self.calls.result("F", kind, tuple(chain), tuple(block), self.word(count), last, node)
 
-    def compress_all(self, kind, chain, data, start, k, count):
+    def compress_all(self, kind: Kind, chain: list, data: Buffer, start: T.Term | int,
+                     k: T.Term | int, count: T.Term | int) -> list:
         if k == 0:
             return chain
         return self.calls.result("blocks", kind, tuple(chain), data.name, self.word(start),
@@ -98,10 +105,10 @@ class Loop:
     first iteration proposes which words grow by a constant and where the chaining words are. A
     general iteration, after which j more follow, must agree."""
 
-    def __init__(self, calls, name, head, last, machine):
+    def __init__(self, calls: Calls, name: str, head: int, last: int, machine: Any) -> None:
         self.calls, self.name, self.head, self.last, self.start = calls, name, head, last, machine
 
-    def iterate(self, machine):
+    def iterate(self, machine: Any) -> tuple:
         """The machine after an iteration, the word that is 0 if it is the last one, and the call of
         the compression in it."""
         calls = self.calls
@@ -116,7 +123,7 @@ class Loop:
         _, a, b = compared
         return ends[0], T.add(a.w, (1, a), (-1, b)), calls.compressed[0]
 
-    def show(self):
+    def show(self) -> Any:
         """The machine after the loop."""
         second, left, one = self.iterate(self.start.copy())
         self.count = T.add(64, (1, left), (1, T.const(64, 1)))
@@ -152,7 +159,7 @@ class Loop:
             kind, one["chain"], buffer, start, self.count, before)
         return self.machine(self.count, words)
 
-    def propose(self, first, second, call):
+    def propose(self, first: dict, second: dict, call: dict) -> None:
         """The words that grow, the bytes of the chaining words, and the rest of what changes."""
         places = {b: k for k, b in enumerate(call["result"])}
         self.grows, self.chain, self.rest = {}, {}, set()
@@ -171,7 +178,7 @@ class Loop:
             self.rest |= changed & set(group)
         self.rest -= set(self.chain)
 
-    def at(self, cells, c):
+    def at(self, cells: dict, c: tuple) -> T.Byte:
         """A byte of a register or of memory, by what was written."""
         if c in cells:
             return cells[c]
@@ -182,7 +189,7 @@ class Loop:
 
     unwritten: dict = {}
 
-    def machine(self, i, words):
+    def machine(self, i: T.Term, words: list) -> Any:
         """The machine at the head of iteration i, with these chaining words."""
         m = self.start.copy()
         state = {c: words[k] for c, k in self.chain.items()}
@@ -194,7 +201,7 @@ class Loop:
         m.flags = None
         return m
 
-    def check(self, after, i, call):
+    def check(self, after: dict, i: T.Term, call: dict) -> None:
         """What a general iteration leaves must be the next iteration's start."""
         state = self.machine(T.add(64, (1, i), (1, T.const(64, 1))), call["result"]).cells()
         for c in set(after) | set(state):
@@ -205,7 +212,14 @@ class Loop:
 class Calls:
     """Executes the functions of a file."""
 
-    def __init__(self, program, exported=""):
+    codes: dict
+    scrubs: dict
+    frames: dict
+    results: dict
+    compressed: list
+    at: Any
+
+    def __init__(self, program: programs.Program, exported: str = "") -> None:
         self.program, self.codes, self.at, self.count = program, {}, None, 0
         self.exported, self.scrubs, self.frames = exported, functions.scrubs(program), {}
         self.listed = {functions.in_file(program.path, name): (kind, lanes)
@@ -213,17 +227,17 @@ class Calls:
         self.answering = tuple(functions.IS_DIGEST_OF % f for f in ("blake2b", "blake2s"))
         self.forget()
 
-    def forget(self):
+    def forget(self) -> None:
         self.results, self.compressed, self.count = {}, [], 0
         Loop.unwritten = {}
 
-    def result(self, what, kind, *arguments):
+    def result(self, what: str, kind: Kind, *arguments: Any) -> list:
         """The bytes of eight chaining words: the same variables for the same arguments."""
         n = self.results.setdefault((what, kind.name) + arguments, len(self.results))
         return [b for j in range(8)
                 for b in T.split(T.var(kind.w, "%s%d.%d" % (what, n, j), T.SECRET))]
 
-    def code(self, name):
+    def code(self, name: str) -> tuple:
         """The instructions of a function by address, the first, and its loops that compress: the
         address of the head and of the jump back."""
         if name not in self.codes:
@@ -237,7 +251,7 @@ class Calls:
             self.codes[name] = code, found[0].address, loops
         return self.codes[name]
 
-    def compresses(self, body):
+    def compresses(self, body: list) -> bool:
         """Whether instructions in a row are a loop with one compression, and without other jumps."""
         model: Any = MODELS[self.program.kind]
         found = [i for i in body if model.is_call(None, i)]
@@ -245,7 +259,7 @@ class Calls:
             not any(model.is_return(None, i) or i.target is not None for i in body[:-1]
                     if i is not found[0]))
 
-    def run(self, name, machine, start=None, stop=None):
+    def run(self, name: str, machine: Any, start: Any = None, stop: Any = None) -> list:
         """The machines at all returns of a function, or at an address."""
         code, first, loops = self.code(name)
         entry = machine.at_entry() if start is None else None
@@ -277,7 +291,7 @@ class Calls:
                         waiting.append((other, pc))
         return ends
 
-    def follow(self, name, m, i, entry, waiting, ends):
+    def follow(self, name: str, m: Any, i: Any, entry: tuple, waiting: list, ends: list) -> None:
         """Executes an instruction."""
         code = self.codes[name][0]
         if m.is_call(i):
@@ -310,13 +324,13 @@ class Calls:
                     self.check(end, entry, name, 1)
                     ends.append(end)
 
-    def check(self, m, entry, name, first=0):
+    def check(self, m: Any, entry: tuple, name: str, first: int = 0) -> None:
         """What a return must find. The return address is the first of it."""
         if entry is None or not m.is_as_at(entry, first):
             raise IsWrong("the return address, the stack pointer or a register of the caller is "
                           "not as at the entry of " + name)
 
-    def call(self, m, i):
+    def call(self, m: Any, i: Any) -> list:
         """The machines after a call of another function."""
         name = self.program.target(i, OF_C)
         to, source, length = (m.argument(k) for k in range(3))
@@ -340,7 +354,7 @@ class Calls:
             m.answer()[:] = T.split(to)
         return [m]
 
-    def answers(self, m):
+    def answers(self, m: Any) -> list:
         """The answer of a comparison is public: 1 or 0. A call compares once."""
         if m.compared_bytes or not self.exported.endswith("_verify"):
             raise IsWrong("a comparison whose answer is not that of the call")
@@ -355,7 +369,7 @@ class Calls:
             found.append(n)
         return found
 
-    def frame(self, name):
+    def frame(self, name: str) -> int:
         """How many bytes of the stack a compression uses: those that it takes, in no loop."""
         if name not in self.frames:
             code, taken = self.program.code(name), 0
@@ -368,7 +382,7 @@ class Calls:
             self.frames[name] = taken
         return self.frames[name]
 
-    def compress(self, m, kind, lanes):
+    def compress(self, m: Any, kind: Kind, lanes: int) -> None:
         """A call of F: of one message."""
         if lanes != 1:
             raise CannotShow("a compression of several messages")

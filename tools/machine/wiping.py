@@ -1,5 +1,7 @@
-"""Shows that scrub_stack overwrites its N bytes of the stack with zeros, on x86-64 and ARM, and does
-nothing else."""
+"""Shows that scrub_stack overwrites its N bytes of the stack with zeros, and does nothing else, on
+x86-64 and ARM."""
+
+from __future__ import annotations
 
 from typing import Any
 
@@ -24,7 +26,7 @@ CONVENTION = {"x86_64": ((7, 6, 2), (3, 4, 5, 12, 13, 14, 15)),
 class Scrub:
     """A call of scrub_stack, in which memset writes its bytes."""
 
-    def __init__(self, program, name, count):
+    def __init__(self, program: programs.Program, name: str, count: int) -> None:
         self.program, self.count = program, count
         self.zeros: Any = None
         # Registers that only memset may use, and of which nothing is shown: those that a build
@@ -41,7 +43,7 @@ class Scrub:
         self.machine.start(self.sp, self.back, [])
         self.saved = self.machine.saved()
 
-    def show(self):
+    def show(self) -> None:
         """Runs to the return."""
         m, pc = self.machine, self.runner.first
         while pc is not None:
@@ -57,7 +59,7 @@ class Scrub:
             raise IsWrong("settle is not called")
         self.runner.check_all_reached(m.FREE)
 
-    def need_zeros(self):
+    def need_zeros(self) -> None:
         """Refuses if one of the bytes is not zero, or if one may be written later."""
         end = self.zeros + self.count
         for k in range(self.zeros, end):
@@ -65,7 +67,7 @@ class Scrub:
                 raise IsWrong("the byte at sp%+d is not overwritten" % k)
         self.stack.writable = (end, 0)
 
-    def call(self, text):
+    def call(self, text: str) -> None:
         """A call of memset or settle."""
         m = self.machine
         arguments, kept = CONVENTION[self.program.kind]
@@ -87,7 +89,7 @@ class Scrub:
         if self.zeros is not None:
             self.need_zeros()
 
-    def forget(self, kept):
+    def forget(self, kept: Any) -> None:
         """What a call may change: registers, the zero flag, and the stack below."""
         m = self.machine
         n = next(m.LOSSES)
@@ -111,11 +113,11 @@ class Scrub:
 class WithSettle(Calls):
     """Executes scrub_stack with settle, which must leave the zeros."""
 
-    def __init__(self, program, count):
+    def __init__(self, program: programs.Program, count: int) -> None:
         super().__init__(program)
         self.scrubs, self.wanted = {}, count
 
-    def call(self, m, i):
+    def call(self, m: Any, i: Any) -> Any:
         to = m.argument(0)
         ends = super().call(m, i)
         if self.program.target(i, OF_C) == "%s%d" % (functions.SETTLE, self.wanted):
@@ -125,7 +127,7 @@ class WithSettle(Calls):
         return ends
 
 
-def show_whole(program, name, count):
+def show_whole(program: programs.Program, name: str, count: int) -> None:
     """That scrub_stack, with settle, returns to its call, keeps what belongs to the caller, and
     writes only below the caller's frame."""
     reset()
@@ -145,7 +147,7 @@ def show_whole(program, name, count):
         raise type(e)("at %s: %s" % (" ".join(calls.at.text.split()), e))
 
 
-def show(program, name, count):
+def show(program: programs.Program, name: str, count: int) -> None:
     """Proves the claim for a function, or raises Refused."""
     show_whole(program, name, count)
     T.reset()

@@ -1,6 +1,9 @@
 """A model of the x86-64 instructions that the shipped code uses. Any other is an error."""
 
+from __future__ import annotations
+
 import re
+from typing import Any, Callable
 
 import terms as T
 from machine import Machine, bitwise, chunks, image, joined, junk, lanewise, number
@@ -38,17 +41,18 @@ class Operand:
 
     __slots__ = ("kind", "index", "size", "parts", "value", "is_broadcast", "mask", "zeroes")
 
-    def __init__(self, kind, index=None, size=None, parts=None, value=None, is_broadcast=False,
-                 mask=None, zeroes=False):
+    def __init__(self, kind: Any, index: Any = None, size: Any = None, parts: Any = None,
+                 value: Any = None, is_broadcast: Any = False, mask: Any = None,
+                 zeroes: Any = False) -> None:
         self.kind, self.index, self.size, self.parts, self.value = kind, index, size, parts, value
         self.is_broadcast, self.mask, self.zeroes = is_broadcast, mask, zeroes
 
 
-def no_operand(text):
+def no_operand(text: str) -> Any:
     return CannotShow("the operand %s is not modelled: add it to tools/machine/x86.py" % text)
 
 
-def operand(text, target):
+def operand(text: str, target: int | None) -> Operand:
     """The operand that this is, where `target` is the address of one that counts from rip."""
     if text in GENERAL:
         return Operand("general", *GENERAL[text])
@@ -86,8 +90,9 @@ class Instruction:
     """A line of objdump's output, in Intel's order of operands."""
 
     __slots__ = ("address", "next", "name", "operands", "text", "target")
+    next: int
 
-    def __init__(self, address, text):
+    def __init__(self, address: Any, text: Any) -> None:
         self.address, self.text = address, text
         code, _, comment = text.partition("#")
         self.name, _, rest = code.strip().partition(" ")
@@ -109,23 +114,23 @@ class Instruction:
             self.operands = [operand(o.strip(), target) for o in rest.split(",")]
 
 
-def unknown(i):
+def unknown(i: Any) -> Any:
     return CannotShow("the instruction %s is not modelled: add it to tools/machine/x86.py, and run "
                       "tools/machine/check.py --long" % i.text)
 
 
 # Operations on vectors. Each takes sources of L bytes and perhaps a number, and returns L bytes.
 
-def by_halves(f):
+def by_halves(f: Callable) -> Any:
     """Applies f to each 16 bytes."""
-    def whole(*args):
+    def whole(*args: int | list) -> list:
         sources = [a for a in args if isinstance(a, list)]
         rest = [a for a in args if not isinstance(a, list)]
         return joined(f(*parts, *rest) for parts in zip(*[chunks(s, 16) for s in sources]))
     return whole
 
 
-def shuffle_bytes(data, mask):
+def shuffle_bytes(data: list, mask: list) -> list:
     result = []
     for b in mask:
         i = number([b])
@@ -133,25 +138,25 @@ def shuffle_bytes(data, mask):
     return result
 
 
-def pick(n, *places):
+def pick(n: Any, *places: Any) -> Any:
     """The parts of n bytes of two sources, by their places in both together."""
     return by_halves(lambda a, b: joined(chunks(a + b, n)[p] for p in places))
 
 
-def shuffle_four(data, imm, n):
+def shuffle_four(data: list, imm: int, n: int) -> list:
     parts = chunks(data, n)
     return joined(parts[imm >> 2 * k & 3] for k in range(4))
 
 
-def blend(n):
-    def f(a, b, imm):
+def blend(n: Any) -> Any:
+    def f(a: list, b: list, imm: int) -> list:
         parts = list(zip(chunks(a, n), chunks(b, n)))
         return joined(pair[imm >> (k % 8) & 1] for k, pair in enumerate(parts))
     return f
 
 
-def blend_by_sign(n):
-    def f(a, b, mask):
+def blend_by_sign(n: int) -> Callable:
+    def f(a: list, b: list, mask: list) -> list:
         result = []
         for x, y, m in zip(chunks(a, n), chunks(b, n), chunks(mask, n)):
             chosen = T.leaves(lambda s, p, q: q if s >> 7 else p, 8 * n, T.word(m[-1:]), T.word(x),
@@ -163,18 +168,18 @@ def blend_by_sign(n):
     return f
 
 
-def insertps(a, b, imm):
+def insertps(a: list, b: list, imm: int) -> list:
     parts = chunks(a, 4)
     parts[imm >> 4 & 3] = chunks(b, 4)[imm >> 6] if len(b) == 16 else b
     return joined([0] * 4 if imm >> k & 1 else parts[k] for k in range(4))
 
 
-def shufps(a, b, imm):
+def shufps(a: list, b: list, imm: int) -> list:
     x, y = chunks(a, 4), chunks(b, 4)
     return x[imm & 3] + x[imm >> 2 & 3] + y[imm >> 4 & 3] + y[imm >> 6 & 3]
 
 
-def shufpd(a, b, imm):
+def shufpd(a: Any, b: Any, imm: Any) -> Any:
     """Each of the lanes has its own two bits."""
     result = []
     for k, (x, y) in enumerate(zip(chunks(a, 16), chunks(b, 16))):
@@ -182,19 +187,19 @@ def shufpd(a, b, imm):
     return result
 
 
-def permute_halves(a, b, imm):
+def permute_halves(a: Any, b: Any, imm: Any) -> Any:
     halves = [a[:16], a[16:], b[:16], b[16:]]
     return joined([0] * 16 if imm >> 4 * k & 8 else halves[imm >> 4 * k & 3] for k in range(2))
 
 
-def permute_words(n):
-    def f(indices, data):
+def permute_words(n: int) -> Callable:
+    def f(indices: list, data: list) -> list:
         parts = chunks(data, n)
         return joined(parts[number(i) & len(parts) - 1] for i in chunks(indices, n))
     return f
 
 
-def shuffle_quarters(a, b, imm):
+def shuffle_quarters(a: Any, b: Any, imm: Any) -> Any:
     """Quarters, or halves of 32 bytes: the lower ones are of a, and the upper ones of b."""
     x, y = chunks(a, 16), chunks(b, 16)
     bits = len(x) // 2
@@ -202,17 +207,17 @@ def shuffle_quarters(a, b, imm):
     return joined((x if k < bits else y)[p] for k, p in enumerate(places))
 
 
-def insert_part(a, b, imm):
+def insert_part(a: list, b: list, imm: int) -> list:
     parts = chunks(a, len(b))
     parts[imm & len(parts) - 1] = b
     return joined(parts)
 
 
-def align_words(n):
+def align_words(n: Any) -> Any:
     return lambda a, b, imm: (b + a)[n * (imm & len(a) // n - 1):][:len(a)]
 
 
-def ternary(a, b, c, imm):
+def ternary(a: Any, b: Any, c: Any, imm: Any) -> Any:
     """The bits of imm at the places of three bits: their exclusive or, where each monomial, a
     product of some of the three, has the exclusive or of the bits at the places in it."""
     result = [0] * len(a)
@@ -226,7 +231,7 @@ def ternary(a, b, c, imm):
     return result
 
 
-def sign_extended(data):
+def sign_extended(data: list) -> Any:
     """Four bytes as eight, with the sign."""
     f = lambda n: n | (1 << 64) - (1 << 32) if n >> 31 else n
     result = T.leaves(f, 64, T.word(data + [0] * 4))
@@ -237,27 +242,27 @@ def sign_extended(data):
 
 # Bits of masks: each is 0, 1, a term of 8 bits that is 0 or 1, or None if it is not known.
 
-def bit_of(b, i):
+def bit_of(b: Any, i: Any) -> Any:
     """Bit i of a byte."""
     t = T.leaves(lambda n: n >> i & 1, 8, T.word([b]))
     return t.args if t is not None and t.op == "const" else t
 
 
-def either_bit(a, b):
+def either_bit(a: Any, b: Any) -> Any:
     """The or of two bits, where at least one is a number."""
     if a in (0, 1):
         return 1 if a else b
     return either_bit(b, a) if b in (0, 1) else None
 
 
-def both_bits(a, b):
+def both_bits(a: Any, b: Any) -> Any:
     """The and of two bits, where at least one is a number."""
     if a in (0, 1):
         return b if a else 0
     return both_bits(b, a) if b in (0, 1) else None
 
 
-def chosen(bit, on, off):
+def chosen(bit: int, on: Any, off: Any) -> Any:
     """One of two lists of bytes by a bit."""
     if bit in (0, 1):
         return on if bit else off
@@ -347,26 +352,26 @@ EXTENSIONS = {"pmovsxdq": (4, 8, sign_extended), "pmovzxwd": (2, 4, lambda c: c 
 
 
 class X86(Machine):
-    def __init__(self, regions, assumed):
+    def __init__(self, regions: Any, assumed: Any) -> None:
         super().__init__(regions, assumed)
         self.general = [junk("r%d" % i, 8) for i in range(16)]
         self.vector = [junk("v%d" % i, WIDTH) for i in range(VECTORS)]
         self.masks = [[None] * 64 for _ in range(8)]        # not kept by copy()
 
-    def stack_pointer(self):
+    def stack_pointer(self) -> T.Term:
         return T.word(self.general[RSP])
 
-    def start(self, sp, back, arguments):
+    def start(self, sp: T.Term, back: T.Term, arguments: list) -> None:
         """The state at the entry of a function, by the ABI."""
         self.stack = sp
         self.general[RSP] = T.split(sp)
         for register, t in zip(ARGUMENTS, arguments):
             self.general[register] = T.split(t)
 
-    def saved(self):
+    def saved(self) -> list:
         return [list(self.general[r]) for r in SAVED]
 
-    def check_return(self, sp, back, saved):
+    def check_return(self, sp: T.Term, back: T.Term, saved: list) -> None:
         if self.returned_to is not back:
             raise IsWrong("it returns to %r" % self.returned_to)
         if T.word(self.general[RSP]) is not T.add(64, (1, sp), (1, T.const(64, 8))):
@@ -379,7 +384,7 @@ class X86(Machine):
                 raise IsWrong("the vector register %d from byte %d on is neither zero nor as before"
                               % (j, start))
 
-    def address(self, o):
+    def address(self, o: Operand) -> T.Term:
         parts = []
         for factor, register, offset in o.parts:
             if register is None:
@@ -389,7 +394,7 @@ class X86(Machine):
             parts.append((factor, value))
         return T.add(64, *parts)
 
-    def read(self, o, size=None, aligned=False):
+    def read(self, o: Operand, size: int | None = None, aligned: bool = False) -> list:
         if o.kind == "general":
             return self.general[o.index][:o.size]
         if o.kind == "vector":
@@ -402,7 +407,7 @@ class X86(Machine):
             raise CannotShow("a constant has no size")
         return list((o.value & (1 << 8 * size) - 1).to_bytes(size, "little"))
 
-    def write(self, o, data, vex=False, aligned=False):
+    def write(self, o: Operand, data: Any, vex: bool = False, aligned: bool = False) -> None:
         if o.kind == "general":
             if len(data) != o.size:
                 raise CannotShow("the result has not the size of its register")
@@ -416,7 +421,7 @@ class X86(Machine):
         else:
             raise CannotShow("the result is a constant")
 
-    def step(self, i):
+    def step(self, i: Any) -> Any:
         """Executes an instruction. Returns the address of the next one, or None after a return."""
         name, ops = i.name, i.operands
         method = getattr(self, "do_" + name, None)
@@ -440,10 +445,10 @@ class X86(Machine):
 
     # Words.
 
-    def do_nop(self, i, *ops):
+    def do_nop(self, i: Instruction, *ops: Any) -> None:
         pass
 
-    def do_mov(self, i, to, source):
+    def do_mov(self, i: Instruction, to: Operand, source: Operand) -> None:
         if to.kind == "memory" and source.kind == "number" and to.size is None:
             raise unknown(i)
         size = to.size or source.size
@@ -451,14 +456,14 @@ class X86(Machine):
 
     do_movabs = do_mov
 
-    def do_movzx(self, i, to, source):
+    def do_movzx(self, i: Instruction, to: Operand, source: Operand) -> None:
         data = self.read(source)
         self.write(to, data + [0] * (to.size - len(data)))
 
-    def do_lea(self, i, to, source):
+    def do_lea(self, i: Instruction, to: Operand, source: Operand) -> None:
         self.write(to, T.split(self.address(source))[:to.size])
 
-    def do_push(self, i, source):
+    def do_push(self, i: Instruction, source: Operand) -> None:
         top = T.add(64, (1, T.word(self.general[RSP])), (-1, T.const(64, 8)))
         data = self.read(source)
         if len(data) != 8:
@@ -466,13 +471,13 @@ class X86(Machine):
         self.general[RSP] = T.split(top)
         self.store(top, data)
 
-    def do_pop(self, i, to):
+    def do_pop(self, i: Instruction, to: Operand) -> None:
         top = T.word(self.general[RSP])
         data = self.load(top, 8)
         self.general[RSP] = T.split(T.add(64, (1, top), (1, T.const(64, 8))))
         self.write(to, data)
 
-    def arithmetic(self, f, to, source, keep=True):
+    def arithmetic(self, f: Callable, to: Operand, source: Operand, keep: bool = True) -> None:
         a = self.read(to)
         b = self.read(source, len(a))
         result = f(8 * len(a), T.word(a), T.word(b))
@@ -480,25 +485,25 @@ class X86(Machine):
         if keep:
             self.write(to, T.split(result))
 
-    def do_add(self, i, to, source):
+    def do_add(self, i: Instruction, to: Operand, source: Operand) -> None:
         self.arithmetic(lambda w, a, b: T.add(w, (1, a), (1, b)), to, source)
 
-    def do_sub(self, i, to, source):
+    def do_sub(self, i: Instruction, to: Operand, source: Operand) -> None:
         self.arithmetic(lambda w, a, b: T.add(w, (1, a), (-1, b)), to, source)
 
-    def do_dec(self, i, to):
+    def do_dec(self, i: Instruction, to: Operand) -> None:
         self.arithmetic(lambda w, a, b: T.add(w, (1, a), (-1, b)), to, Operand("number", value=1))
 
-    def do_xor(self, i, to, source):
+    def do_xor(self, i: Instruction, to: Operand, source: Operand) -> None:
         self.arithmetic(T.xor, to, source)
 
-    def do_cmp(self, i, to, source):
+    def do_cmp(self, i: Instruction, to: Operand, source: Operand) -> None:
         self.arithmetic(lambda w, a, b: T.add(w, (1, a), (-1, b)), to, source, keep=False)
 
-    def do_test(self, i, to, source):
+    def do_test(self, i: Instruction, to: Operand, source: Operand) -> None:
         self.arithmetic(T.both, to, source, keep=False)
 
-    def shift_word(self, f, i, to, source):
+    def shift_word(self, f: Any, i: Instruction, to: Operand, source: Any) -> None:
         count = source.value if source else 1
         data = self.read(to)
         if not 0 < count < 8 * len(data):
@@ -507,31 +512,31 @@ class X86(Machine):
         self.zero = result
         self.write(to, T.split(result))
 
-    def do_shr(self, i, to, source=None):
+    def do_shr(self, i: Instruction, to: Operand, source: Any = None) -> None:
         self.shift_word(T.shr, i, to, source)
 
-    def do_shl(self, i, to, source=None):
+    def do_shl(self, i: Instruction, to: Operand, source: Any = None) -> None:
         self.shift_word(T.shl, i, to, source)
 
-    def cmov(self, i, to, source, swap):
+    def cmov(self, i: Any, to: Any, source: Any, swap: Any) -> None:
         old, new = T.word(self.read(to)), T.word(self.read(source))
         if swap:
             old, new = new, old
         # `old` if not zero, `new` if zero
         self.write(to, T.split(self.choose(self.zero, new, old)))
 
-    def do_cmove(self, i, to, source):
+    def do_cmove(self, i: Instruction, to: Operand, source: Operand) -> None:
         self.cmov(i, to, source, False)
 
-    def do_cmovne(self, i, to, source):
+    def do_cmovne(self, i: Instruction, to: Operand, source: Operand) -> None:
         self.cmov(i, to, source, True)
 
-    def do_vzeroupper(self, i):
+    def do_vzeroupper(self, i: Instruction) -> None:
         self.vector[:16] = [r[:16] + [0] * (WIDTH - 16) for r in self.vector[:16]]
 
     # Masks.
 
-    def mask_step(self, i):
+    def mask_step(self, i: Any) -> None:
         m = MASK.fullmatch(i.name)
         if not m:
             raise unknown(i)
@@ -552,7 +557,7 @@ class X86(Machine):
             raise unknown(i)
         self.masks[ops[0].index] = result + [0] * (64 - len(result))
 
-    def masked_move(self, i):
+    def masked_move(self, i: Any) -> None:
         """A move or a broadcast of which a mask chooses the words. A word that it leaves out is
         not read."""
         name, (to, source, *rest) = i.name[1:], i.operands
@@ -569,7 +574,7 @@ class X86(Machine):
 
     # Vectors. Each method returns whether it knows this form of its instruction.
 
-    def vector_step(self, i):
+    def vector_step(self, i: Instruction) -> Any:
         vex = i.name.startswith("v")
         name, ops, imm = i.name[vex:], i.operands, []
         if ops and ops[-1].kind == "number":
@@ -585,14 +590,14 @@ class X86(Machine):
                 return
         raise unknown(i)
 
-    def move(self, name, ops, imm, vex):
+    def move(self, name: str, ops: list, imm: list, vex: bool) -> bool:
         if len(ops) != 2 or imm:
             return False
         data = self.read(ops[1], aligned=MOVES[name])
         self.write(ops[0], data, vex, aligned=MOVES[name])
         return True
 
-    def move_word(self, name, ops, imm, vex):
+    def move_word(self, name: str, ops: list, imm: list, vex: bool) -> bool:
         if len(ops) != 2 or imm:
             return False
         n = 8 if name == "movq" else 4
@@ -600,27 +605,27 @@ class X86(Machine):
         self.write(ops[0], data + [0] * (16 - n) if ops[0].kind == "vector" else data, vex)
         return True
 
-    def broadcast(self, name, ops, imm, vex):
+    def broadcast(self, name: str, ops: list, imm: list, vex: bool) -> bool:
         if len(ops) != 2 or imm or not vex:
             return False
         n = BROADCASTS[name]
         self.write(ops[0], self.read(ops[1], n)[:n] * (ops[0].size // n), vex)
         return True
 
-    def unary(self, name, ops, imm, vex):
+    def unary(self, name: str, ops: list, imm: list, vex: bool) -> bool:
         if len(ops) != 2 or len(imm) != 1 or ops[1].is_broadcast:
             return False
         self.write(ops[0], UNARY[name](self.read(ops[1], aligned=not vex), *imm), vex)
         return True
 
-    def shift(self, name, ops, imm, vex):
+    def shift(self, name: str, ops: list, imm: list, vex: bool) -> bool:
         f, n = SHIFTS[name]
         if len(ops) != 1 + vex or len(imm) != 1 or not 0 < imm[0] < 8 * n:
             return False
         self.write(ops[0], lanewise(lambda t: f(8 * n, t, imm[0]), n, self.read(ops[-1])), vex)
         return True
 
-    def binary(self, name, ops, imm, vex):
+    def binary(self, name: str, ops: list, imm: list, vex: bool) -> bool:
         if len(ops) != 2 + vex or name == "movlhps" and ops[-1].kind != "vector":
             return False
         n = ops[1].size if ops[1].kind == "memory" and not vex else None
@@ -634,7 +639,7 @@ class X86(Machine):
         self.write(ops[0], result, vex)
         return True
 
-    def rotate(self, name, ops, imm, vex):
+    def rotate(self, name: str, ops: list, imm: list, vex: bool) -> bool:
         n, sign = ROTATIONS[name]
         if len(ops) != 2 or len(imm) != 1 or not vex:
             return False
@@ -642,13 +647,13 @@ class X86(Machine):
         self.write(ops[0], lanewise(lambda t: T.ror(8 * n, t, sign * imm[0]), n, data), vex)
         return True
 
-    def ternary(self, name, ops, imm, vex):
+    def ternary(self, name: Any, ops: Any, imm: Any, vex: Any) -> Any:
         if len(ops) != 3 or len(imm) != 1 or not vex:
             return False
         self.write(ops[0], ternary(*[self.read(o, ops[0].size) for o in ops], *imm), vex)
         return True
 
-    def permute(self, name, ops, imm, vex):
+    def permute(self, name: str, ops: list, imm: list, vex: bool) -> bool:
         n, has_indices = PERMUTATIONS[name]
         if len(ops) != 3 or imm or not vex:
             return False
@@ -657,7 +662,7 @@ class X86(Machine):
         self.write(ops[0], permute_words(n)(indices, data), vex)
         return True
 
-    def extract(self, name, ops, imm, vex):
+    def extract(self, name: str, ops: list, imm: Any, vex: bool) -> Any:
         n = EXTRACTS[name]
         if len(ops) != 2 or len(imm) != 1 or not vex:
             return False
@@ -665,20 +670,20 @@ class X86(Machine):
         self.write(ops[0], parts[imm[0] & len(parts) - 1], vex)
         return True
 
-    def extract_byte(self, name, ops, imm, vex):
+    def extract_byte(self, name: str, ops: list, imm: Any, vex: bool) -> Any:
         if len(ops) != 2 or len(imm) != 1 or ops[0].kind != "general":
             return False
         self.write(ops[0], [self.read(ops[1])[imm[0] & 15]] + [0] * (ops[0].size - 1))
         return True
 
-    def truncate(self, name, ops, imm, vex):
+    def truncate(self, name: str, ops: list, imm: list, vex: bool) -> bool:
         if len(ops) != 2 or imm or not vex or ops[0].kind != "vector":
             return False
         data = joined(part[:4] for part in chunks(self.read(ops[1]), 8))
         self.write(ops[0], (data + [0] * 8)[:max(len(data), 16)], True)
         return True
 
-    def insert(self, name, ops, imm, vex):
+    def insert(self, name: str, ops: list, imm: list, vex: bool) -> bool:
         if len(ops) != 2 + vex or len(imm) != 1:
             return False
         n = INSERTS[name]
@@ -687,7 +692,7 @@ class X86(Machine):
         self.write(ops[0], joined(parts), vex)
         return True
 
-    def blend(self, name, ops, imm, vex):
+    def blend(self, name: str, ops: list, imm: list, vex: bool) -> bool:
         if imm or not (len(ops) == 2 and not vex or len(ops) == 3 + vex):
             return False
         mask = self.read(ops[-1]) if len(ops) == 3 + vex else self.vector[0][:16]
@@ -695,7 +700,7 @@ class X86(Machine):
         self.write(ops[0], blend_by_sign(BLENDS[name])(a, b, mask), vex)
         return True
 
-    def extend(self, name, ops, imm, vex):
+    def extend(self, name: str, ops: list, imm: Any, vex: bool) -> Any:
         size, n, f = EXTENSIONS[name]
         if len(ops) != 2 or imm:
             return False
