@@ -58,23 +58,13 @@ names=$(grep -o 'vulfsjor_ffi_[a-z0-9_]* *(' "$here/include/vulfsjor.h" | tr -d 
     LC_ALL=C sort -u)
 compare_functions "$here/choose.c" 's/^CALL("\(.*\)")$/\1/p'
 compare_functions "$here/calls.h" 's/^CALL[A-Z_]*(\(vulfsjor_[a-z0-9_]*\),.*/\1/p'
-# The texts have macros for each object format.
-machine=$("${cc[@]}" -dumpmachine)
-case $machine in
-    *-mingw32 | *-windows-gnu) format=coff ;;
-    *-apple-*) format=macho ;;
-    *) format=elf ;;
-esac
-case $machine in x86_64-*) format=x86_64/$format ;; *) format=aarch64/$format ;; esac
-# After each function's name come the version and the build.
-for text; do
-    compare_functions "$text" "s/^\tvj_export\t\(.*\)_${version//./_}_[a-z0-9]*\$/\1/p"
-done
 objects=()
 for text; do
+    # After each function's name come the version and the build.
+    compare_functions "$text" "s/^\tvj_export\t\(.*\)_${version//./_}_[a-z0-9]*\$/\1/p"
     objects+=("$work/build_${#objects[@]}.o")
-    cat "$here/../dist/$format.inc" "$text" >"$work/build.s"
-    "${cc[@]}" -c "$work/build.s" -o "${objects[-1]}"
+    "${cc[@]}" -include "$here/../dist/macros.h" -x assembler-with-cpp -c "$text" \
+        -o "${objects[-1]}"
 done
 if [ $# -eq 1 ]; then
     one=$(sed -n 's/^\tvj_export\t.*_//p;T;q' "$1")
@@ -88,7 +78,7 @@ rm -f "$folder"/libvulfsjor*.a
 archive "$folder/libvulfsjor.a" "$work/choose.o" "${objects[@]}"
 archive "$folder/libvulfsjor-libb2.a" "$work/libb2.o" "$work/choose.o" "${objects[@]}"
 shared=("${cc[@]}" -shared "$work/shown.o" "${objects[@]}")
-case $machine in
+case $("${cc[@]}" -dumpmachine) in
     *-mingw32 | *-windows-gnu)
         "${shared[@]}" -o "$folder/libvulfsjor-0.dll" \
             -Wl,--out-implib,"$folder/libvulfsjor.dll.a"

@@ -32,11 +32,12 @@ PROJECT = tomllib.loads((HERE / "pyproject.toml").read_text(encoding="utf-8"))["
 RELEASE = f"{PROJECT['name']}-{PROJECT['version']}"
 ABOUT = f"{RELEASE}.dist-info"
 
-# The texts of the library by processor. choose.c has its functions by their own names; on x86-64 a
-# call goes to the build that the processor runs. The macros for each system come before them.
-TEXTS = {"x86_64": [f"x86_64/vulfsjor-{level}.s" for level in ("v2", "v3", "v4")],
-         "aarch64": ["aarch64/vulfsjor.s"]}
-MACROS = {"linux": "elf.inc", "macosx": "macho.inc", "windows": "coff.inc"}
+# The texts of the library, which vulfsjor.S includes for the processor and the system. choose.c has
+# its functions by their own names; on x86-64 a call goes to the build that the processor runs.
+TEXTS = ["vulfsjor.S", "macros.h", "aarch64/vulfsjor.s",
+         *(f"x86_64/vulfsjor-{level}.s" for level in ("v2", "v3", "v4")),
+         *(f"{processor}/{macros}.inc" for processor in ("aarch64", "x86_64")
+           for macros in ("coff", "elf", "macho"))]
 
 # The files of a source distribution: those of this folder, and those of the repository.
 OWN = ("README.md", "build_package.py", "pyproject.toml", "src/library.[ch]", "src/trees.c",
@@ -45,8 +46,7 @@ SHARED = {
     "src/vulfsjor.h": "c/include/vulfsjor.h",
     "src/choose.c": "c/choose.c",
     "src/calls.h": "c/calls.h",
-    **{f"src/{name}": f"dist/{name}" for processor, names in TEXTS.items()
-       for name in names + [f"{processor}/{macros}" for macros in MACROS.values()]},
+    **{f"src/{name}": f"dist/{name}" for name in TEXTS},
 }
 
 # Clang warns of each option that means nothing for assembly. LTO loses the assembly of choose.c.
@@ -79,7 +79,7 @@ def source_files():
 # ---- The module
 
 def target():
-    """The system that the module is for, its processor, and the compiler's options for it."""
+    """The system that the module is for, and the compiler's options for it."""
     platform = sysconfig.get_platform()  # such as macosx-11.0-arm64 or mingw_x86_64_ucrt
     found = re.fullmatch(r"(linux|macosx|mingw|win)[-_](?:([\d.]+)-)?"
                          r"(?:(x86_64|amd64)|(aarch64|arm64))(?:_\w+)?", platform)
@@ -92,7 +92,7 @@ def target():
     options = list(LINKING[system])
     if system == "macosx":
         options += ["-arch", x86 or arm, f"-mmacosx-version-min={version}"]
-    return system, "x86_64" if x86 else "aarch64", options
+    return system, options
 
 
 def compiler(system):
@@ -117,23 +117,19 @@ def module_name():
 
 def compiled():
     """The bytes of the module."""
-    system, processor, options = target()
-    texts = [f"src/{name}" for name in [f"{processor}/{MACROS[system]}", *TEXTS[processor]]]
+    system, options = target()
     includes = {sysconfig.get_path("include"), sysconfig.get_path("platinclude")}
     with tempfile.TemporaryDirectory() as work:
-        files = source_files()
-        os.mkdir(f"{work}/src")
-        for name, path in files.items():
-            if name.endswith((".c", ".h")):
+        for name, path in source_files().items():
+            if name.startswith("src/"):
+                os.makedirs(os.path.dirname(f"{work}/{name}"), exist_ok=True)
                 shutil.copyfile(path, f"{work}/{name}")
-        pathlib.Path(work, "src/vulfsjor.s").write_bytes(
-            b"".join(files[name].read_bytes() for name in texts))
         made = os.path.join(work, module_name())
         done = subprocess.run(
             [*compiler(system), *COMPILING, *(f"-I{folder}" for folder in sorted(includes)),
              *(["-DPy_GIL_DISABLED=1"] if WITHOUT_GIL else []),
              *shlex.split(os.environ.get("CFLAGS", "")), *options, "-o", made, "src/library.c",
-             "src/trees.c", "src/choose.c", "src/vulfsjor.s", *shlex.split(os.environ.get("LDFLAGS", "")),
+             "src/trees.c", "src/choose.c", "src/vulfsjor.S", *shlex.split(os.environ.get("LDFLAGS", "")),
              *(["-lpython3"] if system == "windows" else [])], cwd=work, check=False)
         if done.returncode:
             has_headers = any(os.path.exists(f"{folder}/Python.h") for folder in includes)

@@ -367,6 +367,10 @@ chosen_by_cmake() {
             choose_by_cmake $system $name | diff <(echo dist/vulfsjor.S) - || return 1
         done
     done
+    choose_by_cmake Darwin arm64 "-DCMAKE_OSX_ARCHITECTURES=arm64;x86_64" |
+        diff <(echo dist/vulfsjor.S) - &&
+        refuses 1 "$refusal Darwin on i386" \
+            choose_by_cmake Darwin arm64 "-DCMAKE_OSX_ARCHITECTURES=arm64;i386" || return 1
     refuses 1 "$refusal FreeBSD on x86_64" choose_by_cmake FreeBSD x86_64 &&
         refuses 1 "$refusal Linux on aarch64_be" choose_by_cmake Linux aarch64_be || return 1
     ! is_x86 ||

@@ -31,9 +31,10 @@ ABOUT = f"vulfsjor-{VERSION}.dist-info"
 # The files that the package shares with the repository, by their names in a source distribution.
 SHARED = {"src/vulfsjor.h": "c/include/vulfsjor.h", "src/choose.c": "c/choose.c",
           "src/calls.h": "c/calls.h", **{f"src/{name}": f"dist/{name}" for name in (
-              "aarch64/vulfsjor.s", "x86_64/vulfsjor-v2.s", "x86_64/vulfsjor-v3.s",
-              "x86_64/vulfsjor-v4.s", "aarch64/coff.inc", "aarch64/elf.inc",
-              "aarch64/macho.inc", "x86_64/coff.inc", "x86_64/elf.inc", "x86_64/macho.inc")}}
+              "macros.h", "vulfsjor.S", "aarch64/vulfsjor.s", "x86_64/vulfsjor-v2.s",
+              "x86_64/vulfsjor-v3.s", "x86_64/vulfsjor-v4.s", "aarch64/coff.inc",
+              "aarch64/elf.inc", "aarch64/macho.inc", "x86_64/coff.inc", "x86_64/elf.inc",
+              "x86_64/macho.inc")}}
 # A compiler that writes its words to the file that it should make.
 FAKE = """#!/bin/sh
 for word; do [ "$last" = -o ] && made=$word; last=$word; done
@@ -167,7 +168,7 @@ class Build(Test):
             self.assertEqual(os.path.basename(wheel),
                              f"vulfsjor-{VERSION}-cp311-abi3-{platform_name}.whl")
             self.assertEqual([word for word in words if word.endswith((".c", ".s", ".S"))],
-                             ["src/library.c", "src/trees.c", "src/choose.c", "src/vulfsjor.s"])
+                             ["src/library.c", "src/trees.c", "src/choose.c", "src/vulfsjor.S"])
             self.assertEqual((words[0], words[-1]),
                              ("-x", "-lpython3" if options == windows else "-lz"))
             self.assertEqual(words[words.index("-g"):words.index("-o")],
