@@ -62,6 +62,14 @@ repository=$work/a\ repository
 mkdir -p "$repository/tools" "$repository/tests" "$repository/dist"
 cp "$top"/tools/{dist.sh,kit.sh,aarch64_attributes.csv,{x86_64_v{2,4},b2sum}.sed} "$repository/tools/"
 cp "$top"/tools/{plain_names,clear_registers,one_text}.py "$repository/tools/"
+# The header's comments decide nothing. The translator is a stand-in: the linker here makes no module.
+mkdir -p "$repository"/tools/machine "$repository"/c/include
+cp "$top/tools/scalar.sed" "$top/tools/wasm_to_c.c" "$repository/tools/"
+cp "$top/tools/machine/wasm_format.py" "$repository/tools/machine/"
+printf '%s\n' '/* A header' ' * of one function. */' 'int f(void); /* here */' \
+    >"$repository/c/include/vulfsjor.h"
+printf '%s\n' '#!/bin/sh' 'echo "/* $(cat "$1") $(grep -c f "$2") */"' >"$repository/tools/wasm_to_c.py"
+chmod +x "$repository/tools/wasm_to_c.py"
 cp "$top/tests/tap.sh" "$repository/tests/"
 printf '# Changes\n\n## 1.2.3\n\n## 0.9.0\n' >"$repository/CHANGELOG.md"
 printf '%s\n' blake2_state: b2_commands: "blake2_ffi staticlib: blake2_state" \
@@ -119,15 +127,16 @@ wanted_files() {
         done
     done
     echo "wasm/vulfsjor.wasm:blake2_ffi for lime1,"
+    echo "c/vulfsjor.c:blake2_ffi for lime1 edited1,"
 }
 check "make" dist make
 check "each file is made of its crate, for its processor" \
-    diff <(cd dist && grep -ao '[a-z0-9_]* for .*,' */*.{s,wasm} | LC_ALL=C sort) <(wanted_files | LC_ALL=C sort)
+    diff <(cd dist && grep -ao '[a-z0-9_]* for .*,' */*.{s,wasm,c} | LC_ALL=C sort) <(wanted_files | LC_ALL=C sort)
 check "only b2sum calls functions of c/b2sum.c" diff <(cd dist && grep -cE 'b2sum_(open|read|signal)$' */*.s |
     grep -v :0; grep -lE '	(open|read|__sysv_signal)' x86_64/*.s) \
     <(printf '%s:3\n' aarch64/b2sum.s x86_64/b2sum-v{2,3,4}.s; printf '%s\n' x86_64/{b2,vulfsjor}-v{2,3,4}.s)
 check "it is current" dist current
-check "it is what the sources compile to" counts 15 0 0
+check "it is what the sources compile to" counts 16 0 0
 rm crates/*/out/rlib/stamp
 check "what rt ci has left is not proved again" proves ""
 touch -d '+9 seconds' crates/blake2_state/src/lib.rt
@@ -142,14 +151,14 @@ check "it is the same, and there is no other" \
     eval 'cmp "$work/some/x86_64/b2-v2.s" dist/x86_64/b2-v2.s && [ "$(ls "$work/some"/*)" = b2-v2.s ]'
 
 echo other >"$work/turn"
-check "other code is found" counts 2 13 0
+check "other code is found" counts 2 14 0
 rm "$work/turn"
 cp -r dist "$work/old"
 for file in aarch64/b2.s wasm/vulfsjor.wasm; do
     check "a change of $file is found" changed 1 "dist/$file" '$a\ '
     echo >>"dist/$file"
 done
-check "by check, each of both, and by their hashes" counts 12 3 0
+check "by check, each of both, and by their hashes" counts 13 3 0
 rm -r dist && mv "$work/old" dist
 mv dist/wasm/vulfsjor.wasm "$work/old"
 check "a file that is absent is found" eval "! dist current"
@@ -166,15 +175,18 @@ check "nor a file next to src/" dist current
 mv crates/blake2_ffi/src/lib.rt crates/blake2_ffi/src/more.rt
 check "another name of a file is found" eval "! dist current"
 mv crates/blake2_ffi/src/more.rt crates/blake2_ffi/src/lib.rt
-for file in tools/{{plain_names,clear_registers,one_text}.py,aarch64_attributes.csv,{x86_64_v{2,4},b2sum}.sed}; do
+for file in tools/{{plain_names,clear_registers,one_text,wasm_to_c,machine/wasm_format}.py,wasm_to_c.c} \
+    tools/{aarch64_attributes.csv,{x86_64_v{2,4},b2sum,scalar}.sed}; do
     check "a change of $file is found" changed 1 "$file" '$a # more'
 done
+check "a change of the header is found" changed 1 c/include/vulfsjor.h 's/int/long/'
+check "not that of a comment in it" changed 0 c/include/vulfsjor.h 's/ of one / of a /;s/here/there/'
 check "another version is found" changed 1 CHANGELOG.md 's/1\.2\.3/1.2.4/'
 
 # Another kit, none, and what it refuses.
 for name in bin/rattle bin/rattle-link toolchain/bin/{clang,ld.lld}; do
     echo "# 2" >>"$kit/$name"
-    check "with another $name only hashes are compared" counts 2 0 13
+    check "with another $name only hashes are compared" counts 2 0 14
     sed -i '$d' "$kit/$name"
 done
 echo "# 2" >>"$kit/bin/rattle"
@@ -182,9 +194,9 @@ check "and the reason is told" ends 0 \
     "x86_64/b2-v3.s is what the proofs build # SKIP it was made with another toolchain, kit 1" check
 sed -i '$d' "$kit/bin/rattle"
 echo "kit 2" >"$kit/version"
-check "another kit with the same tools compares all" counts 15 0 0
+check "another kit with the same tools compares all" counts 16 0 0
 mv "$work/bin/rt" "$work/rt"
-PATH=/usr/bin:/bin check "without a kit only hashes are compared" counts 2 0 13
+PATH=/usr/bin:/bin check "without a kit only hashes are compared" counts 2 0 14
 PATH=/usr/bin:/bin check "make needs rt" ends 1 "the toolchain's command rt is not on the PATH" make
 mv "$work/rt" "$work/bin/rt"
 : >"$work/refuse"

@@ -20,7 +20,7 @@ manifest=$top/dist/MANIFEST
 crates=(blake2_ffi b2 b2sum)
 # Its files, except those by which they are assembled: dist/*.S, dist/macros.h and dist/*/*.inc are
 # written by hand.
-files=(aarch64/b2.s aarch64/b2sum.s aarch64/vulfsjor.s wasm/vulfsjor.wasm
+files=(aarch64/b2.s aarch64/b2sum.s aarch64/vulfsjor.s c/vulfsjor.c wasm/vulfsjor.wasm
     x86_64/b2-v2.s x86_64/b2-v3.s x86_64/b2-v4.s
     x86_64/b2sum-v2.s x86_64/b2sum-v3.s x86_64/b2sum-v4.s
     x86_64/vulfsjor-v2.s x86_64/vulfsjor-v3.s x86_64/vulfsjor-v4.s)
@@ -63,7 +63,9 @@ sources() {
             version _ &&
             cat tools/plain_names.py tools/aarch64_attributes.csv tools/parallel_attributes.csv \
                 tools/x86_64_v2.sed tools/x86_64_v4.sed tools/b2sum.sed tools/clear_registers.py \
-                tools/one_text.py
+                tools/one_text.py tools/scalar.sed tools/wasm_to_c.{py,c} \
+                tools/machine/wasm_format.py &&
+            sed '/^ \*/d;/^\/\*/d;s/\/\*.*\*\///' c/include/vulfsjor.h
     } | sha256sum | cut -d ' ' -f 1
 }
 
@@ -105,6 +107,8 @@ has_same_tools() { [ "$(said tools)" = "$(hash_of_tools)" ]; }
 # fails.
 #
 # Rattle has no x86-64-v4, so clang gets it after x86-64-v3 (make_v4_toolchain in kit.sh).
+#
+# The file in C is translated from a WebAssembly module without vectors (make_scalar_toolchain).
 build() {
     local to=$1/$2 file=$2 crate kind=(--crate-type staticlib) more=() room target cpu end
     local make=make_toolchain
@@ -118,6 +122,7 @@ build() {
             make=make_v4_toolchain more=(-mllvm -force-attribute=noredzone) ;;
         aarch64/*.s) target=aarch64-unknown-linux-gnu cpu=generic end=arm more=(-ffixed-x18) ;;
         wasm/*.wasm) target=wasm64-unknown-unknown cpu=lime1 more=(-msimd128) ;;
+        c/*.c) target=wasm64-unknown-unknown cpu=lime1 make=make_scalar_toolchain ;;
     esac
     attributes_of "$crate" "$target" >"$room.csv"
     [ ! -s "$room.csv" ] || more+=(-mllvm "-forceattrs-csv-path=$room.csv")
@@ -136,6 +141,9 @@ build() {
     }
     if [ "${file##*.}" = wasm ]; then
         link_module "$room/built" "$to" 2>>"$room/log"
+    elif [ "${file##*.}" = c ]; then
+        link_module "$room/built" "$room/module.wasm" 2>>"$room/log"
+        "$top/tools/wasm_to_c.py" "$room/module.wasm" "$top/c/include/vulfsjor.h" >"$to"
     else
         {
             echo "/* Made by tools/dist.sh from the proved crate $crate." \

@@ -100,12 +100,13 @@ run() {
     exit 1
 }
 case " \$* " in
-    *" --target=wasm64"* | *" -emit-llvm "*)
+    *" -emit-llvm "*)
         run "\$@"$more
         exit
         ;;
 esac
-target=\$1 module=module.bc
+target=\$1 module=module.bc text=-S
+case \$target in --target=wasm64*) text= ;; esac
 for edit in "$folder".sed "$folder"-*.sed; do
     [ -e "\$edit" ] || continue
     if [ "\$module" = module.bc ]; then
@@ -117,12 +118,13 @@ done
 for word; do
     shift
     case \$word in
-        -c) word=-S ;;
+        -c) word=\${text:--c} ;;
         module.bc) word=\$module ;;
-        module.o) word="$folder/module.s" ;;
+        module.o) [ -z "\$text" ] || word="$folder/module.s" ;;
     esac
     set -- "\$@" "\$word"
 done
+[ -n "\$text" ] || { run "\$@"$more; exit; }
 run "\$@"$more -fno-addrsig -fno-verbose-asm
 if [ -e "$folder.py" ]; then
     /bin/mv "$folder/module.s" "$folder/compiled.s"
@@ -137,6 +139,13 @@ END
 make_v2_toolchain() {
     mkdir -p "$1"
     cp "$top/tools/x86_64_v2.sed" "$1.sed"
+    make_toolchain "$@"
+}
+
+# The same for a WebAssembly module without vectors.
+make_scalar_toolchain() {
+    mkdir -p "$1"
+    cp "$top/tools/scalar.sed" "$1.sed"
     make_toolchain "$@"
 }
 
