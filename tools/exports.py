@@ -137,6 +137,8 @@ def differences():
         for place, type_ in ((file, rattle), (LIBRARY, rust)):
             if type_:
                 given = [each for one in fields(read(place), type_) or () for each in of_rust(one, state_of(name))]
+                if re.search("_(state|lanes)$", name):  # whose layout in C is that of 64 bits on every platform
+                    given = [(field, "u64" if each == "usize" else each) for field, each in given]
                 if given != fields_of_c:
                     yield f"{place}: {type_} is not as vulfsjor_{name} of {HEADER}"
 

@@ -67,6 +67,12 @@ extern "C" {
 #define VULFSJOR_MUST_USE
 #endif
 
+/* Whether the bytes of a number are in the order of a parameter block. */
+#if defined(_MSC_VER) || \
+    (defined(__BYTE_ORDER__) && __BYTE_ORDER__ == __ORDER_LITTLE_ENDIAN__)
+#define VULFSJOR_LITTLE_ENDIAN 1
+#endif
+
 /* Lengths in bytes: of a block, of the longest digest and key, and of the longest salt and
  * personalization. */
 enum {
@@ -104,10 +110,10 @@ typedef struct vulfsjor_blake2b_state {
     uint64_t chain[8];       /* the chaining words */
     uint64_t first[8];       /* the chaining words before the first block */
     uint64_t counter;        /* the bytes of the blocks that were compressed */
-    size_t pending_length;   /* the bytes that are pending, 0 to 128 */
-    size_t start_length;     /* the same after a reset: 128 with a key, otherwise 0 */
-    size_t output_size;      /* the bytes of the digest, 1 to 64; 0 in a wiped state */
-    size_t last_node;        /* the last-node flag: 0 is off */
+    uint64_t pending_length; /* the bytes that are pending, 0 to 128 */
+    uint64_t start_length;   /* the same after a reset: 128 with a key, otherwise 0 */
+    uint64_t output_size;    /* the bytes of the digest, 1 to 64; 0 in a wiped state */
+    uint64_t last_node;      /* the last-node flag: 0 is off */
     uint8_t pending[128];    /* starts with the pending bytes */
     uint8_t start_block[128]; /* the same after a reset */
 } vulfsjor_blake2b_state;
@@ -117,10 +123,10 @@ typedef struct vulfsjor_blake2s_state {
     uint32_t chain[8];       /* the chaining words */
     uint32_t first[8];       /* the chaining words before the first block */
     uint64_t counter;        /* the bytes of the blocks that were compressed */
-    size_t pending_length;   /* the bytes that are pending, 0 to 64 */
-    size_t start_length;     /* the same after a reset: 64 with a key, otherwise 0 */
-    size_t output_size;      /* the bytes of the digest, 1 to 32; 0 in a wiped state */
-    size_t last_node;        /* the last-node flag: 0 is off */
+    uint64_t pending_length; /* the bytes that are pending, 0 to 64 */
+    uint64_t start_length;   /* the same after a reset: 64 with a key, otherwise 0 */
+    uint64_t output_size;    /* the bytes of the digest, 1 to 32; 0 in a wiped state */
+    uint64_t last_node;      /* the last-node flag: 0 is off */
     uint8_t pending[64];     /* starts with the pending bytes */
     uint8_t start_block[64]; /* the same after a reset */
 } vulfsjor_blake2s_state;
@@ -129,7 +135,7 @@ typedef struct vulfsjor_blake2s_state {
 typedef struct vulfsjor_blake2bp_lanes {
     uint64_t rows[8][4];  /* the chaining words: row k has word k of each leaf */
     uint64_t counter;     /* the bytes of the blocks that each leaf has compressed */
-    size_t length;        /* the bytes that are pending, 0 to 896 */
+    uint64_t length;      /* the bytes that are pending, 0 to 896 */
     uint8_t pending[896]; /* starts with the pending bytes */
 } vulfsjor_blake2bp_lanes;
 
@@ -138,8 +144,8 @@ typedef struct vulfsjor_blake2bp_state {
     vulfsjor_blake2bp_lanes lanes; /* the leaves */
     uint64_t first[8][4];          /* their chaining words before the first block */
     uint64_t root[8];              /* the chaining words of the root before its first block */
-    size_t start_length;           /* the pending bytes after a reset: 512 with a key, or 0 */
-    size_t output_size;            /* the bytes of the digest, 1 to 64; 0 in a wiped state */
+    uint64_t start_length;         /* the pending bytes after a reset: 512 with a key, or 0 */
+    uint64_t output_size;          /* the bytes of the digest, 1 to 64; 0 in a wiped state */
     uint8_t key_block[128];        /* the key, followed by zeros */
 } vulfsjor_blake2bp_state;
 
@@ -147,7 +153,7 @@ typedef struct vulfsjor_blake2bp_state {
 typedef struct vulfsjor_blake2sp_lanes {
     uint32_t rows[8][8];  /* the chaining words: row k has word k of each leaf */
     uint64_t counter;     /* the bytes of the blocks that each leaf has compressed */
-    size_t length;        /* the bytes that are pending, 0 to 960 */
+    uint64_t length;      /* the bytes that are pending, 0 to 960 */
     uint8_t pending[960]; /* starts with the pending bytes */
 } vulfsjor_blake2sp_lanes;
 
@@ -156,8 +162,8 @@ typedef struct vulfsjor_blake2sp_state {
     vulfsjor_blake2sp_lanes lanes; /* the leaves */
     uint32_t first[8][8];          /* their chaining words before the first block */
     uint32_t root[8];              /* the chaining words of the root before its first block */
-    size_t start_length;           /* the pending bytes after a reset: 512 with a key, or 0 */
-    size_t output_size;            /* the bytes of the digest, 1 to 32; 0 in a wiped state */
+    uint64_t start_length;         /* the pending bytes after a reset: 512 with a key, or 0 */
+    uint64_t output_size;          /* the bytes of the digest, 1 to 32; 0 in a wiped state */
     uint8_t key_block[64];         /* the key, followed by zeros */
 } vulfsjor_blake2sp_state;
 
@@ -218,8 +224,8 @@ typedef struct vulfsjor_tree_state {
     vulfsjor_blake2b_state root; /* the root, which has absorbed the digests of the closed leaves */
     uint64_t closed;             /* the number of closed leaves */
     uint64_t leaf_length;        /* the bytes of a leaf, 1 to 2^32 - 1 */
-    size_t salt_length;          /* the bytes of the salt, 0 to 16 */
-    size_t personal_length;      /* the bytes of the personalization, 0 to 16 */
+    uint64_t salt_length;        /* the bytes of the salt, 0 to 16 */
+    uint64_t personal_length;    /* the bytes of the personalization, 0 to 16 */
     uint8_t salt[16];            /* starts with the salt */
     uint8_t personal[16];        /* starts with the personalization */
 } vulfsjor_tree_state;
@@ -267,14 +273,14 @@ typedef struct vulfsjor_part {
     uint64_t ends;           /* 1 if it ends the message, otherwise 0 */
 } vulfsjor_part;
 
-/* The library requires a 64-bit platform and these layouts. */
-typedef char vulfsjor_layouts[sizeof(size_t) == 8 && sizeof(vulfsjor_blake2b_state) == 424 &&
+/* The library requires these layouts, which are the same on every platform. */
+typedef char vulfsjor_layouts[sizeof(vulfsjor_blake2b_state) == 424 &&
                               sizeof(vulfsjor_blake2s_state) == 232 &&
                               sizeof(vulfsjor_blake2bp_state) == 1632 &&
                               sizeof(vulfsjor_blake2sp_state) == 1600 &&
                               sizeof(vulfsjor_tree) == 16 &&
                               sizeof(vulfsjor_tree_state) == 912 &&
-                              sizeof(vulfsjor_message) == 16 &&
+                              sizeof(vulfsjor_message) == 2 * sizeof(size_t) &&
                               sizeof(vulfsjor_limits) == 32 && sizeof(vulfsjor_plan) == 72 &&
                               sizeof(vulfsjor_part) == 48 &&
                               sizeof(vulfsjor_blake2b_param) == 64 &&
@@ -586,16 +592,27 @@ static inline int vulfsjor_blake2b_init_tree(
                                           personallen, tree);
 }
 
-/* Initializes a state from a parameter block, whose bytes are xored into the IV as they are. If
- * P->key_length is not 0, the first 128 bytes of input must be the key followed by zeros. Returns
- * -1 and sets the state to zero if P->digest_length is not 1 to 64, or if P->key_length is more
- * than 64. No other field is checked. */
+/* Initializes a state from a parameter block, whose bytes, with numbers in little-endian order, are
+ * xored into the IV. If P->key_length is not 0, the first 128 bytes of input must be the key followed
+ * by zeros. Returns -1 and sets the state to zero if P->digest_length is not 1 to 64, or if
+ * P->key_length is more than 64. No other field is checked. */
 static inline int vulfsjor_blake2b_init_param(vulfsjor_blake2b_state *S,
                                               const vulfsjor_blake2b_param *P) {
+#ifndef VULFSJOR_LITTLE_ENDIAN
+    uint8_t block[sizeof *P];
+    int i;
+#endif
     if (!S) return -1;
     memset(S, 0, sizeof *S);
     if (!P) return -1;
+#ifdef VULFSJOR_LITTLE_ENDIAN
     return vulfsjor_ffi_blake2b_init_param(S, vulfsjor_text(P), sizeof *P);
+#else
+    memcpy(block, P, sizeof block);
+    for (i = 0; i < 4; i++) block[4 + i] = VULFSJOR_CAST(uint8_t, P->leaf_length >> (8 * i));
+    for (i = 0; i < 8; i++) block[8 + i] = VULFSJOR_CAST(uint8_t, P->node_offset >> (8 * i));
+    return vulfsjor_ffi_blake2b_init_param(S, block, sizeof block);
+#endif
 }
 
 /* Absorbs inlen bytes of input. The digest does not depend on how the input is split into calls.
@@ -740,16 +757,26 @@ static inline int vulfsjor_blake2s_init_tree(
                                           personallen, tree);
 }
 
-/* Initializes a state from a parameter block, whose bytes are xored into the IV as they are. If
- * P->key_length is not 0, the first 64 bytes of input must be the key followed by zeros. Returns -1
- * and sets the state to zero if P->digest_length is not 1 to 32, or if P->key_length is more than
- * 32. No other field is checked. */
+/* Initializes a state from a parameter block, whose bytes, with numbers in little-endian order, are
+ * xored into the IV. If P->key_length is not 0, the first 64 bytes of input must be the key followed
+ * by zeros. Returns -1 and sets the state to zero if P->digest_length is not 1 to 32, or if
+ * P->key_length is more than 32. No other field is checked. */
 static inline int vulfsjor_blake2s_init_param(vulfsjor_blake2s_state *S,
                                               const vulfsjor_blake2s_param *P) {
+#ifndef VULFSJOR_LITTLE_ENDIAN
+    uint8_t block[sizeof *P];
+    int i;
+#endif
     if (!S) return -1;
     memset(S, 0, sizeof *S);
     if (!P) return -1;
+#ifdef VULFSJOR_LITTLE_ENDIAN
     return vulfsjor_ffi_blake2s_init_param(S, vulfsjor_text(P), sizeof *P);
+#else
+    memcpy(block, P, sizeof block);
+    for (i = 0; i < 4; i++) block[4 + i] = VULFSJOR_CAST(uint8_t, P->leaf_length >> (8 * i));
+    return vulfsjor_ffi_blake2s_init_param(S, block, sizeof block);
+#endif
 }
 
 /* Absorbs inlen bytes of input. The digest does not depend on how the input is split into calls.

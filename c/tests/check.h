@@ -1,4 +1,6 @@
 /* What test programs share: the counts of their checks. */
+#include <stddef.h>
+#include <stdint.h>
 #include <stdio.h>
 
 static int checks, fails;
@@ -12,3 +14,17 @@ static int checks, fails;
             fprintf(stderr, "%s:%d: not %s\n", __FILE__, __LINE__, #condition); \
         }                                                                       \
     } while (0)
+
+/* The same for lengths that only a size_t of 64 bits has, and 2^n as such a length. */
+#define CHECK_64(condition)                                                     \
+    do {                                                                        \
+        if (sizeof(size_t) == 8) CHECK(condition);                              \
+    } while (0)
+#define TWO_TO(n) ((size_t)((uint64_t)1 << (n)))
+
+/* A number as a state has it, which is little-endian on every processor, and back. */
+#if defined(__BYTE_ORDER__) && __BYTE_ORDER__ == __ORDER_BIG_ENDIAN__
+#define IN_STATE(x) __builtin_bswap64((uint64_t)(x))
+#else
+#define IN_STATE(x) ((uint64_t)(x))
+#endif

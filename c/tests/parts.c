@@ -118,8 +118,8 @@ static void places_at_the_limits(void) {
 
 /* Ranges and lengths of the output that are refused. */
 static void refused_ranges(void) {
-    static const size_t huge[] = {(size_t)1 << 32, ((size_t)1 << 32) + 192, SIZE_MAX,
-                                  SIZE_MAX - 63};
+    const size_t huge[] = {SIZE_MAX, SIZE_MAX - 63, TWO_TO(32), TWO_TO(32) + 192};
+    const size_t count = sizeof(size_t) == 8 ? 4 : 2;
 
     CHECK(vulfsjor_tree_leaves(out, 64, 0, 0, bytes, 0, 0, 0, 0, 0, 4) ==
           -1); /* no bytes, not all */
@@ -127,15 +127,15 @@ static void refused_ranges(void) {
     CHECK(vulfsjor_tree_leaves(out, 0, 0, 1, bytes, 0, 0, 0, 0, 0, 4) == -1);
     CHECK(vulfsjor_tree_leaves(out, 0, 0, 0, bytes, 0, 0, 0, 0, 0, 4) == -1);
     for (size_t length = 1; length < 12; length++) { /* not whole leaves */
-        size_t count = vulfsjor_tree_leaf_count(length, 4);
+        size_t leaves = (size_t)vulfsjor_tree_leaf_count(length, 4);
         int wanted = length % 4 ? -1 : 0;
-        CHECK(vulfsjor_tree_leaves(out, 64 * count, 0, 0, bytes, length, 0, 0, 0, 0, 4) == wanted);
-        CHECK(ends_at(wanted ? 0 : 64 * count));
+        CHECK(vulfsjor_tree_leaves(out, 64 * leaves, 0, 0, bytes, length, 0, 0, 0, 0, 4) == wanted);
+        CHECK(ends_at(wanted ? 0 : 64 * leaves));
     }
     for (size_t outlen = 0; outlen <= 300; outlen++)
         if (outlen != 192)
             CHECK(vulfsjor_tree_leaves(out, outlen, 0, 1, bytes, 9, 0, 0, 0, 0, 4) == -1);
-    for (size_t i = 0; i < sizeof huge / sizeof *huge; i++) {
+    for (size_t i = 0; i < count; i++) {
         CHECK(vulfsjor_tree_leaves(out, huge[i], 0, 1, bytes, 9, 0, 0, 0, 0, 4) == -1);
         CHECK(vulfsjor_tree_leaves(out, 64, 0, 1, bytes, 4, salt, huge[i], 0, 0, 4) == -1);
         CHECK(vulfsjor_tree_leaves(out, 64, 0, 1, bytes, 4, 0, 0, persona, huge[i], 4) == -1);
@@ -174,7 +174,8 @@ static void null_pointers(void) {
 /* ---- the root over digests */
 
 static void roots_of_leaves(void) {
-    static const size_t huge[] = {(size_t)1 << 32, ((size_t)1 << 32) + 64, SIZE_MAX};
+    const size_t huge[] = {SIZE_MAX, TWO_TO(32), TWO_TO(32) + 64};
+    const size_t count = sizeof(size_t) == 8 ? 3 : 1;
 
     for (size_t outlen = 0; outlen <= MAX + 1; outlen++) {
         int wanted = outlen >= 1 && outlen <= MAX ? 0 : -1;
@@ -191,7 +192,7 @@ static void roots_of_leaves(void) {
         CHECK(vulfsjor_tree_root_of_leaves(out, MAX, bytes, length, 0, 0, 0, 0, 4) == wanted);
         CHECK(ends_at(wanted ? 0 : MAX));
     }
-    for (size_t i = 0; i < sizeof huge / sizeof *huge; i++) {
+    for (size_t i = 0; i < count; i++) {
         CHECK(vulfsjor_tree_root_of_leaves(out, huge[i], bytes, 64, 0, 0, 0, 0, 4) == -1);
         CHECK(vulfsjor_tree_root_of_leaves(out, MAX, bytes, 64, salt, huge[i], 0, 0, 4) == -1);
         CHECK(vulfsjor_tree_root_of_leaves(out, MAX, bytes, 64, 0, 0, persona, huge[i], 4) == -1);
@@ -292,7 +293,7 @@ static void refused_next_leaves(void) {
               vulfsjor_tree_next_leaves(&open, out, 64 * (n / 4 + 1), 0, bytes, n) == -1);
     for (size_t outlen = 0; outlen < 200; outlen++)
         CHECK(outlen == 128 || vulfsjor_tree_next_leaves(&open, out, outlen, 0, bytes, 8) == -1);
-    CHECK(vulfsjor_tree_next_leaves(&open, out, 128 + (1ull << 32), 0, bytes, 8) == -1);
+    CHECK_64(vulfsjor_tree_next_leaves(&open, out, 128 + TWO_TO(32), 0, bytes, 8) == -1);
     for (size_t i = 0; i < sizeof skips / sizeof *skips; i++) {
         CHECK(vulfsjor_tree_next_leaves(&state, out, 64, skips[i], bytes, 1) == -1);
         CHECK(vulfsjor_tree_next_leaves(&open, out, 64, skips[i], bytes, 4) == -1);
@@ -335,11 +336,13 @@ static void refused_updates_by_leaves(void) {
     KEPT(vulfsjor_tree_update_leaves(&state, bytes, 64, bytes, 0));
     for (size_t length = 1; length < 256; length++)
         if (length % 64) KEPT(vulfsjor_tree_update_leaves(&state, bytes, length, bytes, 1));
-    KEPT(vulfsjor_tree_update_leaves(&state, bytes, 64, bytes, (size_t)1 << 58));
-    KEPT(vulfsjor_tree_update_leaves(&state, bytes, 64, bytes, ((size_t)1 << 58) - 8));
-    KEPT(vulfsjor_tree_update_leaves(&state, bytes, (size_t)1 << 62, bytes, 1));
-    KEPT(vulfsjor_tree_update_leaves(&state, bytes, SIZE_MAX - 63, bytes, 1));
-    KEPT(vulfsjor_tree_update_leaves(&state, NULL, 0, bytes, ((size_t)1 << 58) - 4));
+    if (sizeof(size_t) == 8) {
+        KEPT(vulfsjor_tree_update_leaves(&state, bytes, 64, bytes, TWO_TO(58)));
+        KEPT(vulfsjor_tree_update_leaves(&state, bytes, 64, bytes, TWO_TO(58) - 8));
+        KEPT(vulfsjor_tree_update_leaves(&state, bytes, TWO_TO(62), bytes, 1));
+        KEPT(vulfsjor_tree_update_leaves(&state, bytes, SIZE_MAX - 63, bytes, 1));
+        KEPT(vulfsjor_tree_update_leaves(&state, NULL, 0, bytes, TWO_TO(58) - 4));
+    }
     before = state = tree_with(4, 5); /* no leaf boundary */
     KEPT(vulfsjor_tree_update_leaves(&state, bytes, 64, bytes, 1));
     CHECK(!vulfsjor_tree_update_leaves(&state, NULL, 0, NULL, 0) && SAME(state, before));
@@ -350,7 +353,8 @@ static void refused_updates_by_leaves(void) {
     KEPT(vulfsjor_tree_update_leaves(&state, bytes, 64, bytes, 1));
     KEPT(vulfsjor_tree_update_leaves(&state, NULL, 0, NULL, 0));
     before = state = tree_with(UINT32_MAX, 0);
-    KEPT(vulfsjor_tree_update_leaves(&state, bytes, (size_t)64 << 26, bytes, 1 << 26));
+    if (sizeof(size_t) == 8)
+        KEPT(vulfsjor_tree_update_leaves(&state, bytes, TWO_TO(32), bytes, 1 << 26));
 }
 
 /* ---- random messages */

@@ -272,7 +272,8 @@ static void tree_refusals(void) {
     uint8_t out[MAX], bytes[SALT + 1] = {0};
     REFUSED_TREE(vulfsjor_tree_init(&state, 0, 0, 0, 0, 0, 1));
     REFUSED_TREE(vulfsjor_tree_init(&state, MAX + 1, 0, 0, 0, 0, 1));
-    REFUSED_TREE(vulfsjor_tree_init(&state, (size_t)1 << 32 | 1, 0, 0, 0, 0, 1));
+    if (sizeof(size_t) == 8)
+        REFUSED_TREE(vulfsjor_tree_init(&state, TWO_TO(32) | 1, 0, 0, 0, 0, 1));
     REFUSED_TREE(vulfsjor_tree_init(&state, MAX, bytes, SALT + 1, 0, 0, 1));
     REFUSED_TREE(vulfsjor_tree_init(&state, MAX, 0, 0, bytes, SALT + 1, 1));
     REFUSED_TREE(vulfsjor_tree_init(&state, MAX, NULL, 1, 0, 0, 1));
@@ -294,8 +295,8 @@ static void long_trees(void) {
     vulfsjor_tree_state state;
     uint8_t out[MAX], bytes[3] = {0};
     CHECK(vulfsjor_tree_init(&state, MAX, 0, 0, 0, 0, 1) == 0);
-    state.closed = ((uint64_t)1 << 58) - 3;
-    state.root.counter = 64 * state.closed;
+    state.closed = IN_STATE(((uint64_t)1 << 58) - 3);
+    state.root.counter = IN_STATE(64 * (((uint64_t)1 << 58) - 3));
     vulfsjor_tree_state before = state;
     CHECK(vulfsjor_tree_update(&state, bytes, 3) == -1 && !memcmp(&state, &before, sizeof state));
     CHECK(vulfsjor_tree_update(&state, bytes, 2) == 0 &&
@@ -320,21 +321,21 @@ static void untaken_trees(void) {
     uint8_t bytes[MAX] = {0};
     CHECK(vulfsjor_tree_init(&made, MAX, 0, 0, 0, 0, 7) == 0 &&
           vulfsjor_tree_update(&made, bytes, 20) == 0);
-    UNTAKEN(state.leaf.output_size = MAX - 1);
-    UNTAKEN(state.leaf.pending_length = BLOCK + 1);
-    UNTAKEN(state.leaf.pending_length = 8);
+    UNTAKEN(state.leaf.output_size = IN_STATE(MAX - 1));
+    UNTAKEN(state.leaf.pending_length = IN_STATE(BLOCK + 1));
+    UNTAKEN(state.leaf.pending_length = IN_STATE(8));
     UNTAKEN(state.leaf.counter = ~(uint64_t)0);
     UNTAKEN(state.root.output_size = 0);
-    UNTAKEN(state.root.output_size = MAX + 1);
-    UNTAKEN(state.root.counter += 1);
-    UNTAKEN(state.closed = 1);
-    UNTAKEN(state.closed = (uint64_t)1 << 58; state.root.counter = 0;
+    UNTAKEN(state.root.output_size = IN_STATE(MAX + 1));
+    UNTAKEN(state.root.counter = IN_STATE(IN_STATE(state.root.counter) + 1));
+    UNTAKEN(state.closed = IN_STATE(1));
+    UNTAKEN(state.closed = IN_STATE((uint64_t)1 << 58); state.root.counter = 0;
             state.root.pending_length = 0);
     UNTAKEN(state.leaf_length = 0);
-    UNTAKEN(state.leaf_length = 5);
-    UNTAKEN(state.leaf_length = (uint64_t)1 << 32);
-    UNTAKEN(state.salt_length = SALT + 1);
-    UNTAKEN(state.personal_length = ~(size_t)0);
+    UNTAKEN(state.leaf_length = IN_STATE(5));
+    UNTAKEN(state.leaf_length = IN_STATE((uint64_t)1 << 32));
+    UNTAKEN(state.salt_length = IN_STATE(SALT + 1));
+    UNTAKEN(state.personal_length = ~(uint64_t)0);
 }
 
 /* Random bytes in the fields of a run: every call ends, and writes within its memory. */
@@ -345,18 +346,20 @@ static void random_trees(void) {
     for (int i = 0; i < 4000; i++) {
         for (size_t j = 0; j < sizeof state; j++) ((uint8_t *)&state)[j] = (uint8_t)random_number();
         if (i % 4) {
-            state.leaf.output_size = MAX;
-            state.root.output_size %= MAX + 2;
-            state.leaf.counter = i % 3 ? 0 : BLOCK;
-            state.leaf.pending_length %= BLOCK + 4;
-            state.leaf.start_length %= BLOCK + 4;
-            state.root.start_length %= BLOCK + 4;
-            state.root.pending_length = 64 * (i % 3);
-            state.closed %= i % 5 ? 1000 : (uint64_t)1 << 58;
-            state.root.counter = 64 * state.closed - state.root.pending_length;
-            state.leaf_length = i % 7 ? state.leaf_length % 400 : ~(uint32_t)0;
-            state.salt_length %= SALT + 2;
-            state.personal_length %= SALT + 2;
+            uint64_t pending = 64 * (i % 3),
+                     closed = state.closed % (i % 5 ? 1000 : (uint64_t)1 << 58);
+            state.leaf.output_size = IN_STATE(MAX);
+            state.root.output_size = IN_STATE(state.root.output_size % (MAX + 2));
+            state.leaf.counter = IN_STATE(i % 3 ? 0 : BLOCK);
+            state.leaf.pending_length = IN_STATE(state.leaf.pending_length % (BLOCK + 4));
+            state.leaf.start_length = IN_STATE(state.leaf.start_length % (BLOCK + 4));
+            state.root.start_length = IN_STATE(state.root.start_length % (BLOCK + 4));
+            state.root.pending_length = IN_STATE(pending);
+            state.closed = IN_STATE(closed);
+            state.root.counter = IN_STATE(64 * closed - pending);
+            state.leaf_length = IN_STATE(i % 7 ? state.leaf_length % 400 : ~(uint32_t)0);
+            state.salt_length = IN_STATE(state.salt_length % (SALT + 2));
+            state.personal_length = IN_STATE(state.personal_length % (SALT + 2));
         }
         int updated = vulfsjor_tree_update(&state, bytes, i % sizeof bytes);
         int ended = vulfsjor_tree_final(&state, out, MAX);
@@ -367,12 +370,23 @@ static void random_trees(void) {
 }
 #endif
 
+/* The number that these bytes are, the lowest first. */
+static uint64_t number_of(const uint8_t *bytes, int count) {
+    uint64_t number = 0;
+    while (count--) number = number << 8 | bytes[count];
+    return number;
+}
+
 /* The same by a parameter block, after which the key's block is an input. */
 static void block_case(text block, int last_node, text message, text wanted) {
     BLAKE(param) param;
     state_t *state = malloc(sizeof *state);
     CHECK(block.length == sizeof param);
     memcpy(&param, block.bytes, sizeof param);
+    param.leaf_length = (uint32_t)number_of(block.bytes + 4, 4);
+#ifndef TEST_S
+    param.node_offset = number_of(block.bytes + 8, 8);
+#endif
     CHECK(BLAKE(init_param)(state, &param) == 0);
     CHECK(BLAKE(set_last_node)(state, last_node) == 0);
     runs(state, message, wanted);
@@ -421,7 +435,7 @@ static void refusals(void) {
     uint8_t out[MAX + 1], bytes[MAX + 1] = {0};
     REFUSED(BLAKE(init)(&state, 0));
     REFUSED(BLAKE(init)(&state, MAX + 1));
-    REFUSED(BLAKE(init)(&state, (size_t)1 << 32 | 1));
+    if (sizeof(size_t) == 8) REFUSED(BLAKE(init)(&state, TWO_TO(32) | 1));
     REFUSED(BLAKE(init)(&state, (size_t)-1));
     REFUSED(BLAKE(init_key)(&state, MAX, bytes, 0));
     REFUSED(BLAKE(init_key)(&state, MAX, bytes, MAX + 1));
@@ -484,7 +498,7 @@ static void long_counts(void) {
     state_t state;
     uint8_t bytes[BLOCK] = {0};
     CHECK(BLAKE(init)(&state, MAX) == 0);
-    state.counter = ~(uint64_t)0 - (BLOCK - 1); /* 2^64 - BLOCK */
+    state.counter = IN_STATE(~(uint64_t)0 - (BLOCK - 1)); /* 2^64 - BLOCK */
     CHECK(BLAKE(update)(&state, bytes, BLOCK / 2) == 0);
     state_t before = state;
     CHECK(BLAKE(update)(&state, bytes, BLOCK / 2) == -1 && !memcmp(&state, &before, sizeof state));
@@ -499,10 +513,11 @@ static void random_states(void) {
     for (int i = 0; i < 4000; i++) {
         for (size_t j = 0; j < sizeof state; j++) ((uint8_t *)&state)[j] = (uint8_t)random_number();
         if (i % 2) {
-            state.output_size %= MAX + 6;
-            state.pending_length %= BLOCK + 12;
-            state.start_length %= BLOCK + 12;
-            if (i % 4 == 1) state.counter = ~(uint64_t)0 - random_number() % (2 * BLOCK);
+            state.output_size = IN_STATE(state.output_size % (MAX + 6));
+            state.pending_length = IN_STATE(state.pending_length % (BLOCK + 12));
+            state.start_length = IN_STATE(state.start_length % (BLOCK + 12));
+            if (i % 4 == 1)
+                state.counter = IN_STATE(~(uint64_t)0 - random_number() % (2 * BLOCK));
         }
         int updated = BLAKE(update)(&state, bytes, i % sizeof bytes);
         int set = BLAKE(set_last_node)(&state, i % 7);
