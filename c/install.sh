@@ -1,7 +1,7 @@
 #!/usr/bin/env bash
 # Installs the library vulfsjor under a folder:
 #
-#   c/install.sh [--cpu CPU] [--prove | --from DIST] FOLDER
+#   c/install.sh [--cpu CPU | --portable] [--prove | --from DIST] FOLDER
 #   c/install.sh --uninstall FOLDER
 #
 #   FOLDER/lib/libvulfsjor.a                  the static library, and libvulfsjor-static.a, a link
@@ -26,8 +26,9 @@
 # script itself needs bash 4 and the tools of GNU or of BusyBox.
 #
 # It assembles the files of dist/ for the machine that the C compiler (CC, otherwise cc) compiles
-# for, x86-64 or 64-bit ARM, in a second or two. It needs the compiler and its binutils. CC
-# may have several words, such as `ccache gcc`. With --prove it proves the crates and installs what
+# for, x86-64 or 64-bit ARM, in a second or two. For every other machine it compiles dist/c, portable
+# C, in five to ten seconds (docs/PORTABLE.md); with --portable also for these two. It needs the
+# compiler and its binutils. CC may have several words, such as `ccache gcc`. With --prove it proves the crates and installs what
 # they compile to instead of dist/. That needs the toolchain's command rt too, and 10 to 20 minutes
 # the first time. With --from it installs what `tools/dist.sh make` has written to the folder DIST.
 #
@@ -43,17 +44,18 @@ here=$(dirname "$(readlink -f "$0")")
 top=$(dirname "$here")
 
 usage() {
-    echo "usage: c/install.sh [--cpu x86-64-v2|x86-64-v3|x86-64-v4]" \
+    echo "usage: c/install.sh [--cpu x86-64-v2|x86-64-v3|x86-64-v4 | --portable]" \
         "[--prove | --from DIST] FOLDER" >&2
     echo "       c/install.sh --uninstall FOLDER, or c/install.sh --help" >&2
     exit 2
 }
 
 read -ra cc <<<"${CC:-cc}"
-cpu= dist=$top/dist prove=no uninstall=no
+cpu= portable=no dist=$top/dist prove=no uninstall=no
 while [ $# -gt 0 ]; do
     case $1 in
         --cpu) [[ ${2-} =~ ^x86-64-v[234]$ ]] || usage; cpu=$2; shift 2 ;;
+        --portable) portable=yes; shift ;;
         --prove) prove=yes; shift ;;
         --from) [ $# -ge 2 ] || usage; dist=$2; shift 2 ;;
         --uninstall) uninstall=yes; shift ;;
@@ -61,7 +63,7 @@ while [ $# -gt 0 ]; do
         *) break ;;
     esac
 done
-{ [ $# -eq 1 ] && [ -n "$1" ] && [[ $1 != -* ]]; } || usage
+{ [ $# -eq 1 ] && [ -n "$1" ] && [[ $1 != -* ]] && [ "${cpu:+cpu}$portable" != cpuyes ]; } || usage
 
 # A path as an absolute one without `.`, `..` and empty names. Links are not followed, and nothing
 # needs to be there.
@@ -127,22 +129,26 @@ fail() {
 
 command -v "${cc[0]-}" >/dev/null ||
     fail "${cc[0]-} is not on the PATH: a C compiler is needed, and its binutils"
-# The texts for the machine that it compiles for.
-machine=$("${cc[@]}" -dumpmachine) texts=() system=none
+# The texts for the machine that it compiles for: portable C if there are none. Those for Linux are
+# ELF, and call nothing but memcpy and the like, so other systems with ELF have them too.
+machine=$("${cc[@]}" -dumpmachine) texts=() system= has_text=no
 case $machine in
     *x32 | *ilp32) ;;
-    *-linux*) system= ;;
-    *-mingw32 | *-windows-gnu) system=-windows ;;
-    *-apple-*) system=-macos ;;
+    *-linux* | *bsd* | *-dragonfly*) has_text=yes ;;
+    *-mingw32 | *-windows-gnu) system=-windows has_text=yes ;;
+    *-apple-*) system=-macos has_text=yes ;;
 esac
-case $machine,$system in
-    *,none) ;;
+[ "$portable" = no ] || has_text=no
+case $machine,$has_text in
+    *,no) ;;
     x86_64-*)
         cpus=${cpu:-x86-64-v2 x86-64-v3 x86-64-v4}
         for level in $cpus; do texts+=("x86_64/vulfsjor-${level#x86-64-}.s"); done
         ;;
     aarch64-* | arm64-*) [ -n "$cpu" ] || cpus=aarch64 texts=(aarch64/vulfsjor.s) ;;
 esac
+kind="proved, for ${cpus-}"
+[ ${#texts[@]} -gt 0 ] || [ -n "$cpu" ] || kind="translated from proved code" texts=(c/vulfsjor.c)
 [ ${#texts[@]} -gt 0 ] || fail "there is no build for $machine${cpu:+ and $cpu}"
 work=$(mktemp -d)
 trap 'rm -rf "$work"' EXIT
@@ -197,7 +203,7 @@ includedir=\${prefix}/include
 libb2dir=\${includedir}/vulfsjor-libb2
 
 Name: $2
-Description: BLAKE2b and BLAKE2s, proved, for $cpus$4
+Description: BLAKE2b and BLAKE2s, $kind$4
 Version: $3
 Cflags: -I$5
 Libs: $6

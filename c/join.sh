@@ -4,6 +4,7 @@
 #   c/join.sh [--test BUILDS] FOLDER V2.s V3.s V4.s   all builds for x86-64, one of which is chosen
 #                                                     at run time
 #   c/join.sh FOLDER ONE.s                            one build, for x86-64 or aarch64
+#   c/join.sh FOLDER vulfsjor.c                       portable C, for every processor
 #
 #   FOLDER/libvulfsjor.a
 #   FOLDER/libvulfsjor.so.VERSION, with the links libvulfsjor.so.0 and libvulfsjor.so
@@ -29,7 +30,7 @@ if [ $# -ge 2 ] && [ "$1" = --test ]; then
 fi
 if [ $# -ne 2 ] && [ $# -ne 4 ]; then
     echo "usage: c/join.sh [--test 2|3|4|23|234] FOLDER V2.s V3.s V4.s" >&2
-    echo "       c/join.sh FOLDER ONE.s" >&2
+    echo "       c/join.sh FOLDER ONE.s|vulfsjor.c" >&2
     exit 2
 fi
 folder=$1
@@ -58,7 +59,12 @@ names=$(grep -o 'vulfsjor_ffi_[a-z0-9_]* *(' "$here/include/vulfsjor.h" | tr -d 
     LC_ALL=C sort -u)
 compare_functions "$here/choose.c" 's/^CALL("\(.*\)")$/\1/p'
 compare_functions "$here/calls.h" 's/^CALL[A-Z_]*(\(vulfsjor_[a-z0-9_]*\),.*/\1/p'
-objects=()
+objects=() shown=$here/choose.c
+if [[ $1 == *.c ]]; then # it has the functions by their own names
+    compare_functions "$1" 's/^[a-z0-9_]* NAME(\([a-z0-9_]*\))(.*/vulfsjor_ffi_\1/p'
+    shown=$1
+    set --
+fi
 for text; do
     # After each function's name come the version and the build.
     compare_functions "$text" "s/^\tvj_export\t\(.*\)_${version//./_}_[a-z0-9]*\$/\1/p"
@@ -71,8 +77,8 @@ if [ $# -eq 1 ]; then
     words=("-DCHOOSE_ONE=$one")
 fi
 mkdir -p "$folder"
-compile -I"$here/include" "${words[@]}" "$here/choose.c" -o "$work/choose.o"
-compile -I"$here/include" "${words[@]}" -DCHOOSE_SHOWN "$here/choose.c" -o "$work/shown.o"
+compile -I"$here/include" "${words[@]}" "$shown" -o "$work/choose.o"
+compile -I"$here/include" "${words[@]}" -DCHOOSE_SHOWN "$shown" -o "$work/shown.o"
 compile "$here/libb2/libb2.c" -o "$work/libb2.o"
 rm -f "$folder"/libvulfsjor*.a
 archive "$folder/libvulfsjor.a" "$work/choose.o" "${objects[@]}"

@@ -46,6 +46,7 @@ SHARED = {
     "src/vulfsjor.h": "c/include/vulfsjor.h",
     "src/choose.c": "c/choose.c",
     "src/calls.h": "c/calls.h",
+    "src/portable.c": "dist/c/vulfsjor.c",
     **{f"src/{name}": f"dist/{name}" for name in TEXTS},
 }
 
@@ -79,10 +80,13 @@ def source_files():
 # ---- The module
 
 def target():
-    """The system that the module is for, and the compiler's options for it."""
+    """The system that the module is for, the sources of the library, and the compiler's options. The source is portable
+    C on Linux and other systems with ELF for other processors, and there if VULFSJOR_PORTABLE is set."""
     platform = sysconfig.get_platform()  # such as macosx-11.0-arm64 or mingw_x86_64_ucrt
     found = re.fullmatch(r"(linux|macosx|mingw|win)[-_](?:([\d.]+)-)?"
                          r"(?:(x86_64|amd64)|(aarch64|arm64))(?:_\w+)?", platform)
+    if not re.match("macosx|mingw|win", platform) and (not found or os.environ.get("VULFSJOR_PORTABLE")):
+        return "linux", ["src/portable.c"], LINKING["linux"]
     if not found or sys.maxsize < 2**32:
         refuse("vulfsjor is assembly for Linux, macOS and Windows on x86-64 and on 64-bit ARM, and "
                f"has none for {platform}")
@@ -92,7 +96,7 @@ def target():
     options = list(LINKING[system])
     if system == "macosx":
         options += ["-arch", x86 or arm, f"-mmacosx-version-min={version}"]
-    return system, options
+    return system, ["src/choose.c", "src/vulfsjor.S"], options
 
 
 def compiler(system):
@@ -117,7 +121,7 @@ def module_name():
 
 def compiled():
     """The bytes of the module."""
-    system, options = target()
+    system, library, options = target()
     includes = {sysconfig.get_path("include"), sysconfig.get_path("platinclude")}
     with tempfile.TemporaryDirectory() as work:
         for name, path in source_files().items():
@@ -129,7 +133,7 @@ def compiled():
             [*compiler(system), *COMPILING, *(f"-I{folder}" for folder in sorted(includes)),
              *(["-DPy_GIL_DISABLED=1"] if WITHOUT_GIL else []),
              *shlex.split(os.environ.get("CFLAGS", "")), *options, "-o", made, "src/library.c",
-             "src/trees.c", "src/choose.c", "src/vulfsjor.S", *shlex.split(os.environ.get("LDFLAGS", "")),
+             "src/trees.c", *library, *shlex.split(os.environ.get("LDFLAGS", "")),
              *(["-lpython3"] if system == "windows" else [])], cwd=work, check=False)
         if done.returncode:
             has_headers = any(os.path.exists(f"{folder}/Python.h") for folder in includes)

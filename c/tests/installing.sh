@@ -356,25 +356,28 @@ choose_by_cmake() {
         cmake -S "$here" -B "$build" -DCMAKE_SYSTEM_NAME="$1" -DCMAKE_SYSTEM_PROCESSOR="$2" \
             -DCMAKE_TRY_COMPILE_TARGET_TYPE=STATIC_LIBRARY "${@:3}" >"$work/configured" 2>&1 ||
         { cat "$work/configured" && return 1; }
-    grep -rhoE 'dist/[a-z0-9_-]*/?vulfsjor[v0-9-]*\.[sS]' "$build" | LC_ALL=C sort -u
+    # It has a rule for the assembly of C too.
+    grep -rhoE 'dist/[a-z0-9_-]*/?vulfsjor[v0-9-]*\.[sSc]' "$build" | LC_ALL=C sort -u |
+        sed '/^dist\/c\/vulfsjor\.s$/d'
 }
 
-# That CMake has code for each system and name of a processor, and where it has none.
+# What CMake chooses for each system and name of a processor: portable C where there is no assembly,
+# or if it is asked for.
 chosen_by_cmake() {
-    local name system refusal="vulfsjor has no code for"
+    local name system
     for name in x86_64 AMD64 amd64 aarch64 arm64 ARM64; do
-        for system in Linux Darwin Windows; do
+        for system in Linux Darwin Windows FreeBSD; do
             choose_by_cmake $system $name | diff <(echo dist/vulfsjor.S) - || return 1
         done
     done
     choose_by_cmake Darwin arm64 "-DCMAKE_OSX_ARCHITECTURES=arm64;x86_64" |
-        diff <(echo dist/vulfsjor.S) - &&
-        refuses 1 "$refusal Darwin on i386" \
-            choose_by_cmake Darwin arm64 "-DCMAKE_OSX_ARCHITECTURES=arm64;i386" || return 1
-    refuses 1 "$refusal FreeBSD on x86_64" choose_by_cmake FreeBSD x86_64 &&
-        refuses 1 "$refusal Linux on aarch64_be" choose_by_cmake Linux aarch64_be || return 1
+        diff <(echo dist/vulfsjor.S) - || return 1
+    for name in "Linux aarch64_be" "Linux riscv64" "Linux armv7l" "Haiku x86_64" \
+        "Linux x86_64 -DVULFSJOR_PORTABLE=ON"; do
+        choose_by_cmake $name | diff <(echo dist/c/vulfsjor.c) - || return 1
+    done
     ! is_x86 ||
-        refuses 1 "$refusal Linux on x86_64" choose_by_cmake Linux x86_64 -DCMAKE_C_FLAGS=-m32
+        choose_by_cmake Linux x86_64 -DCMAKE_C_FLAGS=-m32 | diff <(echo dist/c/vulfsjor.c) -
 }
 
 write_program() {
@@ -433,14 +436,49 @@ refuses() {
         { echo "status or words of: $*"; cat "$work/said"; return 1; }
 }
 
-refusals() {
-    local call=("$here/install.sh") machine
-    # A compiler for the machine that is its first word.
-    printf '#!/bin/sh\necho "$1"\n' >"$work/for" && chmod +x "$work/for"
-    for machine in x86_64-linux-gnux32 aarch64-linux-gnu_ilp32 x86_64-freebsd; do
-        refuses 1 "there is no build for $machine" env CC="$work/for $machine" "${call[@]}" \
-            --from "$dist" "$work/no" || return 1
+# A compiler for the machine that is its first word: the one here, which notes its other words.
+compiler_for() {
+    cat >"$work/for" <<END && chmod +x "$work/for"
+#!/bin/sh
+[ "\$2" != -dumpmachine ] || { echo "\$1"; exit; }
+shift
+echo "\$*" >>"$work/compiled"
+exec cc "\$@"
+END
+}
+
+# The texts that install.sh takes for a machine, whose compiler is the one here.
+texts_for() {
+    rm -f "$work/compiled"
+    CC="$work/for $1" "$here/install.sh" --from "$dist" "${@:2}" "$work/for_$1" 2>"$work/said"
+    grep -ohE 'dist/[^ ]*/vulfsjor[v0-9-]*\.[sc] ' "$work/compiled" | sort -u | sed 's|.*dist/||;s/ $//'
+}
+
+# Every machine without assembly has portable C, which works, and others have it by a word. Systems
+# with ELF have the assembly for Linux.
+machines_without_assembly() {
+    local machine
+    compiler_for || return 1
+    for machine in riscv64-linux-gnu x86_64-linux-gnux32 aarch64_be-linux-gnu i386-unknown-haiku; do
+        texts_for $machine | diff <(echo c/vulfsjor.c) - && words_work "$work/for_$machine/lib" || return 1
     done
+    texts_for x86_64-pc-linux-gnu --portable | diff <(echo c/vulfsjor.c) - &&
+        words_work "$work/for_x86_64-pc-linux-gnu/lib" &&
+        grep -qx 'Description: BLAKE2b and BLAKE2s, translated from proved code' \
+            "$work/for_x86_64-pc-linux-gnu/lib/pkgconfig/vulfsjor.pc" &&
+        [ "$(nm -D --defined-only "$work/for_x86_64-pc-linux-gnu/lib/libvulfsjor.so" | wc -l)" -eq \
+            "$(nm -D --defined-only "$shared" | wc -l)" ] || return 1
+    ! is_x86 || for machine in x86_64-unknown-freebsd14.0 x86_64-unknown-openbsd x86_64-linux-android; do
+        texts_for $machine | diff <(printf 'x86_64/vulfsjor-v%s.s\n' 2 3 4) - || return 1
+    done
+}
+
+refusals() {
+    local call=("$here/install.sh")
+    compiler_for || return 1
+    refuses 1 "no build for riscv64-linux-gnu and x86-64-v2" env CC="$work/for riscv64-linux-gnu" \
+        "${call[@]}" --cpu x86-64-v2 --from "$dist" "$work/no" || return 1
+    refuses 2 usage "${call[@]}" --cpu x86-64-v3 --portable "$work/no" || return 1
     refuses 1 "no build for aarch64-linux-gnu and x86-64-v2" env CC="$work/for aarch64-linux-gnu" \
         "${call[@]}" --cpu x86-64-v2 --from "$dist" "$work/no" || return 1
     refuses 2 usage "${call[@]}" && refuses 2 usage "${call[@]}" "" &&
@@ -462,6 +500,7 @@ test_installing() {
     check "DESTDIR and LIBDIR" package
     check "a second installation" installs_again
     check "what install.sh refuses" refusals
+    check "machines without assembly, and --portable" machines_without_assembly
     check "a folder named from the current one" relative_folder
     check "a project with the files by hand" vendored_by_hand
     check "compilers of several words" compilers_of_words

@@ -30,7 +30,8 @@ with open(os.path.join(TOP, "CHANGELOG.md"), encoding="utf-8") as PAGE:
 ABOUT = f"vulfsjor-{VERSION}.dist-info"
 # The files that the package shares with the repository, by their names in a source distribution.
 SHARED = {"src/vulfsjor.h": "c/include/vulfsjor.h", "src/choose.c": "c/choose.c",
-          "src/calls.h": "c/calls.h", **{f"src/{name}": f"dist/{name}" for name in (
+          "src/calls.h": "c/calls.h", "src/portable.c": "dist/c/vulfsjor.c",
+          **{f"src/{name}": f"dist/{name}" for name in (
               "macros.h", "vulfsjor.S", "aarch64/vulfsjor.s", "x86_64/vulfsjor-v2.s",
               "x86_64/vulfsjor-v3.s", "x86_64/vulfsjor-v4.s", "aarch64/coff.inc",
               "aarch64/elf.inc", "aarch64/macho.inc", "x86_64/coff.inc", "x86_64/elf.inc",
@@ -123,11 +124,28 @@ class Build(Test):
         return path
 
     def test_other_platforms(self):
-        for name in ("linux-s390x", "macosx-11.0-universal2", "linux-x86_64x", "win32"):
+        for name in ("macosx-11.0-universal2", "win32", "win-arm32"):
             self.assertEqual(
                 self.refused(_PYTHON_HOST_PLATFORM=name),
                 "build_package.py: vulfsjor is assembly for Linux, macOS and Windows on x86-64 and "
                 f"on 64-bit ARM, and has none for {name}")
+
+    def test_portable(self):
+        """Portable C where there is no assembly, and on a word, over which the module works."""
+        fake = f"'{self.fake()}' -x"
+        for environment in ({"_PYTHON_HOST_PLATFORM": "linux-s390x"}, {"_PYTHON_HOST_PLATFORM": "linux-i686"},
+                            {"_PYTHON_HOST_PLATFORM": "freebsd-14.0-release-amd64"},
+                            {"_PYTHON_HOST_PLATFORM": "linux-x86_64", "VULFSJOR_PORTABLE": "1"}):
+            with zipfile.ZipFile(self.made("wheel", os.path.join(TOP, "python"), CC=fake, **environment)) as wheel:
+                names = [name for name in wheel.namelist() if name.startswith("vulfsjor/_library")]
+                words = wheel.read(names[0]).decode().splitlines()
+            self.assertEqual([word for word in words if word.endswith((".c", ".s"))],
+                             ["src/library.c", "src/trees.c", "src/portable.c"])
+        with zipfile.ZipFile(self.made("wheel", os.path.join(TOP, "python"), VULFSJOR_PORTABLE="1")) as wheel:
+            wheel.extractall(os.path.join(self.folder, "portable"))
+        code = "import vulfsjor; print(vulfsjor.blake2b(b'abc', key=b'k').hexdigest())"
+        self.assertEqual(self.succeeds(sys.executable, "-c", code, cwd=os.path.join(self.folder, "portable")).strip(),
+                         hashlib.blake2b(b"abc", key=b"k").hexdigest())
 
     def test_what_is_missing(self):
         said = "build_package.py: there is no C compiler{}: install GCC{}, or set CC"
