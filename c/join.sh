@@ -2,7 +2,7 @@
 # Makes the libraries that callers link from the assembly of dist/:
 #
 #   c/join.sh [--test BUILDS] FOLDER V2.s V3.s V4.s   all builds for x86-64, one of which is chosen
-#                                                     at run time
+#     [vulfsjor.c]                                    at run time, and portable C for older processors
 #   c/join.sh FOLDER ONE.s                            one build, for x86-64 or aarch64
 #   c/join.sh FOLDER vulfsjor.c                       portable C, for every processor
 #
@@ -28,8 +28,8 @@ if [ $# -ge 2 ] && [ "$1" = --test ]; then
     words=("-DCHOOSE_TEST=$2")
     shift 2
 fi
-if [ $# -ne 2 ] && [ $# -ne 4 ]; then
-    echo "usage: c/join.sh [--test 2|3|4|23|234] FOLDER V2.s V3.s V4.s" >&2
+if [ $# -ne 2 ] && [ $# -ne 4 ] && [ $# -ne 5 ]; then
+    echo "usage: c/join.sh [--test 2|3|4|23|234] FOLDER V2.s V3.s V4.s [vulfsjor.c]" >&2
     echo "       c/join.sh FOLDER ONE.s|vulfsjor.c" >&2
     exit 2
 fi
@@ -60,11 +60,18 @@ names=$(grep -o 'vulfsjor_ffi_[a-z0-9_]* *(' "$here/include/vulfsjor.h" | tr -d 
 compare_functions "$here/choose.c" 's/^CALL("\(.*\)")$/\1/p'
 compare_functions "$here/calls.h" 's/^CALL[A-Z_]*(\(vulfsjor_[a-z0-9_]*\),.*/\1/p'
 objects=() shown=$here/choose.c
-if [[ $1 == *.c ]]; then # it has the functions by their own names
-    compare_functions "$1" 's/^[a-z0-9_]* NAME(\([a-z0-9_]*\))(.*/vulfsjor_ffi_\1/p'
-    shown=$1
-    set --
-fi
+for text; do
+    [[ $text == *.c ]] || continue
+    compare_functions "$text" 's/^[a-z0-9_]* NAME(\([a-z0-9_]*\))(.*/vulfsjor_ffi_\1/p'
+    if [ $# -eq 1 ]; then # it has the functions by their own names
+        shown=$text
+    else
+        words+=(-DCHOOSE_PORTABLE)
+        objects+=("$work/portable.o")
+        compile -I"$here/include" -DCHOOSE_BESIDE "$text" -o "${objects[-1]}"
+    fi
+    set -- "${@:1:$#-1}"
+done
 for text; do
     # After each function's name come the version and the build.
     compare_functions "$text" "s/^\tvj_export\t\(.*\)_${version//./_}_[a-z0-9]*\$/\1/p"

@@ -20,11 +20,8 @@
 
 #if defined(__GNUC__) && !defined(_WIN32) && !defined(CHOOSE_SHOWN)
 #pragma GCC visibility push(hidden)
-#include "vulfsjor.h"
-#pragma GCC visibility pop
-#else
-#include "vulfsjor.h"
 #endif
+#include "vulfsjor.h"
 
 #ifdef CHOOSE_BESIDE
 #define NAME(name) vulfsjor_ffi_##name##_@VERSION@_c
