@@ -22,6 +22,12 @@ run_there() {
 
 library_there() { "${compiler[@]}" "${words[@]}" -c "$source_file" -o "$work/$processor.o"; }
 
+# What a call with a key leaves on the stack is overwritten, by the compiler's own account of it.
+stack_there() {
+    "${compiler[@]}" "${words[@]}" -fstack-usage -c "$source_file" -o "$work/usage.o" &&
+        "$top/tests/portable_stack.py" "$source_file" "$work/usage.su"
+}
+
 vectors_there() {
     run_there test $(family_words "$family") "$tests/test.c" -- "$some/$family"
 }
@@ -64,6 +70,7 @@ test_there() {
         check "test.c, blake2$family, for $processor" vectors_there
         check "edges.c, blake2$family, for $processor" edges_there
     done
+    check "the stack that is wiped, for $processor" stack_there
     check "parts.c, for $processor" parts_there 100
     check "files, for $processor" files_there
     check "300 random cases, for $processor" random_cases_there 300
