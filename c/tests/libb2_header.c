@@ -121,7 +121,7 @@ static void null_pointers(void) {
     CHECK(B(update)(&state, NULL, 0) == 0 && SAME(state, before));
     memset(state.t, 0x80, 8); /* so that this length is refused, and no byte is read */
     before = state;
-    CHECK(B(update)(&state, bytes, (size_t)1 << 63) == -1 && SAME(state, before));
+    CHECK_64(B(update)(&state, bytes, TWO_TO(63)) == -1 && SAME(state, before));
     CHECK(B(final)(NULL, out, MAX) == -1 && B(final)(NULL, out, 0) == -1 &&
           B(final)(NULL, NULL, 0) == -1);
     CHECK(B(final)(&state, NULL, MAX) == -1 && B(final)(&state, NULL, 0) == -1 &&
@@ -135,9 +135,9 @@ static void null_pointers(void) {
     CHECK(HASH(out, NULL, NULL, MAX, 0, 0) == 0);
     tell(MAX, 0, 0, out);
     fresh(out, MAX);
-    CHECK(HASH(out, bytes, key, (size_t)1 << 32 | MAX, 1, 1) == -1);
-    CHECK(HASH(out, bytes, key, MAX, 1, (size_t)1 << 32 | 1) == -1 &&
-          HASH(out, bytes, key, ~(size_t)0, 1, 1) == -1);
+    CHECK_64(HASH(out, bytes, key, TWO_TO(32) | MAX, 1, 1) == -1);
+    CHECK_64(HASH(out, bytes, key, MAX, 1, TWO_TO(32) | 1) == -1);
+    CHECK(HASH(out, bytes, key, ~(size_t)0, 1, 1) == -1);
     CHECK(is_untouched(out, 0, MAX));
 }
 
@@ -211,8 +211,14 @@ static void params(void) {
     memset(param.personal, 9, sizeof param.personal);
     CHECK(B(init_param)(&state, &param) == 0 && B(update)(&state, bytes, 20) == 0 &&
           B(final)(&state, out, MAX - 1) == 0);
+    uint8_t block[sizeof param];
+    memcpy(block, &param, sizeof block);
+    for (int i = 0; i < 4; i++) block[4 + i] = (uint8_t)(param.leaf_length >> (8 * i));
+#ifndef TEST_S
+    for (int i = 0; i < 8; i++) block[8 + i] = (uint8_t)(param.node_offset >> (8 * i));
+#endif
     printf("block %s ", FAMILY);
-    for (size_t i = 0; i < sizeof param; i++) printf("%02x", ((uint8_t *)&param)[i]);
+    for (size_t i = 0; i < sizeof block; i++) printf("%02x", block[i]);
     putchar(' ');
     for (size_t i = 0; i < MAX - 1; i++) printf("%02x", out[i]);
     putchar('\n');

@@ -37,6 +37,12 @@ edges_there() {
         python3 "$tests/check_lines.py" <"$work/lines"
 }
 
+# libb2's names, which copy states of libb2.
+libb2_there() {
+    run_there libb2 $(family_words "$family") "-I$here/include/libb2" "$tests/libb2_header.c" -- \
+        >"$work/lines" && python3 "$tests/check_lines.py" <"$work/lines"
+}
+
 parts_there() {
     run_there parts "$tests/parts.c" -- "$1" >"$work/lines" &&
         python3 "$tests/check_lines.py" <"$work/lines"
@@ -69,6 +75,7 @@ test_there() {
     for family in b s; do
         check "test.c, blake2$family, for $processor" vectors_there
         check "edges.c, blake2$family, for $processor" edges_there
+        check "libb2_header.c, blake2$family, for $processor" libb2_there
     done
     check "the stack that is wiped, for $processor" stack_there
     check "parts.c, for $processor" parts_there 100

@@ -65,6 +65,15 @@ typedef vulfsjor_blake2s_param blake2s_param;
         return 0;                                                                                  \
     }
 
+/* A number as our state has it, little-endian on every platform, and back. */
+static inline uint64_t vulfsjor_libb2_number(uint64_t number) {
+    uint8_t bytes[8];
+    int i;
+    for (i = 0; i < 8; i++) bytes[i] = VULFSJOR_CAST(uint8_t, number >> (8 * i));
+    memcpy(&number, bytes, sizeof number);
+    return number;
+}
+
 /* The functions of one family, named x, with words of this type, and a state of `size` bytes.
  * libb2's counter has two words, which are one number with the low bytes first; 64 bits are in
  * use. */
@@ -84,10 +93,10 @@ typedef vulfsjor_blake2s_param blake2s_param;
         memcpy(run->chain, S->h, sizeof run->chain);                                               \
         memcpy(&run->counter, S->t, sizeof run->counter);                                          \
         memcpy(run->pending, S->buf, sizeof run->pending);                                         \
-        run->pending_length = S->buflen;                                                           \
-        run->start_length = block;                                                                 \
-        run->output_size = S->outlen;                                                              \
-        run->last_node = S->last_node;                                                             \
+        run->pending_length = vulfsjor_libb2_number(S->buflen);                                    \
+        run->start_length = vulfsjor_libb2_number(block);                                          \
+        run->output_size = vulfsjor_libb2_number(S->outlen);                                       \
+        run->last_node = vulfsjor_libb2_number(S->last_node);                                      \
     }                                                                                              \
                                                                                                    \
     /* Copies our state back, unless a call failed that leaves it unchanged, and wipes ours. */    \
@@ -98,9 +107,9 @@ typedef vulfsjor_blake2s_param blake2s_param;
             memcpy(S->h, run->chain, sizeof run->chain);                                           \
             memcpy(S->t, &run->counter, sizeof run->counter);                                      \
             memcpy(S->buf, run->pending, sizeof run->pending);                                     \
-            S->buflen = VULFSJOR_CAST(uint32_t, run->pending_length);                              \
-            S->outlen = VULFSJOR_CAST(uint8_t, run->output_size);                                  \
-            S->last_node = VULFSJOR_CAST(uint8_t, run->last_node);                                 \
+            S->buflen = VULFSJOR_CAST(uint32_t, vulfsjor_libb2_number(run->pending_length));       \
+            S->outlen = VULFSJOR_CAST(uint8_t, vulfsjor_libb2_number(run->output_size));           \
+            S->last_node = VULFSJOR_CAST(uint8_t, vulfsjor_libb2_number(run->last_node));          \
         }                                                                                          \
         vulfsjor_##x##_wipe(run);                                                                  \
         return status;                                                                             \
