@@ -11,20 +11,23 @@ lipo=$(command -v llvm-lipo || command -v llvm-lipo-14)
 # What the library and the program need of the C library of macOS.
 write_sdk() {
     local names=(memcpy memmove memset memcmp strlen abort write read malloc realloc free signal
-        __error)
+        __error __bzero __stack_chk_fail __stack_chk_guard)
     mkdir -p "$sdk"/usr/{include/sys,lib}
     printf '%s\n' '#include <stddef.h>' 'void abort(void);' 'void *malloc(size_t);' \
         'void *realloc(void *, size_t);' 'void free(void *);' >"$sdk/usr/include/stdlib.h"
     printf '%s\n' '#include <stddef.h>' 'void *memcpy(void *, const void *, size_t);' \
-        'void *memset(void *, int, size_t);' 'int memcmp(const void *, const void *, size_t);' \
+        'void *memmove(void *, const void *, size_t);' 'void *memset(void *, int, size_t);' \
+        'int memcmp(const void *, const void *, size_t);' \
         'size_t strlen(const char *);' >"$sdk/usr/include/string.h"
     echo 'typedef long ssize_t;' >"$sdk/usr/include/sys/types.h"
     printf '%s\n' '#include <stddef.h>' '#include <sys/types.h>' \
         'ssize_t write(int, const void *, size_t);' 'ssize_t read(int, void *, size_t);' \
         >"$sdk/usr/include/unistd.h"
     printf 'typedef %s;\n' 'signed char int8_t' 'int int32_t' 'unsigned char uint8_t' \
-        'unsigned uint32_t' 'unsigned long long uint64_t' 'unsigned long uintptr_t' \
-        >"$sdk/usr/include/stdint.h"
+        'unsigned short uint16_t' 'unsigned uint32_t' 'unsigned long long uint64_t' \
+        'unsigned long uintptr_t' >"$sdk/usr/include/stdint.h"
+    printf '#define %s\n' 'UINT32_C(n) n##U' 'UINT64_C(n) n##ULL' \
+        'UINT64_MAX 0xffffffffffffffffULL' >>"$sdk/usr/include/stdint.h"
     printf '%s\n' 'int *__error(void);' '#define errno (*__error())' >"$sdk/usr/include/errno.h"
     echo 'void (*signal(int, void (*)(int)))(int);' >"$sdk/usr/include/signal.h"
     printf '%s\n' '--- !tapi-tbd' 'tbd-version: 4' 'targets: [ x86_64-macos, arm64-macos ]' \

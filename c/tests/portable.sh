@@ -90,10 +90,33 @@ unknown_order() {
     processor=unknown && library_there && vectors_there && edges_there
 }
 
+# The dialect of MSVC, by clang, over headers that stand in for the C library's.
+compiles_for_msvc() {
+    local target
+    mkdir -p "$work/msvc" &&
+        echo '__declspec(noreturn) void abort(void);' >"$work/msvc/stdlib.h" &&
+        printf '#include <stddef.h>\n%s\n' 'void *memcpy(void *, const void *, size_t);' \
+            'void *memmove(void *, const void *, size_t);' 'void *memset(void *, int, size_t);' \
+            'int memcmp(const void *, const void *, size_t);' 'size_t strlen(const char *);' \
+            >"$work/msvc/string.h" || return 1
+    for target in x86_64 i686 aarch64; do
+        clang --target=$target-pc-windows-msvc -ffreestanding -fms-extensions "${words[@]}" \
+            "-I$work/msvc" -c "$source_file" -o "$work/msvc/$target.obj" || return 1
+    done
+}
+
 # A search for keys in memory, which has instructions of the processors of the assembly.
 keys_here() {
     cc -std=gnu99 -O2 "${warnings[@]}" -Wl,-z,now $(family_words "$family") "-I$here/include" \
         "$tests/key_scan.c" "$work/here.o" -o "$work/key_scan" && "$work/key_scan"
+}
+
+# Branches and addresses by a key or a message, with this compiler, of every hundredth test vector.
+secrets_here() {
+    awk 'NR % 100 == 1 && length($0) < 8900' "$cases/$family" >"$work/secret_cases" &&
+        cc -std=c99 -O2 "${warnings[@]}" $(family_words "$family") "-I$here/include" \
+            "$tests/secrets.c" "$work/here.o" -o "$work/secrets" &&
+        valgrind -q --error-limit=no "$work/secrets" "$work/secret_cases"
 }
 
 test_portable() {
@@ -106,6 +129,13 @@ test_portable() {
         check "key_scan.c, blake2$family, over the file in C" keys_here
         check "an unknown order of bytes, blake2$family" unknown_order
     done
+    needs valgrind
+    for family in b s; do
+        check "no branch or address by a secret, blake2$family, with cc -O2" secrets_here
+    done
+    needs clang
+    check "the file in C, in MSVC's dialect" compiles_for_msvc
+    needs python3
     for name in riscv64 s390x i386 armhf ppc64el; do
         compiler=("${compilers[$name]}" -static) emulator=("${emulators[$name]}")
         if has "${compiler[0]}" && has "${emulator[0]}"; then
