@@ -1,6 +1,6 @@
 #!/usr/bin/env python3
-"""Tests tools/wasm_to_c.py: random functions of all its instructions do in C, on several processors, what node does with
-the module; and what it does not know, it refuses. With VULFSJOR_TEST_HUGE more functions, and each change of the
+"""Tests tools/wasm_to_c.py: random functions of all its instructions do in C, on several processors, what node does
+with the module; and what it does not know, it refuses. With VULFSJOR_TEST_HUGE more functions, and each change of the
 translator in translator/mutations.txt is seen by one of these tests.
 
     tests/translator.py [SEED COUNT]
@@ -26,13 +26,15 @@ from terms import CannotShow  # noqa: E402
 
 # The compilers, with words, and what runs their programs.
 NATIVE = {"cc -O2": (["cc", "-O2"], []),
-          "clang -O1 with sanitizers": (["clang", "-O1", "-fsanitize=address,undefined", "-fno-sanitize-recover=all"], []),
+          "clang -O1 with sanitizers":
+              (["clang", "-O1", "-fsanitize=address,undefined", "-fno-sanitize-recover=all"], []),
           "cc -O1, an unknown order of bytes": (["cc", "-O1", "-U__BYTE_ORDER__"], [])}
 CROSS = {"riscv64": ("riscv64-linux-gnu-gcc", "qemu-riscv64"), "s390x": ("s390x-linux-gnu-gcc", "qemu-s390x"),
          "i386": ("i686-linux-gnu-gcc", "qemu-i386"), "armhf": ("arm-linux-gnueabihf-gcc", "qemu-arm"),
          "ppc64el": ("powerpc64le-linux-gnu-gcc", "qemu-ppc64le")}
 # Those that see changes of the translator, the quickest first.
-SEEING = [(["cc", "-O0"], []), (["cc", "-O0", "-U__BYTE_ORDER__"], []), (["s390x-linux-gnu-gcc", "-O0", "-static"], ["qemu-s390x"]),
+SEEING = [(["cc", "-O0"], []), (["cc", "-O0", "-U__BYTE_ORDER__"], []),
+          (["s390x-linux-gnu-gcc", "-O0", "-static"], ["qemu-s390x"]),
           NATIVE["clang -O1 with sanitizers"]]
 INPUTS = [(0, 0), (1, 2**64 - 1), (0x0123456789abcdef, 0xfedcba9876543210), (1 << 63, 1 << 31),
           (0x7fffffff80000000, 0xff80), (0x9e3779b97f4a7c15, 0xbf58476d1ce4e5b9), (33, 0x94d049bb133111eb)]
@@ -70,7 +72,8 @@ for (const [k, bits] of [%s].entries()) for (const [a, b] of [%s]) {
 console.log(lines.join("\\n"));
 """
 HAS_ALL = {f"{type_}.{name}" for type_ in ("i32", "i64") for name in functions.BINARY + functions.COMPARISONS +
-           functions.LOADS[type_] + functions.STORES[type_] + functions.EXTENDS[type_] + ["const", "div_u", "rem_u", "eqz"]}
+           functions.LOADS[type_] + functions.STORES[type_] + functions.EXTENDS[type_] +
+           ["const", "div_u", "rem_u", "eqz"]}
 HAS_ALL |= {"i32.wrap_i64", "i64.extend_i32_s", "i64.extend_i32_u", "local.get", "local.set", "local.tee", "global.get",
             "global.set", "memory.copy", "memory.fill", "block", "loop", "end", "br", "br_if", "return", "unreachable",
             "select", "drop", "call"}
@@ -150,6 +153,8 @@ def one(lines, results=("i64",), locals_=("i64", "i64", "i32"), more=b"", names=
     return functions.module(made, exports or {names[0]: 0}, more)
 
 
+ALIGNED = ["global.get 0", "local.tee 4", "i64.const 32", "i64.sub", "i64.const -32", "i64.and", "local.tee 3",
+           "global.set 0"]
 RETURN = ["local.get 1"]
 TAKE = ["global.get 0", "i64.const 32", "i64.sub", "local.tee 3", "global.set 0"]
 GIVE = ["local.get 3", "i64.const 32", "i64.add", "global.set 0"]
@@ -188,15 +193,22 @@ REFUSED = {
     "a stack pointer from memory": one(TAKE + ["local.get 0", "i64.load 0", "global.set 0"] + RETURN),
     "a stack pointer that stays lower": one(TAKE + ["local.get 3", "i64.const 16", "i64.add", "global.set 0"] + RETURN),
     "a part of the stack of 24 bytes": one([x.replace("32", "24") for x in TAKE + GIVE] + RETURN),
-    "a part of the stack of a length that is not known": one(["global.get 0", "local.get 1", "i64.sub", "global.set 0"] +
-                                                             RETURN),
+    "a part of the stack of a length that is not known": one(["global.get 0", "local.get 1", "i64.sub",
+                                                              "global.set 0"] + RETURN),
     "two parts of the stack": one(TAKE + ["local.get 3", "i64.const 16", "i64.sub", "global.set 0"] + GIVE + RETURN),
     "a store below the part of the stack": one(TAKE + ["local.get 3", "i64.const 8", "i64.sub", "local.get 1",
                                                        "i64.store 0"] + GIVE + RETURN),
     "a store above the part of the stack": one(TAKE + ["local.get 3", "local.get 1", "i64.store 25"] + GIVE + RETURN),
     "a load above the part of the stack": one(TAKE + ["local.get 3", "i64.load8_u 32", "drop"] + GIVE + RETURN),
-    "parts of the stack of two lengths": one(TAKE + ["global.get 0", "i64.const 64", "i64.sub", "drop"] + GIVE + RETURN),
+    "parts of the stack of two lengths": one(TAKE + ["global.get 0", "i64.const 64", "i64.sub", "drop"] + GIVE +
+                                             RETURN),
     "a load above the stack pointer": one(["global.get 0", "i64.load 0"]),
+    "a store above an aligned part of the stack": one(ALIGNED + ["local.get 3", "local.get 1", "i64.store 25"] +
+                                                      RETURN),
+    "a store below an aligned part of the stack": one(ALIGNED + ["local.get 3", "i64.const 8", "i64.sub", "local.get 1",
+                                                                 "i64.store 0"] + RETURN),
+    "another store below an aligned part": one(ALIGNED + ["local.get 4", "i64.const 40", "i64.sub", "local.get 1",
+                                                          "i64.store 0"] + RETURN),
     "an alignment of 8": one(TAKE[:3] + ["i64.const -8", "i64.and", "local.tee 3", "global.set 0"] + RETURN),
     "an alignment of 128": one(TAKE[:3] + ["i64.const -128", "i64.and", "local.tee 3", "global.set 0"] + RETURN),
     "a stack pointer after another branch": one(TAKE[:3] + ["local.set 3", "block", "local.get 5", "br_if 0",
@@ -215,11 +227,12 @@ ACCEPTED = {
     "a function": one(RETURN), "a part of the stack": one(TAKE + GIVE + RETURN),
     "the last bytes of it": one(TAKE + ["local.get 3", "local.get 1", "i64.store 24"] + GIVE + RETURN),
     "an address that is reached by a negative number": one(TAKE + [
-        "local.get 3", "i64.const 32", "i64.add", "i64.const -8", "i64.add", "local.get 1", "i64.store 0"] + GIVE + RETURN),
+        "local.get 3", "i64.const 32", "i64.add", "i64.const -8", "i64.add", "local.get 1", "i64.store 0"] + GIVE +
+                                                         RETURN),
     "a stack pointer that waits": one(TAKE[:3] + ["local.set 3", "local.get 3", "local.get 1", "local.set 3",
                                                   "global.set 0"] + RETURN),
-    "an alignment of 32": one(["global.get 0", "local.tee 4"] + TAKE[1:3] + [
-        "i64.const -32", "i64.and", "local.tee 3", "global.set 0", "local.get 4", "global.set 0"] + RETURN),
+    "an alignment of 32, and the last bytes": one(ALIGNED + ["local.get 3", "local.get 1", "i64.store 24",
+                                                             "local.get 4", "global.set 0"] + RETURN),
     "data of no bytes": one(RETURN) + functions.section(11, b"\x01\0\x42\x10\x0b\0"),
     "the same stack pointer after two branches": one(TAKE[:3] + [
         "local.set 3", "block", "local.get 5", "br_if 0", "local.get 3", "local.set 3", "end", "local.get 3",
@@ -304,7 +317,8 @@ def main():
     huge = bool(os.environ.get("VULFSJOR_TEST_HUGE"))
     seed, count = map(int, sys.argv[1:3]) if len(sys.argv) == 3 else (1, 300 if huge else 40)
     wrong = wrong_refusals(wasm_to_c)
-    tap.result(not wrong, f"{len(REFUSED)} modules are refused, and {len(ACCEPTED)} like them are not", "\n".join(wrong))
+    tap.result(not wrong, f"{len(REFUSED)} modules are refused, and {len(ACCEPTED)} like them are not",
+               "\n".join(wrong))
     if not shutil.which("node") or not shutil.which("cc"):
         tap.result(True, "random functions next to node", skipped="no node or no cc")
         tap.finish()

@@ -392,7 +392,7 @@ class Body:
         if place == (TOP, 0) and by < 0 and not self.frame:
             refuse_unless(by % 16 == 0 and by > -1 << 16, "a part of the stack of an unknown length")
             self.frame = -by
-        refuse_unless(base != self.lowest()[0] or offset >= self.lowest()[1],
+        refuse_unless(offset >= (-self.frame if base == TOP else 0),
                       "an address below the function's part of the stack")
         return base, offset
 
@@ -406,8 +406,9 @@ class Body:
 
     def address(self, value, offset, size):
         """The address of an access, in C. One on the stack is inside of the function's part."""
-        if value.place and value.place[0] == TOP:
-            refuse_unless(value.place[1] + offset + size <= 0, "an access outside of the function's part of the stack")
+        if value.place:
+            end = 0 if value.place[0] == TOP else self.frame
+            refuse_unless(value.place[1] + offset + size <= end, "an access above the function's part of the stack")
         return bare(value.text) + (f" + {offset}" if offset else "")
 
     # ---- numbers
@@ -463,8 +464,8 @@ class Body:
             self.push(Value(type_, self.sign(type_, text, int(match[2])), [a]))
 
     def compare(self, a, op, sign, b):
-        """A comparison. Signed numbers are compared as unsigned ones, with their highest bits changed. Whether the stack
-        has room is not asked: it has."""
+        """A comparison. Signed numbers are compared as unsigned ones, with their highest bits changed. Whether the
+        stack has room is not asked: it has."""
         sides = a.text, b.right()
         if sign == "s":
             if a.place and op in ("lt", "gt") and b.number is not None and b.number < 1 << 16:
