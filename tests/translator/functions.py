@@ -260,14 +260,14 @@ class Maker:
         """The last bytes of the part of the stack, and the first."""
         last = self.room - 8
         return [f"local.get {FRAME}"] + self.expression("i64", 1) + [
-            f"i64.store {last}", f"local.get {FRAME}", f"i64.const {last}", "i64.add", "i64.load 0", f"local.get {FRAME}",
-            "i32.load8_u 0", "i64.extend_i32_u", "i64.add"] + self.mix("i64")
+            f"i64.store {last}", f"local.get {FRAME}", f"i64.const {last}", "i64.add", "i64.load 0",
+            f"local.get {FRAME}", "i32.load8_u 0", "i64.extend_i32_u", "i64.add"] + self.mix("i64")
 
     def write_forget(self, _, __):
         """A local that is an address on the stack at first, and a small number in the next turn of a loop."""
         return [f"local.get {FRAME}", f"local.set {ALIAS}", "block", "loop", f"local.get {FUEL}", "i32.eqz", "br_if 1",
-                f"local.get {FUEL}", "i32.const 1", "i32.sub", f"local.set {FUEL}", f"local.get {ALIAS}", "i64.const 99",
-                "i64.lt_s", "br_if 1", "i64.const 5", f"local.set {ALIAS}", "br 0", "end", "end", "block",
+                f"local.get {FUEL}", "i32.const 1", "i32.sub", f"local.set {FUEL}", f"local.get {ALIAS}",
+                "i64.const 99", "i64.lt_s", "br_if 1", "i64.const 5", f"local.set {ALIAS}", "br 0", "end", "end", "block",
                 f"local.get {self.local('i64')}", "i64.const 5", "i64.gt_u", "br_if 0", f"local.get {FRAME}",
                 f"local.set {ALIAS}", "end", f"local.get {ALIAS}", "i64.const 99", f"i64.{self.one_of('lt_s', 'gt_s')}",
                 "i64.extend_i32_u"] + self.mix("i64")
@@ -280,7 +280,8 @@ class Maker:
                             ["block", "global.get 0", "i64.const 15", "i64.gt_s", "br_if 0", "unreachable", "end"])
         if not self.room:
             return check, []
-        fill = [f"local.get {FRAME}", f"i32.const {self.random.randrange(256)}", f"i64.const {self.room}", "memory.fill 0"]
+        fill = [f"local.get {FRAME}", f"i32.const {self.random.randrange(256)}", f"i64.const {self.room}",
+                "memory.fill 0"]
         if self.random.random() < .3:
             mask = self.one_of(-32, -64)
             return (["global.get 0", f"local.tee {SAVED}", f"i64.const {self.room}", "i64.sub", f"i64.const {mask}",
