@@ -59,22 +59,26 @@ names=$(grep -o 'vulfsjor_ffi_[a-z0-9_]* *(' "$here/include/vulfsjor.h" | tr -d 
     LC_ALL=C sort -u)
 compare_functions "$here/choose.c" 's/^CALL("\(.*\)")$/\1/p'
 compare_functions "$here/calls.h" 's/^CALL[A-Z_]*(\(vulfsjor_[a-z0-9_]*\),.*/\1/p'
-objects=() shown=$here/choose.c
 for text; do
-    [[ $text == *.c ]] || continue
-    compare_functions "$text" 's/^[a-z0-9_]* NAME(\([a-z0-9_]*\))(.*/vulfsjor_ffi_\1/p'
+    # After each function's name in assembly come the version and the build.
+    case $text in
+        *.c) edit='s/^[a-z0-9_]* NAME(\([a-z0-9_]*\))(.*/vulfsjor_ffi_\1/p' ;;
+        *) edit="s/^\tvj_export\t\(.*\)_${version//./_}_[a-z0-9]*\$/\1/p" ;;
+    esac
+    compare_functions "$text" "$edit"
+done
+objects=() shown=$here/choose.c
+if [[ ${!#} == *.c ]]; then
     if [ $# -eq 1 ]; then # it has the functions by their own names
-        shown=$text
+        shown=$1
     else
         words+=(-DCHOOSE_PORTABLE)
-        objects+=("$work/portable.o")
-        compile -I"$here/include" -DCHOOSE_BESIDE "$text" -o "${objects[-1]}"
+        objects=("$work/portable.o")
+        compile -I"$here/include" -DCHOOSE_BESIDE "${!#}" -o "$work/portable.o"
     fi
     set -- "${@:1:$#-1}"
-done
+fi
 for text; do
-    # After each function's name come the version and the build.
-    compare_functions "$text" "s/^\tvj_export\t\(.*\)_${version//./_}_[a-z0-9]*\$/\1/p"
     objects+=("$work/build_${#objects[@]}.o")
     "${cc[@]}" -include "$here/../dist/macros.h" -x assembler-with-cpp -c "$text" \
         -o "${objects[-1]}"

@@ -32,12 +32,12 @@ names_are_one() {
 # One function more or one less in a file is refused before anything is made.
 join_refuses_a_difference() {
     local copy=$work/copy file edit wanted
-    mkdir -p "$copy" && cp "${texts[@]}" "$copy" || return 1
+    mkdir -p "$copy" && cp "${texts[@]}" "$dist/c/vulfsjor.c" "$copy" || return 1
     while read -r file wanted edit; do
         cp -R "$here"/{choose.c,calls.h,threads.c,join.sh,include,libb2} "$copy" &&
             cp "$copy/$file" "$work/kept" && sed -i "$edit" "$copy/$file" &&
             ! cmp -s "$copy/$file" "$work/kept" || return 1
-        ! "$copy/join.sh" "$work/refused" "${texts[@]/#*\//$copy/}" 2>"$work/said" &&
+        ! "$copy/join.sh" "$work/refused" "${texts[@]/#*\//$copy/}" "$copy/vulfsjor.c" 2>"$work/said" &&
             grep -qxF -- "${wanted/_/ }" "$work/said" && [ ! -e "$work/refused/libvulfsjor.a" ] &&
             cp "$work/kept" "$copy/$file" || { echo "$file: $edit"; return 1; }
     done < <(
@@ -46,6 +46,8 @@ join_refuses_a_difference() {
         echo 'choose.c >_vulfsjor_ffi_more $a CALL("vulfsjor_ffi_more")'
         echo 'calls.h <_vulfsjor_ffi_tree_part /^CALL(vulfsjor_ffi_tree_part,/d'
         echo 'calls.h >_vulfsjor_ffi_more $a CALL(vulfsjor_ffi_more, int, (void), ())'
+        echo 'vulfsjor.c <_vulfsjor_ffi_tree_part /^int32_t NAME(tree_part)(/d'
+        echo 'vulfsjor.c >_vulfsjor_ffi_more $a int NAME(more)(void);'
         for file in "${texts[@]##*/}"; do
             echo "$file <_vulfsjor_ffi_tree_part /^\tvj_export\tvulfsjor_ffi_tree_part_/d"
             echo "$file >_vulfsjor_ffi_more \$a \\\tvj_export\tvulfsjor_ffi_more_$(version _)_v2"
