@@ -167,7 +167,7 @@ static inline uint64_t vulfsjor_libb2_number(uint64_t number) {
         if (!status || !goes_on) {                                                                 \
             memset(S, 0, sizeof *S);                                                               \
             memcpy(S, run, sizeof *run);                                                           \
-            S->outlen = VULFSJOR_CAST(uint8_t, run->output_size);                                  \
+            S->outlen = VULFSJOR_CAST(uint8_t, vulfsjor_libb2_number(run->output_size));           \
         }                                                                                          \
         vulfsjor_##x##_wipe(run);                                                                  \
         return status;                                                                             \
