@@ -124,9 +124,11 @@ build() {
         wasm/*.wasm) target=wasm64-unknown-unknown cpu=lime1 more=(-msimd128) ;;
         c/*.c) target=wasm64-unknown-unknown cpu=lime1 make=make_scalar_toolchain ;;
     esac
-    attributes_of "$crate" "$target" >"$room.csv"
-    [ ! -s "$room.csv" ] || more+=(-mllvm "-forceattrs-csv-path=$room.csv")
-    ! has_parallel "$crate" || more+=(-mllvm -inline-cost-full)
+    if [[ $file != c/* ]]; then # whose kernels, without vectors, are long as they are
+        attributes_of "$crate" "$target" >"$room.csv"
+        [ ! -s "$room.csv" ] || more+=(-mllvm "-forceattrs-csv-path=$room.csv")
+        ! has_parallel "$crate" || more+=(-mllvm -inline-cost-full)
+    fi
     [ "$crate" = blake2_ffi ] || kind=()
     [ "$crate" != b2sum ] || cp "$top/tools/b2sum.sed" "$room/toolchain-b2sum.sed"
     echo "dist.sh: building $file" >&2
