@@ -51,11 +51,11 @@ test_aarch64() {
         skip "the library for aarch64" "no $arm, no qemu-aarch64 or no python3"
         return
     fi
-    # test.c takes every eleventh case, since emulation is slow. edges.c and key_scan.c
-    # run whole.
+    # test.c takes every eleventh case, since emulation is slow. The other programs run whole.
     all=$cases cases=$work/cases
     mkdir "$cases"
     for family in b s; do awk 'NR % 11 == 1' "$all/$family" >"$cases/$family"; done
+    cp "$all"/[bs]p "$cases/"
     prefix=$work/prefix include=$work/prefix/include libb2=$work/prefix/include/vulfsjor-libb2
     archive=$prefix/lib/libvulfsjor.a shared=$prefix/lib/libvulfsjor.so
     check "install.sh with CC=$arm" env "CC=$arm" "$here/install.sh" --from "$dist" "$prefix" ||
@@ -69,6 +69,10 @@ test_aarch64() {
         check "libb2_header.c, blake2$family, for aarch64" compare_lines libb2_header -O2 \
             -I"$libb2"
         check "libb2's names, blake2$family, for aarch64" libb2_for_arm
+    done
+    for family in bp sp; do
+        check "parallel.c, blake2$family, for aarch64" parallel_cases -O2 "$archive"
+        check "key_scan.c, blake2$family, for aarch64" scan_for_keys
     done
     for library in "$archive" "$shared"; do
         check "calls of a constructor and of threads, for aarch64, ${library##*.}" linked_for_arm \

@@ -242,6 +242,11 @@ test_of_build() {
         "$work/build_$1/libvulfsjor.a" $(family_words "$2") && "$work/test_build" "$cases/$2"
 }
 
+parallel_of_build() {
+    cc -std=c99 -O2 -I"$include" -o "$work/parallel_build" "$tests/parallel.c" \
+        "$work/build_$1/libvulfsjor.a" $(family_words "$2") && "$work/parallel_build" "$cases/$2"
+}
+
 keys_of_build() {
     cc -std=gnu99 -O2 -Wl,-z,now -I"$include" -o "$work/keys_build" "$tests/key_scan.c" \
         "$work/build_$1/libvulfsjor.a" $(family_words "$2") && "$work/keys_build"
@@ -272,6 +277,12 @@ test_builds() {
         for family in b s; do
             if has python3; then
                 check "test.c, blake2$family, by build $build" test_of_build $build $family
+            fi
+            check "key_scan.c, blake2$family, by build $build" keys_of_build $build $family
+        done
+        for family in bp sp; do
+            if has python3; then
+                check "parallel.c, blake2$family, by build $build" parallel_of_build $build $family
             fi
             check "key_scan.c, blake2$family, by build $build" keys_of_build $build $family
         done

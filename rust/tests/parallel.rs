@@ -10,7 +10,7 @@ use vulfsjor::{Blake2bp, Blake2bpMac, Blake2sp, Blake2spMac, MacError, Params, T
 
 macro_rules! family {
     ($test:ident, $letter:literal, $hasher:ident, $mac:ident, $make:ident, $hash:ident,
-     $max:literal, $small:literal) => {
+     $max:literal, $small:literal, $count:literal) => {
         mod $test {
             use super::*;
 
@@ -54,7 +54,7 @@ macro_rules! family {
             #[test]
             fn test_vectors() {
                 let (lines, mut simple) = (lines($letter, "p"), 0);
-                assert_eq!(lines.len(), 133);
+                assert_eq!(lines.len(), $count);
                 for (i, fields) in lines.iter().enumerate() {
                     let [key, salt, persona, message, wanted] =
                         [1, 2, 3, 4, 5].map(|field| bytes(&fields[field]));
@@ -113,5 +113,5 @@ macro_rules! family {
     };
 }
 
-family!(blake2bp, "b", Blake2bp, Blake2bpMac, blake2bp, blake2bp_hash, 64, 16);
-family!(blake2sp, "s", Blake2sp, Blake2spMac, blake2sp, blake2sp_hash, 32, 8);
+family!(blake2bp, "b", Blake2bp, Blake2bpMac, blake2bp, blake2bp_hash, 64, 16, 133);
+family!(blake2sp, "s", Blake2sp, Blake2spMac, blake2sp, blake2sp_hash, 32, 8, 101);
