@@ -1,4 +1,4 @@
-/* BLAKE2b and BLAKE2s for C++17 and later, over vulfsjor.h and its library.
+/* BLAKE2b, BLAKE2s, BLAKE2bp and BLAKE2sp for C++17 and later, over vulfsjor.h and its library.
  *
  *     vulfsjor::parameters given;
  *     given.key = key;                          // a std::vector, std::array, std::span, ..
@@ -72,19 +72,17 @@ struct parameters {
     std::optional<vulfsjor_tree> tree;        /* the node of a tree; absent: no tree */
 };
 
-/* The calls of a family. */
+/* The calls that all families have. */
 #define VULFSJOR_FAMILY(name, NAME)                                                               \
-    struct name##_calls {                                                                         \
+    struct name##_calls_of_all {                                                                  \
         using state = vulfsjor_##name##_state;                                                    \
         static constexpr std::size_t block_length = VULFSJOR_##NAME##_BLOCKBYTES;                 \
         static constexpr std::size_t max_digest_length = VULFSJOR_##NAME##_OUTBYTES;              \
         static constexpr auto init = vulfsjor_##name##_init_salt_personal;                        \
-        static constexpr auto init_tree = vulfsjor_##name##_init_tree;                            \
         static constexpr auto refused = vulfsjor_##name##_refused;                                \
         static constexpr auto update = vulfsjor_##name##_update;                                  \
         static constexpr auto final = vulfsjor_##name##_final;                                    \
         static constexpr auto verify = vulfsjor_##name##_verify;                                  \
-        static constexpr auto set_last_node = vulfsjor_##name##_set_last_node;                    \
         static constexpr auto reset = vulfsjor_##name##_reset;                                    \
         static constexpr auto digest_size = vulfsjor_##name##_digest_size;                        \
         static constexpr auto count = vulfsjor_##name##_count;                                    \
@@ -92,9 +90,26 @@ struct parameters {
     };
 VULFSJOR_FAMILY(blake2b, BLAKE2B)
 VULFSJOR_FAMILY(blake2s, BLAKE2S)
+VULFSJOR_FAMILY(blake2bp, BLAKE2BP)
+VULFSJOR_FAMILY(blake2sp, BLAKE2SP)
 #undef VULFSJOR_FAMILY
 
-/* A hasher or MAC of a family: vulfsjor::blake2b and vulfsjor::blake2s. */
+/* Those of nodes of trees, which BLAKE2bp and BLAKE2sp do not have. */
+#define VULFSJOR_NODES(name)                                                                      \
+    struct name##_calls : name##_calls_of_all {                                                   \
+        static constexpr bool has_tree = true;                                                    \
+        static constexpr auto init_tree = vulfsjor_##name##_init_tree;                            \
+        static constexpr auto set_last_node = vulfsjor_##name##_set_last_node;                    \
+    };                                                                                            \
+    struct name##p_calls : name##p_calls_of_all {                                                 \
+        static constexpr bool has_tree = false;                                                   \
+    };
+VULFSJOR_NODES(blake2b)
+VULFSJOR_NODES(blake2s)
+#undef VULFSJOR_NODES
+
+/* A hasher or MAC of a family: vulfsjor::blake2b, vulfsjor::blake2s, vulfsjor::blake2bp and
+ * vulfsjor::blake2sp. The last two refuse tree parameters, and have no set_last_node. */
 template <class Calls> class hasher {
   public:
     static constexpr std::size_t block_length = Calls::block_length;
@@ -179,18 +194,31 @@ template <class Calls> class hasher {
         const std::size_t length = given.digest_length.value_or(max_digest_length);
         const bytes key = key_of(given), salt = given.salt, personal = given.personal;
         if (given.key && !key.size()) return -1;
-        if (given.tree)
-            return Calls::init_tree(&state_, length, key.data(), key.size(), salt.data(),
-                                    salt.size(), personal.data(), personal.size(), &*given.tree);
+        if constexpr (Calls::has_tree) {
+            if (given.tree)
+                return Calls::init_tree(&state_, length, key.data(), key.size(), salt.data(),
+                                        salt.size(), personal.data(), personal.size(),
+                                        &*given.tree);
+        } else if (given.tree) {
+            return -1;
+        }
         return Calls::init(&state_, length, key.data(), key.size(), salt.data(), salt.size(),
                            personal.data(), personal.size());
     }
 
     static std::string message(const parameters &given) {
         const bytes key = key_of(given), salt = given.salt, personal = given.personal;
-        vulfsjor_argument wrong = Calls::refused(
-            given.digest_length.value_or(max_digest_length), key.data(), key.size(), salt.data(),
-            salt.size(), personal.data(), personal.size(), given.tree ? &*given.tree : nullptr);
+        const std::size_t length = given.digest_length.value_or(max_digest_length);
+        vulfsjor_argument wrong;
+        if constexpr (Calls::has_tree) {
+            wrong = Calls::refused(length, key.data(), key.size(), salt.data(), salt.size(),
+                                   personal.data(), personal.size(),
+                                   given.tree ? &*given.tree : nullptr);
+        } else {
+            if (given.tree) return "vulfsjor: this hash has no tree parameters";
+            wrong = Calls::refused(length, key.data(), key.size(), salt.data(), salt.size(),
+                                   personal.data(), personal.size());
+        }
         if (wrong == VULFSJOR_ARGUMENT_NONE) wrong = VULFSJOR_ARGUMENT_KEY; /* of no bytes */
         return std::string("vulfsjor: ") + vulfsjor_argument_name(wrong) + " is out of range";
     }
@@ -200,6 +228,8 @@ template <class Calls> class hasher {
 
 using blake2b = hasher<blake2b_calls>;
 using blake2s = hasher<blake2s_calls>;
+using blake2bp = hasher<blake2bp_calls>;
+using blake2sp = hasher<blake2sp_calls>;
 
 } /* namespace vulfsjor */
 #endif

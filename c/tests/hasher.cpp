@@ -281,11 +281,63 @@ template <class H> void family() {
     wiped<H>();
 }
 
+/* BLAKE2bp or BLAKE2sp, compared with the call in one of C, which parallel.c tests. */
+template <class H, class F> void parallel(F one_call) {
+    const std::size_t most = H::max_digest_length;
+    parameters given;
+    given.digest_length = most - 3;
+    given.key = bytes(keys.data(), most);
+    std::vector<std::uint8_t> wanted(most - 3), longest_wanted(most);
+    const unsigned char *in = message.data();
+    const std::size_t length = message.size();
+    CHECK(one_call(wanted.data(), most - 3, in, length, keys.data(), most) == 0);
+    CHECK(one_call(longest_wanted.data(), most, in, length, nullptr, 0) == 0);
+    std::optional<H> made = H::create(given);
+    CHECK(made && made->digest_length() == most - 3);
+    CHECK(made->update(in, 700) && made->update(in + 700, length - 700));
+    CHECK(made->count() == length && made->digest() == wanted && made->verify(wanted));
+    H copy = *made;
+    made->reset();
+    CHECK(made->count() == 0 && made->digest() != wanted && copy.digest() == wanted);
+    wanted[most - 4] ^= 1;
+    CHECK(!copy.verify(wanted));
+    H plain;
+    CHECK(plain.update(message) && plain.digest() == longest_wanted && H::block_length >= 64);
+    given.tree = vulfsjor_tree{0, 0, 1, 1, 0, 0};
+    CHECK(!H::create(given));
+    parameters wrong[4];
+    wrong[0].digest_length = most + 1;
+    wrong[1].key = bytes(keys.data(), most + 1);
+    wrong[2].salt = bytes(salts.data(), most / 4 + 1);
+    wrong[3].personal = bytes(personals.data(), most / 4 + 1);
+    for (const parameters &each : wrong) CHECK(!H::create(each));
+#ifdef __cpp_exceptions
+    static const char *const names[] = {"outlen", "key", "salt", "personal"};
+    for (int k = 0; k < 4; k++) {
+        std::string said;
+        try {
+            H refused(wrong[k]);
+        } catch (const std::invalid_argument &e) {
+            said = e.what();
+        }
+        CHECK(said == std::string("vulfsjor: ") + names[k] + " is out of range");
+    }
+    try {
+        H refused(given);
+        CHECK(false);
+    } catch (const std::invalid_argument &e) {
+        CHECK(std::string_view(e.what()) == "vulfsjor: this hash has no tree parameters");
+    }
+#endif
+}
+
 } /* namespace */
 
 int main() {
     family<blake2b>();
     family<blake2s>();
+    parallel<vulfsjor::blake2bp>(vulfsjor_blake2bp);
+    parallel<vulfsjor::blake2sp>(vulfsjor_blake2sp);
     std::puts("end");
     return fails ? 1 : 0;
 }
