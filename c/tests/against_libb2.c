@@ -5,8 +5,8 @@
  *   cc the same with -DTEST_S                the same for BLAKE2sp
  *   ./against_libb2 CASES SEED
  *
- * <blake2.h> is libb2's own. libb2 needs as many threads as it has leaves: OMP_THREAD_LIMIT must not
- * be set. */
+ * <blake2.h> is libb2's own. libb2 needs as many threads as it has leaves: OMP_THREAD_LIMIT must
+ * not be set. */
 #define OWN_HEADER
 #include "check.h"
 #include "family.h"

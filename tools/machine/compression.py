@@ -168,8 +168,8 @@ class Call:
 
 
 class EachCall(Call):
-    """A call of a function that compresses one block of each of several messages, with a counter for
-    each."""
+    """A call of a function that compresses one block of each of several messages, with a counter
+    for each."""
 
     def arguments(self) -> list:
         """The tables of the blocks' addresses, of the counters and of the flags."""
