@@ -7,10 +7,18 @@ libraries_of() { sed -nE "s/^$1( staticlib)?: *//p" "$top/crates.txt"; }
 
 # These crates, and the crates of the repository that they depend on.
 crates_of() {
-    local crate
-    for crate; do
-        [ ! -d "$top/crates/$crate" ] || { echo "$crate" && crates_of $(libraries_of "$crate"); }
-    done
+    awk -v first="$*" '
+        { name = $1; sub(/:.*/, "", name); needs[name] = substr($0, index($0, ":") + 1) }
+        END {
+            for (n = split(first, waiting, " "); n > 0; ) {
+                crate = waiting[n--]
+                if (!(crate in needs) || crate in found) continue
+                found[crate]
+                print crate
+                count = split(needs[crate], more, " ")
+                for (i = 1; i <= count; i++) waiting[++n] = more[i]
+            }
+        }' "$top/crates.txt"
 }
 
 # A hash of the toolchain's programs that decide what is built.
