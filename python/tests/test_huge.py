@@ -10,7 +10,8 @@ import tempfile
 import unittest
 from functools import partial
 
-from support import parallel
+import support  # noqa: F401
+from test_parallel import parallel
 import oracle
 import vulfsjor
 

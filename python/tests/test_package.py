@@ -22,7 +22,8 @@ import tracemalloc
 import unittest
 import weakref
 
-from support import HERE, WITHOUT_GIL, parallel
+from support import HERE, WITHOUT_GIL
+from test_parallel import parallel
 import oracle
 import vectors
 import vulfsjor
