@@ -84,9 +84,9 @@ passes() {
 }
 passes_by_calls() { passes "$1" -O0 -DCHOOSE_ONE=passes '-DCHOOSE_FUNCTIONS="calls.h"'; }
 
-# Whether passes.c has called each function of the library, with both families.
+# Whether passes.c has called each function of the library, with all families.
 all_are_passed() {
-    LC_ALL=C sort -u "$work"/passed_[bs] |
+    LC_ALL=C sort -u "$work"/passed_{b,s,bp,sp} |
         diff - <(sed -n 's/^CALL("\(.*\)")$/\1/p' "$here/choose.c" | LC_ALL=C sort)
 }
 

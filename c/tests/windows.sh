@@ -227,12 +227,12 @@ test_windows() {
         check_by_wine "libb2_header.c, blake2$family, for Windows" compare_lines libb2_header -O2 \
             -I"$libb2" "$prefix/lib/libvulfsjor-libb2.a"
     done
-    check "passes.c calls each function through calls.h" all_are_passed
     for family in bp sp; do
         check_by_wine "parallel.c, blake2$family, for Windows" parallel_cases -O2 "$archive"
         check_by_wine "passes.c, blake2$family, for Windows, through calls.h" \
             passes_by_calls $family
     done
+    check "passes.c calls each function through calls.h" all_are_passed
     check_by_wine "parts.c, for Windows" parts_with 500 -O2
     for build in $(seq -f v%g 2 "$level"); do
         check_by_wine "only the build $build for Windows" one_build_for_windows $build
