@@ -60,7 +60,8 @@ chmod +x "$work/bin/rt" "$kit"/bin/*
 # The repository.
 repository=$work/a\ repository
 mkdir -p "$repository/tools" "$repository/tests" "$repository/dist"
-cp "$top"/tools/{dist.sh,kit.sh,aarch64_attributes.csv,{x86_64_v{2,4},b2sum}.sed} "$repository/tools/"
+cp "$top"/tools/{dist.sh,kit.sh,{aarch64,parallel}_attributes.csv,{x86_64_v{2,4},b2sum}.sed} \
+    "$repository/tools/"
 cp "$top"/tools/{plain_names,clear_registers,one_text}.py "$repository/tools/"
 # The header's comments decide nothing. The translator is a stand-in: the linker here makes no module.
 mkdir -p "$repository"/tools/machine "$repository"/c/include
@@ -176,7 +177,7 @@ mv crates/blake2_ffi/src/lib.rt crates/blake2_ffi/src/more.rt
 check "another name of a file is found" eval "! dist current"
 mv crates/blake2_ffi/src/more.rt crates/blake2_ffi/src/lib.rt
 for file in tools/{{plain_names,clear_registers,one_text,wasm_to_c,machine/wasm_format}.py,wasm_to_c.c} \
-    tools/{aarch64_attributes.csv,{x86_64_v{2,4},b2sum,scalar}.sed}; do
+    tools/{{aarch64,parallel}_attributes.csv,{x86_64_v{2,4},b2sum,scalar}.sed}; do
     check "a change of $file is found" changed 1 "$file" '$a # more'
 done
 check "a change of the header is found" changed 1 c/include/vulfsjor.h 's/int/long/'
