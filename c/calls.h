@@ -26,22 +26,14 @@ static unsigned char level(void) {
     unsigned char found = __atomic_load_n(&vulfsjor_ffi_level, __ATOMIC_RELAXED);
     return found ? found : vulfsjor_ffi_find();
 }
-#ifdef CHOOSE_PORTABLE /* which has the convention of the system */
-#define DECLARE_LOWEST(name, type, parameters) extern type name##_c parameters NAMED(name, "c");
-#define LOWEST_OR(name, arguments, other) (level() > 1 ? other : name##_c arguments)
-#else
-#define DECLARE_LOWEST(name, type, parameters)
-#define LOWEST_OR(name, arguments, other) other
-#endif
 #define DECLARE(name, type, parameters)                  \
-    DECLARE_LOWEST(name, type, parameters)               \
     OF_TEXT type name##_v2 parameters NAMED(name, "v2"); \
     OF_TEXT type name##_v3 parameters NAMED(name, "v3"); \
     OF_TEXT type name##_v4 parameters NAMED(name, "v4");
 #define CHOSEN(name, arguments)               \
     (level() > 3   ? name##_v4 arguments      \
      : level() > 2 ? name##_v3 arguments      \
-                   : LOWEST_OR(name, arguments, name##_v2 arguments))
+                   : name##_v2 arguments)
 #endif
 
 #ifndef CHOOSE_SHOWN

@@ -8,9 +8,8 @@
  * constructor, so calls from another constructor work too, and no lock, no environment variable and
  * no function pointer in memory. A later call reads the byte and jumps: arguments, stack and return
  * address stay as they are, whatever the arguments of a function are. All builds have the same
- * states, so a state may go from one to another. On a processor below x86-64-v2 the calls go to
- * portable C if CHOOSE_PORTABLE is defined, which is dist/c/vulfsjor.c, compiled with CHOOSE_BESIDE.
- * Otherwise the first call prints a line on standard error and aborts.
+ * states, so a state may go from one to another. On a processor below x86-64-v2 the first call
+ * prints a line on standard error and aborts.
  *
  * CHOOSE_ONE names a build, such as v3: then the library contains only that build, and each call
  * jumps to it. CHOOSE_SHOWN is defined for the shared library. Otherwise the names are hidden, so
@@ -70,15 +69,8 @@
 #define CALL(name) FUNCTION(name, VISIBILITY(name), JUMP IN_BUILD(name, TEXT(CHOOSE_ONE)) "\n")
 #else
 
-/* 4, 3 or 2 for the build of this level, 1 for portable C, or 0 before the first call. */
+/* 4, 3 or 2 for the build of this level, or 0 before the first call. */
 HIDDEN unsigned char vulfsjor_ffi_level;
-
-/* Goes to portable C if the level is 1. */
-#ifdef CHOOSE_PORTABLE
-#define LOWEST(name, level) "cmpb $1, " level "\nje " IN_BUILD(name, "c") "\n"
-#else
-#define LOWEST(name, level)
-#endif
 
 #ifdef __ELF__
 #define CALL(name)                                  \
@@ -88,12 +80,10 @@ HIDDEN unsigned char vulfsjor_ffi_level;
              "je " IN_BUILD(name, "v3") "\n"        \
              "cmpb $2, vulfsjor_ffi_level(%rip)\n"      \
              "je " IN_BUILD(name, "v2") "\n"        \
-             LOWEST(name, "vulfsjor_ffi_level(%rip)") \
              "call vulfsjor_ffi_ask\n"                  \
              "cmpb $3, %al\n"                       \
              "ja " IN_BUILD(name, "v4") "\n"        \
              "je " IN_BUILD(name, "v3") "\n"        \
-             LOWEST(name, "%al")                    \
              "jmp " IN_BUILD(name, "v2") "\n")
 
 /* Calls vulfsjor_ffi_find and keeps the registers that hold arguments. The result is in al. */
@@ -171,17 +161,13 @@ static void keep(unsigned char level) { (void)level; }
 
 /* Looks for the level, keeps it and returns it. */
 __attribute__((used)) HIDDEN unsigned char vulfsjor_ffi_find(void) {
+    static const char refusal[] =
+        "vulfsjor: this processor is below x86-64-v2, which the library needs\n";
     unsigned char level = level_here();
 
     if (!level) {
-#ifdef CHOOSE_PORTABLE
-        level = 1;
-#else
-        static const char refusal[] =
-            "vulfsjor: this processor is below x86-64-v2, which the library needs\n";
         if (write(2, refusal, sizeof refusal - 1) < 0) abort();
         abort();
-#endif
     }
     keep(level);
     return level;

@@ -26,15 +26,15 @@
 # script itself needs bash 4 and the tools of GNU or of BusyBox.
 #
 # It assembles the files of dist/ for the machine that the C compiler (CC, otherwise cc) compiles
-# for, x86-64 or 64-bit ARM, in some seconds. For every other machine it compiles dist/c, portable C
-# (docs/PORTABLE.md); with --portable also for these two. It needs the
+# for, x86-64 or 64-bit ARM, in a second or two. For every other machine it compiles dist/c, portable
+# C, in five to ten seconds (docs/PORTABLE.md); with --portable also for these two. It needs the
 # compiler and its binutils. CC may have several words, such as `ccache gcc`. With --prove it proves the crates and installs what
 # they compile to instead of dist/. That needs the toolchain's command rt too, and 10 to 20 minutes
 # the first time. With --from it installs what `tools/dist.sh make` has written to the folder DIST.
 #
-# On x86-64 the library contains the code for x86-64-v2, x86-64-v3 and x86-64-v4 processors and
-# portable C for older ones, and chooses at run time. With --cpu it contains only the code for CPU,
-# one of these three, and runs on no older processor.
+# On x86-64 the library contains the code for x86-64-v2, x86-64-v3 and x86-64-v4 processors, and
+# chooses at run time. With --cpu it contains only the code for CPU, one of these three, and runs on
+# no older processor.
 #
 # LIBDIR replaces FOLDER/lib; a path that does not begin with a slash is below FOLDER. If DESTDIR is
 # set, all files are installed below it. --uninstall removes the files that are named above, with
@@ -144,7 +144,6 @@ case $machine,$has_text in
     x86_64-*)
         cpus=${cpu:-x86-64-v2 x86-64-v3 x86-64-v4}
         for level in $cpus; do texts+=("x86_64/vulfsjor-${level#x86-64-}.s"); done
-        [ -n "$cpu" ] || texts+=(c/vulfsjor.c)
         ;;
     aarch64-* | arm64-*) [ -n "$cpu" ] || cpus=aarch64 texts=(aarch64/vulfsjor.s) ;;
 esac

@@ -2,7 +2,7 @@
 # Makes the libraries that callers link from the assembly of dist/:
 #
 #   c/join.sh [--test BUILDS] FOLDER V2.s V3.s V4.s   all builds for x86-64, one of which is chosen
-#     [vulfsjor.c]                                    at run time, and portable C for older processors
+#                                                     at run time
 #   c/join.sh FOLDER ONE.s                            one build, for x86-64 or aarch64
 #   c/join.sh FOLDER vulfsjor.c                       portable C, for every processor
 #
@@ -28,8 +28,8 @@ if [ $# -ge 2 ] && [ "$1" = --test ]; then
     words=("-DCHOOSE_TEST=$2")
     shift 2
 fi
-if [ $# -ne 2 ] && [ $# -ne 4 ] && [ $# -ne 5 ]; then
-    echo "usage: c/join.sh [--test 2|3|4|23|234] FOLDER V2.s V3.s V4.s [vulfsjor.c]" >&2
+if [ $# -ne 2 ] && [ $# -ne 4 ]; then
+    echo "usage: c/join.sh [--test 2|3|4|23|234] FOLDER V2.s V3.s V4.s" >&2
     echo "       c/join.sh FOLDER ONE.s|vulfsjor.c" >&2
     exit 2
 fi
@@ -68,15 +68,9 @@ for text; do
     compare_functions "$text" "$edit"
 done
 objects=() shown=$here/choose.c
-if [[ ${!#} == *.c ]]; then
-    if [ $# -eq 1 ]; then # it has the functions by their own names
-        shown=$1
-    else
-        words+=(-DCHOOSE_PORTABLE)
-        objects=("$work/portable.o")
-        compile -I"$here/include" -DCHOOSE_BESIDE "${!#}" -o "$work/portable.o"
-    fi
-    set -- "${@:1:$#-1}"
+if [[ $1 == *.c ]]; then # it has the functions by their own names
+    shown=$1
+    set --
 fi
 for text; do
     objects+=("$work/build_${#objects[@]}.o")

@@ -96,9 +96,7 @@ def target():
     options = list(LINKING[system])
     if system == "macosx":
         options += ["-arch", x86 or arm, f"-mmacosx-version-min={version}"]
-    # On x86-64 with portable C, for processors below x86-64-v2.
-    more = ["-DCHOOSE_PORTABLE", "-DCHOOSE_BESIDE", "src/portable.c"] if x86 else []
-    return system, ["src/choose.c", "src/vulfsjor.S", *more], options
+    return system, ["src/choose.c", "src/vulfsjor.S"], options
 
 
 def compiler(system):

@@ -20,8 +20,11 @@
 
 #if defined(__GNUC__) && !defined(_WIN32) && !defined(CHOOSE_SHOWN)
 #pragma GCC visibility push(hidden)
-#endif
 #include "vulfsjor.h"
+#pragma GCC visibility pop
+#else
+#include "vulfsjor.h"
+#endif
 
 #ifdef CHOOSE_BESIDE
 #define NAME(name) vulfsjor_ffi_##name##_@VERSION@_c

@@ -42,11 +42,6 @@ __attribute__((noinline)) number probe_arguments_v2(PARAMETERS) { return told(GI
 __attribute__((noinline)) number probe_arguments_v3(PARAMETERS) { return told(GIVEN) + 3; }
 __attribute__((noinline)) number probe_arguments_v4(PARAMETERS) { return told(GIVEN) + 4; }
 number probe_arguments(PARAMETERS);
-#ifdef CHOOSE_PORTABLE
-number probe_arguments_c(PARAMETERS) __asm__(IN_BUILD("probe_arguments", "c"));
-__attribute__((noinline)) number probe_arguments_c(PARAMETERS) { return told(GIVEN) + 1; }
-int probe_c(void) __asm__(IN_BUILD("probe", "c"));
-#endif
 
 /* Whether the stack is as a function may take it to be: 8 beyond a multiple of 16. */
 static int is_aligned(void *frame) { return (uintptr_t)frame % 16 == 0; }
@@ -62,11 +57,6 @@ __attribute__((noinline)) int probe_v3(void) {
 __attribute__((noinline)) int probe_v4(void) {
     return is_aligned(__builtin_frame_address(0)) ? 4 : -4;
 }
-#ifdef CHOOSE_PORTABLE
-__attribute__((noinline)) int probe_c(void) {
-    return is_aligned(__builtin_frame_address(0)) ? 1 : -1;
-}
-#endif
 int probe(void);
 
 /* The arguments arrive, by a call that asks and by one that does not. */
@@ -83,25 +73,15 @@ static void check_arguments(int level) {
 }
 
 #ifdef PROCESSOR
-/* The level that is chosen, by the function and by a call. Below x86-64-v2 that is portable C, if it
- * is there. */
+/* The level that is chosen, by the function and by a call. */
 static int chosen(void) {
-    int found = level_here(), build = found;
-#ifdef CHOOSE_PORTABLE
-    if (!found) build = 1;
-#endif
+    int found = level_here();
     vulfsjor_ffi_level = 0;
-    if (build) CHECK(probe() == build && vulfsjor_ffi_level == build && probe() == build);
+    if (found) CHECK(probe() == found && vulfsjor_ffi_level == found && probe() == found);
     return found;
 }
 
-#ifdef CHOOSE_PORTABLE
-static void refuses_processor(void) {
-    made_up.first = 0;
-    check_arguments(1);
-}
-#else
-/* Otherwise the first call writes this line to standard error, no other byte, and aborts. */
+/* Below x86-64-v2 the first call writes this line to standard error, no other byte, and aborts. */
 static void refuses_processor(void) {
     static const char line[] =
         "vulfsjor: this processor is below x86-64-v2, which the library needs\n";
@@ -120,7 +100,6 @@ static void refuses_processor(void) {
           !memcmp(said, line, sizeof line - 1));
     close(ends[0]);
 }
-#endif
 
 int main(void) {
     static const unsigned v2_first[] = {0, 9, 13, 19, 20, 23}, v3_first[] = {12, 22, 27, 28, 29},

@@ -134,7 +134,7 @@ compile_choose() {
 }
 
 made_up_processors() {
-    compile_choose "made_up$1" "-O$1" -DPROCESSOR -I"$tests" "${@:2}" && "$work/made_up$1"
+    compile_choose "made_up$1" "-O$1" -DPROCESSOR -I"$tests" && "$work/made_up$1"
 }
 
 # The compiler's own test of a processor, where it has one.
@@ -173,16 +173,19 @@ chooses_level() {
     fi
 }
 
-# The example of the README, linked statically, on an emulated processor.
+# The example of the README, linked statically, on an emulated processor: its digest, or an end with
+# a line.
 example_runs_on() {
-    qemu-x86_64 -cpu "$1" "$work/hello_static" | diff - <(wanted_of_readme)
-}
-
-# edges.c of a family on a processor below x86-64-v2, where the library has portable C.
-edges_in_portable_c() {
-    cc -std=c99 -static $(family_words "$1") -I"$include" "$tests/edges.c" "$archive" \
-        -o "$work/edges_static" && qemu-x86_64 -cpu core2duo "$work/edges_static" >"$work/lines" &&
-        python3 "$tests/check_lines.py" <"$work/lines"
+    local wanted=$1
+    qemu-x86_64 -cpu "$2" "$work/hello_static" >"$work/said" 2>"$work/error"
+    local status=$?
+    cat "$work/error"
+    if [ "$wanted" = 0 ]; then
+        [ $status -eq 134 ] && [ ! -s "$work/said" ] &&
+            grep -q '^vulfsjor: this processor is below' "$work/error"
+    else
+        [ $status -eq 0 ] && diff "$work/said" <(wanted_of_readme)
+    fi
 }
 
 # Emulated processors: what is sold, and one with each of the features that a level asks for taken
@@ -225,12 +228,9 @@ test_emulated() {
         done
     done
     needs python3
-    check "the example on a processor below x86-64-v2" example_runs_on core2duo
-    check "the example on a processor of x86-64-v2" example_runs_on Nehalem
-    check "the example on a processor of x86-64-v3" example_runs_on Haswell
-    for name in b s; do
-        check "edges.c, blake2$name, on a processor below x86-64-v2" edges_in_portable_c $name
-    done
+    check "the example on a processor below x86-64-v2" example_runs_on 0 core2duo
+    check "the example on a processor of x86-64-v2" example_runs_on 2 Nehalem
+    check "the example on a processor of x86-64-v3" example_runs_on 3 Haswell
     needs
 }
 
@@ -361,7 +361,6 @@ test_choosing() {
     check "join.sh refuses another list of functions" join_refuses_a_difference
     check "made-up processors" made_up_processors 0
     check "made-up processors, optimized" made_up_processors 2
-    check "made-up processors, with portable C" made_up_processors 1 -DCHOOSE_PORTABLE
     needs clang
     check "the library joined by clang" joined_by clang
     needs

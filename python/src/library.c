@@ -2,6 +2,10 @@
  * functions of the library vulfsjor, whose assembly is linked with this file. */
 #include "library.h"
 
+#ifdef __x86_64__
+#include <cpuid.h>
+#endif
+
 /* ---- The families */
 
 /* Several messages, held while their digests are computed. */
@@ -602,6 +606,28 @@ static int add_version(PyObject *module) {
     return status;
 }
 
+#ifdef __x86_64__
+/* Whether the processor has all of x86-64-v2. Where it has not, the first call of the library would
+ * end the program (choose.c). */
+static int is_supported(void) {
+    const unsigned v2 =
+        bit_SSE3 | bit_SSSE3 | bit_CMPXCHG16B | bit_SSE4_1 | bit_SSE4_2 | bit_POPCNT;
+    unsigned a, b, first, extended, d;
+    return __get_cpuid(1, &a, &b, &first, &d) && (first & v2) == v2 &&
+           __get_cpuid(0x80000001u, &a, &b, &extended, &d) && extended & bit_LAHF_LM;
+}
+#else
+static int is_supported(void) { return 1; }
+#endif
+
+static int ask_processor(PyObject *module) {
+    (void)module;
+    if (is_supported()) return 0;
+    PyErr_SetString(PyExc_ImportError,
+                    "vulfsjor needs a processor of x86-64-v2, with SSE4.2 and POPCNT");
+    return -1;
+}
+
 static int fill(PyObject *module) {
     static const struct {
         PyType_Spec *spec;
@@ -644,7 +670,7 @@ static void free_classes(void *module) { clear_classes(module); }
  * interpreters with a GIL each, from 3.12 on. They have their numbers here, since the limited API
  * of 3.11 has no names for them, and an earlier Python refuses them. */
 static PyModuleDef_Slot module_slots[] = {
-    {4, (void *)1}, {3, (void *)2}, {Py_mod_exec, fill}, {0, NULL}};
+    {4, (void *)1}, {3, (void *)2}, {Py_mod_exec, ask_processor}, {Py_mod_exec, fill}, {0, NULL}};
 static PyModuleDef module = {
     PyModuleDef_HEAD_INIT, "vulfsjor._library", "The functions of the package vulfsjor, in C.",
     sizeof(classes), functions, NULL, visit_classes, clear_classes, free_classes};

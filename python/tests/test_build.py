@@ -186,8 +186,7 @@ class Build(Test):
             self.assertEqual(os.path.basename(wheel),
                              f"vulfsjor-{VERSION}-cp311-abi3-{platform_name}.whl")
             self.assertEqual([word for word in words if word.endswith((".c", ".s", ".S"))],
-                             ["src/library.c", "src/trees.c", "src/choose.c", "src/vulfsjor.S",
-                              *["src/portable.c"] * bool(re.search("x86_64|amd64", name))])
+                             ["src/library.c", "src/trees.c", "src/choose.c", "src/vulfsjor.S"])
             self.assertEqual((words[0], words[-1]),
                              ("-x", "-lpython3" if options == windows else "-lz"))
             self.assertEqual(words[words.index("-g"):words.index("-o")],
@@ -374,11 +373,10 @@ class Processors(Test):
         self.compares(FOLDER, "qemu-x86_64", "-cpu", "Nehalem", calls=200)
 
     def test_processors_below_x86_64_v2(self):
-        """Each that has all but one feature, and one that has fewer, by portable C. With other ones
-        Python itself does not start."""
+        """Each that has all but one feature, and one that has fewer. With other ones Python itself
+        does not start."""
         def said(processor):
-            program = (f"import sys\nsys.path.insert(0, {FOLDER!r})\nimport vulfsjor\n"
-                       "print(vulfsjor.blake2b(b'abc', key=b'k', salt=b's').hexdigest())")
+            program = f"import sys\nsys.path.insert(0, {FOLDER!r})\nimport vulfsjor"
             return run("qemu-x86_64", "-cpu", processor, sys.executable, "-S", "-E", "-c", program)
 
         features = ("sse3", "ssse3", "cx16", "sse4.2", "popcnt", "lahf-lm")
@@ -386,8 +384,11 @@ class Processors(Test):
         with concurrent.futures.ThreadPoolExecutor(os.cpu_count()) as pool:
             done = dict(zip(below, pool.map(said, below)))
         for name, each in done.items():
-            self.assertEqual((each.returncode, each.stdout.splitlines()[-1]),
-                             (0, hashlib.blake2b(b"abc", key=b"k", salt=b"s").hexdigest()), name)
+            self.assertEqual(each.returncode, 1, (name, each.stdout))
+            self.assertEqual(
+                each.stdout.splitlines()[-1],
+                "ImportError: vulfsjor needs a processor of x86-64-v2, with SSE4.2 and POPCNT")
+        self.assertEqual(said("Nehalem").returncode, 0)
 
 
 class Time(Test):
