@@ -1,5 +1,5 @@
 /* The text in C that no module has, in parts for tools/wasm_to_c.py: it writes those that it needs,
- * in this order. A word such as @VERSION@ stands for what it knows. This file is not compiled. */
+ * in this order. A word such as @FAMILY@ stands for what it knows. This file is not compiled. */
 
 /* ---- head */
 /* BLAKE2b and BLAKE2s for processors without assembly in dist/: the functions of vulfsjor.h, in C99.
@@ -10,9 +10,7 @@
  * text is read, and where it is more than a translation: SCRUB, `frame`, and what is not here.
  *
  * Addresses and lengths are 64-bit numbers. Numbers in memory are little-endian on every processor,
- * also in states. All names are hidden from other shared libraries, unless CHOOSE_SHOWN is defined.
- * With CHOOSE_BESIDE each name of a function of vulfsjor.h ends in the version and `_c`, as a build
- * of the assembly does. */
+ * also in states. All names are hidden from other shared libraries, unless CHOOSE_SHOWN is defined. */
 #include <stddef.h>
 #include <stdint.h>
 #include <stdlib.h>
@@ -26,11 +24,7 @@
 #include "vulfsjor.h"
 #endif
 
-#ifdef CHOOSE_BESIDE
-#define NAME(name) vulfsjor_ffi_##name##_@VERSION@_c
-#else
 #define NAME(name) vulfsjor_ffi_##name
-#endif
 
 /* A function that no other contains, so that SCRUB reaches what it leaves on the stack. */
 #if defined(__GNUC__)

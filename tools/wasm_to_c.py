@@ -569,7 +569,6 @@ class Header:
 
     def __init__(self, text):
         text = re.sub(r"/\*.*?\*/", "", text, flags=re.DOTALL)
-        self.version = re.search(r'^#define VULFSJOR_VERSION "(.*)"$', text, re.MULTILINE)
         self.structs = {name: re.findall(r"(\w+) (\w+);", body) for body, name in
                         re.findall(r"^typedef struct \w+ \{([^}]*)\} (\w+);", text, re.MULTILINE)}
         self.functions = {}
@@ -700,8 +699,7 @@ class Program:
     def __str__(self):
         functions = self.all_functions()
         exported = [self.exported(name) for name in self.header.functions]
-        parts = [self.parts.fill(name, VERSION=self.header.version[1].replace(".", "_") if name == "head" else "")
-                 for name in self.parts.texts if name in self.used]
+        parts = [self.parts.fill(name) for name in self.parts.texts if name in self.used]
         return "\n\n".join(parts + functions + exported) + "\n"
 
 
