@@ -1,11 +1,15 @@
 -- Verdicts, and the counts of them.
 use Rattle.std.proofs.Common.{◌≡◌, ◌≢◌, ◌⊎◌, ℕ, ◌&&◌, ◌||◌, Bool, true, false, not, List, [], ◌∷◌, ◌++◌}
 use Rattle.std.proofs.Common.{Option, Some, inl, inr, refl, ap, ◌∙◌, sym, subst, length, arith}
+use Rattle.std.proofs.Common.{Result, Ok, Err, IfOk}
+use Rattle.std.specs.Io.KnownBytes.{Appends}
 use Rattle.std.specs.List.{list_all, list_any}
 use Rattle.b2sum_lines.specs.Lines.{Line}
-use Rattle.b2sum_commands.specs.World.{World}
+use Rattle.b2sum_commands.specs.Found.{Streams}
+use Rattle.b2sum_commands.specs.World.{World, IsTold}
 use Rattle.b2sum_commands.specs.Checks.{AreCounted, Adds}
 use Rattle.b2sum_commands.specs.Manifests.{IsVerdict, is_equal, is_fine, is_formed, holds_by}
+use Rattle.b2sum_commands.specs.Manifests.{item, spacing_after, verdict_line, IsItem, IsLine}
 use Rattle.b2sum_commands.specs.Sums.{is_dash, ReadsAs, Leaves, CannotSum}
 use Rattle.b2sum_commands.specs.declared.check.Counts.{Counts}
 use Rattle.b2sum_commands.specs.declared.check.Verdict.{Verdict}
@@ -84,3 +88,21 @@ entry_verdict w o left after e Comment found leaves whole same other absent unre
 pub no_bytes : (xs : List ℕ) → length xs ≡ 0 → xs ≡ []
 no_bytes [] h = refl
 no_bytes (x ∷ xs) h = absurd (omega (arith, h))
+
+-- The line of an entry is checked.
+pub entry_line : {E : Type 0} (w : World) (o : Options) (input : Bool) (line : List ℕ)
+    (old mid new : Streams) (e : Line) (r : Result Verdict E)
+    → item o input old.spacing line ≡ Some (Some e)
+    → mid ≡ record old { spacing = spacing_after old.spacing e.style }
+    → IfOk r (λ v. IsVerdict w o mid.left (Some e) v new.left)
+    → IfOk r (λ v. Appends mid.held new.held (verdict_line o.report (Some e) v))
+    → IfOk r (λ v. v ≡ Unread → IsTold mid new) → new.spacing ≡ mid.spacing
+    → IfOk r (IsLine w o input line old new)
+entry_line w o input line old mid new e (Ok v) is at verdict printed told spaced =
+    subst (λ i. IsItem w o i old new v) (sym is) (
+      spaced ∙ ap (λ s. s.spacing) at,
+      subst (λ (s : Streams). IsVerdict w o s.left (Some e) v new.left) at verdict,
+      subst (λ (s : Streams). Appends s.held new.held (verdict_line o.report (Some e) v)) at printed,
+      subst (λ (s : Streams). v ≡ Unread → IsTold s new) at told,
+    )
+entry_line w o input line old mid new e (Err error) is at verdict printed told spaced = tt

@@ -18,7 +18,7 @@ use Rattle.b2sum_commands.specs.declared.options.Report.{Report}
 use Rattle.b2sum_commands.specs.declared.options.Report.TheVariants.{Each, Warnings, Failures}
 use Rattle.b2sum_commands.specs.declared.options.Report.TheVariants.{Nothing}
 use Rattle.b2sum_commands.specs.Found.{Streams}
-use Rattle.b2sum_commands.specs.World.{World}
+use Rattle.b2sum_commands.specs.World.{World, IsTold}
 use Rattle.b2sum_commands.specs.Sums.{is_dash, ReadsAs, Leaves, CannotSum}
 
 -- ---- lines
@@ -155,12 +155,13 @@ abbrev pub verdict_line : Report → Option Line → Verdict → List ℕ
 verdict_line r None v = []
 verdict_line r (Some e) v = with_name e.name (outcome r v)
 
--- A line is checked: its entry, or that it is malformed, has a verdict, whose line is printed.
+-- A line is checked: its entry, or that it is malformed, has a verdict, whose line is printed. A
+-- file that cannot be read has a message.
 abbrev pub IsItem : World → Options → Option (Option Line) → Streams → Streams → Verdict → Type 0
 IsItem w o None old new v = (v ≡ Comment) × (new ≡ old)
 IsItem w o (Some i) old new v =
     (new.spacing ≡ next_spacing old.spacing i) × IsVerdict w o old.left i v new.left
-    × Appends old.held new.held (verdict_line o.report i v)
+    × Appends old.held new.held (verdict_line o.report i v) × (v ≡ Unread → IsTold old new)
 
 -- A line of a manifest is checked. `input` says that the manifest is standard input.
 abbrev pub IsLine : World → Options → Bool → List ℕ → Streams → Streams → Verdict → Type 0

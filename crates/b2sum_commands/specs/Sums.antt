@@ -1,5 +1,5 @@
 -- What is read of a file, and the line that is printed for it.
-use Rattle.std.specs.Prelude.{◌≡◌, ℕ, Bool, true, false, List, [], ◌∷◌, ◌++◌, Option, Some, None, ⊤}
+use Rattle.std.specs.Prelude.{◌≡◌, ℕ, Bool, true, false, List, [], ◌∷◌, ◌++◌, Option, ⊤}
 use Rattle.std.specs.Prelude.{if◌then◌else◌, ◌⊎◌}
 use Rattle.std.specs.Str.{bytes_eq}
 use Rattle.std.specs.Io.KnownBytes.{Appends}
@@ -7,7 +7,7 @@ use Rattle.blake2_replay.specs.Streams.{GivesAll}
 use Rattle.b2sum_lines.specs.Lines.{Line, entry_line, plain_line}
 use Rattle.b2sum_commands.specs.declared.options.Options.{Options}
 use Rattle.b2sum_commands.specs.Found.{Streams}
-use Rattle.b2sum_commands.specs.World.{World}
+use Rattle.b2sum_commands.specs.World.{World, IsTold}
 
 -- The name of standard input.
 abbrev pub is_dash : List ℕ → Bool
@@ -48,10 +48,12 @@ entry_of w o name text = record {
 }
 
 -- The line of the file of this name is printed, with the digest of all its text. If the result is
--- false, nothing is printed, since the file cannot be read, as a message says.
+-- false, nothing is printed, since the file cannot be read, as a message says; if files that do not
+-- exist are ignored, there may be none.
 abbrev pub IsSum : World → Options → List ℕ → Streams → Streams → Bool → Type 0
 IsSum w o name old new true =
     (text : List ℕ) × ReadsAs (is_dash name) (w.files.holds name) old.left new.left text
     × Appends old.held new.held (ended_line o.ends_zero (entry_of w o name text))
 IsSum w o name old new false =
     Leaves (is_dash name) old.left new.left × (new.held ≡ old.held) × CannotSum w o o.bytes name
+    × (o.ignores_missing ≡ false → IsTold old new)

@@ -6,7 +6,7 @@ ghost use Rattle.std.specs.Io.KnownBytes.{Appends, Consumes, IsAtEnd};
 ghost use Rattle.std.specs.Option.{option_map};
 ghost use Rattle.text_lines.specs.Cuts.{lines_of};
 ghost use Rattle.b2sum_lines.specs.Entries.{entry_value};
-ghost use Rattle.b2sum_commands.specs.World.{world_of, AllInTurn, InTurn, IsQuiet};
+ghost use Rattle.b2sum_commands.specs.World.{world_of, AllInTurn, InTurn, IsQuiet, IsTold};
 ghost use Rattle.b2sum_commands.specs.Sums.{is_dash, CannotGet, CannotSum};
 ghost use Rattle.b2sum_commands.specs.Manifests.{trimmed, item, spacing_after, IsVerdict};
 ghost use Rattle.b2sum_commands.specs.Manifests.{has_demanded_length, IsItem, IsLine};
@@ -410,6 +410,7 @@ fn check_entry<H: Hashes, D: Disk, K: Output, E: Sink>(
         (Some (entry_value entry.now)) v session.new.left) }
     ensures line { IfOk result (λ v. Appends session.old.held session.new.held
         (verdict_line options.now.report (Some (entry_value entry.now)) v)) }
+    ensures told { IfOk result (λ v. v ≡ Unread → IsTold session.old session.new) }
     ensures spacing { session.new.spacing ≡ session.old.spacing }
 {
     let mut digest = [0u8; 64];

@@ -2,7 +2,7 @@
 
 ghost use Rattle.std.specs.Prelude.{◌≡◌, ℕ, ◌≤◌, List, length, map, take, true, false, IfOk};
 ghost use Rattle.b2sum_commands.specs.declared.sums.Read.TheVariants.{Whole, Missing, Failed};
-ghost use Rattle.b2sum_commands.specs.World.{world_of, AllInTurn, IsQuiet};
+ghost use Rattle.b2sum_commands.specs.World.{world_of, AllInTurn, IsQuiet, IsTold};
 ghost use Rattle.b2sum_commands.specs.Sums.{is_dash, ReadsAs, Leaves, CannotSum, IsSum, ended_line};
 
 use crate::devices::{Disk, Fault, OpenFile, Output, put};
@@ -46,6 +46,7 @@ pub(crate) fn digest_file<H: Hashes, D: Disk, K: Output, E: Sink>(
     ensures failed { IfOk result (λ read. read ≡ Failed → CannotSum
         (world_of D.File.failed (D.files host.now.disk) H.hashing)
         options.now bytes name.now) }
+    ensures told { IfOk result (λ read. read ≡ Failed → IsTold session.old session.new) }
     ensures leaves { Leaves (is_dash name.now) session.old.left session.new.left }
     ensures quiet { IsQuiet session.old session.new }
 {
