@@ -2,12 +2,13 @@
 use Rattle.std.proofs.Common.{◌≡◌, ◌≢◌, ◌⊎◌, ℕ, ◌&&◌, ◌||◌, Bool, true, false, not, List, [], ◌∷◌, ◌++◌}
 use Rattle.std.proofs.Common.{Option, Some, inl, inr, refl, ap, ◌∙◌, sym, subst, length, arith}
 use Rattle.std.proofs.Common.{Result, Ok, Err, IfOk}
+use Rattle.std.proofs.KnownBytes.{Consumes-nil}
 use Rattle.std.specs.Io.KnownBytes.{Appends}
 use Rattle.std.specs.List.{list_all, list_any}
 use Rattle.b2sum_lines.specs.Lines.{Line}
 use Rattle.b2sum_commands.specs.Found.{Streams}
 use Rattle.b2sum_commands.specs.World.{World, IsTold}
-use Rattle.b2sum_commands.specs.Checks.{AreCounted, Adds}
+use Rattle.b2sum_commands.specs.Checks.{AreCounted, Adds, IsBegun}
 use Rattle.b2sum_commands.specs.Manifests.{IsVerdict, is_equal, is_fine, is_formed, holds_by}
 use Rattle.b2sum_commands.specs.Manifests.{item, spacing_after, verdict_line, IsItem, IsLine}
 use Rattle.b2sum_commands.specs.Sums.{is_dash, ReadsAs, Leaves, CannotSum}
@@ -106,3 +107,8 @@ entry_line w o input line old mid new e (Ok v) is at verdict printed told spaced
       subst (λ (s : Streams). v ≡ Unread → IsTold s new) at told,
     )
 entry_line w o input line old mid new e (Err error) is at verdict printed told spaced = tt
+
+-- Nothing is a beginning of each text.
+pub nothing_begins : (input : Bool) (held left : Option (List ℕ)) → IsBegun input held left []
+nothing_begins true held left = (left, Consumes-nil left)
+nothing_begins false held left = (held, Consumes-nil held)

@@ -47,6 +47,11 @@ IsText true held left after text = Consumes left after text × IsAtEnd after
 IsText false held left after text =
     (after ≡ left) × (end : Option (List ℕ)) × Consumes held end text × IsAtEnd end
 
+-- The text is a beginning of what standard input or a file returned.
+abbrev pub IsBegun : Bool → Option (List ℕ) → Option (List ℕ) → List ℕ → Type 0
+IsBegun true held left text = (rest : Option (List ℕ)) × Consumes left rest text
+IsBegun false held left text = (rest : Option (List ℕ)) × Consumes held rest text
+
 -- The lines of a text are checked one after the other, with these verdicts, and nothing else is
 -- printed but messages. `input` says that the text is standard input, up to where `old` is.
 pub record AreJudged (w : World) (o : Options) (input : Bool) (text : List ℕ)
@@ -67,12 +72,13 @@ pub record IsJudged (w : World) (o : Options) (name : List ℕ) (old new : Strea
   pub are_judged : AreJudged w o (is_dash name) text start new verdicts
   pub is_result : result ≡ holds_by o.is_strict verdicts
 
--- A manifest was not read to its end, for a cause. Then the lines of some text are checked.
+-- A manifest was not read to its end, for a cause. Then the lines of its beginning are checked.
 pub record IsCut (w : World) (o : Options) (name : List ℕ) (old new : Streams) : Type 0 where
   pub text : List ℕ
   pub start : Streams
   pub verdicts : List Verdict
   pub cause : CannotGet w name
+  pub begins : IsBegun (is_dash name) (w.files.holds name) old.left text
   pub quiet : IsQuiet old start
   pub are_judged : AreJudged w o (is_dash name) text start new verdicts
 

@@ -1,7 +1,7 @@
 //! The check of manifests.
 
 ghost use Rattle.std.specs.Prelude.{◌≡◌, ◌≢◌, ◌⊎◌, ℕ, ◌<◌, ◌≤◌, ◌&&◌, ◌||◌, List, ◌++◌, length, map};
-ghost use Rattle.std.specs.Prelude.{Some, None, not, true, false, IfOk, IfSome, OnOk};
+ghost use Rattle.std.specs.Prelude.{Option, Some, None, not, true, false, IfOk, IfSome, OnOk};
 ghost use Rattle.std.specs.Io.KnownBytes.{Appends, Consumes, IsAtEnd};
 ghost use Rattle.std.specs.Option.{option_map};
 ghost use Rattle.text_lines.specs.Cuts.{lines_of};
@@ -12,7 +12,7 @@ ghost use Rattle.b2sum_commands.specs.Manifests.{trimmed, item, spacing_after, I
 ghost use Rattle.b2sum_commands.specs.Manifests.{has_demanded_length, IsItem, IsLine};
 ghost use Rattle.b2sum_commands.specs.Manifests.{outcome, with_name, verdict_line};
 ghost use Rattle.b2sum_commands.specs.Checks.{item_value, IfListed, AreCounted, Adds};
-ghost use Rattle.b2sum_commands.specs.Checks.{IsChecked, IsText};
+ghost use Rattle.b2sum_commands.specs.Checks.{IsChecked, IsText, IsBegun};
 ghost use Rattle.b2sum_commands.specs.declared.check.Verdict.TheVariants.{Equal, Different};
 ghost use Rattle.b2sum_commands.specs.declared.check.Verdict.TheVariants.{Skipped, Malformed};
 ghost use Rattle.b2sum_commands.specs.declared.check.Verdict.TheVariants.{Unread, Comment};
@@ -203,6 +203,9 @@ fn read_manifest<H, D: Disk, K: Output, E: Sink>(
     ensures input { IfOk result (λ found. IfSome found (λ m. m.is_input ≡ is_dash name.now)) }
     ensures part { IfOk result (λ found. IfSome found (λ m. m.is_whole ≡ false
         → (file : D.File) × (D.File.failed file ≡ true))) }
+    ensures begins { IfOk result (λ found. IfSome found (λ m. m.is_whole ≡ false
+        → IsBegun (is_dash name.now) ((D.files host.now.disk).holds name.now)
+        session.old.left m.text.items)) }
     ensures text { IfOk result (λ found. IfSome found (λ m. m.is_whole ≡ true
         → IsText (is_dash name.now) ((D.files host.now.disk).holds name.now)
         session.old.left session.new.left m.text.items)) }
@@ -251,6 +254,9 @@ fn read_whole<S: Source>(
 ) -> Result<bool, Fault>
     requires room { 0 < length buffer.old }
     ensures part { IfOk result (λ is_whole. is_whole ≡ false → S.failed source.new ≡ true) }
+    ensures begins { IfOk result (λ is_whole. is_whole ≡ false → (more : List ℕ)
+        × (text.new.items ≡ text.old.items ++ more)
+        × (rest : Option (List ℕ)) × Consumes (S.left source.old) rest more) }
     ensures whole { IfOk result (λ is_whole. is_whole ≡ true → (more : List ℕ)
         × (text.new.items ≡ text.old.items ++ more)
         × Consumes (S.left source.old) (S.left source.new) more
