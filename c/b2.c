@@ -6,7 +6,8 @@
  * MAIN is the main of the assembly file, such as main_0_1_0_v3. If MAIN_V3 and MAIN_V4 are defined,
  * three files are linked: MAIN is that of the build for x86-64-v2, and the others are for
  * processors on which choose.c finds level 3 or 4. END is a function that gets the status of MAIN
- * and returns that of the process. On Windows the compiler needs -municode. */
+ * and returns that of the process; FREE and REALLOC are then used instead of free and realloc. On
+ * Windows the compiler needs -municode. */
 #include <errno.h>
 #include <stdbool.h>
 #include <stddef.h>
@@ -54,8 +55,12 @@ static int start(void) { return MAIN(); }
 
 #ifdef END
 int END(int status);
+void FREE(void *place);
+void *REALLOC(void *place, size_t size);
 #else
 #define END(status) (status)
+#define FREE free
+#define REALLOC realloc
 #endif
 
 static size_t count;
@@ -148,10 +153,10 @@ OF_TEXT struct tried rattle_alloc(size_t size, size_t alignment) {
  * stays. */
 OF_TEXT struct tried rattle_realloc(void *place, size_t kept, size_t size, size_t alignment) {
     (void)kept;
-    return tried(realloc(place, size ? size : alignment));
+    return tried(REALLOC(place, size ? size : alignment));
 }
 
-OF_TEXT void rattle_dealloc(void *place) { free(place); }
+OF_TEXT void rattle_dealloc(void *place) { FREE(place); }
 
 /* ---- What the text takes from a new glibc, for an older one (2.32 and before) and for other C
  * libraries. HAS_LEAVES and PROCESSOR, a header with a processor that is made up, are for tests. */

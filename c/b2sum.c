@@ -1,19 +1,24 @@
 /* The C of the program b2sum, together with b2.c: how it opens and reads files, the threads of
- * --tree, what --progress shows, and how the program ends. The assembly file calls b2sum_open,
- * b2sum_read and b2sum_signal instead of open, read and signal of the C library, and
- * b2sum_update_tree instead of its own update_tree. None of this is proved. tests/b2sum.c tests each
- * function. */
+ * --tree, what --progress shows, how it keeps keys from others, and how it ends. The assembly file
+ * calls b2sum_open, b2sum_read and b2sum_signal instead of open, read and signal of the C library,
+ * and the functions here instead of its own absorb_tree and hide_memory. None of this is proved.
+ * tests/b2sum.c tests each function.
+ *
+ * ABSORB_TREE and HIDE_MEMORY are the names of these functions in the assembly file, such as
+ * b2sum..disk..hide_memory_0_1_0_v2. If three files are linked, ABSORB_TREE_V3, .._V4 and so on are
+ * those of the others. */
 #define _GNU_SOURCE
 #include <errno.h>
 #include <fcntl.h>
-#include <pthread.h>
-#include <sched.h>
+#include <malloc.h>
 #include <signal.h>
 #include <stdbool.h>
 #include <stdint.h>
 #include <stdio.h>
 #include <stdlib.h>
 #include <string.h>
+#include <sys/prctl.h>
+#include <sys/resource.h>
 #include <sys/stat.h>
 #include <sys/uio.h>
 #include <time.h>
@@ -29,26 +34,93 @@ ssize_t rattle_arg(size_t i, char *bytes, size_t size);
 HIDDEN int b2sum_open(const char *name, int flags, ...);
 HIDDEN ssize_t b2sum_read(int file, void *bytes, size_t size);
 HIDDEN void (*b2sum_signal(int number, void (*handler)(int)))(int);
-HIDDEN void b2sum_update_tree(vulfsjor_tree_state *state, const void *bytes, size_t length);
+HIDDEN void *b2sum_realloc(void *place, size_t size);
+HIDDEN void b2sum_free(void *place);
 HIDDEN int b2sum_end(int status);
+
+/* The name of a function of the assembly file, from a macro. */
+#define TEXT_OF(words) #words
+#define TEXT(words) TEXT_OF(words)
+
+/* ---- Secrets. */
+
+/* Whether the program reads a key or has read one. Then it wipes the memory that it frees, and the
+ * stack below its calls of the system. */
+static bool is_secret;
+
+/* More than the functions of the program need. */
+enum { STACK_BYTES = 1 << 15 };
+
+/* Keeps the memory of the process from other processes of its user, and from core files. */
+static void hide(void) {
+    const struct rlimit none = {0, 0};
+
+    is_secret = true;
+    prctl(PR_SET_DUMPABLE, 0L, 0L, 0L, 0L);
+    setrlimit(RLIMIT_CORE, &none);
+}
+
+/* Wipes what functions that have returned left on the stack. */
+__attribute__((noinline)) static void wipe_stack(void) {
+    unsigned char below[STACK_BYTES];
+
+    vulfsjor_wipe(below, sizeof below);
+}
+
+/* free and realloc, which leave no secret behind. */
+void b2sum_free(void *place) {
+    if (is_secret) vulfsjor_wipe(place, malloc_usable_size(place));
+    free(place);
+}
+
+void *b2sum_realloc(void *place, size_t size) {
+    const size_t before = malloc_usable_size(place);
+    void *other;
+
+    if (!is_secret) return realloc(place, size);
+    if (!(other = malloc(size))) return NULL;
+    memcpy(other, place, before < size ? before : size);
+    b2sum_free(place);
+    return other;
+}
+
+/* The function of this name of the assembly file, which can do nothing. */
+#define HIDE(function, name)                  \
+    HIDDEN void function(void) __asm__(name); \
+    void function(void) { hide(); }
+
+HIDE(b2sum_hide, TEXT(HIDE_MEMORY))
+#ifdef HIDE_MEMORY_V3
+HIDE(b2sum_hide_v3, TEXT(HIDE_MEMORY_V3))
+HIDE(b2sum_hide_v4, TEXT(HIDE_MEMORY_V4))
+#endif
 
 /* ---- The start and the end. */
 
-/* The runtime would ignore SIGPIPE. This leaves it as it was, so that a closed pipe ends the program
- * as it ends others. */
+/* The runtime would ignore SIGPIPE. This leaves it as it was, so that a closed pipe ends the
+ * program as it ends others. */
 void (*b2sum_signal(int number, void (*handler)(int)))(int) {
     (void)number;
     (void)handler;
     return SIG_DFL;
 }
 
-/* Closes the outputs, since some systems report only then that a write failed. Returns the status of
- * the process: the one of the program, or 1. An output that was not open is no error. */
+/* Whether standard input was read, and whether a file was opened with its number. */
+static bool is_input_read, is_input_file;
+
+/* Prints that something has failed, and why. Returns the status for that. */
+static int complain(const char *what) {
+    dprintf(STDERR_FILENO, "b2sum: %s: %s\n", what, strerror(errno));
+    return 1;
+}
+
+/* Closes standard input, if it was read, and the outputs, since some systems report only then that
+ * a write failed. Returns the status of the process: the one of the program, or 1. An output that
+ * was not open is no error. */
 int b2sum_end(int status) {
-    if (close(STDOUT_FILENO) && errno != EBADF) {
-        dprintf(STDERR_FILENO, "b2sum: write error: %s\n", strerror(errno));
-        status = 1;
-    }
+    if (is_secret) wipe_stack();
+    if (is_input_read && close(STDIN_FILENO)) status = complain("standard input");
+    if (close(STDOUT_FILENO) && errno != EBADF) status = complain("write error");
     return close(STDERR_FILENO) && errno != EBADF ? 1 : status;
 }
 
@@ -136,16 +208,6 @@ static void note(int file, ssize_t count) {
 
 /* ---- Files. */
 
-/* The state of --tree after its last update, if is_known. If length is not 0, the threads that made
- * the last read have hashed the leaves of its bytes too, and an update with these bytes leads from
- * state to next. */
-static struct {
-    bool is_known;
-    vulfsjor_tree_state state, next;
-    const void *bytes;
-    size_t length;
-} tree;
-
 /* A name that is not UTF-8, or that has a byte 0xF4, comes with each of its bytes from 0x80 on as
  * the character U+10FF00 + byte, which UTF-8 writes in four bytes. This turns these back. */
 static void decode(char *name) {
@@ -165,8 +227,9 @@ static void decode(char *name) {
 }
 
 /* Opens the file for reading, from its start to its end. Returns its descriptor, or -1 and sets
- * errno. No mode is passed, so no file can be made. */
-int b2sum_open(const char *name, int flags, ...) {
+ * errno. No mode is passed, so no file can be made. The path has a frame of its own, so that the
+ * stack is wiped below that of b2sum_open. */
+__attribute__((noinline)) static int open_file(const char *name, int flags) {
     char path[4096];
     int file;
 
@@ -178,153 +241,89 @@ int b2sum_open(const char *name, int flags, ...) {
     decode(path);
     do file = openat(AT_FDCWD, path, flags & ~O_CREAT);
     while (file < 0 && errno == EINTR);
-    tree.is_known = false;
     if (file < 0) return -1;
+    is_input_file |= file == STDIN_FILENO;
     posix_fadvise(file, 0, 0, POSIX_FADV_SEQUENTIAL);
     if (is_shown()) begin(file, path);
     return file;
 }
 
-/* ---- Large reads of regular files, and trees, by several threads. */
-
-enum {
-    LEAST_BYTES = 1 << 20, /* at most one thread for each: for fewer, it costs what it saves */
-    PART_BYTES = 1 << 18,  /* about what a thread reads at a time, and hashes while it is cached */
-    MOST_THREADS = 16
-};
-
-/* A read by several threads. Each reads the next part of the plan until none is left. */
-struct job {
-    int file;
-    off_t from; /* the place of the first byte in the file */
-    unsigned char *bytes;
-    vulfsjor_plan plan;
-    unsigned char *digests; /* of the leaves of all parts; null: they are not hashed */
-    uint64_t next;          /* the first part that no thread reads yet; atomic */
-    uint64_t end;           /* the first byte that could not be read, or the size; atomic */
-};
-
-/* Reads these bytes. Returns whether all were read, and otherwise lowers j->end. */
-static bool read_at(struct job *j, uint64_t start, uint64_t length) {
-    const uint64_t end = start + length;
-    uint64_t least = __atomic_load_n(&j->end, __ATOMIC_RELAXED);
-
-    while (start < end) {
-        ssize_t n = pread(j->file, j->bytes + start, end - start, j->from + (off_t)start);
-        if (n > 0) start += (uint64_t)n;
-        if (!n || (n < 0 && errno != EINTR)) break;
-    }
-    while (start < end && start < least &&
-           !__atomic_compare_exchange_n(&j->end, &least, start, false, __ATOMIC_RELAXED,
-                                        __ATOMIC_RELAXED)) {
-    }
-    return start == end;
-}
-
-/* What each thread does. */
-static void *run(void *given) {
-    struct job *j = given;
-    vulfsjor_part part;
-
-    while (!vulfsjor_tree_part(&part, &j->plan, __atomic_fetch_add(&j->next, 1, __ATOMIC_RELAXED)))
-        if (read_at(j, part.start, part.length) && j->digests &&
-            vulfsjor_tree_next_leaves(&tree.next, j->digests + part.digests_start,
-                                      part.digests_length, part.first, j->bytes + part.start,
-                                      part.length))
-            abort();
-    return NULL;
-}
-
-/* Reads all parts, by the threads of the plan, the caller's among them. */
-static void run_all(struct job *j) {
-    pthread_t others[MOST_THREADS];
-    unsigned started = 0;
-
-    while (started + 1 < j->plan.threads && !pthread_create(&others[started], NULL, run, j))
-        started++;
-    run(j);
-    for (unsigned i = 0; i < started; i++) pthread_join(others[i], NULL);
-}
-
-/* Makes the plan of a read of so many bytes: if the state of a tree is known, and several threads
- * can hash, that of its update; otherwise one whose leaves are not hashed. Returns whether there is
- * one. */
-static bool is_planned(struct job *j, size_t size, unsigned threads) {
-    const vulfsjor_limits limits = {threads, LEAST_BYTES, PART_BYTES, UINT64_MAX};
-
-    return (tree.is_known && !vulfsjor_tree_plan_update(&j->plan, &tree.state, size, &limits) &&
-            j->plan.threads > 1 && (j->digests = malloc(j->plan.digests_length))) ||
-           !vulfsjor_tree_plan(&j->plan, 0, size, PART_BYTES, &limits);
-}
-
-/* Reads by so many threads. Returns the number of bytes without a gap, from the front on, after
- * which the file's position then is. If there are none, the caller reads again. */
-static size_t read_parts(int file, void *bytes, size_t size, off_t from, unsigned threads) {
-    struct job j = {.file = file, .from = from, .bytes = bytes, .end = size};
-    const vulfsjor_plan *plan = &j.plan;
-    bool is_hashed;
-
-    if (!is_planned(&j, size, threads)) return 0;
-    tree.next = tree.state;
-    if (read_at(&j, 0, plan->start)) {
-        if (j.digests && vulfsjor_tree_update(&tree.next, bytes, plan->start)) abort();
-        run_all(&j);
-    }
-    is_hashed = read_at(&j, plan->end, plan->rest_length) && j.digests && j.end == size &&
-                !vulfsjor_tree_update_leaves(&tree.next, j.digests, plan->digests_length,
-                                             j.bytes + plan->end, plan->rest_length);
-    free(j.digests);
-    if (lseek(file, from + (off_t)j.end, SEEK_SET) < 0) return 0;
-    if (is_hashed) {
-        tree.bytes = bytes;
-        tree.length = size;
-    }
-    return j.end;
-}
-
-/* How many threads read: 1, unless a regular file has enough bytes after its position. Then sets
- * *from to that, and lowers *size to the bytes that there are. */
-static unsigned threads_of(int file, size_t *size, off_t *from) {
-    struct stat about;
-    cpu_set_t set;
-
-    if (*size < 2 * LEAST_BYTES || fstat(file, &about) || !S_ISREG(about.st_mode)) return 1;
-    *from = lseek(file, 0, SEEK_CUR);
-    if (*from < 0 || about.st_size - *from < 2 * LEAST_BYTES) return 1;
-    if (about.st_size - *from < (off_t)*size) *size = (size_t)(about.st_size - *from);
-    if (sched_getaffinity(0, sizeof set, &set)) return 1;
-    return CPU_COUNT(&set) < MOST_THREADS ? (unsigned)CPU_COUNT(&set) : MOST_THREADS;
+int b2sum_open(const char *name, int flags, ...) {
+    if (is_secret) wipe_stack();
+    return open_file(name, flags);
 }
 
 /* Reads at most size bytes, after a signal again. Returns their number, 0 at the end, or -1 and
  * sets errno. */
 ssize_t b2sum_read(int file, void *bytes, size_t size) {
     const struct iovec room = {bytes, size};
-    off_t from = 0;
-    unsigned threads = threads_of(file, &size, &from);
     ssize_t count;
     int error;
 
-    tree.length = 0;
-    count = threads > 1 ? (ssize_t)read_parts(file, bytes, size, from, threads) : 0;
-    if (!count)
-        do count = readv(file, &room, 1);
-        while (count < 0 && errno == EINTR);
+    if (is_secret) wipe_stack();
+    do count = readv(file, &room, 1);
+    while (count < 0 && errno == EINTR);
     error = errno;
+    if (file == STDIN_FILENO && (!is_input_file || (count < 0 && error == EBADF)))
+        is_input_read = true;
     if (is_shown()) note(file, count);
     errno = error;
     return count;
 }
 
-/* Absorbs the bytes into a state of the library, by several threads. */
-void b2sum_update_tree(vulfsjor_tree_state *state, const void *bytes, size_t length) {
-    if (tree.length && length == tree.length && bytes == tree.bytes &&
-        !memcmp(state, &tree.state, sizeof *state))
-        *state = tree.next;
-    else if (vulfsjor_tree_update_threads(state, bytes, length, 0) &&
-             vulfsjor_tree_update(state, bytes, length))
-        abort();
-    tree.state = *state;
-    tree.is_known = true;
-    tree.length = 0;
+/* ---- Trees. */
+
+/* For less of a file, starting a thread costs what it saves. */
+enum { LEAST_BYTES = 1 << 19 };
+
+/* The file's position, if it is a large regular file from there on; otherwise -1. */
+static off_t large_from(int file) {
+    struct stat about;
+    off_t from;
+
+    if (fstat(file, &about) || !S_ISREG(about.st_mode)) return -1;
+    from = lseek(file, 0, SEEK_CUR);
+    return about.st_size - from < LEAST_BYTES ? -1 : from;
 }
+
+/* Shows that so many bytes were read after those before. */
+static int report(void *before, uint64_t count) {
+    shown.count = *(const uint64_t *)before + count;
+    show(true);
+    return 0;
+}
+
+/* Absorbs a large regular file from its position to its end, by so many threads, and moves the
+ * position. If it is none, or cannot be read so, nothing changes. */
+static void absorb(int file, unsigned threads, vulfsjor_tree_state *state) {
+    const off_t from = large_from(file);
+    uint64_t before;
+
+    if (from < 0) return;
+    if (is_shown()) note(file, 0);
+    before = shown.count;
+    if (!vulfsjor_tree_update_fd(state, file, threads, is_shown() ? report : NULL, &before)) return;
+    shown.count = before;
+    if (lseek(file, from, SEEK_SET) != from) abort();
+}
+
+/* The source, its descriptor, the tree, and room for a piece. */
+#define ARGUMENTS \
+    void *source, int file, vulfsjor_tree_state *state, void *room, size_t size
+
+/* The function of this name of the assembly file; the proved one, which reads the source to its end
+ * in one thread, has the other name. It does that after the threads too: it reads what they could
+ * not, or finds the end. */
+#define ABSORB(function, name, proved)                             \
+    HIDDEN bool function(ARGUMENTS) __asm__(name);                 \
+    HIDDEN bool function##_proved(ARGUMENTS) __asm__(proved);      \
+    bool function(ARGUMENTS) {                                     \
+        absorb(file, 0, state);                                    \
+        return function##_proved(source, file, state, room, size); \
+    }
+
+ABSORB(b2sum_absorb, TEXT(ABSORB_TREE), TEXT(PROVED_TREE))
+#ifdef ABSORB_TREE_V3
+ABSORB(b2sum_absorb_v3, TEXT(ABSORB_TREE_V3), TEXT(PROVED_TREE_V3))
+ABSORB(b2sum_absorb_v4, TEXT(ABSORB_TREE_V4), TEXT(PROVED_TREE_V4))
+#endif

@@ -2,10 +2,10 @@
 """Looks at the assembly files of dist/, with no toolchain: each symbol ends in the version and the build, nothing is
 called that is not there except a few functions of the C library, each function is called or exported, only macros differ
 between systems, no preprocessor changes a line, and nothing is used that Windows or macOS reserves. Messages of BLAKE2b
-are compressed one by one for x86-64-v2, by fours elsewhere, and by eights too for x86-64-v4; b2sum leaves that to the
-library. On ARM one message is compressed without vector registers and several messages with them. For x86-64-v4 only the
-compression of eight messages has instructions of 512 bits, and each function clears those of the upper 16 vector
-registers that it uses, after a call with a key all of them.
+are compressed one by one for x86-64-v2, by fours elsewhere, and by eights too for x86-64-v4. On ARM one message is
+compressed without vector registers and several messages with them. For x86-64-v4 only the compression of eight messages
+has instructions of 512 bits, and each function clears those of the upper 16 vector registers that it uses, after a call
+with a key all of them.
 
     tests/assembly.py [DIST]
 
@@ -30,6 +30,8 @@ FUNCTION = re.compile(r"\tvj_(?:function|cold|export)\t([\w.]+)$")
 # A call of what is here, and one of what is not, by a macro.
 CALL = re.compile(r"\t(?:callq?|jmpq?|bl?|b)\t([A-Za-z_][\w.]*)$")
 OUTSIDE = re.compile(r"\tvj_(?:c_|system_)?(?:call|jump)\t([\w.]+)(?:, \w+)?$")
+# A function of b2sum that C has, and the name of the proved one.
+OF_C = re.compile(r"b2sum\.\.(disk\.\.hide_memory|hashes\.\.absorb_tree)[\w.]*")
 # The directives that all object formats have.
 DIRECTIVES = {".ascii", ".asciz", ".byte", ".long", ".p2align", ".quad", ".short", ".zero"}
 # What a preprocessor changes: lines of its own, comments, and names that GCC defines.
@@ -82,9 +84,11 @@ def check_text(name, text, end):
     yield "each function ends in the version and the build", code and all(it.endswith(f"_{end}") for it in code)
     yield "so does the name of each constant", labels and all(it.startswith(f".L{end}_") for it in labels)
     yield "each function is exported, or called or named by another", exported and code.keys() <= named | set(exported)
-    yield "b2sum has no function of trees of its own", "/b2sum" not in name or not any("update_tree" in it for it in code)
+    theirs = [OF_C.findall("\n".join(sorted(it))) for it in (outside, [it for it in exported if ".proved_" in it])]
+    yield "C has two functions of b2sum, and calls the proved ones", theirs == [
+        ["disk..hide_memory", "hashes..absorb_tree"] if "/b2sum" in name else []] * 2
     yield "it calls what is there, and the C library", called <= code.keys() and LIBRARY - {"memmove"} <= outside <= (
-        SUMS if "/b2sum" in name else PROGRAM if "/b2" in name else LIBRARY)
+        {it for it in outside if OF_C.match(it)} | SUMS if "/b2sum" in name else PROGRAM if "/b2" in name else LIBRARY)
     yield "it has only directives that all systems have", words and words <= DIRECTIVES
     yield "no preprocessor changes a line", not any(
         PREPROCESSED.search(line) for line in lines[1:] if not line.startswith("\t.asci"))
@@ -92,11 +96,11 @@ def check_text(name, text, end):
         any(map(INDEXED.search, body)) and not any("call" in line.split("\t")[1] for line in body) for body in code.values())
 
 
-def check_parallel(name, text, build):
-    """Whether as many messages of BLAKE2b are compressed in parallel as is fastest. b2sum leaves that to the library."""
+def check_parallel(text, build):
+    """Whether as many messages of BLAKE2b are compressed in parallel as is fastest."""
     found = sorted(it for it in functions(text.split("\n")) if it.startswith((FOUR, EIGHT)))
     yield "it compresses as many messages of BLAKE2b in parallel as is fastest", found == [
-        f"{it}_{VERSION}_{build}" for it in PARALLEL[build] if "/b2sum" not in name]
+        f"{it}_{VERSION}_{build}" for it in PARALLEL[build]]
 
 
 def check_arm(name, text):
@@ -107,7 +111,7 @@ def check_arm(name, text):
         yield (f"{family}: one message is compressed without vector registers",
                len(one) == 1 and len(code[one[0]]) > 1000 and count_vectors(code[one[0]]) == 0)
         several = [it for it in code if it.startswith(f"blake2_compress..many..{family}..compress_blocks_{VERSION}")]
-        if several or "/vulfsjor" in name or (family == "blake2b" and "/b2sum" not in name):
+        if several or family == "blake2b" or "/vulfsjor" in name:
             yield (f"{family}: several messages are compressed with them",
                    len(several) == 1 and count_vectors(code[several[0]]) > 3000)
 
@@ -130,8 +134,8 @@ def check_upper(name, text):
     used = {it: {number for line in lines for number in UPPER.findall(line)} for it, lines in code.items()}
     wide = f"{EIGHT}_{VERSION}_v4"
     yield "only the compression of eight messages of BLAKE2b has instructions of 512 bits", [
-        it for it, lines in code.items() if any("%zmm" in line for line in lines)] == [wide] * ("/b2sum" not in name)
-    yield "it has little else, and keeps its rows in registers", "/b2sum" in name or 1300 < sum(
+        it for it, lines in code.items() if any("%zmm" in line for line in lines)] == [wide]
+    yield "it has little else, and keeps its rows in registers", 1300 < sum(
         "%zmm" in line for line in code.get(wide, [])) < 1700
     yield "each function clears the upper registers that it uses", all(
         used[it] <= before_returns(code[it]) for it in code) and any(used.values())
@@ -145,7 +149,7 @@ def main():
     for name, build in TEXTS.items():
         with open(os.path.join(dist, name), encoding="utf-8") as file:
             text = file.read()
-        checks = [*check_text(name, text, f"{VERSION}_{build}"), *check_parallel(name, text, build),
+        checks = [*check_text(name, text, f"{VERSION}_{build}"), *check_parallel(text, build),
                   *(check_arm(name, text) if build == "arm" else []),
                   *(check_upper(name, text) if build == "v4" else [])]
         for words, holds in checks:

@@ -44,9 +44,14 @@ machine=$(uname -m) arm=aarch64-linux-gnu-gcc here=arm
 [ $arm = cc ] || for level in v2 v3 v4; do write_text cc x86_64/b2-$level.s $level; done
 [ $arm = cc ] || { here=$("$top/tools/processor.sh") && here=${here#x86-64-}; }
 ! has $arm || write_text $arm aarch64/b2.s arm
-# Those of b2sum are linked with a library whose functions are empty.
+# Those of b2sum call functions of C, which calls one of theirs, and are linked with a library whose
+# functions are empty.
 for file in "$repository"/dist/*/b2*.s; do
-    sed 's/<%/[%/' "$file" >"${file%/*}/b2sum${file##*/b2}"
+    sums=${file%/*}/b2sum${file##*/b2}
+    sed 's/<%/[%/' "$file" >"$sums"
+    end=${file##*[/-]}
+    printf "\tvj_call\tb2sum..%s_$end\n" disk..hide_memory hashes..absorb_tree..of >>"$sums"
+    printf "\tvj_export\tb2sum..hashes..absorb_tree..of.proved_$end\n" >>"$sums"
 done
 for build in x86_64/vulfsjor-v{2,3,4} aarch64/vulfsjor; do
     end=$(version _)_${build##*-}
@@ -116,6 +121,14 @@ check "with the threads of glibc before 2.34" grep -q -- ' -pthread ' "$work/cal
 check "b2sum builds the other program, and passes on all arguments" \
     ends 7 "[two words>[--help>in$here" 1
 check "and says so" says "b2sum: built $other"
+are_replaced() {
+    local name
+    for name in absorb_tree..of hide_memory; do
+        diff <(nm "$other" | sed -n "s/.* [Tt] .*${name}_\(.*s\)\$/\1/p" | sort) \
+            <([ "$machine" != x86_64 ] && echo b2.s || printf '%s\n' v2.s v3.s v4.s) || return
+    done
+}
+check "C replaces two functions of each file" are_replaced
 run PATH="$work" "$BASH" "$repository/b2sum" --build
 check "the next run does not" ends 7 "[--build>in$here" 0
 ln -s "$repository/b2sum" "$work/linked sum" && run "$work/linked sum" a

@@ -3,6 +3,7 @@
 
 - each option and each pair of options, with files, with a manifest, and with nothing;
 - each abbreviation of each long option;
+- some of them with standard input closed;
 - manifests with lines of many forms, and each length that `-l` may have;
 - random ones, over files with names of any bytes and manifests with damaged lines: RUNS of them for each program, by
   default 200, and 5,000 if VULFSJOR_TEST_HUGE is set.
@@ -51,8 +52,9 @@ OURS = (b"a", b"k", b"p", b"s", b"t")
 
 
 def run(program, words, folder, data, user):
-    """What the program prints to both streams, and its status."""
+    """What the program prints to both streams, and its status. Without data standard input is closed."""
     done = subprocess.run([b"b2sum", *words], executable=program, cwd=folder, input=data, timeout=60, user=user,
+                          preexec_fn=(lambda: os.close(0)) if data is None else None,
                           env={"LC_ALL": "C", "PATH": "/usr/bin:/bin"}, stdout=subprocess.PIPE, stderr=subprocess.PIPE)
     return done.stdout, done.stderr, done.returncode
 
@@ -270,6 +272,22 @@ def test_options(program, pool):
         "".join(said)[:4000])
 
 
+def test_closed(program, pool):
+    """Command lines with standard input closed, so that the first file that is opened has its number."""
+    with tempfile.TemporaryDirectory() as folder:
+        with open(os.path.join(folder, "one"), "wb") as file:
+            file.write(b"abc")
+        digits = hashlib.blake2b(b"abc").hexdigest().encode()
+        for name, names in (("sums", (b"one", b"one")), ("input", (b"one", b"-", b"one")), ("more", (b"-", b"-"))):
+            with open(os.path.join(folder, name), "wb") as file:
+                file.write(b"".join(digits + b"  " + it + b"\n" for it in names))
+        runs = [[*options, *names] for options in ([], [b"-c"], [b"-c", b"--status"])
+                for names in ([], [b"-"], [b"one"], [b"one", b"-"], [b"-", b"one"], [b"-", b"-"], [b"none", b"-"],
+                              [b"sums"], [b"input"], [b"more"], [b"sums", b"input"], [b"input", b"sums"])]
+        said = list(pool.map(lambda words: difference(program, words, folder, None), runs))
+    tap.result(not any(said), f"{program}: {len(runs)} command lines without standard input", "".join(said)[:4000])
+
+
 def forms():
     """Manifests for a file `f` of the bytes abc: lines of each form, what is almost one, and mixtures of them."""
     half, whole = (hashlib.blake2b(b"abc", digest_size=size).hexdigest().encode() for size in (32, 64))
@@ -334,6 +352,7 @@ def main():
         for number, program in enumerate(built):
             if HUGE or number == 0:
                 test_options(program, pool)
+                test_closed(program, pool)
                 test_forms(program, pool)
             seeds = range(given.seed * 1000003, given.seed * 1000003 + given.runs)
             said = list(filter(None, pool.map(lambda seed: random_run(program, seed), seeds)))

@@ -46,6 +46,9 @@ WRONG = {
     "--tree 4 --key-file b": "the --tree option does not support --key-file",
     "--tree 4 --text": "--tree does not support --text mode",
 }
+# A key is in the options and, while a file is read, in the state: in its pending block and in that of a reset. Two more
+# copies may be in what the frames of running functions do not use.
+MOST_COPIES = 5
 FILES = {"a": b"", "b": b"abc", "with\nline": b"x" * 1000, "caf\udcff": bytes(range(256)) * 5}
 
 
@@ -211,6 +214,52 @@ def test_parameters(runs):
     runs.ends("keys, salts, personalizations, and what is refused of them")
 
 
+def scanned(runs, words, key, call, at):
+    """What a run has in its memory at a call: the number of pieces of the key, whether the process can be dumped, and
+    whether it can leave a core file; or nothing if there is no such call."""
+    out = runs.path("scan")
+    got = runs.run(words, b"abc", env={
+        "LD_PRELOAD": os.environ["SCANS"], "SCAN_KEY": bytes(255 - byte for byte in key).hex(), "SCAN_CALL": call,
+        "SCAN_AT": str(at), "SCAN_OUT": out})
+    runs.holds([*words, call, at], got[1:] == (b"", 0), got)
+    if not os.path.exists(out):
+        return None
+    with open(out, encoding="ascii") as file:
+        found = tuple(map(int, file.read().split()))
+    os.remove(out)
+    return found
+
+
+def test_secrets(runs):
+    """A key is in memory only where it has to be, and nowhere at the end: in the options, and while a file is read in
+    the state. Once a key file is opened, the process cannot be dumped."""
+    key = random.Random(3).randbytes(64)
+    runs.write("long", bytes(200000))
+    for family, bits, some in (("b", 512, key), ("s", 256, key[:32])):
+        runs.write("key", some)
+        words = ["-a", "blake2" + family, "--key-file", "key"]
+        manifest = line("long", bytes(200000), bits, family, key=some)
+        runs.write("sums", (manifest + line("b", b"abc", bits, family, key=some)).encode())
+        for more in (["long", "b", "-"], ["-c", "sums"]):
+            ends, most = [], 0
+            for call in ("readv", "close"):
+                for at in itertools.count(1):
+                    found = scanned(runs, words + more, some, call, at)
+                    if not found:
+                        break
+                    most = max(most, found[0])
+                    runs.holds([*words, call, at, found], found[1:] == (0, 0))
+                ends.append(at - 1)
+            pieces = len(some) // 8
+            runs.holds([*words, "at most", most], 1 <= most // pieces <= MOST_COPIES and ends[0] > 6 and ends[1] > 4)
+            for at in range(ends[1] - 1, ends[1] + 1):
+                runs.holds([*words, "the end", at], scanned(runs, words + more, some, "close", at) == (0, 0, 0))
+    for at in (1, 3):
+        found = scanned(runs, ["long", "b"], key, "readv", at)
+        runs.holds(["no key", found], found and found[:2] == (0, 1))
+    runs.ends("keys in memory")
+
+
 def test_demanded_lengths(runs):
     """Under a key, and with a length, a check counts only digests of that length: nobody can make a short one."""
     runs.write("key", bytes(range(32)))
@@ -360,8 +409,8 @@ def test_system(runs):
     runs.wants(["/proc/version"], line("/proc/version", data))
     runs.wants(["--tree", "64", "/proc/version"], root_line("/proc/version", data, 64))
     runs.wants(["-"], "", f"-: {os.strerror(errno.EISDIR)}", 1, stdin=os.open(runs.folder, os.O_RDONLY))
-    runs.wants(["b", "-"], line("b", b"abc"), f"-: {os.strerror(errno.EBADF)}", 1, stdin=None,
-               preexec_fn=lambda: os.close(0))
+    runs.wants(["b", "-"], line("b", b"abc"), f"-: {os.strerror(errno.EBADF)}\nstandard input: "
+               f"{os.strerror(errno.EBADF)}", 1, stdin=None, preexec_fn=lambda: os.close(0))
     os.mkfifo(runs.path("pipe"))
     writer = subprocess.Popen(["sh", "-c", "exec >pipe; printf ab; sleep 0.3; printf c"], cwd=runs.folder)
     runs.wants(["pipe"], line("pipe", b"abc"))
@@ -562,16 +611,17 @@ def said(call, error, err):
 
 COMPUTING = (test_lengths, test_parameters, test_demanded_lengths, test_trees)
 TESTS = (*COMPUTING, test_names, test_coreutils, test_differences, test_system, test_changes, test_outputs,
-         test_pipes, test_closing, test_progress, test_large, test_memory, test_faults)
-FAULTY = (test_changes, test_closing, test_faults)
+         test_pipes, test_closing, test_progress, test_large, test_memory, test_secrets, test_faults)
+FAULTY = (test_changes, test_closing, test_secrets, test_faults)
 
 
 def main():
     work = tempfile.mkdtemp()
-    os.environ["FAULTS"] = os.path.join(work, "faults.so")
-    has_faults = shutil.which("cc") and subprocess.run(
-        ["cc", "-shared", "-fPIC", "-O1", os.path.join(TOP, "tests", "b2sum_faults.c"), "-o", os.environ["FAULTS"]],
-        stdout=subprocess.DEVNULL).returncode == 0
+    os.environ["FAULTS"], os.environ["SCANS"] = (os.path.join(work, it) for it in ("faults.so", "scans.so"))
+    has_faults = shutil.which("cc") and all(subprocess.run(
+        ["cc", "-shared", "-fPIC", "-O1", os.path.join(TOP, "tests", source), "-o", os.environ[it]],
+        stdout=subprocess.DEVNULL).returncode == 0 for it, source in (
+            ("FAULTS", "b2sum_faults.c"), ("SCANS", "b2sum_key.c")))
     with programs(sys.argv[1:]) as built:
         for number, program in enumerate(built):
             for test in TESTS if HUGE or number == 0 else COMPUTING:

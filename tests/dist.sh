@@ -40,7 +40,7 @@ word() { sed "s/.* \$1 \([^ ]*\).*/\1/" <<<"\$words"; }
 crate=\$(word --crate-name) cpu=\$(word --cpu)
 while [ "\$1" != --toolchain ]; do shift; done
 more=\$(sed -n 's/^run .*"\(-march=[^"]*\)".*/ \1/p' "\$2/bin/clang")
-[ ! -e "\$2.sed" ] || more+=" edited\$(sed -n 's|.*s/i64 4/i64 \(.\)/.*|\1|p' "\$2.sed")"
+more+=\$(sed -n 's|.*s/i64 4/i64 \(.\)/.*| edited\1|p' "\$2.sed" 2>/dev/null)
 [ ! -e "\$2.py" ] || more+=" cleared"
 for script in "\$2"-*.sed; do [ ! -e "\$script" ] || more+=" with \$(basename "\$script")"; done
 line="\$crate for \$cpu\$more, \$(cat "$work/turn" 2>/dev/null)"
@@ -48,8 +48,21 @@ line="\$crate for \$cpu\$more, \$(cat "$work/turn" 2>/dev/null)"
     printf '\t%s\n' '.section	.text.f,"ax",@progbits' '.globl	f' '.p2align	4' '.type	f,@function'
     printf '%s\n' f: '	jmp	.L1' .L1:
     printf '\tcallq\t%s@PLT\n' open read __sysv_signal
+    # LLVM's text of two functions, of which b2sum has the proved ones, and calls those of C.
+    [ "\$crate" != b2sum ] || for name in hashes::absorb_tree::\<of\> disk::hide_memory; do
+        echo "define internal i1 @\"b2sum::\$name\"(i32 %0) #1 {" | sed -f "\$2-b2sum.sed" |
+            sed -n 's/^declare i1 @\(".*"\)(i32 %0)\$/\tcallq\t\1@PLT/p'
+    done
     printf '%s\n' .Lfunc_end0: '	.size	f, .Lfunc_end0-f' '	.section	.rodata.line,"a",@progbits'
     printf '\t.ascii\t"%s"\n' "\$line"
+    [ "\$crate" != b2sum ] || for name in hashes::absorb_tree::\<of\> disk::hide_memory; do
+        echo "define internal i1 @\"b2sum::\$name\"(i32 %0) #1 {" | sed -f "\$2-b2sum.sed" |
+            sed -n 's/^define i1 @\(".*"\)(i32 %0) #1 {\$/\1/p' | while read -r name; do
+            printf '\t%s\n' ".section	\${name/\"/\".text.},\"ax\",@progbits" ".globl	\$name" '.p2align	4' \
+                ".type	\$name,@function"
+            printf '%s\n' "\$name:" ".Lfunc_end\${#name}:" "	.size	\$name, .Lfunc_end\${#name}-\$name"
+        done
+    done
 } >"\$2/module.s"
 while [ "\$1" != -o ]; do shift; done
 echo "\$line" >"\$2"
@@ -133,6 +146,15 @@ wanted_files() {
 check "make" dist make
 check "each file is made of its crate, for its processor" \
     diff <(cd dist && grep -ao '[a-z0-9_]* for .*,' */*.{s,wasm,c} | LC_ALL=C sort) <(wanted_files | LC_ALL=C sort)
+wanted_theirs() {
+    local name
+    for name in disk..hide_memory hashes..absorb_tree..of; do
+        printf "\tvj_call\tb2sum..${name}_1_2_3_%s\n" arm v2 v3 v4
+        printf "\tvj_export\tb2sum..${name/%.of/.of.}%s_1_2_3_%s\n" proved arm proved v2 proved v3 proved v4
+    done | sed 's/hide_memoryproved/hide_memory..proved/'
+}
+check "only b2sum calls functions that C has, and exports the proved ones" \
+    diff <(cd dist && grep -h '	b2sum\.\.' */*.s | grep -v vj_end | LC_ALL=C sort -u) <(wanted_theirs | LC_ALL=C sort)
 check "only b2sum calls functions of c/b2sum.c" diff <(cd dist && grep -cE 'b2sum_(open|read|signal)$' */*.s |
     grep -v :0; grep -lE '	(open|read|__sysv_signal)' x86_64/*.s) \
     <(printf '%s:3\n' aarch64/b2sum.s x86_64/b2sum-v{2,3,4}.s; printf '%s\n' x86_64/{b2,vulfsjor}-v{2,3,4}.s)
@@ -302,6 +324,27 @@ c..g..64_1_v3:
 	.ident	"c::f"
 	.file	"c::f"
 END
+theirs=('	callq	"c::f::<a::B<c>>"@PLT' '	.globl	"c::f::<a::B<c>>::proved"' '"c::f::<a::B<c>>::proved":' '"c::ff":')
+check "a function that C has is called, and the proved one has another name" diff - \
+    <(printf '%s\n' '	.globl	g' "${theirs[@]}" | tools/plain_names.py _1 c::f) <<'END'
+	.globl	g_1
+	.hidden	g_1
+	callq	c..f..a..B.c_1@PLT
+	.globl	c..f..a..B.c.proved_1
+	.hidden	c..f..a..B.c.proved_1
+c..f..a..B.c.proved_1:
+c..ff_1:
+END
+# Whether these lines are refused as the text of b2sum.
+is_not_theirs() {
+    diff - <(printf '%s\n' "$@" | tools/plain_names.py _1 c::f 2>&1) \
+        <<<"plain_names.py: C cannot have the function c::f"
+}
+check "a text without that function is refused" is_not_theirs '"c::g":'
+check "one that has it itself is refused" is_not_theirs "${theirs[@]}" '"c::f":'
+check "one that never calls it is refused" is_not_theirs "${theirs[@]:1}"
+check "one that does not export the proved one is refused" is_not_theirs "${theirs[0]}" "${theirs[@]:2}"
+check "one with two instances is refused" is_not_theirs "${theirs[@]}" '"c::f::<d>::proved":'
 check "calls of functions elsewhere are renamed, and nothing else" diff - \
     <(printf '%s\n' '	.globl	g' '	callq	read@PLT' '	bl	open' '	callq	pread@PLT' '	bl	c.open' '	bl	open2' \
         '"c::read":' '	.ascii	"read"' '	callq	read.x' |

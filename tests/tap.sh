@@ -81,14 +81,19 @@ with_macros() {
     printf '#include "%s"\n' "$top/dist/macros.h" "$(readlink -f "$1")" >"$file" && echo "$file"
 }
 
-# The name of `main` in a file of a program in dist/, and the program from it: FILE PROGRAM
-# [ARGUMENTS FOR THE COMPILER..]
+# The name that a file of a program in dist/ gives to a function that it calls or exports: FILE
+# call|export FUNCTION. The name of `main` there, and the program from it: FILE PROGRAM [ARGUMENTS
+# FOR THE COMPILER..]
+name_in() { sed -n "/^\tvj_$2\t.*\.$3[._]/{s/.*\t//p;q;}" "$1"; }
 main_of() { sed -n 's/^\tvj_export\t\(main_.*\)/\1/p' "$1"; }
 assemble() {
     local words=("$top/c/b2.c" "-DMAIN=$(main_of "$1")") build=${1##*-}
     if [[ $1 == */b2sum* ]]; then
         [[ $1 != */aarch64/* ]] || build=arm.s
-        words+=("-I$top/c/include" -pthread -DEND=b2sum_end "-DCHOOSE_ONE=${build%.s}"
+        words+=("-DABSORB_TREE=$(name_in "$1" call absorb_tree)"
+            "-DPROVED_TREE=$(name_in "$1" export absorb_tree)"
+            "-DHIDE_MEMORY=$(name_in "$1" call hide_memory)" "-I$top/c/include" -pthread
+            -DEND=b2sum_end -DFREE=b2sum_free -DREALLOC=b2sum_realloc "-DCHOOSE_ONE=${build%.s}"
             "$top"/c/{b2sum,threads,choose}.c "$(with_macros "${1/b2sum/vulfsjor}")")
     fi
     cc -O2 -fno-lto -o "$2" "${words[@]}" "$(with_macros "$1")" "${@:3}"

@@ -1,15 +1,10 @@
-# What LLVM's text of b2sum gets before it is compiled: its function update_tree, which absorbs a
-# piece of a tree in one thread, becomes b2sum_update_tree of c/b2sum.c. It is no part of the module
-# then, so LLVM knows nothing of its body, and leaves out what only that calls. A text that has not
-# exactly one such function is refused.
-/^define .*@"b2sum::hashes::update_tree"(/,/^}/{
-    /^define /!d
-    H
-    s/^define internal void @"b2sum::hashes::update_tree"(ptr [^,]*, ptr [^,]*, i64 [^,]*) .*/declare void @b2sum_update_tree(ptr, ptr, i64)/
-}
-s/@"b2sum::hashes::update_tree"/@b2sum_update_tree/g
-${
+# What LLVM's text of b2sum gets before it is compiled: calls of absorb_tree and of hide_memory go to
+# functions of C (c/b2sum.c), of which LLVM knows nothing. The proved functions have the same names
+# with ::proved, by which C calls them. plain_names.py refuses a text that has not one of each.
+/^define internal .*@"b2sum::\(hashes::absorb_tree\|disk::hide_memory\)\(::<[^"]*>\)\{0,1\}"(/{
+    h
+    s/^define internal \(.*\)@"\([^"]*\)"(/define \1@"\2::proved"(/
     x
-    /^\n[^\n]*$/!q 1
-    x
+    s/^define internal \(.*)\)[^)]*{$/declare \1/
+    G
 }

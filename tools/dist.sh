@@ -38,6 +38,9 @@ crate_of() {
     case ${1##*/} in b2sum*) echo b2sum ;; b2*) echo b2 ;; *) echo blake2_ffi ;; esac
 }
 
+# The functions of a crate that C has instead, by c/b2sum.c.
+theirs_of() { [ "$1" != b2sum ] || printf 'b2sum::%s\n' hashes::absorb_tree disk::hide_memory; }
+
 # The functions of the C library that a crate gets from C of ours instead: those of c/b2sum.c. They
 # have names of their own, so nothing else in the program gets them.
 ours_of() { [ "$1" != b2sum ] || printf '%s=b2sum_%s\n' open open read read __sysv_signal signal; }
@@ -151,7 +154,7 @@ build() {
             echo "/* Made by tools/dist.sh from the proved crate $crate." \
                 "dist/README.md says how. */"
             "$top/tools/plain_names.py" "_$(version _)_$end" \
-                $(ours_of "$crate") \
+                $(theirs_of "$crate") $(ours_of "$crate") \
                 <"$room/toolchain/module.s" >"$room/module.s"
             "$top/tools/one_text.py" <"$room/module.s"
         } >"$to"

@@ -1,14 +1,15 @@
 #!/usr/bin/env python3
 """Gives the symbols of an assembly text plain names that end in the version and the build:
 
-    tools/plain_names.py _0_1_0_v3 [NAME=OURS..] <module.s >file.s
+    tools/plain_names.py _0_1_0_v3 [THEIRS..] [NAME=OURS..] <module.s >file.s
 
 Rattle's names stand in quotes, as "blake2_compress::many::blake2b::outputs::<=64>", which not every assembler takes. This one
 becomes blake2_compress..many..blake2b..outputs..64_0_1_0_v3. Exported names and local labels get the end too, so that several
 such texts can stand in one program, and in one run of an assembler. Exported names are hidden: a program's objects see
-them, and a shared library that is linked from them does not export them. A call of the function NAME elsewhere, such as
-read, becomes one of OURS. Nothing else changes: the instructions stay as they are, and so do the names of other functions
-elsewhere, such as memcpy.
+them, and a shared library that is linked from them does not export them. Of each function THEIRS, by its name in Rattle,
+which C has instead, the text calls one that it has not, and exports the proved one as NAME::proved. A call of the function
+NAME elsewhere, such as read, becomes one of OURS. Nothing else changes: the instructions stay as they are, and so do the
+names of other functions elsewhere, such as memcpy.
 """
 import re
 import sys
@@ -26,6 +27,16 @@ def labels(lines):
     return [line for line in lines if re.match(r'["\w.][^\t]*:$', line)]
 
 
+def check_theirs(lines, names):
+    """Refuses a text that has one of these functions itself, or has not exactly one proved one, exported, and a call."""
+    for name in names:
+        found = [line[1:-2] for line in lines if re.fullmatch(rf'"{name}(::<.*>)?(::proved)?":', line)]
+        outside = found[0].removesuffix("::proved") if found else ""
+        called = any(re.fullmatch(rf'\t(callq|jmp|bl?)\t"{re.escape(outside)}"(@PLT)?', line) for line in lines)
+        if found != [f"{outside}::proved"] or f'{EXPORT}"{found[0]}"' not in lines or not called:
+            sys.exit(f"plain_names.py: C cannot have the function {name}")
+
+
 def with_ours(lines, ours):
     """The lines, with calls of these functions elsewhere instead of others."""
     calls, found = re.compile(rf"(?<![\w.:])(?:{'|'.join(ours)})(?![\w.:])"), set()
@@ -41,9 +52,10 @@ def with_ours(lines, ours):
 
 
 def main():
-    end, ours = sys.argv[1], dict(word.split("=") for word in sys.argv[2:])
+    end, ours = sys.argv[1], dict(word.split("=") for word in sys.argv[2:] if "=" in word)
     lines = with_ours(sys.stdin.read().split("\n"), ours)
-    exported = "|".join(line[len(EXPORT):] for line in lines if line.startswith(EXPORT))
+    check_theirs(lines, [word for word in sys.argv[2:] if "=" not in word])
+    exported = "|".join(re.escape(line[len(EXPORT):]) for line in lines if line.startswith(EXPORT))
     names = re.compile(rf'"([^"]*::[^"]*)"|\b(?:{exported})\b')
     renamed = [line if IS_DATA.match(line) else
                names.sub(lambda it: plain(it[1] or it[0]) + end, re.sub(r"(?<![\w.])\.L", f".L{end[1:]}_", line))

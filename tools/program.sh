@@ -30,15 +30,27 @@ is_current() {
     done
 }
 
-# The name of the main in a file of dist/.
+# The name of the main in a file of dist/, and that of a function that it calls or exports: FILE
+# call|export FUNCTION.
 main_of() { sed -n $'s/^\tvj_export\t\\(main_.*\\)/\\1/p' "$top/$1"; }
+name_in() { sed -n $'/^\tvj_'"$2"$'\t.*\\.'"$3"$'[._]/{s/.*\t//p;q;}' "$top/$1"; }
+
+# Adds to `words` the names of these functions for c/b2sum.c: FILE END.
+add_names() {
+    words+=("-DABSORB_TREE$2=$(name_in "$1" call absorb_tree)"
+        "-DPROVED_TREE$2=$(name_in "$1" export absorb_tree)"
+        "-DHIDE_MEMORY$2=$(name_in "$1" call hide_memory)")
+}
 
 # Adds to `words` what the compiler gets for a program of these files: FILE, or FILE V3 V4.
 add_words() {
     words+=("-DMAIN=$(main_of "$1")" "-I$top/c/include")
     [ $# -eq 1 ] || words+=("-DMAIN_V3=$(main_of "$2")" "-DMAIN_V4=$(main_of "$3")")
     if [ "$name" = b2sum ]; then
-        words+=(-DEND=b2sum_end "$top"/c/{b2sum,threads,choose}.c -pthread)
+        words+=(-DEND=b2sum_end -DFREE=b2sum_free -DREALLOC=b2sum_realloc
+            "$top"/c/{b2sum,threads,choose}.c -pthread)
+        add_names "$1" ''
+        [ $# -eq 1 ] || { add_names "$2" _V3 && add_names "$3" _V4; }
     elif [ $# -eq 3 ]; then
         words+=('-DCHOOSE_FUNCTIONS=<stddef.h>' "$top/c/choose.c")
     fi

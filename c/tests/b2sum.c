@@ -6,13 +6,14 @@
 #define _GNU_SOURCE
 #include <errno.h>
 #include <fcntl.h>
-#include <pthread.h>
-#include <sched.h>
 #include <signal.h>
 #include <stdarg.h>
+#include <stdbool.h>
 #include <stdio.h>
 #include <stdlib.h>
 #include <string.h>
+#include <sys/prctl.h>
+#include <sys/resource.h>
 #include <sys/types.h>
 #include <sys/uio.h>
 #include <time.h>
@@ -36,7 +37,7 @@ static int fails;
 
 /* What openat was called with, how many calls are interrupted and the error of the others, or 0. */
 static char opened[4200];
-static int opened_in, opened_flags, interrupts, error_of_calls, calls;
+static int opened_in, opened_flags, opened_as = 9, interrupts, error_of_calls, calls;
 
 static int fault(void) {
     calls++;
@@ -48,7 +49,7 @@ int __wrap_openat(int folder, const char *name, int flags, ...) {
     opened_in = folder;
     opened_flags = flags;
     strcpy(opened, name);
-    return fault() ? -1 : 9;
+    return fault() ? -1 : opened_as;
 }
 
 /* The file that is read from its start to its end, as the system is told. */
@@ -59,23 +60,24 @@ int __wrap_posix_fadvise(int file, off_t from, off_t length, int advice) {
     return EINVAL;
 }
 
-/* The descriptors that were closed, in order, and the error of each. Only those of outputs are not
- * really closed. */
-static int closed[3], closed_count, error_of_close[3];
+/* The descriptors that were closed, in order, and the error of each. Only those of files are really
+ * closed. */
+static int closed[4], closed_count, error_of_close[3];
 int __real_close(int file);
 int __wrap_close(int file) {
-    if (file != 1 && file != 2) return __real_close(file);
-    CHECK(closed_count < 3);
+    if (file > 2) return __real_close(file);
+    CHECK(closed_count < 4);
     closed[closed_count++] = file;
     errno = error_of_close[file];
     return errno ? -1 : 0;
 }
 
 static char said[200];
+static int says_input; /* whether what was said is of standard input, and not of a write */
 int __wrap_dprintf(int file, const char *format, ...) {
     va_list arguments;
 
-    CHECK(file == 2 && !closed[1]);
+    CHECK(file == 2 && closed[closed_count - 1] == (says_input ? 0 : 1));
     va_start(arguments, format);
     vsnprintf(said, sizeof said, format, arguments);
     va_end(arguments);
@@ -162,14 +164,42 @@ static void check_open(void) {
 /* What the end with this status returns if the closing of the outputs fails by these errors, and
  * that both are closed. */
 static int ends_with(int status, int output, int messages) {
-    const int before = closed_count = said[0] = 0;
-
-    closed[1] = before;
+    closed_count = said[0] = 0;
     error_of_close[1] = output;
     error_of_close[2] = messages;
     status = b2sum_end(status);
     CHECK(closed_count == 2 && closed[0] == 1 && closed[1] == 2);
     return status;
+}
+
+/* The same once standard input was read, whose closing fails by this error. */
+static int ends_after_input(int status, int input) {
+    closed_count = said[0] = error_of_close[1] = error_of_close[2] = 0;
+    error_of_close[0] = input;
+    says_input = 1;
+    status = b2sum_end(status);
+    says_input = 0;
+    CHECK(closed_count == 3 && closed[0] == 0 && closed[1] == 1 && closed[2] == 2);
+    return status;
+}
+
+/* A file may have the number of standard input, if that was closed at the start. */
+static void check_input(void) {
+    char byte[1];
+
+    next_count = 0;
+    opened_as = 0;
+    CHECK(b2sum_open("a", O_RDONLY) == 0 && b2sum_read(0, byte, 1) == 0);
+    error_of_calls = EIO;
+    CHECK(b2sum_read(0, byte, 1) == -1 && ends_with(0, 0, 0) == 0);
+    error_of_calls = EBADF;
+    CHECK(b2sum_read(9, byte, 1) == -1 && ends_with(0, 0, 0) == 0);
+    CHECK(b2sum_read(0, byte, 1) == -1);
+    error_of_calls = 0;
+    opened_as = 9;
+    CHECK(ends_after_input(0, EBADF) == 1);
+    CHECK(!strcmp(said, "b2sum: standard input: Bad file descriptor\n"));
+    CHECK(ends_after_input(0, 0) == 0 && ends_after_input(1, 0) == 1 && !*said);
 }
 
 static void check_end(void) {
@@ -207,304 +237,230 @@ static void check_read(void) {
     error_of_calls = 0;
 }
 
-/* ---- Large reads. */
-
-enum { MIB = 1 << 20, ALL = 40 * MIB };
-
-/* How many processors there are, or 0 if the system does not say; how many threads were started,
- * and which is not; and the place in a file from which reads fail, with this error, or end (0). */
-static int processors, started, unstarted;
-static off_t bad_place;
-static int bad_error, pread_interrupts;
-
-int __wrap_sched_getaffinity(pid_t pid, size_t size, cpu_set_t *set) {
-    CHECK(pid == 0 && size == sizeof *set);
-    CPU_ZERO(set);
-    for (int i = 0; i < processors; i++) CPU_SET(2 * i, set);
-    return processors ? 0 : -1;
-}
-
-int __real_pthread_create(pthread_t *thread, const void *how, void *(*run)(void *), void *given);
-int __wrap_pthread_create(pthread_t *thread, const void *how, void *(*run)(void *), void *given) {
-    return ++started == unstarted ? EAGAIN : __real_pthread_create(thread, how, run, given);
-}
-
-/* At most 300,001 bytes at a time. */
-ssize_t __real_pread(int file, void *bytes, size_t size, off_t from);
-ssize_t __wrap_pread(int file, void *bytes, size_t size, off_t from) {
-    if (__atomic_fetch_sub(&pread_interrupts, 1, __ATOMIC_RELAXED) > 0) {
-        errno = EINTR;
-        return -1;
-    }
-    if (from >= bad_place) {
-        errno = bad_error;
-        return bad_error ? -1 : 0;
-    }
-    if (size > 300001) size = 300001;
-    if ((off_t)size > bad_place - from) size = (size_t)(bad_place - from);
-    return __real_pread(file, bytes, size, from);
-}
-
-/* The place in a file at which none can be set. */
-static off_t unset_place = -1;
-off_t __real_lseek(int file, off_t place, int whence);
-off_t __wrap_lseek(int file, off_t place, int whence) {
-    return whence == SEEK_SET && place == unset_place ? -1 : __real_lseek(file, place, whence);
-}
-
-/* Whether a read of so many bytes from a place of the file of whole returns these many into bytes,
- * writes no other byte and moves the position. */
-static int reads_into(char *bytes, int file, const char *whole, off_t from, size_t size,
-                      ssize_t wanted) {
-    ssize_t count;
-
-    memset(bytes, '#', size + 1);
-    started = 0;
-    CHECK(lseek(file, from, SEEK_SET) == from);
-    count = b2sum_read(file, bytes, size);
-    return count == wanted && lseek(file, 0, SEEK_CUR) == from + (count > 0 ? count : 0) &&
-           (count <= 0 || !memcmp(bytes, whole + from, (size_t)count)) && bytes[size] == '#';
-}
-
-/* The same, by so many threads that are started. */
-static int reads(int file, const char *whole, off_t from, size_t size, ssize_t wanted,
-                 int threads) {
-    static char bytes[ALL + 1];
-
-    return reads_into(bytes, file, whole, from, size, wanted) && started == threads;
-}
-
-static void check_parts(int file, const char *whole) {
-    for (processors = 2; processors <= 20; processors++) {
-        const int most = processors < 16 ? processors : 16, seven = most < 7 ? most : 7;
-        CHECK(reads(file, whole, 0, ALL, ALL, most - 1));
-        CHECK(reads(file, whole, 12345, 7 * MIB + 7, 7 * MIB + 7, seven - 1));
-        CHECK(reads(file, whole, ALL - 2 * MIB, 2 * MIB, 2 * MIB, 1));
-        CHECK(reads(file, whole, ALL - 2 * MIB - 7, 9 * MIB, 2 * MIB + 7, 1)); /* it ends before */
-    }
-    processors = 4;
-    for (unstarted = 1; unstarted < 4; unstarted++)
-        CHECK(reads(file, whole, 1, 16 * MIB, 16 * MIB, unstarted)); /* none is tried after it */
-    unstarted = 0;
-    pread_interrupts = 50;
-    CHECK(reads(file, whole, 3, 16 * MIB, 16 * MIB, 3));
-    for (bad_error = 0; bad_error < 6; bad_error += EIO) {
-        static const int places[] = {1,           MIB,     4 * MIB - 1, 4 * MIB,
-                                     4 * MIB + 1, 9 * MIB, 16 * MIB - 1};
-        for (size_t i = 0; i < sizeof places / sizeof *places; i++) {
-            bad_place = 5 + places[i];
-            CHECK(reads(file, whole, 5, 16 * MIB, places[i], 3));
-        }
-    }
-    bad_place = ALL;
-}
-
-/* What is read by one thread, by readv, which returns 0 here. */
-static void check_plain(int file, const char *whole) {
-    static char bytes[4 * MIB];
-    int ends[2];
-
-    next_count = 0;
-    CHECK(reads(file, whole, 0, 2 * MIB - 1, 0, 0) && read_from == file);
-    CHECK(reads(file, whole, ALL - 2 * MIB + 1, 4 * MIB, 0, 0)); /* the file ends before */
-    for (processors = 0; processors < 2; processors++)
-        CHECK(reads(file, whole, 0, 4 * MIB, 0, 0));
-    processors = 4;
-    bad_place = 7; /* nothing can be read there, so readv says why */
-    error_of_calls = EIO;
-    CHECK(reads(file, whole, 7, 4 * MIB, -1, 3) && errno == EIO);
-    error_of_calls = 0;
-    bad_place = ALL;
-    started = 0;
-    CHECK(!pipe(ends) && b2sum_read(ends[0], bytes, sizeof bytes) == 0 && started == 0);
-    CHECK(b2sum_read(-1, bytes, sizeof bytes) == 0 && started == 0);
-}
-
 /* ---- Trees. */
 
-void b2sum_update_tree(vulfsjor_tree_state *state, const void *bytes, size_t length);
+/* What the update by threads was called with, by which name; its status, after so many reports. */
+static struct {
+    int count, file, status, reports;
+    unsigned threads;
+    vulfsjor_tree_state *state;
+} update;
+static int absorbed, is_shown; /* calls of the proved functions so far; whether progress is */
 
-/* How many updates were made by threads, and how many by the library alone; whether the first fail;
- * and whether there is no memory. */
-static int updates, plain_updates, status_of_threads, has_no_memory;
+enum { LEAST = 1 << 19 }; /* of a file that threads read */
 
+int vulfsjor_tree_update_fd(vulfsjor_tree_state *S, int fd, unsigned threads,
+                            vulfsjor_progress progress, void *context) {
+    update.count++;
+    update.file = fd;
+    update.threads = threads;
+    update.state = S;
+    CHECK(!progress == !is_shown && !absorbed);
+    for (int i = 1; progress && i <= update.reports; i++) {
+        time_now += 600;
+        CHECK(progress(context, (uint64_t)i << 20) == 0);
+    }
+    CHECK(lseek(fd, 1, SEEK_CUR) > 0);
+    return update.status;
+}
+
+/* What a proved function was called with, and returns. */
+static struct {
+    int build, file;
+    void *source, *buffer;
+    size_t room;
+    vulfsjor_tree_state *state;
+    bool result;
+} proved;
+
+/* The function of a build, and the proved one of its assembly. */
+#define ABSORB(n)                                                                              \
+    bool absorb_##n(void *source, int file, vulfsjor_tree_state *state, void *buffer,          \
+                    size_t room) __asm__("absorb." #n);                                        \
+    bool proved_##n(void *source, int file, vulfsjor_tree_state *state, void *buffer,          \
+                    size_t room) __asm__("proved." #n);                                        \
+    bool proved_##n(void *source, int file, vulfsjor_tree_state *state, void *buffer,          \
+                    size_t room) {                                                             \
+        absorbed++;                                                                            \
+        proved.build = n;                                                                      \
+        proved.source = source;                                                                \
+        proved.file = file;                                                                    \
+        proved.state = state;                                                                  \
+        proved.buffer = buffer;                                                                \
+        proved.room = room;                                                                    \
+        return proved.result;                                                                  \
+    }
+ABSORB(2)
+ABSORB(3)
+ABSORB(4)
+
+/* Whether the function of a build calls the proved one once, with its arguments, and returns what
+ * that returns; and, before that, so many updates by threads, of the same file. */
+static int absorbs(int build, int file, int updates) {
+    static vulfsjor_tree_state state;
+    static char source, buffer[7];
+    bool result;
+
+    memset(&update.count, 0, sizeof update.count);
+    absorbed = 0;
+    result = (build == 2 ? absorb_2 : build == 3 ? absorb_3 : absorb_4)(&source, file, &state,
+                                                                        buffer, sizeof buffer);
+    return absorbed == 1 && proved.build == build && proved.source == &source &&
+           proved.file == file && proved.state == &state && proved.buffer == buffer &&
+           proved.room == sizeof buffer && result == proved.result && update.count == updates &&
+           (!updates || (update.file == file && update.state == &state && update.threads == 0));
+}
+
+/* A file of so many bytes, at this position. */
+static int file_of(off_t length, off_t from) {
+    FILE *stream = tmpfile();
+    const int file = dup(fileno(stream));
+
+    CHECK(!fclose(stream) && !ftruncate(file, length) && lseek(file, from, SEEK_SET) == from);
+    return file;
+}
+
+static void check_trees(void) {
+    const int large = file_of(LEAST + 7, 7), small = file_of(LEAST + 7, 8), none = file_of(0, 9);
+    int ends[2];
+
+    for (int build = 2; build <= 4; build++) {
+        proved.result = build == 3;
+        CHECK(lseek(large, 7, SEEK_SET) == 7 && absorbs(build, large, 1));
+        CHECK(lseek(large, 0, SEEK_CUR) == 8); /* the update is where it stopped */
+    }
+    CHECK(absorbs(2, large, 0) && absorbs(2, small, 0) && absorbs(2, none, 0));
+    CHECK(lseek(small, 0, SEEK_CUR) == 8 && lseek(none, 0, SEEK_CUR) == 9);
+    CHECK(!pipe(ends) && absorbs(2, ends[0], 0) && absorbs(2, -1, 0));
+    proved.result = true;
+    update.status = -1;
+    CHECK(lseek(large, 7, SEEK_SET) == 7 && absorbs(3, large, 1));
+    CHECK(lseek(large, 0, SEEK_CUR) == 7); /* nothing was read */
+    update.status = 0;
+    __real_close(large);
+    __real_close(small);
+    __real_close(none);
+}
+
+/* ---- Secrets. */
+
+void hide_2(void) __asm__("hide.2");
+void hide_3(void) __asm__("hide.3");
+void hide_4(void) __asm__("hide.4");
+void *b2sum_realloc(void *place, size_t size);
+void b2sum_free(void *place);
+
+/* How often the process was hidden, and its core file limited. */
+static int hidden, limited;
+int __wrap_prctl(int option, unsigned long value, ...) {
+    CHECK(option == PR_SET_DUMPABLE && value == 0);
+    hidden++;
+    errno = EINVAL;
+    return -1;
+}
+int __wrap_setrlimit(int resource, const struct rlimit *limit) {
+    CHECK(resource == RLIMIT_CORE && limit->rlim_cur == 0 && limit->rlim_max == 0);
+    limited++;
+    errno = EPERM;
+    return -1;
+}
+
+/* What is in the block that was freed last: its first bytes, all of which it has. */
+enum { SOME = 100 };
+static unsigned char freed[SOME];
+static int is_watched, has_no_memory;
+void __real_free(void *place);
+void __wrap_free(void *place) {
+    if (is_watched) memcpy(freed, place, SOME);
+    __real_free(place);
+}
 void *__real_malloc(size_t size);
 void *__wrap_malloc(size_t size) { return has_no_memory ? NULL : __real_malloc(size); }
 
-int32_t __real_vulfsjor_ffi_tree_update(vulfsjor_tree_state *state, const uint8_t *input,
-                                        size_t length);
-int32_t __wrap_vulfsjor_ffi_tree_update(vulfsjor_tree_state *state, const uint8_t *input,
-                                        size_t length) {
-    plain_updates++;
-    return __real_vulfsjor_ffi_tree_update(state, input, length);
+/* Whether these bytes are all this one. */
+static int are_all(const unsigned char *bytes, size_t length, int byte) {
+    for (size_t i = 0; i < length; i++)
+        if (bytes[i] != byte) return 0;
+    return 1;
 }
 
-int vulfsjor_tree_update_threads(vulfsjor_tree_state *S, const void *in, size_t inlen,
-                                 unsigned threads) {
-    CHECK(threads == 0);
-    updates++;
-    return status_of_threads ? status_of_threads
-                             : __real_vulfsjor_ffi_tree_update(S, vulfsjor_text(in), inlen);
+static unsigned char *block_of(int byte) { return memset(malloc(SOME), byte, SOME); }
+
+/* Whether freed blocks have this in them afterwards, and a block that moves stays what it is. */
+static int frees_as(int byte) {
+    unsigned char *block;
+    int holds;
+
+    is_watched = 1;
+    b2sum_free(block_of('s'));
+    holds = are_all(freed, SOME, byte);
+    memset(freed, byte, SOME);
+    block = b2sum_realloc(block_of('s'), 100 * SOME);
+    holds &= are_all(block, SOME, 's') && are_all(freed, SOME, byte);
+    block = b2sum_realloc(block, SOME);
+    holds &= are_all(block, SOME, 's') && are_all(freed, SOME, byte);
+    block = b2sum_realloc(block, SOME / 2);
+    holds &= are_all(block, SOME / 2, 's') && are_all(freed, SOME, byte);
+    is_watched = 0;
+    b2sum_free(block);
+    return holds;
 }
 
-/* Whether the state, which is not used any more, has absorbed these bytes. */
-static int is_of(vulfsjor_tree_state *state, const char *bytes, size_t length) {
-    const uint32_t leaf = vulfsjor_ffi_tree_leaf_length(state);
-    unsigned char got[64], wanted[64];
+/* Writes to the stack below, and counts what is left of that. */
+enum { DEEP = 20000 };
+__attribute__((noinline)) static void leave_on_stack(void) {
+    unsigned char below[DEEP];
+    volatile unsigned char *place = below;
 
-    return !vulfsjor_tree_final(state, got, 64) &&
-           !vulfsjor_tree_root(wanted, 64, bytes, length, "salt", 4, "", 0, leaf) &&
-           !memcmp(got, wanted, 64);
+    for (int i = 0; i < DEEP; i++) place[i] = 0xA5;
+}
+__attribute__((noinline, no_sanitize("address"))) static int left_on_stack(void) {
+    unsigned char below[DEEP];
+    volatile unsigned char *place = below;
+    int count = 0;
+
+    for (int i = 0; i < DEEP; i++) count += place[i] == 0xA5;
+    return count;
 }
 
-/* A state with leaves of this length that has absorbed the first head bytes of whole. */
-static vulfsjor_tree_state state_after(uint32_t leaf, const char *whole, size_t head) {
-    vulfsjor_tree_state state;
+/* Whether each call of the system wipes the stack, except for holes in frames, or none does. */
+static int wipes_stack(int is_secret) {
+    char bytes[1];
+    int left[3];
 
-    CHECK(!vulfsjor_tree_init(&state, 64, "salt", 4, "", 0, leaf));
-    b2sum_update_tree(&state, whole, head);
-    return state;
+    leave_on_stack();
+    b2sum_open("a", O_RDONLY);
+    left[0] = left_on_stack();
+    leave_on_stack();
+    b2sum_read(5, bytes, 1);
+    left[1] = left_on_stack();
+    closed_count = 0;
+    leave_on_stack();
+    b2sum_end(0);
+    left[2] = left_on_stack();
+    for (int i = 0; i < 3; i++)
+        if (is_secret ? left[i] > DEEP / 50 : left[i] < DEEP / 2) return 0;
+    return 1;
 }
 
-/* The bytes are absorbed by threads or, if that fails, alone. */
-static void check_updates(void) {
-    vulfsjor_tree_state state = state_after(4, "abc", 3);
+/* At the end, since nothing makes the memory visible again. */
+static void check_secrets(void) {
+    unsigned char *block;
 
-    CHECK(updates == 1 && plain_updates == 0);
-    b2sum_update_tree(&state, "defg", 4);
-    CHECK(updates == 2 && plain_updates == 0);
-    status_of_threads = -1;
-    b2sum_update_tree(&state, "h", 1);
-    b2sum_update_tree(&state, "", 0);
-    b2sum_update_tree(&state, "i", 1);
-    CHECK(updates == 5 && plain_updates == 3 && is_of(&state, "abcdefghi", 9));
-    status_of_threads = 0;
-}
-
-/* Reads a file into `ahead` after an update with all before. Returns the state of the update. */
-static char ahead[ALL + 1];
-static vulfsjor_tree_state read_ahead(int file, const char *whole, uint32_t leaf, size_t head,
-                                      size_t size) {
-    vulfsjor_tree_state state = state_after(leaf, whole, head);
-
-    CHECK(reads_into(ahead, file, whole, (off_t)head, size, (ssize_t)size));
-    updates = plain_updates = 0;
-    return state;
-}
-
-/* The threads that read have hashed the leaves too, so that no update has to. */
-static void check_ahead(int file, const char *whole) {
-    static const struct {
-        uint32_t leaf;
-        size_t head, size;
-        int is_hashed;
-    } cases[] = {
-        {65536, 65536, 16 * MIB, 1},
-        {65536, 1, 16 * MIB, 1},
-        {65536, 65535, 16 * MIB - 1, 1},
-        {65536, 0, 2 * MIB, 1},
-        {64, 100, 2 * MIB + 1, 1},
-        {1000, 16 * MIB, 3 * MIB + 5, 1},
-        {MIB, 3, 16 * MIB, 1},
-        {65536, 5, 16 * MIB + 65537, 1},
-        {5 * MIB, 5 * MIB, 16 * MIB, 1},
-        {8 * MIB, 0, 16 * MIB, 0},  /* one whole leaf before the last, for one thread */
-        {20 * MIB, 3, 16 * MIB, 0}, /* none */
-    };
-    vulfsjor_tree_state state;
-
-    for (size_t i = 0; i < sizeof cases / sizeof *cases; i++) {
-        const size_t all = cases[i].head + cases[i].size;
-        for (unstarted = 0; unstarted < 4; unstarted += 2) {
-            state = read_ahead(file, whole, cases[i].leaf, cases[i].head, cases[i].size);
-            b2sum_update_tree(&state, ahead, cases[i].size);
-            CHECK(updates == !cases[i].is_hashed && plain_updates == 0);
-            CHECK(is_of(&state, whole, all));
-        }
-    }
-    unstarted = 0;
-    state = read_ahead(file, whole, 65536, 10, 3 * MIB);
-    b2sum_update_tree(&state, ahead, 3 * MIB);
-    CHECK(reads_into(ahead, file, whole, 3 * MIB + 10, 4 * MIB, 4 * MIB));
-    b2sum_update_tree(&state, ahead, 4 * MIB);
-    CHECK(updates == 0 && is_of(&state, whole, 7 * MIB + 10));
-}
-
-/* They have hashed for nothing if the update is another one. */
-static void check_others(int file, const char *whole) {
-    static char other[ALL];
-    vulfsjor_tree_state state = read_ahead(file, whole, 65536, 10, 3 * MIB), first;
-
-    b2sum_update_tree(&state, ahead, 3 * MIB - 1);
-    CHECK(updates == 1 && is_of(&state, whole, 3 * MIB + 9));
-    state = read_ahead(file, whole, 65536, 10, 3 * MIB);
-    memcpy(other, ahead, 3 * MIB);
-    b2sum_update_tree(&state, other, 3 * MIB);
-    CHECK(updates == 1 && is_of(&state, whole, 3 * MIB + 10));
-    first = state_after(65536, whole, 9);
-    state = read_ahead(file, whole, 65536, 10, 3 * MIB);
-    b2sum_update_tree(&first, ahead, 3 * MIB);
-    memcpy(other, whole, 9);
-    memcpy(other + 9, whole + 10, 3 * MIB);
-    CHECK(updates == 1 && is_of(&first, other, 3 * MIB + 9));
-    state = read_ahead(file, whole, 65536, 10, 3 * MIB);
-    b2sum_update_tree(&state, ahead, 3 * MIB);
-    b2sum_update_tree(&state, ahead, 3 * MIB);
-    memcpy(other, whole, 3 * MIB + 10);
-    memcpy(other + 3 * MIB + 10, whole + 10, 3 * MIB);
-    CHECK(updates == 1 && is_of(&state, other, 6 * MIB + 10));
-}
-
-/* Nothing is hashed after another file was opened, or without memory; and what was hashed before
- * another read is not used, nor if readv has to read again. */
-static void check_unhashed(int file, const char *whole) {
-    vulfsjor_tree_state state = state_after(65536, whole, 10);
-
-    CHECK(opens_as("a", "a") && reads_into(ahead, file, whole, 10, 3 * MIB, 3 * MIB));
-    updates = 0;
-    b2sum_update_tree(&state, ahead, 3 * MIB);
-    CHECK(updates == 1 && is_of(&state, whole, 3 * MIB + 10));
-    state = state_after(65536, whole, 10);
-    CHECK(reads_into(ahead, file, whole, 7 * MIB, 3 * MIB, 3 * MIB));
+    error_of_close[1] = error_of_close[2] = 0;
+    memset(freed, 's', SOME);
+    CHECK(frees_as('s') && wipes_stack(0) && !hidden && !limited);
+    hide_2();
+    CHECK(hidden == 1 && limited == 1);
+    CHECK(frees_as(0) && wipes_stack(1));
+    hide_3();
+    hide_4();
+    CHECK(hidden == 3 && limited == 3);
+    block = block_of('s');
     has_no_memory = 1;
-    CHECK(reads_into(ahead, file, whole, 10, 3 * MIB, 3 * MIB));
-    has_no_memory = updates = 0;
-    b2sum_update_tree(&state, ahead, 3 * MIB);
-    CHECK(updates == 1 && is_of(&state, whole, 3 * MIB + 10));
-    state = state_after(65536, whole, 10);
-    unset_place = (next_count = 3 * MIB) + 10;
-    CHECK(lseek(file, 10, SEEK_SET) == 10 && b2sum_read(file, ahead, 3 * MIB) == 3 * MIB);
-    updates = next_count = 0;
-    b2sum_update_tree(&state, ahead, 3 * MIB);
-    CHECK(updates == 1 && ahead[0] == 'r');
-    unset_place = -1;
-    for (bad_place = 10; bad_place < 3 * MIB + 10; bad_place += MIB / 2 - 3) {
-        const ssize_t count = bad_place - 10;
-        state = state_after(65536, whole, 10);
-        CHECK(reads_into(ahead, file, whole, 10, 3 * MIB, count));
-        updates = 0;
-        b2sum_update_tree(&state, ahead, (size_t)count);
-        CHECK(updates == 1 && is_of(&state, whole, (size_t)bad_place));
-    }
-    bad_place = ALL;
-}
-
-static void check_large(void) {
-    static char whole[ALL];
-    FILE *stream = tmpfile();
-    unsigned next = 1;
-
-    for (size_t i = 0; i < ALL; i++)
-        whole[i] = (char)((next = next * 1664525u + 1013904223u) >> 24);
-    bad_place = ALL;
-    CHECK(stream && fwrite(whole, 1, ALL, stream) == ALL && !fflush(stream));
-    check_parts(fileno(stream), whole);
-    check_plain(fileno(stream), whole);
-    check_updates();
-    check_ahead(fileno(stream), whole);
-    check_others(fileno(stream), whole);
-    check_unhashed(fileno(stream), whole);
-    fclose(stream);
+    CHECK(!b2sum_realloc(block, 1) && are_all(block, SOME, 's'));
+    has_no_memory = 0;
+    free(block);
 }
 
 /* ---- Progress. */
@@ -512,7 +468,7 @@ static void check_large(void) {
 /* Reads so many bytes at this time, and returns whether that writes these. Of many bytes only the
  * number is known. */
 static int shows(long long at, ssize_t count, const char *wanted) {
-    static char bytes[MIB];
+    static char bytes[1 << 20];
     int is_same;
 
     time_now = at;
@@ -576,6 +532,9 @@ int checks(void) {
     const char *wanted = getenv("SHOWS");
 
     is_terminal = !getenv("NO_TERMINAL");
+    is_shown = is_terminal && wanted;
+    check_end();
+    if (!wanted) check_input();
     if (wanted) {
         check_progress();
         check_length();
@@ -584,10 +543,10 @@ int checks(void) {
         CHECK(shows(1000, 1, "") && shows(9000, 1, "") && shows(9999, 0, ""));
     }
     check_open();
-    check_end();
     check_signal();
     check_read();
-    if (!is_terminal) check_large(); /* once, since it takes long */
+    check_trees();
     CHECK(!strcmp(written, ""));
+    check_secrets();
     return fails ? 1 : 7;
 }

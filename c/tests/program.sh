@@ -12,14 +12,16 @@ functions_of_program() {
 
 # ../b2sum.c over its tests, with progress that is to be shown, and with progress that is not.
 functions_of_b2sum() {
-    local words build=v2 text=$dist/x86_64/vulfsjor-v2.s
-    local calls=openat,readv,isatty,clock_gettime,write,pread,pthread_create,sched_getaffinity
-    calls+=,lseek,malloc,vulfsjor_ffi_tree_update,posix_fadvise,close,dprintf
+    local words names build=v2 text=$dist/x86_64/vulfsjor-v2.s
+    local calls=openat,readv,isatty,clock_gettime,write,posix_fadvise,close,dprintf
+    calls+=,prctl,setrlimit,malloc,free
     is_x86 || build=arm text=$dist/aarch64/vulfsjor.s
-    cc -O2 -g "${warnings[@]}" -DMAIN=checks "-Wl,--wrap=${calls//,/,--wrap=}" \
+    names=(-D{ABSORB_TREE=absorb,PROVED_TREE=proved,HIDE_MEMORY=hide}.2
+        -D{ABSORB_TREE_V3=absorb,PROVED_TREE_V3=proved,HIDE_MEMORY_V3=hide}.3
+        -D{ABSORB_TREE_V4=absorb,PROVED_TREE_V4=proved,HIDE_MEMORY_V4=hide}.4)
+    cc -O2 -g "${warnings[@]}" -DMAIN=checks "${names[@]}" "-Wl,--wrap=${calls//,/,--wrap=}" \
         "-I$here/include" "-DCHOOSE_ONE=$build" "$here"/{b2,b2sum,choose}.c \
-        "$(with_macros "$text")" "$tests/b2sum.c" -pthread \
-        -o "$work/sums" "$@" || return
+        "$(with_macros "$text")" "$tests/b2sum.c" -o "$work/sums" "$@" || return
     for words in --progress "a-longer-word --prog" "--pr --"; do
         SHOWS=1 timeout 60 "$work/sums" $words
         [ $? -eq 7 ] || return

@@ -30,8 +30,7 @@ FINALIZE = "blake2_ffi..%s..finalize"
 IS_DIGEST_OF = "blake2_ffi..%s..is_digest_of"
 
 LIBRARY = (ONE_B, MANY_B, ONE_S, MANY_S, EACH_B, EACH_S, STRIPES_B, STRIPES_S)
-PROGRAM = (ONE_B, MANY_B, ONE_S)       # b2 hashes several messages with BLAKE2b only
-ONE = (ONE_B, ONE_S)                   # and b2sum by functions of the library
+PROGRAM = (ONE_B, MANY_B, ONE_S)       # b2 and b2sum hash several messages with BLAKE2b only
 FILES = {
     "dist/x86_64/vulfsjor-v4.s": LIBRARY + (EIGHT_B,),
     "dist/x86_64/vulfsjor-v3.s": LIBRARY,
@@ -39,12 +38,12 @@ FILES = {
     "dist/aarch64/vulfsjor.s": LIBRARY,
     "dist/x86_64/b2-v4.s": PROGRAM + (EIGHT_B,),
     "dist/x86_64/b2-v3.s": PROGRAM,
-    "dist/x86_64/b2-v2.s": ONE,
+    "dist/x86_64/b2-v2.s": (ONE_B, ONE_S),
     "dist/aarch64/b2.s": PROGRAM,
-    "dist/x86_64/b2sum-v4.s": ONE,
-    "dist/x86_64/b2sum-v3.s": ONE,
-    "dist/x86_64/b2sum-v2.s": ONE,
-    "dist/aarch64/b2sum.s": ONE,
+    "dist/x86_64/b2sum-v4.s": PROGRAM + (EIGHT_B,),
+    "dist/x86_64/b2sum-v3.s": PROGRAM,
+    "dist/x86_64/b2sum-v2.s": (ONE_B, ONE_S),
+    "dist/aarch64/b2sum.s": PROGRAM,
     "dist/wasm/vulfsjor.wasm": LIBRARY,
     "js/src/wasm.js": LIBRARY,
 }

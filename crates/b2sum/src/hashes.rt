@@ -1,13 +1,16 @@
 //! BLAKE2 as the hash functions of the commands.
 
-ghost use Rattle.std.specs.Prelude.{◌≡◌, ◌↔◌, ℕ, ◌+◌, ◌<◌, ◌≤◌, ◌^◌, List, length, take, IsTrue};
+ghost use Rattle.std.specs.Prelude.{◌≡◌, ◌↔◌, ℕ, ◌<◌, List, length, take, IsTrue};
 ghost use Rattle.std.specs.Prelude.{OnOk, true, false};
 ghost use Rattle.std.specs.Result.{IsErrOf};
 ghost use Rattle.blake2_replay.specs.Streams.{GivesAll};
 ghost use Rattle.blake2_simd.specs.Family.{blake2b, blake2s};
 ghost use Rattle.blake2_compress.specs.Hash.{sequential};
-ghost use Rattle.blake2_state.specs.Arguments.{digest_given};
-ghost use Rattle.blake2_state.specs.TreeStates.{IsReady as IsReadyTree, IsAsOpened, Took, count};
+ghost use Rattle.blake2_digest.specs.States.{Fresh};
+ghost use Rattle.blake2_state.specs.Arguments.{digest_given, given_count};
+ghost use Rattle.blake2_state.specs.Blake2b.{IsReady as IsReady2b, meaning as meaning2b};
+ghost use Rattle.blake2_state.specs.Blake2s.{IsReady as IsReady2s, meaning as meaning2s};
+ghost use Rattle.blake2_state.specs.TreeStates.{IsReady as IsReadyTree, Took};
 ghost use Rattle.blake2_tree.specs.TreeRoot.{tree_parameters, tree_root};
 ghost use Rattle.b2sum.specs.Digests.{digest_with};
 
@@ -26,9 +29,8 @@ pub struct Blake2;
 // The number of bytes that one read requests.
 const PIECE_BYTES: usize = 1 << 16;
 
-// The number of bytes that one read for a tree requests: many leaves, which `c/b2sum.c` hashes by
-// threads.
-const TREE_PIECE_BYTES: usize = 1 << 24;
+// The number of bytes that one read for a tree requests: many leaves.
+const TREE_PIECE_BYTES: usize = 1 << 20;
 
 impl Hashes for Blake2 {
     ghost use Rattle.b2sum.specs.Digests.{digest_with};
@@ -64,18 +66,59 @@ impl Hashes for Blake2 {
     }
 }
 
-// Absorbs a piece. It is a separate function in the text, so that `c/b2sum.c` can hash the leaves
-// of a piece by threads.
+// Absorbs what the source returns, to its end. Returns whether it got there: otherwise a read has
+// failed, or the tree would have 2^58 bytes. It is a separate function in the text, so that
+// `c/b2sum.c` can take its place, and read the file of this number by threads.
 #[inline(never)]
-fn update_tree(state: &mut TreeState, piece: &[u8])
+fn absorb_tree<S: OpenFile>(
+    source: &mut S,
+    number: i32,
+    state: &mut TreeState,
+    buffer: &mut [u8],
+) -> bool
+    requires source { S.failed source.old ≡ false }
+    requires room { 0 < length buffer.old }
     requires ready { IsReadyTree state.old }
-    requires counted { count state.old + length piece.now < 2 ^ 58 }
     ensures ready { IsReadyTree state.new }
     ensures size { state.new.root.output_size ≡ state.old.root.output_size }
-    ensures taken { Took state.old piece.now state.new }
-    ensures opened { IsAsOpened state.old → IsAsOpened state.new }
+    ensures failed { IsTrue (S.failed source.new) → result ≡ false }
+    ensures whole { result ≡ true → (text : List ℕ)
+        × GivesAll (S.left source.old) (S.left source.new) text
+        × Took state.old text state.new }
 {
-    state.update(piece);
+    let mut room = MESSAGE_LIMIT - 1 - state.counted();
+    'reading: loop {
+        let Ok(count) = source.read(buffer) else {
+            return false;
+        };
+        if count == 0 {
+            break;
+        }
+        let piece = &buffer[..count];
+        tell_bytes(piece);
+        if count as u64 > room {
+            return false;
+        }
+        state.update(piece);
+        room -= count as u64;
+    }
+    true
+}
+
+// Initializes a state. Returns whether the parameters are accepted. It has a separate frame, so
+// that what it leaves of a key on the stack is below the next read, where `c/b2sum.c` wipes it.
+#[inline(never)]
+fn start_blake2b(state: &mut blake2b::State, given: &StateParameters<'_>) -> bool
+    ensures ready { result ≡ true → IsReady2b state.new }
+    ensures size { result ≡ true → state.new.output_size ≡ given.now.output_size }
+    ensures fresh { result ≡ true → Fresh meaning2b (digest_given blake2b given.now sequential)
+        (given_count blake2b given.now.key.now) state.new }
+{
+    let Ok(started) = blake2b::State::init_salt_personal(given) else {
+        return false;
+    };
+    *state = started;
+    true
 }
 
 fn digest_blake2b<S: Source>(
@@ -92,9 +135,10 @@ fn digest_blake2b<S: Source>(
         × (take given.now.output_size out.new
         ≡ digest_given blake2b given.now sequential false text)) }
 {
-    let Ok(mut state) = blake2b::State::init_salt_personal(given) else {
+    let mut state = blake2b::State::zeros();
+    if !start_blake2b(&mut state, given) {
         return Err(StreamFault::TooLong);
-    };
+    }
     let mut room = u64::MAX - state.counted();
     'reading: loop {
         let Ok(count) = source.read(buffer) else {
@@ -113,6 +157,20 @@ fn digest_blake2b<S: Source>(
     }
     state.write_digest(&mut out[..]);
     Ok(())
+}
+
+#[inline(never)]
+fn start_blake2s(state: &mut blake2s::State, given: &StateParameters<'_>) -> bool
+    ensures ready { result ≡ true → IsReady2s state.new }
+    ensures size { result ≡ true → state.new.output_size ≡ given.now.output_size }
+    ensures fresh { result ≡ true → Fresh meaning2s (digest_given blake2s given.now sequential)
+        (given_count blake2s given.now.key.now) state.new }
+{
+    let Ok(started) = blake2s::State::init_salt_personal(given) else {
+        return false;
+    };
+    *state = started;
+    true
 }
 
 fn digest_blake2s<S: Source>(
@@ -129,9 +187,10 @@ fn digest_blake2s<S: Source>(
         × (take given.now.output_size out.new
         ≡ digest_given blake2s given.now sequential false text)) }
 {
-    let Ok(mut state) = blake2s::State::init_salt_personal(given) else {
+    let mut state = blake2s::State::zeros();
+    if !start_blake2s(&mut state, given) {
         return Err(StreamFault::TooLong);
-    };
+    }
     let mut room = u64::MAX - state.counted();
     'reading: loop {
         let Ok(count) = source.read(buffer) else {
@@ -152,7 +211,7 @@ fn digest_blake2s<S: Source>(
     Ok(())
 }
 
-fn digest_tree<S: Source>(
+fn digest_tree<S: OpenFile>(
     leaf: u32,
     given: &StateParameters<'_>,
     source: &mut S,
@@ -161,7 +220,6 @@ fn digest_tree<S: Source>(
 ) -> Result<(), StreamFault>
     requires source { S.failed source.old ≡ false }
     requires room { 0 < length buffer.old }
-    requires most { length buffer.old ≤ 2 ^ 24 }
     ensures read { IsErrOf result StreamFault.Read ↔ IsTrue (S.failed source.new) }
     ensures whole { OnOk result ((text : List ℕ)
         × GivesAll (S.left source.old) (S.left source.new) text
@@ -171,22 +229,14 @@ fn digest_tree<S: Source>(
     let Ok(mut state) = TreeState::new(given.output_size, given.salt, given.persona, leaf) else {
         return Err(StreamFault::TooLong);
     };
-    let mut room = MESSAGE_LIMIT - 1;
-    'reading: loop {
-        let Ok(count) = source.read(buffer) else {
-            return Err(StreamFault::Read);
-        };
-        if count == 0 {
-            break;
-        }
-        let piece = &buffer[..count];
-        tell_bytes(piece);
-        if count as u64 > room {
-            return Err(StreamFault::TooLong);
-        }
-        update_tree(&mut state, piece);
-        room -= count as u64;
+    let number = source.number();
+    if absorb_tree(source, number, &mut state, buffer) {
+        state.write_root(&mut out[..]);
+        return Ok(());
     }
-    state.write_root(&mut out[..]);
-    Ok(())
+    if source.failed() {
+        Err(StreamFault::Read)
+    } else {
+        Err(StreamFault::TooLong)
+    }
 }

@@ -8,8 +8,8 @@ use Rattle.b2sum.proofs.hashes.digest_blake2s.Goals as goal
 pub reading-preserved : goal.reading-preserved
 reading-preserved g c =
     let before = c.reading.invariant.passed in
-    let read = c.in-Ok-read.ensures in
-    let piece = take c.in-Ok-read.count c.read.new.buf in
+    let read = c.in-Ok.ensures in
+    let piece = take c.in-Ok.count c.read.new.buf in
     record {
       unfailed = read.fails ∙ ap (λ b. b || false) c.reading.invariant.unfailed;
       room = omega (arith, c.update.ensures.updated.count, read.bound.1, c.reading.invariant.room);

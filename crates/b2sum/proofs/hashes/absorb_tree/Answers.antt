@@ -2,23 +2,23 @@ use Rattle.std.proofs.Common.{◌∙◌, ap, false, ◌||◌, arith, take, ◌++
 use Rattle.std.proofs.KnownBytes.{Consumes-trans}
 use Rattle.blake2_digest.proofs.Texts.{AreBytes-append}
 use Rattle.b2sum.proofs.Updates.{Took-trans}
-use Rattle.b2sum.proofs.hashes.digest_tree.Goals as goal
+use Rattle.b2sum.proofs.hashes.absorb_tree.Goals as goal
 
 pub reading-preserved : goal.reading-preserved
 reading-preserved g c =
     let before = c.reading.invariant.passed in
-    let read = c.in-Ok-read.ensures in
-    let piece = take c.in-Ok-read.count c.read.new.buf in
+    let read = c.in-Ok.ensures in
+    let piece = take c.in-Ok.count c.read.new.buf in
     record {
       unfailed = read.fails ∙ ap (λ b. b || false) c.reading.invariant.unfailed;
-      room = omega (arith, c.update_tree.ensures.taken.count, read.bound.1, c.reading.invariant.room);
+      room = omega (arith, c.update.ensures.taken.count, read.bound.1, c.reading.invariant.room);
       buffer = omega (arith, c.read.auto.buf, c.reading.invariant.buffer);
-      ready = c.update_tree.ensures.ready;
-      size = c.update_tree.ensures.size ∙ c.reading.invariant.size;
+      ready = c.update.ensures.ready;
+      size = c.update.ensures.size ∙ c.reading.invariant.size;
       passed = (
         before.0 ++ piece,
         AreBytes-append before.0 piece before.1 c.tell_bytes.ensures,
         Consumes-trans _ _ _ before.0 piece before.2 read.bytes.0,
-        Took-trans _ _ _ before.0 piece before.3 c.update_tree.ensures.taken,
+        Took-trans _ _ _ before.0 piece before.3 c.update.ensures.taken,
       );
     }

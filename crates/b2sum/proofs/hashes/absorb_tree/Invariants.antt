@@ -2,7 +2,7 @@ use Rattle.std.proofs.Common.{◌≡◌, ◌+◌, ◌^◌, ◌-◌, ◌<◌, Lis
 use Rattle.std.specs.Io.KnownBytes.{Consumes}
 use Rattle.blake2_digest.specs.Texts.{AreBytes}
 use Rattle.blake2_state.specs.TreeStates.{IsReady, Took, count}
-use Rattle.b2sum.proofs.hashes.digest_tree.Given as goal
+use Rattle.b2sum.proofs.hashes.absorb_tree.Given as goal
 
 abbrev pub invariant-reading : goal.invariant-reading
 invariant-reading g l = record {
@@ -10,10 +10,10 @@ invariant-reading g l = record {
   room : count l.state + l.room ≡ 2 ^ 58 - 1;
   buffer : 0 < length l.buffer;
   ready : IsReady l.state;
-  size : l.state.root.output_size ≡ l.given.output_size;
+  size : l.state.root.output_size ≡ l.fn.state.root.output_size;
   passed : (text : List ℕ) × AreBytes text
       × Consumes (g.S.Source.left l.fn.source) (g.S.Source.left l.source) text
-      × Took l.initial.state text l.state;
+      × Took l.fn.state text l.state;
 }
 
 abbrev pub decreases-reading : goal.decreases-reading
