@@ -4,8 +4,8 @@
 Two tables, as Markdown on standard output, in 10^9 bytes a second by the clock, by 1, 2 and 4 threads:
 
 - memory: vulfsjor_tree_root_threads, and its ratio to vulfsjor_tree_root, which is one call in one thread.
-- file: vulfsjor_tree_root_file next to `b3sum`, and, with one thread, `b2 tree` and `b2sum`. A program is timed with
-  its start.
+- file: vulfsjor_tree_root_file next to `b2sum --tree` and `b3sum`, and, with one thread, `b2 tree` and `b2sum`. A
+  program is timed with its start.
 
 With --write both go into docs/SPEED.md, between the two marks for threads. Each root is first compared with hashlib's.
 Then the candidates of a table are timed in turns, and the best time of each counts. Leaves have 64 KiB.
@@ -102,16 +102,24 @@ def memory_table(found, message, wanted, turns):
                  "`vulfsjor_tree_root`")
 
 
+def built(name):
+    """The program of this name, built from dist/."""
+    program = os.path.join(OUT, name)
+    if not speed.outcome([os.path.join(TOP, name), "--build", program])[0]:
+        sys.exit(f"threads: ./{name} --build failed")
+    return program
+
+
 def file_table(found, path, length, wanted, turns):
     """The table of roots and digests of a file."""
-    program = os.path.join(OUT, "b2")
-    if not speed.outcome([os.path.join(TOP, "b2"), "--build", program])[0]:
-        sys.exit("threads: ./b2 --build failed")
-    command = [program, "tree", "b512", str(LEAF)]
+    command = [built("b2"), "tree", "b512", str(LEAF)]
+    sums = [built("b2sum"), "--no-names", "--tree", str(LEAF), path, "--threads"]
     timers = {("`b2 tree`", 1): clocked(lambda: printed(command, path), wanted.hex())}
     for threads in THREADS:
         by_threads = functools.partial(found["vulfsjor_tree_root_file"], os.fsencode(path), threads=threads)
         timers["`vulfsjor_tree_root_file`", threads] = clocked(by_threads, wanted)
+        words = [*sums, str(threads)]
+        timers["`b2sum --tree`", threads] = clocked(lambda words=words: printed(words), wanted.hex())
         if shutil.which("b3sum"):
             words = ["b3sum", "--num-threads", str(threads), path]
             timers["`b3sum`", threads] = clocked(lambda words=words: printed(words))

@@ -307,19 +307,19 @@ static void absorb(int file, unsigned threads, vulfsjor_tree_state *state) {
     if (lseek(file, from, SEEK_SET) != from) abort();
 }
 
-/* The source, its descriptor, the tree, and room for a piece. */
+/* The source, its descriptor, the number of threads, the tree, and room for a piece. */
 #define ARGUMENTS \
-    void *source, int file, vulfsjor_tree_state *state, void *room, size_t size
+    void *source, int file, unsigned threads, vulfsjor_tree_state *state, void *room, size_t size
 
 /* The function of this name of the assembly file; the proved one, which reads the source to its end
  * in one thread, has the other name. It does that after the threads too: it reads what they could
  * not, or finds the end. */
-#define ABSORB(function, name, proved)                             \
-    HIDDEN bool function(ARGUMENTS) __asm__(name);                 \
-    HIDDEN bool function##_proved(ARGUMENTS) __asm__(proved);      \
-    bool function(ARGUMENTS) {                                     \
-        absorb(file, 0, state);                                    \
-        return function##_proved(source, file, state, room, size); \
+#define ABSORB(function, name, proved)                                      \
+    HIDDEN bool function(ARGUMENTS) __asm__(name);                          \
+    HIDDEN bool function##_proved(ARGUMENTS) __asm__(proved);               \
+    bool function(ARGUMENTS) {                                              \
+        absorb(file, threads, state);                                       \
+        return function##_proved(source, file, threads, state, room, size); \
     }
 
 ABSORB(b2sum_absorb, TEXT(ABSORB_TREE), TEXT(PROVED_TREE))

@@ -8,15 +8,16 @@ _b2sum() {
         -a | --algorithm) words="blake2b blake2s" ;;
         -l | --length) words="128 160 224 256 384 512" ;;
         --tree) words="65536" ;;
-        --personal | --salt) return ;;
+        --personal | --salt | --threads) return ;;
         *)
             if [[ $word != -* ]]; then
                 compopt -o filenames
                 mapfile -t COMPREPLY < <(compgen -f -- "$word")
                 return
             fi
-            words="--algorithm --binary --check --help --ignore-missing --key-file --length --personal
-                --progress --quiet --salt --status --strict --tag --text --tree --version --warn --zero"
+            words="--algorithm --binary --check --help --ignore-missing --key-file --length --no-names
+                --personal --progress --quiet --raw --salt --status --strict --tag --text --threads --tree
+                --version --warn --zero"
             ;;
     esac
     mapfile -t COMPREPLY < <(compgen -W "$words" -- "$word")

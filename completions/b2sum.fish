@@ -6,10 +6,13 @@ complete -c b2sum -s l -l length -x -a '128 160 224 256 384 512' -d 'length of t
 complete -c b2sum -l tag -d 'print lines that name the algorithm'
 complete -c b2sum -s t -l text -d 'print a space before each name'
 complete -c b2sum -s z -l zero -d 'end each line with a zero byte'
+complete -c b2sum -l no-names -d 'print digits only'
+complete -c b2sum -l raw -d 'print the bytes of a digest'
 complete -c b2sum -l key-file -r -d 'use the key in a file'
 complete -c b2sum -l personal -x -d personalization
 complete -c b2sum -l salt -x -d salt
 complete -c b2sum -l tree -x -a 65536 -d 'hash a tree with leaves of so many bytes'
+complete -c b2sum -l threads -x -d 'hash a tree by so many threads'
 complete -c b2sum -l progress -d 'show the progress on a terminal'
 complete -c b2sum -l ignore-missing -d 'do not fail for missing files'
 complete -c b2sum -l quiet -d 'do not print OK'

@@ -33,22 +33,30 @@ CALLS = {"readv": errno.EIO, "openat": errno.EACCES, "write": errno.ENOSPC, "mal
 # Wrong arguments, and what is said of them.
 WRONG = {
     "--salt 0": "invalid salt: '0'\nthe value is not hexadecimal digits, two for each byte",
-    "--personal zz": "invalid personal: 'zz'\nthe value is not hexadecimal digits, two for each byte",
+    "--personal zz": "invalid personalization: 'zz'\nthe value is not hexadecimal digits, two for each byte",
     "--salt " + "00" * 17: "the salt is too long: at most 16 bytes, 8 for BLAKE2s",
-    "--personal " + "00" * 17: "the personal is too long: at most 16 bytes, 8 for BLAKE2s",
+    "--personal " + "00" * 17: "the personalization is too long: at most 16 bytes, 8 for BLAKE2s",
     "-a blake2s --salt " + "00" * 9: "the salt is too long: at most 16 bytes, 8 for BLAKE2s",
-    "-a blake2s --personal " + "00" * 9: "the personal is too long: at most 16 bytes, 8 for BLAKE2s",
+    "-a blake2s --personal " + "00" * 9: "the personalization is too long: at most 16 bytes, 8 for BLAKE2s",
     "-a blake2s -l 264": "invalid length: '264'\nmaximum digest length for 'BLAKE2s' is 256 bits",
     "--tree 0": "invalid leaf length: '0'\na leaf has 1 to 4294967295 bytes",
     "--tree 4294967296": "invalid leaf length: '4294967296'\na leaf has 1 to 4294967295 bytes",
     "--tree 4k": "invalid leaf length: '4k'\na leaf has 1 to 4294967295 bytes",
+    "--threads x": "invalid number of threads: 'x'\nthe value is not a number of threads, or 0 for all processors",
+    "--threads 4294967296": "invalid number of threads: '4294967296'\n"
+                            "the value is not a number of threads, or 0 for all processors",
+    "--raw --tag": "--tag does not support --no-names and --raw",
+    "--no-names --tag": "--tag does not support --no-names and --raw",
+    "-c --raw": "the --no-names and --raw options are meaningless when verifying checksums",
+    "-c --no-names": "the --no-names and --raw options are meaningless when verifying checksums",
+    "--raw a": "the --raw option needs one file",
+    "--key-file - a -": "standard input is the key, and cannot be a file too",
     "--tree 4 -a blake2s": "the --tree option supports blake2b only",
     "--tree 4 --key-file b": "the --tree option does not support --key-file",
     "--tree 4 --text": "--tree does not support --text mode",
 }
-# A key is in the options and, while a file is read, in the state: in its pending block and in that of a reset. Two more
-# copies may be in what the frames of running functions do not use.
-MOST_COPIES = 5
+# A key is in the options and, while a file is read, in the state: in its pending block and in that of a reset.
+MOST_COPIES = 3
 FILES = {"a": b"", "b": b"abc", "with\nline": b"x" * 1000, "caf\udcff": bytes(range(256)) * 5}
 
 
@@ -260,6 +268,44 @@ def test_secrets(runs):
     runs.ends("keys in memory")
 
 
+def test_shapes(runs):
+    """Digits and bytes without names, as b3sum's users know them."""
+    digest = hashlib.blake2b(b"abc", digest_size=32)
+    for words, shown in ((["--no-names"], digest.hexdigest().encode() + b"\n"), (["--raw"], digest.digest()),
+                         (["--no-names", "--zero"], digest.hexdigest().encode() + b"\0"),
+                         (["--raw", "--no-names", "-b", "-z"], digest.digest())):
+        for more, data in ((["b"], b""), ([], b"abc"), (["-"], b"abc")):
+            got = runs.run(["-l", "256", *words, *more], data)
+            runs.holds([*words, *more], got == (shown, b"", 0), got)
+    runs.wants(["--no-names", *FILES], "".join(hashlib.blake2b(data).hexdigest() + "\n" for data in FILES.values()))
+    runs.wants(["--no-names", "--tree", "2", "b"], root(b"abc", 2, 64).hex() + "\n")
+    runs.wants(["--no-names", "none", "b"], hashlib.blake2b(b"abc").hexdigest() + "\n",
+               f"none: {os.strerror(errno.ENOENT)}", 1)
+    got = runs.run(["--raw", "none"])
+    runs.holds("--raw none", got == (b"", f"b2sum: none: {os.strerror(errno.ENOENT)}\n".encode(), 1), got)
+    for words in (["--raw", "a", "b"], ["--raw", "a", "a"]):
+        runs.wants(words, "", "the --raw option needs one file", 1, Try=1)
+    runs.ends("digits and bytes without names")
+
+
+def test_key_input(runs):
+    """A key on standard input, all of it; then no file can be standard input."""
+    key = bytes(range(64))
+    for some in (key, key[:1], b"key\n"):
+        runs.wants(["--key-file", "-", "b", "a"], line("b", b"abc", key=some) + line("a", b"", key=some), data=some)
+        runs.write("sums", line("b", b"abc", key=some).encode())
+        runs.wants(["-c", "--key-file=-", "sums"], "b: OK\n", data=some)
+    for some in (b"", bytes(65), bytes(1000)):
+        runs.wants(["--key-file", "-", "b"], "", "-: a key has 1 to 64 bytes", 1, data=some)
+    runs.wants(["-a", "blake2s", "--key-file", "-", "b"], "", "-: a key of BLAKE2s has 1 to 32 bytes", 1, data=key)
+    said = "standard input is the key, and cannot be a file too"
+    for words in ([], ["-"], ["b", "-"], ["-c"], ["-c", "-"]):
+        runs.wants(["--key-file", "-", *words], "", said, 1, data=key, Try=1)
+    runs.wants(["-c", "--key-file", "-", "sums"], "", f"-: {os.strerror(errno.EISDIR)}", 1,
+               stdin=os.open(runs.folder, os.O_RDONLY))
+    runs.ends("keys on standard input")
+
+
 def test_demanded_lengths(runs):
     """Under a key, and with a length, a check counts only digests of that length: nobody can make a short one."""
     runs.write("key", bytes(range(32)))
@@ -316,6 +362,8 @@ def test_trees(runs):
         some = sorted(os.sched_getaffinity(0))[:count]
         runs.wants(["--tree", "65536", "big", "big"], root_line("big", big, 65536) * 2,
                    preexec_fn=lambda some=some: os.sched_setaffinity(0, some))
+    for count in (0, 1, 2, 3, 256, 257, 4294967295):
+        runs.wants(["--tree", "65536", "--threads", str(count), "big"], root_line("big", big, 65536))
     runs.wants(["--tree=65536", "--salt", "0102", "--personal=ff", "big"],
                root_line("big", big, 65536, salt=b"\1\2", person=b"\xff"))
     for text in (line("b", b"abc"), line("b", b"abc", tag=True), root_line("b", b"abc", 5),
@@ -375,7 +423,8 @@ def test_differences(runs):
     runs.write(deep + "\udcff\udcff\udcff", b"")
     said = runs.run([deep + "\udcff\udcff\udcff"])
     runs.holds("a long name", said[2] == 1 and os.fsencode(os.strerror(errno.ENAMETOOLONG)) in said[1], said)
-    for option, possible in (("--s", "'--status' '--strict' '--salt'"), ("--t", "'--tag' '--text' '--tree'")):
+    for option, possible in (("--s", "'--status' '--strict' '--salt'"),
+                             ("--t", "'--tag' '--text' '--tree' '--threads'")):
         runs.wants([option], "", f"option '{option}' is ambiguous; possibilities: {possible}", 1, Try=1)
     runs.ends("the differences from coreutils")
 
@@ -609,9 +658,9 @@ def said(call, error, err):
     return os.fsencode(os.strerror(error)) in err or b"read error" in err
 
 
-COMPUTING = (test_lengths, test_parameters, test_demanded_lengths, test_trees)
-TESTS = (*COMPUTING, test_names, test_coreutils, test_differences, test_system, test_changes, test_outputs,
-         test_pipes, test_closing, test_progress, test_large, test_memory, test_secrets, test_faults)
+COMPUTING = (test_lengths, test_parameters, test_demanded_lengths, test_shapes, test_trees)
+TESTS = (*COMPUTING, test_names, test_coreutils, test_differences, test_key_input, test_system, test_changes,
+         test_outputs, test_pipes, test_closing, test_progress, test_large, test_memory, test_secrets, test_faults)
 FAULTY = (test_changes, test_closing, test_secrets, test_faults)
 
 

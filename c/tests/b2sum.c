@@ -267,6 +267,7 @@ int vulfsjor_tree_update_fd(vulfsjor_tree_state *S, int fd, unsigned threads,
 /* What a proved function was called with, and returns. */
 static struct {
     int build, file;
+    unsigned threads;
     void *source, *buffer;
     size_t room;
     vulfsjor_tree_state *state;
@@ -275,16 +276,17 @@ static struct {
 
 /* The function of a build, and the proved one of its assembly. */
 #define ABSORB(n)                                                                              \
-    bool absorb_##n(void *source, int file, vulfsjor_tree_state *state, void *buffer,          \
-                    size_t room) __asm__("absorb." #n);                                        \
-    bool proved_##n(void *source, int file, vulfsjor_tree_state *state, void *buffer,          \
-                    size_t room) __asm__("proved." #n);                                        \
-    bool proved_##n(void *source, int file, vulfsjor_tree_state *state, void *buffer,          \
-                    size_t room) {                                                             \
+    bool absorb_##n(void *source, int file, unsigned threads, vulfsjor_tree_state *state,      \
+                    void *buffer, size_t room) __asm__("absorb." #n);                                        \
+    bool proved_##n(void *source, int file, unsigned threads, vulfsjor_tree_state *state,      \
+                    void *buffer, size_t room) __asm__("proved." #n);                                        \
+    bool proved_##n(void *source, int file, unsigned threads, vulfsjor_tree_state *state,      \
+                    void *buffer, size_t room) {                                                             \
         absorbed++;                                                                            \
         proved.build = n;                                                                      \
         proved.source = source;                                                                \
         proved.file = file;                                                                    \
+        proved.threads = threads;                                                              \
         proved.state = state;                                                                  \
         proved.buffer = buffer;                                                                \
         proved.room = room;                                                                    \
@@ -303,12 +305,12 @@ static int absorbs(int build, int file, int updates) {
 
     memset(&update.count, 0, sizeof update.count);
     absorbed = 0;
-    result = (build == 2 ? absorb_2 : build == 3 ? absorb_3 : absorb_4)(&source, file, &state,
+    result = (build == 2 ? absorb_2 : build == 3 ? absorb_3 : absorb_4)(&source, file, 7, &state,
                                                                         buffer, sizeof buffer);
     return absorbed == 1 && proved.build == build && proved.source == &source &&
-           proved.file == file && proved.state == &state && proved.buffer == buffer &&
+           proved.file == file && proved.threads == 7 && proved.state == &state && proved.buffer == buffer &&
            proved.room == sizeof buffer && result == proved.result && update.count == updates &&
-           (!updates || (update.file == file && update.state == &state && update.threads == 0));
+           (!updates || (update.file == file && update.state == &state && update.threads == 7));
 }
 
 /* A file of so many bytes, at this position. */

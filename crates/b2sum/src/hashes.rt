@@ -17,7 +17,7 @@ ghost use Rattle.b2sum.specs.Digests.{digest_with};
 use b2sum_commands::{Hashes, OpenFile, Options};
 use b2sum_lines::Algorithm;
 use blake2::engine::{Source, StreamFault};
-use blake2_digest::tell_bytes;
+use blake2_digest::{scrub_stack, tell_bytes};
 use blake2_state::tree::TreeState;
 use blake2_state::{StateParameters, blake2b, blake2s};
 use blake2_tree::MESSAGE_LIMIT;
@@ -31,6 +31,10 @@ const PIECE_BYTES: usize = 1 << 16;
 
 // The number of bytes that one read for a tree requests: many leaves.
 const TREE_PIECE_BYTES: usize = 1 << 20;
+
+// The bytes of the stack that are overwritten after a state is initialized under a key: more than
+// that needs.
+const START_BYTES: usize = 4096;
 
 impl Hashes for Blake2 {
     ghost use Rattle.b2sum.specs.Digests.{digest_with};
@@ -54,7 +58,9 @@ impl Hashes for Blake2 {
         match options.algorithm {
             Algorithm::Blake2b => digest_blake2b(&given, source, buffer, out),
             Algorithm::Blake2s => digest_blake2s(&given, source, buffer, out),
-            Algorithm::Tree(leaf) => digest_tree(leaf, &given, source, buffer, out),
+            Algorithm::Tree(leaf) => {
+                digest_tree(leaf, options.threads, &given, source, buffer, out)
+            }
         }
     }
 
@@ -68,11 +74,13 @@ impl Hashes for Blake2 {
 
 // Absorbs what the source returns, to its end. Returns whether it got there: otherwise a read has
 // failed, or the tree would have 2^58 bytes. It is a separate function in the text, so that
-// `c/b2sum.c` can take its place, and read the file of this number by threads.
+// `c/b2sum.c` can take its place, and read the file of this number by so many threads, or one on
+// each processor if they are 0. Here one thread reads it.
 #[inline(never)]
 fn absorb_tree<S: OpenFile>(
     source: &mut S,
     number: i32,
+    threads: u32,
     state: &mut TreeState,
     buffer: &mut [u8],
 ) -> bool
@@ -105,8 +113,8 @@ fn absorb_tree<S: OpenFile>(
     true
 }
 
-// Initializes a state. Returns whether the parameters are accepted. It has a separate frame, so
-// that what it leaves of a key on the stack is below the next read, where `c/b2sum.c` wipes it.
+// Initializes a state, in a separate frame, which the caller scrubs if there is a key. Returns
+// whether the parameters are accepted.
 #[inline(never)]
 fn start_blake2b(state: &mut blake2b::State, given: &StateParameters<'_>) -> bool
     ensures ready { result ≡ true → IsReady2b state.new }
@@ -138,6 +146,9 @@ fn digest_blake2b<S: Source>(
     let mut state = blake2b::State::zeros();
     if !start_blake2b(&mut state, given) {
         return Err(StreamFault::TooLong);
+    }
+    if !given.key.is_empty() {
+        scrub_stack::<START_BYTES>();
     }
     let mut room = u64::MAX - state.counted();
     'reading: loop {
@@ -191,6 +202,9 @@ fn digest_blake2s<S: Source>(
     if !start_blake2s(&mut state, given) {
         return Err(StreamFault::TooLong);
     }
+    if !given.key.is_empty() {
+        scrub_stack::<START_BYTES>();
+    }
     let mut room = u64::MAX - state.counted();
     'reading: loop {
         let Ok(count) = source.read(buffer) else {
@@ -213,6 +227,7 @@ fn digest_blake2s<S: Source>(
 
 fn digest_tree<S: OpenFile>(
     leaf: u32,
+    threads: u32,
     given: &StateParameters<'_>,
     source: &mut S,
     buffer: &mut [u8],
@@ -230,7 +245,7 @@ fn digest_tree<S: OpenFile>(
         return Err(StreamFault::TooLong);
     };
     let number = source.number();
-    if absorb_tree(source, number, &mut state, buffer) {
+    if absorb_tree(source, number, threads, &mut state, buffer) {
         state.write_root(&mut out[..]);
         return Ok(());
     }

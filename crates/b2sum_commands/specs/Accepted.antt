@@ -2,6 +2,7 @@
 use Rattle.std.specs.Prelude.{◌≡◌, ℕ, ◌*◌, ◌/◌, ◌==◌, ◌&&◌, ◌||◌, nat_le, Bool, true, false, not}
 use Rattle.std.specs.Prelude.{if◌then◌else◌, List, [], length, map}
 use Rattle.std.specs.Prelude.{Option, Some, None, is_some, is_none, Result, Ok, Err}
+use Rattle.std.specs.List.{list_any}
 use Rattle.std.specs.Option.{option_map}
 use Rattle.b2sum_lines.specs.Lines.{max_bytes}
 use Rattle.b2sum_lines.specs.declared.entry.Algorithm.{Algorithm}
@@ -11,9 +12,12 @@ use Rattle.b2sum_lines.specs.declared.entry.Style.TheVariants.{Tagged, Text, Bin
 use Rattle.b2sum_commands.specs.declared.options.Arguments.{Arguments}
 use Rattle.b2sum_commands.specs.declared.options.Options.{Options}
 use Rattle.b2sum_commands.specs.declared.options.Report.{Report}
+use Rattle.b2sum_commands.specs.declared.options.Shape.{Shape}
+use Rattle.b2sum_commands.specs.declared.options.Shape.TheVariants.{Named, Digits, Bytes}
 use Rattle.b2sum_commands.specs.declared.options.Report.TheVariants.{Each, Warnings, Failures}
 use Rattle.b2sum_commands.specs.declared.options.Report.TheVariants.{Nothing}
 use Rattle.b2sum_commands.specs.CommandLine.{Choice, End, Refused, reading}
+use Rattle.b2sum_commands.specs.Sums.{is_dash}
 
 -- The algorithm is BLAKE2s.
 abbrev pub is_blake2s : Algorithm → Bool
@@ -57,7 +61,9 @@ goes_with_tree c =
 
 -- The options go with a check: none is only for digests that are printed.
 abbrev pub goes_with_check : Choice → Bool
-goes_with_check c = not c.ends_zero && (not c.is_tagged && is_none c.is_binary)
+goes_with_check c =
+    not c.ends_zero
+    && (not c.is_tagged && (is_none c.is_binary && not (c.has_no_names || c.is_raw)))
 
 -- The options go with digests that are printed: none is only for a check.
 abbrev pub goes_with_sums : Choice → Bool
@@ -67,16 +73,33 @@ goes_with_sums c = not c.ignores_missing && (is_each c.report && not c.is_strict
 abbrev pub goes_together : Choice → Bool
 goes_together c =
     not (c.is_tagged && is_text c.is_binary)
-    && (goes_with_tree c && (if c.checks then goes_with_check c else goes_with_sums c))
+    && (not (c.is_tagged && (c.has_no_names || c.is_raw))
+    && (goes_with_tree c && (if c.checks then goes_with_check c else goes_with_sums c)))
 
--- The choice is accepted.
-abbrev pub accepted : Choice → Bool
-accepted c = has_length c && (goes_together c && has_labels c)
+-- The file of the key, if there is one, is standard input.
+abbrev pub is_input : Option (List ℕ) → Bool
+is_input None = false
+is_input (Some name) = is_dash name
+
+-- The options go with the files: bytes alone are those of one file, and standard input is not the
+-- key and a file too.
+abbrev pub goes_with_files : Choice → List (List ℕ) → Bool
+goes_with_files c files =
+    (not c.is_raw || (length files == 1)) && not (is_input c.key_file && list_any is_dash files)
+
+-- The choice is accepted with these files.
+abbrev pub accepted : Choice → List (List ℕ) → Bool
+accepted c files =
+    has_length c && (goes_together c && (has_labels c && goes_with_files c files))
 
 -- The algorithm, with the leaves of a tree.
 abbrev pub with_leaf : Algorithm → Option ℕ → Algorithm
 with_leaf a None = a
 with_leaf a (Some leaf) = Tree leaf
+
+-- What is printed of a digest.
+abbrev pub chosen_shape : Choice → Shape
+chosen_shape c = if c.is_raw then Bytes else if c.has_no_names then Digits else Named
 
 -- The style of the lines that are printed.
 abbrev pub chosen_style : Choice → Style
@@ -93,15 +116,18 @@ pub record AreOptions (c : Choice) (o : Options) : Type 0 where
   pub salt : o.salt.items ≡ c.salt
   pub persona : o.persona.items ≡ c.persona
   pub checks : o.checks ≡ c.checks
+  pub shape : o.shape ≡ chosen_shape c
   pub style : o.style ≡ chosen_style c
   pub ends_zero : o.ends_zero ≡ c.ends_zero
   pub ignores_missing : o.ignores_missing ≡ c.ignores_missing
   pub report : o.report ≡ c.report
   pub is_strict : o.is_strict ≡ c.is_strict
+  pub threads : o.threads ≡ c.threads
+  pub shows_progress : o.shows_progress ≡ c.shows_progress
 
 -- A choice and files, if the choice is accepted.
 abbrev pub accepting : Result (Choice × List (List ℕ)) End → Result (Choice × List (List ℕ)) End
-accepting (Ok read) = if accepted read.0 then Ok read else Err Refused
+accepting (Ok read) = if accepted read.0 read.1 then Ok read else Err Refused
 accepting (Err e) = Err e
 
 -- What a command line means, if its choice is accepted.

@@ -13,6 +13,7 @@ use Rattle.b2sum_lines.specs.declared.entry.Algorithm.TheVariants.{Blake2b, Blak
 use Rattle.b2sum_commands.specs.declared.options.Flag.{Flag}
 use Rattle.b2sum_commands.specs.declared.options.Flag.TheVariants.{Algorithm, Length, KeyFile}
 use Rattle.b2sum_commands.specs.declared.options.Flag.TheVariants.{Personal, Salt, Tree, Progress}
+use Rattle.b2sum_commands.specs.declared.options.Flag.TheVariants.{Threads, NoNames, Raw}
 use Rattle.b2sum_commands.specs.declared.options.Flag.TheVariants.{Check, IgnoreMissing, Quiet}
 use Rattle.b2sum_commands.specs.declared.options.Flag.TheVariants.{Status, Warn, Strict, Tag, Zero}
 use Rattle.b2sum_commands.specs.declared.options.Flag.TheVariants.{Binary, Text, Help, Version}
@@ -45,6 +46,10 @@ pub record Choice : Type 0 where
   pub ignores_missing : Bool
   pub report : Report
   pub is_strict : Bool
+  pub threads : ℕ
+  pub shows_progress : Bool
+  pub has_no_names : Bool
+  pub is_raw : Bool
 
 -- The choice of no options.
 abbrev pub no_choice : Choice
@@ -62,6 +67,10 @@ no_choice = record {
   ignores_missing = false;
   report = Each;
   is_strict = false;
+  threads = 0;
+  shows_progress = false;
+  has_no_names = false;
+  is_raw = false;
 }
 
 -- ---- values
@@ -109,6 +118,10 @@ bits_in value = passing (λ n. n % 8 == 0) (number_in value)
 abbrev pub leaf_in : List ℕ → Option ℕ
 leaf_in value = passing (λ n. nat_lt 0 n && nat_lt n (2 ^ 32)) (number_in value)
 
+-- The number of threads, below 2^32.
+abbrev pub threads_in : List ℕ → Option ℕ
+threads_in value = passing (λ n. nat_lt n (2 ^ 32)) (number_in value)
+
 -- The algorithm of this name.
 abbrev pub algorithm_in : List ℕ → Option entry.Algorithm
 algorithm_in value =
@@ -134,7 +147,9 @@ set_flag Tag c = Ok (record c { is_tagged = true; is_binary = Some true })
 set_flag Zero c = Ok (record c { ends_zero = true })
 set_flag Binary c = Ok (record c { is_binary = Some true })
 set_flag Text c = Ok (record c { is_binary = Some false })
-set_flag Progress c = Ok c
+set_flag Progress c = Ok (record c { shows_progress = true })
+set_flag NoNames c = Ok (record c { has_no_names = true })
+set_flag Raw c = Ok (record c { is_raw = true })
 set_flag Help c = Err Helped
 set_flag Version c = Err Versioned
 set_flag Algorithm c = Ok c
@@ -143,6 +158,7 @@ set_flag KeyFile c = Ok c
 set_flag Personal c = Ok c
 set_flag Salt c = Ok c
 set_flag Tree c = Ok c
+set_flag Threads c = Ok c
 
 -- The choice with a value, which is refused if it is none.
 abbrev pub with_value : {A : Type 0} → Option A → (A → Choice) → Result Choice End
@@ -157,7 +173,10 @@ set_value KeyFile v c = Ok (record c { key_file = Some v })
 set_value Personal v c = with_value (bytes_in v) (λ bytes. record c { persona = bytes })
 set_value Salt v c = with_value (bytes_in v) (λ bytes. record c { salt = bytes })
 set_value Tree v c = with_value (leaf_in v) (λ n. record c { leaf = Some n })
+set_value Threads v c = with_value (threads_in v) (λ n. record c { threads = n })
 set_value Progress v c = Ok c
+set_value NoNames v c = Ok c
+set_value Raw v c = Ok c
 set_value Check v c = Ok c
 set_value IgnoreMissing v c = Ok c
 set_value Quiet v c = Ok c
@@ -175,7 +194,8 @@ set_value Version v c = Ok c
 abbrev pub all_flags : List Flag
 all_flags =
     Length ∷ Check ∷ IgnoreMissing ∷ Quiet ∷ Status ∷ Warn ∷ Strict ∷ Tag ∷ Zero ∷ Binary ∷ Text
-    ∷ Algorithm ∷ KeyFile ∷ Personal ∷ Salt ∷ Tree ∷ Progress ∷ Help ∷ Version ∷ []
+    ∷ Algorithm ∷ KeyFile ∷ Personal ∷ Salt ∷ Tree ∷ Threads ∷ Progress ∷ NoNames ∷ Raw
+    ∷ Help ∷ Version ∷ []
 
 -- The first of two options that is there.
 abbrev pub or_else : Option Flag → Option Flag → Option Flag

@@ -4,6 +4,7 @@ use Rattle.std.specs.Prelude.{Option, Some, None}
 use Rattle.b2sum_commands.specs.declared.options.Flag.{Flag}
 use Rattle.b2sum_commands.specs.declared.options.Flag.TheVariants.{Algorithm, Length, KeyFile}
 use Rattle.b2sum_commands.specs.declared.options.Flag.TheVariants.{Personal, Salt, Tree, Progress}
+use Rattle.b2sum_commands.specs.declared.options.Flag.TheVariants.{Threads, NoNames, Raw}
 use Rattle.b2sum_commands.specs.declared.options.Flag.TheVariants.{Check, IgnoreMissing, Quiet}
 use Rattle.b2sum_commands.specs.declared.options.Flag.TheVariants.{Status, Warn, Strict, Tag, Zero}
 use Rattle.b2sum_commands.specs.declared.options.Flag.TheVariants.{Binary, Text, Help, Version}
@@ -16,7 +17,10 @@ long_name KeyFile = codes "key-file"
 long_name Personal = codes "personal"
 long_name Salt = codes "salt"
 long_name Tree = codes "tree"
+long_name Threads = codes "threads"
 long_name Progress = codes "progress"
+long_name NoNames = codes "no-names"
+long_name Raw = codes "raw"
 long_name Check = codes "check"
 long_name IgnoreMissing = codes "ignore-missing"
 long_name Quiet = codes "quiet"
@@ -38,7 +42,10 @@ has_value KeyFile = true
 has_value Personal = true
 has_value Salt = true
 has_value Tree = true
+has_value Threads = true
 has_value Progress = false
+has_value NoNames = false
+has_value Raw = false
 has_value Check = false
 has_value IgnoreMissing = false
 has_value Quiet = false

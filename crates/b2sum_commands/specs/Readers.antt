@@ -29,6 +29,10 @@ choice_of r = record {
   ignores_missing = r.ignores_missing;
   report = r.report;
   is_strict = r.is_strict;
+  threads = r.threads;
+  shows_progress = r.shows_progress;
+  has_no_names = r.has_no_names;
+  is_raw = r.is_raw;
 }
 
 -- What the next word is.

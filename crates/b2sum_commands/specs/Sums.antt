@@ -5,7 +5,10 @@ use Rattle.std.specs.Str.{bytes_eq}
 use Rattle.std.specs.Io.KnownBytes.{Appends}
 use Rattle.blake2_replay.specs.Streams.{GivesAll}
 use Rattle.b2sum_lines.specs.Lines.{Line, entry_line, plain_line}
+use Rattle.hex.specs.Hex.{encode_lower}
 use Rattle.b2sum_commands.specs.declared.options.Options.{Options}
+use Rattle.b2sum_commands.specs.declared.options.Shape.{Shape}
+use Rattle.b2sum_commands.specs.declared.options.Shape.TheVariants.{Named, Digits, Bytes}
 use Rattle.b2sum_commands.specs.Found.{Streams}
 use Rattle.b2sum_commands.specs.World.{World, IsTold}
 
@@ -38,6 +41,16 @@ CannotSum w o n name = CannotGet w name ⊎ (w.hashing.rejects o n ≡ true)
 abbrev pub ended_line : Bool → Line → List ℕ
 ended_line zero e = if zero then plain_line e ++ (0 ∷ []) else entry_line e ++ (10 ∷ [])
 
+-- The end of a line.
+abbrev pub end_of : Bool → ℕ
+end_of zero = if zero then 0 else 10
+
+-- What is printed of an entry: its line, the digits of its digest, or the bytes of that.
+abbrev pub printed : Shape → Bool → Line → List ℕ
+printed Named zero e = ended_line zero e
+printed Digits zero e = encode_lower e.digest ++ (end_of zero ∷ [])
+printed Bytes zero e = e.digest
+
 -- The entry of a file: the digest of its text by the options.
 abbrev pub entry_of : World → Options → List ℕ → List ℕ → Line
 entry_of w o name text = record {
@@ -53,7 +66,7 @@ entry_of w o name text = record {
 abbrev pub IsSum : World → Options → List ℕ → Streams → Streams → Bool → Type 0
 IsSum w o name old new true =
     (text : List ℕ) × ReadsAs (is_dash name) (w.files.holds name) old.left new.left text
-    × Appends old.held new.held (ended_line o.ends_zero (entry_of w o name text))
+    × Appends old.held new.held (printed o.shape o.ends_zero (entry_of w o name text))
 IsSum w o name old new false =
     Leaves (is_dash name) old.left new.left × (new.held ≡ old.held) × CannotSum w o o.bytes name
     × (o.ignores_missing ≡ false → IsTold old new)

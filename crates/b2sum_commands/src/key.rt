@@ -24,7 +24,6 @@ pub(crate) fn read_key<D: Disk, E: Sink>(
     ensures told { IfOk result (λ key. key ≡ None → HasMessage (E.failed messages.old)
         (E.failed messages.new) (E.held messages.old) (E.held messages.new)) }
 {
-    disk.keep_secrets();
     let mut file = match disk.open(alloc, name) {
         Ok(file) => file,
         Err(error) => {
@@ -32,7 +31,24 @@ pub(crate) fn read_key<D: Disk, E: Sink>(
             return Ok(None);
         }
     };
-    let Some(key) = read_bytes(alloc, &mut file, most)? else {
+    read_key_from(alloc, &mut file, name, most, messages)
+}
+
+/// Returns all bytes of an open file of this name as the key, as `read_key` does.
+pub(crate) fn read_key_from<F: OpenFile, E: Sink>(
+    alloc: Global,
+    file: &mut F,
+    name: &[u8],
+    most: usize,
+    messages: &mut E,
+) -> Result<Option<Vec<u8>>, Fault>
+    ensures key { IfOk result (λ key. IfSome key
+        (λ bytes. IsKey (F.left file.old) most bytes.items)) }
+    ensures kept { IfOk result (λ key. IfSome key (λ _. messages.new ≡ messages.old)) }
+    ensures told { IfOk result (λ key. key ≡ None → HasMessage (E.failed messages.old)
+        (E.failed messages.new) (E.held messages.old) (E.held messages.new)) }
+{
+    let Some(key) = read_bytes(alloc, file, most)? else {
         warn_of_file(alloc, file.reason(), messages, name)?;
         return Ok(None);
     };
@@ -49,7 +65,9 @@ pub(crate) fn read_key<D: Disk, E: Sink>(
 }
 
 // Returns all bytes that the source returns, or more than `most` if it has more. The result is
-// `None` if a read failed.
+// `None` if a read failed. It has a separate frame, so that what it leaves of the key on the stack is
+// below the next read, where C wipes it.
+#[inline(never)]
 fn read_bytes<S: Source>(
     alloc: Global,
     source: &mut S,

@@ -18,7 +18,7 @@ mod values;
 pub use check::{Counts, Verdict, check_manifest, check_manifests};
 pub use devices::{Disk, Fault, OpenFile, Output};
 pub use hashes::Hashes;
-pub use options::{Options, Report};
+pub use options::{Options, Report, Shape};
 pub use program::run;
 pub use session::{Host, Session};
 pub use sums::print_sums;

@@ -8,14 +8,16 @@ ghost use Rattle.b2sum_lines.specs.declared.entry.Algorithm.TheVariants.{Blake2b
 ghost use Rattle.b2sum_lines.specs.declared.entry.Style.TheVariants.{Tagged, Text, Binary};
 ghost use Rattle.b2sum_commands.specs.declared.options.Report.TheVariants.{Each};
 ghost use Rattle.b2sum_commands.specs.Flags.{long_name, has_value, letter_flag};
-ghost use Rattle.std.specs.List.{starts_with, find, count_by};
+ghost use Rattle.std.specs.List.{starts_with, find, count_by, list_any};
 ghost use Rattle.std.specs.Str.{bytes_eq};
 ghost use Rattle.b2sum_commands.specs.CommandLine.{set_flag, set_value, no_choice, all_flags};
 ghost use Rattle.b2sum_commands.specs.CommandLine.{flag_named, value_or_next, read_letters};
 ghost use Rattle.b2sum_commands.specs.CommandLine.{read_alone, read_with, read_long, read_any};
 ghost use Rattle.b2sum_commands.specs.CommandLine.{read_next, reading};
 ghost use Rattle.b2sum_commands.specs.Accepted.{accepted, has_length, has_labels, goes_together};
-ghost use Rattle.b2sum_commands.specs.Accepted.{goes_with_check, goes_with_sums, chosen_style};
+ghost use Rattle.b2sum_commands.specs.Accepted.{goes_with_check, goes_with_sums, goes_with_files};
+ghost use Rattle.b2sum_commands.specs.Accepted.{chosen_style, chosen_shape};
+ghost use Rattle.b2sum_commands.specs.Sums.{is_dash};
 ghost use Rattle.b2sum_commands.specs.Accepted.{with_leaf, AreOptions, AreArguments, command_line};
 ghost use Rattle.b2sum_commands.specs.Readers.{choice_of, next_of, state_of, StopsBy, IsWrong};
 ghost use Rattle.b2sum_commands.specs.Readers.{IsUnfit};
@@ -23,7 +25,8 @@ ghost use Rattle.b2sum_commands.specs.declared.options.Stop.TheVariants.{NoMemor
 ghost use Rattle.b2sum_commands.specs.declared.options.Next.TheVariants.{Any};
 
 use crate::quoting::quoted_value;
-use crate::values::{algorithm_of, bits_of, bytes_of, leaf_of};
+use crate::sums::is_dash;
+use crate::values::{algorithm_of, bits_of, bytes_of, leaf_of, threads_of};
 use b2sum_lines::{Algorithm, Style};
 use std::alloc::{AllocError, Global};
 use text_lines::split_once;
@@ -39,6 +42,17 @@ pub enum Report {
     Failures,
     /// No lines (`--status`).
     Nothing,
+}
+
+/// What is printed of a digest.
+#[derive(Clone, Copy, Debug, PartialEq, Eq)]
+pub enum Shape {
+    /// A line with the name.
+    Named,
+    /// A line of its digits (`--no-names`).
+    Digits,
+    /// Its bytes (`--raw`).
+    Bytes,
 }
 
 /// What is to be done, and how.
@@ -58,6 +72,8 @@ pub struct Options {
     pub persona: Vec<u8>,
     /// The files are manifests, which are checked.
     pub checks: bool,
+    /// What is printed of a digest.
+    pub shape: Shape,
     /// The style of the lines that are printed.
     pub style: Style,
     /// The lines that are printed end with a zero byte, and names are as they are.
@@ -68,6 +84,10 @@ pub struct Options {
     pub report: Report,
     /// A check fails for lines that are not properly formatted.
     pub is_strict: bool,
+    /// The number of threads that read a large file for a tree, 0 for one on each processor.
+    pub threads: u32,
+    /// The progress of long reads is shown on a terminal.
+    pub shows_progress: bool,
 }
 
 /// The arguments of a command line.
@@ -111,7 +131,10 @@ enum Flag {
     Personal,
     Salt,
     Tree,
+    Threads,
     Progress,
+    NoNames,
+    Raw,
     Check,
     IgnoreMissing,
     Quiet,
@@ -138,7 +161,10 @@ impl Flag {
             Flag::Personal => b"personal",
             Flag::Salt => b"salt",
             Flag::Tree => b"tree",
+            Flag::Threads => b"threads",
             Flag::Progress => b"progress",
+            Flag::NoNames => b"no-names",
+            Flag::Raw => b"raw",
             Flag::Check => b"check",
             Flag::IgnoreMissing => b"ignore-missing",
             Flag::Quiet => b"quiet",
@@ -166,6 +192,7 @@ impl Flag {
                 | Flag::Personal
                 | Flag::Salt
                 | Flag::Tree
+                | Flag::Threads
         )
     }
 
@@ -187,7 +214,7 @@ impl Flag {
 }
 
 // The long options, in the order in which messages list them.
-static FLAGS: [Flag; 19] = [
+static FLAGS: [Flag; 22] = [
     Flag::Length,
     Flag::Check,
     Flag::IgnoreMissing,
@@ -204,7 +231,10 @@ static FLAGS: [Flag; 19] = [
     Flag::Personal,
     Flag::Salt,
     Flag::Tree,
+    Flag::Threads,
     Flag::Progress,
+    Flag::NoNames,
+    Flag::Raw,
     Flag::Help,
     Flag::Version,
 ];
@@ -237,6 +267,10 @@ struct Reader {
     ignores_missing: bool,
     report: Report,
     is_strict: bool,
+    threads: u32,
+    shows_progress: bool,
+    has_no_names: bool,
+    is_raw: bool,
 }
 
 impl Reader {
@@ -258,6 +292,10 @@ impl Reader {
             ignores_missing: false,
             report: Report::Each,
             is_strict: false,
+            threads: 0,
+            shows_progress: false,
+            has_no_names: false,
+            is_raw: false,
         }
     }
 }
@@ -528,6 +566,9 @@ fn take_flag(reader: &mut Reader, flag: Flag) -> Result<(), Stop>
         Flag::Status => reader.report = Report::Nothing,
         Flag::Warn => reader.report = Report::Warnings,
         Flag::Strict => reader.is_strict = true,
+        Flag::Progress => reader.shows_progress = true,
+        Flag::NoNames => reader.has_no_names = true,
+        Flag::Raw => reader.is_raw = true,
         Flag::Tag => {
             reader.is_tagged = true;
             reader.is_binary = Some(true);
@@ -551,9 +592,10 @@ fn take_value(alloc: Global, reader: &mut Reader, flag: Flag, value: &[u8]) -> R
     match flag {
         Flag::Algorithm => reader.algorithm = algorithm_of(alloc, value)?,
         Flag::KeyFile => reader.key_file = Some(copied(alloc, value)?),
-        Flag::Personal => reader.persona = bytes_of(alloc, b"invalid personal: ", value)?,
+        Flag::Personal => reader.persona = bytes_of(alloc, b"invalid personalization: ", value)?,
         Flag::Salt => reader.salt = bytes_of(alloc, b"invalid salt: ", value)?,
         Flag::Tree => reader.leaf = Some(leaf_of(alloc, value)?),
+        Flag::Threads => reader.threads = threads_of(alloc, value)?,
         Flag::Length => {
             reader.bits = bits_of(alloc, value)?;
             reader.bits_text = quoted_value(alloc, value)?;
@@ -566,20 +608,26 @@ fn take_value(alloc: Global, reader: &mut Reader, flag: Flag, value: &[u8]) -> R
 // Checks the options against one another.
 fn finish(alloc: Global, reader: Reader, files: Vec<Vec<u8>>) -> Result<Arguments, Stop>
     ensures size { IfOk result (λ a. a.options.bytes ≤ 64) }
-    ensures accepted { OnOk result (accepted (choice_of reader) ≡ true) }
+    ensures accepted { OnOk result
+        (accepted (choice_of reader) (map (λ file. file.items) files.items) ≡ true) }
     ensures options { IfOk result (λ a. AreOptions (choice_of reader) a.options) }
     ensures no_key { IfOk result (λ a. a.options.key.items ≡ []) }
     ensures files { IfOk result (λ a. a.files ≡ files) }
     ensures key_file { IfOk result (λ a. a.key_file ≡ reader.key_file) }
-    ensures stop { IfErr result (IsUnfit (accepted (choice_of reader))) }
+    ensures stop { IfErr result
+        (IsUnfit (accepted (choice_of reader) (map (λ file. file.items) files.items))) }
 {
     check_length(alloc, &reader)?;
     if let Some(text) = conflict(&reader) {
         return Err(Stop::Usage(joined(alloc, text, b"", b"")?));
     }
     check_labels(alloc, &reader)?;
+    if let Some(text) = conflict_of_files(&reader, files.as_slice()) {
+        return Err(Stop::Usage(joined(alloc, text, b"", b"")?));
+    }
     let bytes = output_bytes(&reader);
     let demands_length = reader.bits != 0 || reader.key_file.is_some();
+    let shape = shape_of(&reader);
     let style = style_of(&reader);
     let chosen = chosen_algorithm(&reader);
     let Reader {
@@ -597,6 +645,10 @@ fn finish(alloc: Global, reader: Reader, files: Vec<Vec<u8>>) -> Result<Argument
         ignores_missing,
         report,
         is_strict,
+        threads,
+        shows_progress,
+        has_no_names: _,
+        is_raw: _,
     } = reader;
     let options = Options {
         algorithm: chosen,
@@ -606,11 +658,14 @@ fn finish(alloc: Global, reader: Reader, files: Vec<Vec<u8>>) -> Result<Argument
         salt,
         persona,
         checks,
+        shape,
         style,
         ends_zero,
         ignores_missing,
         report,
         is_strict,
+        threads,
+        shows_progress,
     };
     Ok(Arguments {
         options,
@@ -647,6 +702,18 @@ fn output_bytes(reader: &Reader) -> usize
         most
     } else {
         ((reader.bits / 8) as usize).min(most)
+    }
+}
+
+fn shape_of(reader: &Reader) -> Shape
+    ensures { result ≡ chosen_shape (choice_of reader.now) }
+{
+    if reader.is_raw {
+        Shape::Bytes
+    } else if reader.has_no_names {
+        Shape::Digits
+    } else {
+        Shape::Named
     }
 }
 
@@ -701,7 +768,7 @@ fn check_labels(alloc: Global, reader: &Reader) -> Result<(), Stop>
     let reason: &[u8] = if reader.salt.len() > most {
         b"the salt is too long: at most 16 bytes, 8 for BLAKE2s"
     } else if reader.persona.len() > most {
-        b"the personal is too long: at most 16 bytes, 8 for BLAKE2s"
+        b"the personalization is too long: at most 16 bytes, 8 for BLAKE2s"
     } else {
         return Ok(());
     };
@@ -720,6 +787,9 @@ fn conflict(reader: &Reader) -> Option<&'static [u8]>
 {
     if reader.is_tagged && reader.is_binary == Some(false) {
         return Some(b"--tag does not support --text mode");
+    }
+    if reader.is_tagged && (reader.has_no_names || reader.is_raw) {
+        return Some(b"--tag does not support --no-names and --raw");
     }
     if reader.leaf.is_some() {
         if reader.algorithm == Algorithm::Blake2s {
@@ -753,7 +823,39 @@ fn conflict_of_check(reader: &Reader) -> Option<&'static [u8]>
     if reader.is_binary.is_some() {
         return Some(b"the --binary and --text options are meaningless when verifying checksums");
     }
+    if reader.has_no_names || reader.is_raw {
+        return Some(b"the --no-names and --raw options are meaningless when verifying checksums");
+    }
     None
+}
+
+// Returns the message of options that do not go with these files.
+fn conflict_of_files(reader: &Reader, files: &[Vec<u8>]) -> Option<&'static [u8]>
+    ensures { is_none result ≡ goes_with_files (choice_of reader.now)
+        (map (λ file. file.items) files.now) }
+{
+    if reader.is_raw && files.len() != 1 {
+        return Some(b"the --raw option needs one file");
+    }
+    if let Some(name) = &reader.key_file
+        && is_dash(name.as_slice())
+        && has_dash(files)
+    {
+        return Some(b"standard input is the key, and cannot be a file too");
+    }
+    None
+}
+
+// Returns whether standard input is one of the files.
+fn has_dash(files: &[Vec<u8>]) -> bool
+    ensures { result ≡ list_any is_dash (map (λ file. file.items) files.now) }
+{
+    for file in files {
+        if is_dash(file.as_slice()) {
+            return true;
+        }
+    }
+    false
 }
 
 fn conflict_of_sums(reader: &Reader) -> Option<&'static [u8]>

@@ -5,16 +5,16 @@ ghost use Rattle.std.specs.Option.{option_map};
 ghost use Rattle.b2sum_commands.specs.CommandLine.{Choice, Refused};
 ghost use Rattle.b2sum_commands.specs.Accepted.{AreOptions, command_line};
 ghost use Rattle.b2sum_commands.specs.World.{world_of, HasMessage, IsTold, IsReported};
-ghost use Rattle.b2sum_commands.specs.Runs.{DoesChoice, DoesLine, HasKey};
+ghost use Rattle.b2sum_commands.specs.Runs.{DoesChoice, DoesLine, HasKey, AfterKey};
 ghost use Rattle.b2sum_commands.specs.Readers.{IsPrinted, IsRefusal, IsKept};
 
 use crate::check::check_manifests;
 use crate::devices::{Disk, Fault, OpenFile, Output, put, tell};
 use crate::hashes::Hashes;
-use crate::key::read_key;
+use crate::key::{read_key, read_key_from};
 use crate::options::{Arguments, Options, Stop, read_arguments};
 use crate::session::{Host, Session};
-use crate::sums::print_sums;
+use crate::sums::{is_dash, print_sums};
 use crate::texts::{reason_of, warn};
 use blake2_replay::engine::Sink;
 use std::alloc::{AllocError, Global};
@@ -30,7 +30,10 @@ Print or check BLAKE2 digests. With no FILE, or if FILE is -, read standard inpu
   -t, --text            print a space before each name (the default)
       --tag             print lines that name the algorithm
   -z, --zero            end each line with a zero byte, and do not escape names
-      --key-file FILE   use the bytes of the file as the key: at most 64, 32 for blake2s
+      --no-names        print only the digits of each digest
+      --raw             print only the bytes of the digest of one FILE
+      --key-file FILE   use the bytes of the file, or of standard input if it is -, as the key:
+                        at most 64, 32 for blake2s
       --salt HEX        use this salt: at most 16 bytes, 8 for blake2s
       --personal HEX    use this personalization: at most 16 bytes, 8 for blake2s
       --tree LEAF       print roots of trees with leaves of LEAF bytes, in lines that say so
@@ -40,6 +43,7 @@ Print or check BLAKE2 digests. With no FILE, or if FILE is -, read standard inpu
       --status          print nothing, the status shows success
       --strict          fail for improperly formatted lines
   -w, --warn            warn about improperly formatted lines
+      --threads N       hash trees by at most N threads; 0, the default: all processors
       --progress        show the progress of long reads on a terminal
       --help            print this help
       --version         print the version
@@ -218,9 +222,11 @@ fn with_key<H: Hashes, D: Disk, K: Output, E: Sink>(
     ensures options { (c : Choice) → AreOptions c options
         → option_map (λ name. name.items) key_file ≡ c.key_file
         → IfOk result (λ found. IfSome found (λ o. AreOptions c o
-        × HasKey (world_of D.File.failed (D.files host.now.disk) H.hashing) c o)) }
+        × HasKey (world_of D.File.failed (D.files host.now.disk) H.hashing) session.old.left
+        c o)) }
     ensures bytes { IfOk result (λ found. IfSome found (λ o. o.bytes ≡ options.bytes)) }
-    ensures kept { IfOk result (λ found. IfSome found (λ _. session.new ≡ session.old)) }
+    ensures kept { IfOk result (λ found. IfSome found (λ _. AfterKey
+        (option_map (λ name. name.items) key_file) session.old session.new)) }
     ensures told { IfOk result (λ found. found ≡ None → IsTold session.old session.new) }
 {
     let Some(name) = key_file else {
@@ -228,8 +234,14 @@ fn with_key<H: Hashes, D: Disk, K: Output, E: Sink>(
     };
     let most = options.algorithm.max_bytes();
     let name = name.as_slice();
+    host.disk.keep_secrets();
     let messages = &mut session.messages;
-    let Some(key) = read_key(host.alloc, &host.disk, name, most, messages)? else {
+    let found = if is_dash(name) {
+        read_key_from(host.alloc, &mut session.input, name, most, messages)?
+    } else {
+        read_key(host.alloc, &host.disk, name, most, messages)?
+    };
+    let Some(key) = found else {
         return Ok(None);
     };
     options.key = key;

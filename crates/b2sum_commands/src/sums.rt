@@ -1,5 +1,8 @@
 //! The digests of files.
 
+ghost use Rattle.std.specs.Prelude.{◌++◌, ◌∷◌, []};
+ghost use Rattle.hex.specs.Hex.{encode_lower};
+ghost use Rattle.b2sum_commands.specs.Sums.{printed, end_of};
 ghost use Rattle.std.specs.Prelude.{◌≡◌, ℕ, ◌≤◌, List, length, map, take, true, false, IfOk};
 ghost use Rattle.b2sum_commands.specs.declared.sums.Read.TheVariants.{Whole, Missing, Failed};
 ghost use Rattle.b2sum_commands.specs.World.{world_of, AllInTurn, IsQuiet, IsTold};
@@ -7,7 +10,7 @@ ghost use Rattle.b2sum_commands.specs.Sums.{is_dash, ReadsAs, Leaves, CannotSum,
 
 use crate::devices::{Disk, Fault, OpenFile, Output, put};
 use crate::hashes::Hashes;
-use crate::options::Options;
+use crate::options::{Options, Shape};
 use crate::session::{Host, Session};
 use crate::texts::warn_of_file;
 use b2sum_lines::{Entry, write_line, write_plain_line};
@@ -126,9 +129,38 @@ fn print_sum<H: Hashes, D: Disk, K: Output, E: Sink>(
         return Ok(false);
     }
     let all = &digest[..];
-    let line = line_of(host.alloc, options, &all[..size], name)?;
+    let line = printed(host.alloc, options, &all[..size], name)?;
     put(&mut session.output, line.as_slice())?;
     Ok(true)
+}
+
+// Returns what is printed of a digest and a name.
+fn printed(alloc: Global, options: &Options, digest: &[u8], name: &[u8]) -> Result<Vec<u8>, Fault>
+    requires { length digest.now ≤ 64 }
+    ensures { IfOk result (λ text. text.items
+        ≡ printed options.now.shape options.now.ends_zero (record {
+      algorithm = options.now.algorithm;
+      digest = digest.now;
+      name = name.now;
+      style = options.now.style;
+    })) }
+{
+    match options.shape {
+        Shape::Named => line_of(alloc, options, digest, name),
+        Shape::Digits => digits_of(alloc, options, digest),
+        Shape::Bytes => copied(alloc, digest),
+    }
+}
+
+// Returns the digits of a digest, with the end of a line.
+fn digits_of(alloc: Global, options: &Options, digest: &[u8]) -> Result<Vec<u8>, Fault>
+    ensures { IfOk result (λ text. text.items
+        ≡ encode_lower digest.now ++ (end_of options.now.ends_zero ∷ [])) }
+{
+    let mut text = copied(alloc, hex::encode(alloc, digest)?.as_bytes())?;
+    text.push(if options.ends_zero { 0 } else { b'\n' })
+        .map_err(|_| Fault::NoMemory)?;
+    Ok(text)
 }
 
 // Returns the line of a digest and a name, with its end.

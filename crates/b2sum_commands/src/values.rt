@@ -4,6 +4,7 @@ ghost use Rattle.std.specs.Prelude.{◌≡◌, IfErr, IfOk, Some};
 ghost use Rattle.std.specs.Result.{result_ok};
 ghost use Rattle.b2sum_commands.specs.CommandLine.{number_in, without_blanks, without_plus};
 ghost use Rattle.b2sum_commands.specs.CommandLine.{leaf_in, bits_in, bytes_in, algorithm_in};
+ghost use Rattle.b2sum_commands.specs.CommandLine.{threads_in};
 ghost use Rattle.b2sum_commands.specs.Readers.{IsRefusal, IsWrong};
 
 use crate::options::{Stop, joined};
@@ -69,6 +70,20 @@ pub(crate) fn leaf_of(alloc: Global, value: &[u8]) -> Result<u32, Stop>
         _ => {
             let reason = b"a leaf has 1 to 4294967295 bytes";
             Err(wrong_value(alloc, b"invalid leaf length: ", value, reason))
+        }
+    }
+}
+
+// Returns the number of threads.
+pub(crate) fn threads_of(alloc: Global, value: &[u8]) -> Result<u32, Stop>
+    ensures threads { IfOk result (λ threads. threads_in value.now ≡ Some threads) }
+    ensures stop { IfErr result (IsWrong (threads_in value.now)) }
+{
+    match number_of(value) {
+        Ok(threads) if threads <= u64::from(u32::MAX) => Ok(threads as u32),
+        _ => {
+            let reason = b"the value is not a number of threads, or 0 for all processors";
+            Err(wrong_value(alloc, b"invalid number of threads: ", value, reason))
         }
     }
 }
