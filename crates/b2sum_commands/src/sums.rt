@@ -139,11 +139,11 @@ fn printed(alloc: Global, options: &Options, digest: &[u8], name: &[u8]) -> Resu
     requires { length digest.now ≤ 64 }
     ensures { IfOk result (λ text. text.items
         ≡ printed options.now.shape options.now.ends_zero (record {
-      algorithm = options.now.algorithm;
-      digest = digest.now;
-      name = name.now;
-      style = options.now.style;
-    })) }
+          algorithm = options.now.algorithm;
+          digest = digest.now;
+          name = name.now;
+          style = options.now.style;
+        })) }
 {
     match options.shape {
         Shape::Named => line_of(alloc, options, digest, name),

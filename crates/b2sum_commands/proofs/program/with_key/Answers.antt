@@ -27,13 +27,13 @@ pub returns-clause-kept : goal.returns-clause-kept
 returns-clause-kept g c =
     elim c.if-is_dash.branch [
       | then-is_dash+in_ok-found w ↦ (
-          g.D.File.Source.left w.read_key_from.new.file,
-          search (rules, w.session-is, c.session.view_is, w.in_ok-found.ensures.kept, w.found-is),
-          search (rules, w.if-is_dash),
-        )
+        g.D.File.Source.left w.read_key_from.new.file,
+        search (rules, w.session-is, c.session.view_is, w.in_ok-found.ensures.kept, w.found-is),
+        search (rules, w.if-is_dash),
+      )
       | else-is_dash+in_ok-found-2 w ↦ (
-          c.args.session.now.left,
-          search (rules, w.session-is, c.session.view_is, w.in_ok-found-2.ensures.kept, w.found-is),
-          λ _. refl,
-        )
+        c.args.session.now.left,
+        search (rules, w.session-is, c.session.view_is, w.in_ok-found-2.ensures.kept, w.found-is),
+        λ _. refl,
+      )
     ]
