@@ -77,9 +77,9 @@ cp "$top"/tools/{dist.sh,kit.sh,{aarch64,parallel}_attributes.csv,{x86_64_v{2,4}
     "$repository/tools/"
 cp "$top"/tools/{plain_names,clear_registers,one_text}.py "$repository/tools/"
 # The header's comments decide nothing. The translator is a stand-in: the linker here makes no module.
-mkdir -p "$repository"/tools/machine "$repository"/c/include
+mkdir -p "$repository"/tests/machine "$repository"/c/include
 cp "$top/tools/scalar.sed" "$top/tools/wasm_to_c.c" "$repository/tools/"
-cp "$top/tools/machine/wasm_format.py" "$repository/tools/machine/"
+cp "$top/tests/machine/wasm_format.py" "$repository/tests/machine/"
 printf '%s\n' '/* A header' ' * of one function. */' 'int f(void); /* here */' \
     >"$repository/c/include/vulfsjor.h"
 printf '%s\n' '#!/bin/sh' 'echo "/* $(cat "$1") $(grep -c f "$2") */"' >"$repository/tools/wasm_to_c.py"
@@ -198,7 +198,7 @@ check "nor a file next to src/" dist current
 mv crates/blake2_ffi/src/lib.rt crates/blake2_ffi/src/more.rt
 check "another name of a file is found" eval "! dist current"
 mv crates/blake2_ffi/src/more.rt crates/blake2_ffi/src/lib.rt
-for file in tools/{{plain_names,clear_registers,one_text,wasm_to_c,machine/wasm_format}.py,wasm_to_c.c} \
+for file in tools/{{plain_names,clear_registers,one_text,wasm_to_c}.py,wasm_to_c.c} tests/machine/wasm_format.py \
     tools/{{aarch64,parallel}_attributes.csv,{x86_64_v{2,4},b2sum,scalar}.sed}; do
     check "a change of $file is found" changed 1 "$file" '$a # more'
 done

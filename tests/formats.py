@@ -1,6 +1,6 @@
 #!/usr/bin/env python3
 """Assembles each text of dist/ for Linux, macOS and Windows: each function has the same instructions there, the objects
-call only what they may, and linkers for these systems accept them. What tools/machine reads is, byte for byte, what the
+call only what they may, and linkers for these systems accept them. What tests/machine reads is, byte for byte, what the
 assembler makes of the text. vulfsjor.S has the functions of its texts.
 
     tests/formats.py [DIST]
@@ -18,7 +18,7 @@ import tempfile
 import tap
 from blake2_kinds import TOP
 
-sys.path.insert(0, os.path.join(TOP, "tools", "machine"))
+sys.path.insert(0, os.path.join(TOP, "tests", "machine"))
 import macros  # pylint: disable=wrong-import-position
 
 SYSTEMS = {"linux": "linux-gnu", "macos": "apple-macos11", "windows": "pc-windows-msvc"}
@@ -87,7 +87,7 @@ def may_call(name, system):
 
 
 def is_read_so(path, arch, room):
-    """Whether the text that tools/machine reads is assembled to the same bytes."""
+    """Whether the text that tests/machine reads is assembled to the same bytes."""
     read = os.path.join(room, "read.s")
     with open(path, encoding="utf-8") as file, open(read, "w", encoding="utf-8") as to:
         to.write(macros.expanded(file.read(), arch))
@@ -120,7 +120,7 @@ def check_system(name, arch, system, made, elf):
 def check_text(path, arch, name, room):
     """Prints the results of a text, and returns its functions."""
     elf = functions(assembled(path, arch, "linux", os.path.join(room, "elf.o")), arch)
-    tap.result(is_read_so(path, arch, room), f"{arch}/{name}.s: tools/machine reads what the assembler makes of it")
+    tap.result(is_read_so(path, arch, room), f"{arch}/{name}.s: tests/machine reads what the assembler makes of it")
     for system in ("macos", "windows"):
         made = assembled(path, arch, system, os.path.join(room, f"{arch}-{name}-{system}.o"))
         for words, holds, why in check_system(name, arch, system, made, elf):

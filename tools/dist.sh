@@ -67,7 +67,7 @@ sources() {
             cat tools/plain_names.py tools/aarch64_attributes.csv tools/parallel_attributes.csv \
                 tools/x86_64_v2.sed tools/x86_64_v4.sed tools/b2sum.sed tools/clear_registers.py \
                 tools/one_text.py tools/scalar.sed tools/wasm_to_c.{py,c} \
-                tools/machine/wasm_format.py &&
+                tests/machine/wasm_format.py &&
             sed '/^ \*/d;/^\/\*/d;s/\/\*.*\*\///' c/include/vulfsjor.h
     } | sha256sum | cut -d ' ' -f 1
 }

@@ -24,7 +24,7 @@ import sys
 import textwrap
 
 HERE = os.path.dirname(os.path.abspath(__file__))
-sys.path.append(os.path.join(HERE, "machine"))
+sys.path.append(os.path.join(HERE, "..", "tests", "machine"))
 from terms import CannotShow  # noqa: E402
 from wasm_format import Module, Reader  # noqa: E402
 

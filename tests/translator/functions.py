@@ -1,5 +1,5 @@
 """Random functions of WebAssembly with all instructions that tools/wasm_to_c.py knows, as lines of text in the form of
-tools/machine/wasm_format.py, and modules of them. Not a program.
+tests/machine/wasm_format.py, and modules of them. Not a program.
 
 A function is called with a buffer of 64 bytes and two numbers. It reads and writes the buffer, its locals and its part
 of the stack, calls functions before it, and returns a number of all its locals, or writes that to the buffer.
@@ -9,7 +9,7 @@ import random
 import sys
 
 TOP = os.path.dirname(os.path.dirname(os.path.dirname(os.path.abspath(__file__))))
-sys.path[:0] = [os.path.join(TOP, "tools", "machine"), os.path.join(TOP, "tools")]
+sys.path[:0] = [os.path.join(TOP, "tests", "machine"), os.path.join(TOP, "tools")]
 from wasm_format import MORE, PLAIN  # noqa: E402
 
 TYPES = {"i32": 0x7f, "i64": 0x7e}

@@ -175,7 +175,7 @@ class Program:
         """The instructions of a function, by the model's class for them or another."""
         if name not in self.functions:
             raise CannotShow("%s has no function %s: the compiler may have inlined it, or it has "
-                             "another name now: see tools/machine/functions.py" % (self.path, name))
+                             "another name now: see tests/machine/functions.py" % (self.path, name))
         if self.kind == "wasm":
             return wasm.parse(self.functions[name])
         start, end = self.extent(name)

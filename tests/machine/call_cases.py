@@ -2,7 +2,7 @@
 """The cases in which whole_calls.py shows the exported functions of BLAKE2b and BLAKE2s: together
 all inputs of each. In a case, some lengths are numbers, and others variables between two bounds.
 
-    tools/machine/call_cases.py FILE FAMILY EXPORT    one function, such as
+    tests/machine/call_cases.py FILE FAMILY EXPORT    one function, such as
                                 dist/x86_64/vulfsjor-v3.s blake2b _final
 
 Prints each case and its number of paths, or why it is refused."""

@@ -49,7 +49,7 @@ class Operand:
 
 
 def no_operand(text: str) -> Any:
-    return CannotShow("the operand %s is not modelled: add it to tools/machine/x86.py" % text)
+    return CannotShow("the operand %s is not modelled: add it to tests/machine/x86.py" % text)
 
 
 def operand(text: str, target: int | None) -> Operand:
@@ -115,8 +115,8 @@ class Instruction:
 
 
 def unknown(i: Any) -> Any:
-    return CannotShow("the instruction %s is not modelled: add it to tools/machine/x86.py, and run "
-                      "tools/machine/check.py --long" % i.text)
+    return CannotShow("the instruction %s is not modelled: add it to tests/machine/x86.py, and run "
+                      "tests/machine/check.py --long" % i.text)
 
 
 # Operations on vectors. Each takes sources of L bytes and perhaps a number, and returns L bytes.

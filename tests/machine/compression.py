@@ -306,7 +306,7 @@ class Loop:
                  if i.target is not None and i.target <= i.address}
         if len(heads) != 1:
             raise CannotShow("the function has %d loops instead of one: if the compiler has split "
-                             "it, tools/machine/compression.py needs a proof for that" % len(heads))
+                             "it, tests/machine/compression.py needs a proof for that" % len(heads))
         self.head, = heads
         make = call_of(name)
         self.count = make(program, name, kind, lanes, {}).count()

@@ -5,14 +5,14 @@ BLAKE2s write what the RFC says; and that no branch and no address of a whole ca
 secret. Prints TAP; the status is 1 if something failed. docs/MACHINE.md says what is shown and how
 to read the output.
 
-    tools/machine/check.py            the proofs, of whole calls only some cases of one build for
+    tests/machine/check.py            the proofs, of whole calls only some cases of one build for
                                       x86-64 and that for ARM, the rules of terms, and
                                       instructions on the processor
-    tools/machine/check.py --long     also all cases of whole calls in all builds, more runs of
+    tests/machine/check.py --long     also all cases of whole calls in all builds, more runs of
                                       each instruction, whole functions against hashlib, the types
                                       of the tool, and the changes that must be refused; the same
                                       as VULFSJOR_TEST_HUGE=1
-    tools/machine/check.py FILE..     only the proofs of these files, by their paths from the root,
+    tests/machine/check.py FILE..     only the proofs of these files, by their paths from the root,
                                       with all cases
 
 Needs Python, a C compiler, ld and objdump; for ARM aarch64-linux-gnu-gcc and binutils, and
@@ -106,7 +106,7 @@ def search(path: str) -> Any:
     if missing(path):
         return [("skip", title, "no " + missing(path))]
     found = functions.unlisted(programs.read(path))
-    why = "%s: rotates words as G does: add it to FILES in tools/machine/functions.py"
+    why = "%s: rotates words as G does: add it to FILES in tests/machine/functions.py"
     return [("not ok", title, why % ", ".join(found)) if found else ("ok", title, "")]
 
 
@@ -258,7 +258,7 @@ def scrub(path: str) -> Any:
 
 def types() -> Any:
     """The type hints of the tool, and what mypy infers from them."""
-    title = "the types of tools/machine"
+    title = "the types of tests/machine"
     if not shutil.which("mypy"):
         return [("skip", title, "no mypy")]
     files = sorted(os.path.join(HERE, name) for name in os.listdir(HERE) if name.endswith(".py"))

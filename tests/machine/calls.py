@@ -350,7 +350,7 @@ def exports(program: programs.Program) -> Iterator:
         table = tables.get(m[1], EXPORTS) if m else {}
         if not m or m[2] not in table:
             raise CannotShow("the arguments of %s are not known: add them to "
-                             "tools/machine/calls.py" % name)
+                             "tests/machine/calls.py" % name)
         program.extent(name)           # refuses what is not a function, or may be another's
         yield name, table[m[2]], m[1]
 
@@ -380,7 +380,7 @@ def show(program: programs.Program, name: str, kinds: tuple, family: str) -> Ana
               and family in FAMILIES and n % family not in analysis.entered]
     if missed:
         raise CannotShow("%s does not call %s: the compiler may have inlined it, or it has another "
-                         "name now: see tools/machine/functions.py" % (name, missed[0] % family))
+                         "name now: see tests/machine/functions.py" % (name, missed[0] % family))
     return analysis
 
 

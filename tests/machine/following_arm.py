@@ -168,7 +168,7 @@ class FollowArm(Follower, arm.Arm):
 
     def unknown(self, i: arm.Instruction) -> T.CannotShow:
         return CannotShow("the instruction %s is not modelled: add it to "
-                          "tools/machine/following_arm.py" % " ".join(i.text.split()))
+                          "tests/machine/following_arm.py" % " ".join(i.text.split()))
 
     # Memory.
 

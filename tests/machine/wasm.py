@@ -115,8 +115,8 @@ class Wasm(Machine):
             or kind in ("i32", "i64") and self.arithmetic(SIZES[kind], what)
             or self.access(kind, what, i.numbers))
         if not known:
-            raise CannotShow("the instruction %s is not modelled: add it to tools/machine/wasm.py, "
-                             "and run tools/machine/check.py --long" % i.text)
+            raise CannotShow("the instruction %s is not modelled: add it to tests/machine/wasm.py, "
+                             "and run tests/machine/check.py --long" % i.text)
         return i.next
 
     def control(self, i: Instruction) -> int | None:
@@ -141,7 +141,7 @@ class Wasm(Machine):
                 del self.operands[self.labels[-1]:]
                 return i.target
         else:
-            raise CannotShow("%s is not modelled: add it to tools/machine/wasm.py" % i.text)
+            raise CannotShow("%s is not modelled: add it to tests/machine/wasm.py" % i.text)
         return i.next
 
     def do_nop(self) -> None:

@@ -115,7 +115,7 @@ class Reader:
         known = table.get(code)
         if known is None and not (table is VECTOR and code in UNNAMED
                                   or table is MORE and code < 8):
-            raise CannotShow("the opcode %#x is not known: add it to tools/machine/wasm_format.py"
+            raise CannotShow("the opcode %#x is not known: add it to tests/machine/wasm_format.py"
                              % code)
         name, _, kinds = (known or "vector_%d" % code).partition(" ")
         return " ".join([name] + self.operands(kinds))

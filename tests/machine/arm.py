@@ -59,7 +59,7 @@ class Word:
 
 
 def unknown(text: str) -> Any:
-    return CannotShow("the operand of %s is not modelled: add it to tools/machine/arm.py" % text)
+    return CannotShow("the operand of %s is not modelled: add it to tests/machine/arm.py" % text)
 
 
 def operand(text: str) -> Any:
@@ -217,8 +217,8 @@ class Arm(Machine):
             f(name, ops, shape) for f in (self.access, self.arithmetic, self.move, self.conditional,
                                           self.three_lanes, self.shift_lanes, self.move_lanes))
         if not known:
-            raise CannotShow("the instruction %s is not modelled: add it to tools/machine/arm.py, "
-                             "and run tools/machine/check.py --long" % " ".join(i.text.split()))
+            raise CannotShow("the instruction %s is not modelled: add it to tests/machine/arm.py, "
+                             "and run tests/machine/check.py --long" % " ".join(i.text.split()))
         return i.next
 
     # Each of the following returns whether it knows this form of the instruction.
