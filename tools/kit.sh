@@ -107,16 +107,10 @@ run() {
     cat "$folder/said" >&2
     exit 1
 }
-case " \$* " in
-    *" -emit-llvm "*)
-        run "\$@"$more
-        exit
-        ;;
-esac
 target=\$1 module=module.bc text=-S
-case \$target in --target=wasm64*) text= ;; esac
+case " \$* " in *" --target=wasm64"* | *" -emit-llvm "*) text= ;; esac
 for edit in "$folder".sed "$folder"-*.sed; do
-    [ -e "\$edit" ] || continue
+    case " \$* " in *" module.bc "*) [ -e "\$edit" ] || continue ;; *) break ;; esac
     if [ "\$module" = module.bc ]; then
         module="$folder/module.ll"
         run "\$target" -S -emit-llvm -Xclang -disable-llvm-passes -x ir module.bc -o "\$module"
