@@ -51,14 +51,13 @@ def parallel_by_hashlib(name, message, **texts):
     """The same without a key, of the longest digest. `texts` are salt and person."""
     count = {"b": 4, "s": 8}[name]
     family = SCALAR[name]
-    piece = 1 << 20  # a whole number of stripes
 
     def node(data=b"", **place):
         return FAMILIES[name].function(data, fanout=count, depth=2, inner_size=family.digest, **place, **texts)
     leaves = [node(node_offset=j, last_node=j == count - 1) for j in range(count)]
-    for start in range(0, len(message), piece):
-        end = min(start + piece, len(message))
-        blocks = [message[i:min(i + family.block, end)] for i in range(start, end, family.block)]
+    for start in range(0, len(message), 1 << 20):  # a whole number of stripes
+        piece = message[start:start + (1 << 20)]
+        blocks = [piece[i:i + family.block] for i in range(0, len(piece), family.block)]
         for j, leaf in enumerate(leaves):
             leaf.update(b"".join(blocks[j::count]))
     return node(b"".join(leaf.digest() for leaf in leaves), node_depth=1, last_node=True).digest()

@@ -15,7 +15,6 @@ import subprocess
 import sys
 import sysconfig
 import tempfile
-import types
 import unittest
 import zipfile
 
@@ -85,19 +84,3 @@ if __name__ == "__main__":
     sys.exit(DONE.returncode)
 FOLDER = package()
 sys.path[:0] = [FOLDER, os.path.join(TOP, "tests")]
-import oracle  # noqa: E402
-
-
-def parallel(name):
-    """BLAKE2bp ("b") or BLAKE2sp ("s") with the interface of hashlib, which has neither, as far as
-    the tests need it."""
-    longest = oracle.SCALAR[name].digest
-
-    def make(data=b"", digest_size=longest, key=b"", **texts):
-        if key or digest_size < longest:
-            digest = oracle.parallel_digest(name, data, digest_size, key, **texts)
-        else:
-            digest = oracle.parallel_by_hashlib(name, data, **texts)
-        return types.SimpleNamespace(digest=lambda: digest)
-
-    return make

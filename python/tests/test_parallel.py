@@ -53,7 +53,8 @@ def random_words(longest):
 
 
 def digests_in_pieces(make, words, message):
-    """The digest by the data of the constructor and three updates, and by a copy between them."""
+    """The digests of an object that absorbs the message in pieces, and of a copy that is made
+    before the last of them and absorbs the rest in two."""
     cuts = sorted(min(len(message), DICE.choice([random_length(64), DICE.randint(0, len(message))]))
                   for _ in range(3))
     hasher = make(message[:cuts[0]], **words)
