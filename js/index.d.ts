@@ -1,5 +1,6 @@
 /**
- * BLAKE2b and BLAKE2s (RFC 7693) in WebAssembly, compiled from formally verified functions.
+ * BLAKE2b and BLAKE2s (RFC 7693), BLAKE2bp and BLAKE2sp in WebAssembly, compiled from formally
+ * verified functions.
  *
  * Input is a `Uint8Array`, any other view or an `ArrayBuffer`; digests are new `Uint8Array`s. A
  * string is refused: `utf8(text)` encodes it. Values of another type, unknown options and further
@@ -34,6 +35,13 @@ export interface ManyOptions {
    */
   personalization?: Bytes | undefined;
 }
+
+/**
+ * The options of BLAKE2bp, with the lengths of BLAKE2b, and of BLAKE2sp, with those of BLAKE2s.
+ * Here `salt` and `personalization` are an extension: the BLAKE2 document gives these hashes
+ * neither.
+ */
+export interface ParallelOptions extends ManyOptions {}
 
 /** The position of a node in a tree of hashes (the BLAKE2 document, section 2.10). */
 export interface NodePosition {
@@ -154,6 +162,13 @@ export type Source = BlobLike | ReadableStreamLike | FileHandleLike | AsyncItera
 export function blake2b(message: Bytes, options?: HashOptions): Uint8Array;
 /** Returns the BLAKE2s digest of a message. */
 export function blake2s(message: Bytes, options?: HashOptions): Uint8Array;
+/**
+ * Returns the BLAKE2bp digest of a message. It is not its BLAKE2b digest; long messages are hashed
+ * faster, and short ones slower.
+ */
+export function blake2bp(message: Bytes, options?: ParallelOptions): Uint8Array;
+/** Returns the BLAKE2sp digest of a message, as `blake2bp` does for BLAKE2bp. */
+export function blake2sp(message: Bytes, options?: ParallelOptions): Uint8Array;
 
 /**
  * Returns the BLAKE2b digests of several messages with the same options. Four messages in a row
@@ -201,6 +216,16 @@ export function blake2sStream(
   source: Source,
   options?: HashOptions & StreamOptions,
 ): Promise<Uint8Array>;
+/** Returns the BLAKE2bp digest of a source, as `blake2bStream` does for BLAKE2b. */
+export function blake2bpStream(
+  source: Source,
+  options?: ParallelOptions & StreamOptions,
+): Promise<Uint8Array>;
+/** Returns the BLAKE2sp digest of a source, as `blake2bStream` does for BLAKE2b. */
+export function blake2spStream(
+  source: Source,
+  options?: ParallelOptions & StreamOptions,
+): Promise<Uint8Array>;
 /**
  * Returns the `treeRoot` of everything that a source contains, which is read as by `blake2bStream`.
  * If `threads` is not 1, workers hash the leaves, and the promise rejects if one of them fails
@@ -219,7 +244,7 @@ export function treeRootStream(
 declare class Hasher {
   /** The length of the digest in bytes. */
   readonly digestLength: number;
-  /** The length of a block in bytes: 128, BLAKE2s 64. */
+  /** The length of a block in bytes: 128, BLAKE2s 64. BLAKE2bp and BLAKE2sp have the same. */
   readonly blockLength: number;
   /** Absorbs more of the message. */
   update(message: Bytes): this;
@@ -252,6 +277,16 @@ export class Blake2s extends Hasher {
   constructor(options?: HashOptions);
 }
 
+/** An incremental BLAKE2bp hash. */
+export class Blake2bp extends Hasher {
+  constructor(options?: ParallelOptions);
+}
+
+/** An incremental BLAKE2sp hash. */
+export class Blake2sp extends Hasher {
+  constructor(options?: ParallelOptions);
+}
+
 /** The root of `treeRoot`, incrementally. */
 export class TreeHash extends Hasher {
   constructor(options: TreeOptions);
@@ -270,6 +305,7 @@ export interface WritableStreamLike {
   };
 }
 
+type AnyHash = Blake2b | Blake2s | Blake2bp | Blake2sp | TreeHash;
 // The types of `dom` or of node, where there are some.
 type GlobalReadable = typeof globalThis extends { ReadableStream: { prototype: infer Stream } }
   ? Stream : ReadableStreamLike;
@@ -280,14 +316,14 @@ type GlobalWritable = typeof globalThis extends { WritableStream: { prototype: i
  * Returns a `WritableStream` that absorbs the bytes written to it into a hash, for `pipeTo`. If it
  * is aborted, or a chunk is not bytes, it ends the hash as `wipe` does.
  */
-export function hashWritable(hash: Blake2b | Blake2s | TreeHash): GlobalWritable;
+export function hashWritable(hash: AnyHash): GlobalWritable;
 
 /**
  * Returns a pair of streams that passes bytes on unchanged and absorbs them into a hash, for
  * `pipeThrough`. It reads no faster than the other side. If either side fails before the end of the
  * data, or a chunk is not bytes, it ends the hash as `wipe` does.
  */
-export function hashTransform(hash: Blake2b | Blake2s | TreeHash): {
+export function hashTransform(hash: AnyHash): {
   readable: GlobalReadable;
   writable: GlobalWritable;
 };

@@ -1,16 +1,20 @@
-// BLAKE2b and BLAKE2s (RFC 7693) by proved functions. index.d.ts documents the interface.
+// BLAKE2b, BLAKE2s (RFC 7693), BLAKE2bp and BLAKE2sp by proved functions. index.d.ts documents the
+// interface.
 
 import {
   OPTIONS, bytesOf, flagOf, isBytes, kindOf, lengthOf, offsetOf, refuseMore, settingsOf,
 } from "./src/arguments.js";
 import {
-  BLAKE2B, BLAKE2S, LEAF_DIGEST, TREE, hash, hashLeaves, hashMany, isSame, load, rootOfLeaves,
+  BLAKE2B, BLAKE2BP, BLAKE2S, BLAKE2SP, LEAF_DIGEST, TREE, hash, hashLeaves, hashMany, isSame, load,
+  rootOfLeaves,
 } from "./src/engine.js";
-import { Blake2b, Blake2s, TreeHash, hex } from "./src/hashers.js";
+import { Blake2b, Blake2bp, Blake2s, Blake2sp, TreeHash, hex } from "./src/hashers.js";
 import { hashTransform, hashWritable } from "./src/pipes.js";
 import { hashStream } from "./src/streams.js";
 
-export { Blake2b, Blake2s, TreeHash, hashTransform, hashWritable, hex, load };
+export {
+  Blake2b, Blake2bp, Blake2s, Blake2sp, TreeHash, hashTransform, hashWritable, hex, load,
+};
 
 function one(kind, caller, message, options, rest) {
   refuseMore(rest, caller, 2);
@@ -28,7 +32,7 @@ function several(kind, caller, messages, options, rest) {
         (isBytes(messages) ? "; several messages are expected, not one" : ""),
     );
   }
-  const [settings] = settingsOf(kind, options, caller, OPTIONS.several);
+  const [settings] = settingsOf(kind, options, caller, OPTIONS.basic);
   const given = Array.from(messages);
   const bytes = given.map((message, i) => bytesOf(message, caller, `message ${i}`));
   return hashMany(kind, bytes, settings);
@@ -40,6 +44,14 @@ export function blake2b(message, options, ...rest) {
 
 export function blake2s(message, options, ...rest) {
   return one(BLAKE2S, "blake2s", message, options, rest);
+}
+
+export function blake2bp(message, options, ...rest) {
+  return one(BLAKE2BP, "blake2bp", message, options, rest);
+}
+
+export function blake2sp(message, options, ...rest) {
+  return one(BLAKE2SP, "blake2sp", message, options, rest);
 }
 
 export function treeRoot(message, options, ...rest) {
@@ -103,6 +115,14 @@ export function blake2bStream(source, options, ...rest) {
 
 export function blake2sStream(source, options, ...rest) {
   return hashStream(BLAKE2S, Blake2s, "blake2sStream", source, options, rest);
+}
+
+export function blake2bpStream(source, options, ...rest) {
+  return hashStream(BLAKE2BP, Blake2bp, "blake2bpStream", source, options, rest);
+}
+
+export function blake2spStream(source, options, ...rest) {
+  return hashStream(BLAKE2SP, Blake2sp, "blake2spStream", source, options, rest);
 }
 
 export function treeRootStream(source, options, ...rest) {

@@ -29,7 +29,7 @@ import sys
 
 from blake2_kinds import FAMILIES, Parser, at_least
 from from_specification import Input, Place, bytes_of, parameter_words
-from oracle import SCALAR, parallel_digest, range_digests, root_of_leaves, tree_root
+from oracle import SCALAR, parallel_by_hashlib, parallel_digest, range_digests, root_of_leaves, tree_root
 
 FILE = os.path.join(os.path.dirname(os.path.abspath(__file__)), "vectors.json")
 NUMBERS = ("fanout", "depth", "leaf_size", "node_offset", "node_depth", "inner_size", "last_node")
@@ -94,6 +94,12 @@ def hkdf(function, longest, salt, secret, info, length):
     return key[:length]
 
 
+def given_by_hashlib(given):
+    """Whether hashlib has the nodes of BLAKE2bp and BLAKE2sp with these arguments. The program for the others is
+    slow."""
+    return "key" not in given and "digest_size" not in given
+
+
 def answer(case):
     """The digest of a case."""
     family = FAMILIES[case["hash"][-1]]
@@ -107,7 +113,9 @@ def answer(case):
     if case["kind"] == "leaves":
         return hash_of(b"".join(digests + root for *_, digests, root in ranges(case)))
     if case["kind"] == "parallel":
-        return parallel_digest(case["hash"][-1], message(case), **given)
+        if given_by_hashlib(given):
+            return parallel_by_hashlib(case["hash"][-1], message(case), **given)
+        return parallel_digest(case["hash"][-1], message(case), **{"digest_size": family.key, **given})
     if case["kind"] == "hmac":
         return hmac.new(given["key"], message(case), family.function).digest()
     if case["kind"] == "hkdf":
@@ -305,11 +313,17 @@ def random_length(dice):
     return dice.choice([piece, 2 * piece, window, 2 * window]) + dice.randint(-130, 130)
 
 
+def stripes_length(dice, block):
+    """A length of a message of BLAKE2bp or BLAKE2sp: at most four stripes, mostly around blocks."""
+    end = block * dice.randint(0, 4 * 512 // block)
+    return dice.choice([end, end + 1, max(0, end - 1), dice.randint(0, 4 * 512)])
+
+
 def random_case(dice, number):
     """A case of any kind for which a package has a call, with any of its arguments."""
     def some(least, most, *more):
         return dice.choice([least, most, *more, *[dice.randint(least, most)] * 2])
-    kind = dice.choice(["hash"] * 4 + ["root", "many"])
+    kind = dice.choice(["hash"] * 4 + ["parallel"] * 3 + ["root", "many"])
     family = "b" if kind == "root" else dice.choice("bs")
     longest, salt, length = FAMILIES[family].key, FAMILIES[family].salt, random_length(dice)
     case = {"digest_size": dice.randint(1, longest), "key": some(1, longest), "salt": some(0, salt),
@@ -324,6 +338,8 @@ def random_case(dice, number):
         case |= {"fanout": some(0, 255, 1, 2), "depth": some(1, 255, 2), "leaf_size": some(0, 2**32 - 1, 1),
                  "node_offset": str(some(0, 2**offset_bits - 1, 1)), "node_depth": some(0, 255, 1),
                  "inner_size": some(0, longest), "last_node": dice.randint(0, 1)}
+    elif kind == "parallel" and not given_by_hashlib(case):
+        length = stripes_length(dice, SCALAR[family].block)
     same = dice.randint(0, 700)
     lengths = [same if dice.random() < 0.8 else random_length(dice) for _ in range(dice.randint(0, 40))]
     case |= {"lengths": lengths} if kind == "many" else {"length": length}

@@ -198,9 +198,9 @@ function positionOf(tree, kind, caller) {
   };
 }
 
-/** The names of the options of the calls, by what they hash. */
+/** The names of the options of the calls. */
 export const OPTIONS = Object.freeze({
-  several: ["digestLength", "key", "salt", "personalization"],
+  basic: ["digestLength", "key", "salt", "personalization"],
   hash: ["digestLength", "key", "salt", "personalization", "tree"],
   tree: ["leafLength", "digestLength", "salt", "personalization"],
   leaves: ["leafLength", "first", "ends", "salt", "personalization"],
@@ -211,7 +211,7 @@ export const OPTIONS = Object.freeze({
  * key, salt and personalization (empty if not given), tree (the position of a node), and leafLength
  * if the hash is a tree's. known has the names of the call's options.
  */
-export function settingsOf(kind, options, caller, known = OPTIONS[kind.isTree ? "tree" : "hash"]) {
+export function settingsOf(kind, options, caller, known = OPTIONS[kind.options]) {
   const read = optionsOf(options, caller, "options", known);
   const most = kind.digestLength;
   const bytes = (what, least, length) => shortBytesOf(read[what], caller, what, least, length);

@@ -8,7 +8,14 @@
 import { lengthOf, partOf } from "./arguments.js";
 import { decode } from "./wasm.js";
 
-/** The properties of each hash. Lengths are in bytes; those of digest, key and salt are maxima. */
+// How many bytes of the stack a call may write: of BLAKE2b or BLAKE2s for one message, and others.
+const SHALLOW = 3072;
+const DEEP = 8192;
+
+/**
+ * The properties of each hash. Lengths are in bytes; those of digest, key and salt are maxima. The
+ * options are a name in OPTIONS.
+ */
 export const BLAKE2B = Object.freeze({
   name: "blake2b",
   digestLength: 64,
@@ -16,8 +23,10 @@ export const BLAKE2B = Object.freeze({
   saltLength: 16,
   blockLength: 128,
   stateLength: 424,
+  stackLength: SHALLOW,
   maxNodeOffset: 2n ** 64n - 1n,
   atOnce: 4,
+  options: "hash",
   isTree: false,
 });
 export const BLAKE2S = Object.freeze({
@@ -27,8 +36,33 @@ export const BLAKE2S = Object.freeze({
   saltLength: 8,
   blockLength: 64,
   stateLength: 232,
+  stackLength: SHALLOW,
   maxNodeOffset: 2n ** 48n - 1n,
   atOnce: 8,
+  options: "hash",
+  isTree: false,
+});
+// Their trees are fixed, so they are used as if they had none.
+export const BLAKE2BP = Object.freeze({
+  name: "blake2bp",
+  digestLength: 64,
+  keyLength: 64,
+  saltLength: 16,
+  blockLength: 128,
+  stateLength: 1632,
+  stackLength: DEEP,
+  options: "basic",
+  isTree: false,
+});
+export const BLAKE2SP = Object.freeze({
+  name: "blake2sp",
+  digestLength: 32,
+  keyLength: 32,
+  saltLength: 8,
+  blockLength: 64,
+  stateLength: 1600,
+  stackLength: DEEP,
+  options: "basic",
   isTree: false,
 });
 export const TREE = Object.freeze({
@@ -38,6 +72,8 @@ export const TREE = Object.freeze({
   saltLength: 16,
   blockLength: 128,
   stateLength: 912,
+  stackLength: DEEP,
+  options: "tree",
   isTree: true,
 });
 
@@ -47,18 +83,17 @@ export const LEAF_DIGEST = 64;
 const PAGE = 65536;
 const GROWN = 8 * PAGE;
 const BATCH = 64; // messages per call of the library, at most
-// Places, counted from the end of the stack.
-const STATE = 0;
-const OUT = 1024;
-const TAG = 1088;
-const KEY = 1152;
-const SALT = 1216;
-const PERSONALIZATION = 1232;
-const LIMITS = 1248;
-const PLAN = 1280;
-const PART = 1352;
-const NODE = 1400;
-const ARGUMENTS_END = 1416;
+// Places, counted from the end of the stack. The state is the last of those that each call wipes.
+const OUT = 0;
+const TAG = 64;
+const KEY = 128;
+const SALT = 192;
+const PERSONALIZATION = 208;
+const LIMITS = 224;
+const PLAN = 256;
+const PART = 328;
+const NODE = 376;
+const STATE = 392;
 const RECORDS = 2048;
 const OUTS = RECORDS + 16 * BATCH;
 const WINDOW = 8192;
@@ -66,9 +101,6 @@ const WINDOW_LENGTH = GROWN - WINDOW;
 // How many bytes of a message are copied at a time. A hash's fit into the processor's cache; a
 // tree's are the whole window, so that it holds several leaves, which are hashed in parallel.
 const PIECE = 65536;
-// How many bytes of the stack a call may write: of a hash, and of a tree or of several messages.
-const SHALLOW = 3072;
-const DEEP = 8192;
 
 class Engine {
   constructor(module) {
@@ -88,14 +120,16 @@ class Engine {
       "many",
     ];
     this.calls = {
-      blake2b: { ...functionsOf("blake2b", calls), one: exports.vulfsjor_ffi_blake2b },
-      blake2s: { ...functionsOf("blake2s", calls), one: exports.vulfsjor_ffi_blake2s },
       tree: functionsOf(
         "tree", ["init", "update", "final", "leaves", "root_of_leaves", "init_leaf", "init_root"]),
     };
+    for (const { name } of [BLAKE2B, BLAKE2S, BLAKE2BP, BLAKE2SP]) {
+      this.calls[name] = { ...functionsOf(name, calls), one: exports[`vulfsjor_ffi_${name}`] };
+    }
     this.slots = {};
-    for (const kind of [BLAKE2B, BLAKE2S, TREE]) {
-      this.slots[kind.name] = this.bytes.subarray(this.base, this.base + kind.stateLength);
+    const slot = this.base + STATE;
+    for (const kind of [BLAKE2B, BLAKE2S, BLAKE2BP, BLAKE2SP, TREE]) {
+      this.slots[kind.name] = this.bytes.subarray(slot, slot + kind.stateLength);
     }
     this.at = {}; // the places as the library's pointers
     for (const [name, place] of Object.entries({
@@ -177,12 +211,12 @@ class Engine {
   }
 
   /**
-   * Sets to zero what a call has written: the slot and the short arguments, the used bytes of the
+   * Sets to zero what a call has written: the short arguments and the slot, the used bytes of the
    * window, and the bytes of the stack that it may have used.
    */
-  clean(kind, used, depth = kind.isTree ? DEEP : SHALLOW) {
+  clean(kind, used, depth = kind.stackLength) {
     const most = kind.isTree ? WINDOW_LENGTH : PIECE;
-    this.bytes.fill(0, this.base - depth, this.base + ARGUMENTS_END);
+    this.bytes.fill(0, this.base - depth, this.base + STATE + kind.stateLength);
     this.bytes.fill(0, this.base + WINDOW, this.base + WINDOW + Math.min(used, most));
   }
 }

@@ -155,6 +155,18 @@ export class Blake2s extends Hasher {
   }
 }
 
+export class Blake2bp extends Hasher {
+  constructor(options, ...rest) {
+    super(engine.BLAKE2BP, "Blake2bp", options, rest);
+  }
+}
+
+export class Blake2sp extends Hasher {
+  constructor(options, ...rest) {
+    super(engine.BLAKE2SP, "Blake2sp", options, rest);
+  }
+}
+
 export class TreeHash extends Hasher {
   constructor(options, ...rest) {
     super(engine.TREE, "TreeHash", options, rest);

@@ -8,7 +8,9 @@ function absorber(hasher, caller, rest) {
   refuseMore(rest, caller, 1, "options are those of the hash");
   if (!(hasher instanceof Hasher)) {
     throw new TypeError(
-      `${caller}: hash must be a Blake2b, Blake2s or TreeHash, not ${kindOf(hasher)}`);
+      `${caller}: hash must be a Blake2b, Blake2s, Blake2bp, Blake2sp or TreeHash, ` +
+        `not ${kindOf(hasher)}`,
+    );
   }
   return (chunk) => {
     try {

@@ -116,7 +116,7 @@ function checkSignal(value, caller) {
 /** The digest of all chunks of a source: a hash by Hasher or, with threads, a tree by workers. */
 export async function hashStream(kind, Hasher, caller, source, options, rest) {
   refuseMore(rest, caller, 2);
-  const known = [...OPTIONS[kind.isTree ? "tree" : "hash"], "onProgress", "signal"];
+  const known = [...OPTIONS[kind.options], "onProgress", "signal"];
   if (kind.isTree) known.push("threads", "onFallback");
   const [settings, read] = settingsOf(kind, options, caller, known);
   const { onProgress, onFallback, signal, threads, ...own } = read;

@@ -5,8 +5,9 @@ import { createHash } from "node:crypto";
 import test from "node:test";
 import vm from "node:vm";
 import {
-  Blake2b, Blake2s, TreeHash, blake2b, blake2bMany, blake2bStream, blake2s, blake2sMany,
-  blake2sStream, equal, fromHex, hex, load, treeRoot, treeRootStream, utf8,
+  Blake2b, Blake2bp, Blake2s, Blake2sp, TreeHash, blake2b, blake2bMany, blake2bStream, blake2bp,
+  blake2bpStream, blake2s, blake2sMany, blake2sStream, blake2sp, blake2spStream, equal, fromHex,
+  hex, load, treeRoot, treeRootStream, utf8,
 } from "../index.js";
 import { memory } from "../src/engine.js";
 import { assertClean, hexOf } from "./common.mjs";
@@ -59,9 +60,13 @@ test("what is not bytes is refused, wherever bytes are expected", () => {
   for (const [value, said] of NO_BYTES) {
     refuses(() => blake2b(value), ...wants(value, "blake2b", "message", said));
     refuses(() => blake2s(value), ...wants(value, "blake2s", "message", said));
+    refuses(() => blake2bp(value), ...wants(value, "blake2bp", "message", said));
+    refuses(() => blake2sp(value), ...wants(value, "blake2sp", "message", said));
     refuses(() => treeRoot(value, { leafLength: 1 }), ...wants(value, "treeRoot", "message", said));
     refuses(() => new Blake2b().update(value), ...wants(value, "Blake2b.update", "message", said));
     refuses(() => new Blake2s().verify(value), ...wants(value, "Blake2s.verify", "tag", said));
+    refuses(() => new Blake2sp().update(value), ...wants(value, "Blake2sp.update", "message", said));
+    refuses(() => new Blake2bp().verify(value), ...wants(value, "Blake2bp.verify", "tag", said));
     refuses(() => blake2bMany([M, value]), ...wants(value, "blake2bMany", "message 1", said));
     refuses(() => equal(value, M), ...wants(value, "equal", "a", said));
     refuses(() => equal(M, value), ...wants(value, "equal", "b", said));
@@ -71,6 +76,8 @@ test("what is not bytes is refused, wherever bytes are expected", () => {
       refuses(() => blake2b(M, { [what]: value }), ...wants(value, "blake2b", what, said));
       refuses(() => new Blake2s({ [what]: value }), ...wants(value, "new Blake2s", what, said));
       refuses(() => blake2sMany([], { [what]: value }), ...wants(value, "blake2sMany", what, said));
+      refuses(() => blake2bp(M, { [what]: value }), ...wants(value, "blake2bp", what, said));
+      refuses(() => new Blake2sp({ [what]: value }), ...wants(value, "new Blake2sp", what, said));
     }
   }
 });
@@ -81,6 +88,8 @@ test("an option that is undefined is one that is not given", () => {
     tree: undefined,
   };
   assert.deepEqual(blake2b(M, nothing), blake2b(M));
+  const { tree, ...others } = nothing;
+  assert.deepEqual(blake2bp(M, others), blake2bp(M));
   assert.deepEqual(new Blake2s(nothing).update(M).digest(), blake2s(M));
   assert.deepEqual(blake2b(M, undefined), blake2b(M, {}));
   assert.deepEqual(blake2b(M, Object.create(null)), blake2b(M));
@@ -157,6 +166,8 @@ const NO_NUMBERS = [
 const FAMILIES = [
   ["blake2b", blake2b, Blake2b, 64, 16, 2n ** 64n - 1n],
   ["blake2s", blake2s, Blake2s, 32, 8, 2n ** 48n - 1n],
+  ["blake2bp", blake2bp, Blake2bp, 64, 16],
+  ["blake2sp", blake2sp, Blake2sp, 32, 8],
 ];
 
 for (const [name, hash, Hasher, most, short, offset] of FAMILIES) {
@@ -197,7 +208,8 @@ for (const [name, hash, Hasher, most, short, offset] of FAMILIES) {
       hexOf(hash(M, { salt: bytes(3) })), hexOf(hash(M, { personalization: bytes(3) })));
   });
 
-  test(`${name}: tree`, () => {
+  // those of BLAKE2bp and BLAKE2sp are fixed
+  if (offset !== undefined) test(`${name}: tree`, () => {
     const bounds = {
       fanout: [0, 255], depth: [1, 255], leafLength: [0, 2 ** 32 - 1], nodeDepth: [0, 255],
       innerLength: [0, most],
@@ -235,12 +247,15 @@ for (const [name, hash, Hasher, most, short, offset] of FAMILIES) {
   });
 
   test(`${name}: unknown options, and more arguments`, () => {
-    const known = "known are digestLength, key, salt, personalization, tree";
-    for (const wrong of ["dkLen", "outlen", "person", "personal", "Key", "digest_size", "length"]) {
+    const known = "known are digestLength, key, salt, personalization" + (offset ? ", tree" : "");
+    const others = ["dkLen", "outlen", "person", "personal", "Key", "digest_size", "length"];
+    for (const wrong of offset ? others : [...others, "tree", "fanout"]) {
       refuses(() => hash(M, { [wrong]: undefined }), TypeError,
         `${name}: unknown property "${wrong}" of options; ${known}`);
+      refuses(() => new Hasher({ [wrong]: {} }), TypeError,
+        `new ${Hasher.name}: unknown property "${wrong}" of options; ${known}`);
     }
-    const others = [
+    const noOptions = [
       [null, "null"], [32, "a number"], ["key", "a string"], [() => {}, "a function"],
       [bytes(3), "an instance of Uint8Array"],
       [new ArrayBuffer(3), "an instance of ArrayBuffer"], [[], "an array"],
@@ -248,7 +263,7 @@ for (const [name, hash, Hasher, most, short, offset] of FAMILIES) {
       [Promise.resolve({}), "an instance of Promise"],
       [Object.create({ digestLength: 3 }), "an instance of Object"],
     ];
-    for (const [value, said] of others) {
+    for (const [value, said] of noOptions) {
       refuses(() => hash(M, value), TypeError,
         `${name}: options must be a plain object, not ${said}`);
       refuses(() => new Hasher(value), TypeError,
@@ -366,6 +381,7 @@ test("one argument more is refused, except by five calls that ignore it", async 
     [(...words) => run[name](...words), `Blake2b.${name}`, "uv".includes(name[0]) ? [M] : []]);
   for (const [call, name, words] of [
     [blake2b, "blake2b", [M, {}]], [blake2s, "blake2s", [M, {}]], [equal, "equal", [M, M]],
+    [blake2bp, "blake2bp", [M, {}]], [blake2sp, "blake2sp", [M, {}]],
     [blake2bMany, "blake2bMany", [[], {}]], [blake2sMany, "blake2sMany", [[], {}]],
     [treeRoot, "treeRoot", [M, tree]], ...methods,
   ]) {
@@ -373,11 +389,13 @@ test("one argument more is refused, except by five calls that ignore it", async 
     assert.throws(() => call(...words, undefined), (fault) =>
       fault instanceof TypeError && fault.message.startsWith(`${name}: ${text}; `), name);
   }
-  for (const stream of [blake2bStream, blake2sStream, treeRootStream]) {
+  for (const stream of [
+    blake2bStream, blake2sStream, blake2bpStream, blake2spStream, treeRootStream,
+  ]) {
     await assert.rejects(stream(new Blob(), tree, 1),
       { name: "TypeError", message: `${stream.name}: ${tooMany(3, 2)}` });
   }
-  for (const Hasher of [Blake2b, Blake2s, TreeHash]) {
+  for (const Hasher of [Blake2b, Blake2s, Blake2bp, Blake2sp, TreeHash]) {
     assert.throws(() => new Hasher(tree, 1),
       { name: "TypeError", message: `new ${Hasher.name}: ${tooMany(2, 1)}` });
   }
@@ -391,6 +409,7 @@ test("streams reject what calls refuse", async () => {
     assert.rejects(promise, { name: Class.name, message });
   for (const [stream, one] of [
     [blake2bStream, "blake2b"], [blake2sStream, "blake2s"], [treeRootStream, "treeRoot"],
+    [blake2bpStream, "blake2bp"], [blake2spStream, "blake2sp"],
   ]) {
     for (const [source, said] of [
       [M, `an instance of Uint8Array; use ${one}()`],
@@ -412,6 +431,9 @@ test("streams reject what calls refuse", async () => {
   await rejects(blake2bStream(new Blob(), { dkLen: 3 }), TypeError,
     'blake2bStream: unknown property "dkLen" of options; ' +
       "known are digestLength, key, salt, personalization, tree, onProgress, signal");
+  await rejects(blake2spStream(new Blob(), { tree: {} }), TypeError,
+    'blake2spStream: unknown property "tree" of options; ' +
+      "known are digestLength, key, salt, personalization, onProgress, signal");
   await rejects(treeRootStream(new Blob()), TypeError, "treeRootStream: leafLength must be given");
   await rejects(blake2bStream(new Blob(), { onProgress: 5 }), TypeError,
     "blake2bStream: onProgress must be a function, not a number");

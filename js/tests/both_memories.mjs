@@ -25,16 +25,19 @@ assert.throws(
   () => new WebAssembly.Instance(new WebAssembly.Module(lower(lower(module)))), /not 64 bits wide/);
 
 const top = base + PAGES * 65536;
-const PLACES = [0, 1024, 6144, 6272, 6400, 7168, 8192];
+const PLACES = [0, 2048, 6144, 6272, 6400, 7168, 8192];
 const [STATE, OUT, KEY, SALT, NODE, RECORDS, MESSAGES] = PLACES.map((place) => base + place);
 const both = [wide, narrow].map(({ memory }) => new Uint8Array(memory.buffer));
 const put = (bytes, at) => both.forEach((memory) => memory.set(bytes, at));
 const text = (at, most) => [BigInt(at), BigInt(randomInt(most + 1))];
 
+const NOT_PARALLEL = ["_init_tree", "_init_param", "_set_last_node", "_many"];
+
 // A random call: its name and its arguments, most of which are granted.
 function someCall() {
   const isB = randomInt(2) === 0;
   const family = isB ? "blake2b" : "blake2s";
+  const isParallel = randomInt(3) === 0;
   const most = isB ? 64 : 32;
   const size = BigInt(randomInt(8) === 0 ? randomInt(2) * (most + 1) : 1 + randomInt(most));
   const key = text(KEY, most);
@@ -42,7 +45,10 @@ function someCall() {
   const state = BigInt(STATE);
   const out = [BigInt(OUT), BigInt(most)];
   const message = text(MESSAGES, randomInt(10) === 0 ? 400000 : 1000);
-  const call = (name, ...words) => [`vulfsjor_ffi_${family}${name}`, words];
+  const call = (name, ...words) => {
+    const p = isParallel && !NOT_PARALLEL.includes(name) ? "p" : "";
+    return [`vulfsjor_ffi_${family}${p}${name}`, words];
+  };
   const messages = randomInt(20);
   const tree = (name, ...words) => [`vulfsjor_ffi_tree${name}`, words];
   return [

@@ -8,8 +8,9 @@ const calls = [];
 let refused; // the name of a function that refuses
 const { Instance } = WebAssembly;
 const GIVEN = {
-  vulfsjor_ffi_blake2b: 3, vulfsjor_ffi_blake2s: 3,
-  vulfsjor_ffi_blake2b_update: 2, vulfsjor_ffi_blake2s_update: 2,
+  vulfsjor_ffi_blake2b: 3, vulfsjor_ffi_blake2s: 3, vulfsjor_ffi_blake2bp: 3,
+  vulfsjor_ffi_blake2sp: 3, vulfsjor_ffi_blake2b_update: 2, vulfsjor_ffi_blake2s_update: 2,
+  vulfsjor_ffi_blake2bp_update: 2, vulfsjor_ffi_blake2sp_update: 2,
   vulfsjor_ffi_tree_update: 2, vulfsjor_ffi_blake2b_many: 4, vulfsjor_ffi_blake2s_many: 4,
   vulfsjor_ffi_tree_leaves: 5, vulfsjor_ffi_tree_root_of_leaves: 3, vulfsjor_ffi_memcmp: 1,
 };
@@ -29,8 +30,8 @@ WebAssembly.Instance = class {
   }
 };
 const {
-  Blake2b, Blake2s, TreeHash, blake2b, blake2bMany, blake2s, blake2sMany, equal, treeLeaves,
-  treeRoot, treeRootOfLeaves,
+  Blake2b, Blake2bp, Blake2s, Blake2sp, TreeHash, blake2b, blake2bMany, blake2bp, blake2s,
+  blake2sMany, blake2sp, equal, treeLeaves, treeRoot, treeRootOfLeaves,
 } = await import("../index.js");
 const engine = await import("../src/engine.js");
 
@@ -55,6 +56,12 @@ test("a message is one call, or updates by pieces", () => {
     "blake2b_init_salt_personal", "blake2b_update 3", "blake2b_final");
   makes(() => blake2b(part(3), { personalization: part(1), tree: { lastNode: true } }),
     "blake2b_init_tree", "blake2b_set_last_node", "blake2b_update 3", "blake2b_final");
+  makes(() => blake2bp(part(PIECE), { key: part(64) }), `blake2bp ${PIECE}`);
+  makes(() => blake2bp(part(PIECE + 1)),
+    "blake2bp_init_salt_personal", `blake2bp_update ${PIECE}`, "blake2bp_update 1",
+    "blake2bp_final");
+  makes(() => blake2sp(part(3), { salt: part(1) }),
+    "blake2sp_init_salt_personal", "blake2sp_update 3", "blake2sp_final");
 });
 
 test("a tree takes the whole window at a time", () => {
@@ -120,6 +127,11 @@ test("what the library refuses is an error, and the memory is given up", () => {
     ["tree_leaves", () => treeLeaves(some, { ...tree, first: 0, ends: true })],
     ["tree_root_of_leaves", () => treeRootOfLeaves(part(64), tree)],
     ["tree_init_root", () => treeRootOfLeaves(part(WINDOW + 64), tree)],
+    ["blake2bp", () => blake2bp(some)],
+    ["blake2sp_init_salt_personal", () => new Blake2sp()],
+    ["blake2bp_final", () => new Blake2bp().digest()],
+    ["blake2sp_reset", () => new Blake2sp().reset()],
+    ["blake2sp_update", () => blake2sp(part(PIECE + 1)), "vulfsjor: the message is too long"],
     ["blake2b_update", () => blake2b(part(PIECE + 1)), "vulfsjor: the message is too long"],
   ]) {
     refused = name;
@@ -130,41 +142,61 @@ test("what the library refuses is an error, and the memory is given up", () => {
 });
 
 test("an update that is too long changes nothing", () => {
-  const wanted = new Blake2b().update(part(3)).hex();
-  for (const length of [3, PIECE + 1, 2 * PIECE]) {
-    const run = new Blake2b().update(part(3));
-    refused = "blake2b_update";
-    assert.throws(() => run.update(part(length)),
-      { name: "RangeError", message: "Blake2b.update: the message is too long" });
-    refused = undefined;
-    assert.ok(engine.memory().every((byte) => byte === 0));
-    assert.equal(run.hex(), wanted);
+  for (const Hasher of [Blake2b, Blake2bp, Blake2sp]) {
+    const wanted = new Hasher().update(part(3)).hex();
+    for (const length of [3, PIECE + 1, 2 * PIECE]) {
+      const run = new Hasher().update(part(3));
+      refused = `${Hasher.name.toLowerCase()}_update`;
+      assert.throws(() => run.update(part(length)),
+        { name: "RangeError", message: `${Hasher.name}.update: the message is too long` });
+      refused = undefined;
+      assert.ok(engine.memory().every((byte) => byte === 0));
+      assert.equal(run.hex(), wanted);
+    }
   }
   // by the library itself, at the largest count
-  const options = { digestLength: 64, key: part(0), salt: part(0), personalization: part(0) };
-  const state = engine.begin(engine.BLAKE2B, options);
-  new DataView(state.buffer).setBigUint64(128, 2n ** 64n - 1n, true);
-  const before = state.slice();
-  assert.equal(engine.update(engine.BLAKE2B, state, part(1000)), false);
-  assert.deepEqual(state, before);
-  // of two pieces, of which the library absorbs the first
-  new DataView(state.buffer).setBigUint64(128, 2n ** 64n - 1n - BigInt(PIECE), true);
-  before.set(state);
-  assert.equal(engine.update(engine.BLAKE2B, state, part(2 * PIECE)), false);
-  assert.deepEqual(state, before);
-  assert.equal(engine.update(engine.BLAKE2B, state, part(PIECE)), true);
-  assert.notDeepEqual(state, before);
+  const options = { digestLength: 32, key: part(0), salt: part(0), personalization: part(0) };
+  for (const [kind, at, leaves] of [
+    [engine.BLAKE2B, 128, 1], [engine.BLAKE2BP, 256, 4], [engine.BLAKE2SP, 256, 8],
+  ]) {
+    const state = engine.begin(kind, options);
+    // so that less than a stripe of 512 bytes has room, and a piece before it
+    const put = (room) => new DataView(state.buffer).setBigUint64(
+      at, (2n ** 64n - BigInt(room)) / BigInt(leaves), true);
+    put(512);
+    const before = state.slice();
+    assert.equal(engine.update(kind, state, part(512)), false);
+    assert.deepEqual(state, before);
+    assert.equal(engine.update(kind, state.slice(), part(511)), true);
+    // of two pieces, of which the library absorbs the first
+    put(512 + PIECE);
+    before.set(state);
+    assert.equal(engine.update(kind, state, part(2 * PIECE)), false);
+    assert.deepEqual(state, before);
+    assert.equal(engine.update(kind, state, part(PIECE)), true);
+    assert.notDeepEqual(state, before);
+  }
+});
+
+test("states have the library's sizes", () => {
+  const { exports } = new Instance(engine.moduleOf(), {});
+  const sizeOf = (name) => Number(exports[`vulfsjor_ffi_${name}_state_size`]());
+  for (const kind of ["BLAKE2B", "BLAKE2S", "BLAKE2BP", "BLAKE2SP", "TREE"]) {
+    assert.equal(engine[kind].stateLength, sizeOf(engine[kind].name), kind);
+  }
 });
 
 test("digest and verify set the state to zero", () => {
-  const options = { digestLength: 64, key: part(0), salt: part(0), personalization: part(0) };
-  for (const end of [
-    (state) => engine.final(engine.BLAKE2B, state, 64),
-    (state) => engine.verify(engine.BLAKE2B, state, 64, part(64)),
-  ]) {
-    const state = engine.begin(engine.BLAKE2B, options);
-    end(state);
-    assert.ok(state.every((byte) => byte === 0));
+  const options = { digestLength: 32, key: part(0), salt: part(0), personalization: part(0) };
+  for (const kind of [engine.BLAKE2B, engine.BLAKE2BP, engine.BLAKE2SP]) {
+    for (const end of [
+      (state) => engine.final(kind, state, 32),
+      (state) => engine.verify(kind, state, 32, part(32)),
+    ]) {
+      const state = engine.begin(kind, options);
+      end(state);
+      assert.ok(state.every((byte) => byte === 0));
+    }
   }
 });
 

@@ -39,10 +39,11 @@ export function optionsOf(given) {
 }
 
 /** The names of the package's functions and class for a case that is one hash or one root. */
-export const namesOf = ({ kind, hash }) =>
-  kind === "root"
-    ? ["treeRoot", "treeRootStream", "TreeHash"]
-    : [hash, `${hash}Stream`, hash.replace("b", "B")];
+export function namesOf({ kind, hash }) {
+  if (kind === "root") return ["treeRoot", "treeRootStream", "TreeHash"];
+  const name = kind === "parallel" ? `${hash}p` : hash;
+  return [name, `${name}Stream`, name.replace("b", "B")];
+}
 
 /** BLAKE2b-256 of these digests. */
 export function digestOf({ Blake2b }, digests) {

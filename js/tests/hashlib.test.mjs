@@ -8,7 +8,7 @@ import * as vulfsjor from "../index.js";
 import { digestOf, leavesOf, messagesOf, namesOf, optionsOf } from "./check_cases.mjs";
 import { assertClean, bytesOf, hexOf, randomCases } from "./common.mjs";
 
-const COUNT = process.env.VULFSJOR_CASES ?? (process.env.VULFSJOR_TEST_HUGE ? "10000" : "3000");
+const COUNT = process.env.VULFSJOR_CASES ?? (process.env.VULFSJOR_TEST_HUGE ? "10000" : "4000");
 const SEED = process.env.VULFSJOR_SEED ?? "7693";
 
 // A message in one of the types that hold bytes.
@@ -32,7 +32,8 @@ function checkOne(given) {
   const [hash, , Hasher] = namesOf(given).map((name) => vulfsjor[name]);
   assert.equal(hexOf(hash(dressed(message, seed), options)), digest);
   assertClean();
-  const place = Math.floor(((seed * 0.618) % 1) * (length + 1));
+  let place = Math.floor(((seed * 0.618) % 1) * (length + 1));
+  if (seed % 3 === 0) place -= place % 64; // after a block
   const run = new Hasher(options).update(dressed(message.subarray(0, place), seed + 1));
   const copy = run.copy();
   assert.equal(run.update(dressed(message.subarray(place), seed + 2)).hex(), digest);
@@ -59,7 +60,9 @@ function checkLeaves(given) {
   assertClean();
 }
 
-const CHECKS = { hash: checkOne, root: checkOne, many: checkMany, leaves: checkLeaves };
+const CHECKS = {
+  hash: checkOne, parallel: checkOne, root: checkOne, many: checkMany, leaves: checkLeaves,
+};
 
 function checkAll(cases) {
   for (const given of cases) {
@@ -77,7 +80,9 @@ test("tests/vectors.json", () => {
   const cases = groups.flatMap(({ columns, rows, ...fixed }) => rows.map((row) =>
     ({ ...fixed, ...Object.fromEntries(columns.map((name, i) => [name, row[i]])) })));
   const ours = cases.filter(({ kind }) => kind in CHECKS);
-  for (const [kind, least] of [["hash", 1744], ["many", 60], ["root", 207], ["leaves", 50]]) {
+  for (const [kind, least] of [
+    ["hash", 1744], ["parallel", 234], ["many", 60], ["root", 207], ["leaves", 50],
+  ]) {
     assert.ok(ours.filter((given) => given.kind === kind).length >= least, kind);
   }
   checkAll(ours);
@@ -92,6 +97,7 @@ test(`${COUNT} random cases of all parameters, compared with hashlib`, (t) => {
     throw fault;
   }
   assert.equal(cases.length, Number(COUNT));
+  t.diagnostic(`${cases.filter(({ kind }) => kind === "parallel").length} of BLAKE2bp, BLAKE2sp`);
   checkAll(cases);
 });
 

@@ -7,14 +7,16 @@ import { tmpdir } from "node:os";
 import { join } from "node:path";
 import test from "node:test";
 import {
-  Blake2b, Blake2s, TreeHash, blake2b, blake2bMany, blake2bStream, blake2s, blake2sStream, equal,
-  hex, treeLeaves, treeRoot, treeRootOfLeaves, treeRootStream,
+  Blake2b, Blake2bp, Blake2s, Blake2sp, TreeHash, blake2b, blake2bMany, blake2bStream, blake2bp,
+  blake2bpStream, blake2s, blake2sStream, blake2sp, equal, hex, treeLeaves, treeRoot,
+  treeRootOfLeaves, treeRootStream,
 } from "../index.js";
 import { assertClean } from "./common.mjs";
 
 const SIZE = 2 ** 32; // the longest array of node 20
 const ENDS = [[1, 0, 100], [2, SIZE - 100, 100], [3, SIZE, 1000]]; // a byte, where, and how often
 const options = { digestLength: 32 };
+const whole = { digestLength: 64 }; // hashlib has the nodes of BLAKE2bp only with the longest digest
 const [SMALL, LARGE, LONG] = [2 ** 22, 2 ** 26, 2 ** 31 + 5]; // leaves; LONG exceeds a signed word
 // By hashlib: of the first SIZE bytes, and of all.
 const WANTED = {
@@ -25,6 +27,16 @@ const WANTED = {
   blake2s: [
     "81876b6cacf6c29c7d293198dd66e86cc48a8c54f7a0537382ad22aacf5245f5",
     "95b840b29803c6af9f8bd7f99f4f3b19c3ad8826b5c17757ef25803f0c44973a",
+  ],
+  blake2bp: [
+    "93c5400e3ca2899f2668cec639978928ebb9038e705b4751da8b01ba518535f6" +
+      "09f352a861c1018d3535878721502d569e2acfe9c79a0ea4073335cf0868734a",
+    "3db16effe85252207703b976ebfb6e73c05bb6f5d07e75cd762050c40d32ca28" +
+      "3f25bfd97bc0c4af1c36e6e7c0f16b219ba39ba442abc00494107d6405332d90",
+  ],
+  blake2sp: [
+    "5f4175e853e6eca8d892f00d9c501983751f8f1e15780076c0f1a8e449734b9d",
+    "bd9e059a8ada7162c96885ba78d07d993cdf700257759cf984f46d36f5dcad40",
   ],
   [SMALL]: [
     "cb4a2836fb4cf366a314046a81de843ff870f96a8d04186d55a7c98c154501ae",
@@ -80,6 +92,8 @@ test("messages of 2^32 bytes and more", { skip }, async (t) => {
   const calls = {
     blake2b: [WANTED.blake2b[0], () => blake2b(message, options)],
     blake2s: [WANTED.blake2s[0], () => blake2s(message, options)],
+    blake2bp: [WANTED.blake2bp[0], () => blake2bp(message)],
+    blake2sp: [WANTED.blake2sp[0], () => blake2sp(message)],
     blake2bMany: [WANTED.blake2b[0], () => blake2bMany([tail, message], options)[1]],
     treeRoot: [WANTED[SMALL][0], () => treeRoot(message, treeOf(SMALL))],
     "treeLeaves, long": [WANTED[LONG][0], () => treeRootOfLeaves(
@@ -91,6 +105,7 @@ test("messages of 2^32 bytes and more", { skip }, async (t) => {
       blake2bStream(blobOf(descriptor), { ...options, onProgress })],
     "blake2sStream of a file": [WANTED.blake2s[1], () =>
       blake2sStream(createReadStream(file, { highWaterMark: 2 ** 24 }), options)],
+    "blake2bpStream of an open file": [WANTED.blake2bp[1], () => blake2bpStream(handle)],
     "treeRootStream of an open file, by threads": [WANTED[SMALL][1], () =>
       treeRootStream(handle, { ...treeOf(SMALL), threads: 0 })],
     ...Object.fromEntries([SMALL, LARGE, LONG].map((leafLength) =>
@@ -106,6 +121,7 @@ test("messages of 2^32 bytes and more", { skip }, async (t) => {
   assert.deepEqual(counts.at(-1), [SIZE + 1000, SIZE + 1000]);
   for (const [Hasher, more, [first, all]] of [
     [Blake2b, {}, WANTED.blake2b], [Blake2s, {}, WANTED.blake2s],
+    [Blake2bp, whole, WANTED.blake2bp], [Blake2sp, {}, WANTED.blake2sp],
     [TreeHash, { leafLength: LARGE }, WANTED[LARGE]],
   ]) {
     await t.test(`${Hasher.name}.update`, () => {

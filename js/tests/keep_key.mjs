@@ -2,7 +2,9 @@
 //
 //   node tests/keep_key.mjs FORM      writes a line, the key with each byte xored with 0x5a
 import { openSync, readSync, writeSync } from "node:fs";
-import { Blake2b, Blake2s, blake2b, blake2bMany, blake2s, utf8 } from "../index.js";
+import {
+  Blake2b, Blake2bp, Blake2s, Blake2sp, blake2b, blake2bMany, blake2bp, blake2s, blake2sp, utf8,
+} from "../index.js";
 
 const form = process.argv[2];
 // outside of the heap, whose collector moves what is in it and leaves copies; except where the form
@@ -15,6 +17,10 @@ const drawn = new Uint8Array(new ArrayBuffer(length));
 const tag = new Uint8Array(key.length);
 const short = utf8("a short message");
 const long = new Uint8Array(1000).fill(3);
+const copyAndReset = (run) => {
+  run.update(long).copy().update(short).digest();
+  run.reset().update(short).digest();
+};
 const forms = {
   "a key that is not forgotten": () => {},
   "blake2b in one call": () => [short, long].forEach((message) => blake2b(message, { key })),
@@ -29,11 +35,16 @@ const forms = {
   "Blake2b, digest of nothing": () => new Blake2b({ key }).digest(),
   "Blake2b, verify": () =>
     [short, long].forEach((message) => new Blake2b({ key }).update(message).verify(tag)),
-  "Blake2b, copy and reset": () => {
-    const run = new Blake2b({ key }).update(long);
-    run.copy().update(short).digest();
-    run.reset().update(short).digest();
-  },
+  "Blake2b, copy and reset": () => copyAndReset(new Blake2b({ key })),
+  "blake2bp in one call": () => [short, long].forEach((message) => blake2bp(message, { key })),
+  "blake2sp in one call": () => [short, long].forEach((message) => blake2sp(message, { key })),
+  "Blake2bp, digest": () =>
+    [short, long].forEach((message) => new Blake2bp({ key }).update(message).digest()),
+  "Blake2sp, digest": () =>
+    [short, long].forEach((message) => new Blake2sp({ key }).update(message).digest()),
+  "Blake2bp, verify": () =>
+    [short, long].forEach((message) => new Blake2bp({ key }).update(message).verify(tag)),
+  "Blake2bp, copy and reset": () => copyAndReset(new Blake2bp({ key })),
   "Blake2b, wipe": () => new Blake2b({ key }).update(long).wipe(),
   "Blake2b, dropped": () => {
     (() => new Blake2b({ key }))();

@@ -56,7 +56,9 @@ async function piecesAfter(form) {
 const FORMS = [
   "blake2b in one call", "blake2s in one call", "blake2bMany", "Blake2b, digest", "Blake2s, digest",
   "blake2b of a key in the heap", "Blake2b of a key in the heap", "Blake2b, digest of nothing",
-  "Blake2b, verify", "Blake2b, copy and reset", "Blake2b, wipe", "Blake2b, dropped",
+  "blake2bp in one call", "blake2sp in one call", "Blake2bp, digest", "Blake2sp, digest",
+  "Blake2bp, verify", "Blake2bp, copy and reset", "Blake2b, verify", "Blake2b, copy and reset",
+  "Blake2b, wipe", "Blake2b, dropped",
 ];
 
 test("pieces of a key in the memory of the process", async (t) => {

@@ -10,7 +10,8 @@ import { Duplex, Readable, Writable } from "node:stream";
 import { finished, pipeline } from "node:stream/promises";
 import test from "node:test";
 import {
-  Blake2b, Blake2s, TreeHash, blake2s, hashTransform, hashWritable, hex, treeRoot, utf8,
+  Blake2b, Blake2bp, Blake2s, Blake2sp, TreeHash, blake2bp, blake2s, blake2sp, hashTransform,
+  hashWritable, hex, treeRoot, utf8,
 } from "../index.js";
 
 const MESSAGE = new Uint8Array(randomBytes(1_000_000));
@@ -26,6 +27,7 @@ function assertEnded(hash) {
 test("streams of the web are hashed on the way, and passed on unchanged", async () => {
   const hashes = [
     new Blake2b(), new Blake2s({ key: utf8("key") }), new TreeHash({ leafLength: 5 }),
+    new Blake2bp(), new Blake2sp({ key: utf8("key") }),
   ];
   const last = new Blake2b();
   let stream = new Blob([MESSAGE]).stream();
@@ -37,7 +39,7 @@ test("streams of the web are hashed on the way, and passed on unchanged", async 
   ]);
   assert.deepEqual([...hashes.map((hash) => hash.hex()), last.hex()], [
     WANTED, hex(blake2s(MESSAGE, { key: utf8("key") })), hex(treeRoot(MESSAGE, { leafLength: 5 })),
-    WANTED,
+    hex(blake2bp(MESSAGE)), hex(blake2sp(MESSAGE, { key: utf8("key") })), WANTED,
   ]);
   const empty = new Blake2b();
   await new Blob([]).stream().pipeTo(hashWritable(empty));
@@ -174,7 +176,8 @@ test("only hashes are accepted, and no options", () => {
     ]) {
       assert.throws(() => helper(value), {
         name: "TypeError",
-        message: `${name}: hash must be a Blake2b, Blake2s or TreeHash, not ${said}`,
+        message: `${name}: hash must be a Blake2b, Blake2s, Blake2bp, Blake2sp or TreeHash, ` +
+          `not ${said}`,
       });
     }
     assert.throws(() => helper(new Blake2b(), {}), {

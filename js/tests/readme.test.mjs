@@ -7,14 +7,14 @@ import test from "node:test";
 import { fileURLToPath } from "node:url";
 import { hashRow, rootRow } from "../../bench/javascript.mjs";
 import { blake2b } from "../index.js";
-import { BLAKE2B, BLAKE2S, LEAF_DIGEST, TREE, memory } from "../src/engine.js";
+import { BLAKE2B, BLAKE2BP, BLAKE2S, BLAKE2SP, LEAF_DIGEST, TREE, memory } from "../src/engine.js";
 import { LONGEST_LEAF } from "../src/threads.js";
 import { MOST_THREADS } from "../src/workers.js";
 
 const cwd = fileURLToPath(new URL("..", import.meta.url));
 const read = (path) => readFileSync(new URL(path, import.meta.url), "utf8");
 
-for (const [page, count] of [["js/README.md", 9], ["README.md", 1]]) {
+for (const [page, count] of [["js/README.md", 10], ["README.md", 1]]) {
   test(`each example of ${page} runs alone`, () => {
     const blocks = [...read(`../../${page}`).matchAll(/```js\n([^`]*)```/g)];
     assert.equal(blocks.length, count);
@@ -33,6 +33,11 @@ test("the numbers in index.d.ts and README.md are those of the code", () => {
   const [b, s] = [BLAKE2B, BLAKE2S];
   const power = (max) => `2^${max.toString(2).length}`;
   const numeral = { 4: "Four", 8: "Eight" };
+  for (const [plain, parallel] of [[b, BLAKE2BP], [s, BLAKE2SP]]) {
+    for (const what of ["digestLength", "keyLength", "saltLength", "blockLength"]) {
+      assert.equal(parallel[what], plain[what]);
+    }
+  }
   blake2b(new Uint8Array(0)); // so that there is a memory
   const types = read("../index.d.ts").replace(/\s+(\* )?/g, " ");
   const page = read("../README.md").replace(/\s+/g, " ");

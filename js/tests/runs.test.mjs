@@ -5,7 +5,8 @@ import test from "node:test";
 import v8 from "node:v8";
 import vm from "node:vm";
 import {
-  Blake2b, Blake2s, TreeHash, blake2b, blake2bMany, equal, load, treeRoot, utf8,
+  Blake2b, Blake2bp, Blake2s, Blake2sp, TreeHash, blake2b, blake2bMany, blake2bp, equal, load,
+  treeRoot, utf8,
 } from "../index.js";
 import { memory } from "../src/engine.js";
 import { assertClean, hexOf } from "./common.mjs";
@@ -15,8 +16,11 @@ const KEY = new Uint8Array(32).fill(0xa5);
 const HASHERS = [
   [Blake2b, {}], [Blake2b, { key: KEY, salt: M, personalization: M, digestLength: 20 }],
   [Blake2s, {}], [Blake2s, { key: KEY, tree: { lastNode: true, fanout: 2, depth: 2 } }],
+  [Blake2bp, {}], [Blake2bp, { key: KEY, salt: M, personalization: M, digestLength: 20 }],
+  [Blake2sp, {}], [Blake2sp, { key: KEY, salt: M, personalization: M }],
   [TreeHash, { leafLength: 5, salt: M }],
 ];
+const isSmall = (Hasher) => Hasher === Blake2s || Hasher === Blake2sp;
 
 for (const [Hasher, options] of HASHERS) {
   const name = `${Hasher.name} of ${Object.keys(options)}`;
@@ -61,8 +65,8 @@ for (const [Hasher, options] of HASHERS) {
         });
       }
       run.wipe();
-      assert.equal(run.digestLength, options.digestLength ?? (Hasher === Blake2s ? 32 : 64));
-      assert.equal(run.blockLength, Hasher === Blake2s ? 64 : 128);
+      assert.equal(run.digestLength, options.digestLength ?? (isSmall(Hasher) ? 32 : 64));
+      assert.equal(run.blockLength, isSmall(Hasher) ? 64 : 128);
     }
   });
 
@@ -99,7 +103,7 @@ for (const [Hasher, options] of HASHERS) {
   test(`${name}: nothing is left in the library's memory after any call`, () => {
     const run = new Hasher(options);
     assertClean("new");
-    for (const length of [0, 1, 64, 128, 129, 1000, 65536, 65537, 600000]) {
+    for (const length of [0, 1, 64, 128, 129, 512, 513, 1000, 65536, 65537, 600000]) {
       run.update(new Uint8Array(length).fill(0x5a));
       assertClean(`update of ${length}`);
       const copy = run.copy();
@@ -194,6 +198,7 @@ test("a stack that is full ends a call, and not the library", () => {
   const calls = [
     () => blake2b(M), () => new Blake2b({ key: KEY }).update(M).digest(), () => equal(M, M),
     () => treeRoot(long, { leafLength: 999 }), () => blake2bMany([M, M, M, M, long]),
+    () => blake2bp(M), () => new Blake2sp({ key: KEY }).update(long).digest(),
   ];
   const seen = new Set();
   for (const call of calls) {

@@ -7,7 +7,8 @@ import { tmpdir } from "node:os";
 import { join } from "node:path";
 import test from "node:test";
 import {
-  blake2b, blake2bStream, blake2s, blake2sStream, treeRoot, treeRootStream, utf8,
+  blake2b, blake2bStream, blake2bp, blake2bpStream, blake2s, blake2sStream, blake2sp,
+  blake2spStream, treeRoot, treeRootStream, utf8,
 } from "../index.js";
 import { hexOf } from "./common.mjs";
 
@@ -49,7 +50,11 @@ test("a blob, a stream, an async iterable and a file have one digest", async () 
 
 test("the other hashes, and empty sources", async () => {
   const blob = new Blob([MESSAGE]);
-  assert.deepEqual(await blake2sStream(blob, { salt: KEY }), blake2s(MESSAGE, { salt: KEY }));
+  for (const [stream, one] of [
+    [blake2sStream, blake2s], [blake2bpStream, blake2bp], [blake2spStream, blake2sp],
+  ]) {
+    assert.deepEqual(await stream(blob, { salt: KEY }), one(MESSAGE, { salt: KEY }));
+  }
   const options = { leafLength: 65536, digestLength: 20, personalization: KEY };
   assert.deepEqual(await treeRootStream(blob, options), treeRoot(MESSAGE, options));
   assert.equal(hexOf(await blake2bStream(new Blob([]))), createHash("blake2b512").digest("hex"));

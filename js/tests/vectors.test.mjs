@@ -44,6 +44,7 @@ for (const [hash, Hasher, lengths, inputs, wanted] of SELF_TESTS) {
 test("the values of the README and of the package for Python", () => {
   const hello = utf8("hello world");
   assert.equal(hexOf(blake2b(hello, { digestLength: 16 })), "e9a804b2e527fd3601d2ffc0bb023cd6");
+  assert.equal(hexOf(vulfsjor.blake2bp(hello, { digestLength: 8 })), "9c84350dd8a3243f");
   assert.equal(hexOf(treeRoot(hello, { leafLength: 4096, digestLength: 8 })), "15312d2d5f65d53e");
   assert.deepEqual(
     vulfsjor.blake2bMany([utf8("abc"), utf8("xyz")], { digestLength: 4 }).map(hexOf),
@@ -53,8 +54,9 @@ test("the values of the README and of the package for Python", () => {
 
 test("the names that the package has", () => {
   assert.deepEqual(Object.keys(vulfsjor).sort(), [
-    "Blake2b", "Blake2s", "TreeHash", "blake2b", "blake2bMany", "blake2bStream", "blake2s",
-    "blake2sMany", "blake2sStream", "equal", "fromHex", "hashTransform", "hashWritable", "hex",
+    "Blake2b", "Blake2bp", "Blake2s", "Blake2sp", "TreeHash", "blake2b", "blake2bMany",
+    "blake2bStream", "blake2bp", "blake2bpStream", "blake2s", "blake2sMany", "blake2sStream",
+    "blake2sp", "blake2spStream", "equal", "fromHex", "hashTransform", "hashWritable", "hex",
     "load", "treeLeaves", "treeRoot", "treeRootOfLeaves", "treeRootStream", "utf8",
   ]);
 });

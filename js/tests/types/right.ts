@@ -1,8 +1,9 @@
 // Compiles, and each line marked as an error is one.
 import {
-  Blake2b, Blake2s, TreeHash, blake2b, blake2bMany, blake2bStream, blake2s, equal, fromHex,
+  Blake2b, Blake2bp, Blake2s, Blake2sp, TreeHash, blake2b, blake2bMany, blake2bStream, blake2bp,
+  blake2bpStream, blake2s, blake2sp, blake2spStream, equal, fromHex,
   hashTransform, hashWritable, hex, load, treeLeaves, treeRoot, treeRootOfLeaves, treeRootStream, utf8, type Bytes, type FileHandleLike,
-  type HashOptions, type ManyOptions,
+  type HashOptions, type ManyOptions, type ParallelOptions,
 } from "vulfsjor";
 
 const digest: Uint8Array = blake2b(
@@ -18,19 +19,24 @@ const roots: Uint8Array[] = [
 ];
 const ofEach: ManyOptions = { key: digest };
 const many: Uint8Array[] = blake2bMany(new Set<Bytes>([digest, new SharedArrayBuffer(3)]), ofEach);
+const parallel: ParallelOptions = { key: digest, salt: digest, personalization: digest };
+const others: Uint8Array[] = [
+  blake2bp(digest), blake2sp(digest, parallel), new Blake2sp(parallel).update(digest).digest(),
+];
 async function all(file: Blob, signal: AbortSignal): Promise<Uint8Array[]> {
   await load();
   return [
     await blake2bStream(
       file, { key: digest, signal, onProgress: (bytes, total) => console.log(bytes, total ?? 0) }),
     await blake2bStream(file.stream()),
+    await blake2bpStream(file, parallel), await blake2spStream(file, { signal }),
     await treeRootStream(
       file, { leafLength: 65536, threads: 4, onFallback: (reason) => { throw reason; } }),
     treeRootOfLeaves(
       treeLeaves(digest, { leafLength: 5, first: 0n, ends: true }), { leafLength: 5 }),
   ];
 }
-console.log(isSame, roots, many, all, new Blake2b()[Symbol.dispose]);
+console.log(isSame, roots, many, others, all, new Blake2b()[Symbol.dispose]);
 
 // a source of node
 declare const handle: FileHandleLike;
@@ -51,6 +57,7 @@ blake2bStream(file, { signal: new AbortController() });
 
 // pipes of a browser
 const copied: Promise<void> = file.stream().pipeThrough(hashTransform(new Blake2b()))
+  .pipeThrough(hashTransform(new Blake2bp()))
   .pipeTo(hashWritable(new TreeHash({ leafLength: 5 })));
 console.log(copied);
 // @ts-expect-error options are those of the hash
@@ -84,5 +91,11 @@ new TreeHash({ leafLength: 5, key: digest });
 new Blake2b().digest("hex");
 // @ts-expect-error a tag is bytes
 new Blake2b().verify("00");
+// @ts-expect-error the tree of BLAKE2bp is fixed
+blake2bp(digest, { tree: {} });
+// @ts-expect-error the tree of BLAKE2sp is fixed
+new Blake2sp({ tree: {} });
+// @ts-expect-error only trees have threads
+blake2bpStream(new Blob([]), { threads: 2 });
 // @ts-expect-error several messages have no place in a tree
 blake2bMany([digest], { tree: {} });
