@@ -5,6 +5,7 @@ import test from "node:test";
 
 // Instances whose functions note their name and the arguments that say how much they are given.
 const calls = [];
+const passed = {}; // all arguments of the last call of a function
 let refused; // the name of a function that refuses
 const { Instance } = WebAssembly;
 const GIVEN = {
@@ -24,6 +25,7 @@ WebAssembly.Instance = class {
           const amount = given[GIVEN[name]] ?? "";
           const called = name.replace("vulfsjor_ffi_", "");
           calls.push(`${called} ${amount}`.trim());
+          passed[called] = given;
           return called === refused ? -1 : value(...given);
         }];
       }));
@@ -176,6 +178,19 @@ test("an update that is too long changes nothing", () => {
     assert.equal(engine.update(kind, state, part(PIECE)), true);
     assert.notDeepEqual(state, before);
   }
+});
+
+test("the places of state and arguments do not overlap", () => {
+  new Blake2b({ key: part(64), salt: part(16), personalization: part(16), tree: {} })
+    .update(part(3)).digest();
+  new Blake2b().verify(part(64));
+  const [state, , key, , salt, , personalization, , node] = passed.blake2b_init_tree;
+  const places = [
+    [state, engine.BLAKE2BP.stateLength], [key, 64], [salt, 16], [personalization, 16], [node, 16],
+    [passed.blake2b_final[1], 64], [passed.blake2b_verify[1], 64],
+    [passed.blake2b_update[1], WINDOW],
+  ].map(([at, length]) => [Number(at), Number(at) + length]).sort(([a], [b]) => a - b);
+  for (let i = 1; i < places.length; i++) assert.ok(places[i - 1][1] <= places[i][0], `${i}`);
 });
 
 test("states have the library's sizes", () => {
