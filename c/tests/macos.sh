@@ -69,7 +69,8 @@ is_universal() {
         llvm-nm --arch=arm64 "$1" | grep -q ' T _vulfsjor_ffi_blake2b_.*_arm$'
 }
 
-# One command makes it, and so does CMake. lipo is LLVM's.
+# One command makes it, and so does CMake. If one of the processors has no text, CMake compiles
+# portable C for all. lipo is LLVM's.
 makes_universal() {
     local build=$work/universal
     mkdir -p "$build/bin" && ln -sf "$lipo" "$build/bin/lipo" && export PATH=$build/bin:$PATH &&
@@ -80,10 +81,11 @@ makes_universal() {
         -DCMAKE_C_COMPILER="$work/arm64" -DCMAKE_OSX_ARCHITECTURES="arm64;x86_64" \
         -DCMAKE_OSX_SYSROOT="$sdk" -DCMAKE_TRY_COMPILE_TARGET_TYPE=STATIC_LIBRARY &&
         cmake --build "$build" && is_universal "$(find "$build" -name vulfsjor.S.o)" &&
-        ! cmake -S "$here" -B "$build/none" -DCMAKE_SYSTEM_NAME=Darwin \
+        cmake -S "$here" -B "$build/other" -DCMAKE_SYSTEM_NAME=Darwin \
             -DCMAKE_C_COMPILER="$work/arm64" -DCMAKE_OSX_ARCHITECTURES="arm64;i386" \
-            -DCMAKE_OSX_SYSROOT="$sdk" -DCMAKE_TRY_COMPILE_TARGET_TYPE=STATIC_LIBRARY \
-            2>"$build/said" && grep -q "vulfsjor has no code for Darwin" "$build/said"
+            -DCMAKE_OSX_SYSROOT="$sdk" -DCMAKE_TRY_COMPILE_TARGET_TYPE=STATIC_LIBRARY &&
+        grep -q "dist/c/vulfsjor\.c" "$build/other/CMakeFiles/vulfsjor.dir/build.make" &&
+        ! grep -q "vulfsjor\.S" "$build/other/CMakeFiles/vulfsjor.dir/build.make"
 }
 
 # The program is linked, and calls what the list above has.

@@ -82,13 +82,14 @@ test("the lowered module is valid, and is that of the package", () => {
   assert.deepEqual(lower(readFileSync(MODULE)), bytes);
 });
 
-test("10,000 random calls of both modules return the same and leave the same memory", () => {
+test("20,000 random calls of both modules return the same and leave the same memory", () => {
   const flags = Number(process.versions.node.split(".")[0]) < 24
     ? ["--experimental-wasm-memory64"] : [];
   const text = execFileSync(
-    process.execPath, [...flags, here("both_memories.mjs"), MODULE, "10000"], { encoding: "utf8" });
+    process.execPath, [...flags, here("both_memories.mjs"), MODULE, "20000"], { encoding: "utf8" });
   const answers = JSON.parse(text);
-  // each function was called, and each that refuses was seen to do both
+  // each function was called, and each that refuses was seen to do both: of the rarest of these
+  // answers there are about eight
   assert.equal(new Set(Object.keys(answers).map((each) => each.split(" ")[0])).size, 69);
   for (const name of [
     "blake2b", "blake2s_init_salt_personal", "blake2b_update", "blake2s_final", "blake2b_many",
@@ -96,7 +97,7 @@ test("10,000 random calls of both modules return the same and leave the same mem
     "tree_leaves", "tree_root_of_leaves", "memcmp",
   ]) {
     assert.ok(
-      answers[`vulfsjor_ffi_${name} 0`] > 10 && answers[`vulfsjor_ffi_${name} -1`] > 3,
+      answers[`vulfsjor_ffi_${name} 0`] > 0 && answers[`vulfsjor_ffi_${name} -1`] > 0,
       `${name} ${answers[`vulfsjor_ffi_${name} 0`]} ${answers[`vulfsjor_ffi_${name} -1`]}`);
   }
 });
