@@ -16,7 +16,8 @@ Three things are more than a translation, and each is refused in any other form:
     the array. Whether the stack has room is not asked (C cannot know).
   - The flag that a call is under way (Rattle's global 1) is left out, because threads would share it.
   - scrub_stack::<=N>, which does nothing in WebAssembly, becomes a function that overwrites N bytes of the C stack, and
-    MARGIN more.
+    MARGIN more, or MARGIN_OF_LEAVES in calls of BLAKE2bp and BLAKE2sp: without vector registers, several leaves at once
+    need more of the stack.
 """
 import os
 import re
@@ -30,7 +31,7 @@ from wasm_format import Module, Reader  # noqa: E402
 
 BITS = {"i32": 32, "i64": 64}
 LONGEST = 200  # characters of an expression, about
-MARGIN = 1024  # bytes of the stack
+MARGIN, MARGIN_OF_LEAVES = 1024, 6144  # bytes of the stack
 COMPARISONS = {"eq": "==", "ne": "!=", "lt": "<", "gt": ">", "le": "<=", "ge": ">="}
 OPERATORS = {"add": "+", "sub": "-", "mul": "*", "and": "&", "or": "|", "xor": "^"}
 TOP, FRAME = "top", "frame"  # what an address on the stack is counted from
@@ -332,7 +333,7 @@ class Body:
         callee = program.functions[k]
         arguments = [self.pop(type_) for type_ in reversed(callee.parameters)][::-1]
         self.before_write()
-        text = f"{program.c_name(k)}({', '.join(bare(value.text) for value in arguments)})"
+        text = f"{program.callee(k)}({', '.join(bare(value.text) for value in arguments)})"
         program.calls.setdefault(self.function, set()).add(k)
         if callee.results:
             self.push(Value(callee.results[0], text, arguments))
@@ -588,7 +589,7 @@ class Program:
         self.functions, self.names = module.functions, module.names
         refuse_unless(sorted(self.names) == list(range(len(self.functions))), "functions without names")
         self.parts, self.header = Parts(), Header(header)
-        self.used, self.calls = {"head"}, {}
+        self.used, self.calls, self.margins, self.caller = {"head"}, {}, {}, ""
         self.check_runtime()
         wanted = set(self.header.functions)
         refuse_unless(set(self.exports) == wanted, f"other functions than the header's: "
@@ -626,13 +627,24 @@ class Program:
         name = re.sub("^vulfsjor_ffi_", "module::", self.names[k]).replace("rattle::export vulfsjor_ffi_", "exported::")
         return re.sub("[^A-Za-z0-9_]+", "_", name).strip("_")
 
+    def callee(self, k):
+        """The name of a function that the one being translated calls."""
+        if not self.scrubbed(k):
+            return self.c_name(k)
+        is_of_leaves = bool(re.search("blake2[bs]p", self.caller))
+        self.margins.setdefault(k, {})[is_of_leaves] = MARGIN_OF_LEAVES if is_of_leaves else MARGIN
+        return self.c_name(k) + "_of_leaves" * is_of_leaves
+
+    def wiping(self, k):
+        """The functions that overwrite the stack in the place of one of the module."""
+        self.needs("scrub")
+        return "\n".join(f"SCRUB({self.c_name(k)}{'_of_leaves' * is_of_leaves}, {self.scrubbed(k) + margin})"
+                         for is_of_leaves, margin in sorted(self.margins[k].items()))
+
     def function(self, k):
         """A function of the module."""
-        function = self.functions[k]
+        function, self.caller = self.functions[k], self.names[k]
         refuse_unless(len(function.results) <= 1, "several results")
-        if self.scrubbed(k):
-            self.needs("scrub")
-            return f"SCRUB({self.c_name(k)}, {self.scrubbed(k) + MARGIN})"
         result = c_type(function.results[0]) if function.results else "void"
         words = ", ".join(f"{c_type(type_)} v{k}" for k, type_ in enumerate(function.parameters))
         head = textwrap.fill(f"APART {result} {self.c_name(k)}({words or 'void'}) {{", 100, subsequent_indent=" " * 8)
@@ -644,7 +656,7 @@ class Program:
 
         def visit(k):
             if k not in texts:
-                texts[k] = self.function(k)
+                texts[k] = None if self.scrubbed(k) else self.function(k)
                 for callee in sorted(self.calls.get(self.functions[k], ())):
                     visit(callee)
                 order.append(k)
@@ -653,7 +665,7 @@ class Program:
             visit(self.exports[name])
         names = [self.c_name(k) for k in order]
         refuse_unless(len({*names}) == len(names), "two functions whose names are one in C")
-        return [texts[k] for k in order]
+        return [texts[k] or self.wiping(k) for k in order]
 
     def struct(self, type_, name, is_const):
         """The statements that convert a structure of the header for the module, before and after a call."""

@@ -5,6 +5,7 @@
  *   n FAMILY SIZE KEY SALT PERSONA NUMBERS MESSAGE DIGEST     a node of a tree
  *   r b SIZE SALT PERSONA LEAF MESSAGE ROOT                   a tree of two levels
  *   m FAMILY SIZE KEY SALT PERSONA MESSAGE,.. DIGEST          BLAKE2b-256 of the joined digests
+ *   p FAMILY SIZE KEY SALT PERSONA MESSAGE DIGEST             BLAKE2bp or BLAKE2sp
  *
  * Bytes are hexadecimal digits, and - is none. Prints how many cases there were; the status is 0 if
  * all digests are right. */
@@ -73,6 +74,27 @@ static vulfsjor_tree numbers_of(const char *words, int *last) {
 HASH(b)
 HASH(s)
 
+/* The digest of a parallel hash. */
+#define PARALLEL(x)                                                                                \
+    static int hash_##x(uint8_t *out, size_t size, text key, text salt, text persona,              \
+                        text message) {                                                            \
+        vulfsjor_blake2##x##_state state;                                                          \
+        size_t a = message.length / 3, b = message.length - message.length / 5;                    \
+        if (!salt.length && !persona.length && message.length % 2)                                 \
+            return vulfsjor_blake2##x(out, size, message.bytes, message.length, key.bytes,         \
+                                      key.length);                                                 \
+        if (vulfsjor_blake2##x##_init_salt_personal(&state, size, key.bytes, key.length,           \
+                                                    salt.bytes, salt.length, persona.bytes,        \
+                                                    persona.length) ||                             \
+            vulfsjor_blake2##x##_update(&state, message.bytes, a) ||                               \
+            vulfsjor_blake2##x##_update(&state, message.bytes + a, b - a) ||                       \
+            vulfsjor_blake2##x##_update(&state, message.bytes + b, message.length - b))            \
+            return -1;                                                                             \
+        return vulfsjor_blake2##x##_final(&state, out, size);                                      \
+    }
+PARALLEL(bp)
+PARALLEL(sp)
+
 /* The digest of the joined digests of messages between commas. */
 static int hash_many(uint8_t *out, int is_b, size_t size, text key, text salt, text persona,
                      char *words) {
@@ -109,6 +131,8 @@ static int is_right(char **field, int count) {
         text key = from_hex(field[3]), salt = from_hex(field[4]), persona = from_hex(field[5]);
         if (kind == 'm')
             status = hash_many(out, is_b, size, key, salt, persona, field[6]);
+        else if (kind == 'p')
+            status = (is_b ? hash_bp : hash_sp)(out, size, key, salt, persona, from_hex(field[6]));
         else
             status = (is_b ? hash_b : hash_s)(out, size, key, salt, persona,
                                               kind == 'n' ? field[6] : NULL,

@@ -31,13 +31,15 @@ names_are_one() {
 
 # One function more or one less in a file is refused before anything is made.
 join_refuses_a_difference() {
-    local copy=$work/copy file edit wanted
+    local copy=$work/copy file edit wanted given
     mkdir -p "$copy" && cp "${texts[@]}" "$dist/c/vulfsjor.c" "$copy" || return 1
     while read -r file wanted edit; do
         cp -R "$here"/{choose.c,calls.h,threads.c,join.sh,include,libb2} "$copy" &&
             cp "$copy/$file" "$work/kept" && sed -i "$edit" "$copy/$file" &&
             ! cmp -s "$copy/$file" "$work/kept" || return 1
-        ! "$copy/join.sh" "$work/refused" "${texts[@]/#*\//$copy/}" "$copy/vulfsjor.c" 2>"$work/said" &&
+        given=("${texts[@]/#*\//$copy/}")
+        [ "$file" != vulfsjor.c ] || given=("$copy/$file")
+        ! "$copy/join.sh" "$work/refused" "${given[@]}" 2>"$work/said" &&
             grep -qxF -- "${wanted/_/ }" "$work/said" && [ ! -e "$work/refused/libvulfsjor.a" ] &&
             cp "$work/kept" "$copy/$file" || { echo "$file: $edit"; return 1; }
     done < <(

@@ -1426,6 +1426,7 @@ l2:;
 }
 
 SCRUB(blake2_digest_wiping_scrub_stack_3072, 4096)
+SCRUB(blake2_digest_wiping_scrub_stack_3072_of_leaves, 9216)
 
 /* blake2_ffi::blake2b::write_keyed */
 APART uint32_t blake2_ffi_blake2b_write_keyed(uint64_t v0, uint64_t v1, uint64_t v2, uint64_t v3,
@@ -11112,7 +11113,7 @@ l2:;
     return v7;
 }
 
-SCRUB(blake2_digest_wiping_scrub_stack_7168, 8192)
+SCRUB(blake2_digest_wiping_scrub_stack_7168_of_leaves, 13312)
 
 /* rattle::export vulfsjor_ffi_blake2bp */
 APART uint32_t exported_blake2bp(uint64_t v0, uint64_t v1, uint64_t v2, uint64_t v3, uint64_t v4,
@@ -11122,7 +11123,7 @@ APART uint32_t exported_blake2bp(uint64_t v0, uint64_t v1, uint64_t v2, uint64_t
         ? UINT64_C(4096) : UINT64_C(0)), v3, v4 + (v4 == 0 ? UINT64_C(4096) : UINT64_C(0)), v5);
     v7 = t0;
     if (v5 == 0) goto l2;
-    blake2_digest_wiping_scrub_stack_7168();
+    blake2_digest_wiping_scrub_stack_7168_of_leaves();
 l2:;
     return v7;
 }
@@ -11337,7 +11338,7 @@ l2:;
     return UINT32_C(0xffffffff);
 }
 
-SCRUB(blake2_digest_wiping_scrub_stack_2304, 3328)
+SCRUB(blake2_digest_wiping_scrub_stack_2304_of_leaves, 8448)
 
 /* rattle::export vulfsjor_ffi_blake2bp_init_salt_personal */
 APART uint32_t exported_blake2bp_init_salt_personal(uint64_t v0, uint64_t v1, uint64_t v2, uint64_t
@@ -11348,7 +11349,7 @@ APART uint32_t exported_blake2bp_init_salt_personal(uint64_t v0, uint64_t v1, ui
         UINT64_C(0)), v7);
     v9 = t0;
     if (v3 == 0) goto l2;
-    blake2_digest_wiping_scrub_stack_2304();
+    blake2_digest_wiping_scrub_stack_2304_of_leaves();
 l2:;
     return v9;
 }
@@ -11372,7 +11373,7 @@ l1:;
     t0 = blake2_ffi_blake2bp_initialize(v0, v1, v2 + (v2 == 0 ? UINT64_C(4096) : UINT64_C(0)), v3,
         UINT64_C(0x100000), UINT64_C(0), UINT64_C(0x100000), UINT64_C(0));
     v5 = t0;
-    blake2_digest_wiping_scrub_stack_2304();
+    blake2_digest_wiping_scrub_stack_2304_of_leaves();
     return v5;
 }
 
@@ -11393,7 +11394,7 @@ APART void blake2_ffi_blake2bp_absorb(uint64_t v0, uint64_t v1, uint64_t v2) {
 /* blake2_ffi::blake2bp::absorb_scrubbed */
 APART void blake2_ffi_blake2bp_absorb_scrubbed(uint64_t v0, uint64_t v1, uint64_t v2) {
     blake2_ffi_blake2bp_absorb(v0, v1, v2);
-    blake2_digest_wiping_scrub_stack_3072();
+    blake2_digest_wiping_scrub_stack_3072_of_leaves();
     return;
 }
 
@@ -11454,7 +11455,7 @@ l2:;
     return;
 }
 
-SCRUB(blake2_digest_wiping_scrub_stack_4096, 5120)
+SCRUB(blake2_digest_wiping_scrub_stack_4096_of_leaves, 10240)
 
 /* rattle::export vulfsjor_ffi_blake2bp_final */
 APART uint32_t exported_blake2bp_final(uint64_t v0, uint64_t v1, uint64_t v2) {
@@ -11478,7 +11479,7 @@ l3:;
     blake2_ffi_blake2bp_finalize(v0, v1);
     v4 = UINT32_C(0);
     if (v2 == 0) goto l2;
-    blake2_digest_wiping_scrub_stack_4096();
+    blake2_digest_wiping_scrub_stack_4096_of_leaves();
 l2:;
     return v4;
 }
@@ -11575,7 +11576,7 @@ l3:;
     v7 = v5 - 1;
 l4:;
     if (v4 == 0) goto l5;
-    blake2_digest_wiping_scrub_stack_4096();
+    blake2_digest_wiping_scrub_stack_4096_of_leaves();
 l5:;
     return v7;
 }
@@ -11609,7 +11610,7 @@ APART void blake2_ffi_blake2bp_start_again(uint64_t v0) {
     return;
 }
 
-SCRUB(blake2_digest_wiping_scrub_stack_1792, 2816)
+SCRUB(blake2_digest_wiping_scrub_stack_1792_of_leaves, 7936)
 
 /* rattle::export vulfsjor_ffi_blake2bp_reset */
 APART uint32_t exported_blake2bp_reset(uint64_t v0) {
@@ -11625,7 +11626,7 @@ APART uint32_t exported_blake2bp_reset(uint64_t v0) {
     blake2_ffi_blake2bp_start_again(v0);
     v2 = UINT32_C(0);
     if (v3 == 0) goto l2;
-    blake2_digest_wiping_scrub_stack_1792();
+    blake2_digest_wiping_scrub_stack_1792_of_leaves();
 l2:;
     return v2;
 }
@@ -22476,7 +22477,7 @@ APART uint32_t exported_blake2sp(uint64_t v0, uint64_t v1, uint64_t v2, uint64_t
         ? UINT64_C(4096) : UINT64_C(0)), v3, v4 + (v4 == 0 ? UINT64_C(4096) : UINT64_C(0)), v5);
     v7 = t0;
     if (v5 == 0) goto l2;
-    blake2_digest_wiping_scrub_stack_7168();
+    blake2_digest_wiping_scrub_stack_7168_of_leaves();
 l2:;
     return v7;
 }
@@ -22512,7 +22513,7 @@ l1:;
     return v9;
 }
 
-SCRUB(blake2_digest_wiping_scrub_stack_5120, 6144)
+SCRUB(blake2_digest_wiping_scrub_stack_5120_of_leaves, 11264)
 
 /* rattle::export vulfsjor_ffi_blake2sp_init_salt_personal */
 APART uint32_t exported_blake2sp_init_salt_personal(uint64_t v0, uint64_t v1, uint64_t v2, uint64_t
@@ -22523,7 +22524,7 @@ APART uint32_t exported_blake2sp_init_salt_personal(uint64_t v0, uint64_t v1, ui
         UINT64_C(0)), v7);
     v9 = t0;
     if (v3 == 0) goto l2;
-    blake2_digest_wiping_scrub_stack_5120();
+    blake2_digest_wiping_scrub_stack_5120_of_leaves();
 l2:;
     return v9;
 }
@@ -22547,7 +22548,7 @@ l1:;
     t0 = blake2_ffi_blake2sp_initialize(v0, v1, v2 + (v2 == 0 ? UINT64_C(4096) : UINT64_C(0)), v3,
         UINT64_C(0x100000), UINT64_C(0), UINT64_C(0x100000), UINT64_C(0));
     v5 = t0;
-    blake2_digest_wiping_scrub_stack_5120();
+    blake2_digest_wiping_scrub_stack_5120_of_leaves();
     return v5;
 }
 
@@ -22568,7 +22569,7 @@ APART void blake2_ffi_blake2sp_absorb(uint64_t v0, uint64_t v1, uint64_t v2) {
 /* blake2_ffi::blake2sp::absorb_scrubbed */
 APART void blake2_ffi_blake2sp_absorb_scrubbed(uint64_t v0, uint64_t v1, uint64_t v2) {
     blake2_ffi_blake2sp_absorb(v0, v1, v2);
-    blake2_digest_wiping_scrub_stack_3072();
+    blake2_digest_wiping_scrub_stack_3072_of_leaves();
     return;
 }
 
@@ -22647,7 +22648,7 @@ l3:;
     blake2_ffi_blake2sp_finalize(v0, v1);
     v4 = UINT32_C(0);
     if (v2 == 0) goto l2;
-    blake2_digest_wiping_scrub_stack_4096();
+    blake2_digest_wiping_scrub_stack_4096_of_leaves();
 l2:;
     return v4;
 }
@@ -22740,7 +22741,7 @@ l3:;
     v7 = v5 - 1;
 l4:;
     if (v4 == 0) goto l5;
-    blake2_digest_wiping_scrub_stack_4096();
+    blake2_digest_wiping_scrub_stack_4096_of_leaves();
 l5:;
     return v7;
 }
@@ -22888,7 +22889,7 @@ APART uint32_t exported_blake2sp_reset(uint64_t v0) {
     blake2_ffi_blake2sp_start_again(v0);
     v2 = UINT32_C(0);
     if (v3 == 0) goto l2;
-    blake2_digest_wiping_scrub_stack_1792();
+    blake2_digest_wiping_scrub_stack_1792_of_leaves();
 l2:;
     return v2;
 }
