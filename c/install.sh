@@ -26,11 +26,12 @@
 # script itself needs bash 4 and the tools of GNU or of BusyBox.
 #
 # It assembles the files of dist/ for the machine that the C compiler (CC, otherwise cc) compiles
-# for, x86-64 or 64-bit ARM, in a second or two. For every other machine it compiles dist/c, portable
-# C, in five to ten seconds (docs/PORTABLE.md); with --portable also for these two. It needs the
-# compiler and its binutils. CC may have several words, such as `ccache gcc`. With --prove it proves the crates and installs what
-# they compile to instead of dist/. That needs the toolchain's command rt too, and 10 to 20 minutes
-# the first time. With --from it installs what `tools/dist.sh make` has written to the folder DIST.
+# for, x86-64 or 64-bit ARM, in a second or two. For every other machine it compiles dist/c,
+# portable C, twice, in 10 to 60 seconds each (docs/PORTABLE.md); with --portable also for those
+# two. It needs the compiler and its binutils. CC may have several words, such as `ccache gcc`. With
+# --prove it proves the crates and installs what they compile to instead of dist/. That needs the
+# toolchain's command rt too, and 10 to 20 minutes the first time. With --from it installs what
+# `tools/dist.sh make` has written to the folder DIST.
 #
 # On x86-64 the library contains the code for x86-64-v2, x86-64-v3 and x86-64-v4 processors, and
 # chooses at run time. With --cpu it contains only the code for CPU, one of these three, and runs on
