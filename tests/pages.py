@@ -409,7 +409,6 @@ def leaf_words():
                   f"the digests of the leaves, {digest} bytes for each",
                   f"For 1 GiB in leaves of 64 KiB you keep {of_a_gib} of digests"):
         yield "docs/LARGE.md", words
-    yield "docs/B2SUM.md", f"and {digest} bytes for each leaf of it"
     short, middle, long = (float(cell) for cell in newest(measured("16 MiB"), "root")[::2])
     yield "docs/LARGE.md", (f"of 4 KiB the speed was {round(100 - 100 * short / middle)} percent lower, with leaves of "
                             f"1 MiB {round(100 - 100 * long / middle)} percent")
@@ -418,7 +417,9 @@ def leaf_words():
 def b2sum_words():
     """The same of the program b2sum."""
     piece, tree = (constant("crates/b2sum/src/hashes.rt", name) for name in ("PIECE_BYTES", "TREE_PIECE_BYTES"))
-    least, threads = (constant("c/b2sum.c", name) for name in ("LEAST_BYTES", "MOST_THREADS"))
+    least = constant("c/b2sum.c", "LEAST_BYTES")
+    part, most, leaves, threads = (constant("c/threads.c", name) for name in (
+        "PART_BYTES", "MOST_BUFFER_BYTES", "MOST_LEAVES", "MOST_THREADS"))
     of = {name: Values("blake2_simd", "Family", name) for name in ("output_bytes", "key_bytes", "salt_bytes")}
     (out_b, out_s), (key_b, key_s), (salt_b, salt_s) = ([int(values[it]) for it in LANGUAGES] for values in of.values())
     leaf = int(find(r"nat_lt n \(2 \^ ([0-9]+)\)", definition("b2_commands", "Words", "some_leaf"), "some_leaf"))
@@ -427,13 +428,13 @@ def b2sum_words():
     for words in (f"of GNU coreutils {peer} and has", f"at most {8 * out_b} (BLAKE2s: {8 * out_s}), the default",
                   f"as the key: 1 to {key_b} (BLAKE2s: {key_s})", f"up to {salt_b} bytes (BLAKE2s: {salt_s})",
                   f"leaves of LEAF bytes, 1 to {2 ** leaf - 1}", f"it reads {size(piece)} at a time",
-                  f"the piece that it reads, at most {size(tree)}",
-                  f"of {size(2 * least)} or more, up to {threads} processors read",
-                  f"--tree 65536 --progress FILE # up to {threads} processors",
-                  f"of the at most {longest:,} bytes of a path"):
+                  f"With `--tree` it needs {size(tree + part)}, at most {size(64 * leaves)} for the digests of leaves",
+                  f"a buffer of {size(part)} or four leaves, at most {size(most)}",
+                  f"by at most N threads, {threads} at most", f"those of a file of {size(least)} or more",
+                  f"counts as four of at most {longest:,}"):
         yield "docs/B2SUM.md", words
-    yield "docs/LARGE.md", f"reads a file with up to {threads} threads"
-    yield "docs/TUTORIAL.md", f"several threads for files of {size(2 * least)} or more"
+    yield "docs/LARGE.md", f"reads a file of {size(least)} or more with up to {threads} threads"
+    yield "docs/TUTORIAL.md", f"several threads for files of {size(least)} or more"
 
 
 def check_guides():
